@@ -1,0 +1,16 @@
+pub mod Text
+pub mod Table
+pub mod Class
+pub mod TableParts
+pub mod Pattern
+pub mod Flags
+pub mod Tokens
+pub mod Grammar
+pub mod Limits
+pub mod Meaning
+pub mod Matches
+pub mod Literal
+pub mod Offsets
+pub mod Output
+pub mod Numbering
+pub mod Laws

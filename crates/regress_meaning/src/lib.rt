@@ -1,0 +1,73 @@
+//! What every contract of the project says, it says in the words of this crate: tables and classes, the syntax tree of a
+//! pattern and the grammar that a text spells it by, its limits, what it matches, and how places are told in offsets.
+//! The definitions stand in `specs/`. Nothing here runs: each function below is a law of theirs, stated by its contract.
+#![tactic(auto)]
+
+ghost use Rattle.std.specs.Prelude.{◌≡◌, ◌-◌, ◌+◌, ◌≤◌, ◌↔◌, ℕ, Bool, List, length, Some, All};
+ghost use Rattle.regress_meaning.specs.Table.{Table, closure};
+ghost use Rattle.regress_meaning.specs.TableParts.{IsLawful, small_parts};
+ghost use Rattle.regress_meaning.specs.Pattern.{Pattern, Settings};
+ghost use Rattle.regress_meaning.specs.Flags.{Options};
+ghost use Rattle.regress_meaning.specs.Grammar.{Spells};
+ghost use Rattle.regress_meaning.specs.Numbering.{IsNumbered};
+ghost use Rattle.regress_meaning.specs.Meaning.{State, Direction, Context, outcomes};
+ghost use Rattle.regress_meaning.specs.Matches.{match_list};
+ghost use Rattle.regress_meaning.specs.Offsets.{of_utf8, of_ascii, of_utf16, of_ucs2};
+ghost use Rattle.regress_meaning.specs.Laws.{IsInside, ItemsRise, OffsetsRise, in_group};
+
+/// The closure of a closed set is that set, whatever the canon.
+pub fn closure_is_idempotent()
+    ensures { (canon_of : ℕ → ℕ) → (members : ℕ → Bool) → (c : ℕ) → closure canon_of (closure canon_of members) c ≡ closure canon_of members c }
+{
+}
+
+/// The small table's parts keep all laws.
+pub fn small_parts_are_lawful()
+    ensures { IsLawful small_parts }
+{
+}
+
+/// In a tree that a text spells groups are numbered from 0 in order of opening, and what refers to groups fits them.
+pub fn spelled_trees_are_numbered()
+    ensures { (table : Table) → (o : Options) → (text : List ℕ) → (p : Pattern) → Spells table o text p → IsNumbered p }
+{
+}
+
+/// A text spells at most one tree.
+pub fn spells_one_tree()
+    ensures { (table : Table) → (o : Options) → (text : List ℕ) → (p : Pattern) → (q : Pattern) → Spells table o text p → Spells table o text q → p ≡ q }
+{
+}
+
+/// From a state inside the text each outcome is inside it, and has as many groups.
+pub fn outcomes_stay_inside()
+    ensures { (context : Context) → (p : Pattern) → (dir : Direction) → (e : Settings) → (s : State) → IsInside context.text s → All (λ t. IsInside context.text t × (length t.groups ≡ length s.groups)) (outcomes context p dir e s) }
+{
+}
+
+/// In a match list starts strictly increase, and each is at least the end before it.
+pub fn matches_rise()
+    ensures { (table : Table) → (o : Options) → (p : Pattern) → (text : List ℕ) → (place : ℕ) → ItemsRise (match_list table o p text place) }
+{
+}
+
+/// From a place on there are at most as many matches as places, the end included.
+pub fn matches_are_bounded()
+    ensures { (table : Table) → (o : Options) → (p : Pattern) → (text : List ℕ) → (place : ℕ) → length (match_list table o p text place) ≤ length text + 1 - place }
+{
+}
+
+/// A pattern and the same in `(?:..)` have the same matches, groups included.
+pub fn group_without_capture_is_transparent()
+    ensures { (table : Table) → (o : Options) → (source : List ℕ) → (p : Pattern) → (q : Pattern) → Spells table o source p → Spells table o (in_group source) q → (text : List ℕ) → (place : ℕ) → match_list table o q text place ≡ match_list table o p text place }
+{
+}
+
+/// Later places have greater offsets, in each of the four readings.
+pub fn offsets_rise()
+    ensures utf8 { (bytes : List ℕ) → OffsetsRise (of_utf8 bytes) }
+    ensures ascii { (bytes : List ℕ) → OffsetsRise (of_ascii bytes) }
+    ensures utf16 { (units : List ℕ) → OffsetsRise (of_utf16 units) }
+    ensures ucs2 { (units : List ℕ) → OffsetsRise (of_ucs2 units) }
+{
+}
