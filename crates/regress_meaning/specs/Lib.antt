@@ -14,3 +14,6 @@ pub mod Offsets
 pub mod Output
 pub mod Numbering
 pub mod Laws
+pub mod ReadingClass
+pub mod Scan
+pub mod Reading
