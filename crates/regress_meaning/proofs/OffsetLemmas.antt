@@ -1,5 +1,5 @@
 -- A text that takes at least one unit for each code point has a greater offset at a later place.
-use Rattle.std.proofs.Common.{◌≡◌, ℕ, zero, suc, ◌+◌, ◌<◌, ◌≤◌, ◌⊎◌, List, length, take, sum_by, get_or, inl, inr, ⊎_elim, add-one, arith, le_refl}
+use Rattle.std.proofs.Common.{◌≡◌, ℕ, zero, suc, ◌+◌, ◌<◌, ◌≤◌, ◌⊎◌, List, length, take, sum_by, get_or, inl, inr, add-one, arith}
 use Rattle.std.proofs.lemmas.Bool.{cases_lt}
 use Rattle.std.proofs.lemmas.List.Sums.{sum_by_more}
 use Rattle.regress_meaning.specs.Offsets.{Reading, offset}
