@@ -5,9 +5,9 @@ use Rattle.std.specs.List.{flat_map}
 use Rattle.std.proofs.lemmas.Bool.{cond_both, leb-true}
 use Rattle.std.proofs.lemmas.List.{length-set}
 use Rattle.std.proofs.lemmas.List.Elements.{All-nil, All-cons, All-head, All-tail, All-append, All-set, All-map, All-filter, All-weaker}
-use Rattle.regress_meaning.specs.Class.{Strings}
-use Rattle.regress_meaning.specs.Pattern.{Pattern, Settings}
-use Rattle.regress_meaning.specs.Meaning.{State, Direction, Forward, Backward, Outcomes, Context, beside, stepped, step}
+use Rattle.regress_meaning.specs.Class.{Strings, longest, value_of}
+use Rattle.regress_meaning.specs.Pattern.{Pattern, Settings, nothing, character, any, class, class_escape, sequence, choice, capture, grouped, modified, repeated, look, reference, line_start, line_end, word_boundary}
+use Rattle.regress_meaning.specs.Meaning.{State, Direction, Forward, Backward, Outcomes, Context, beside, stepped, step, same_all, closed, string_steps, class_steps, clear_from, cleared, moved, iterations, looked, captured, repeat_group, references, keep_if, in_order, switched, then_go, outcomes}
 use Rattle.regress_meaning.specs.Laws.{LiesIn, IsInside}
 
 -- the second place is not on the side that is behind
@@ -75,3 +75,114 @@ module _ (context : Context) where
   Goes-step : (dir : Direction) (k : ℕ) (test : List ℕ → Bool) → Goes dir (step context dir k test)
   unfolding step
   Goes-step dir k test s = stepped_goes dir test s (beside context dir k s.place) (beside_ahead dir k s.place)
+
+  Goes-append : (dir : Direction) (f g : Outcomes) → Goes dir f → Goes dir g → Goes dir (λ s. f s ++ g s)
+  Goes-append dir f g first second s = All-append (Leads context.text dir s) (f s) (g s) (first s) (second s)
+
+  Goes-string_steps : (dir : Direction) (e : Settings) (v : Strings) (k : ℕ) → Goes dir (string_steps context dir e v k)
+  unfolding string_steps
+  Goes-string_steps dir e v zero s = Goes-step dir 0 _ s
+  Goes-string_steps dir e v (suc k) s = All-append (Leads context.text dir s) _ _ (Goes-step dir (suc k) _ s) (Goes-string_steps dir e v k s)
+
+  Goes-class_steps : (dir : Direction) (e : Settings) (negated : Bool) (v : Strings) → Goes dir (class_steps context dir e negated v)
+  unfolding class_steps
+  Goes-class_steps dir e true v s = Goes-step dir 1 _ s
+  Goes-class_steps dir e false v s = Goes-string_steps dir e v (max 1 (longest v.others)) s
+
+  Goes-keep_if : (dir : Direction) (b : Bool) → Goes dir (keep_if context b)
+  Goes-keep_if dir true s = one dir s s (Leads-same dir s)
+  Goes-keep_if dir false s = All-nil (Leads context.text dir s)
+
+  Goes-then : (dir : Direction) (f g : Outcomes) → Goes dir f → Goes dir g → Goes dir (then_go context f g)
+  Goes-then dir f g first second s = Goes-after dir g second s (f s) (first s)
+
+  Goes-in_order : (dir : Direction) (f g : Outcomes) → Goes dir f → Goes dir g → Goes dir (in_order context dir (then_go context) f g)
+  Goes-in_order Forward f g first second = Goes-then Forward f g first second
+  Goes-in_order Backward f g first second = Goes-then Backward g f second first
+
+  Goes-repeat_group : (dir : Direction) (e : Settings) (o : Option (Option (ℕ × ℕ))) → Goes dir (repeat_group context dir e o)
+  unfolding repeat_group
+  Goes-repeat_group dir e None s = one dir s s (Leads-same dir s)
+  Goes-repeat_group dir e (Some None) s = one dir s s (Leads-same dir s)
+  Goes-repeat_group dir e (Some (Some (a, b))) s = Goes-step dir (b - a) _ s
+
+  Goes-references : (dir : Direction) (e : Settings) (ks : List ℕ) → Goes dir (references context dir e ks)
+  unfolding references
+  Goes-references dir e [] s = one dir s s (Leads-same dir s)
+  Goes-references dir e (k ∷ ks) s =
+      Goes-after dir (references context dir e ks) (Goes-references dir e ks) s (repeat_group context dir e (slice_get s.groups k) s)
+        (Goes-repeat_group dir e (slice_get s.groups k) s)
+
+  clear_from-inside : (n i first last : ℕ) (gs : List (Option (ℕ × ℕ))) → All (λ g. IfSome g (LiesIn n)) gs → All (λ g. IfSome g (LiesIn n)) (clear_from context i first last gs)
+  clear_from-inside n i first last [] h = All-nil (λ g. IfSome g (LiesIn n))
+  clear_from-inside n i first last (g ∷ gs) h =
+      All-cons (λ g. IfSome g (LiesIn n)) _ (clear_from context (i + 1) first last gs)
+        (cond_both (nat_le first i && nat_lt i last) None g (λ g. IfSome g (LiesIn n)) (λ e. tt) (λ e. All-head (λ g. IfSome g (LiesIn n)) g gs h))
+        (clear_from-inside n (i + 1) first last gs (All-tail (λ g. IfSome g (LiesIn n)) g gs h))
+
+  length-clear_from : (i first last : ℕ) (gs : List (Option (ℕ × ℕ))) → length (clear_from context i first last gs) ≡ length gs
+  length-clear_from i first last [] = refl
+  length-clear_from i first last (g ∷ gs) = ap suc (length-clear_from (i + 1) first last gs)
+
+  Leads-cleared : (dir : Direction) (first last : ℕ) (s : State) → Leads context.text dir s (cleared context first last s)
+  Leads-cleared dir first last s = record {
+    ahead = IsAhead-same dir s.place;
+    inside = λ h. record { place = h.place; groups = clear_from-inside (length context.text) 0 first last s.groups h.groups };
+    count = length-clear_from 0 first last s.groups }
+
+  Goes-iterations : (dir : Direction) (body : Outcomes) → Goes dir body → (greedy : Bool) (left need : ℕ) → Goes dir (iterations context body greedy left need)
+  unfolding iterations
+  Goes-iterations dir body goes greedy zero need s = one dir s s (Leads-same dir s)
+  Goes-iterations dir body goes greedy (suc left) zero s =
+      let more : All (Leads context.text dir s) (flat_map (iterations context body greedy left zero) (filter (moved context s) (body s))) =
+            Goes-after dir (iterations context body greedy left zero) (Goes-iterations dir body goes greedy left zero) s (filter (moved context s) (body s))
+              (All-filter (moved context s) (Leads context.text dir s) (body s) (goes s)) in
+      cond_both greedy _ _ (All (Leads context.text dir s))
+        (λ e. All-append (Leads context.text dir s) _ (s ∷ []) more (one dir s s (Leads-same dir s)))
+        (λ e. All-cons (Leads context.text dir s) s _ (Leads-same dir s) more)
+  Goes-iterations dir body goes greedy (suc left) (suc need) s =
+      Goes-after dir (iterations context body greedy left need) (Goes-iterations dir body goes greedy left need) s (body s) (goes s)
+
+  -- a lookaround that reads either way stays where it is
+  looked_goes : (dir turned : Direction) (negated : Bool) (s : State) (ts : List State) → All (Leads context.text turned s) ts → All (Leads context.text dir s) (looked context negated s ts)
+  looked_goes dir turned true s [] h = one dir s s (Leads-same dir s)
+  looked_goes dir turned true s (t ∷ ts) h = All-nil (Leads context.text dir s)
+  looked_goes dir turned false s [] h = All-nil (Leads context.text dir s)
+  looked_goes dir turned false s (t ∷ ts) h =
+      let l = All-head (Leads context.text turned s) t ts h in
+      one dir s (record s { groups = t.groups }) (record { ahead = IsAhead-same dir s.place; inside = λ i. record { place = i.place; groups = (l.inside i).groups }; count = l.count })
+
+  Leads-captured : (dir : Direction) (k : ℕ) (s t : State) → Leads context.text dir s t → Leads context.text dir s (captured context k s.place t)
+  Leads-captured dir k s t l = record {
+    ahead = l.ahead;
+    inside = λ h. record {
+      place = (l.inside h).place;
+      groups = All-set (λ g. IfSome g (LiesIn (length context.text))) t.groups k (Some (min s.place t.place, max s.place t.place))
+        (let a = h.place in let b = (l.inside h).place in (omega arith, omega arith)) (l.inside h).groups };
+    count = length-set t.groups k (Some (min s.place t.place, max s.place t.place)) ∙ l.count }
+
+  -- every pattern goes ahead, and stays inside
+  pub Goes-outcomes : (p : Pattern) (dir : Direction) (e : Settings) → Goes dir (outcomes context p dir e)
+  unfolding outcomes
+  Goes-outcomes nothing dir e s = one dir s s (Leads-same dir s)
+  Goes-outcomes (character c) dir e s = Goes-step dir 1 _ s
+  Goes-outcomes any dir e s = Goes-step dir 1 _ s
+  Goes-outcomes (class_escape set) dir e s = Goes-class_steps dir e false _ s
+  Goes-outcomes (class negated set) dir e s = Goes-class_steps dir e negated _ s
+  Goes-outcomes (sequence a b) dir e s = Goes-in_order dir (outcomes context a dir e) (outcomes context b dir e) (Goes-outcomes a dir e) (Goes-outcomes b dir e) s
+  Goes-outcomes (choice a b) dir e s = All-append (Leads context.text dir s) _ _ (Goes-outcomes a dir e s) (Goes-outcomes b dir e s)
+  Goes-outcomes (capture k name a) dir e s =
+      All-map (Leads context.text dir s) (captured context k s.place) (outcomes context a dir e s)
+        (All-weaker (Leads context.text dir s) (λ t. Leads context.text dir s (captured context k s.place t)) (Leads-captured dir k s) _ (Goes-outcomes a dir e s))
+  Goes-outcomes (grouped a) dir e s = Goes-outcomes a dir e s
+  Goes-outcomes (modified on off a) dir e s = Goes-outcomes a dir _ s
+  Goes-outcomes (repeated a first last least most greedy) dir e s =
+      Goes-iterations dir (λ t. outcomes context a dir e (cleared context first last t))
+        (λ t. All-weaker (Leads context.text dir (cleared context first last t)) (Leads context.text dir t)
+          (λ u. Leads-then dir t (cleared context first last t) u (Leads-cleared dir first last t)) _ (Goes-outcomes a dir e (cleared context first last t))) greedy most least s
+  Goes-outcomes (look negated backward a) dir e s = looked_goes dir (if backward then Backward else Forward) negated s _ (Goes-outcomes a (if backward then Backward else Forward) e s)
+  Goes-outcomes (reference ks) Forward e s = Goes-references Forward e ks s
+  Goes-outcomes (reference ks) Backward e s = Goes-references Backward e (reverse ks) s
+  Goes-outcomes line_start dir e s = Goes-keep_if dir _ s
+  Goes-outcomes line_end dir e s = Goes-keep_if dir _ s
+  Goes-outcomes (word_boundary negated) dir e s = Goes-keep_if dir _ s
