@@ -186,3 +186,8 @@ module _ (context : Context) where
   Goes-outcomes line_start dir e s = Goes-keep_if dir _ s
   Goes-outcomes line_end dir e s = Goes-keep_if dir _ s
   Goes-outcomes (word_boundary negated) dir e s = Goes-keep_if dir _ s
+
+  pub outcomes_inside : (p : Pattern) (dir : Direction) (e : Settings) (s : State) → IsInside context.text s
+      → All (λ t. IsInside context.text t × (length t.groups ≡ length s.groups)) (outcomes context p dir e s)
+  outcomes_inside p dir e s h =
+      All-weaker (Leads context.text dir s) (λ t. IsInside context.text t × (length t.groups ≡ length s.groups)) (λ t l. (l.inside h, l.count)) _ (Goes-outcomes p dir e s)
