@@ -12,17 +12,22 @@ use Rattle.regress_meaning.specs.Matches.{Item, item_at, first_from, next_place,
 use Rattle.regress_meaning.specs.Laws.{ItemsRise}
 use Rattle.regress_meaning.proofs.OutcomeLemmas.{Leads, Goes-outcomes}
 
--- a search has at most as many items as it may take
+-- the items from what was found on; n bounds how many come after it
+abbrev items_from : (ℕ → Option Item) → ℕ → Option Item → List Item
+items_from found n o = option_map_or (λ i. i ∷ list_from found n (next_place i)) o []
+
+-- n bounds how many items there are
 list_from-bounded : (found : ℕ → Option Item) (n p : ℕ) → length (list_from found n p) ≤ n
 unfolding list_from
 list_from-bounded found zero p = omega arith
 list_from-bounded found (suc n) p = go (found p) (list_from-bounded found n)
   where
-    go : (o : Option Item) → ((q : ℕ) → length (list_from found n q) ≤ n) → length (option_map_or (λ i. i ∷ list_from found n (next_place i)) o []) ≤ suc n
+    go : (o : Option Item) → ((q : ℕ) → length (list_from found n q) ≤ n) → length (items_from found n o) ≤ suc n
     go None rest = omega arith
     go (Some i) rest = omega (arith, rest (next_place i))
 
-pub matches_bounded : (table : Table) (o : Options) (p : Pattern) (text : List ℕ) (place : ℕ) → length (match_list table o p text place) ≤ length text + 1 - place
+pub matches_bounded : (table : Table) (o : Options) (p : Pattern) (text : List ℕ) (place : ℕ)
+    → length (match_list table o p text place) ≤ length text + 1 - place
 unfolding match_list
 matches_bounded table o p text place = list_from-bounded (first_match table o p text) (length text + 1 - place) place
 
@@ -43,7 +48,8 @@ next_place-past i h =
       (λ e. let s : i.start ≡ i.end = eqb-true _ _ e in (omega arith, omega arith))
       (λ e. let s : i.start ≡ i.end → ⊥ = eqb-false _ _ e in (omega arith, omega arith))
 
-ItemsRise-cons : (i : Item) (items : List Item) → i.start ≤ i.end → StartsFrom (next_place i) items → ItemsRise items → ItemsRise (i ∷ items)
+ItemsRise-cons : (i : Item) (items : List Item) → i.start ≤ i.end → StartsFrom (next_place i) items → ItemsRise items
+    → ItemsRise (i ∷ items)
 ItemsRise-cons i [] h from rises = h
 ItemsRise-cons i (j ∷ items) h from rises =
     let past = next_place-past i h in (h, omega arith, omega arith, rises)
@@ -55,20 +61,24 @@ unfolding list_from
 list_from-rise found each zero p = (tt, tt)
 list_from-rise found each (suc n) p = go (found p) (each p) (list_from-rise found each n)
   where
-    go : (o : Option Item) → IfSome o (IsFrom p) → ((q : ℕ) → StartsFrom q (list_from found n q) × ItemsRise (list_from found n q))
-        → StartsFrom p (option_map_or (λ i. i ∷ list_from found n (next_place i)) o []) × ItemsRise (option_map_or (λ i. i ∷ list_from found n (next_place i)) o [])
+    go : (o : Option Item) → IfSome o (IsFrom p)
+        → ((q : ℕ) → StartsFrom q (list_from found n q) × ItemsRise (list_from found n q))
+        → StartsFrom p (items_from found n o) × ItemsRise (items_from found n o)
     go None h rest = (tt, tt)
     go (Some i) h rest =
         let q = next_place i in (h.start, ItemsRise-cons i (list_from found n q) h.end (rest q).0 (rest q).1)
 
 -- the least place from p on is p or later
-first_from-from : (try : ℕ → Option Item) → ((p : ℕ) → IfSome (try p) (IsFrom p)) → (n p : ℕ) → IfSome (first_from try n p) (IsFrom p)
+first_from-from : (try : ℕ → Option Item) → ((p : ℕ) → IfSome (try p) (IsFrom p)) → (n p : ℕ)
+    → IfSome (first_from try n p) (IsFrom p)
 unfolding first_from
 first_from-from try each zero p = tt
 first_from-from try each (suc n) p = go (try p) (each p) (first_from-from try each n (p + 1))
   where
-    go : (o : Option Item) → IfSome o (IsFrom p) → IfSome (first_from try n (p + 1)) (IsFrom (p + 1)) → IfSome (option_or o (first_from try n (p + 1))) (IsFrom p)
-    go None h rest = IfSome_then (first_from try n (p + 1)) rest (λ i f. record { start = omega (arith, f.start); end = f.end })
+    go : (o : Option Item) → IfSome o (IsFrom p) → IfSome (first_from try n (p + 1)) (IsFrom (p + 1))
+        → IfSome (option_or o (first_from try n (p + 1))) (IsFrom p)
+    go None h rest =
+        IfSome_then (first_from try n (p + 1)) rest (λ i f. record { start = omega (arith, f.start); end = f.end })
     go (Some i) h rest = h
 
 module _ (table : Table) (o : Options) (p : Pattern) (text : List ℕ) where

@@ -1,5 +1,5 @@
 -- A text that takes at least one unit for each code point has a greater offset at a later place.
-use Rattle.std.proofs.Common.{◌≡◌, ℕ, zero, suc, ◌+◌, ◌<◌, ◌≤◌, ◌⊎◌, List, length, take, sum_by, get_or, inl, inr, add-one, arith}
+use Rattle.std.proofs.Common.{◌≡◌, ℕ, zero, suc, ◌<◌, ◌≤◌, ◌⊎◌, length, get_or, inl, inr, add-one, arith}
 use Rattle.std.proofs.lemmas.Bool.{cases_lt}
 use Rattle.std.proofs.lemmas.List.Sums.{sum_by_more}
 use Rattle.regress_meaning.specs.Offsets.{Reading, offset}
@@ -14,10 +14,9 @@ offset_step r wide k inside =
 -- widths of at least one make offsets rise
 pub rise : (r : Reading) → ((c : ℕ) → 1 ≤ r.width c) → OffsetsRise r
 rise r wide p zero below inside = absurd (omega arith)
-rise r wide p (suc q) below inside =
-    let here = offset_step r wide q inside in
-    go (cases_lt p q) (rise r wide p q) here
+rise r wide p (suc q) below inside = go (cases_lt p q) (λ h. rise r wide p q h (omega arith)) (offset_step r wide q inside)
   where
-    go : (p < q) ⊎ (q ≤ p) → (p < q → q ≤ length r.points → offset r p < offset r q) → offset r q < offset r (suc q) → offset r p < offset r (suc q)
-    go (inl h) before here = omega (arith, before h (omega arith))
+    go : (p < q) ⊎ (q ≤ p) → (p < q → offset r p < offset r q) → offset r q < offset r (suc q)
+        → offset r p < offset r (suc q)
+    go (inl h) before here = omega (arith, before h)
     go (inr h) before here = let e : p ≡ q = omega arith in rw e here

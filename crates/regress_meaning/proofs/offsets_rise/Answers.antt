@@ -15,7 +15,8 @@ returns-clause-ascii c = λ bytes. rise (of_ascii bytes) (λ d. omega arith)
 
 -- src/lib.rt:67:1
 pub returns-clause-utf16 : goal.returns-clause-utf16
-returns-clause-utf16 c = λ units. rise (of_utf16 units) (λ d. cond_both (nat_lt d 0x1_0000) 1 2 (λ w. 1 ≤ w) (λ e. omega arith) (λ e. omega arith))
+returns-clause-utf16 c = λ units. rise (of_utf16 units)
+    (λ d. cond_both (nat_lt d 0x1_0000) 1 2 (λ w. 1 ≤ w) (λ e. omega arith) (λ e. omega arith))
 
 -- src/lib.rt:67:1
 pub returns-clause-ucs2 : goal.returns-clause-ucs2
