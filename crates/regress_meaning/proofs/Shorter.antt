@@ -310,3 +310,44 @@ mutual
 pub ClassBody-shorter : (m : Mode) {t r : List ℕ} {s : Class} → ClassBody m t s r → length r < length t
 ClassBody-shorter m (of_members n h) = Members-shorter m h
 ClassBody-shorter m (of_contents n h) = omega (arith, Contents-shorter m h)
+
+-- what a span leaves, given by an equation
+span-rest : (test : ℕ → Bool) (t : List ℕ) {front r : List ℕ} → span test t ≡ (front, r) → length r ≤ length t
+span-rest test t e = subst (λ p. length p.1 ≤ length t) e (span-shorter test t)
+
+mutual
+  pub Disjunction-shorter : (m : Mode) {t r : List ℕ} {k l : ℕ} {p : Pattern} → Disjunction m t k p l r → length r ≤ length t
+  Disjunction-shorter m (one h e) = Alternative-shorter m h
+  Disjunction-shorter m (more h i) = omega (arith, Alternative-shorter m h, Disjunction-shorter m i)
+
+  pub Alternative-shorter : (m : Mode) {t r : List ℕ} {k l : ℕ} {p : Pattern} → Alternative m t k p l r → length r ≤ length t
+  Alternative-shorter m (done e) = omega arith
+  Alternative-shorter m (next h i) = omega (arith, Term-shorter m h, Alternative-shorter m i)
+
+  pub Term-shorter : (m : Mode) {t r : List ℕ} {k l : ℕ} {p : Pattern} → Term m t k p l r → length r < length t
+  Term-shorter m start = omega arith
+  Term-shorter m end = omega arith
+  Term-shorter m boundary = omega arith
+  Term-shorter m no_boundary = omega arith
+  Term-shorter m (behind h) = omega (arith, Disjunction-shorter m h)
+  Term-shorter m (not_behind h) = omega (arith, Disjunction-shorter m h)
+  Term-shorter m (ahead h n) = Lookahead-shorter m h
+  Term-shorter m (repeated_ahead {u = u} {v = v} un h b le) = omega (arith, Lookahead-shorter m h, bounds_at-shorter u b, after_mark-shorter v)
+  Term-shorter m (once h n) = Atom-shorter m h
+  Term-shorter m (quantified {u = u} {v = v} h b le) = omega (arith, Atom-shorter m h, bounds_at-shorter u b, after_mark-shorter v)
+
+  pub Lookahead-shorter : (m : Mode) {t r : List ℕ} {k l : ℕ} {p : Pattern} → Lookahead m t k p l r → length r < length t
+  Lookahead-shorter m (positive h) = omega (arith, Disjunction-shorter m h)
+  Lookahead-shorter m (negative h) = omega (arith, Disjunction-shorter m h)
+
+  pub Atom-shorter : (m : Mode) {t r : List ℕ} {k l : ℕ} {p : Pattern} → Atom m t k p l r → length r < length t
+  Atom-shorter m dot = omega arith
+  Atom-shorter m (plain e) = omega arith
+  Atom-shorter m (escape {t = t} n h) = omega (arith, escape_at-shorter m t h)
+  Atom-shorter m (a_class n h) = omega (arith, ClassBody-shorter m h)
+  Atom-shorter m (a_negated_class h n) = omega (arith, ClassBody-shorter m h)
+  Atom-shorter m (group n h) = omega (arith, Disjunction-shorter m h)
+  Atom-shorter m (named_group {t = t} n e h) = omega (arith, name_at-shorter m.table t e, Disjunction-shorter m h)
+  Atom-shorter m (uncaptured h) = omega (arith, Disjunction-shorter m h)
+  Atom-shorter m (modifiers {t = t} e n d h) = omega (arith, span-rest is_flag t e, Disjunction-shorter m h)
+  Atom-shorter m (modifiers_off {t = t} {u = u} e f n d h) = omega (arith, span-rest is_flag t e, span-rest is_flag u f, Disjunction-shorter m h)
