@@ -1,10 +1,9 @@
 -- The groups of a spelled tree are numbered in order of opening, and its references are to groups that it has.
 use Rattle.std.specs.Prelude.{if◌then◌else◌}
-use Rattle.std.proofs.Common.{◌≡◌, ℕ, zero, suc, ◌+◌, ◌-◌, ◌*◌, ◌<◌, ◌≤◌, Bool, true, false, ◌==◌, ◌||◌, ◌&&◌, not, nat_lt, nat_le, List, [], ◌∷◌, ◌++◌, length, drop, Option, Some, None, is_some, option_and_then, option_map, refl, ap, ap₂, ◌∙◌, sym, subst, arith, length-append, leb-true, All, fold}
+use Rattle.std.proofs.Common.{◌≡◌, ℕ, zero, suc, ◌+◌, ◌-◌, ◌*◌, ◌<◌, ◌≤◌, Bool, true, false, ◌==◌, ◌||◌, ◌&&◌, not, nat_lt, nat_le, List, [], ◌∷◌, ◌++◌, length, drop, Option, Some, None, is_some, refl, ap, ap₂, ◌∙◌, sym, subst, arith, length-append, leb-true, All, fold}
 use Rattle.std.proofs.lemmas.Bool.{cond_both, cond-true, eqb-false, and_parts}
 use Rattle.std.proofs.lemmas.List.Elements.{All-nil, All-cons}
-use Rattle.std.specs.Option.{option_or}
-use Rattle.regress_meaning.proofs.Inversion.{Gives, gives-none, gives-some, gives-weaker, gives-if, gives-guard, gives-or, gives-map, gives-then, gives-any}
+use Rattle.regress_meaning.proofs.Inversion.{Gives, gives-none, gives-some, gives-if, gives-guard, gives-or, gives-map, gives-then, gives-any}
 use Rattle.regress_meaning.specs.Text.{count_up, ◌∈◌, same_text, is_at, span}
 use Rattle.regress_meaning.specs.Class.{is_digit, is_letter}
 use Rattle.regress_meaning.specs.Flags.{Options, settings_of}
@@ -22,17 +21,17 @@ numbers_from-below n k name (other ∷ names) h =
     cond_both (same_text name other) _ _ (All (λ i. i < n)) (λ _. All-cons (λ i. i < n) k _ (omega arith) rest) (λ _. rest)
 
 -- a number's value is at least that of what its first digits write
-number-grows : (n : ℕ) (cs : List ℕ) → n ≤ fold (λ n c. n * 10 + digit_value c) n cs
-number-grows n [] = omega arith
-number-grows n (c ∷ cs) = omega (arith, number-grows (n * 10 + digit_value c) cs)
+number_of-least : (n : ℕ) (cs : List ℕ) → n ≤ fold (λ n c. n * 10 + digit_value c) n cs
+number_of-least n [] = omega arith
+number_of-least n (c ∷ cs) = omega (arith, number_of-least (n * 10 + digit_value c) cs)
 
 -- a front's first code point
 span-cons : (test : ℕ → Bool) (c : ℕ) (t : List ℕ) → test c ≡ true → span test (c ∷ t) ≡ (c ∷ (span test t).0, (span test t).1)
 unfolding span
 span-cons test c t h = cond-true (test c) _ _ h
 
-digit-positive : (c : ℕ) → is_digit c ≡ true → (c == 0x30) ≡ false → 0 < digit_value c
-digit-positive c d n =
+digit_value-positive : (c : ℕ) → is_digit c ≡ true → (c == 0x30) ≡ false → 0 < digit_value c
+digit_value-positive c d n =
     let low : 0x30 ≤ c = leb-true _ _ (and_parts _ _ d).0 in
     let other : c ≡ 0x30 → ⊥ = eqb-false c 0x30 n in
     omega (arith, cond-true (is_digit c) (c - 0x30) (if nat_lt c 0x60 then c - 0x37 else c - 0x57) d)
@@ -42,7 +41,7 @@ decimal_at-positive : (c : ℕ) (t : List ℕ) → is_digit c ≡ true → (c ==
 unfolding decimal_at
 decimal_at-positive c t d n = gives-guard (nat_lt 0 (length (span is_digit (c ∷ t)).0)) (λ _. gives-some
     (subst (λ (p : List ℕ × List ℕ). 0 < number_of 10 p.0) (sym (span-cons is_digit c t d))
-        (omega (arith, digit-positive c d n, number-grows (0 * 10 + digit_value c) (span is_digit t).0))))
+        (omega (arith, digit_value-positive c d n, number_of-least (0 * 10 + digit_value c) (span is_digit t).0))))
 
 module _ (m : Mode) where
   -- an escape's groups are groups of the pattern
@@ -193,7 +192,7 @@ mutual
   Atom-numbers m (modifiers_off {on = on} {off = off} {p = p} e f n d h) =
       wrapped-numbers {p = p} (modified (settings_of on) (settings_of off) p) refl refl (λ f. f) (Disjunction-numbers m h)
 
-pub spelled-numbers : (table : Table) (o : Options) (text : List ℕ) (p : Pattern) → Spells table o text p → IsNumbered p
-spelled-numbers table o text p h =
+pub Spells-numbers : (table : Table) (o : Options) (text : List ℕ) (p : Pattern) → Spells table o text p → IsNumbered p
+Spells-numbers table o text p h =
     let a = Disjunction-numbers (mode_of table o text (names_of p)) h.whole in
     record { in_order = a.in_order; fitting = a.fitting }

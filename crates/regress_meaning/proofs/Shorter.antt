@@ -1,14 +1,12 @@
 -- Each word of a pattern leaves a text that is shorter than the one that it was read at, or at least no longer.
 use Rattle.std.specs.Prelude.{if◌then◌else◌}
-use Rattle.std.proofs.Common.{◌≡◌, ℕ, zero, suc, ◌+◌, ◌-◌, ◌<◌, ◌≤◌, Bool, true, false, ◌==◌, ◌||◌, ◌&&◌, not, nat_eq, nat_lt, nat_le, List, [], ◌∷◌, length, drop, Option, Some, None, is_some, option_and_then, option_map, refl, ap, sym, subst, arith, eqb-true, ltb-true, length-drop}
+use Rattle.std.proofs.Common.{◌≡◌, ℕ, zero, suc, ◌+◌, ◌<◌, ◌≤◌, Bool, ◌==◌, ◌||◌, ◌&&◌, not, nat_eq, nat_lt, nat_le, List, [], ◌∷◌, length, drop, Option, Some, is_some, option_map, subst, arith, eqb-true, ltb-true, length-drop}
 use Rattle.std.proofs.lemmas.Bool.{cond_both}
-use Rattle.std.proofs.lemmas.Option.{some_pair_parts}
 use Rattle.std.specs.List.{starts_with}
-use Rattle.std.specs.Option.{option_or}
 use lib.Chars.{codes}
 use Rattle.regress_meaning.proofs.Inversion.{Gives, gives-none, gives-some, gives-weaker, gives-if, gives-guard, gives-or, gives-map, gives-then, gives-any}
 use Rattle.regress_meaning.specs.Text.{between, ◌∈◌, is_at, span, span_up_to}
-use Rattle.regress_meaning.specs.Tokens.{Reads, Mode, guard, is_high, is_low, number_of, begins_name, continues_name, as_point, class_letter, control, property_of, numbers_from, is_octal, is_hex, Bounds, bounds_at, braced_end, decimal_at, hex_at, low_half, pair_at, braces_at, unicode_escape, octal_at, name_point, name_rest, name_at, key_at, Escape, point, set, groups, property_at, named_reference, octal_or_digit, decimal_escape, control_letter, identity, escape_at, class_escape_at}
+use Rattle.regress_meaning.specs.Tokens.{Mode, guard, is_high, is_low, number_of, begins_name, continues_name, as_point, class_letter, control, property_of, numbers_from, is_octal, is_hex, Bounds, bounds_at, braced_end, decimal_at, hex_at, low_half, pair_at, braces_at, unicode_escape, octal_at, name_point, name_rest, name_at, key_at, Escape, point, set, property_at, named_reference, octal_or_digit, decimal_escape, control_letter, identity, escape_at, class_escape_at}
 use Rattle.regress_meaning.specs.Pattern.{Pattern}
 use Rattle.regress_meaning.specs.Grammar.{greedy_at, after_mark, is_flag, Member, as_itself, escaped, Members, no_member, single, from_to, loose, SetCharacter, bare, backspace, punctuator, of_escape, SetString, no_more, and_then, SetStrings, last_string, more_strings, Operand, one_character, of_class, of_strings, inner, inner_negated, Contents, of_union, of_intersection, of_difference, Union, union_end, union_range, union_operand, Intersection, last_and, more_and, Difference, last_minus, more_minus, ClassBody, of_members, of_contents, Disjunction, one, more, Alternative, done, next, Term, start, end, boundary, no_boundary, behind, not_behind, ahead, repeated_ahead, once, quantified, Lookahead, positive, negative, Atom, dot, plain, escape, a_class, a_negated_class, group, named_group, uncaptured, modifiers, modifiers_off}
 use Rattle.regress_meaning.specs.Table.{Table, last_code_point}
