@@ -56,13 +56,15 @@ module _ (m : Mode) where
 
   octal_or_digit-fits : (c : ℕ) (t : List ℕ) → Gives Fits (octal_or_digit m c t)
   unfolding octal_or_digit
-  octal_or_digit-fits c t = gives-guard (not m.unicode) (λ _. gives-if (is_octal c) (λ _. as_point-fits (octal_at (c ∷ t))) (λ _. gives-some tt))
+  octal_or_digit-fits c t = gives-guard (not m.unicode)
+      (λ _. gives-if (is_octal c) (λ _. as_point-fits (octal_at (c ∷ t))) (λ _. gives-some tt))
 
   decimal_escape-fits : (c : ℕ) (t : List ℕ) → is_digit c ≡ true → (c == 0x30) ≡ false → Gives Fits (decimal_escape m c t)
   unfolding decimal_escape
   decimal_escape-fits c t d n = gives-then _ (decimal_at (c ∷ t)) (decimal_at-positive c t d n)
       (λ p h. gives-if (nat_le p.0 (length m.names))
-          (λ e. gives-some (All-cons (λ i. i < length m.names) (p.0 - 1) [] (omega (arith, leb-true _ _ e)) (All-nil (λ i. i < length m.names))))
+          (λ e. gives-some (All-cons (λ i. i < length m.names) (p.0 - 1) [] (omega (arith, leb-true _ _ e))
+              (All-nil (λ i. i < length m.names))))
           (λ _. octal_or_digit-fits c t))
 
   named_reference-fits : (t : List ℕ) → Gives Fits (named_reference m t)
@@ -82,14 +84,16 @@ module _ (m : Mode) where
   escape_at-fits (c ∷ t) =
       gives-if (is_some (class_letter c)) (λ _. gives-map _ (class_letter c) (gives-any (class_letter c)) (λ s h. tt)) (λ _.
       gives-if (is_some (control c)) (λ _. gives-map _ (control c) (gives-any (control c)) (λ s h. tt)) (λ _.
-      gives-if (c == 0x63) (λ _. gives-or (control_letter is_letter t) (control_letter-fits is_letter t) (gives-guard (not m.unicode) (λ _. gives-some tt))) (λ _.
+      gives-if (c == 0x63) (λ _. gives-or (control_letter is_letter t) (control_letter-fits is_letter t)
+          (gives-guard (not m.unicode) (λ _. gives-some tt))) (λ _.
       gives-if (c == 0x30) (λ _. gives-if (is_at is_digit t) (λ _. octal_or_digit-fits c t) (λ _. gives-some tt)) (λ n.
       gives-if (is_digit c) (λ d. decimal_escape-fits c t d n) (λ _.
       gives-if (c == 0x78) (λ _. gives-or (as_point (hex_at 2 t)) (as_point-fits (hex_at 2 t)) (identity-fits c t)) (λ _.
       gives-if (c == 0x75) (λ _. gives-or (as_point (if m.unicode then unicode_escape t else hex_at 4 t))
           (as_point-fits (if m.unicode then unicode_escape t else hex_at 4 t)) (identity-fits c t)) (λ _.
       gives-if (c == 0x6B) (λ _. gives-if m.named (λ _. named_reference-fits t) (λ _. gives-some tt)) (λ _.
-      gives-if ((c == 0x70 || c == 0x50) && m.unicode) (λ _. gives-map _ (property_at m c t) (gives-any (property_at m c t)) (λ p h. tt)) (λ _.
+      gives-if ((c == 0x70 || c == 0x50) && m.unicode)
+          (λ _. gives-map _ (property_at m c t) (gives-any (property_at m c t)) (λ p h. tt)) (λ _.
       identity-fits c t)))))))))
 
 count_up-append : (k a b : ℕ) → count_up k (a + b) ≡ count_up k a ++ count_up (k + a) b
@@ -116,7 +120,7 @@ no_groups {k = k} p e f h = record {
 in_order-append : {n k l o : ℕ} {p q : Pattern} → NumbersFrom n k p l → NumbersFrom n l q o
     → (o ≡ k + length (names_of p ++ names_of q)) × (group_numbers p ++ group_numbers q ≡ count_up k (length (names_of p ++ names_of q)))
 in_order-append {k = k} {p = p} {q = q} a b =
-    let e : length (names_of p ++ names_of q) ≡ length (names_of p) + length (names_of q) = length-append (names_of p) (names_of q) in
+    let e = length-append (names_of p) (names_of q) in
     (omega (arith, a.counted, b.counted, e),
     ap₂ (λ u v. u ++ v) a.in_order (b.in_order ∙ ap (λ j. count_up j (length (names_of q))) a.counted)
         ∙ (sym (count_up-append k (length (names_of p)) (length (names_of q))) ∙ ap (count_up k) (sym e)))
@@ -132,13 +136,18 @@ choice-numbers a b =
     record { counted = h.0; in_order = h.1; fitting = (a.fitting, b.fitting) }
 
 capture-numbers : {n k l : ℕ} {p : Pattern} (name : Option (List ℕ)) → NumbersFrom n (suc k) p l → NumbersFrom n k (capture k name p) l
-capture-numbers {k = k} None a = record { counted = omega (arith, a.counted); in_order = ap (λ u. k ∷ u) a.in_order; fitting = a.fitting }
-capture-numbers {k = k} (Some name) a = record { counted = omega (arith, a.counted); in_order = ap (λ u. k ∷ u) a.in_order; fitting = a.fitting }
+capture-numbers {k = k} None a =
+    record { counted = omega (arith, a.counted); in_order = ap (λ u. k ∷ u) a.in_order; fitting = a.fitting }
+capture-numbers {k = k} (Some name) a =
+    record { counted = omega (arith, a.counted); in_order = ap (λ u. k ∷ u) a.in_order; fitting = a.fitting }
 
 repeated-numbers : {n k l : ℕ} {p : Pattern} (least most : ℕ) (greedy : Bool) → NumbersFrom n k p l → least ≤ most → NumbersFrom n k (repeated p k l least most greedy) l
 repeated-numbers {k = k} {l = l} {p = p} least most greedy a h =
     let e : length (names_of p) ≡ l - k = omega (arith, a.counted) in
-    record { counted = a.counted; in_order = a.in_order; fitting = (omega (arith, a.counted), a.in_order ∙ ap (count_up k) e, h, a.fitting) }
+    record {
+      counted = a.counted;
+      in_order = a.in_order;
+      fitting = (omega (arith, a.counted), a.in_order ∙ ap (count_up k) e, h, a.fitting) }
 
 escape-numbers : {n k : ℕ} (e : Escape) → FitsGroups n (tree_of e) → NumbersFrom n k (tree_of e) k
 escape-numbers (point c) h = no_groups (character c) refl refl tt
@@ -167,16 +176,21 @@ mutual
   Term-numbers m end = no_groups line_end refl refl tt
   Term-numbers m boundary = no_groups (word_boundary false) refl refl tt
   Term-numbers m no_boundary = no_groups (word_boundary true) refl refl tt
-  Term-numbers m (behind {p = p} h) = wrapped-numbers {p = p} (look false true p) refl refl (λ f. f) (Disjunction-numbers m h)
-  Term-numbers m (not_behind {p = p} h) = wrapped-numbers {p = p} (look true true p) refl refl (λ f. f) (Disjunction-numbers m h)
+  Term-numbers m (behind {p = p} h) =
+      wrapped-numbers {p = p} (look false true p) refl refl (λ f. f) (Disjunction-numbers m h)
+  Term-numbers m (not_behind {p = p} h) =
+      wrapped-numbers {p = p} (look true true p) refl refl (λ f. f) (Disjunction-numbers m h)
   Term-numbers m (ahead h n) = Lookahead-numbers m h
-  Term-numbers m (repeated_ahead {v = v} {b = b} un h e le) = repeated-numbers b.least b.most (greedy_at v) (Lookahead-numbers m h) le
+  Term-numbers m (repeated_ahead {v = v} {b = b} un h e le) =
+      repeated-numbers b.least b.most (greedy_at v) (Lookahead-numbers m h) le
   Term-numbers m (once h n) = Atom-numbers m h
   Term-numbers m (quantified {v = v} {b = b} h e le) = repeated-numbers b.least b.most (greedy_at v) (Atom-numbers m h) le
 
   Lookahead-numbers : (m : Mode) {t r : List ℕ} {k l : ℕ} {p : Pattern} → Lookahead m t k p l r → NumbersFrom (length m.names) k p l
-  Lookahead-numbers m (positive {p = p} h) = wrapped-numbers {p = p} (look false false p) refl refl (λ f. f) (Disjunction-numbers m h)
-  Lookahead-numbers m (negative {p = p} h) = wrapped-numbers {p = p} (look true false p) refl refl (λ f. f) (Disjunction-numbers m h)
+  Lookahead-numbers m (positive {p = p} h) =
+      wrapped-numbers {p = p} (look false false p) refl refl (λ f. f) (Disjunction-numbers m h)
+  Lookahead-numbers m (negative {p = p} h) =
+      wrapped-numbers {p = p} (look true false p) refl refl (λ f. f) (Disjunction-numbers m h)
 
   Atom-numbers : (m : Mode) {t r : List ℕ} {k l : ℕ} {p : Pattern} → Atom m t k p l r → NumbersFrom (length m.names) k p l
   Atom-numbers m dot = no_groups any refl refl tt

@@ -18,7 +18,8 @@ unfolding span
 length-span test [] = omega arith
 length-span test (c ∷ t) =
     let h = length-span test t in
-    cond_both (test c) _ _ (λ (p : List ℕ × List ℕ). length p.0 + length p.1 ≡ suc (length t)) (λ _. omega arith) (λ _. omega arith)
+    cond_both (test c) _ _ (λ (p : List ℕ × List ℕ). length p.0 + length p.1 ≡ suc (length t))
+        (λ _. omega arith) (λ _. omega arith)
 
 pub length-span_up_to : (n : ℕ) (test : ℕ → Bool) (t : List ℕ) → length (span_up_to n test t).0 + length (span_up_to n test t).1 ≡ length t
 unfolding span_up_to
@@ -26,7 +27,8 @@ length-span_up_to zero test t = omega arith
 length-span_up_to (suc n) test [] = omega arith
 length-span_up_to (suc n) test (c ∷ t) =
     let h = length-span_up_to n test t in
-    cond_both (test c) _ _ (λ (p : List ℕ × List ℕ). length p.0 + length p.1 ≡ suc (length t)) (λ _. omega arith) (λ _. omega arith)
+    cond_both (test c) _ _ (λ (p : List ℕ × List ℕ). length p.0 + length p.1 ≡ suc (length t))
+        (λ _. omega arith) (λ _. omega arith)
 
 pub span-shorter : (test : ℕ → Bool) (t : List ℕ) → length (span test t).1 ≤ length t
 span-shorter test t = omega (arith, length-span test t)
@@ -53,39 +55,53 @@ drop-below t h = gives-some (omega (arith, length-drop 1 t))
 
 decimal_at-below : (t : List ℕ) → LeavesBelow (length t) (decimal_at t)
 unfolding decimal_at
-decimal_at-below t = gives-guard (nat_lt 0 (length (span is_digit t).0)) (λ e. gives-some (omega (arith, length-span is_digit t, ltb-true 0 _ e)))
+decimal_at-below t = gives-guard (nat_lt 0 (length (span is_digit t).0))
+    (λ e. gives-some (omega (arith, length-span is_digit t, ltb-true 0 _ e)))
 
 braced_end-below : (n : ℕ) (t : List ℕ) → LeavesBelow (length t) (braced_end n t)
 braced_end-below n [] = gives-none
 braced_end-below n (c ∷ t) =
-    if-below (c == 0x7D) (gives-some (omega arith)) (if-below (not (c == 0x2C)) gives-none (if-below (is_at (λ d. d == 0x7D) t) (drop-below t (omega arith))
-    (gives-then _ (decimal_at t) (decimal_at-below t) (λ p h. gives-guard (is_at (λ d. d == 0x7D) p.1) (λ _. drop-below p.1 (omega arith))))))
+    if-below (c == 0x7D) (gives-some (omega arith)) (
+    if-below (not (c == 0x2C)) gives-none (
+    if-below (is_at (λ d. d == 0x7D) t) (drop-below t (omega arith))
+    (gives-then _ (decimal_at t) (decimal_at-below t)
+        (λ p h. gives-guard (is_at (λ d. d == 0x7D) p.1) (λ _. drop-below p.1 (omega arith))))))
 
 bounds_at-below : (t : List ℕ) → LeavesBelow (length t) (bounds_at t)
 unfolding bounds_at
 bounds_at-below [] = gives-none
-bounds_at-below (c ∷ t) = if-below (c == 0x2A) (gives-some (omega arith)) (if-below (c == 0x2B) (gives-some (omega arith)) (if-below (c == 0x3F) (gives-some (omega arith))
-    (if-below (c == 0x7B) (gives-then _ (decimal_at t) (decimal_at-below t) (λ p h. weaker-below (omega arith) (braced_end-below p.0 p.1))) gives-none)))
+bounds_at-below (c ∷ t) =
+    if-below (c == 0x2A) (gives-some (omega arith)) (
+    if-below (c == 0x2B) (gives-some (omega arith)) (
+    if-below (c == 0x3F) (gives-some (omega arith)) (
+    if-below (c == 0x7B) (gives-then _ (decimal_at t) (decimal_at-below t)
+        (λ p h. weaker-below (omega arith) (braced_end-below p.0 p.1)))
+    gives-none)))
 
 hex_at-below : (n : ℕ) (t : List ℕ) → LeavesBelow (suc (length t)) (hex_at n t)
 unfolding hex_at
-hex_at-below n t = gives-guard (length (span_up_to n is_hex t).0 == n) (λ _. gives-some (omega (arith, length-span_up_to n is_hex t)))
+hex_at-below n t = gives-guard (length (span_up_to n is_hex t).0 == n)
+    (λ _. gives-some (omega (arith, length-span_up_to n is_hex t)))
 
 -- some digits leave less
 hex_at-some-below : (n : ℕ) (t : List ℕ) → LeavesBelow (length t) (hex_at (suc n) t)
 unfolding hex_at
 hex_at-some-below n t =
-    gives-guard (length (span_up_to (suc n) is_hex t).0 == suc n) (λ e. gives-some (omega (arith, length-span_up_to (suc n) is_hex t, eqb-true _ _ e)))
+    gives-guard (length (span_up_to (suc n) is_hex t).0 == suc n)
+    (λ e. gives-some (omega (arith, length-span_up_to (suc n) is_hex t, eqb-true _ _ e)))
 
 low_half-below : (high : ℕ) (t : List ℕ) → LeavesBelow (suc (length t)) (low_half high t)
 unfolding low_half
-low_half-below high t = gives-guard (starts_with nat_eq t (codes "\\u")) (λ _. gives-then _ (hex_at 4 (drop 2 t)) (hex_at-below 4 (drop 2 t))
+low_half-below high t = gives-guard (starts_with nat_eq t (codes "\\u")) (λ _.
+    gives-then _ (hex_at 4 (drop 2 t)) (hex_at-below 4 (drop 2 t))
     (λ p h. gives-guard (is_low p.0) (λ _. gives-some (omega (arith, length-drop 2 t)))))
 
 pair_at-below : (t : List ℕ) → LeavesBelow (length t) (pair_at t)
 unfolding pair_at
 pair_at-below t = gives-then _ (hex_at 4 t) (hex_at-some-below 3 t)
-    (λ p h. gives-or (guard (is_high p.0) (low_half p.0 p.1)) (gives-guard (is_high p.0) (λ _. weaker-below (omega arith) (low_half-below p.0 p.1))) (gives-some h))
+    (λ p h. gives-or (guard (is_high p.0) (low_half p.0 p.1))
+        (gives-guard (is_high p.0) (λ _. weaker-below (omega arith) (low_half-below p.0 p.1)))
+        (gives-some h))
 
 braces_at-below : (t : List ℕ) → LeavesBelow (length t) (braces_at t)
 unfolding braces_at
@@ -103,24 +119,28 @@ octal_at-below : (t : List ℕ) → LeavesBelow (length t) (octal_at t)
 unfolding octal_at
 octal_at-below t =
     let n = if is_at (between 0x30 0x33) t then 3 else 2 in
-    gives-guard (nat_lt 0 (length (span_up_to n is_octal t).0)) (λ e. gives-some (omega (arith, length-span_up_to n is_octal t, ltb-true 0 _ e)))
+    gives-guard (nat_lt 0 (length (span_up_to n is_octal t).0))
+    (λ e. gives-some (omega (arith, length-span_up_to n is_octal t, ltb-true 0 _ e)))
 
 name_point-below : (t : List ℕ) → LeavesBelow (length t) (name_point t)
 unfolding name_point
 name_point-below [] = gives-none
 name_point-below (c ∷ t) =
-    if-below (c == 0x5C) (gives-guard (is_at (λ d. d == 0x75) t) (λ _. weaker-below (omega (arith, length-drop 1 t)) (unicode_escape-below (drop 1 t)))) (gives-some (omega arith))
+    if-below (c == 0x5C) (gives-guard (is_at (λ d. d == 0x75) t)
+        (λ _. weaker-below (omega (arith, length-drop 1 t)) (unicode_escape-below (drop 1 t))))
+    (gives-some (omega arith))
 
 name_rest-below : (table : Table) (n : ℕ) (t : List ℕ) → LeavesBelow (suc (length t)) (name_rest table n t)
 unfolding name_rest
 name_rest-below table zero t = gives-none
-name_rest-below table (suc n) t = if-below (is_at (λ d. d == 0x3E) t) (drop-below t (omega arith)) (gives-then _ (name_point t) (name_point-below t)
-    (λ p h. gives-guard (continues_name table p.0) (λ _. gives-map _ (name_rest table n p.1) (name_rest-below table n p.1) (λ q k. omega arith))))
+name_rest-below table (suc n) t = if-below (is_at (λ d. d == 0x3E) t) (drop-below t (omega arith))
+    (gives-then _ (name_point t) (name_point-below t) (λ p h. gives-guard (continues_name table p.0)
+    (λ _. gives-map _ (name_rest table n p.1) (name_rest-below table n p.1) (λ q k. omega arith))))
 
 name_at-below : (table : Table) (t : List ℕ) → LeavesBelow (length t) (name_at table t)
 unfolding name_at
-name_at-below table t = gives-then _ (name_point t) (name_point-below t)
-    (λ p h. gives-guard (begins_name table p.0) (λ _. gives-map _ (name_rest table (length p.1) p.1) (name_rest-below table (length p.1) p.1) (λ q k. omega arith)))
+name_at-below table t = gives-then _ (name_point t) (name_point-below t) (λ p h. gives-guard (begins_name table p.0)
+    (λ _. gives-map _ (name_rest table (length p.1) p.1) (name_rest-below table (length p.1) p.1) (λ q k. omega arith)))
 
 key_at-below : (t : List ℕ) → LeavesBelow (length t) (key_at t)
 unfolding key_at
@@ -130,8 +150,10 @@ key_at-below (c ∷ t) =
     let value = span is_ascii_word (drop 1 name.1) in
     let h : length name.1 ≤ length t = span-shorter is_ascii_word t in
     let k : length value.1 ≤ length t = omega (arith, span-shorter is_ascii_word (drop 1 name.1), length-drop 1 name.1) in
-    gives-guard (c == 0x7B && nat_lt 0 (length name.0)) (λ _. if-below (is_at (λ d. d == 0x7D) name.1) (drop-below name.1 (omega arith))
-        (gives-guard (is_at (λ d. d == 0x3D) name.1 && nat_lt 0 (length value.0) && is_at (λ d. d == 0x7D) value.1) (λ _. drop-below value.1 (omega arith))))
+    gives-guard (c == 0x7B && nat_lt 0 (length name.0))
+    (λ _. if-below (is_at (λ d. d == 0x7D) name.1) (drop-below name.1 (omega arith))
+    (gives-guard (is_at (λ d. d == 0x3D) name.1 && nat_lt 0 (length value.0) && is_at (λ d. d == 0x7D) value.1)
+    (λ _. drop-below value.1 (omega arith))))
 
 as_point-below : {n : ℕ} (o : Option (ℕ × List ℕ)) → LeavesBelow n o → LeavesBelow n (as_point o)
 as_point-below o h = gives-map _ o h (λ p k. k)
@@ -143,13 +165,15 @@ control_letter-below test (c ∷ t) = gives-guard (test c) (λ _. gives-some (om
 property_at-below : (m : Mode) (c : ℕ) (t : List ℕ) → LeavesBelow (length t) (property_at m c t)
 unfolding property_at
 property_at-below m c t = gives-then _ (key_at t) (key_at-below t)
-    (λ p h. if-below (c == 0x70) (option-below (λ x. x) p.1 (property_of m p.0) h) (gives-guard (is_some (m.table.property p.0)) (λ _. gives-some h)))
+    (λ p h. if-below (c == 0x70) (option-below (λ x. x) p.1 (property_of m p.0) h)
+    (gives-guard (is_some (m.table.property p.0)) (λ _. gives-some h)))
 
 named_reference-below : (m : Mode) (t : List ℕ) → LeavesBelow (length t) (named_reference m t)
 unfolding named_reference
 named_reference-below m t =
     gives-then _ (guard (is_at (λ d. d == 0x3C) t) (name_at m.table (drop 1 t)))
-    (gives-guard (is_at (λ d. d == 0x3C) t) (λ _. weaker-below (omega (arith, length-drop 1 t)) (name_at-below m.table (drop 1 t))))
+    (gives-guard (is_at (λ d. d == 0x3C) t)
+        (λ _. weaker-below (omega (arith, length-drop 1 t)) (name_at-below m.table (drop 1 t))))
     (λ p h. gives-guard (nat_lt 0 (length (numbers_from 0 p.0 m.names))) (λ _. gives-some h))
 
 octal_or_digit-below : (m : Mode) (c : ℕ) (t : List ℕ) → LeavesBelow (suc (length t)) (octal_or_digit m c t)
@@ -173,16 +197,21 @@ escape_at-below m (c ∷ t) =
     let same : LeavesBelow (suc (suc (length t))) (identity m c t) = weaker-below (omega arith) (identity-below m c t) in
     if-below (is_some (class_letter c)) (option-below set t (class_letter c) (omega arith)) (
     if-below (is_some (control c)) (option-below point t (control c) (omega arith)) (
-    if-below (c == 0x63) (gives-or (control_letter is_letter t) (weaker-below (omega arith) (control_letter-below is_letter t))
-        (gives-guard (not m.unicode) (λ _. gives-some (omega arith)))) (
-    if-below (c == 0x30) (if-below (is_at is_digit t) (weaker-below (omega arith) (octal_or_digit-below m c t)) (gives-some (omega arith))) (
+    if-below (c == 0x63) (gives-or (control_letter is_letter t)
+        (weaker-below (omega arith) (control_letter-below is_letter t)) (gives-guard (not m.unicode) (λ _. gives-some (omega arith)))) (
+    if-below (c == 0x30) (if-below (is_at is_digit t)
+        (weaker-below (omega arith) (octal_or_digit-below m c t)) (gives-some (omega arith))) (
     if-below (is_digit c) (weaker-below (omega arith) (decimal_escape-below m c t)) (
-    if-below (c == 0x78) (gives-or (as_point (hex_at 2 t)) (as_point-below (hex_at 2 t) (weaker-below (omega arith) (hex_at-below 2 t))) same) (
+    if-below (c == 0x78) (gives-or (as_point (hex_at 2 t))
+        (as_point-below (hex_at 2 t) (weaker-below (omega arith) (hex_at-below 2 t))) same) (
     if-below (c == 0x75) (gives-or (as_point (if m.unicode then unicode_escape t else hex_at 4 t))
         (as_point-below (if m.unicode then unicode_escape t else hex_at 4 t)
-            (if-below m.unicode (weaker-below (omega arith) (unicode_escape-below t)) (weaker-below (omega arith) (hex_at-below 4 t)))) same) (
-    if-below (c == 0x6B) (if-below m.named (weaker-below (omega arith) (named_reference-below m t)) (gives-some (omega arith))) (
-    if-below ((c == 0x70 || c == 0x50) && m.unicode) (gives-map _ (property_at m c t) (property_at-below m c t) (λ p h. omega arith))
+            (if-below m.unicode (weaker-below (omega arith) (unicode_escape-below t))
+                (weaker-below (omega arith) (hex_at-below 4 t)))) same) (
+    if-below (c == 0x6B) (if-below m.named
+        (weaker-below (omega arith) (named_reference-below m t)) (gives-some (omega arith))) (
+    if-below ((c == 0x70 || c == 0x50) && m.unicode)
+        (gives-map _ (property_at m c t) (property_at-below m c t) (λ p h. omega arith))
     same))))))))
 
 class_escape_at-below : (m : Mode) (t : List ℕ) → LeavesBelow (suc (length t)) (class_escape_at m t)
@@ -191,7 +220,8 @@ class_escape_at-below m [] = gives-none
 class_escape_at-below m (c ∷ t) =
     if-below (c == 0x62) (gives-some (omega arith)) (
     if-below (c == 0x2D) (gives-some (omega arith)) (
-    if-below (c == 0x63 && not m.unicode && is_at is_ascii_word t) (weaker-below (omega arith) (control_letter-below is_ascii_word t)) (
+    if-below (c == 0x63 && not m.unicode && is_at is_ascii_word t)
+        (weaker-below (omega arith) (control_letter-below is_ascii_word t)) (
     if-below (is_digit c && not (c == 0x30)) (weaker-below (omega arith) (octal_or_digit-below m c t)) (
     if-below (c == 0x6B) (gives-guard (not m.named) (λ _. gives-some (omega arith)))
     (escape_at-below m (c ∷ t))))))
@@ -228,7 +258,8 @@ pub class_escape_at-shorter : (m : Mode) (t : List ℕ) {e : Escape} {r : List �
 class_escape_at-shorter m t e = omega (arith, (class_escape_at-below m t).holds e)
 
 pub after_mark-shorter : (t : List ℕ) → length (after_mark t) ≤ length t
-after_mark-shorter t = cond_both (greedy_at t) _ _ (λ (r : List ℕ). length r ≤ length t) (λ _. omega arith) (λ _. omega (arith, length-drop 1 t))
+after_mark-shorter t = cond_both (greedy_at t) _ _ (λ (r : List ℕ). length r ≤ length t)
+    (λ _. omega arith) (λ _. omega (arith, length-drop 1 t))
 
 pub Member-shorter : (m : Mode) {t r : List ℕ} {e : Escape} → Member m t e r → length r < length t
 Member-shorter m (as_itself h) = omega arith
@@ -269,7 +300,8 @@ mutual
 
   pub Union-shorter : (m : Mode) {t r : List ℕ} {s : Class} → Union m t s r → length r ≤ length t
   Union-shorter m union_end = omega arith
-  Union-shorter m (union_range h i le k) = omega (arith, SetCharacter-shorter m h, SetCharacter-shorter m i, Union-shorter m k)
+  Union-shorter m (union_range h i le k) =
+      omega (arith, SetCharacter-shorter m h, SetCharacter-shorter m i, Union-shorter m k)
   Union-shorter m (union_operand h n k) = omega (arith, Operand-shorter m h, Union-shorter m k)
 
   pub Intersection-shorter : (m : Mode) {a : Class} {t r : List ℕ} {s : Class} → Intersection m a t s r → length r < length t
@@ -305,9 +337,11 @@ mutual
   Term-shorter m (behind h) = omega (arith, Disjunction-shorter m h)
   Term-shorter m (not_behind h) = omega (arith, Disjunction-shorter m h)
   Term-shorter m (ahead h n) = Lookahead-shorter m h
-  Term-shorter m (repeated_ahead {u = u} {v = v} un h b le) = omega (arith, Lookahead-shorter m h, bounds_at-shorter u b, after_mark-shorter v)
+  Term-shorter m (repeated_ahead {u = u} {v = v} un h b le) =
+      omega (arith, Lookahead-shorter m h, bounds_at-shorter u b, after_mark-shorter v)
   Term-shorter m (once h n) = Atom-shorter m h
-  Term-shorter m (quantified {u = u} {v = v} h b le) = omega (arith, Atom-shorter m h, bounds_at-shorter u b, after_mark-shorter v)
+  Term-shorter m (quantified {u = u} {v = v} h b le) =
+      omega (arith, Atom-shorter m h, bounds_at-shorter u b, after_mark-shorter v)
 
   pub Lookahead-shorter : (m : Mode) {t r : List ℕ} {k l : ℕ} {p : Pattern} → Lookahead m t k p l r → length r < length t
   Lookahead-shorter m (positive h) = omega (arith, Disjunction-shorter m h)
@@ -323,4 +357,5 @@ mutual
   Atom-shorter m (named_group {t = t} n e h) = omega (arith, name_at-shorter m.table t e, Disjunction-shorter m h)
   Atom-shorter m (uncaptured h) = omega (arith, Disjunction-shorter m h)
   Atom-shorter m (modifiers {t = t} e n d h) = omega (arith, span-rest is_flag t e, Disjunction-shorter m h)
-  Atom-shorter m (modifiers_off {t = t} {u = u} e f n d h) = omega (arith, span-rest is_flag t e, span-rest is_flag u f, Disjunction-shorter m h)
+  Atom-shorter m (modifiers_off {t = t} {u = u} e f n d h) =
+      omega (arith, span-rest is_flag t e, span-rest is_flag u f, Disjunction-shorter m h)
