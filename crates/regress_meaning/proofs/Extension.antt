@@ -1,2 +1,147 @@
--- A word or a tree read from a text is read alike where `)` follows the text.
-use Rattle.std.proofs.Common.{◌≡◌, ℕ, zero, suc, Bool, true, false, not, List, [], ◌∷◌, ◌++◌, length, Option, Some, None, refl, sym, ap, ◌∙◌}
+-- A word read from a text is read alike where `)` follows the text.
+use Rattle.std.proofs.Common.{◌≡◌, ℕ, zero, suc, ◌+◌, ◌-◌, ◌*◌, ◌%◌, ◌≤◌, Bool, true, false, not, ◌&&◌, ◌||◌, ◌==◌, nat_eq, nat_lt, nat_le, List, [], ◌∷◌, ◌++◌, length, drop, Option, Some, None, is_some, cond, if◌then◌else◌, option_and_then, option_map, refl, sym, ap, ◌∙◌, codes, min}
+use Rattle.std.proofs.lemmas.Bool.{false≢true, and_right, and_parts}
+use Rattle.std.specs.List.{starts_with}
+use Rattle.std.specs.Option.{option_or}
+use Rattle.regress_meaning.specs.Text.{between, ◌∈◌, is_at, span, span_up_to}
+use Rattle.regress_meaning.specs.Tokens.{Reads, guard, is_octal, is_hex, number_of, decimal_at, Bounds, bounds, greatest, braced_end, bounds_at, hex_at, is_high, is_low, joined, low_half, pair_at, braces_at, unicode_escape, octal_at}
+use Rattle.regress_meaning.specs.Table.{Table, last_code_point}
+use Rattle.regress_meaning.specs.Class.{is_digit, is_letter, is_ascii_word}
+
+-- a function of what a test chooses
+cond_apply : {A B : Type 0} (f : A → B) (b : Bool) (x y : A) → f (cond b x y) ≡ cond b (f x) (f y)
+cond_apply f true x y = refl
+cond_apply f false x y = refl
+
+module _ (w : List ℕ) where
+  -- the text with `)` behind it, and then w
+  abbrev pub closed : List ℕ → List ℕ
+  closed t = t ++ 0x29 ∷ w
+
+  -- The second word is the first, read where `)` and w follow. `both`: so it is also where the first is no word.
+  pub data More {A : Type 0} : (both : Bool) → Option (A × List ℕ) → Option (A × List ℕ) → Type 0 where
+    no_word : {both : Bool} → More both None None
+    a_word : {both : Bool} {x : A} {r : List ℕ} → More both (Some (x, r)) (Some (x, closed r))
+    new_word : {o : Option (A × List ℕ)} → More false None o
+
+  -- `More` goes through what words are made of.
+  pub if_more : {A : Type 0} {both : Bool} {o p o' p' : Option (A × List ℕ)} (b : Bool) → More both o o' → More both p p' →
+      More both (if b then o else p) (if b then o' else p')
+  if_more true e f = e
+  if_more false e f = f
+
+  pub or_more : {A : Type 0} {both : Bool} {o p o' p' : Option (A × List ℕ)} → More true o o' → More both p p' →
+      More both (option_or o p) (option_or o' p')
+  or_more no_word f = f
+  or_more a_word f = a_word
+
+  pub then_more : {A B : Type 0} {both : Bool} {o o' : Option (A × List ℕ)} (f f' : A × List ℕ → Option (B × List ℕ)) →
+      More both o o' → ((x : A) (r : List ℕ) → More both (f (x, r)) (f' (x, closed r))) → More both (option_and_then f o) (option_and_then f' o')
+  then_more f f' no_word h = no_word
+  then_more f f' (a_word {x = x} {r = r}) h = h x r
+  then_more f f' new_word h = new_word
+
+  pub map_more : {A B : Type 0} {both : Bool} {o o' : Option (A × List ℕ)} (f : A → B) → More both o o' →
+      More both (option_map (λ (x, r). (f x, r)) o) (option_map (λ (x, r). (f x, r)) o')
+  map_more f no_word = no_word
+  map_more f a_word = a_word
+  map_more f new_word = new_word
+
+  -- what a table of letters gives
+  pub look_up_more : {A B : Type 0} {both : Bool} (f : A → B) (o : Option A) (t : List ℕ) →
+      More both (option_map (λ x. (f x, t)) o) (option_map (λ x. (f x, closed t)) o)
+  look_up_more f None t = no_word
+  look_up_more f (Some x) t = a_word
+
+  pub at_word : {A : Type 0} {both : Bool} {o o' : Option (A × List ℕ)} {x : A} {r : List ℕ} → More both o o' → o ≡ Some (x, r) → o' ≡ Some (x, closed r)
+  at_word no_word e = cc
+  at_word a_word e = ap (option_map (λ (x, r). (x, closed r))) e
+  at_word new_word e = cc
+
+  pub at_none : {A : Type 0} {o o' : Option (A × List ℕ)} → More true o o' → o ≡ None → o' ≡ None
+  at_none no_word e = refl
+  at_none a_word e = cc
+
+  -- the tests that `)` does not pass
+  pub is_at_more : (test : ℕ → Bool) → test 0x29 ≡ false → (t : List ℕ) → is_at test (closed t) ≡ is_at test t
+  is_at_more test e [] = e
+  is_at_more test e (c ∷ t) = refl
+
+  -- a mark that ends a word
+  pub mark_more : {A : Type 0} {both : Bool} {o o' : Option (A × List ℕ)} (test : ℕ → Bool) (x : A) (t : List ℕ) → test 0x29 ≡ false → More both o o' →
+      More both (if is_at test t then Some (x, drop 1 t) else o) (if is_at test (closed t) then Some (x, drop 1 (closed t)) else o')
+  mark_more test x [] e h = rw e h
+  mark_more test x (c ∷ t) e h = if_more (test c) a_word h
+
+  -- the front of a text, and the rest, where `)` follows
+  abbrev pub closed_rest : List ℕ × List ℕ → List ℕ × List ℕ
+  closed_rest parts = (parts.0, closed parts.1)
+
+  -- a mark that a test has asked for
+  end_more : {A : Type 0} {both : Bool} (b b' : Bool) (test : ℕ → Bool) (x : A) (t : List ℕ) → (b ≡ true → is_at test t ≡ true) → b' ≡ b →
+      More both (if b then Some (x, drop 1 t) else None) (if b' then Some (x, drop 1 (closed t)) else None)
+  end_more true b' test x [] h e = absurd (false≢true (h refl))
+  end_more false b' test x t h e = rw e no_word
+  end_more true b' test x (c ∷ t) h e = rw e a_word
+
+  -- a test that fails
+  never_more : {A : Type 0} {both : Bool} (b : Bool) (o o' : Option (A × List ℕ)) → b ≡ false → More both (if b then o else None) (if b then o' else None)
+  never_more b o o' e = rw e no_word
+
+  pub span_more : (test : ℕ → Bool) → test 0x29 ≡ false → (t : List ℕ) → span test (closed t) ≡ closed_rest (span test t)
+  unfolding span
+  span_more test e [] = rw e
+  span_more test e (c ∷ t) = rw (span_more test e t) (sym (cond_apply closed_rest (test c) (c ∷ (span test t).0, (span test t).1) ([], c ∷ t)))
+
+  pub span_up_to_more : (n : ℕ) (test : ℕ → Bool) → test 0x29 ≡ false → (t : List ℕ) → span_up_to n test (closed t) ≡ closed_rest (span_up_to n test t)
+  unfolding span_up_to
+  span_up_to_more zero test e t = refl
+  span_up_to_more (suc n) test e [] = rw e
+  span_up_to_more (suc n) test e (c ∷ t) =
+      rw (span_up_to_more n test e t) (sym (cond_apply closed_rest (test c) (c ∷ (span_up_to n test t).0, (span_up_to n test t).1) ([], c ∷ t)))
+
+  -- numbers
+  pub decimal_more : {both : Bool} (t : List ℕ) → More both (decimal_at t) (decimal_at (closed t))
+  unfolding decimal_at
+  decimal_more t = rw (span_more is_digit refl t) (if_more _ a_word no_word)
+
+  pub hex_more : {both : Bool} (n : ℕ) (t : List ℕ) → More both (hex_at n t) (hex_at n (closed t))
+  unfolding hex_at
+  hex_more n t = rw (span_up_to_more n is_hex refl t) (if_more _ a_word no_word)
+
+  pub octal_more : {both : Bool} (t : List ℕ) → More both (octal_at t) (octal_at (closed t))
+  unfolding octal_at
+  octal_more t = rw (is_at_more (between 0x30 0x33) refl t, span_up_to_more (if is_at (between 0x30 0x33) t then 3 else 2) is_octal refl t) (if_more _ a_word no_word)
+
+  -- quantifiers
+  braced_end_more : {both : Bool} (n : ℕ) (t : List ℕ) → More both (braced_end n t) (braced_end n (closed t))
+  braced_end_more n [] = no_word
+  braced_end_more n (c ∷ t) =
+      if_more _ a_word (if_more _ no_word (mark_more (λ d. d == 0x7D) _ t refl (then_more _ _ (decimal_more t) (λ m r. mark_more (λ d. d == 0x7D) _ r refl no_word))))
+
+  pub bounds_more : {both : Bool} (t : List ℕ) → More both (bounds_at t) (bounds_at (closed t))
+  unfolding bounds_at
+  bounds_more [] = no_word
+  bounds_more (c ∷ t) =
+      if_more (c == 0x2A) a_word (if_more (c == 0x2B) a_word (if_more (c == 0x3F) a_word
+      (if_more (c == 0x7B) (then_more (λ (n, r). braced_end n r) (λ (n, r). braced_end n r) (decimal_more t) (λ n r. braced_end_more n r)) no_word)))
+
+  -- escapes of code points
+  low_half_more : {both : Bool} (high : ℕ) (t : List ℕ) → More both (low_half high t) (low_half high (closed t))
+  unfolding low_half
+  low_half_more high [] = no_word
+  low_half_more high (c ∷ []) = never_more ((0x5C == c) && false) _ _ (and_right _ _ refl)
+  low_half_more high (c ∷ d ∷ t) = if_more _ (then_more _ _ (hex_more 4 t) (λ low r. if_more _ a_word no_word)) no_word
+
+  pair_more : {both : Bool} (t : List ℕ) → More both (pair_at t) (pair_at (closed t))
+  unfolding pair_at
+  pair_more t = then_more _ _ (hex_more 4 t) (λ c r. or_more (if_more _ (low_half_more c r) no_word) a_word)
+
+  braces_more : {both : Bool} (t : List ℕ) → More both (braces_at t) (braces_at (closed t))
+  unfolding braces_at
+  braces_more [] = no_word
+  braces_more (c ∷ t) = rw (span_more is_hex refl t) (end_more _ _ (λ d. d == 0x7D) _ (span is_hex t).1 (λ e. (and_parts _ _ (and_parts _ _ e).0).1) (ap (λ b. c == 0x7B && nat_lt 0 (length (span is_hex t).0) && b && nat_le (number_of 16 (span is_hex t).0) last_code_point) (is_at_more (λ d. d == 0x7D) refl (span is_hex t).1)))
+
+  pub unicode_more : {both : Bool} (t : List ℕ) → More both (unicode_escape t) (unicode_escape (closed t))
+  unfolding unicode_escape
+  unicode_more t = or_more (braces_more t) (pair_more t)
