@@ -1,10 +1,10 @@
 -- A word read from a text is read alike where `)` follows the text.
-use Rattle.std.proofs.Common.{◌≡◌, ℕ, zero, suc, ◌+◌, ◌-◌, ◌*◌, ◌%◌, ◌≤◌, Bool, true, false, not, ◌&&◌, ◌||◌, ◌==◌, nat_eq, nat_lt, nat_le, List, [], ◌∷◌, ◌++◌, length, drop, Option, Some, None, is_some, cond, if◌then◌else◌, option_and_then, option_map, refl, sym, ap, ◌∙◌, codes, min}
+use Rattle.std.proofs.Common.{◌≡◌, ℕ, zero, suc, ◌+◌, ◌-◌, ◌*◌, ◌%◌, ◌≤◌, Bool, true, false, not, ◌&&◌, ◌||◌, ◌==◌, nat_eq, nat_lt, nat_le, List, [], ◌∷◌, ◌++◌, length, drop, Option, Some, None, is_some, cond, if◌then◌else◌, option_and_then, option_map, refl, sym, ap, ◌∙◌, codes, min, arith, length-append, not-suc-le-zero, le_of_suc-le-suc}
 use Rattle.std.proofs.lemmas.Bool.{false≢true, and_right, and_parts}
 use Rattle.std.specs.List.{starts_with}
 use Rattle.std.specs.Option.{option_or}
 use Rattle.regress_meaning.specs.Text.{between, ◌∈◌, is_at, span, span_up_to}
-use Rattle.regress_meaning.specs.Tokens.{Reads, guard, is_octal, is_hex, number_of, decimal_at, Bounds, bounds, greatest, braced_end, bounds_at, hex_at, is_high, is_low, joined, low_half, pair_at, braces_at, unicode_escape, octal_at}
+use Rattle.regress_meaning.specs.Tokens.{Reads, guard, is_octal, is_hex, number_of, decimal_at, Bounds, bounds, greatest, braced_end, bounds_at, hex_at, is_high, is_low, joined, low_half, pair_at, braces_at, unicode_escape, octal_at, name_point, begins_name, continues_name, name_rest, name_at, key_at, Mode, property_of, property_at, numbers_from, named_reference, octal_or_digit, decimal_escape, Escape, point, set, groups, control, class_letter, control_letter, identity, escape_at, class_escape_at}
 use Rattle.regress_meaning.specs.Table.{Table, last_code_point}
 use Rattle.regress_meaning.specs.Class.{is_digit, is_letter, is_ascii_word}
 
@@ -145,3 +145,97 @@ module _ (w : List ℕ) where
   pub unicode_more : {both : Bool} (t : List ℕ) → More both (unicode_escape t) (unicode_escape (closed t))
   unfolding unicode_escape
   unicode_more t = or_more (braces_more t) (pair_more t)
+
+  -- names
+  name_point_more : (t : List ℕ) → More false (name_point t) (name_point (closed t))
+  unfolding name_point
+  name_point_more [] = new_word
+  name_point_more (c ∷ []) = if_more (c == 0x5C) no_word a_word
+  name_point_more (c ∷ d ∷ t) = if_more (c == 0x5C) (if_more (d == 0x75) (unicode_more t) no_word) a_word
+
+  -- more room is as good
+  name_rest_more : (table : Table) (n m : ℕ) (t : List ℕ) → n ≤ m → More false (name_rest table n t) (name_rest table m (closed t))
+  unfolding name_rest
+  name_rest_more table zero m t h = new_word
+  name_rest_more table (suc n) zero t h = absurd (not-suc-le-zero h)
+  name_rest_more table (suc n) (suc m) t h =
+      mark_more (λ d. d == 0x3E) [] t refl (then_more _ _ (name_point_more t)
+          (λ c r. if_more (continues_name table c) (map_more (λ cs. c ∷ cs) (name_rest_more table n m r (le_of_suc-le-suc h))) no_word))
+
+  pub name_more : (table : Table) (t : List ℕ) → More false (name_at table t) (name_at table (closed t))
+  unfolding name_at
+  name_more table t = then_more _ _ (name_point_more t) (λ c r. if_more (begins_name table c)
+      (map_more (λ cs. c ∷ cs) (name_rest_more table (length r) (length (closed r)) r (omega (arith, length-append r (0x29 ∷ w))))) no_word)
+
+  -- keys of properties
+  abbrev key_end : ℕ → List ℕ → Reads (List ℕ)
+  key_end c name r =
+      let (value, s) = span is_ascii_word (drop 1 r) in
+      guard (c == 0x7B && nat_lt 0 (length name))
+      (if is_at (λ d. d == 0x7D) r then Some (name, drop 1 r)
+      else guard (is_at (λ d. d == 0x3D) r && nat_lt 0 (length value) && is_at (λ d. d == 0x7D) s) (Some (name ++ (0x3D ∷ value), drop 1 s)))
+
+  key_end_more : {both : Bool} (c : ℕ) (name r : List ℕ) → More both (key_end c name r) (key_end c name (closed r))
+  key_end_more c name [] = if_more (c == 0x7B && nat_lt 0 (length name)) no_word no_word
+  key_end_more c name (d ∷ r) = if_more (c == 0x7B && nat_lt 0 (length name)) (if_more (d == 0x7D) a_word (rw (span_more is_ascii_word refl r)
+      (end_more _ _ (λ e. e == 0x7D) _ (span is_ascii_word r).1 (λ e. (and_parts _ _ e).1)
+          (ap (λ b. d == 0x3D && nat_lt 0 (length (span is_ascii_word r).0) && b) (is_at_more (λ e. e == 0x7D) refl (span is_ascii_word r).1))))) no_word
+
+  key_more : {both : Bool} (t : List ℕ) → More both (key_at t) (key_at (closed t))
+  unfolding key_at
+  key_more [] = no_word
+  key_more (c ∷ t) = rw (span_more is_ascii_word refl t) (key_end_more c (span is_ascii_word t).0 (span is_ascii_word t).1)
+
+  -- a letter behind `\c`
+  control_letter_more : {both : Bool} (test : ℕ → Bool) → test 0x29 ≡ false → (t : List ℕ) → More both (control_letter test t) (control_letter test (closed t))
+  control_letter_more test e [] = rw e no_word
+  control_letter_more test e (c ∷ t) = if_more (test c) a_word no_word
+
+  module _ (m : Mode) where
+    property_more : {both : Bool} (c : ℕ) (t : List ℕ) → More both (property_at m c t) (property_at m c (closed t))
+    unfolding property_at
+    property_more c t = then_more _ _ (key_more t)
+        (λ key r. if_more (c == 0x70) (look_up_more (λ s. s) (property_of m key) r) (if_more (is_some (m.table.property key)) a_word no_word))
+
+    named_reference_more : (t : List ℕ) → More false (named_reference m t) (named_reference m (closed t))
+    unfolding named_reference
+    named_reference_more [] = new_word
+    named_reference_more (c ∷ t) = then_more _ _ (if_more (c == 0x3C) (name_more m.table t) no_word)
+        (λ name r. if_more (nat_lt 0 (length (numbers_from 0 name m.names))) a_word no_word)
+
+    octal_or_digit_more : {both : Bool} (c : ℕ) (t : List ℕ) → More both (octal_or_digit m c t) (octal_or_digit m c (closed t))
+    unfolding octal_or_digit
+    octal_or_digit_more c t = if_more (not m.unicode) (if_more (is_octal c) (map_more point (octal_more (c ∷ t))) a_word) no_word
+
+    decimal_escape_more : {both : Bool} (c : ℕ) (t : List ℕ) → More both (decimal_escape m c t) (decimal_escape m c (closed t))
+    unfolding decimal_escape
+    decimal_escape_more c t = then_more _ _ (decimal_more (c ∷ t)) (λ k r. if_more (nat_le k (length m.names)) a_word (octal_or_digit_more c t))
+
+    pub escape_more : (t : List ℕ) → More false (escape_at m t) (escape_at m (closed t))
+    unfolding escape_at
+    escape_more [] = new_word
+    escape_more (c ∷ t) =
+        rw (is_at_more is_digit refl t)
+        (if_more (is_some (class_letter c)) (look_up_more set (class_letter c) t)
+        (if_more (is_some (control c)) (look_up_more point (control c) t)
+        (if_more (c == 0x63) (or_more (control_letter_more is_letter refl t) (if_more (not m.unicode) a_word no_word))
+        (if_more (c == 0x30) (if_more (is_at is_digit t) (octal_or_digit_more c t) a_word)
+        (if_more (is_digit c) (decimal_escape_more c t)
+        (if_more (c == 0x78) (or_more (map_more point (hex_more 2 t)) itself)
+        (if_more (c == 0x75) (or_more (map_more point (if_more m.unicode (unicode_more t) (hex_more 4 t))) itself)
+        (if_more (c == 0x6B) (if_more m.named (named_reference_more t) a_word)
+        (if_more ((c == 0x70 || c == 0x50) && m.unicode) (map_more set (property_more c t)) itself)))))))))
+      where
+        itself : {both : Bool} → More both (identity m c t) (identity m c (closed t))
+        itself = if_more _ a_word no_word
+
+    pub class_escape_more : (t : List ℕ) → More false (class_escape_at m t) (class_escape_at m (closed t))
+    unfolding class_escape_at
+    class_escape_more [] = new_word
+    class_escape_more (c ∷ t) =
+        rw (is_at_more is_ascii_word refl t)
+        (if_more (c == 0x62) a_word
+        (if_more (c == 0x2D) a_word
+        (if_more (c == 0x63 && not m.unicode && is_at is_ascii_word t) (control_letter_more is_ascii_word refl t)
+        (if_more (is_digit c && not (c == 0x30)) (octal_or_digit_more c t)
+        (if_more (c == 0x6B) (if_more (not m.named) a_word no_word) (escape_more (c ∷ t)))))))
