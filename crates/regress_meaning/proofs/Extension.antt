@@ -9,7 +9,7 @@ use Rattle.regress_meaning.specs.Table.{Table, last_code_point}
 use Rattle.regress_meaning.specs.Class.{is_digit, is_letter, is_ascii_word}
 
 -- a function of what a test chooses
-cond_apply : {A B : Type 0} (f : A → B) (b : Bool) (x y : A) → f (cond b x y) ≡ cond b (f x) (f y)
+pub cond_apply : {A B : Type 0} (f : A → B) (b : Bool) (x y : A) → f (cond b x y) ≡ cond b (f x) (f y)
 cond_apply f true x y = refl
 cond_apply f false x y = refl
 
@@ -119,7 +119,7 @@ module _ (w : List ℕ) where
   braced_end_more n (c ∷ t) =
       if_more _ a_word (if_more _ no_word (mark_more (λ d. d == 0x7D) _ t refl (then_more _ _ (decimal_more t) (λ m r. mark_more (λ d. d == 0x7D) _ r refl no_word))))
 
-  pub bounds_more : {both : Bool} (t : List ℕ) → More both (bounds_at t) (bounds_at (closed t))
+  pub bounds_more : (t : List ℕ) → More true (bounds_at t) (bounds_at (closed t))
   unfolding bounds_at
   bounds_more [] = no_word
   bounds_more (c ∷ t) =
@@ -239,3 +239,8 @@ module _ (w : List ℕ) where
         (if_more (c == 0x63 && not m.unicode && is_at is_ascii_word t) (control_letter_more is_ascii_word refl t)
         (if_more (is_digit c && not (c == 0x30)) (octal_or_digit_more c t)
         (if_more (c == 0x6B) (if_more (not m.named) a_word no_word) (escape_more (c ∷ t)))))))
+
+-- What looks at the text behind asks for nothing that `)` is.
+pub is_some_more : {A : Type 0} (w : List ℕ) {o o' : Option (A × List ℕ)} → More w true o o' → is_some o' ≡ is_some o
+is_some_more w no_word = refl
+is_some_more w a_word = refl
