@@ -1,10 +1,9 @@
 -- A word read from a text is read alike where `)` follows the text.
-use Rattle.std.proofs.Common.{◌≡◌, ℕ, zero, suc, ◌+◌, ◌-◌, ◌*◌, ◌%◌, ◌≤◌, Bool, true, false, not, ◌&&◌, ◌||◌, ◌==◌, nat_eq, nat_lt, nat_le, List, [], ◌∷◌, ◌++◌, length, drop, Option, Some, None, is_some, cond, if◌then◌else◌, option_and_then, option_map, refl, sym, ap, ◌∙◌, codes, min, arith, length-append, not-suc-le-zero, le_of_suc-le-suc}
+use Rattle.std.proofs.Common.{◌≡◌, ℕ, zero, suc, ◌≤◌, Bool, true, false, not, ◌&&◌, ◌||◌, ◌==◌, nat_lt, nat_le, List, [], ◌∷◌, ◌++◌, length, drop, Option, Some, None, is_some, cond, if◌then◌else◌, option_and_then, option_map, refl, sym, ap, arith, length-append, not-suc-le-zero, le_of_suc-le-suc}
 use Rattle.std.proofs.lemmas.Bool.{false≢true, and_right, and_parts}
-use Rattle.std.specs.List.{starts_with}
 use Rattle.std.specs.Option.{option_or}
-use Rattle.regress_meaning.specs.Text.{between, ◌∈◌, is_at, span, span_up_to}
-use Rattle.regress_meaning.specs.Tokens.{Reads, guard, is_octal, is_hex, number_of, decimal_at, Bounds, bounds, greatest, braced_end, bounds_at, hex_at, is_high, is_low, joined, low_half, pair_at, braces_at, unicode_escape, octal_at, name_point, begins_name, continues_name, name_rest, name_at, key_at, Mode, property_of, property_at, numbers_from, named_reference, octal_or_digit, decimal_escape, Escape, point, set, groups, control, class_letter, control_letter, identity, escape_at, class_escape_at}
+use Rattle.regress_meaning.specs.Text.{between, is_at, span, span_up_to}
+use Rattle.regress_meaning.specs.Tokens.{Reads, guard, is_octal, is_hex, number_of, decimal_at, braced_end, bounds_at, hex_at, low_half, pair_at, braces_at, unicode_escape, octal_at, name_point, begins_name, continues_name, name_rest, name_at, key_at, Mode, property_of, property_at, numbers_from, named_reference, octal_or_digit, decimal_escape, point, set, control, class_letter, control_letter, identity, escape_at, class_escape_at}
 use Rattle.regress_meaning.specs.Table.{Table, last_code_point}
 use Rattle.regress_meaning.specs.Class.{is_digit, is_letter, is_ascii_word}
 
@@ -25,75 +24,82 @@ module _ (w : List ℕ) where
     new_word : {o : Option (A × List ℕ)} → More false None o
 
   -- `More` goes through what words are made of.
-  pub if_more : {A : Type 0} {both : Bool} {o p o' p' : Option (A × List ℕ)} (b : Bool) → More both o o' → More both p p' →
+  if_more : {A : Type 0} {both : Bool} {o p o' p' : Option (A × List ℕ)} (b : Bool) → More both o o' → More both p p' →
       More both (if b then o else p) (if b then o' else p')
   if_more true e f = e
   if_more false e f = f
 
-  pub or_more : {A : Type 0} {both : Bool} {o p o' p' : Option (A × List ℕ)} → More true o o' → More both p p' →
+  or_more : {A : Type 0} {both : Bool} {o p o' p' : Option (A × List ℕ)} → More true o o' → More both p p' →
       More both (option_or o p) (option_or o' p')
   or_more no_word f = f
   or_more a_word f = a_word
 
-  pub then_more : {A B : Type 0} {both : Bool} {o o' : Option (A × List ℕ)} (f f' : A × List ℕ → Option (B × List ℕ)) →
+  then_more : {A B : Type 0} {both : Bool} {o o' : Option (A × List ℕ)} (f f' : A × List ℕ → Option (B × List ℕ)) →
       More both o o' → ((x : A) (r : List ℕ) → More both (f (x, r)) (f' (x, closed r))) → More both (option_and_then f o) (option_and_then f' o')
   then_more f f' no_word h = no_word
   then_more f f' (a_word {x = x} {r = r}) h = h x r
   then_more f f' new_word h = new_word
 
-  pub map_more : {A B : Type 0} {both : Bool} {o o' : Option (A × List ℕ)} (f : A → B) → More both o o' →
+  map_more : {A B : Type 0} {both : Bool} {o o' : Option (A × List ℕ)} (f : A → B) → More both o o' →
       More both (option_map (λ (x, r). (f x, r)) o) (option_map (λ (x, r). (f x, r)) o')
   map_more f no_word = no_word
   map_more f a_word = a_word
   map_more f new_word = new_word
 
   -- what a table of letters gives
-  pub look_up_more : {A B : Type 0} {both : Bool} (f : A → B) (o : Option A) (t : List ℕ) →
+  look_up_more : {A B : Type 0} {both : Bool} (f : A → B) (o : Option A) (t : List ℕ) →
       More both (option_map (λ x. (f x, t)) o) (option_map (λ x. (f x, closed t)) o)
   look_up_more f None t = no_word
   look_up_more f (Some x) t = a_word
 
-  pub at_word : {A : Type 0} {both : Bool} {o o' : Option (A × List ℕ)} {x : A} {r : List ℕ} → More both o o' → o ≡ Some (x, r) → o' ≡ Some (x, closed r)
+  -- a word that was read is read again
+  pub at_word : {A : Type 0} {both : Bool} {o o' : Option (A × List ℕ)} {x : A} {r : List ℕ} → More both o o' →
+      o ≡ Some (x, r) → o' ≡ Some (x, closed r)
   at_word no_word e = cc
   at_word a_word e = ap (option_map (λ (x, r). (x, closed r))) e
   at_word new_word e = cc
 
+  -- no new word is read
   pub at_none : {A : Type 0} {o o' : Option (A × List ℕ)} → More true o o' → o ≡ None → o' ≡ None
   at_none no_word e = refl
   at_none a_word e = cc
 
-  -- the tests that `)` does not pass
+  -- a test that `)` does not pass
   pub is_at_more : (test : ℕ → Bool) → test 0x29 ≡ false → (t : List ℕ) → is_at test (closed t) ≡ is_at test t
   is_at_more test e [] = e
   is_at_more test e (c ∷ t) = refl
 
   -- a mark that ends a word
-  pub mark_more : {A : Type 0} {both : Bool} {o o' : Option (A × List ℕ)} (test : ℕ → Bool) (x : A) (t : List ℕ) → test 0x29 ≡ false → More both o o' →
+  mark_more : {A : Type 0} {both : Bool} {o o' : Option (A × List ℕ)} (test : ℕ → Bool) (x : A) (t : List ℕ) →
+      test 0x29 ≡ false → More both o o' →
       More both (if is_at test t then Some (x, drop 1 t) else o) (if is_at test (closed t) then Some (x, drop 1 (closed t)) else o')
   mark_more test x [] e h = rw e h
   mark_more test x (c ∷ t) e h = if_more (test c) a_word h
 
-  -- the front of a text, and the rest, where `)` follows
+  -- the front of a text as it is, and the rest with `)` behind it
   abbrev pub closed_rest : List ℕ × List ℕ → List ℕ × List ℕ
   closed_rest parts = (parts.0, closed parts.1)
 
   -- a mark that a test has asked for
-  end_more : {A : Type 0} {both : Bool} (b b' : Bool) (test : ℕ → Bool) (x : A) (t : List ℕ) → (b ≡ true → is_at test t ≡ true) → b' ≡ b →
+  end_more : {A : Type 0} {both : Bool} (b b' : Bool) (test : ℕ → Bool) (x : A) (t : List ℕ) →
+      (b ≡ true → is_at test t ≡ true) → b' ≡ b →
       More both (if b then Some (x, drop 1 t) else None) (if b' then Some (x, drop 1 (closed t)) else None)
   end_more true b' test x [] h e = absurd (false≢true (h refl))
   end_more false b' test x t h e = rw e no_word
   end_more true b' test x (c ∷ t) h e = rw e a_word
 
   -- a test that fails
-  never_more : {A : Type 0} {both : Bool} (b : Bool) (o o' : Option (A × List ℕ)) → b ≡ false → More both (if b then o else None) (if b then o' else None)
+  never_more : {A : Type 0} {both : Bool} (b : Bool) (o o' : Option (A × List ℕ)) → b ≡ false →
+      More both (if b then o else None) (if b then o' else None)
   never_more b o o' e = rw e no_word
 
+  -- a front of such a test, and the rest
   pub span_more : (test : ℕ → Bool) → test 0x29 ≡ false → (t : List ℕ) → span test (closed t) ≡ closed_rest (span test t)
   unfolding span
   span_more test e [] = rw e
   span_more test e (c ∷ t) = rw (span_more test e t) (sym (cond_apply closed_rest (test c) (c ∷ (span test t).0, (span test t).1) ([], c ∷ t)))
 
-  pub span_up_to_more : (n : ℕ) (test : ℕ → Bool) → test 0x29 ≡ false → (t : List ℕ) → span_up_to n test (closed t) ≡ closed_rest (span_up_to n test t)
+  span_up_to_more : (n : ℕ) (test : ℕ → Bool) → test 0x29 ≡ false → (t : List ℕ) → span_up_to n test (closed t) ≡ closed_rest (span_up_to n test t)
   unfolding span_up_to
   span_up_to_more zero test e t = refl
   span_up_to_more (suc n) test e [] = rw e
@@ -101,23 +107,25 @@ module _ (w : List ℕ) where
       rw (span_up_to_more n test e t) (sym (cond_apply closed_rest (test c) (c ∷ (span_up_to n test t).0, (span_up_to n test t).1) ([], c ∷ t)))
 
   -- numbers
-  pub decimal_more : {both : Bool} (t : List ℕ) → More both (decimal_at t) (decimal_at (closed t))
+  decimal_more : {both : Bool} (t : List ℕ) → More both (decimal_at t) (decimal_at (closed t))
   unfolding decimal_at
   decimal_more t = rw (span_more is_digit refl t) (if_more _ a_word no_word)
 
-  pub hex_more : {both : Bool} (n : ℕ) (t : List ℕ) → More both (hex_at n t) (hex_at n (closed t))
+  hex_more : {both : Bool} (n : ℕ) (t : List ℕ) → More both (hex_at n t) (hex_at n (closed t))
   unfolding hex_at
   hex_more n t = rw (span_up_to_more n is_hex refl t) (if_more _ a_word no_word)
 
-  pub octal_more : {both : Bool} (t : List ℕ) → More both (octal_at t) (octal_at (closed t))
+  octal_more : {both : Bool} (t : List ℕ) → More both (octal_at t) (octal_at (closed t))
   unfolding octal_at
-  octal_more t = rw (is_at_more (between 0x30 0x33) refl t, span_up_to_more (if is_at (between 0x30 0x33) t then 3 else 2) is_octal refl t) (if_more _ a_word no_word)
+  octal_more t =
+      rw (is_at_more (between 0x30 0x33) refl t, span_up_to_more (if is_at (between 0x30 0x33) t then 3 else 2) is_octal refl t) (if_more _ a_word no_word)
 
   -- quantifiers
   braced_end_more : {both : Bool} (n : ℕ) (t : List ℕ) → More both (braced_end n t) (braced_end n (closed t))
   braced_end_more n [] = no_word
   braced_end_more n (c ∷ t) =
-      if_more _ a_word (if_more _ no_word (mark_more (λ d. d == 0x7D) _ t refl (then_more _ _ (decimal_more t) (λ m r. mark_more (λ d. d == 0x7D) _ r refl no_word))))
+      if_more _ a_word (if_more _ no_word (mark_more (λ d. d == 0x7D) _ t refl
+          (then_more _ _ (decimal_more t) (λ m r. mark_more (λ d. d == 0x7D) _ r refl no_word))))
 
   pub bounds_more : (t : List ℕ) → More true (bounds_at t) (bounds_at (closed t))
   unfolding bounds_at
@@ -140,9 +148,10 @@ module _ (w : List ℕ) where
   braces_more : {both : Bool} (t : List ℕ) → More both (braces_at t) (braces_at (closed t))
   unfolding braces_at
   braces_more [] = no_word
-  braces_more (c ∷ t) = rw (span_more is_hex refl t) (end_more _ _ (λ d. d == 0x7D) _ (span is_hex t).1 (λ e. (and_parts _ _ (and_parts _ _ e).0).1) (ap (λ b. c == 0x7B && nat_lt 0 (length (span is_hex t).0) && b && nat_le (number_of 16 (span is_hex t).0) last_code_point) (is_at_more (λ d. d == 0x7D) refl (span is_hex t).1)))
+  braces_more (c ∷ t) = rw (span_more is_hex refl t) (end_more _ _ (λ d. d == 0x7D) _ (span is_hex t).1
+      (λ e. (and_parts _ _ (and_parts _ _ e).0).1) (rw (is_at_more (λ d. d == 0x7D) refl (span is_hex t).1)))
 
-  pub unicode_more : {both : Bool} (t : List ℕ) → More both (unicode_escape t) (unicode_escape (closed t))
+  unicode_more : {both : Bool} (t : List ℕ) → More both (unicode_escape t) (unicode_escape (closed t))
   unfolding unicode_escape
   unicode_more t = or_more (braces_more t) (pair_more t)
 
@@ -153,7 +162,7 @@ module _ (w : List ℕ) where
   name_point_more (c ∷ []) = if_more (c == 0x5C) no_word a_word
   name_point_more (c ∷ d ∷ t) = if_more (c == 0x5C) (if_more (d == 0x75) (unicode_more t) no_word) a_word
 
-  -- more room is as good
+  -- more room does no harm
   name_rest_more : (table : Table) (n m : ℕ) (t : List ℕ) → n ≤ m → More false (name_rest table n t) (name_rest table m (closed t))
   unfolding name_rest
   name_rest_more table zero m t h = new_word
@@ -164,8 +173,8 @@ module _ (w : List ℕ) where
 
   pub name_more : (table : Table) (t : List ℕ) → More false (name_at table t) (name_at table (closed t))
   unfolding name_at
-  name_more table t = then_more _ _ (name_point_more t) (λ c r. if_more (begins_name table c)
-      (map_more (λ cs. c ∷ cs) (name_rest_more table (length r) (length (closed r)) r (omega (arith, length-append r (0x29 ∷ w))))) no_word)
+  name_more table t = then_more _ _ (name_point_more t) (λ c r. if_more (begins_name table c) (map_more (λ cs. c ∷ cs)
+      (name_rest_more table (length r) (length (closed r)) r (omega (arith, length-append r (0x29 ∷ w))))) no_word)
 
   -- keys of properties
   abbrev key_end : ℕ → List ℕ → Reads (List ℕ)
@@ -179,7 +188,7 @@ module _ (w : List ℕ) where
   key_end_more c name [] = if_more (c == 0x7B && nat_lt 0 (length name)) no_word no_word
   key_end_more c name (d ∷ r) = if_more (c == 0x7B && nat_lt 0 (length name)) (if_more (d == 0x7D) a_word (rw (span_more is_ascii_word refl r)
       (end_more _ _ (λ e. e == 0x7D) _ (span is_ascii_word r).1 (λ e. (and_parts _ _ e).1)
-          (ap (λ b. d == 0x3D && nat_lt 0 (length (span is_ascii_word r).0) && b) (is_at_more (λ e. e == 0x7D) refl (span is_ascii_word r).1))))) no_word
+          (rw (is_at_more (λ e. e == 0x7D) refl (span is_ascii_word r).1))))) no_word
 
   key_more : {both : Bool} (t : List ℕ) → More both (key_at t) (key_at (closed t))
   unfolding key_at
@@ -240,7 +249,7 @@ module _ (w : List ℕ) where
         (if_more (is_digit c && not (c == 0x30)) (octal_or_digit_more c t)
         (if_more (c == 0x6B) (if_more (not m.named) a_word no_word) (escape_more (c ∷ t)))))))
 
--- What looks at the text behind asks for nothing that `)` is.
+-- a word stands there or not, as before
 pub is_some_more : {A : Type 0} (w : List ℕ) {o o' : Option (A × List ℕ)} → More w true o o' → is_some o' ≡ is_some o
 is_some_more w no_word = refl
 is_some_more w a_word = refl

@@ -1,20 +1,19 @@
 -- A pattern in `(?:..)`: the text that spells it, and what it matches.
-use Rattle.std.proofs.Common.{◌≡◌, ℕ, zero, suc, ◌+◌, ◌-◌, List, [], ◌∷◌, ◌++◌, length, Option, Some, None, refl, sym, ap, ◌∙◌, append_assoc, append-nil, flat_map, map, map-id, replicate}
+use Rattle.std.proofs.Common.{◌≡◌, ℕ, ◌+◌, ◌-◌, Bool, true, false, not, ◌&&◌, ◌||◌, ◌==◌, nat_eq, eqb-true, List, [], ◌∷◌, length, append-nil, map-id, Option, codes, refl, sym, ap, ap₂, subst₂, ◌∙◌}
 use Rattle.std.proofs.lemmas.List.Concat.{flat_map_single}
-use Rattle.std.proofs.Common.{Bool, true, false, not, ◌&&◌, ◌==◌, ◌||◌, nat_eq, ap₂, subst₂, eqb-true, codes}
 use Rattle.std.proofs.lemmas.Bool.{and_right}
 use Rattle.std.specs.List.{starts_with}
-use Rattle.regress_meaning.specs.Text.{◌∈◌, is_at, span}
+use Rattle.regress_meaning.specs.Text.{◌∈◌}
 use Rattle.regress_meaning.specs.Table.{Table}
 use Rattle.regress_meaning.specs.Class.{Class}
 use Rattle.regress_meaning.specs.Pattern.{Pattern, Settings, names_of, nothing, sequence, grouped, repeated}
 use Rattle.regress_meaning.specs.Flags.{Options, is_unicode, first_settings}
-use Rattle.regress_meaning.specs.Meaning.{State, Direction, Forward, Backward, Context, outcomes}
-use Rattle.regress_meaning.specs.Tokens.{Mode, Bounds, bounds_at, Escape}
+use Rattle.regress_meaning.specs.Meaning.{State, Forward, Context, outcomes}
+use Rattle.regress_meaning.specs.Tokens.{Mode, bounds_at, Escape}
 use Rattle.regress_meaning.specs.Grammar.{ends_alternative, ends_disjunction, greedy_at, after_mark, is_flag, reserved_pair, dash_before_member, is_pattern_character, Member, as_itself, escaped, Members, no_member, single, from_to, loose, SetCharacter, bare, backspace, punctuator, of_escape, SetString, no_more, and_then, SetStrings, last_string, more_strings, Operand, one_character, of_class, of_strings, inner, inner_negated, Contents, of_union, of_intersection, of_difference, Union, union_end, union_range, union_operand, Intersection, last_and, more_and, Difference, last_minus, more_minus, ClassBody, of_members, of_contents, Disjunction, one, more, Alternative, done, next, Term, start, end, boundary, no_boundary, behind, not_behind, ahead, repeated_ahead, once, quantified, Lookahead, positive, negative, Atom, dot, plain, escape, a_class, a_negated_class, group, named_group, uncaptured, modifiers, modifiers_off, is_name, share_a_name, opens_name, holds_a_name, mode_of, Spells}
 use Rattle.regress_meaning.specs.Laws.{in_group}
 use Rattle.regress_meaning.proofs.Extension.{cond_apply, closed, closed_rest, at_word, at_none, is_at_more, span_more, bounds_more, is_some_more, name_more, escape_more, class_escape_more}
-use Rattle.regress_meaning.specs.Matches.{Item, item_at, attempt, first_match, match_list, first_from, list_from}
+use Rattle.regress_meaning.specs.Matches.{Item, attempt, first_match, match_list, first_from, list_from}
 
 -- a group that captures nothing opens no group of its own
 pub names-grouped : (p : Pattern) → names_of (sequence (grouped p) nothing) ≡ names_of p
@@ -29,15 +28,18 @@ outcomes-grouped context p e s = flat_map_single (λ t. t) (outcomes context p F
 pub attempt-grouped : (table : Table) (o : Options) (p : Pattern) (text : List ℕ) (q : ℕ) →
     attempt table o (sequence (grouped p) nothing) text q ≡ attempt table o p text q
 unfolding attempt
-attempt-grouped table o p text q = rw (names-grouped p, outcomes-grouped (record { text = text; table = table; unicode = is_unicode o }) p (first_settings o))
+attempt-grouped table o p text q =
+    rw (names-grouped p, outcomes-grouped (record { text = text; table = table; unicode = is_unicode o }) p (first_settings o))
 
 -- both patterns have the same match list
 pub group-matches : (table : Table) (o : Options) (p : Pattern) (text : List ℕ) (place : ℕ) →
     match_list table o (sequence (grouped p) nothing) text place ≡ match_list table o p text place
 unfolding match_list first_match
 group-matches table o p text place =
-    ap (λ (f : ℕ → Option Item). list_from (λ q. first_from f (length text + 1 - q) q) (length text + 1 - place) place) (λ i. λ q. attempt-grouped table o p text q i)
+    ap (λ (f : ℕ → Option Item). list_from (λ q. first_from f (length text + 1 - q) q) (length text + 1 - place) place)
+        (λ i. λ q. attempt-grouped table o p text q i)
 
+-- What is asked of the text behind a tree is so, or not, also where `)` follows.
 module _ (w : List ℕ) where
   ends_alternative_more : (t : List ℕ) → ends_alternative (closed w t) ≡ ends_alternative t
   ends_alternative_more [] = refl
@@ -61,13 +63,15 @@ module _ (w : List ℕ) where
   reserved_more : (c : ℕ) (t : List ℕ) → reserved_pair (closed w (c ∷ t)) ≡ reserved_pair (c ∷ t)
   reserved_more c [] = go (0x29 == c) refl
     where
-      go : (b : Bool) → (0x29 == c) ≡ b → (c ∈ "&!#$%*+,.:;<=>?@^`~" && (0x29 == c)) ≡ (c ∈ "&!#$%*+,.:;<=>?@^`~" && false)
+      go : (b : Bool) → (0x29 == c) ≡ b →
+          (c ∈ "&!#$%*+,.:;<=>?@^`~" && (0x29 == c)) ≡ (c ∈ "&!#$%*+,.:;<=>?@^`~" && false)
       go true e = rw (← (eqb-true 0x29 c e)) refl
       go false e = rw e refl
   reserved_more c (d ∷ t) = refl
 
   -- what follows a quantifier
-  quantifier_more : (P : Bool → List ℕ → Type 0) (v : List ℕ) → P (greedy_at (closed w v)) (after_mark (closed w v)) → P (greedy_at v) (closed w (after_mark v))
+  quantifier_more : (P : Bool → List ℕ → Type 0) (v : List ℕ) →
+      P (greedy_at (closed w v)) (after_mark (closed w v)) → P (greedy_at v) (closed w (after_mark v))
   quantifier_more P v h = subst₂ P (greedy_more v) (after_mark_more v) h
 
   module _ (m : Mode) where
@@ -165,13 +169,15 @@ module _ (w : List ℕ) where
       atom_more (a_class {t = t} h a) = a_class (is_at_more w (λ c. c == 0x5E) refl t ∙ h) (class_body_more a)
       atom_more (a_negated_class a h) = a_negated_class (class_body_more a) h
       atom_more (group {t = t} h a) = group (is_at_more w (λ c. c == 0x3F) refl t ∙ h) (disjunction_more a)
-      atom_more (named_group {t = t} h e a) = named_group (is_at_more w (λ c. c ∈ "=!") refl t ∙ h) (at_word w (name_more w m.table t) e) (disjunction_more a)
+      atom_more (named_group {t = t} h e a) = named_group (is_at_more w (λ c. c ∈ "=!") refl t ∙ h)
+          (at_word w (name_more w m.table t) e) (disjunction_more a)
       atom_more (uncaptured a) = uncaptured (disjunction_more a)
       atom_more (modifiers {t = t} e h k a) = modifiers (span_more w is_flag refl t ∙ ap (closed_rest w) e) h k (disjunction_more a)
       atom_more (modifiers_off {t = t} {u = u} e f h k a) =
-          modifiers_off (span_more w is_flag refl t ∙ ap (closed_rest w) e) (span_more w is_flag refl u ∙ ap (closed_rest w) f) h k (disjunction_more a)
+          modifiers_off (span_more w is_flag refl t ∙ ap (closed_rest w) e)
+              (span_more w is_flag refl u ∙ ap (closed_rest w) f) h k (disjunction_more a)
 
--- `)` at the end opens no name, and nothing that it could complete does
+-- a `)` at the end makes no opening of a name, and unmakes none
 opens_name_more : (c : ℕ) (t : List ℕ) → opens_name (closed [] (c ∷ t)) ≡ opens_name (c ∷ t)
 opens_name_more c [] = refl
 opens_name_more c (d ∷ []) = refl
@@ -186,7 +192,7 @@ holds_a_name_more in_class true (c ∷ t) = holds_a_name_more in_class false t
 holds_a_name_more true false (c ∷ t) = holds_a_name_more (not (c == 0x5D)) (c == 0x5C) t
 holds_a_name_more false false (c ∷ t) = ap₂ ◌||◌ (opens_name_more c t) (holds_a_name_more (c == 0x5B) (c == 0x5C) t)
 
--- nor does `(?:`
+-- `(?:` and `)` open no name
 names-in_group : (source : List ℕ) → holds_a_name false false (in_group source) ≡ holds_a_name false false source
 unfolding holds_a_name
 names-in_group source = holds_a_name_more false false source
@@ -196,22 +202,27 @@ mode-grouped : (table : Table) (o : Options) (source : List ℕ) (p : Pattern) �
     mode_of table o (in_group source) (names_of (sequence (grouped p) nothing)) ≡ mode_of table o source (names_of p)
 mode-grouped table o source p = rw (names-in_group source, names-grouped p)
 
+-- no name is shared with a tree that has none
 shares-no_name : (names : List (List ℕ)) → share_a_name names [] ≡ false
 shares-no_name [] = refl
 shares-no_name (name ∷ names) = rw (and_right (is_name name) false refl) (shares-no_name names)
 
 -- a text in `(?:..)` spells the tree that the text spells, in a group that captures nothing
-pub group-spelled : (table : Table) (o : Options) (source : List ℕ) (p : Pattern) → Spells table o source p → Spells table o (in_group source) (sequence (grouped p) nothing)
+pub group-spelled : (table : Table) (o : Options) (source : List ℕ) (p : Pattern) →
+    Spells table o source p → Spells table o (in_group source) (sequence (grouped p) nothing)
 unfolding bounds_at
 group-spelled table o source p s = record {
-    whole = subst₂ (λ m n. Disjunction m (in_group source) 0 (sequence (grouped p) nothing) n []) (sym (mode-grouped table o source p)) (sym (ap length (names-grouped p)))
+    whole = subst₂ (λ m n. Disjunction m (in_group source) 0 (sequence (grouped p) nothing) n [])
+        (sym (mode-grouped table o source p)) (sym (ap length (names-grouped p)))
         (one (next (once (uncaptured (disjunction_more [] (mode_of table o source (names_of p)) s.whole)) refl) (done refl)) refl);
     apart = rw (s.apart, shares-no_name (names_of p));
   }
 
 -- the match list of a text in `(?:..)` is that of the text, where a text spells at most one tree
 pub transparent : (table : Table) (o : Options) (source : List ℕ) (p q : Pattern) →
-    ((p q : Pattern) → Spells table o (in_group source) p → Spells table o (in_group source) q → p ≡ q) →
-    Spells table o source p → Spells table o (in_group source) q → (text : List ℕ) (place : ℕ) → match_list table o q text place ≡ match_list table o p text place
+    (one_tree : (a b : Pattern) → Spells table o (in_group source) a → Spells table o (in_group source) b → a ≡ b) →
+    Spells table o source p → Spells table o (in_group source) q → (text : List ℕ) (place : ℕ) →
+    match_list table o q text place ≡ match_list table o p text place
 transparent table o source p q one_tree s t text place =
-    ap (λ r. match_list table o r text place) (one_tree q (sequence (grouped p) nothing) t (group-spelled table o source p s)) ∙ group-matches table o p text place
+    ap (λ r. match_list table o r text place)
+        (one_tree q (sequence (grouped p) nothing) t (group-spelled table o source p s)) ∙ group-matches table o p text place
