@@ -206,6 +206,10 @@ mutual
   Atom-numbers m (modifiers_off {on = on} {off = off} {p = p} e f n d h) =
       wrapped-numbers {p = p} (modified (settings_of on) (settings_of off) p) refl refl (λ f. f) (Disjunction-numbers m h)
 
+-- so many groups are opened as the tree has names
+pub Disjunction-counts : (m : Mode) {t r : List ℕ} {k l : ℕ} {p : Pattern} → Disjunction m t k p l r → l ≡ k + length (names_of p)
+Disjunction-counts m h = (Disjunction-numbers m h).counted
+
 pub Spells-numbers : (table : Table) (o : Options) (text : List ℕ) (p : Pattern) → Spells table o text p → IsNumbered p
 Spells-numbers table o text p h =
     let a = Disjunction-numbers (mode_of table o text (names_of p)) h.whole in
