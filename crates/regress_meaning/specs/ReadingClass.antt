@@ -1,7 +1,165 @@
--- stub
-use Rattle.std.specs.Prelude.{ℕ, List, Option, None}
-use Rattle.regress_meaning.specs.Class.{Class}
-use Rattle.regress_meaning.specs.Tokens.{Mode}
+-- The functions that read a class, behind its opening bracket: the part of the reading function that knows brackets.
+use Rattle.std.specs.Prelude.{ℕ, zero, suc, ◌+◌, ◌*◌, Bool, true, false, not, ◌&&◌, ◌==◌, nat_le, List, [], ◌∷◌, length, drop, Option, Some, None, option_and_then, option_map}
+use Rattle.regress_meaning.specs.Text.{◌∈◌, is_at}
+use Rattle.regress_meaning.specs.Class.{Class, no_string, range, strings, union, intersection, difference, nested, may_hold_strings}
+use Rattle.regress_meaning.specs.Tokens.{Mode, Escape, point, set, groups, guard, escape_at, class_escape_at}
+use Rattle.regress_meaning.specs.Grammar.{class_of, member_class, dash_before_member, reserved_pair}
 
+-- the closing bracket of a class stands here
+abbrev pub closes_class : List ℕ → Bool
+closes_class t = is_at (λ c. c == 0x5D) t
+
+-- one member
+unfoldable pub read_member : Mode → List ℕ → Option (Escape × List ℕ)
+read_member m [] = None
+read_member m (c ∷ t) = elim (c == 0x5C) [
+    true ↦ class_escape_at m t
+  | false ↦ elim (c == 0x5D) [ true ↦ None | false ↦ Some (point c, t) ] ]
+
+-- two members with a dash between them, and the class of what follows: a range of two code points, or three members
+abbrev pub dashed : Mode → Escape → Escape → Class → Option Class
+dashed m (point a) (point b) s = guard (nat_le a b) (Some (union (range a b) s))
+dashed m d e s = guard (not m.unicode) (Some (union (member_class d) (union (class_of 0x2D) (union (member_class e) s))))
+
+-- what was read, with its class changed
+abbrev pub with_class : (Class → Option Class) → Option (Class × List ℕ) → Option (Class × List ℕ)
+with_class f o = option_and_then (λ (s, r). option_and_then (λ k. Some (k, r)) (f s)) o
+
+-- the members up to the closing bracket, and what follows that
+unfoldable pub read_members : Mode → ℕ → List ℕ → Option (Class × List ℕ)
+read_members m zero t = None
+read_members m (suc n) t = elim (closes_class t) [
+    true ↦ Some (no_string, drop 1 t)
+  | false ↦ option_and_then (λ (e, u). elim (dash_before_member u) [
+      true ↦ option_and_then (λ (d, v). with_class (dashed m e d) (read_members m n v)) (read_member m (drop 1 u))
+    | false ↦ with_class (λ s. Some (union (member_class e) s)) (read_members m n u) ]) (read_member m t) ]
+
+-- the text begins with j and k
+abbrev pub two_at : ℕ → ℕ → List ℕ → Bool
+two_at j k t = is_at (λ c. c == j) t && is_at (λ c. c == k) (drop 1 t)
+
+-- what stands side by side in a class: one code point, or any other operand
+pub data Item : Type 0 where
+  character : ℕ → Item
+  other : Class → Item
+
+-- its class
+abbrev pub item_class : Item → Class
+item_class (character c) = class_of c
+item_class (other s) = s
+
+-- what an escape stands for, but for groups
+abbrev pub item_of : Escape → List ℕ → Option (Item × List ℕ)
+item_of (point c) r = Some (character c, r)
+item_of (set s) r = Some (other s, r)
+item_of (groups ks) r = None
+
+-- an item, if it is one code point
+abbrev pub only_character : Item → List ℕ → Option (ℕ × List ℕ)
+only_character (character c) r = Some (c, r)
+only_character (other s) r = None
+
+-- behind a backslash
+unfoldable pub read_set_escape : Mode → List ℕ → Option (Item × List ℕ)
+read_set_escape m [] = None
+read_set_escape m (c ∷ t) = elim (c == 0x62) [
+    true ↦ Some (character 8, t)
+  | false ↦ elim (c ∈ "&-!#%,:;<=>@`~") [
+      true ↦ Some (character c, t)
+    | false ↦ option_and_then (λ (e, r). item_of e r) (escape_at m (c ∷ t)) ] ]
+
+-- one code point, or the class of an escape
+unfoldable pub read_set_atom : Mode → List ℕ → Option (Item × List ℕ)
+read_set_atom m [] = None
+read_set_atom m (c ∷ t) = elim (c == 0x5C) [
+    true ↦ read_set_escape m t
+  | false ↦ guard (not (c ∈ "()[]{}/-\\|") && not (reserved_pair (c ∷ t))) (Some (character c, t)) ]
+
+-- one code point
+unfoldable pub read_set_character : Mode → List ℕ → Option (ℕ × List ℕ)
+read_set_character m t = option_and_then (λ (i, r). only_character i r) (read_set_atom m t)
+
+-- a string of `\q{..}`, up to `|` or `}`
+unfoldable pub read_set_string : Mode → ℕ → List ℕ → Option (List ℕ × List ℕ)
+read_set_string m zero t = None
+read_set_string m (suc n) t = elim (is_at (λ c. c ∈ "|}") t) [
+    true ↦ Some ([], t)
+  | false ↦ option_and_then (λ (c, u). option_map (λ (cs, r). (c ∷ cs, r)) (read_set_string m n u)) (read_set_character m t) ]
+
+-- the strings of `\q{..}`, and what follows the brace
+unfoldable pub read_set_strings : Mode → ℕ → List ℕ → Option (List (List ℕ) × List ℕ)
+read_set_strings m zero t = None
+read_set_strings m (suc n) t = option_and_then (λ (cs, u). elim (is_at (λ c. c == 0x7D) u) [
+    true ↦ Some (cs ∷ [], drop 1 u)
+  | false ↦ elim (is_at (λ c. c == 0x7C) u) [
+      true ↦ option_map (λ (ss, r). (cs ∷ ss, r)) (read_set_strings m n (drop 1 u))
+    | false ↦ None ] ]) (read_set_string m n t)
+
+-- an inner class: its contents were read, and the closing bracket follows
+abbrev pub closed : Bool → Option (Class × List ℕ) → Option (Item × List ℕ)
+closed negated o = option_and_then (λ (s, r). guard (closes_class r && not (negated && may_hold_strings s)) (Some (other (nested negated s), drop 1 r))) o
+
+-- behind an item, the class of both: a dash makes it a range
+unfoldable pub read_range : Mode → Item → List ℕ → Option (Class × List ℕ)
+read_range m (character first) t = elim (is_at (λ c. c == 0x2D) t) [
+    true ↦ option_and_then (λ (last, r). guard (nat_le first last) (Some (range first last, r))) (read_set_character m (drop 1 t))
+  | false ↦ Some (class_of first, t) ]
+read_range m (other s) t = guard (not (is_at (λ c. c == 0x2D) t)) (Some (s, t))
+
+-- behind the first item of a union, that union; `rest` reads one
+abbrev pub union_from : Mode → (List ℕ → Option (Class × List ℕ)) → Item → List ℕ → Option (Class × List ℕ)
+union_from m rest i t = option_and_then (λ (a, u). option_map (λ (s, r). (union a s, r)) (rest u)) (read_range m i t)
+
+unfoldable mutual
+  pub read_operand : Mode → ℕ → List ℕ → Option (Item × List ℕ)
+  read_operand m zero t = None
+  read_operand m (suc n) t = elim (is_at (λ c. c == 0x5B) t) [
+      true ↦ elim (is_at (λ c. c == 0x5E) (drop 1 t)) [
+        true ↦ closed true (read_contents m n (drop 2 t))
+      | false ↦ closed false (read_contents m n (drop 1 t)) ]
+    | false ↦ elim (is_at (λ c. c == 0x5C) t && two_at 0x71 0x7B (drop 1 t)) [
+        true ↦ option_map (λ (ss, r). (other (strings ss), r)) (read_set_strings m n (drop 3 t))
+      | false ↦ read_set_atom m t ] ]
+
+  -- up to the closing bracket, which is left
+  pub read_contents : Mode → ℕ → List ℕ → Option (Class × List ℕ)
+  read_contents m zero t = None
+  read_contents m (suc n) t = elim (closes_class t) [
+      true ↦ Some (no_string, t)
+    | false ↦ option_and_then (λ (i, u). elim (two_at 0x26 0x26 u) [
+        true ↦ read_intersection m n (item_class i) u
+      | false ↦ elim (two_at 0x2D 0x2D u) [
+          true ↦ read_difference m n (item_class i) u
+        | false ↦ union_from m (λ v. read_union m n v) i u ] ]) (read_operand m n t) ]
+
+  -- items and ranges side by side
+  pub read_union : Mode → ℕ → List ℕ → Option (Class × List ℕ)
+  read_union m zero t = None
+  read_union m (suc n) t = elim (closes_class t) [
+      true ↦ Some (no_string, t)
+    | false ↦ option_and_then (λ (i, u). union_from m (λ v. read_union m n v) i u) (read_operand m n t) ]
+
+  -- behind what is joined so far: `&&` and one more operand, at least once
+  pub read_intersection : Mode → ℕ → Class → List ℕ → Option (Class × List ℕ)
+  read_intersection m zero a t = None
+  read_intersection m (suc n) a t = elim (two_at 0x26 0x26 t && not (is_at (λ c. c == 0x26) (drop 2 t))) [
+      true ↦ option_and_then (λ (i, u). elim (closes_class u) [
+        true ↦ Some (intersection a (item_class i), u)
+      | false ↦ read_intersection m n (intersection a (item_class i)) u ]) (read_operand m n (drop 2 t))
+    | false ↦ None ]
+
+  -- the same with `--`
+  pub read_difference : Mode → ℕ → Class → List ℕ → Option (Class × List ℕ)
+  read_difference m zero a t = None
+  read_difference m (suc n) a t = elim (two_at 0x2D 0x2D t) [
+      true ↦ option_and_then (λ (i, u). elim (closes_class u) [
+        true ↦ Some (difference a (item_class i), u)
+      | false ↦ read_difference m n (difference a (item_class i)) u ]) (read_operand m n (drop 2 t))
+    | false ↦ None ]
+
+-- A class: members without `v`, contents and the closing bracket with it.
 unfoldable pub read_class : Mode → List ℕ → Option (Class × List ℕ)
-read_class m t = None
+read_class m t = elim m.sets [
+    true ↦ option_and_then (λ (s, r). guard (closes_class r) (Some (s, drop 1 r))) (read_contents m (2 * length t + 2) t)
+  | false ↦ read_members m (suc (length t)) t
+  ]
