@@ -11,7 +11,7 @@ use Rattle.regress_meaning.proofs.Openings.{either_mark}
 use Rattle.regress_meaning.proofs.OpeningsComplete.{neither, plain-opening, escape-opening, class-opening, negated_class-opening, group-opening, named_group-opening, modifiers-opening, modifiers_off-opening, uncaptured-opening, positive-opening, negative-opening, behind-opening, not_behind-opening}
 use Rattle.regress_meaning.proofs.Shorter.{span-shorter, name_at-shorter, Alternative-shorter, Term-shorter}
 
-abbrev front : Pattern → ℕ → List ℕ → Front
+abbrev pub front : Pattern → ℕ → List ℕ → Front
 front p l r = record { tree = p; opened = l; rest = r }
 
 not_bounded : (allowed : Bool) (k : ℕ) (f : Front) → bounds_at f.rest ≡ None → quantified allowed k f ≡ Some f
@@ -32,7 +32,7 @@ span-leaves_shorter test t cs u c e =
 
 module _ (m : Mode) (coherent : m.sets ≡ true → m.unicode ≡ true) (read : List ℕ → ℕ → Option Front) where
   -- the reader reads the contents of parentheses, where they are shorter than n
-  abbrev ReadsBelow : ℕ → Type 0
+  abbrev pub ReadsBelow : ℕ → Type 0
   ReadsBelow n = (t : List ℕ) (k l : ℕ) (p : Pattern) (r : List ℕ) → length t < n → Disjunction m t k p l r → read t k ≡ Some (front p l r)
 
   closed-complete : (allowed : Bool) (k j l : ℕ) (wrap : Pattern → Pattern) (u r : List ℕ) (p : Pattern) → read u j ≡ Some (front p l (0x29 ∷ r))
@@ -70,7 +70,7 @@ module _ (m : Mode) (coherent : m.sets ≡ true → m.unicode ≡ true) (read : 
   lookahead-complete reads (negative {t} {r} {k} {l} {p} d) =
       rw (negative-opening m t) (closed-complete (not m.unicode) k k l (look true false) t r p (reads t k l p (0x29 ∷ r) (omega arith) d))
 
-  term-complete : {t r : List ℕ} {k l : ℕ} {p : Pattern} → ReadsBelow (length t) → Term m t k p l r → read_term m read k (opening m t) ≡ Some (front p l r)
+  pub term-complete : {t r : List ℕ} {k l : ℕ} {p : Pattern} → ReadsBelow (length t) → Term m t k p l r → read_term m read k (opening m t) ≡ Some (front p l r)
   unfolding read_term opening escape_opening closed
   term-complete reads start = refl
   term-complete reads end = refl

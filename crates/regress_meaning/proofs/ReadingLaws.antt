@@ -7,7 +7,7 @@ use Rattle.regress_meaning.specs.Flags.{Options, is_unicode}
 use Rattle.regress_meaning.specs.Tokens.{Mode}
 use Rattle.regress_meaning.specs.Grammar.{Disjunction, Spells, mode_of, names_apart}
 use Rattle.regress_meaning.specs.Scan.{scanned_names}
-use Rattle.regress_meaning.specs.Reading.{Front, read_disjunction, enough, whole_tree, read_pattern}
+use Rattle.regress_meaning.specs.Reading.{Front, disjunction_at, whole_tree, read_pattern}
 use Rattle.regress_meaning.proofs.Inversion.{and_then-some, guard-some}
 use Rattle.regress_meaning.proofs.NumberingLemmas.{Disjunction-counts}
 use Rattle.regress_meaning.proofs.ScanLemmas.{names-scanned}
@@ -46,19 +46,19 @@ module _ (table : Table) (o : Options) (text : List ℕ) where
 
   -- What is read is spelled.
   pub read_pattern-sound : (p : Pattern) → read_pattern table o text ≡ Some p → Spells table o text p
-  unfolding read_pattern
+  unfolding read_pattern disjunction_at
   read_pattern-sound p e =
       let m = mode_of table o text (scanned_names table o text) in
-      let (f, taken, whole) = and_then-some whole_tree (read_disjunction m (enough text) text 0) e in
-      whole-spelled f p (read_disjunction-sound m (enough text) text 0 f taken) whole
+      let (f, taken, whole) = and_then-some whole_tree (disjunction_at m text 0) e in
+      whole-spelled f p (read_disjunction-sound m (3 * length text + 3) text 0 f taken) whole
 
   -- What is spelled is read.
   pub read_pattern-complete : (p : Pattern) → Spells table o text p → read_pattern table o text ≡ Some p
-  unfolding read_pattern whole_tree
+  unfolding read_pattern whole_tree disjunction_at
   read_pattern-complete p s =
       let names = names-scanned table o text p (names_of p) (length (names_of p)) s.whole in
       let d = rw names at s.whole in
-      rw (read_disjunction-complete (mode_of table o text (scanned_names table o text)) (mode_coherent (scanned_names table o text)) (enough text) (le_refl (enough text)) d, s.apart) refl
+      rw (read_disjunction-complete (mode_of table o text (scanned_names table o text)) (mode_coherent (scanned_names table o text)) (3 * length text + 3) (le_refl (3 * length text + 3)) d, s.apart) refl
 
   pub read_pattern-decides : (p : Pattern) → Spells table o text p ↔ (read_pattern table o text ≡ Some p)
   read_pattern-decides p = (read_pattern-complete p, read_pattern-sound p)

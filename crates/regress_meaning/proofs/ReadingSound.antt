@@ -29,7 +29,7 @@ module _ (m : Mode) where
   IsFront relation t k f = relation t k f.tree f.opened f.rest
 
   -- a function reads disjunctions
-  abbrev ReadsDisjunctions : (List ℕ → ℕ → Option Front) → Type 0
+  abbrev pub ReadsDisjunctions : (List ℕ → ℕ → Option Front) → Type 0
   ReadsDisjunctions read = (t : List ℕ) (k : ℕ) (f : Front) → read t k ≡ Some f → IsFront (Disjunction m) t k f
 
   -- two values that were both found are one
@@ -88,7 +88,7 @@ module _ (m : Mode) where
           (unfold quantified in behind)
 
     -- one term, by what begins it
-    term-sound : (t : List ℕ) (k : ℕ) (g : Front) (o : Opening) → Fits m t o → read_term m read k o ≡ Some g → IsFront (Term m) t k g
+    pub term-sound : (t : List ℕ) (k : ℕ) (g : Front) (o : Opening) → Fits m t o → read_term m read k o ≡ Some g → IsFront (Term m) t k g
     unfolding read_term
     term-sound t k g (assertion p r) fits e = subst (IsFront (Term m) t k) (found e) (fits k)
     term-sound t k g (single p r) fits e = atom_bounded-sound t k (record { tree = p; opened = k; rest = r }) g (bounds_at r) refl (fits k) (unfold quantified in e)

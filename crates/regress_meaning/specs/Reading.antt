@@ -1,6 +1,6 @@
 -- The reading function: it finds the tree that a text spells, or nothing. The grammar says what a tree is; this says how it is
 -- found, from the left, each construct by its first code points, with no way back.
-use Rattle.std.specs.Prelude.{ℕ, zero, suc, ◌+◌, ◌*◌, Bool, true, false, not, ◌&&◌, ◌==◌, nat_le, List, [], ◌∷◌, ◌++◌, length, drop, Option, Some, None, option_and_then, option_map, if◌then◌else◌}
+use Rattle.std.specs.Prelude.{◌≡◌, ℕ, zero, suc, ◌+◌, ◌*◌, Bool, true, false, not, ◌&&◌, ◌==◌, nat_le, List, [], ◌∷◌, ◌++◌, length, drop, Option, Some, None, option_and_then, option_map, if◌then◌else◌}
 use Rattle.regress_meaning.specs.Text.{◌∈◌, is_at, span}
 use Rattle.regress_meaning.specs.Table.{Table}
 use Rattle.regress_meaning.specs.Class.{Class, may_hold_strings}
@@ -168,9 +168,17 @@ module _ (m : Mode) where
     read_alternative zero t k = None
     read_alternative (suc n) t k = read_terms m (read_disjunction n) (read_alternative n) t k
 
--- how deep the calls go at most in a text
-abbrev pub enough : List ℕ → ℕ
-enough t = 3 * length t + 3
+-- The disjunction at the front of a text, with k groups opened before it.
+unfoldable pub disjunction_at : Mode → List ℕ → ℕ → Option Front
+disjunction_at m t k = read_disjunction m (3 * length t + 3) t k
+
+-- The alternative at the front of a text, likewise.
+unfoldable pub alternative_at : Mode → List ℕ → ℕ → Option Front
+alternative_at m t k = read_alternative m (3 * length t + 2) t k
+
+-- The term at the front of a text, likewise.
+unfoldable pub term_at : Mode → List ℕ → ℕ → Option Front
+term_at m t k = read_term m (disjunction_at m) k (opening m t)
 
 -- a front that is the whole text, and whose names stand apart
 unfoldable pub whole_tree : Front → Option Pattern
@@ -178,6 +186,11 @@ whole_tree f = guard (length f.rest == 0 && names_apart f.tree) (Some f.tree)
 
 -- The tree that a text spells.
 unfoldable pub read_pattern : Table → Options → List ℕ → Option Pattern
-read_pattern table o text =
-    let m = mode_of table o text (scanned_names table o text) in
-    option_and_then whole_tree (read_disjunction m (enough text) text 0)
+read_pattern table o text = option_and_then whole_tree (disjunction_at (mode_of table o text (scanned_names table o text)) text 0)
+
+-- The functions read step by step: a disjunction by its first alternative, an alternative by its first term.
+pub record ReadsBySteps (m : Mode) (t : List ℕ) (k : ℕ) : Type 0 where
+  pub disjunction : disjunction_at m t k ≡ option_and_then (alternatives (disjunction_at m)) (alternative_at m t k)
+  pub alternative : alternative_at m t k ≡ (if ends_alternative t
+      then Some (record { tree = nothing; opened = k; rest = t })
+      else option_and_then (terms (alternative_at m)) (term_at m t k))
