@@ -2,14 +2,14 @@
 use Rattle.std.proofs.Common.{◌≡◌, ℕ, zero, suc, Bool, true, false, not, ◌&&◌, ◌||◌, ◌==◌, List, [], ◌∷◌, ◌++◌, length, drop, Option, Some, None, refl, sym, ap₂, eqb, ap, ◌∙◌, subst, inl, inr, ⊎_elim, arith, eqb-true, is_some, codes}
 use Rattle.std.specs.Prelude.{if◌then◌else◌, nat_eq, nat_lt, nat_le}
 use Rattle.std.proofs.lemmas.Option.{none-some, same_Some}
-use Rattle.std.proofs.lemmas.Bool.{and_parts, not-true}
+use Rattle.std.proofs.lemmas.Bool.{and_parts, not-true, not-false}
 use Rattle.std.proofs.Math.Bool.{and-false}
 use Rattle.std.specs.List.{starts_with}
 use Rattle.std.specs.Option.{option_or, option_and_then, option_map}
 use Rattle.regress_meaning.specs.Text.{◌∈◌, is_at, span, span_up_to, between}
 use Rattle.regress_meaning.specs.Table.{Table, last_code_point}
 use Rattle.regress_meaning.specs.Class.{Class, is_digit, is_ascii_word}
-use Rattle.regress_meaning.specs.Tokens.{Mode, Bounds, Reads, guard, is_octal, is_hex, is_low, is_high, number_of, decimal_at, braced_end, bounds_at, hex_at, low_half, pair_at, braces_at, unicode_escape, octal_at, name_point, name_rest, name_at, key_at, property_at}
+use Rattle.regress_meaning.specs.Tokens.{Mode, Bounds, Reads, guard, is_octal, is_hex, is_low, is_high, number_of, decimal_at, braced_end, bounds_at, hex_at, low_half, pair_at, braces_at, unicode_escape, octal_at, name_point, name_rest, name_at, key_at, property_of, property_at, continues_name, begins_name}
 use Rattle.regress_meaning.proofs.Inversion.{if-cases, if-both, guard-some, and_then-some, map-some, or-some, is_at-eq}
 
 -- what passes a test at c and not at d tells them apart, either way round
@@ -174,3 +174,83 @@ braces-leads (c ∷ t) =
     let ends = and_parts (c == 0x7B && nat_lt 0 (length ds)) _ (and_parts _ (nat_le (number_of 16 ds) last_code_point) e).0 in
     let brace = eqb-true c 0x7B (and_parts (c == 0x7B) _ ends.0).0 in
     gives_some (plain (ap is_neutral brace) (passed_trans (span-passed is_hex hex-neutral t) (drop_one-passed 0x7D rest refl ends.1))))
+
+pub unicode_escape-leads : (t : List ℕ) → Leads t (unicode_escape t)
+unfolding unicode_escape
+unicode_escape-leads t = gives_or (braces_at t) (braces-leads t) (pair-leads t)
+
+pub octal-leads : (t : List ℕ) → Leads t (octal_at t)
+unfolding octal_at
+octal-leads t =
+    let k = if is_at (between 0x30 0x33) t then 3 else 2 in
+    gives_guard (nat_lt 0 (length (span_up_to k is_octal t).0)) (λ e. gives_some (span_up_to-passed k is_octal (neutral_by is_octal refl refl refl refl) t))
+
+pub key-leads : (t : List ℕ) → Leads t (key_at t)
+unfolding key_at
+key-leads [] = gives_none
+key-leads (c ∷ t) =
+    let name = (span is_ascii_word t).0 in let r = (span is_ascii_word t).1 in
+    let value = (span is_ascii_word (drop 1 r)).0 in let s = (span is_ascii_word (drop 1 r)).1 in
+    gives_guard (c == 0x7B && nat_lt 0 (length name)) (λ e.
+    let brace = eqb-true c 0x7B (and_parts (c == 0x7B) _ e).0 in
+    let front = plain {c = c} (ap is_neutral brace) (span-passed is_ascii_word words-neutral t) in
+    gives_if (is_at (λ d. d == 0x7D) r) (λ end. gives_some (passed_trans front (drop_one-passed 0x7D r refl end))) (λ no.
+    gives_guard (is_at (λ d. d == 0x3D) r && nat_lt 0 (length value) && is_at (λ d. d == 0x7D) s) (λ e2.
+    let ends = and_parts (is_at (λ d. d == 0x3D) r && nat_lt 0 (length value)) _ e2 in
+    let back = passed_trans (span-passed is_ascii_word words-neutral (drop 1 r)) (drop_one-passed 0x7D s refl ends.1) in
+    gives_some (passed_trans front (passed_trans (drop_one-passed 0x3D r refl (and_parts (is_at (λ d. d == 0x3D) r) _ ends.0).0) back)))))
+
+pub property-leads : (m : Mode) (c : ℕ) (t : List ℕ) → Leads t (property_at m c t)
+unfolding property_at
+property-leads m c t = gives_then (key_at t) (λ x at.
+    let read = (key-leads t).at x at in
+    gives_if (c == 0x70)
+      (λ e. gives_map _ (property_of m x.0) (λ s found. read))
+      (λ e. gives_guard (is_some (m.table.property x.0)) (λ known. gives_some read)))
+
+braced_end-leads : (n : ℕ) (t : List ℕ) → Leads t (braced_end n t)
+braced_end-leads n [] = gives_none
+braced_end-leads n (c ∷ t) = gives_if (c == 0x7D)
+    (λ e. gives_some (plain (ap is_neutral (eqb-true c 0x7D e)) here))
+    (λ no. gives_if (not (c == 0x2C)) (λ e. gives_none) (λ comma.
+    let front = plain {c = c} {t = t} (ap is_neutral (eqb-true c 0x2C (not-false _ comma))) here in
+    gives_if (is_at (λ d. d == 0x7D) t) (λ e. gives_some (passed_trans front (drop_one-passed 0x7D t refl e))) (λ more.
+    gives_then (decimal_at t) (λ x at. gives_guard (is_at (λ d. d == 0x7D) x.1) (λ e.
+    gives_some (passed_trans front (passed_trans ((decimal-leads t).at x at) (drop_one-passed 0x7D x.1 refl e))))))))
+
+pub bounds-leads : (t : List ℕ) → Leads t (bounds_at t)
+unfolding bounds_at
+bounds-leads [] = gives_none
+bounds-leads (c ∷ t) =
+    gives_if (c == 0x2A) (λ e. gives_some (plain (ap is_neutral (eqb-true c 0x2A e)) here)) (λ no.
+    gives_if (c == 0x2B) (λ e. gives_some (plain (ap is_neutral (eqb-true c 0x2B e)) here)) (λ no.
+    gives_if (c == 0x3F) (λ e. gives_some (plain (ap is_neutral (eqb-true c 0x3F e)) here)) (λ no.
+    gives_if (c == 0x7B) (λ e. gives_then (decimal_at t) (λ x at. record { at = λ y end. plain (ap is_neutral (eqb-true c 0x7B e)) (passed_trans ((decimal-leads t).at x at) ((braced_end-leads x.0 x.1).at y end)) }))
+    (λ no. gives_none))))
+
+-- what is read leads from t to an end of t
+abbrev pub Ends : {A : Type 0} → List ℕ → Option (A × List ℕ) → Type 0
+Ends t o = Gives (λ x. Behind t x.1) o
+
+drop_one-behind : (t : List ℕ) → Behind t (drop 1 t)
+drop_one-behind [] = here
+drop_one-behind (c ∷ t) = past here
+
+name_point-ends : (t : List ℕ) → Ends t (name_point t)
+unfolding name_point
+name_point-ends [] = gives_none
+name_point-ends (c ∷ t) = gives_if (c == 0x5C)
+    (λ e. gives_guard (is_at (λ d. d == 0x75) t) (λ u. record { at = λ x at. past (behind_trans (drop_one-behind t) (passed-behind ((unicode_escape-leads (drop 1 t)).at x at))) }))
+    (λ no. gives_some (past here))
+
+name_rest-ends : (table : Table) (n : ℕ) (t : List ℕ) → Ends t (name_rest table n t)
+unfolding name_rest
+name_rest-ends table zero t = gives_none
+name_rest-ends table (suc n) t = gives_if (is_at (λ d. d == 0x3E) t) (λ e. gives_some (drop_one-behind t)) (λ no.
+    gives_then (name_point t) (λ x at. gives_guard (continues_name table x.0) (λ e.
+    gives_map _ (name_rest table n x.1) (λ y rest. behind_trans ((name_point-ends t).at x at) ((name_rest-ends table n x.1).at y rest)))))
+
+pub name-ends : (table : Table) (t : List ℕ) → Ends t (name_at table t)
+unfolding name_at
+name-ends table t = gives_then (name_point t) (λ x at. gives_guard (begins_name table x.0) (λ e.
+    gives_map _ (name_rest table (length x.1) x.1) (λ y rest. behind_trans ((name_point-ends t).at x at) ((name_rest-ends table (length x.1) x.1).at y rest))))
