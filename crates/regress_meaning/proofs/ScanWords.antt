@@ -124,13 +124,13 @@ pub drop_one-passed : (d : ℕ) (t : List ℕ) → is_neutral d ≡ true → is_
 drop_one-passed d t n e = let found = is_at-eq d t e in subst (λ u. Passed u (drop 1 u)) (sym found.1) (plain n here)
 
 -- digits are neutral
-digits-neutral : OnlyNeutral is_digit
+pub digits-neutral : OnlyNeutral is_digit
 digits-neutral = neutral_by is_digit refl refl refl refl
 
-hex-neutral : OnlyNeutral is_hex
+pub hex-neutral : OnlyNeutral is_hex
 hex-neutral = neutral_by is_hex refl refl refl refl
 
-words-neutral : OnlyNeutral is_ascii_word
+pub words-neutral : OnlyNeutral is_ascii_word
 words-neutral = neutral_by is_ascii_word refl refl refl refl
 
 pub decimal-leads : (t : List ℕ) → Leads t (decimal_at t)
