@@ -9,7 +9,7 @@ use Rattle.regress_meaning.specs.Tokens.{Mode, guard, is_octal, name_at, decimal
 use Rattle.regress_meaning.proofs.Scan.{group_names}
 use Rattle.regress_meaning.proofs.ScanWords.{differs, is_neutral, neutral_by, Passed, here, plain, pair, Behind, Leads, Gives, gives_none, gives_some, gives_if, gives_guard, gives_or, gives_then, gives_map, digits-neutral, words-neutral, decimal-leads, hex-leads, octal-leads, unicode_escape-leads, property-leads, name-ends}
 use Rattle.regress_meaning.proofs.ScanSteps.{AgreeIn, Agree, neutral-agrees, pair-agrees, passed-agrees, class-step, plain-step, enter, leave, group-step, named_group-step, uncounted-step, reference-step, unnamed_k-step}
-use Rattle.regress_meaning.proofs.Inversion.{is_at-eq}
+use Rattle.regress_meaning.proofs.Inversion.{is_at-eq, guard-some}
 
 module _ (m : Mode) where
   -- a scan in the mode goes on behind what is read as it would before it
@@ -62,3 +62,61 @@ module _ (m : Mode) where
       gives_if (c == 0x6B) (λ is. absurd (false≢true (sym e ∙ is))) (λ no.
       gives_if ((c == 0x70 || c == 0x50) && m.unicode) (λ is. gives_map _ (property_at m c t) (λ x at. passed-agrees m.table m.named ((property-leads m c t).at x at))) (λ no.
       identity-quiet c t)))))))))
+
+  -- behind a backslash in a class without `v`
+  class_escape-quiet : (c : ℕ) (t : List ℕ) → Quiet t (class_escape_at m (c ∷ t))
+  unfolding class_escape_at
+  class_escape-quiet c t =
+      gives_if (c == 0x62) (λ is. gives_some (stay t)) (λ no.
+      gives_if (c == 0x2D) (λ is. gives_some (stay t)) (λ no.
+      gives_if (c == 0x63 && not m.unicode && is_at is_ascii_word t) (λ is. control_letter-quiet is_ascii_word words-neutral t) (λ no.
+      gives_if (is_digit c && not (c == 0x30)) (λ is. octal_or_digit-quiet c t (and_parts (is_digit c) _ is).0) (λ no.
+      gives_if (c == 0x6B) (λ is. gives_guard (not m.named) (λ unnamed. gives_some (stay t))) (λ no.
+      escape-quiet c t no)))))
+
+  -- the name behind `\k<`
+  named_reference-read : (t : List ℕ) (x : List ℕ × List ℕ) → guard (is_at (λ d. d == 0x3C) t) (name_at m.table (drop 1 t)) ≡ Some x → m.named ≡ true → AgreeIn m.table m.named false (0x5C ∷ 0x6B ∷ t) x.1
+  named_reference-read t x at e =
+      let read = guard-some (is_at (λ d. d == 0x3C) t) at in
+      let front = is_at-eq 0x3C t read.0 in
+      let name = rw (ap (drop 1) front.1) at read.1 in
+      rw front.1 (reference-step m.table m.named front.0 x.0 x.1 e name ((name-ends m.table front.0).at x name))
+
+  -- an escape outside a class, and its backslash
+  pub escape-agrees : (t : List ℕ) → Gives (λ x. AgreeIn m.table m.named false (0x5C ∷ t) x.1) (escape_at m t)
+  unfolding escape_at named_reference
+  escape-agrees [] = gives_none
+  escape-agrees (c ∷ t) = go (c == 0x6B) refl
+    where
+      k : Gives (λ x. AgreeIn m.table m.named false (0x5C ∷ 0x6B ∷ t) x.1) (escape_at m (0x6B ∷ t))
+      k = gives_if m.named
+          (λ e. gives_then (guard (is_at (λ d. d == 0x3C) t) (name_at m.table (drop 1 t))) (λ x at. gives_guard (nat_lt 0 (length (numbers_from 0 x.0 m.names))) (λ some. gives_some (named_reference-read t x at e))))
+          (λ e. gives_some (unnamed_k-step m.table m.named t e))
+      go : (b : Bool) → (c == 0x6B) ≡ b → Gives (λ x. AgreeIn m.table m.named false (0x5C ∷ c ∷ t) x.1) (escape_at m (c ∷ t))
+      go true e = subst (λ d. Gives (λ x. AgreeIn m.table m.named false (0x5C ∷ d ∷ t) x.1) (escape_at m (d ∷ t))) (sym (eqb-true c 0x6B e)) k
+      go false e = record { at = λ x at. (pair-agrees m.table m.named c t e).within false ∙ ((escape-quiet c t e).at x at).within false }
+
+  -- what was read refers to no group
+  abbrev is_no_group : Escape → Bool
+  is_no_group (groups ks) = false
+  is_no_group _ = true
+
+  -- an escape that stands for a code point or a class, where names are read: in a class with `v` too
+  pub escape-agrees_both : m.named ≡ true → (t : List ℕ) → Gives (λ x. is_no_group x.0 ≡ true → Agree m.table m.named (0x5C ∷ t) x.1) (escape_at m t)
+  unfolding escape_at named_reference
+  escape-agrees_both named [] = gives_none
+  escape-agrees_both named (c ∷ t) = go (c == 0x6B) refl
+    where
+      k : Gives (λ x. is_no_group x.0 ≡ true → Agree m.table m.named (0x5C ∷ 0x6B ∷ t) x.1) (escape_at m (0x6B ∷ t))
+      k = gives_if m.named
+          (λ e. gives_then (guard (is_at (λ d. d == 0x3C) t) (name_at m.table (drop 1 t))) (λ x at. gives_guard (nat_lt 0 (length (numbers_from 0 x.0 m.names))) (λ some. gives_some (λ no. absurd (false≢true no)))))
+          (λ e. absurd (false≢true (sym e ∙ named)))
+      go : (b : Bool) → (c == 0x6B) ≡ b → Gives (λ x. is_no_group x.0 ≡ true → Agree m.table m.named (0x5C ∷ c ∷ t) x.1) (escape_at m (c ∷ t))
+      go true e = subst (λ d. Gives (λ x. is_no_group x.0 ≡ true → Agree m.table m.named (0x5C ∷ d ∷ t) x.1) (escape_at m (d ∷ t))) (sym (eqb-true c 0x6B e)) k
+      go false e = record { at = λ x at no. record { within = λ b. (pair-agrees m.table m.named c t e).within b ∙ ((escape-quiet c t e).at x at).within b } }
+
+  -- an escape in a class without `v`, and its backslash
+  class_escape-agrees : (t : List ℕ) → Gives (λ x. AgreeIn m.table m.named true (0x5C ∷ t) x.1) (class_escape_at m t)
+  unfolding class_escape_at group_names
+  class_escape-agrees [] = gives_none
+  class_escape-agrees (c ∷ t) = record { at = λ x at. ((class_escape-quiet c t).at x at).within true }
