@@ -97,7 +97,7 @@ module _ (m : Mode) where
       go false e = record { at = λ x at. (pair-agrees m.table m.named c t e).within false ∙ ((escape-quiet c t e).at x at).within false }
 
   -- what was read refers to no group
-  abbrev is_no_group : Escape → Bool
+  abbrev pub is_no_group : Escape → Bool
   is_no_group (groups ks) = false
   is_no_group _ = true
 
@@ -116,7 +116,7 @@ module _ (m : Mode) where
       go false e = record { at = λ x at no. record { within = λ b. (pair-agrees m.table m.named c t e).within b ∙ ((escape-quiet c t e).at x at).within b } }
 
   -- an escape in a class without `v`, and its backslash
-  class_escape-agrees : (t : List ℕ) → Gives (λ x. AgreeIn m.table m.named true (0x5C ∷ t) x.1) (class_escape_at m t)
+  pub class_escape-agrees : (t : List ℕ) → Gives (λ x. AgreeIn m.table m.named true (0x5C ∷ t) x.1) (class_escape_at m t)
   unfolding class_escape_at group_names
   class_escape-agrees [] = gives_none
   class_escape-agrees (c ∷ t) = record { at = λ x at. ((class_escape-quiet c t).at x at).within true }

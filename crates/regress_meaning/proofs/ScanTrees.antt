@@ -1,0 +1,99 @@
+-- The scan of a text finds the names of the tree that the text spells.
+use Rattle.std.proofs.Common.{◌≡◌, ℕ, suc, Bool, true, false, not, ◌&&◌, ◌||◌, ◌==◌, List, [], ◌∷◌, ◌++◌, length, drop, Option, Some, None, is_some, refl, sym, ap, ◌∙◌, subst, inl, inr, eqb-true, codes, append_assoc, append-nil}
+use Rattle.std.specs.Prelude.{if◌then◌else◌}
+use Rattle.std.proofs.lemmas.Bool.{cases_Bool, not_from_false, not-true, and_parts, or_cases, false≢true}
+use Rattle.regress_meaning.specs.Text.{◌∈◌, is_at, span}
+use Rattle.regress_meaning.specs.Table.{Table}
+use Rattle.regress_meaning.specs.Class.{Class}
+use Rattle.regress_meaning.specs.Pattern.{Pattern, names_of}
+use Rattle.regress_meaning.specs.Flags.{Options}
+use Rattle.regress_meaning.specs.Tokens.{Mode, Bounds, bounds_at, Escape, point, set, groups}
+use Rattle.regress_meaning.specs.Grammar.{is_flag, opens_name, mode_of, tree_of, greedy_at, after_mark, is_pattern_character, Member, as_itself, escaped, Members, no_member, single, from_to, loose, SetCharacter, bare, backspace, punctuator, of_escape, SetString, no_more, and_then, SetStrings, last_string, more_strings, Operand, one_character, of_class, of_strings, inner, inner_negated, Contents, of_union, of_intersection, of_difference, Union, union_end, union_range, union_operand, Intersection, last_and, more_and, Difference, last_minus, more_minus, ClassBody, of_members, of_contents, Disjunction, one, more, Alternative, done, next, Term, start, end, boundary, no_boundary, behind, not_behind, ahead, repeated_ahead, once, quantified, Lookahead, positive, negative, Atom, dot, plain, escape, a_class, a_negated_class, group, named_group, uncaptured, modifiers, modifiers_off}
+use Rattle.regress_meaning.proofs.Scan.{group_names, scanned_names}
+use Rattle.regress_meaning.proofs.ScanWords.{differs, is_neutral, neutral_by, Passed, passed_trans, span-passed, Leads, Gives, bounds-leads, name-ends}
+use Rattle.regress_meaning.proofs.ScanSteps.{AgreeIn, Agree, neutral-agrees, pair-agrees, passed-agrees, class-step, plain-step, enter, leave, group-step, named_group-step, uncounted-step}
+use Rattle.regress_meaning.proofs.ScanLemmas.{is_no_group, escape-agrees, escape-agrees_both, class_escape-agrees}
+
+module _ (m : Mode) where
+  scan : Bool → List ℕ → List (List ℕ)
+  scan b t = group_names m.table m.named b 0 t
+
+  neutral : (b : Bool) (c : ℕ) (t : List ℕ) → is_neutral c ≡ true → AgreeIn m.table m.named b (c ∷ t) t
+  neutral b c t e = (neutral-agrees m.table m.named c t e).within b
+
+  -- a member of a class without `v`
+  member-agrees : {t r : List ℕ} {e : Escape} → Member m t e r → AgreeIn m.table m.named true t r
+  member-agrees (as_itself {c} {r} e) = class-step m.table m.named c r (differs (λ d. d ∈ "\\]") c 0x5C e).0 (differs (λ d. d ∈ "\\]") c 0x5D e).0
+  member-agrees (escaped {e} {t} {r} at) = (class_escape-agrees m t).at (e, r) at
+
+  members-leave : {t r : List ℕ} {s : Class} → Members m t s r → group_names m.table m.named true 0 t ≡ group_names m.table m.named false 0 r
+  members-leave (no_member {r}) = leave m.table m.named true r
+  members-leave (single a e rest) = member-agrees a ∙ members-leave rest
+  members-leave (from_to {u} a e b le rest) = member-agrees a ∙ neutral true 0x2D u refl ∙ member-agrees b ∙ members-leave rest
+  members-leave (loose {u} mode a e b points rest) = member-agrees a ∙ neutral true 0x2D u refl ∙ member-agrees b ∙ members-leave rest
+
+  -- Scanned in whatever state, the same names are found from t as from r, there in some state.
+  record Crosses (t r : List ℕ) : Type 0 where
+    into : Bool → Bool
+    same : (b : Bool) → group_names m.table m.named b 0 t ≡ group_names m.table m.named (into b) 0 r
+
+  agree-crosses : {t r : List ℕ} → Agree m.table m.named t r → Crosses t r
+  agree-crosses h = record { into = λ b. b; same = λ b. h.within b }
+
+  cross : {t u r : List ℕ} → Crosses t u → Crosses u r → Crosses t r
+  cross h g = record { into = λ b. g.into (h.into b); same = λ b. h.same b ∙ g.same (h.into b) }
+
+  neutral-crosses : (c : ℕ) (t : List ℕ) → is_neutral c ≡ true → Crosses (c ∷ t) t
+  neutral-crosses c t e = agree-crosses (neutral-agrees m.table m.named c t e)
+
+  open-crosses : (t : List ℕ) → Crosses (0x5B ∷ t) t
+  unfolding group_names
+  open-crosses t = record { into = λ b. true; same = at }
+    where
+      at : (b : Bool) → group_names m.table m.named b 0 (0x5B ∷ t) ≡ group_names m.table m.named true 0 t
+      at true = refl
+      at false = enter m.table m.named t
+
+  close-crosses : (t : List ℕ) → Crosses (0x5D ∷ t) t
+  close-crosses t = record { into = λ b. false; same = λ b. leave m.table m.named b t }
+
+  module _ (named : m.named ≡ true) where
+    character-crosses : {t r : List ℕ} {c : ℕ} → SetCharacter m t c r → Crosses t r
+    character-crosses (bare {c} {r} e f) = neutral-crosses c r (neutral_by (λ d. not (d ∈ "()[]{}/-\\|")) refl refl refl refl c (not_from_false _ e))
+    character-crosses (backspace {r}) = agree-crosses (pair-agrees m.table m.named 0x62 r refl)
+    character-crosses (punctuator {c} {r} e) = agree-crosses (pair-agrees m.table m.named c r (differs (λ d. d ∈ "&-!#%,:;<=>@`~") c 0x6B e).0)
+    character-crosses (of_escape {c} {t} {r} at) = agree-crosses ((escape-agrees_both m named t).at (point c, r) at refl)
+
+    string-crosses : {t r cs : List ℕ} → SetString m t cs r → Crosses t r
+    string-crosses (no_more e) = record { into = λ b. b; same = λ b. refl }
+    string-crosses (and_then c rest) = cross (character-crosses c) (string-crosses rest)
+
+    strings-cross : {t r : List ℕ} {ss : List (List ℕ)} → SetStrings m t ss r → Crosses t r
+    strings-cross (last_string {r} s) = cross (string-crosses s) (neutral-crosses 0x7D r refl)
+    strings-cross (more_strings {u} s rest) = cross (string-crosses s) (cross (neutral-crosses 0x7C u refl) (strings-cross rest))
+
+    mutual
+      operand-crosses : {t r : List ℕ} {s : Class} → Operand m t s r → Crosses t r
+      operand-crosses (one_character c) = character-crosses c
+      operand-crosses (of_class {t} {r} {s} at) = agree-crosses ((escape-agrees_both m named t).at (set s, r) at refl)
+      operand-crosses (of_strings {t} ss) = cross (agree-crosses (pair-agrees m.table m.named 0x71 (0x7B ∷ t) refl)) (cross (neutral-crosses 0x7B t refl) (strings-cross ss))
+      operand-crosses (inner {t} {r} e contents) = cross (open-crosses t) (cross (contents-cross contents) (close-crosses r))
+      operand-crosses (inner_negated {t} {r} contents e) = cross (open-crosses (0x5E ∷ t)) (cross (neutral-crosses 0x5E t refl) (cross (contents-cross contents) (close-crosses r)))
+
+      contents-cross : {t r : List ℕ} {s : Class} → Contents m t s r → Crosses t r
+      contents-cross (of_union rest) = union-crosses rest
+      contents-cross (of_intersection a rest) = cross (operand-crosses a) (intersection-crosses rest)
+      contents-cross (of_difference a rest) = cross (operand-crosses a) (difference-crosses rest)
+
+      union-crosses : {t r : List ℕ} {s : Class} → Union m t s r → Crosses t r
+      union-crosses union_end = record { into = λ b. b; same = λ b. refl }
+      union-crosses (union_range {u} a b le rest) = cross (character-crosses a) (cross (neutral-crosses 0x2D u refl) (cross (character-crosses b) (union-crosses rest)))
+      union-crosses (union_operand a e rest) = cross (operand-crosses a) (union-crosses rest)
+
+      intersection-crosses : {a s : Class} {t r : List ℕ} → Intersection m a t s r → Crosses t r
+      intersection-crosses (last_and {t} e b) = cross (neutral-crosses 0x26 (0x26 ∷ t) refl) (cross (neutral-crosses 0x26 t refl) (operand-crosses b))
+      intersection-crosses (more_and {t} e b rest) = cross (neutral-crosses 0x26 (0x26 ∷ t) refl) (cross (neutral-crosses 0x26 t refl) (cross (operand-crosses b) (intersection-crosses rest)))
+
+      difference-crosses : {a s : Class} {t r : List ℕ} → Difference m a t s r → Crosses t r
+      difference-crosses (last_minus {t} b) = cross (neutral-crosses 0x2D (0x2D ∷ t) refl) (cross (neutral-crosses 0x2D t refl) (operand-crosses b))
+      difference-crosses (more_minus {t} b rest) = cross (neutral-crosses 0x2D (0x2D ∷ t) refl) (cross (neutral-crosses 0x2D t refl) (cross (operand-crosses b) (difference-crosses rest)))
