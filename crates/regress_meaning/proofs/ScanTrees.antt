@@ -9,6 +9,7 @@ use Rattle.regress_meaning.specs.Pattern.{Pattern, names_of}
 use Rattle.regress_meaning.specs.Flags.{Options}
 use Rattle.regress_meaning.specs.Tokens.{Mode, Bounds, bounds_at, Escape, point, set, groups}
 use Rattle.regress_meaning.specs.Grammar.{is_flag, opens_name, mode_of, tree_of, greedy_at, after_mark, is_pattern_character, Member, as_itself, escaped, Members, no_member, single, from_to, loose, SetCharacter, bare, backspace, punctuator, of_escape, SetString, no_more, and_then, SetStrings, last_string, more_strings, Operand, one_character, of_class, of_strings, inner, inner_negated, Contents, of_union, of_intersection, of_difference, Union, union_end, union_range, union_operand, Intersection, last_and, more_and, Difference, last_minus, more_minus, ClassBody, of_members, of_contents, Disjunction, one, more, Alternative, done, next, Term, start, end, boundary, no_boundary, behind, not_behind, ahead, repeated_ahead, once, quantified, Lookahead, positive, negative, Atom, dot, plain, escape, a_class, a_negated_class, group, named_group, uncaptured, modifiers, modifiers_off}
+use Rattle.regress_meaning.proofs.Inversion.{if-both}
 use Rattle.regress_meaning.proofs.Scan.{group_names, scanned_names}
 use Rattle.regress_meaning.proofs.ScanWords.{differs, is_neutral, neutral_by, Passed, passed_trans, span-passed, Leads, Gives, bounds-leads, name-ends}
 use Rattle.regress_meaning.proofs.ScanSteps.{AgreeIn, Agree, neutral-agrees, pair-agrees, passed-agrees, class-step, plain-step, enter, leave, group-step, named_group-step, uncounted-step}
@@ -97,3 +98,59 @@ module _ (m : Mode) where
       difference-crosses : {a s : Class} {t r : List ℕ} → Difference m a t s r → Crosses t r
       difference-crosses (last_minus {t} b) = cross (neutral-crosses 0x2D (0x2D ∷ t) refl) (cross (neutral-crosses 0x2D t refl) (operand-crosses b))
       difference-crosses (more_minus {t} b rest) = cross (neutral-crosses 0x2D (0x2D ∷ t) refl) (cross (neutral-crosses 0x2D t refl) (cross (operand-crosses b) (difference-crosses rest)))
+
+  -- where names are read with `v`, the scan leaves a class at its end
+  body-leaves : (m.sets ≡ true → m.named ≡ true) → {t r : List ℕ} {s : Class} → ClassBody m t s r → group_names m.table m.named true 0 t ≡ group_names m.table m.named false 0 r
+  body-leaves named (of_members e ms) = members-leave ms
+  body-leaves named (of_contents {r} e contents) = let way = contents-cross (named e) contents in way.same true ∙ leave m.table m.named (way.into true) r
+
+  -- from t to r the names of p are found
+  abbrev Finds : List ℕ → Pattern → List ℕ → Type 0
+  Finds t p r = group_names m.table m.named false 0 t ≡ names_of p ++ group_names m.table m.named false 0 r
+
+  mark-agrees : (t : List ℕ) → AgreeIn m.table m.named false t (after_mark t)
+  mark-agrees [] = refl
+  mark-agrees (c ∷ t) = go (c == 0x3F) refl
+    where
+      go : (b : Bool) → (c == 0x3F) ≡ b → AgreeIn m.table m.named false (c ∷ t) (if not b then c ∷ t else t)
+      go true e = neutral false c t (ap is_neutral (eqb-true c 0x3F e))
+      go false e = refl
+
+  bounds-agree : (t : List ℕ) (b : Bounds) (r : List ℕ) → bounds_at t ≡ Some (b, r) → AgreeIn m.table m.named false t (after_mark r)
+  bounds-agree t b r e = (passed-agrees m.table m.named ((bounds-leads t).at (b, r) e)).within false ∙ mark-agrees r
+
+  -- what passes a test that the opening brackets and the backslash fail stands for itself outside a class
+  plain_by : (test : ℕ → Bool) → test 0x5C ≡ false → test 0x28 ≡ false → test 0x5B ≡ false → (c : ℕ) (t : List ℕ) → test c ≡ true → AgreeIn m.table m.named false (c ∷ t) t
+  plain_by test p q r c t h = plain-step m.table m.named c t (differs test c 0x5C (h ∙ ap not (sym p))).0 (differs test c 0x28 (h ∙ ap not (sym q))).0 (differs test c 0x5B (h ∙ ap not (sym r))).0
+
+  pattern_character-agrees : (c : ℕ) (t : List ℕ) → is_pattern_character m c t ≡ true → AgreeIn m.table m.named false (c ∷ t) t
+  pattern_character-agrees c t e = if-both m.unicode
+      (λ mode h. plain_by (λ d. not (d ∈ "^$\\.*+?()[]{}|")) refl refl refl c t h)
+      (λ mode h. elim (or_cases (not (c ∈ "^$\\.*+?()[|{")) _ h) [
+        | inl itself ↦ plain_by (λ d. not (d ∈ "^$\\.*+?()[|{")) refl refl refl c t itself
+        | inr brace ↦ plain_by (λ d. d == 0x7B) refl refl refl c t (and_parts (c == 0x7B) _ brace).0
+      ]) e
+
+  tree_of-names : (e : Escape) → names_of (tree_of e) ≡ []
+  tree_of-names (point c) = refl
+  tree_of-names (set s) = refl
+  tree_of-names (groups ks) = refl
+
+  flags-neutral : (c : ℕ) → is_flag c ≡ true → is_neutral c ≡ true
+  flags-neutral = neutral_by is_flag refl refl refl refl
+
+  -- flags that modifiers switch, up to c
+  flags-passed : (t : List ℕ) (on : List ℕ) (u : List ℕ) → span is_flag t ≡ (on, u) → Passed t u
+  flags-passed t on u e = subst (Passed t) (ap (λ (x : List ℕ × List ℕ). x.1) e) (span-passed is_flag flags-neutral t)
+
+  -- where flags stand, or none and c, no name is opened
+  flags-open : (t : List ℕ) (on : List ℕ) (c : ℕ) (u : List ℕ) → (0x3C == c) ≡ false → span is_flag t ≡ (on, c ∷ u) → opens_name (0x28 ∷ 0x3F ∷ t) ≡ false
+  unfolding span
+  flags-open [] on c u f e = refl
+  flags-open (d ∷ t) on c u f e = go (0x3C == d) refl
+    where
+      go : (b : Bool) → (0x3C == d) ≡ b → opens_name (0x28 ∷ 0x3F ∷ d ∷ t) ≡ false
+      go true h =
+          let at : span is_flag (0x3C ∷ t) ≡ (on, c ∷ u) = subst (λ k. span is_flag (k ∷ t) ≡ (on, c ∷ u)) (sym (eqb-true 0x3C d h)) e in
+          absurd (false≢true (sym f ∙ sym (ap (λ (x : List ℕ × List ℕ). is_at (λ k. 0x3C == k) x.1) at)))
+      go false h = rw h refl
