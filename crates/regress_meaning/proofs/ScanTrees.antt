@@ -1,7 +1,7 @@
 -- The scan of a text finds the names of the tree that the text spells.
 use Rattle.std.proofs.Common.{◌≡◌, ℕ, suc, Bool, true, false, not, ◌&&◌, ◌||◌, ◌==◌, List, [], ◌∷◌, ◌++◌, length, drop, Option, Some, None, is_some, refl, sym, ap, ◌∙◌, subst, inl, inr, eqb-true, codes, append_assoc, append-nil}
 use Rattle.std.specs.Prelude.{if◌then◌else◌}
-use Rattle.std.proofs.lemmas.Bool.{cases_Bool, not_from_false, not-true, and_parts, or_cases, false≢true}
+use Rattle.std.proofs.lemmas.Bool.{cases_Bool, not_from_false, not-true, and_parts, or_cases, or_left, or_right, false≢true}
 use Rattle.regress_meaning.specs.Text.{◌∈◌, is_at, span}
 use Rattle.regress_meaning.specs.Table.{Table}
 use Rattle.regress_meaning.specs.Class.{Class}
@@ -105,8 +105,8 @@ module _ (m : Mode) where
   body-leaves named (of_contents {r} e contents) = let way = contents-cross (named e) contents in way.same true ∙ leave m.table m.named (way.into true) r
 
   -- from t to r the names of p are found
-  abbrev Finds : List ℕ → Pattern → List ℕ → Type 0
-  Finds t p r = group_names m.table m.named false 0 t ≡ names_of p ++ group_names m.table m.named false 0 r
+  pub record Finds (t : List ℕ) (p : Pattern) (r : List ℕ) : Type 0 where
+    pub same : group_names m.table m.named false 0 t ≡ names_of p ++ group_names m.table m.named false 0 r
 
   mark-agrees : (t : List ℕ) → AgreeIn m.table m.named false t (after_mark t)
   mark-agrees [] = refl
@@ -154,3 +154,72 @@ module _ (m : Mode) where
           let at : span is_flag (0x3C ∷ t) ≡ (on, c ∷ u) = subst (λ k. span is_flag (k ∷ t) ≡ (on, c ∷ u)) (sym (eqb-true 0x3C d h)) e in
           absurd (false≢true (sym f ∙ sym (ap (λ (x : List ℕ × List ℕ). is_at (λ k. 0x3C == k) x.1) at)))
       go false h = rw h refl
+
+  -- what is passed over behind a tree
+  after : {t u r : List ℕ} {p : Pattern} → Finds t p u → AgreeIn m.table m.named false u r → Finds t p r
+  after {p} h e = record { same = h.same ∙ ap (λ names. names_of p ++ names) e }
+
+  in_parentheses : {t r : List ℕ} {p : Pattern} → Finds t p (0x29 ∷ r) → Finds t p r
+  in_parentheses {r} h = after h (neutral false 0x29 r refl)
+
+  both_find : {t u r : List ℕ} {p q : Pattern} → Finds t p u → Finds u q r → group_names m.table m.named false 0 t ≡ (names_of p ++ names_of q) ++ group_names m.table m.named false 0 r
+  both_find {p} {q} h g = h.same ∙ ap (λ names. names_of p ++ names) g.same ∙ sym (append_assoc (names_of p) (names_of q) _)
+
+  -- `(?` and one more code point, which begins no name
+  opened : (c : ℕ) (t : List ℕ) → is_neutral c ≡ true → opens_name (0x28 ∷ 0x3F ∷ c ∷ t) ≡ false → AgreeIn m.table m.named false (0x28 ∷ 0x3F ∷ c ∷ t) t
+  opened c t e f = uncounted-step m.table m.named (c ∷ t) f ∙ neutral false c t e
+
+  -- the flags that modifiers switch, and c behind them
+  flags-agree : (t on u : List ℕ) (c : ℕ) → is_neutral c ≡ true → span is_flag t ≡ (on, c ∷ u) → AgreeIn m.table m.named false t u
+  flags-agree t on u c n e = (passed-agrees m.table m.named (flags-passed t on (c ∷ u) e)).within false ∙ neutral false c u n
+
+  module _ (named : m.sets ≡ true → m.named ≡ true) where
+    mutual
+      pub disjunction-found : {t r : List ℕ} {k l : ℕ} {p : Pattern} → Disjunction m t k p l r → Finds t p r
+      disjunction-found (one a e) = alternative-found a
+      disjunction-found (more {u} a d) = record { same = both_find (after (alternative-found a) (neutral false 0x7C u refl)) (disjunction-found d) }
+
+      alternative-found : {t r : List ℕ} {k l : ℕ} {p : Pattern} → Alternative m t k p l r → Finds t p r
+      alternative-found (done e) = record { same = refl }
+      alternative-found (next a rest) = record { same = both_find (term-found a) (alternative-found rest) }
+
+      term-found : {t r : List ℕ} {k l : ℕ} {p : Pattern} → Term m t k p l r → Finds t p r
+      term-found (start {r}) = record { same = neutral false 0x5E r refl }
+      term-found (end {r}) = record { same = neutral false 0x24 r refl }
+      term-found (boundary {r}) = record { same = (pair-agrees m.table m.named 0x62 r refl).within false }
+      term-found (no_boundary {r}) = record { same = (pair-agrees m.table m.named 0x42 r refl).within false }
+      term-found (behind {t} d) = let inside = in_parentheses (disjunction-found d) in record { same = opened 0x3C (0x3D ∷ t) refl refl ∙ neutral false 0x3D t refl ∙ inside.same }
+      term-found (not_behind {t} d) = let inside = in_parentheses (disjunction-found d) in record { same = opened 0x3C (0x21 ∷ t) refl refl ∙ neutral false 0x21 t refl ∙ inside.same }
+      term-found (ahead a e) = lookahead-found a
+      term-found (repeated_ahead {u} {v} {b} mode a e le) = let counted = after (lookahead-found a) (bounds-agree u b v e) in record { same = counted.same }
+      term-found (once a e) = atom-found a
+      term-found (quantified {u} {v} {b} a e le) = let counted = after (atom-found a) (bounds-agree u b v e) in record { same = counted.same }
+
+      lookahead-found : {t r : List ℕ} {k l : ℕ} {p : Pattern} → Lookahead m t k p l r → Finds t p r
+      lookahead-found (positive {t} d) = let inside = in_parentheses (disjunction-found d) in record { same = opened 0x3D t refl refl ∙ inside.same }
+      lookahead-found (negative {t} d) = let inside = in_parentheses (disjunction-found d) in record { same = opened 0x21 t refl refl ∙ inside.same }
+
+      atom-found : {t r : List ℕ} {k l : ℕ} {p : Pattern} → Atom m t k p l r → Finds t p r
+      atom-found (dot {r}) = record { same = neutral false 0x2E r refl }
+      atom-found (plain {c} {r} e) = record { same = pattern_character-agrees c r e }
+      atom-found (escape {t} {r} {e} other at) = record { same = rw (tree_of-names e) ((escape-agrees m t).at (e, r) at) }
+      atom-found (a_class {t} other body) = record { same = enter m.table m.named t ∙ body-leaves named body }
+      atom-found (a_negated_class {t} body other) = record { same = enter m.table m.named (0x5E ∷ t) ∙ neutral true 0x5E t refl ∙ body-leaves named body }
+      atom-found (group {t} other d) = let inside = in_parentheses (disjunction-found d) in record { same = group-step m.table m.named t other ∙ ap (λ names. [] ∷ names) inside.same }
+      atom-found (named_group {t} {u} {name} other at d) =
+          let inside = in_parentheses (disjunction-found d) in
+          record { same = named_group-step m.table m.named t name u other at ((name-ends m.table t).at (name, u) at) ∙ ap (λ names. name ∷ names) inside.same }
+      atom-found (uncaptured {t} d) = let inside = in_parentheses (disjunction-found d) in record { same = opened 0x3A t refl refl ∙ inside.same }
+      atom-found (modifiers {t} {u} {on} e some apart d) =
+          let inside = in_parentheses (disjunction-found d) in
+          record { same = uncounted-step m.table m.named t (flags-open t on 0x3A u refl e) ∙ flags-agree t on u 0x3A refl e ∙ inside.same }
+      atom-found (modifiers_off {t} {u} {v} {on} {off} e f some apart d) =
+          let inside = in_parentheses (disjunction-found d) in
+          record { same = uncounted-step m.table m.named t (flags-open t on 0x2D u refl e) ∙ flags-agree t on u 0x2D refl e ∙ flags-agree u off v 0x3A refl f ∙ inside.same }
+
+-- The names of a tree are those that a scan of its text finds.
+pub names-scanned : (table : Table) (o : Options) (text : List ℕ) (p : Pattern) (names : List (List ℕ)) (l : ℕ) → Disjunction (mode_of table o text names) text 0 p l [] → names_of p ≡ scanned_names table o text
+unfolding group_names
+names-scanned table o text p names l d =
+    let found = disjunction-found (mode_of table o text names) (λ sets. or_left _ _ (or_right o.unicode o.sets sets)) d in
+    sym (found.same ∙ append-nil (names_of p))
