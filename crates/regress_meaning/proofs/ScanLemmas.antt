@@ -1,122 +1,243 @@
--- The scan of a text finds the names of its tree.
-use Rattle.std.proofs.Common.{◌≡◌, ℕ, zero, suc, ◌-◌, ◌≤◌, Bool, true, false, not, ◌&&◌, ◌||◌, ◌==◌, List, [], ◌∷◌, ◌++◌, length, drop, Option, Some, None, is_some, refl, sym, ap, ◌∙◌, subst, inl, inr, arith, eqb-true, codes, option_map, append_assoc}
-use Rattle.std.specs.Prelude.{if◌then◌else◌, nat_eq, nat_lt, nat_le}
-use Rattle.std.proofs.lemmas.Bool.{and_parts, not-true, not-false, false≢true}
+-- The scan of a text finds the names of the tree that the text spells.
+use Rattle.std.proofs.Common.{◌≡◌, ℕ, Bool, true, false, not, ◌==◌, List, [], ◌∷◌, ◌++◌, Some, refl, sym, ap, ◌∙◌, subst, inl, inr, eqb-true, append_assoc, append-nil}
+use Rattle.std.specs.Prelude.{if◌then◌else◌}
+use Rattle.std.proofs.lemmas.Bool.{not_from_false, not-false, and_parts, or_cases, or_left, or_right, cond_both, false≢true}
 use Rattle.regress_meaning.specs.Text.{◌∈◌, is_at, span}
 use Rattle.regress_meaning.specs.Table.{Table}
-use Rattle.regress_meaning.specs.Class.{Class, is_digit, is_letter, is_ascii_word}
-use Rattle.regress_meaning.specs.Tokens.{Mode, guard, is_octal, name_at, decimal_at, hex_at, octal_at, unicode_escape, numbers_from, Escape, point, set, groups, control, class_letter, as_point, control_letter, property_at, named_reference, octal_or_digit, decimal_escape, identity, escape_at, class_escape_at}
-use Rattle.regress_meaning.proofs.Scan.{group_names}
-use Rattle.regress_meaning.proofs.ScanWords.{differs, is_neutral, neutral_by, Passed, here, plain, pair, Behind, Leads, Gives, gives_none, gives_some, gives_if, gives_guard, gives_or, gives_then, gives_map, digits-neutral, words-neutral, decimal-leads, hex-leads, octal-leads, unicode_escape-leads, property-leads, name-ends}
-use Rattle.regress_meaning.proofs.ScanSteps.{AgreeIn, Agree, neutral-agrees, pair-agrees, passed-agrees, class-step, plain-step, enter, leave, group-step, named_group-step, uncounted-step, reference-step, unnamed_k-step}
-use Rattle.regress_meaning.proofs.Inversion.{is_at-eq, guard-some}
+use Rattle.regress_meaning.specs.Class.{Class}
+use Rattle.regress_meaning.specs.Pattern.{Pattern, names_of}
+use Rattle.regress_meaning.specs.Flags.{Options}
+use Rattle.regress_meaning.specs.Tokens.{Mode, Bounds, bounds_at, Escape, point, set, groups}
+use Rattle.regress_meaning.specs.Grammar.{is_flag, opens_name, mode_of, tree_of, after_mark, is_pattern_character, Member, as_itself, escaped, Members, no_member, single, from_to, loose, SetCharacter, bare, backspace, punctuator, of_escape, SetString, no_more, and_then, SetStrings, last_string, more_strings, Operand, one_character, of_class, of_strings, inner, inner_negated, Contents, of_union, of_intersection, of_difference, Union, union_end, union_range, union_operand, Intersection, last_and, more_and, Difference, last_minus, more_minus, ClassBody, of_members, of_contents, Disjunction, one, more, Alternative, done, next, Term, start, end, boundary, no_boundary, behind, not_behind, ahead, repeated_ahead, once, quantified, Lookahead, positive, negative, Atom, dot, plain, escape, a_class, a_negated_class, group, named_group, uncaptured, modifiers, modifiers_off}
+use Rattle.regress_meaning.proofs.Inversion.{if-both}
+use Rattle.regress_meaning.proofs.Scan.{group_names, scanned_names}
+use Rattle.regress_meaning.proofs.ScanWords.{differs, is_neutral, neutral_by, Passed, span-passed, bounds-leads, name-ends}
+use Rattle.regress_meaning.proofs.ScanSteps.{found_from, AgreeIn, Agree, neutral-agrees, pair-agrees, passed-agrees, class-step, plain-step, enter, enter_any, leave, group-step, named_group-step, uncounted-step}
+use Rattle.regress_meaning.proofs.ScanEscapes.{escape-passed, class_escape-agrees}
 
 module _ (m : Mode) where
-  -- a scan in the mode goes on behind what is read as it would before it
-  abbrev pub Quiet : {A : Type 0} → List ℕ → Option (A × List ℕ) → Type 0
-  Quiet t o = Gives (λ x. Agree m.table m.named t x.1) o
+  neutral : (b : Bool) (c : ℕ) (t : List ℕ) → is_neutral c ≡ true → AgreeIn m b (c ∷ t) t
+  neutral b c t e = (neutral-agrees m c t e).within b
 
-  leads-quiet : {A : Type 0} {t : List ℕ} {o : Option (A × List ℕ)} → Leads t o → Quiet t o
-  leads-quiet h = record { at = λ x at. passed-agrees m.table m.named (h.at x at) }
+  -- a member of a class without `v`
+  member-agrees : {t r : List ℕ} {e : Escape} → Member m t e r → AgreeIn m true t r
+  member-agrees (as_itself {c} {r} e) =
+      let apart = λ (d : ℕ). differs (λ k. k ∈ "\\]") c d in
+      class-step m c r (apart 0x5C e).0 (apart 0x5D e).0
+  member-agrees (escaped {t} read) = (class_escape-agrees m t).holds read
 
-  stay : (t : List ℕ) → Agree m.table m.named t t
-  stay t = record { within = λ b. refl }
+  members-leave : {t r : List ℕ} {s : Class} → Members m t s r → found_from m true t ≡ found_from m false r
+  members-leave (no_member {r}) = leave m true r
+  members-leave (single a e rest) = member-agrees a ∙ members-leave rest
+  members-leave (from_to {u} a e b le rest) =
+      member-agrees a ∙ neutral true 0x2D u refl ∙ member-agrees b ∙ members-leave rest
+  members-leave (loose {u} mode a e b points rest) =
+      member-agrees a ∙ neutral true 0x2D u refl ∙ member-agrees b ∙ members-leave rest
 
-  -- what follows c is agreed with, where what begins with c is, and c is neutral
-  behind_neutral : (c : ℕ) (t : List ℕ) {r : List ℕ} → is_neutral c ≡ true → Agree m.table m.named (c ∷ t) r → Agree m.table m.named t r
-  behind_neutral c t e h = record { within = λ b. sym ((neutral-agrees m.table m.named c t e).within b) ∙ h.within b }
+  -- Inside a class or outside, the same names are found from t as from r, which may stand where t does not.
+  record Crosses (t r : List ℕ) : Type 0 where
+    into : Bool → Bool
+    same : (b : Bool) → found_from m b t ≡ found_from m (into b) r
 
-  as_point-quiet : {t : List ℕ} {o : Option (ℕ × List ℕ)} → Leads t o → Quiet t (as_point o)
-  as_point-quiet {o} h = gives_map _ o (λ x at. passed-agrees m.table m.named (h.at x at))
+  agree-crosses : {t r : List ℕ} → Agree m t r → Crosses t r
+  agree-crosses h = record { into = λ b. b; same = λ b. h.within b }
 
-  control_letter-quiet : (test : ℕ → Bool) → ((c : ℕ) → test c ≡ true → is_neutral c ≡ true) → (t : List ℕ) → Quiet t (control_letter test t)
-  control_letter-quiet test n [] = gives_none
-  control_letter-quiet test n (c ∷ t) = gives_guard (test c) (λ e. gives_some (neutral-agrees m.table m.named c t (n c e)))
+  infixr 60 ◌then◌
 
-  octal_or_digit-quiet : (c : ℕ) (t : List ℕ) → is_digit c ≡ true → Quiet t (octal_or_digit m c t)
-  unfolding octal_or_digit
-  octal_or_digit-quiet c t e = gives_guard (not m.unicode) (λ mode. gives_if (is_octal c)
-      (λ o. gives_map _ (octal_at (c ∷ t)) (λ x at. behind_neutral c t (digits-neutral c e) (passed-agrees m.table m.named ((octal-leads (c ∷ t)).at x at))))
-      (λ no. gives_some (stay t)))
+  ◌then◌ : {t u r : List ℕ} → Crosses t u → Crosses u r → Crosses t r
+  h then g = record { into = λ b. g.into (h.into b); same = λ b. h.same b ∙ g.same (h.into b) }
 
-  decimal_escape-quiet : (c : ℕ) (t : List ℕ) → is_digit c ≡ true → Quiet t (decimal_escape m c t)
-  unfolding decimal_escape
-  decimal_escape-quiet c t e = gives_then (decimal_at (c ∷ t)) (λ x at. gives_if (nat_le x.0 (length m.names))
-      (λ known. gives_some (behind_neutral c t (digits-neutral c e) (passed-agrees m.table m.named ((decimal-leads (c ∷ t)).at x at))))
-      (λ unknown. octal_or_digit-quiet c t e))
+  past_one : (c : ℕ) (t : List ℕ) → is_neutral c ≡ true → Crosses (c ∷ t) t
+  past_one c t e = agree-crosses (neutral-agrees m c t e)
 
-  identity-quiet : (c : ℕ) (t : List ℕ) → Quiet t (identity m c t)
-  identity-quiet c t = gives_guard (not m.unicode || c ∈ "^$\\.*+?()[]{}|/") (λ e. gives_some (stay t))
+  past_pair : (c : ℕ) (t : List ℕ) → (c == 0x6B) ≡ false → Crosses (0x5C ∷ c ∷ t) t
+  past_pair c t e = agree-crosses (pair-agrees m c t e)
 
-  -- behind the backslash and c, which is no `k`
-  pub escape-quiet : (c : ℕ) (t : List ℕ) → (c == 0x6B) ≡ false → Quiet t (escape_at m (c ∷ t))
-  unfolding escape_at
-  escape-quiet c t e =
-      gives_if (is_some (class_letter c)) (λ is. gives_map _ (class_letter c) (λ s at. stay t)) (λ no.
-      gives_if (is_some (control c)) (λ is. gives_map _ (control c) (λ s at. stay t)) (λ no.
-      gives_if (c == 0x63) (λ is. gives_or (control_letter is_letter t) (control_letter-quiet is_letter (neutral_by is_letter refl refl refl refl) t) (gives_guard (not m.unicode) (λ mode. gives_some (behind_neutral c t (ap is_neutral (eqb-true c 0x63 is)) (stay (c ∷ t)))))) (λ no.
-      gives_if (c == 0x30) (λ is. gives_if (is_at is_digit t) (λ digit. octal_or_digit-quiet c t (ap is_digit (eqb-true c 0x30 is))) (λ no. gives_some (stay t))) (λ no.
-      gives_if (is_digit c) (decimal_escape-quiet c t) (λ no.
-      gives_if (c == 0x78) (λ is. gives_or (as_point (hex_at 2 t)) (as_point-quiet (hex-leads 2 t)) (identity-quiet c t)) (λ no.
-      gives_if (c == 0x75) (λ is. gives_or (as_point (if m.unicode then unicode_escape t else hex_at 4 t)) (as_point-quiet (gives_if m.unicode (λ mode. unicode_escape-leads t) (λ mode. hex-leads 4 t))) (identity-quiet c t)) (λ no.
-      gives_if (c == 0x6B) (λ is. absurd (false≢true (sym e ∙ is))) (λ no.
-      gives_if ((c == 0x70 || c == 0x50) && m.unicode) (λ is. gives_map _ (property_at m c t) (λ x at. passed-agrees m.table m.named ((property-leads m c t).at x at))) (λ no.
-      identity-quiet c t)))))))))
+  opening_bracket : (t : List ℕ) → Crosses (0x5B ∷ t) t
+  opening_bracket t = record { into = λ b. true; same = λ b. enter_any m b t }
 
-  -- behind a backslash in a class without `v`
-  class_escape-quiet : (c : ℕ) (t : List ℕ) → Quiet t (class_escape_at m (c ∷ t))
-  unfolding class_escape_at
-  class_escape-quiet c t =
-      gives_if (c == 0x62) (λ is. gives_some (stay t)) (λ no.
-      gives_if (c == 0x2D) (λ is. gives_some (stay t)) (λ no.
-      gives_if (c == 0x63 && not m.unicode && is_at is_ascii_word t) (λ is. control_letter-quiet is_ascii_word words-neutral t) (λ no.
-      gives_if (is_digit c && not (c == 0x30)) (λ is. octal_or_digit-quiet c t (and_parts (is_digit c) _ is).0) (λ no.
-      gives_if (c == 0x6B) (λ is. gives_guard (not m.named) (λ unnamed. gives_some (stay t))) (λ no.
-      escape-quiet c t no)))))
+  closing_bracket : (t : List ℕ) → Crosses (0x5D ∷ t) t
+  closing_bracket t = record { into = λ b. false; same = λ b. leave m b t }
 
-  -- the name behind `\k<`
-  named_reference-read : (t : List ℕ) (x : List ℕ × List ℕ) → guard (is_at (λ d. d == 0x3C) t) (name_at m.table (drop 1 t)) ≡ Some x → m.named ≡ true → AgreeIn m.table m.named false (0x5C ∷ 0x6B ∷ t) x.1
-  named_reference-read t x at e =
-      let read = guard-some (is_at (λ d. d == 0x3C) t) at in
-      let front = is_at-eq 0x3C t read.0 in
-      let name = rw (ap (drop 1) front.1) at read.1 in
-      rw front.1 (reference-step m.table m.named front.0 x.0 x.1 e name ((name-ends m.table front.0).at x name))
+  module _ (named : m.named ≡ true) where
+    character-crosses : {t r : List ℕ} {c : ℕ} → SetCharacter m t c r → Crosses t r
+    character-crosses (bare {c} {r} e f) =
+        past_one c r (neutral_by (λ d. not (d ∈ "()[]{}/-\\|")) refl refl refl refl c (not_from_false _ e))
+    character-crosses (backspace {r}) = past_pair 0x62 r refl
+    character-crosses (punctuator {c} {r} e) = past_pair c r (differs (λ d. d ∈ "&-!#%,:;<=>@`~") c 0x6B e).0
+    character-crosses (of_escape {t} read) = agree-crosses (((escape-passed m t).holds read).anywhere named refl)
 
-  -- an escape outside a class, and its backslash
-  pub escape-agrees : (t : List ℕ) → Gives (λ x. AgreeIn m.table m.named false (0x5C ∷ t) x.1) (escape_at m t)
-  unfolding escape_at named_reference
-  escape-agrees [] = gives_none
-  escape-agrees (c ∷ t) = go (c == 0x6B) refl
+    string-crosses : {t r cs : List ℕ} → SetString m t cs r → Crosses t r
+    string-crosses (no_more e) = record { into = λ b. b; same = λ b. refl }
+    string-crosses (and_then c rest) = character-crosses c then string-crosses rest
+
+    strings-cross : {t r : List ℕ} {ss : List (List ℕ)} → SetStrings m t ss r → Crosses t r
+    strings-cross (last_string {r} s) = string-crosses s then past_one 0x7D r refl
+    strings-cross (more_strings {u} s rest) = string-crosses s then past_one 0x7C u refl then strings-cross rest
+
+    mutual
+      operand-crosses : {t r : List ℕ} {s : Class} → Operand m t s r → Crosses t r
+      operand-crosses (one_character c) = character-crosses c
+      operand-crosses (of_class {t} read) = agree-crosses (((escape-passed m t).holds read).anywhere named refl)
+      operand-crosses (of_strings {t} ss) = past_pair 0x71 (0x7B ∷ t) refl then past_one 0x7B t refl then strings-cross ss
+      operand-crosses (inner {t} {r} e contents) = opening_bracket t then contents-cross contents then closing_bracket r
+      operand-crosses (inner_negated {t} {r} contents e) =
+          opening_bracket (0x5E ∷ t) then past_one 0x5E t refl then contents-cross contents then closing_bracket r
+
+      contents-cross : {t r : List ℕ} {s : Class} → Contents m t s r → Crosses t r
+      contents-cross (of_union rest) = union-crosses rest
+      contents-cross (of_intersection a rest) = operand-crosses a then intersection-crosses rest
+      contents-cross (of_difference a rest) = operand-crosses a then difference-crosses rest
+
+      union-crosses : {t r : List ℕ} {s : Class} → Union m t s r → Crosses t r
+      union-crosses union_end = record { into = λ b. b; same = λ b. refl }
+      union-crosses (union_range {u} a b le rest) =
+          character-crosses a then past_one 0x2D u refl then character-crosses b then union-crosses rest
+      union-crosses (union_operand a e rest) = operand-crosses a then union-crosses rest
+
+      intersection-crosses : {a s : Class} {t r : List ℕ} → Intersection m a t s r → Crosses t r
+      intersection-crosses (last_and {t} e b) = past_one 0x26 (0x26 ∷ t) refl then past_one 0x26 t refl then operand-crosses b
+      intersection-crosses (more_and {t} e b rest) =
+          past_one 0x26 (0x26 ∷ t) refl then past_one 0x26 t refl then operand-crosses b then intersection-crosses rest
+
+      difference-crosses : {a s : Class} {t r : List ℕ} → Difference m a t s r → Crosses t r
+      difference-crosses (last_minus {t} b) = past_one 0x2D (0x2D ∷ t) refl then past_one 0x2D t refl then operand-crosses b
+      difference-crosses (more_minus {t} b rest) =
+          past_one 0x2D (0x2D ∷ t) refl then past_one 0x2D t refl then operand-crosses b then difference-crosses rest
+
+  -- what passes a test that the backslash and the opening brackets fail is passed over outside a class
+  plain_by : (test : ℕ → Bool) → test 0x5C ≡ false → test 0x28 ≡ false → test 0x5B ≡ false →
+      (c : ℕ) (t : List ℕ) → test c ≡ true → AgreeIn m false (c ∷ t) t
+  plain_by test p q r c t h = plain-step m c t (apart 0x5C p) (apart 0x28 q) (apart 0x5B r)
     where
-      k : Gives (λ x. AgreeIn m.table m.named false (0x5C ∷ 0x6B ∷ t) x.1) (escape_at m (0x6B ∷ t))
-      k = gives_if m.named
-          (λ e. gives_then (guard (is_at (λ d. d == 0x3C) t) (name_at m.table (drop 1 t))) (λ x at. gives_guard (nat_lt 0 (length (numbers_from 0 x.0 m.names))) (λ some. gives_some (named_reference-read t x at e))))
-          (λ e. gives_some (unnamed_k-step m.table m.named t e))
-      go : (b : Bool) → (c == 0x6B) ≡ b → Gives (λ x. AgreeIn m.table m.named false (0x5C ∷ c ∷ t) x.1) (escape_at m (c ∷ t))
-      go true e = subst (λ d. Gives (λ x. AgreeIn m.table m.named false (0x5C ∷ d ∷ t) x.1) (escape_at m (d ∷ t))) (sym (eqb-true c 0x6B e)) k
-      go false e = record { at = λ x at. (pair-agrees m.table m.named c t e).within false ∙ ((escape-quiet c t e).at x at).within false }
+      apart : (d : ℕ) → test d ≡ false → (c == d) ≡ false
+      apart d e = (differs test c d (h ∙ ap not (sym e))).0
 
-  -- what was read refers to no group
-  abbrev pub is_no_group : Escape → Bool
-  is_no_group (groups ks) = false
-  is_no_group _ = true
+  pattern_character-agrees : (c : ℕ) (t : List ℕ) → is_pattern_character m c t ≡ true → AgreeIn m false (c ∷ t) t
+  pattern_character-agrees c t e = if-both m.unicode
+      (λ mode h. plain_by (λ d. not (d ∈ "^$\\.*+?()[]{}|")) refl refl refl c t h)
+      (λ mode h. elim (or_cases (not (c ∈ "^$\\.*+?()[|{")) _ h) [
+        | inl itself ↦ plain_by (λ d. not (d ∈ "^$\\.*+?()[|{")) refl refl refl c t itself
+        | inr brace ↦ plain_by (λ d. d == 0x7B) refl refl refl c t (and_parts (c == 0x7B) _ brace).0
+      ]) e
 
-  -- an escape that stands for a code point or a class, where names are read: in a class with `v` too
-  pub escape-agrees_both : m.named ≡ true → (t : List ℕ) → Gives (λ x. is_no_group x.0 ≡ true → Agree m.table m.named (0x5C ∷ t) x.1) (escape_at m t)
-  unfolding escape_at named_reference
-  escape-agrees_both named [] = gives_none
-  escape-agrees_both named (c ∷ t) = go (c == 0x6B) refl
+  mark-agrees : (t : List ℕ) → AgreeIn m false t (after_mark t)
+  mark-agrees [] = refl
+  mark-agrees (c ∷ t) = cond_both (not (c == 0x3F)) (c ∷ t) t (λ r. AgreeIn m false (c ∷ t) r)
+      (λ e. refl)
+      (λ e. neutral false c t (ap is_neutral (eqb-true c 0x3F (not-false _ e))))
+
+  -- a quantifier and its mark
+  quantifier-agrees : (t : List ℕ) (b : Bounds) (r : List ℕ) → bounds_at t ≡ Some (b, r) → AgreeIn m false t (after_mark r)
+  quantifier-agrees t b r e = (passed-agrees m ((bounds-leads t).holds e)).within false ∙ mark-agrees r
+
+  -- the flags that modifiers switch, and c behind them
+  flags-agree : (t on u : List ℕ) (c : ℕ) → is_neutral c ≡ true → span is_flag t ≡ (on, c ∷ u) → AgreeIn m false t u
+  flags-agree t on u c n e =
+      let front = span-passed is_flag (neutral_by is_flag refl refl refl refl) t in
+      let flags : Passed t (c ∷ u) = subst (λ (cut : List ℕ × List ℕ). Passed t cut.1) e front in
+      (passed-agrees m flags).within false ∙ neutral false c u n
+
+  -- where flags stand, or none and a c that is no `<`, no name begins
+  flags-open : (t on u : List ℕ) (c : ℕ) → (0x3C == c) ≡ false → span is_flag t ≡ (on, c ∷ u) →
+      opens_name (0x28 ∷ 0x3F ∷ t) ≡ false
+  unfolding span
+  flags-open [] on u c f e = refl
+  flags-open (d ∷ t) on u c f e = go (0x3C == d) refl
     where
-      k : Gives (λ x. is_no_group x.0 ≡ true → Agree m.table m.named (0x5C ∷ 0x6B ∷ t) x.1) (escape_at m (0x6B ∷ t))
-      k = gives_if m.named
-          (λ e. gives_then (guard (is_at (λ d. d == 0x3C) t) (name_at m.table (drop 1 t))) (λ x at. gives_guard (nat_lt 0 (length (numbers_from 0 x.0 m.names))) (λ some. gives_some (λ no. absurd (false≢true no)))))
-          (λ e. absurd (false≢true (sym e ∙ named)))
-      go : (b : Bool) → (c == 0x6B) ≡ b → Gives (λ x. is_no_group x.0 ≡ true → Agree m.table m.named (0x5C ∷ c ∷ t) x.1) (escape_at m (c ∷ t))
-      go true e = subst (λ d. Gives (λ x. is_no_group x.0 ≡ true → Agree m.table m.named (0x5C ∷ d ∷ t) x.1) (escape_at m (d ∷ t))) (sym (eqb-true c 0x6B e)) k
-      go false e = record { at = λ x at no. record { within = λ b. (pair-agrees m.table m.named c t e).within b ∙ ((escape-quiet c t e).at x at).within b } }
+      go : (b : Bool) → (0x3C == d) ≡ b → opens_name (0x28 ∷ 0x3F ∷ d ∷ t) ≡ false
+      go true h =
+          let cut : span is_flag (0x3C ∷ t) ≡ (on, c ∷ u) =
+              subst (λ k. span is_flag (k ∷ t) ≡ (on, c ∷ u)) (sym (eqb-true 0x3C d h)) e in
+          absurd (false≢true (sym f ∙ sym (ap (λ (x : List ℕ × List ℕ). is_at (λ k. 0x3C == k) x.1) cut)))
+      go false h = rw h refl
 
-  -- an escape in a class without `v`, and its backslash
-  pub class_escape-agrees : (t : List ℕ) → Gives (λ x. AgreeIn m.table m.named true (0x5C ∷ t) x.1) (class_escape_at m t)
-  unfolding class_escape_at group_names
-  class_escape-agrees [] = gives_none
-  class_escape-agrees (c ∷ t) = record { at = λ x at. ((class_escape-quiet c t).at x at).within true }
+  -- `(?` and one more code point, which begins no name
+  opened : (c : ℕ) (t : List ℕ) → is_neutral c ≡ true → opens_name (0x28 ∷ 0x3F ∷ c ∷ t) ≡ false →
+      AgreeIn m false (0x28 ∷ 0x3F ∷ c ∷ t) t
+  opened c t e f = uncounted-step m (c ∷ t) f ∙ neutral false c t e
+
+  -- modifiers: `(?`, flags and c
+  flags-opened : (t on u : List ℕ) (c : ℕ) → is_neutral c ≡ true → (0x3C == c) ≡ false → span is_flag t ≡ (on, c ∷ u) →
+      AgreeIn m false (0x28 ∷ 0x3F ∷ t) u
+  flags-opened t on u c n f e = uncounted-step m t (flags-open t on u c f e) ∙ flags-agree t on u c n e
+
+  tree_of-names : (e : Escape) → names_of (tree_of e) ≡ []
+  tree_of-names (point c) = refl
+  tree_of-names (set s) = refl
+  tree_of-names (groups ks) = refl
+
+  -- from t to r the names of p are found
+  pub record Finds (t : List ℕ) (p : Pattern) (r : List ℕ) : Type 0 where
+    pub same : found_from m false t ≡ names_of p ++ found_from m false r
+
+  -- what is passed over behind a tree
+  after : {t u r : List ℕ} {p : Pattern} → Finds t p u → AgreeIn m false u r → Finds t p r
+  after {p} h e = record { same = h.same ∙ ap (λ names. names_of p ++ names) e }
+
+  -- up to the closing parenthesis
+  inside : {t r : List ℕ} {p : Pattern} → Finds t p (0x29 ∷ r) → found_from m false t ≡ names_of p ++ found_from m false r
+  inside {r} h = (after h (neutral false 0x29 r refl)).same
+
+  both_find : {t u r : List ℕ} {p q : Pattern} → Finds t p u → Finds u q r →
+      found_from m false t ≡ (names_of p ++ names_of q) ++ found_from m false r
+  both_find {p} {q} h g = h.same ∙ ap (λ names. names_of p ++ names) g.same ∙ sym (append_assoc (names_of p) (names_of q) _)
+
+  module _ (named : m.sets ≡ true → m.named ≡ true) where
+    body-leaves : {t r : List ℕ} {s : Class} → ClassBody m t s r → found_from m true t ≡ found_from m false r
+    body-leaves (of_members e ms) = members-leave ms
+    body-leaves (of_contents {r} e contents) =
+        let way = contents-cross (named e) contents in
+        way.same true ∙ leave m (way.into true) r
+
+    mutual
+      pub disjunction-found : {t r : List ℕ} {k l : ℕ} {p : Pattern} → Disjunction m t k p l r → Finds t p r
+      disjunction-found (one a e) = alternative-found a
+      disjunction-found (more {u} a d) = record { same =
+          both_find (after (alternative-found a) (neutral false 0x7C u refl)) (disjunction-found d) }
+
+      alternative-found : {t r : List ℕ} {k l : ℕ} {p : Pattern} → Alternative m t k p l r → Finds t p r
+      alternative-found (done e) = record { same = refl }
+      alternative-found (next a rest) = record { same = both_find (term-found a) (alternative-found rest) }
+
+      term-found : {t r : List ℕ} {k l : ℕ} {p : Pattern} → Term m t k p l r → Finds t p r
+      term-found (start {r}) = record { same = neutral false 0x5E r refl }
+      term-found (end {r}) = record { same = neutral false 0x24 r refl }
+      term-found (boundary {r}) = record { same = (pair-agrees m 0x62 r refl).within false }
+      term-found (no_boundary {r}) = record { same = (pair-agrees m 0x42 r refl).within false }
+      term-found (behind {t} d) = record { same =
+          opened 0x3C (0x3D ∷ t) refl refl ∙ neutral false 0x3D t refl ∙ inside (disjunction-found d) }
+      term-found (not_behind {t} d) = record { same =
+          opened 0x3C (0x21 ∷ t) refl refl ∙ neutral false 0x21 t refl ∙ inside (disjunction-found d) }
+      term-found (ahead a e) = lookahead-found a
+      term-found (repeated_ahead {u} {v} {b} mode a e le) = record { same = (after (lookahead-found a) (quantifier-agrees u b v e)).same }
+      term-found (once a e) = atom-found a
+      term-found (quantified {u} {v} {b} a e le) = record { same = (after (atom-found a) (quantifier-agrees u b v e)).same }
+
+      lookahead-found : {t r : List ℕ} {k l : ℕ} {p : Pattern} → Lookahead m t k p l r → Finds t p r
+      lookahead-found (positive {t} d) = record { same = opened 0x3D t refl refl ∙ inside (disjunction-found d) }
+      lookahead-found (negative {t} d) = record { same = opened 0x21 t refl refl ∙ inside (disjunction-found d) }
+
+      atom-found : {t r : List ℕ} {k l : ℕ} {p : Pattern} → Atom m t k p l r → Finds t p r
+      atom-found (dot {r}) = record { same = neutral false 0x2E r refl }
+      atom-found (plain {c} {r} e) = record { same = pattern_character-agrees c r e }
+      atom-found (escape {t} {e} other read) = record { same = rw (tree_of-names e) ((escape-passed m t).holds read).outside }
+      atom-found (a_class {t} other body) = record { same = enter m t ∙ body-leaves body }
+      atom-found (a_negated_class {t} body other) = record { same =
+          enter m (0x5E ∷ t) ∙ neutral true 0x5E t refl ∙ body-leaves body }
+      atom-found (group {t} other d) = record { same = group-step m t other ∙ ap (λ names. [] ∷ names) (inside (disjunction-found d)) }
+      atom-found (named_group {t} {u} {name} other read d) = record { same =
+          named_group-step m t name u other read ((name-ends m.table t).holds read) ∙ ap (λ names. name ∷ names) (inside (disjunction-found d)) }
+      atom-found (uncaptured {t} d) = record { same = opened 0x3A t refl refl ∙ inside (disjunction-found d) }
+      atom-found (modifiers {t} {u} {on} e some apart d) = record { same =
+          flags-opened t on u 0x3A refl refl e ∙ inside (disjunction-found d) }
+      atom-found (modifiers_off {t} {u} {v} {on} {off} e f some apart d) = record { same =
+          flags-opened t on u 0x2D refl refl e ∙ flags-agree u off v 0x3A refl f ∙ inside (disjunction-found d) }
+
+-- The names of a tree are those that a scan of its text finds.
+pub names-scanned : (table : Table) (o : Options) (text : List ℕ) (p : Pattern) (names : List (List ℕ)) (l : ℕ) →
+    Disjunction (mode_of table o text names) text 0 p l [] → names_of p ≡ scanned_names table o text
+unfolding group_names
+names-scanned table o text p names l d =
+    let found = disjunction-found (mode_of table o text names) (λ sets. or_left _ _ (or_right o.unicode o.sets sets)) d in
+    sym (found.same ∙ append-nil (names_of p))
