@@ -66,3 +66,6 @@ module _ (table : Table) (o : Options) (text : List ℕ) where
   -- A text spells at most one tree.
   pub one_tree : (p q : Pattern) → Spells table o text p → Spells table o text q → p ≡ q
   one_tree p q s u = let same : ◌≡◌ {A = Option Pattern} (Some p) (Some q) = sym (read_pattern-complete p s) ∙ read_pattern-complete q u in cc
+
+  pub names-spelled : (p : Pattern) → Spells table o text p → scanned_names table o text ≡ names_of p
+  names-spelled p s = sym (names-scanned table o text p (names_of p) (length (names_of p)) s.whole)

@@ -3,12 +3,15 @@
 //! The definitions stand in `specs/`. Nothing here runs: each function below is a law of theirs, stated by its contract.
 #![tactic(auto)]
 
-ghost use Rattle.std.specs.Prelude.{◌≡◌, ◌-◌, ◌+◌, ◌≤◌, ◌↔◌, ℕ, Bool, List, length, Some, All};
+ghost use Rattle.std.specs.Prelude.{◌≡◌, ◌-◌, ◌+◌, ◌≤◌, ◌↔◌, ℕ, Bool, true, List, length, Some, All};
 ghost use Rattle.regress_meaning.specs.Table.{Table, closure};
 ghost use Rattle.regress_meaning.specs.TableParts.{IsLawful, small_parts};
-ghost use Rattle.regress_meaning.specs.Pattern.{Pattern, Settings};
+ghost use Rattle.regress_meaning.specs.Pattern.{Pattern, Settings, names_of};
 ghost use Rattle.regress_meaning.specs.Flags.{Options};
+ghost use Rattle.regress_meaning.specs.Tokens.{Mode};
 ghost use Rattle.regress_meaning.specs.Grammar.{Spells};
+ghost use Rattle.regress_meaning.specs.Scan.{scanned_names};
+ghost use Rattle.regress_meaning.specs.Reading.{read_pattern, ReadsBySteps};
 ghost use Rattle.regress_meaning.specs.Numbering.{IsNumbered};
 ghost use Rattle.regress_meaning.specs.Meaning.{State, Direction, Context, outcomes};
 ghost use Rattle.regress_meaning.specs.Matches.{match_list};
@@ -30,6 +33,24 @@ pub fn small_parts_are_lawful()
 /// In a tree that a text spells groups are numbered from 0 in order of opening, and what refers to groups fits them.
 pub fn spelled_trees_are_numbered()
     ensures { (table : Table) → (o : Options) → (text : List ℕ) → (p : Pattern) → Spells table o text p → IsNumbered p }
+{
+}
+
+/// A text spells a tree exactly where the reading function finds it; where it finds none, the text spells none.
+pub fn reading_decides_the_grammar()
+    ensures { (table : Table) → (o : Options) → (text : List ℕ) → (p : Pattern) → Spells table o text p ↔ (read_pattern table o text ≡ Some p) }
+{
+}
+
+/// The reading function goes step by step: a disjunction by its first alternative, an alternative by its first term.
+pub fn reading_goes_by_steps()
+    ensures { (m : Mode) → (m.sets ≡ true → m.unicode ≡ true) → (text : List ℕ) → (opened : ℕ) → ReadsBySteps m text opened }
+{
+}
+
+/// The names of a text's groups that a scan finds are those of the tree that it spells, in order.
+pub fn names_are_found_by_a_scan()
+    ensures { (table : Table) → (o : Options) → (text : List ℕ) → (p : Pattern) → Spells table o text p → scanned_names table o text ≡ names_of p }
 {
 }
 
