@@ -3,7 +3,7 @@ use Rattle.std.specs.Prelude.{ℕ, zero, suc, ◌+◌, Bool, false, ◌&&◌, �
 
 -- What Unicode tells of code points: simple case folding, simple upper case, identifiers, properties of code points and
 -- of strings, each property by its key, the text between the braces of `\p{..}`.
--- "Runtime Semantics: Canonicalize", "IdentifierStartChar", "UnicodeMatchProperty".
+-- "Canonicalize", "IdentifierStartChar", "UnicodeMatchProperty".
 pub record Table : Type 0 where
   pub fold : ℕ → ℕ
   pub upper : ℕ → ℕ

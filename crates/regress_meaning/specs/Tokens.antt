@@ -8,7 +8,7 @@ use Rattle.regress_meaning.specs.Text.{between, ◌∈◌, same_text, is_at, spa
 use Rattle.regress_meaning.specs.Table.{Table, last_code_point}
 use Rattle.regress_meaning.specs.Class.{Class, digits, spaces, words, property, sequences, complement, is_digit, is_letter, is_ascii_word}
 
--- What holds for the whole pattern: how its escapes and classes are read ("Regular Expression Patterns", its grammar
+-- What holds for the whole pattern: how its escapes and classes are read ("Patterns", its grammar
 -- parameters, and "Static Semantics: Early Errors" for what rests on the whole).
 pub record Mode : Type 0 where
   pub table : Table
