@@ -1,0 +1,96 @@
+-- The function that reads a class without `v`, behind its opening bracket.
+use Rattle.std.specs.Prelude.{if◌then◌else◌}
+use Rattle.std.proofs.Common.{◌≡◌, ℕ, suc, zero, ◌+◌, ◌<◌, ◌≤◌, Bool, true, false, not, ◌&&◌, ◌||◌, ◌==◌, nat_le, ◌⊎◌, inl, inr, List, [], ◌∷◌, length, drop, Option, Some, None, option_and_then, option_map, refl, sym, ap, eqb-true, ◌∙◌, subst, arith, rules}
+use Rattle.std.proofs.lemmas.Bool.{or_from, and_parts, not-true, leb-true, le-leb}
+use Rattle.regress_meaning.specs.Text.{◌∈◌, is_at}
+use Rattle.regress_meaning.specs.Class.{Class, no_string, range, union}
+use Rattle.regress_meaning.specs.Tokens.{Mode, Escape, point, set, groups, guard, class_escape_at}
+use Rattle.regress_meaning.specs.Grammar.{class_of, member_class, dash_before_member, is_point, Member, as_itself, escaped, Members, no_member, single, from_to, loose}
+use Rattle.regress_meaning.proofs.Inversion.{is_at-eq}
+use Rattle.regress_meaning.proofs.Shorter.{Member-shorter}
+use Rattle.regress_meaning.proofs.Yields.{Yields, nothing_yields, this_yields, yields-test, yields-guard, yields-and_then, yields-some, yields-itself, yields-map, told_apart, on_true, on_false, on_some}
+
+-- the closing bracket of a class stands here
+abbrev pub closes_class : List ℕ → Bool
+closes_class t = is_at (λ c. c == 0x5D) t
+
+-- one member
+unfoldable pub read_member : Mode → List ℕ → Option (Escape × List ℕ)
+read_member m [] = None
+read_member m (c ∷ t) = elim (c == 0x5C) [
+    true ↦ class_escape_at m t
+  | false ↦ elim (c == 0x5D) [ true ↦ None | false ↦ Some (point c, t) ] ]
+
+-- two members with a dash between them, and the class of what follows: a range of two code points, or three members
+abbrev pub dashed : Mode → Escape → Escape → Class → Option Class
+dashed m (point a) (point b) s = guard (nat_le a b) (Some (union (range a b) s))
+dashed m d e s = guard (not m.unicode) (Some (union (member_class d) (union (class_of 0x2D) (union (member_class e) s))))
+
+-- what was read, with its class changed
+abbrev pub with_class : (Class → Option Class) → Option (Class × List ℕ) → Option (Class × List ℕ)
+with_class f o = option_and_then (λ (s, r). option_and_then (λ k. Some (k, r)) (f s)) o
+
+-- the members up to the closing bracket, and what follows that
+unfoldable pub read_members : Mode → ℕ → List ℕ → Option (Class × List ℕ)
+read_members m zero t = None
+read_members m (suc n) t = elim (closes_class t) [
+    true ↦ Some (no_string, drop 1 t)
+  | false ↦ option_and_then (λ (e, u). elim (dash_before_member u) [
+      true ↦ option_and_then (λ (d, v). with_class (dashed m e d) (read_members m n v)) (read_member m (drop 1 u))
+    | false ↦ with_class (λ s. Some (union (member_class e) s)) (read_members m n u) ]) (read_member m t) ]
+
+
+read_member-yields : (m : Mode) (t : List ℕ) → Yields (λ x. Member m t x.0 x.1) (read_member m t)
+unfolding read_member
+read_member-yields m [] = nothing_yields
+read_member-yields m (c ∷ t) = yields-test (c == 0x5C)
+    (λ is_backslash. rw (eqb-true c 0x5C is_backslash) (yields-map (yields-itself (class_escape_at m t)) (λ x h. escaped h)))
+    (λ no_backslash. yields-test (c == 0x5D) (λ closes. nothing_yields) (λ stays. this_yields (as_itself (search (rules, or_from)))))
+
+pub read_member-complete : (m : Mode) {t r : List ℕ} {e : Escape} → Member m t e r → read_member m t ≡ Some (e, r)
+unfolding read_member
+read_member-complete m (as_itself {c = c} h) = on_false _ (told_apart (λ c. c ∈ "\\]") c 0x5C h refl) (on_false _ (told_apart (λ c. c ∈ "\\]") c 0x5D h refl) refl)
+read_member-complete m (escaped h) = h
+
+dash-front : (u : List ℕ) → dash_before_member u ≡ true → u ≡ 0x2D ∷ drop 1 u
+dash-front [] h = cc
+dash-front (c ∷ u) h = ap (λ d. d ∷ u) (eqb-true c 0x2D (and_parts _ _ h).0)
+
+dashed-yields : (m : Mode) {t u v r : List ℕ} (d e : Escape) {s : Class} → Member m t d (0x2D ∷ u) → dash_before_member (0x2D ∷ u) ≡ true → Member m u e v → Members m v s r → Yields (λ k. Members m t k r) (dashed m d e s)
+dashed-yields m (point a) (point b) h dash k l = yields-guard (nat_le a b) (λ ordered. this_yields (from_to h dash k (leb-true a b ordered) l))
+dashed-yields m d e h dash k l = yields-guard (not m.unicode) (λ legacy. this_yields (loose (not-true _ legacy) h dash k refl l))
+
+read_members-yields : (m : Mode) (n : ℕ) (t : List ℕ) → Yields (λ x. Members m t x.0 x.1) (read_members m n t)
+unfolding read_members
+read_members-yields m zero t = nothing_yields
+read_members-yields m (suc n) t = yields-test (closes_class t)
+    (λ closes. let front = is_at-eq 0x5D t closes in rw (front.1) (this_yields no_member))
+    (λ opens. yields-and_then (read_member-yields m t) (λ x h. yields-test (dash_before_member x.1)
+        (λ dash. yields-and_then (read_member-yields m (drop 1 x.1)) (λ y k. yields-and_then (read_members-yields m n y.1) (λ z l.
+            let front = dash-front x.1 dash in yields-and_then (dashed-yields m x.0 y.0 (subst (Member m t x.0) front h) (subst (λ u. dash_before_member u ≡ true) front dash) k l) (λ s g. this_yields g))))
+        (λ none. yields-and_then (read_members-yields m n x.1) (λ y l. this_yields (single h none l)))))
+
+Member-opens : (m : Mode) {t r : List ℕ} {e : Escape} → Member m t e r → closes_class t ≡ false
+Member-opens m (as_itself {c = c} h) = told_apart (λ c. c ∈ "\\]") c 0x5D h refl
+Member-opens m (escaped h) = refl
+
+dashed-range : (m : Mode) (a b : ℕ) (s : Class) → a ≤ b → dashed m (point a) (point b) s ≡ Some (union (range a b) s)
+dashed-range m a b s h = rw (le-leb a b h)
+
+dashed-loose : (m : Mode) (d e : Escape) (s : Class) → m.unicode ≡ false → (is_point d && is_point e) ≡ false → dashed m d e s ≡ Some (union (member_class d) (union (class_of 0x2D) (union (member_class e) s)))
+dashed-loose m (point a) (point b) s legacy h = cc
+dashed-loose m d e s legacy h = rw legacy
+
+-- one unit of fuel for each code point, and one more
+pub read_members-complete : (m : Mode) (n : ℕ) {t r : List ℕ} {s : Class} → length t < n → Members m t s r → read_members m n t ≡ Some (s, r)
+unfolding read_members
+read_members-complete m zero room d = absurd (omega arith)
+read_members-complete m (suc n) room no_member = refl
+read_members-complete m (suc n) room (single h none l) =
+    on_false _ (Member-opens m h) (on_some _ (read_member-complete m h) (on_false _ none (on_some _ (read_members-complete m n (omega (arith, Member-shorter m h)) l) refl)))
+read_members-complete m (suc n) room (from_to h dash k ordered l) =
+    on_false _ (Member-opens m h) (on_some _ (read_member-complete m h) (on_true _ dash (on_some _ (read_member-complete m k)
+    (on_some _ (read_members-complete m n (omega (arith, Member-shorter m h, Member-shorter m k)) l) (on_some _ (dashed-range m _ _ _ ordered) refl)))))
+read_members-complete m (suc n) room (loose {d = d} {e = e} legacy h dash k sets l) =
+    on_false _ (Member-opens m h) (on_some _ (read_member-complete m h) (on_true _ dash (on_some _ (read_member-complete m k)
+    (on_some _ (read_members-complete m n (omega (arith, Member-shorter m h, Member-shorter m k)) l) (on_some _ (dashed-loose m d e _ legacy sets) refl)))))
