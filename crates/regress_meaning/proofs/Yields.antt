@@ -34,6 +34,10 @@ pub yields-map : {A : Type 0} {P Q : A → Type 0} {o : Option A} → Yields P o
 yields-map nothing_yields g = nothing_yields
 yields-map (this_yields {x = x} h) g = this_yields (g x h)
 
+pub yields-option_map : {A B : Type 0} {P : A → Type 0} {Q : B → Type 0} {o : Option A} (f : A → B) → Yields P o → ((x : A) → P x → Q (f x)) → Yields Q (option_map f o)
+yields-option_map f nothing_yields g = nothing_yields
+yields-option_map f (this_yields {x = x} h) g = this_yields (g x h)
+
 -- what an `elim` on a test gives where the test is known; the other case is the argument that nothing else tells
 pub on_true : {A : Type 0} {b : Bool} {x z : A} (y : A) → b ≡ true → x ≡ z → elim b [ true ↦ x | false ↦ y ] ≡ z
 on_true {x = x} y e h = ap (λ b. elim b [ true ↦ x | false ↦ y ]) e ∙ h
@@ -43,6 +47,9 @@ on_false {y = y} x e h = ap (λ b. elim b [ true ↦ x | false ↦ y ]) e ∙ h
 
 pub on_some : {A B : Type 0} (f : A → Option B) {o : Option A} {x : A} {z : Option B} → o ≡ Some x → f x ≡ z → option_and_then f o ≡ z
 on_some f e h = ap (option_and_then f) e ∙ h
+
+pub on_map : {A B : Type 0} (f : A → B) {o : Option A} {x : A} → o ≡ Some x → option_map f o ≡ Some (f x)
+on_map f e = ap (option_map f) e
 
 -- numbers that a test tells apart are not equal
 pub told_apart : (test : ℕ → Bool) (c d : ℕ) → test c ≡ false → test d ≡ true → (c == d) ≡ false
