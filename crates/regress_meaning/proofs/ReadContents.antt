@@ -1,7 +1,7 @@
 -- The functions that read a class with `v`, behind its opening bracket.
 use Rattle.std.specs.Prelude.{if◌then◌else◌}
 use Rattle.std.proofs.Common.{◌≡◌, ℕ, suc, zero, ◌+◌, ◌*◌, ◌<◌, ◌≤◌, Bool, true, false, not, ◌&&◌, ◌||◌, ◌==◌, nat_le, ◌⊎◌, inl, inr, List, [], ◌∷◌, length, drop, Option, Some, None, option_and_then, option_map, refl, sym, ap, eqb-true, ◌∙◌, subst, arith, rules}
-use Rattle.std.proofs.lemmas.Bool.{and_parts, or_parts, not-true, not_from_false, leb-true, le-leb}
+use Rattle.std.proofs.lemmas.Bool.{and_parts, and_from, or_parts, not-true, not_from_false, leb-true, le-leb}
 use Rattle.regress_meaning.specs.Text.{◌∈◌, is_at}
 use Rattle.regress_meaning.specs.Class.{Class, no_string, range, strings, union, intersection, difference, nested, may_hold_strings}
 use Rattle.regress_meaning.specs.Tokens.{Mode, Escape, point, set, groups, guard, escape_at}
@@ -15,34 +15,56 @@ use Rattle.regress_meaning.proofs.ReadMembers.{closes_class}
 abbrev pub two_at : ℕ → ℕ → List ℕ → Bool
 two_at j k t = is_at (λ c. c == j) t && is_at (λ c. c == k) (drop 1 t)
 
--- behind a backslash: a code point or a class
-unfoldable pub read_set_escape : Mode → List ℕ → Option (Escape × List ℕ)
+-- a text that begins so has this front
+pub front : (k : ℕ) (t : List ℕ) → is_at (λ c. c == k) t ≡ true → t ≡ k ∷ drop 1 t
+front k t h = let e = is_at-eq k t h in e.1 ∙ ap (λ u. k ∷ drop 1 u) (sym e.1)
+
+pub two_front : (j k : ℕ) (t : List ℕ) → two_at j k t ≡ true → t ≡ j ∷ k ∷ drop 2 t
+two_front j k [] h = cc
+two_front j k (c ∷ t) h =
+    let parts = and_parts (c == j) _ h in
+    ap (λ d. d ∷ t) (eqb-true c j parts.0) ∙ ap (λ u. j ∷ u) (front k t parts.1)
+
+-- what stands side by side in a class: one code point, or any other operand
+pub data Item : Type 0 where
+  character : ℕ → Item
+  other : Class → Item
+
+-- its class
+abbrev pub item_class : Item → Class
+item_class (character c) = class_of c
+item_class (other s) = s
+
+-- what an escape stands for, but for groups
+abbrev pub item_of : Escape → List ℕ → Option (Item × List ℕ)
+item_of (point c) r = Some (character c, r)
+item_of (set s) r = Some (other s, r)
+item_of (groups ks) r = None
+
+-- an item, if it is one code point
+abbrev pub only_character : Item → List ℕ → Option (ℕ × List ℕ)
+only_character (character c) r = Some (c, r)
+only_character (other s) r = None
+
+-- behind a backslash
+unfoldable pub read_set_escape : Mode → List ℕ → Option (Item × List ℕ)
 read_set_escape m [] = None
 read_set_escape m (c ∷ t) = elim (c == 0x62) [
-    true ↦ Some (point 8, t)
-  | false ↦ elim (c ∈ "&-!#%,:;<=>@`~") [ true ↦ Some (point c, t) | false ↦ escape_at m (c ∷ t) ] ]
+    true ↦ Some (character 8, t)
+  | false ↦ elim (c ∈ "&-!#%,:;<=>@`~") [
+      true ↦ Some (character c, t)
+    | false ↦ option_and_then (λ (e, r). item_of e r) (escape_at m (c ∷ t)) ] ]
 
--- a code point, or the class of an escape
-unfoldable pub read_set_atom : Mode → List ℕ → Option (Escape × List ℕ)
+-- one code point, or the class of an escape
+unfoldable pub read_set_atom : Mode → List ℕ → Option (Item × List ℕ)
 read_set_atom m [] = None
 read_set_atom m (c ∷ t) = elim (c == 0x5C) [
     true ↦ read_set_escape m t
-  | false ↦ guard (not (c ∈ "()[]{}/-\\|") && not (reserved_pair (c ∷ t))) (Some (point c, t)) ]
-
--- what was read, if it is a code point
-abbrev pub as_character : Escape → List ℕ → Option (ℕ × List ℕ)
-as_character (point c) r = Some (c, r)
-as_character _ r = None
-
--- what was read, as a class
-abbrev pub as_operand : Escape → List ℕ → Option (Class × List ℕ)
-as_operand (point c) r = Some (class_of c, r)
-as_operand (set s) r = Some (s, r)
-as_operand (groups ks) r = None
+  | false ↦ guard (not (c ∈ "()[]{}/-\\|") && not (reserved_pair (c ∷ t))) (Some (character c, t)) ]
 
 -- one code point
 unfoldable pub read_set_character : Mode → List ℕ → Option (ℕ × List ℕ)
-read_set_character m t = option_and_then (λ (e, r). as_character e r) (read_set_atom m t)
+read_set_character m t = option_and_then (λ (i, r). only_character i r) (read_set_atom m t)
 
 -- a string of `\q{..}`, up to `|` or `}`
 unfoldable pub read_set_string : Mode → ℕ → List ℕ → Option (List ℕ × List ℕ)
@@ -61,69 +83,196 @@ read_set_strings m (suc n) t = option_and_then (λ (cs, u). elim (is_at (λ c. c
     | false ↦ None ] ]) (read_set_string m n t)
 
 -- an inner class: its contents were read, and the closing bracket follows
-abbrev pub closed : Bool → Option (Class × List ℕ) → Option (Class × List ℕ)
-closed negated o = option_and_then (λ (s, r). guard (closes_class r && not (negated && may_hold_strings s)) (Some (nested negated s, drop 1 r))) o
+abbrev pub closed : Bool → Option (Class × List ℕ) → Option (Item × List ℕ)
+closed negated o = option_and_then (λ (s, r). guard (closes_class r && not (negated && may_hold_strings s)) (Some (other (nested negated s), drop 1 r))) o
 
--- A part of a union: the operand that was read at t, or if a dash follows, the range that begins there.
-unfoldable pub read_range : Mode → List ℕ → Class → List ℕ → Option (Class × List ℕ)
-read_range m t a u = elim (is_at (λ c. c == 0x2D) u) [
-    true ↦ option_and_then (λ (first, v). option_and_then (λ (last, r). guard (nat_le first last) (Some (range first last, r))) (read_set_character m (drop 1 u))) (read_set_character m t)
-  | false ↦ Some (a, u) ]
+-- behind an item, the class of both: a dash makes it a range
+unfoldable pub read_range : Mode → Item → List ℕ → Option (Class × List ℕ)
+read_range m (character first) t = elim (is_at (λ c. c == 0x2D) t) [
+    true ↦ option_and_then (λ (last, r). guard (nat_le first last) (Some (range first last, r))) (read_set_character m (drop 1 t))
+  | false ↦ Some (class_of first, t) ]
+read_range m (other s) t = guard (not (is_at (λ c. c == 0x2D) t)) (Some (s, t))
 
--- a union that begins with a, which was read at t and is followed by u; `rest` reads a union
-abbrev pub union_from : Mode → (List ℕ → Option (Class × List ℕ)) → List ℕ → Class → List ℕ → Option (Class × List ℕ)
-union_from m rest t a u = option_and_then (λ (b, v). option_map (λ (s, r). (union b s, r)) (rest v)) (read_range m t a u)
+-- behind the first item of a union, that union; `rest` reads one
+abbrev pub union_from : Mode → (List ℕ → Option (Class × List ℕ)) → Item → List ℕ → Option (Class × List ℕ)
+union_from m rest i t = option_and_then (λ (a, u). option_map (λ (s, r). (union a s, r)) (rest u)) (read_range m i t)
 
 unfoldable mutual
-  pub read_operand : Mode → ℕ → List ℕ → Option (Class × List ℕ)
+  pub read_operand : Mode → ℕ → List ℕ → Option (Item × List ℕ)
   read_operand m zero t = None
   read_operand m (suc n) t = elim (is_at (λ c. c == 0x5B) t) [
       true ↦ elim (is_at (λ c. c == 0x5E) (drop 1 t)) [
         true ↦ closed true (read_contents m n (drop 2 t))
       | false ↦ closed false (read_contents m n (drop 1 t)) ]
     | false ↦ elim (is_at (λ c. c == 0x5C) t && two_at 0x71 0x7B (drop 1 t)) [
-        true ↦ option_map (λ (ss, r). (strings ss, r)) (read_set_strings m n (drop 3 t))
-      | false ↦ option_and_then (λ (e, r). as_operand e r) (read_set_atom m t) ] ]
+        true ↦ option_map (λ (ss, r). (other (strings ss), r)) (read_set_strings m n (drop 3 t))
+      | false ↦ read_set_atom m t ] ]
 
   -- up to the closing bracket, which is left
   pub read_contents : Mode → ℕ → List ℕ → Option (Class × List ℕ)
   read_contents m zero t = None
   read_contents m (suc n) t = elim (closes_class t) [
       true ↦ Some (no_string, t)
-    | false ↦ option_and_then (λ (a, u). elim (two_at 0x26 0x26 u) [
-        true ↦ read_intersection m n a u
+    | false ↦ option_and_then (λ (i, u). elim (two_at 0x26 0x26 u) [
+        true ↦ read_intersection m n (item_class i) u
       | false ↦ elim (two_at 0x2D 0x2D u) [
-          true ↦ read_difference m n a u
-        | false ↦ union_from m (λ v. read_union m n v) t a u ] ]) (read_operand m n t) ]
+          true ↦ read_difference m n (item_class i) u
+        | false ↦ union_from m (λ v. read_union m n v) i u ] ]) (read_operand m n t) ]
 
+  -- items and ranges side by side
   pub read_union : Mode → ℕ → List ℕ → Option (Class × List ℕ)
   read_union m zero t = None
   read_union m (suc n) t = elim (closes_class t) [
       true ↦ Some (no_string, t)
-    | false ↦ option_and_then (λ (a, u). union_from m (λ v. read_union m n v) t a u) (read_operand m n t) ]
+    | false ↦ option_and_then (λ (i, u). union_from m (λ v. read_union m n v) i u) (read_operand m n t) ]
 
   -- behind what is joined so far: `&&` and one more operand, at least once
   pub read_intersection : Mode → ℕ → Class → List ℕ → Option (Class × List ℕ)
   read_intersection m zero a t = None
   read_intersection m (suc n) a t = elim (two_at 0x26 0x26 t && not (is_at (λ c. c == 0x26) (drop 2 t))) [
-      true ↦ option_and_then (λ (b, u). elim (closes_class u) [
-        true ↦ Some (intersection a b, u)
-      | false ↦ read_intersection m n (intersection a b) u ]) (read_operand m n (drop 2 t))
+      true ↦ option_and_then (λ (i, u). elim (closes_class u) [
+        true ↦ Some (intersection a (item_class i), u)
+      | false ↦ read_intersection m n (intersection a (item_class i)) u ]) (read_operand m n (drop 2 t))
     | false ↦ None ]
 
   -- the same with `--`
   pub read_difference : Mode → ℕ → Class → List ℕ → Option (Class × List ℕ)
   read_difference m zero a t = None
   read_difference m (suc n) a t = elim (two_at 0x2D 0x2D t) [
-      true ↦ option_and_then (λ (b, u). elim (closes_class u) [
-        true ↦ Some (difference a b, u)
-      | false ↦ read_difference m n (difference a b) u ]) (read_operand m n (drop 2 t))
+      true ↦ option_and_then (λ (i, u). elim (closes_class u) [
+        true ↦ Some (difference a (item_class i), u)
+      | false ↦ read_difference m n (difference a (item_class i)) u ]) (read_operand m n (drop 2 t))
     | false ↦ None ]
 
-v_mode : Mode
-v_mode = record { table = record { fold = λ c. c; upper = λ c. c; is_id_start = λ c. false; is_id_continue = λ c. false; property = λ k. None; sequences = λ k. None }; unicode = true; sets = true; named = false; names = [] }
+-- what was read fits the grammar
+abbrev pub ItemFits : Mode → List ℕ → Item → List ℕ → Type 0
+ItemFits m t (character c) r = SetCharacter m t c r
+ItemFits m t (other s) r = Operand m t s r
 
--- [a-z&&[^c-d]--]  variants
-test : read_contents v_mode 100 (0x5B ∷ 0x61 ∷ 0x2D ∷ 0x7A ∷ 0x5C ∷ 0x64 ∷ 0x5D ∷ 0x26 ∷ 0x26 ∷ 0x5B ∷ 0x5E ∷ 0x63 ∷ 0x5D ∷ 0x26 ∷ 0x26 ∷ 0x5C ∷ 0x71 ∷ 0x7B ∷ 0x61 ∷ 0x7C ∷ 0x62 ∷ 0x63 ∷ 0x7D ∷ 0x5D ∷ []) ≡ None
-unfolding v_mode read_contents read_operand read_union read_intersection read_difference read_range read_set_strings read_set_string read_set_character read_set_atom read_set_escape escape_at
-test = ?
+item-operand : (m : Mode) (t : List ℕ) (i : Item) {r : List ℕ} → ItemFits m t i r → Operand m t (item_class i) r
+item-operand m t (character c) h = one_character h
+item-operand m t (other s) h = h
+
+item_of-yields : (m : Mode) (t : List ℕ) {r : List ℕ} (e : Escape) → escape_at m t ≡ Some (e, r) → Yields (λ x. ItemFits m (0x5C ∷ t) x.0 x.1) (item_of e r)
+item_of-yields m t (point c) h = this_yields (of_escape h)
+item_of-yields m t (set s) h = this_yields (of_class h)
+item_of-yields m t (groups ks) h = nothing_yields
+
+only_character-yields : (m : Mode) {t : List ℕ} (i : Item) (r : List ℕ) → ItemFits m t i r → Yields (λ x. SetCharacter m t x.0 x.1) (only_character i r)
+only_character-yields m (character c) r h = this_yields h
+only_character-yields m (other s) r h = nothing_yields
+
+read_set_escape-yields : (m : Mode) (t : List ℕ) → Yields (λ x. ItemFits m (0x5C ∷ t) x.0 x.1) (read_set_escape m t)
+unfolding read_set_escape
+read_set_escape-yields m [] = nothing_yields
+read_set_escape-yields m (c ∷ t) = yields-test (c == 0x62)
+    (λ b. rw (eqb-true c 0x62 b) (this_yields backspace))
+    (λ _. yields-test (c ∈ "&-!#%,:;<=>@`~") (λ h. this_yields (punctuator h)) (λ _. yields-and_then (yields-itself (escape_at m (c ∷ t))) (λ x h. item_of-yields m (c ∷ t) x.0 h)))
+
+read_set_atom-yields : (m : Mode) (t : List ℕ) → Yields (λ x. ItemFits m t x.0 x.1) (read_set_atom m t)
+unfolding read_set_atom
+read_set_atom-yields m [] = nothing_yields
+read_set_atom-yields m (c ∷ t) = yields-test (c == 0x5C)
+    (λ b. rw (eqb-true c 0x5C b) (read_set_escape-yields m t))
+    (λ _. yields-guard (not (c ∈ "()[]{}/-\\|") && not (reserved_pair (c ∷ t))) (λ h. let parts = and_parts _ _ h in this_yields (bare (not-true _ parts.0) (not-true _ parts.1))))
+
+read_set_character-yields : (m : Mode) (t : List ℕ) → Yields (λ x. SetCharacter m t x.0 x.1) (read_set_character m t)
+unfolding read_set_character
+read_set_character-yields m t = yields-and_then (read_set_atom-yields m t) (λ x h. only_character-yields m x.0 x.1 h)
+
+read_set_string-yields : (m : Mode) (n : ℕ) (t : List ℕ) → Yields (λ x. SetString m t x.0 x.1) (read_set_string m n t)
+unfolding read_set_string
+read_set_string-yields m zero t = nothing_yields
+read_set_string-yields m (suc n) t = yields-test (is_at (λ c. c ∈ "|}") t)
+    (λ ends. this_yields (no_more ends))
+    (λ _. yields-and_then (read_set_character-yields m t) (λ x h. yields-option_map _ (read_set_string-yields m n x.1) (λ y k. and_then h k)))
+
+read_set_strings-yields : (m : Mode) (n : ℕ) (t : List ℕ) → Yields (λ x. SetStrings m t x.0 x.1) (read_set_strings m n t)
+unfolding read_set_strings
+read_set_strings-yields m zero t = nothing_yields
+read_set_strings-yields m (suc n) t = yields-and_then (read_set_string-yields m n t) (λ x h. yields-test (is_at (λ c. c == 0x7D) x.1)
+    (λ ends. this_yields (last_string (subst (SetString m t x.0) (front 0x7D x.1 ends) h)))
+    (λ _. yields-test (is_at (λ c. c == 0x7C) x.1)
+        (λ bar. yields-option_map _ (read_set_strings-yields m n (drop 1 x.1)) (λ y k. more_strings (subst (SetString m t x.0) (front 0x7C x.1 bar) h) k))
+        (λ _. nothing_yields)))
+
+closed-yields : (m : Mode) (t : List ℕ) (negated : Bool) {o : Option (Class × List ℕ)} {P : Item × List ℕ → Type 0} → Yields (λ x. Contents m t x.0 x.1) o
+    → ((s : Class) (r : List ℕ) → Contents m t s (0x5D ∷ r) → (negated && may_hold_strings s) ≡ false → P (other (nested negated s), r)) → Yields P (closed negated o)
+closed-yields m t negated h g = yields-and_then h (λ x k. yields-guard (closes_class x.1 && not (negated && may_hold_strings x.0))
+    (λ e. let parts = and_parts (closes_class x.1) _ e in this_yields (g x.0 (drop 1 x.1) (subst (Contents m t x.0) (front 0x5D x.1 parts.0) k) (not-true _ parts.1))))
+
+Union-closing : (m : Mode) (t : List ℕ) → closes_class t ≡ true → Union m t no_string t
+Union-closing m t h = subst (λ t. Union m t no_string t) (sym (front 0x5D t h)) union_end
+
+-- each union behind what was read goes with it
+read_range-yields : (m : Mode) {t : List ℕ} (i : Item) (u : List ℕ) → ItemFits m t i u → Yields (λ x. (s : Class) (r : List ℕ) → Union m x.1 s r → Union m t (union x.0 s) r) (read_range m i u)
+unfolding read_range
+read_range-yields m {t} (character c) u h = yields-test (is_at (λ c. c == 0x2D) u)
+    (λ dash. yields-and_then (read_set_character-yields m (drop 1 u)) (λ x k. yields-guard (nat_le c x.0)
+        (λ ordered. this_yields (λ s r l. union_range (subst (SetCharacter m t c) (front 0x2D u dash) h) k (leb-true c x.0 ordered) l))))
+    (λ none. this_yields (λ s r l. union_operand (one_character h) none l))
+read_range-yields m (other a) u h = yields-guard (not (is_at (λ c. c == 0x2D) u)) (λ none. this_yields (λ s r l. union_operand h (not-true _ none) l))
+
+union_from-yields : (m : Mode) {t : List ℕ} (i : Item) (u : List ℕ) (rest : List ℕ → Option (Class × List ℕ)) → ((v : List ℕ) → Yields (λ x. Union m v x.0 x.1) (rest v)) → ItemFits m t i u
+    → Yields (λ x. Union m t x.0 x.1) (union_from m rest i u)
+union_from-yields m i u rest g h = yields-and_then (read_range-yields m i u h) (λ x k. yields-option_map _ (g x.1) (λ y l. k y.0 y.1 l))
+
+-- the opening of `\q{..}`
+strings_front : (t : List ℕ) → (is_at (λ c. c == 0x5C) t && two_at 0x71 0x7B (drop 1 t)) ≡ true → t ≡ 0x5C ∷ 0x71 ∷ 0x7B ∷ drop 3 t
+strings_front [] h = cc
+strings_front (c ∷ t) h =
+    let parts = and_parts (c == 0x5C) _ h in
+    ap (λ d. d ∷ t) (eqb-true c 0x5C parts.0) ∙ ap (λ u. 0x5C ∷ u) (two_front 0x71 0x7B t parts.1)
+
+mutual
+  unfolding read_operand
+  read_operand-yields : (m : Mode) (n : ℕ) (t : List ℕ) → Yields (λ x. ItemFits m t x.0 x.1) (read_operand m n t)
+  read_operand-yields m zero t = nothing_yields
+  read_operand-yields m (suc n) t = yields-test (is_at (λ c. c == 0x5B) t)
+      (λ bracket. yields-test (is_at (λ c. c == 0x5E) (drop 1 t))
+          (λ caret. closed-yields m (drop 2 t) true (read_contents-yields m n (drop 2 t))
+              (λ s r h e. subst (λ t. Operand m t (nested true s) r) (sym (two_front 0x5B 0x5E t (and_from _ _ bracket caret))) (inner_negated h e)))
+          (λ none. closed-yields m (drop 1 t) false (read_contents-yields m n (drop 1 t))
+              (λ s r h e. subst (λ t. Operand m t (nested false s) r) (sym (front 0x5B t bracket)) (inner none h))))
+      (λ _. yields-test (is_at (λ c. c == 0x5C) t && two_at 0x71 0x7B (drop 1 t))
+          (λ opens. yields-option_map _ (read_set_strings-yields m n (drop 3 t))
+              (λ x h. subst (λ t. Operand m t (strings x.0) x.1) (sym (strings_front t opens)) (of_strings h)))
+          (λ _. read_set_atom-yields m t))
+
+  read_contents-yields : (m : Mode) (n : ℕ) (t : List ℕ) → Yields (λ x. Contents m t x.0 x.1) (read_contents m n t)
+  read_contents-yields m zero t = nothing_yields
+  read_contents-yields m (suc n) t = yields-test (closes_class t)
+      (λ closes. this_yields (of_union (Union-closing m t closes)))
+      (λ _. yields-and_then (read_operand-yields m n t) (λ x h. yields-test (two_at 0x26 0x26 x.1)
+          (λ _. yields-map (read_intersection-yields m n (item_class x.0) x.1) (λ y k. of_intersection (item-operand m t x.0 h) k))
+          (λ _. yields-test (two_at 0x2D 0x2D x.1)
+              (λ _. yields-map (read_difference-yields m n (item_class x.0) x.1) (λ y k. of_difference (item-operand m t x.0 h) k))
+              (λ _. yields-map (union_from-yields m x.0 x.1 (λ v. read_union m n v) (λ v. read_union-yields m n v) h) (λ y k. of_union k)))))
+
+  read_union-yields : (m : Mode) (n : ℕ) (t : List ℕ) → Yields (λ x. Union m t x.0 x.1) (read_union m n t)
+  read_union-yields m zero t = nothing_yields
+  read_union-yields m (suc n) t = yields-test (closes_class t)
+      (λ closes. this_yields (Union-closing m t closes))
+      (λ _. yields-and_then (read_operand-yields m n t) (λ x h. union_from-yields m x.0 x.1 (λ v. read_union m n v) (λ v. read_union-yields m n v) h))
+
+  read_intersection-yields : (m : Mode) (n : ℕ) (a : Class) (t : List ℕ) → Yields (λ x. Intersection m a t x.0 x.1) (read_intersection m n a t)
+  read_intersection-yields m zero a t = nothing_yields
+  read_intersection-yields m (suc n) a t = yields-test (two_at 0x26 0x26 t && not (is_at (λ c. c == 0x26) (drop 2 t)))
+      (λ both. let parts = and_parts (two_at 0x26 0x26 t) _ both in let none = not-true _ parts.1 in let here = two_front 0x26 0x26 t parts.0 in
+          yields-and_then (read_operand-yields m n (drop 2 t)) (λ x h. let k = item-operand m (drop 2 t) x.0 h in yields-test (closes_class x.1)
+              (λ closes. this_yields (subst (λ t. Intersection m a t (intersection a (item_class x.0)) x.1) (sym here)
+                  (subst (λ r. Intersection m a (0x26 ∷ 0x26 ∷ drop 2 t) (intersection a (item_class x.0)) r) (sym (front 0x5D x.1 closes)) (last_and none (subst (Operand m (drop 2 t) (item_class x.0)) (front 0x5D x.1 closes) k)))))
+              (λ _. yields-map (read_intersection-yields m n (intersection a (item_class x.0)) x.1)
+                  (λ y l. subst (λ t. Intersection m a t y.0 y.1) (sym here) (more_and none k l)))))
+      (λ _. nothing_yields)
+
+  read_difference-yields : (m : Mode) (n : ℕ) (a : Class) (t : List ℕ) → Yields (λ x. Difference m a t x.0 x.1) (read_difference m n a t)
+  read_difference-yields m zero a t = nothing_yields
+  read_difference-yields m (suc n) a t = yields-test (two_at 0x2D 0x2D t)
+      (λ both. let here = two_front 0x2D 0x2D t both in
+          yields-and_then (read_operand-yields m n (drop 2 t)) (λ x h. let k = item-operand m (drop 2 t) x.0 h in yields-test (closes_class x.1)
+              (λ closes. this_yields (subst (λ t. Difference m a t (difference a (item_class x.0)) x.1) (sym here)
+                  (subst (λ r. Difference m a (0x2D ∷ 0x2D ∷ drop 2 t) (difference a (item_class x.0)) r) (sym (front 0x5D x.1 closes)) (last_minus (subst (Operand m (drop 2 t) (item_class x.0)) (front 0x5D x.1 closes) k)))))
+              (λ _. yields-map (read_difference-yields m n (difference a (item_class x.0)) x.1)
+                  (λ y l. subst (λ t. Difference m a t y.0 y.1) (sym here) (more_minus k l)))))
+      (λ _. nothing_yields)
