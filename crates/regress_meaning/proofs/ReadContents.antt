@@ -1,8 +1,9 @@
 -- The functions that read a class with `v`, behind its opening bracket.
 use Rattle.std.specs.Prelude.{if◌then◌else◌}
-use Rattle.std.proofs.Common.{◌≡◌, ℕ, suc, zero, ◌+◌, ◌*◌, ◌<◌, ◌≤◌, Bool, true, false, not, ◌&&◌, ◌||◌, ◌==◌, nat_le, ◌⊎◌, inl, inr, List, [], ◌∷◌, length, drop, Option, Some, None, option_and_then, option_map, refl, sym, ap, eqb-true, ◌∙◌, subst, arith, rules}
+use Rattle.std.proofs.Common.{◌≡◌, ℕ, suc, zero, ◌+◌, ◌*◌, ◌<◌, ◌≤◌, Bool, true, false, not, ◌&&◌, ◌||◌, ◌==◌, nat_le, All, List, [], ◌∷◌, length, drop, Option, Some, None, option_and_then, option_map, refl, sym, ap, eqb-true, ◌∙◌, subst, arith, rules}
 use Rattle.std.proofs.lemmas.Bool.{and_parts, and_from, or_parts, not-true, not_from_false, leb-true, le-leb}
-use Rattle.regress_meaning.specs.Text.{◌∈◌, is_at}
+use lib.Chars.{codes}
+use Rattle.regress_meaning.specs.Text.{holds, ◌∈◌, is_at}
 use Rattle.regress_meaning.specs.Class.{Class, no_string, range, strings, union, intersection, difference, nested, may_hold_strings}
 use Rattle.regress_meaning.specs.Tokens.{Mode, Escape, point, set, groups, guard, escape_at}
 use Rattle.regress_meaning.specs.Grammar.{class_of, reserved_pair, SetCharacter, bare, backspace, punctuator, of_escape, SetString, no_more, and_then, SetStrings, last_string, more_strings, Operand, one_character, of_class, of_strings, inner, inner_negated, Contents, of_union, of_intersection, of_difference, Union, union_end, union_range, union_operand, Intersection, last_and, more_and, Difference, last_minus, more_minus}
@@ -276,3 +277,25 @@ mutual
               (λ _. yields-map (read_difference-yields m n (difference a (item_class x.0)) x.1)
                   (λ y l. subst (λ t. Difference m a t y.0 y.1) (sym here) (more_minus k l)))))
       (λ _. nothing_yields)
+
+-- P holds of each
+abbrev Each : (ℕ → Type 0) → List ℕ → Type 0
+Each P [] = Unit {0}
+Each P (c ∷ cs) = P c × Each P cs
+
+-- what holds of each of some code points holds of one that is among them
+holds-each : (P : ℕ → Type 0) (cs : List ℕ) → Each P cs → (c : ℕ) → holds cs c ≡ true → P c
+holds-each P [] each c h = cc
+holds-each P (d ∷ cs) each c h = go (d == c) refl h (λ k. holds-each P cs each.1 c k)
+  where
+    go : (b : Bool) → (d == c) ≡ b → (b || holds cs c) ≡ true → (holds cs c ≡ true → P c) → P c
+    go true e h later = subst P (eqb-true d c e) each.0
+    go false e h later = later h
+
+-- in Unicode mode these are no escapes; a class with `v` reads most of them in its own way
+no_escape : (m : Mode) (t : List ℕ) → m.unicode ≡ true → (c : ℕ) → (c ∈ "bq&-!#%,:;<=>@`~") ≡ true → escape_at m (c ∷ t) ≡ None
+unfolding escape_at
+no_escape m t h = holds-each (λ c. escape_at m (c ∷ t) ≡ None) (codes "bq&-!#%,:;<=>@`~") (s _, (s _, (s _, (s _, (s _, (s _, (s _, (s _, (s _, (s _, (s _, (s _, (s _, (s _, (s _, (s _, tt))))))))))))))))
+  where
+    s : (c : ℕ) → guard {A = Escape × List ℕ} (not m.unicode || false) (Some (point c, t)) ≡ None
+    s c = rw h
