@@ -1,7 +1,7 @@
 -- The functions that read a class with `v`, behind its opening bracket.
 use Rattle.std.specs.Prelude.{if◌then◌else◌}
 use Rattle.std.proofs.Common.{◌≡◌, ℕ, suc, zero, ◌+◌, ◌*◌, ◌<◌, ◌≤◌, Bool, true, false, not, ◌&&◌, ◌||◌, ◌==◌, nat_le, All, List, [], ◌∷◌, length, drop, Option, Some, None, option_and_then, option_map, refl, sym, ap, eqb-true, ◌∙◌, subst, arith, rules}
-use Rattle.std.proofs.lemmas.Bool.{and_parts, and_from, or_parts, not-true, not_from_false, leb-true, le-leb}
+use Rattle.std.proofs.lemmas.Bool.{and_parts, and_from, or_parts, not-true, not_from_false, not_from_true, or_from, leb-true, le-leb}
 use lib.Chars.{codes}
 use Rattle.regress_meaning.specs.Text.{holds, ◌∈◌, is_at}
 use Rattle.regress_meaning.specs.Class.{Class, no_string, range, strings, union, intersection, difference, nested, may_hold_strings}
@@ -9,7 +9,7 @@ use Rattle.regress_meaning.specs.Tokens.{Mode, Escape, point, set, groups, guard
 use Rattle.regress_meaning.specs.Grammar.{class_of, reserved_pair, SetCharacter, bare, backspace, punctuator, of_escape, SetString, no_more, and_then, SetStrings, last_string, more_strings, Operand, one_character, of_class, of_strings, inner, inner_negated, Contents, of_union, of_intersection, of_difference, Union, union_end, union_range, union_operand, Intersection, last_and, more_and, Difference, last_minus, more_minus}
 use Rattle.regress_meaning.proofs.Inversion.{is_at-eq}
 use Rattle.regress_meaning.proofs.Shorter.{SetCharacter-shorter, SetString-shorter, Operand-shorter}
-use Rattle.regress_meaning.proofs.Yields.{Yields, nothing_yields, this_yields, yields-test, yields-guard, yields-and_then, yields-option_map, yields-some, yields-itself, yields-map, told_apart, on_true, on_false, on_some, on_map}
+use Rattle.regress_meaning.proofs.Yields.{Yields, nothing_yields, this_yields, yields-test, yields-guard, yields-and_then, yields-option_map, yields-some, yields-itself, yields-map, told_apart, on_true, on_false, on_some, on_map, on_guard}
 use Rattle.regress_meaning.proofs.ReadMembers.{closes_class}
 
 -- the text begins with j and k
@@ -299,3 +299,60 @@ no_escape m t h = holds-each (λ c. escape_at m (c ∷ t) ≡ None) (codes "bq&-
   where
     s : (c : ℕ) → guard {A = Escape × List ℕ} (not m.unicode || false) (Some (point c, t)) ≡ None
     s c = rw h
+
+module _ (m : Mode) (unicode : m.unicode ≡ true) where
+  escape_front : (c : ℕ) (t : List ℕ) {x : Escape × List ℕ} → escape_at m (c ∷ t) ≡ Some x → (c ∈ "bq&-!#%,:;<=>@`~") ≡ false
+  escape_front c t {x} h = go (c ∈ "bq&-!#%,:;<=>@`~") refl
+    where
+      go : (b : Bool) → (c ∈ "bq&-!#%,:;<=>@`~") ≡ b → (c ∈ "bq&-!#%,:;<=>@`~") ≡ false
+      go true e = let none = no_escape m t unicode c e in absurd (cc)
+      go false e = e
+
+  read_set_escape-complete : (t : List ℕ) {e : Escape} {r : List ℕ} → escape_at m t ≡ Some (e, r) → read_set_escape m t ≡ item_of e r
+  unfolding read_set_escape escape_at
+  read_set_escape-complete [] h = cc
+  read_set_escape-complete (c ∷ t) h =
+      let f = escape_front c t h in
+      let b : (c == 0x62) ≡ false = told_apart (λ c. c ∈ "bq&-!#%,:;<=>@`~") c 0x62 f refl in
+      let marks : (c ∈ "&-!#%,:;<=>@`~") ≡ false = (or_parts (0x71 == c) (c ∈ "&-!#%,:;<=>@`~") (or_parts (0x62 == c) (c ∈ "q&-!#%,:;<=>@`~") f).1).1 in
+      on_false _ b (on_false _ marks (on_some (λ x. item_of x.0 x.1) h refl))
+
+  read_set_atom-character : {t r : List ℕ} {c : ℕ} → SetCharacter m t c r → read_set_atom m t ≡ Some (character c, r)
+  unfolding read_set_atom read_set_escape
+  read_set_atom-character (bare {c = c} h k) = on_false _ (told_apart (λ c. c ∈ "()[]{}/-\\|") c 0x5C h refl) (on_guard _ (and_from _ _ (not_from_false _ h) (not_from_false _ k)))
+  read_set_atom-character backspace = refl
+  read_set_atom-character (punctuator {c = c} h) = on_false _ (told_apart (λ c. not (c ∈ "&-!#%,:;<=>@`~")) c 0x62 (not_from_true _ h) refl) (on_true _ h refl)
+  read_set_atom-character (of_escape {t = t} h) = read_set_escape-complete t h
+
+  read_set_character-complete : {t r : List ℕ} {c : ℕ} → SetCharacter m t c r → read_set_character m t ≡ Some (c, r)
+  unfolding read_set_character
+  read_set_character-complete h = on_some _ (read_set_atom-character h) refl
+
+  -- what a code point of a class does not begin with
+  SetCharacter-front : (test : ℕ → Bool) → ((c : ℕ) → (c ∈ "()[]{}/-\\|") ≡ false → test c ≡ false) → test 0x5C ≡ false
+      → {t r : List ℕ} {c : ℕ} → SetCharacter m t c r → is_at test t ≡ false
+  SetCharacter-front test fails none (bare {c = c} h k) = fails c h
+  SetCharacter-front test fails none backspace = none
+  SetCharacter-front test fails none (punctuator h) = none
+  SetCharacter-front test fails none (of_escape h) = none
+
+  SetCharacter-not_at : (k : ℕ) → (k ∈ "()[]{}/-\\|") ≡ true → (0x5C == k) ≡ false → {t r : List ℕ} {c : ℕ} → SetCharacter m t c r → is_at (λ c. c == k) t ≡ false
+  SetCharacter-not_at k held none h = SetCharacter-front (λ c. c == k) (λ c e. told_apart (λ c. c ∈ "()[]{}/-\\|") c k e held) none h
+
+  SetCharacter-goes_on : {t r : List ℕ} {c : ℕ} → SetCharacter m t c r → is_at (λ c. c ∈ "|}") t ≡ false
+  SetCharacter-goes_on h = SetCharacter-front (λ c. c ∈ "|}") (λ c e.
+      let bar = told_apart (λ c. c ∈ "()[]{}/-\\|") c 0x7C e refl in let brace = told_apart (λ c. c ∈ "()[]{}/-\\|") c 0x7D e refl in search (rules, or_from)) refl h
+
+  read_set_string-complete : (n : ℕ) {t r cs : List ℕ} → length t < n → SetString m t cs r → read_set_string m n t ≡ Some (cs, r)
+  unfolding read_set_string
+  read_set_string-complete zero room h = absurd (omega arith)
+  read_set_string-complete (suc n) room (no_more h) = on_true _ h refl
+  read_set_string-complete (suc n) room (and_then h k) =
+      on_false _ (SetCharacter-goes_on h) (on_some _ (read_set_character-complete h) (on_map _ (read_set_string-complete n (omega (arith, SetCharacter-shorter m h)) k)))
+
+  read_set_strings-complete : (n : ℕ) {t r : List ℕ} {ss : List (List ℕ)} → suc (length t) < n → SetStrings m t ss r → read_set_strings m n t ≡ Some (ss, r)
+  unfolding read_set_strings
+  read_set_strings-complete zero room h = absurd (omega arith)
+  read_set_strings-complete (suc n) room (last_string h) = on_some _ (read_set_string-complete n (omega arith) h) refl
+  read_set_strings-complete (suc n) room (more_strings h k) =
+      on_some _ (read_set_string-complete n (omega arith) h) (on_map _ (read_set_strings-complete n (omega (arith, SetString-shorter m h)) k))

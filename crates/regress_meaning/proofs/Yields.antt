@@ -51,6 +51,9 @@ on_some f e h = ap (option_and_then f) e ∙ h
 pub on_map : {A B : Type 0} (f : A → B) {o : Option A} {x : A} → o ≡ Some x → option_map f o ≡ Some (f x)
 on_map f e = ap (option_map f) e
 
+pub on_guard : {A : Type 0} {b : Bool} (o : Option A) → b ≡ true → guard b o ≡ o
+on_guard o e = ap (λ b. guard b o) e
+
 -- numbers that a test tells apart are not equal
 pub told_apart : (test : ℕ → Bool) (c d : ℕ) → test c ≡ false → test d ≡ true → (c == d) ≡ false
 told_apart test c d h k = go (c == d) refl
