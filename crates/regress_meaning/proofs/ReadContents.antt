@@ -1,7 +1,7 @@
 -- The functions that read a class with `v`, behind its opening bracket.
 use Rattle.std.specs.Prelude.{if◌then◌else◌}
 use Rattle.std.proofs.Common.{◌≡◌, ℕ, suc, zero, ◌+◌, ◌*◌, ◌<◌, ◌≤◌, Bool, true, false, not, ◌&&◌, ◌||◌, ◌==◌, nat_le, All, List, [], ◌∷◌, length, drop, Option, Some, None, option_and_then, option_map, refl, sym, ap, eqb-true, ◌∙◌, subst, arith, rules}
-use Rattle.std.proofs.lemmas.Bool.{and_parts, and_from, or_parts, not-true, not_from_false, not_from_true, or_from, leb-true, le-leb}
+use Rattle.std.proofs.lemmas.Bool.{and_parts, and_from, and_left, or_parts, not-true, not_from_false, not_from_true, or_from, leb-true, le-leb}
 use lib.Chars.{codes}
 use Rattle.regress_meaning.specs.Text.{holds, ◌∈◌, is_at}
 use Rattle.regress_meaning.specs.Class.{Class, no_string, range, strings, union, intersection, difference, nested, may_hold_strings}
@@ -83,9 +83,13 @@ read_set_strings m (suc n) t = option_and_then (λ (cs, u). elim (is_at (λ c. c
       true ↦ option_map (λ (ss, r). (cs ∷ ss, r)) (read_set_strings m n (drop 1 u))
     | false ↦ None ] ]) (read_set_string m n t)
 
--- an inner class: its contents were read, and the closing bracket follows
-abbrev pub closed : Bool → Option (Class × List ℕ) → Option (Item × List ℕ)
-closed negated o = option_and_then (λ (s, r). guard (closes_class r && not (negated && may_hold_strings s)) (Some (other (nested negated s), drop 1 r))) o
+-- contents were read: they end at a closing bracket, and what follows it
+abbrev pub behind_bracket : Option (Class × List ℕ) → Option (Class × List ℕ)
+behind_bracket o = option_and_then (λ (s, r). guard (closes_class r) (Some (s, drop 1 r))) o
+
+-- an inner class, by its contents; a negated one holds no strings
+abbrev pub inner_item : Bool → Option (Class × List ℕ) → Option (Item × List ℕ)
+inner_item negated o = option_and_then (λ (s, r). guard (not (negated && may_hold_strings s)) (Some (other (nested negated s), r))) (behind_bracket o)
 
 -- behind an item, the class of both: a dash makes it a range
 unfoldable pub read_range : Mode → Item → List ℕ → Option (Class × List ℕ)
@@ -103,8 +107,8 @@ unfoldable mutual
   read_operand m zero t = None
   read_operand m (suc n) t = elim (is_at (λ c. c == 0x5B) t) [
       true ↦ elim (is_at (λ c. c == 0x5E) (drop 1 t)) [
-        true ↦ closed true (read_contents m n (drop 2 t))
-      | false ↦ closed false (read_contents m n (drop 1 t)) ]
+        true ↦ inner_item true (read_contents m n (drop 2 t))
+      | false ↦ inner_item false (read_contents m n (drop 1 t)) ]
     | false ↦ elim (is_at (λ c. c == 0x5C) t && two_at 0x71 0x7B (drop 1 t)) [
         true ↦ option_map (λ (ss, r). (other (strings ss), r)) (read_set_strings m n (drop 3 t))
       | false ↦ read_set_atom m t ] ]
@@ -197,10 +201,12 @@ read_set_strings-yields m (suc n) t = yields-and_then (read_set_string-yields m 
         (λ bar. yields-option_map _ (read_set_strings-yields m n (drop 1 x.1)) (λ y k. more_strings (subst (SetString m t x.0) (front 0x7C x.1 bar) h) k))
         (λ _. nothing_yields)))
 
-closed-yields : (m : Mode) (t : List ℕ) (negated : Bool) {o : Option (Class × List ℕ)} {P : Item × List ℕ → Type 0} → Yields (λ x. Contents m t x.0 x.1) o
-    → ((s : Class) (r : List ℕ) → Contents m t s (0x5D ∷ r) → (negated && may_hold_strings s) ≡ false → P (other (nested negated s), r)) → Yields P (closed negated o)
-closed-yields m t negated h g = yields-and_then h (λ x k. yields-guard (closes_class x.1 && not (negated && may_hold_strings x.0))
-    (λ e. let parts = and_parts (closes_class x.1) _ e in this_yields (g x.0 (drop 1 x.1) (subst (Contents m t x.0) (front 0x5D x.1 parts.0) k) (not-true _ parts.1))))
+pub behind_bracket-yields : (m : Mode) (t : List ℕ) {o : Option (Class × List ℕ)} → Yields (λ x. Contents m t x.0 x.1) o → Yields (λ x. Contents m t x.0 (0x5D ∷ x.1)) (behind_bracket o)
+behind_bracket-yields m t h = yields-and_then h (λ x k. yields-guard (closes_class x.1) (λ closes. this_yields (subst (Contents m t x.0) (front 0x5D x.1 closes) k)))
+
+inner_item-yields : (m : Mode) (t : List ℕ) (negated : Bool) {o : Option (Class × List ℕ)} {P : Item × List ℕ → Type 0} → Yields (λ x. Contents m t x.0 x.1) o
+    → ((s : Class) (r : List ℕ) → Contents m t s (0x5D ∷ r) → (negated && may_hold_strings s) ≡ false → P (other (nested negated s), r)) → Yields P (inner_item negated o)
+inner_item-yields m t negated h g = yields-and_then (behind_bracket-yields m t h) (λ x k. yields-guard (not (negated && may_hold_strings x.0)) (λ e. this_yields (g x.0 x.1 k (not-true _ e))))
 
 Union-closing : (m : Mode) (t : List ℕ) → closes_class t ≡ true → Union m t no_string t
 Union-closing m t h = subst (λ t. Union m t no_string t) (sym (front 0x5D t h)) union_end
@@ -231,16 +237,16 @@ mutual
   read_operand-yields m zero t = nothing_yields
   read_operand-yields m (suc n) t = yields-test (is_at (λ c. c == 0x5B) t)
       (λ bracket. yields-test (is_at (λ c. c == 0x5E) (drop 1 t))
-          (λ caret. closed-yields m (drop 2 t) true (read_contents-yields m n (drop 2 t))
+          (λ caret. inner_item-yields m (drop 2 t) true (read_contents-yields m n (drop 2 t))
               (λ s r h e. subst (λ t. Operand m t (nested true s) r) (sym (two_front 0x5B 0x5E t (and_from _ _ bracket caret))) (inner_negated h e)))
-          (λ none. closed-yields m (drop 1 t) false (read_contents-yields m n (drop 1 t))
+          (λ none. inner_item-yields m (drop 1 t) false (read_contents-yields m n (drop 1 t))
               (λ s r h e. subst (λ t. Operand m t (nested false s) r) (sym (front 0x5B t bracket)) (inner none h))))
       (λ _. yields-test (is_at (λ c. c == 0x5C) t && two_at 0x71 0x7B (drop 1 t))
           (λ opens. yields-option_map _ (read_set_strings-yields m n (drop 3 t))
               (λ x h. subst (λ t. Operand m t (strings x.0) x.1) (sym (strings_front t opens)) (of_strings h)))
           (λ _. read_set_atom-yields m t))
 
-  read_contents-yields : (m : Mode) (n : ℕ) (t : List ℕ) → Yields (λ x. Contents m t x.0 x.1) (read_contents m n t)
+  pub read_contents-yields : (m : Mode) (n : ℕ) (t : List ℕ) → Yields (λ x. Contents m t x.0 x.1) (read_contents m n t)
   read_contents-yields m zero t = nothing_yields
   read_contents-yields m (suc n) t = yields-test (closes_class t)
       (λ closes. this_yields (of_union (Union-closing m t closes)))
@@ -324,6 +330,10 @@ module _ (m : Mode) (unicode : m.unicode ≡ true) where
   read_set_atom-character (punctuator {c = c} h) = on_false _ (told_apart (λ c. not (c ∈ "&-!#%,:;<=>@`~")) c 0x62 (not_from_true _ h) refl) (on_true _ h refl)
   read_set_atom-character (of_escape {t = t} h) = read_set_escape-complete t h
 
+  read_set_atom-class : (t : List ℕ) {r : List ℕ} {s : Class} → escape_at m t ≡ Some (set s, r) → read_set_atom m (0x5C ∷ t) ≡ Some (other s, r)
+  unfolding read_set_atom
+  read_set_atom-class t h = read_set_escape-complete t h
+
   read_set_character-complete : {t r : List ℕ} {c : ℕ} → SetCharacter m t c r → read_set_character m t ≡ Some (c, r)
   unfolding read_set_character
   read_set_character-complete h = on_some _ (read_set_atom-character h) refl
@@ -356,3 +366,143 @@ module _ (m : Mode) (unicode : m.unicode ≡ true) where
   read_set_strings-complete (suc n) room (last_string h) = on_some _ (read_set_string-complete n (omega arith) h) refl
   read_set_strings-complete (suc n) room (more_strings h k) =
       on_some _ (read_set_string-complete n (omega arith) h) (on_map _ (read_set_strings-complete n (omega (arith, SetString-shorter m h)) k))
+
+  escape-no_strings : (t : List ℕ) {x : Escape × List ℕ} → escape_at m t ≡ Some x → two_at 0x71 0x7B t ≡ false
+  escape-no_strings [] h = refl
+  escape-no_strings (c ∷ t) h = and_left _ _ (told_apart (λ c. c ∈ "bq&-!#%,:;<=>@`~") c 0x71 (escape_front c t h) refl)
+
+  SetCharacter-no_strings : {t r : List ℕ} {c : ℕ} → SetCharacter m t c r → (is_at (λ c. c == 0x5C) t && two_at 0x71 0x7B (drop 1 t)) ≡ false
+  SetCharacter-no_strings (bare {c = c} h k) = and_left _ _ (told_apart (λ c. c ∈ "()[]{}/-\\|") c 0x5C h refl)
+  SetCharacter-no_strings backspace = refl
+  SetCharacter-no_strings (punctuator {c = c} h) = and_left _ _ (told_apart (λ c. not (c ∈ "&-!#%,:;<=>@`~")) c 0x71 (not_from_true _ h) refl)
+  SetCharacter-no_strings (of_escape {t = t} h) = escape-no_strings t h
+
+  -- two marks of an intersection begin no operand
+  SetCharacter-no_pair : {t r : List ℕ} {c : ℕ} → SetCharacter m t c r → two_at 0x26 0x26 t ≡ false
+  SetCharacter-no_pair (bare {c = c} {r = r} h k) = go (c == 0x26) refl
+    where
+      go : (b : Bool) → (c == 0x26) ≡ b → two_at 0x26 0x26 (c ∷ r) ≡ false
+      go true e = let pair : reserved_pair (0x26 ∷ r) ≡ false = subst (λ d. reserved_pair (d ∷ r) ≡ false) (eqb-true c 0x26 e) k in
+          subst (λ d. two_at 0x26 0x26 (d ∷ r) ≡ false) (sym (eqb-true c 0x26 e)) pair
+      go false e = and_left _ _ e
+  SetCharacter-no_pair backspace = refl
+  SetCharacter-no_pair (punctuator h) = refl
+  SetCharacter-no_pair (of_escape h) = refl
+
+  Operand-opens : {t r : List ℕ} {s : Class} → Operand m t s r → closes_class t ≡ false
+  Operand-opens (one_character h) = SetCharacter-not_at 0x5D refl refl h
+  Operand-opens (of_class h) = refl
+  Operand-opens (of_strings h) = refl
+  Operand-opens (inner n h) = refl
+  Operand-opens (inner_negated h n) = refl
+
+  Operand-no_pair : {t r : List ℕ} {s : Class} → Operand m t s r → two_at 0x26 0x26 t ≡ false
+  Operand-no_pair (one_character h) = SetCharacter-no_pair h
+  Operand-no_pair (of_class h) = refl
+  Operand-no_pair (of_strings h) = refl
+  Operand-no_pair (inner n h) = refl
+  Operand-no_pair (inner_negated h n) = refl
+
+  Union-no_pair : {t r : List ℕ} {s : Class} → Union m t s r → two_at 0x26 0x26 t ≡ false
+  Union-no_pair union_end = refl
+  Union-no_pair (union_range h k le l) = SetCharacter-no_pair h
+  Union-no_pair (union_operand h n k) = Operand-no_pair h
+
+  Intersection-pair : {a s : Class} {t r : List ℕ} → Intersection m a t s r → two_at 0x26 0x26 t ≡ true
+  Intersection-pair (last_and n h) = refl
+  Intersection-pair (more_and n h k) = refl
+
+  Intersection-opens : {a s : Class} {t r : List ℕ} → Intersection m a t s r → closes_class t ≡ false
+  Intersection-opens (last_and n h) = refl
+  Intersection-opens (more_and n h k) = refl
+
+  Difference-pair : {a s : Class} {t r : List ℕ} → Difference m a t s r → (two_at 0x26 0x26 t ≡ false) × (two_at 0x2D 0x2D t ≡ true)
+  Difference-pair (last_minus h) = (refl, refl)
+  Difference-pair (more_minus h k) = (refl, refl)
+
+  Difference-opens : {a s : Class} {t r : List ℕ} → Difference m a t s r → closes_class t ≡ false
+  Difference-opens (last_minus h) = refl
+  Difference-opens (more_minus h k) = refl
+
+  read_operand-character : (n : ℕ) {t r : List ℕ} {c : ℕ} → SetCharacter m t c r → read_operand m (suc n) t ≡ Some (character c, r)
+  unfolding read_operand
+  read_operand-character n h = on_false _ (SetCharacter-not_at 0x5B refl refl h) (on_false _ (SetCharacter-no_strings h) (read_set_atom-character h))
+
+  union_from-range : (rest : List ℕ → Option (Class × List ℕ)) {u v r : List ℕ} {a b : ℕ} {s : Class} → SetCharacter m u b v → a ≤ b → rest v ≡ Some (s, r)
+      → union_from m rest (character a) (0x2D ∷ u) ≡ Some (union (range a b) s, r)
+  unfolding read_range
+  union_from-range rest {a = a} {b = b} h le e = on_some _ (on_some _ (read_set_character-complete h) (on_guard _ (le-leb a b le))) (on_map _ e)
+
+  read_range-none : (i : Item) {u : List ℕ} → is_at (λ c. c == 0x2D) u ≡ false → read_range m i u ≡ Some (item_class i, u)
+  unfolding read_range
+  read_range-none (character c) none = on_false _ none refl
+  read_range-none (other s) none = on_guard _ (not_from_false _ none)
+
+  union_from-item : (rest : List ℕ → Option (Class × List ℕ)) (i : Item) {u r : List ℕ} {a s : Class} → is_at (λ c. c == 0x2D) u ≡ false → item_class i ≡ a → rest u ≡ Some (s, r)
+      → union_from m rest i u ≡ Some (union a s, r)
+  union_from-item rest i {r = r} {s = s} none same e = on_some _ (read_range-none i none) (on_map _ e) ∙ ap (λ a. Some (union a s, r)) same
+
+  mutual
+    unfolding read_operand
+    read_operand-complete : (n : ℕ) {t r : List ℕ} {s : Class} → 2 * length t < n → Operand m t s r → (i : Item) × (read_operand m n t ≡ Some (i, r)) × (item_class i ≡ s)
+    read_operand-complete zero room h = absurd (omega arith)
+    read_operand-complete (suc n) room (one_character {c = c} h) = (character c, read_operand-character n h, refl)
+    read_operand-complete (suc n) room (of_class {t = t} {s = s} h) = (other s, on_false _ (escape-no_strings t h) (read_set_atom-class t h), refl)
+    read_operand-complete (suc n) room (of_strings {ss = ss} h) = (other (strings ss), on_map _ (read_set_strings-complete n (omega arith) h), refl)
+    read_operand-complete (suc n) room (inner {s = s} none h) =
+        (other (nested false s), on_false _ none (on_some _ (on_some _ (read_contents-complete n (omega arith) h) refl) refl), refl)
+    read_operand-complete (suc n) room (inner_negated {s = s} h none) =
+        (other (nested true s), on_some _ (on_some _ (read_contents-complete n (omega arith) h) refl) (on_guard _ (not_from_false _ none)), refl)
+
+    pub read_contents-complete : (n : ℕ) {t r : List ℕ} {s : Class} → 2 * length t + 1 < n → Contents m t s r → read_contents m n t ≡ Some (s, r)
+    read_contents-complete zero room h = absurd (omega arith)
+    read_contents-complete (suc n) room (of_union union_end) = refl
+    read_contents-complete (suc zero) room (of_union (union_range h k le l)) = absurd (omega arith)
+    read_contents-complete (suc (suc n)) room (of_union (union_range h k le l)) =
+        on_false _ (SetCharacter-not_at 0x5D refl refl h) (on_some _ (read_operand-character n h) (on_false _ (SetCharacter-not_at 0x2D refl refl k)
+        (union_from-range (λ v. read_union m (suc n) v) k le (read_union-complete (suc n) (omega (arith, SetCharacter-shorter m h, SetCharacter-shorter m k)) l))))
+    read_contents-complete (suc n) room (of_union (union_operand h none k)) =
+        let f = read_operand-complete n (omega arith) h in
+        on_false _ (Operand-opens h) (on_some _ f.1 (on_false _ (Union-no_pair k) (on_false _ (and_left _ _ none)
+        (union_from-item (λ v. read_union m n v) f.0 none f.2 (read_union-complete n (omega (arith, Operand-shorter m h)) k)))))
+    read_contents-complete (suc n) room (of_intersection {u = u} h k) =
+        let f = read_operand-complete n (omega arith) h in
+        on_false _ (Operand-opens h) (on_some _ f.1 (on_true _ (Intersection-pair k)
+        (ap (λ a. read_intersection m n a u) f.2 ∙ read_intersection-complete n (omega (arith, Operand-shorter m h)) k)))
+    read_contents-complete (suc n) room (of_difference {u = u} h k) =
+        let f = read_operand-complete n (omega arith) h in
+        let pair = Difference-pair k in
+        on_false _ (Operand-opens h) (on_some _ f.1 (on_false _ pair.0 (on_true _ pair.1
+        (ap (λ a. read_difference m n a u) f.2 ∙ read_difference-complete n (omega (arith, Operand-shorter m h)) k))))
+
+    read_union-complete : (n : ℕ) {t r : List ℕ} {s : Class} → 2 * length t + 1 < n → Union m t s r → read_union m n t ≡ Some (s, r)
+    read_union-complete zero room h = absurd (omega arith)
+    read_union-complete (suc n) room union_end = refl
+    read_union-complete (suc zero) room (union_range h k le l) = absurd (omega arith)
+    read_union-complete (suc (suc n)) room (union_range h k le l) =
+        on_false _ (SetCharacter-not_at 0x5D refl refl h) (on_some _ (read_operand-character n h)
+        (union_from-range (λ v. read_union m (suc n) v) k le (read_union-complete (suc n) (omega (arith, SetCharacter-shorter m h, SetCharacter-shorter m k)) l)))
+    read_union-complete (suc n) room (union_operand h none k) =
+        let f = read_operand-complete n (omega arith) h in
+        on_false _ (Operand-opens h) (on_some _ f.1
+        (union_from-item (λ v. read_union m n v) f.0 none f.2 (read_union-complete n (omega (arith, Operand-shorter m h)) k)))
+
+    read_intersection-complete : (n : ℕ) {t r : List ℕ} {a s : Class} → 2 * length t + 1 < n → Intersection m a t s r → read_intersection m n a t ≡ Some (s, r)
+    read_intersection-complete zero room h = absurd (omega arith)
+    read_intersection-complete (suc n) room (last_and {r = r} {a = a} none h) =
+        let f = read_operand-complete n (omega arith) h in
+        on_true _ (not_from_false _ none) (on_some _ f.1 (ap (λ b. Some (intersection a b, 0x5D ∷ r)) f.2))
+    read_intersection-complete (suc n) room (more_and {u = u} {a = a} none h k) =
+        let f = read_operand-complete n (omega arith) h in
+        on_true _ (not_from_false _ none) (on_some _ f.1 (on_false _ (Intersection-opens k)
+        (ap (λ b. read_intersection m n (intersection a b) u) f.2 ∙ read_intersection-complete n (omega (arith, Operand-shorter m h)) k)))
+
+    read_difference-complete : (n : ℕ) {t r : List ℕ} {a s : Class} → 2 * length t + 1 < n → Difference m a t s r → read_difference m n a t ≡ Some (s, r)
+    read_difference-complete zero room h = absurd (omega arith)
+    read_difference-complete (suc n) room (last_minus {r = r} {a = a} h) =
+        let f = read_operand-complete n (omega arith) h in
+        on_some _ f.1 (ap (λ b. Some (difference a b, 0x5D ∷ r)) f.2)
+    read_difference-complete (suc n) room (more_minus {u = u} {a = a} h k) =
+        let f = read_operand-complete n (omega arith) h in
+        on_some _ f.1 (on_false _ (Difference-opens k)
+        (ap (λ b. read_difference m n (difference a b) u) f.2 ∙ read_difference-complete n (omega (arith, Operand-shorter m h)) k))

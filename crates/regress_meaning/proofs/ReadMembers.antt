@@ -60,7 +60,7 @@ dashed-yields : (m : Mode) {t u v r : List ℕ} (d e : Escape) {s : Class} → M
 dashed-yields m (point a) (point b) h dash k l = yields-guard (nat_le a b) (λ ordered. this_yields (from_to h dash k (leb-true a b ordered) l))
 dashed-yields m d e h dash k l = yields-guard (not m.unicode) (λ legacy. this_yields (loose (not-true _ legacy) h dash k refl l))
 
-read_members-yields : (m : Mode) (n : ℕ) (t : List ℕ) → Yields (λ x. Members m t x.0 x.1) (read_members m n t)
+pub read_members-yields : (m : Mode) (n : ℕ) (t : List ℕ) → Yields (λ x. Members m t x.0 x.1) (read_members m n t)
 unfolding read_members
 read_members-yields m zero t = nothing_yields
 read_members-yields m (suc n) t = yields-test (closes_class t)
