@@ -1,11 +1,13 @@
 -- The function that reads a class, and that it fits the grammar both ways.
-use Rattle.std.proofs.Common.{◌≡◌, ℕ, suc, ◌+◌, ◌*◌, Bool, true, false, List, ◌∷◌, length, Option, Some, None, refl, arith}
+use Rattle.std.proofs.Common.{◌≡◌, ℕ, suc, ◌+◌, ◌*◌, true, false, List, length, Option, Some, refl, arith}
 use Rattle.regress_meaning.specs.Class.{Class}
 use Rattle.regress_meaning.specs.Tokens.{Mode}
 use Rattle.regress_meaning.specs.Grammar.{ClassBody, of_members, of_contents}
-use Rattle.regress_meaning.proofs.Yields.{Yields, yields-test, yields-map, yields-some, on_true, on_false, on_some}
-use Rattle.regress_meaning.proofs.ReadMembers.{read_members, read_members-yields, read_members-complete}
-use Rattle.regress_meaning.proofs.ReadContents.{behind_bracket, read_contents, behind_bracket-yields, read_contents-yields, read_contents-complete}
+use Rattle.regress_meaning.proofs.Inversion.{gives-weaker, Gives}
+use Rattle.regress_meaning.proofs.ReadSteps.{gives-test, on_true, on_false, on_some}
+use Rattle.regress_meaning.proofs.ReadMembers.{read_members, read_members-gives, read_members-complete}
+use Rattle.regress_meaning.proofs.ReadContents.{behind_bracket, read_contents, behind_bracket-gives, read_contents-gives}
+use Rattle.regress_meaning.proofs.ReadContentsComplete.{read_contents-complete}
 
 -- behind the opening bracket of a class, and behind its `^`: the class, and what follows its closing bracket
 unfoldable pub read_class : Mode → List ℕ → Option (Class × List ℕ)
@@ -13,11 +15,14 @@ read_class m t = elim (m.sets) [
     true ↦ behind_bracket (read_contents m (2 * length t + 2) t)
   | false ↦ read_members m (suc (length t)) t ]
 
-pub read_class-sound : (m : Mode) (t : List ℕ) {s : Class} {r : List ℕ} → read_class m t ≡ Some (s, r) → ClassBody m t s r
+read_class-gives : (m : Mode) (t : List ℕ) → Gives (λ x. ClassBody m t x.0 x.1) (read_class m t)
 unfolding read_class
-read_class-sound m t h = yields-some {P = λ x. ClassBody m t x.0 x.1} (yields-test (m.sets)
-    (λ sets. yields-map (behind_bracket-yields m t (read_contents-yields m (2 * length t + 2) t)) (λ x k. of_contents sets k))
-    (λ none. yields-map (read_members-yields m (suc (length t)) t) (λ x k. of_members none k))) h
+read_class-gives m t = gives-test (m.sets)
+    (λ sets. gives-weaker (λ x k. of_contents sets k) (behind_bracket-gives m t (read_contents-gives m (2 * length t + 2) t)))
+    (λ none. gives-weaker (λ x k. of_members none k) (read_members-gives m (suc (length t)) t))
+
+pub read_class-sound : (m : Mode) (t : List ℕ) {s : Class} {r : List ℕ} → read_class m t ≡ Some (s, r) → ClassBody m t s r
+read_class-sound m t h = (read_class-gives m t).holds h
 
 pub read_class-complete : (m : Mode) → (m.sets ≡ true → m.unicode ≡ true) → {t r : List ℕ} {s : Class} → ClassBody m t s r → read_class m t ≡ Some (s, r)
 unfolding read_class

@@ -1,14 +1,14 @@
--- The function that reads a class without `v`, behind its opening bracket.
+-- The function that reads a class without `v`, behind its opening bracket, and that it fits the grammar both ways.
 use Rattle.std.specs.Prelude.{if◌then◌else◌}
-use Rattle.std.proofs.Common.{◌≡◌, ℕ, suc, zero, ◌+◌, ◌<◌, ◌≤◌, Bool, true, false, not, ◌&&◌, ◌||◌, ◌==◌, nat_le, ◌⊎◌, inl, inr, List, [], ◌∷◌, length, drop, Option, Some, None, option_and_then, option_map, refl, sym, ap, eqb-true, ◌∙◌, subst, arith, rules}
+use Rattle.std.proofs.Common.{◌≡◌, ℕ, suc, zero, ◌<◌, ◌≤◌, Bool, true, false, not, ◌&&◌, ◌==◌, nat_le, List, [], ◌∷◌, length, drop, Option, Some, None, option_and_then, option_map, refl, sym, ap, eqb-true, subst, arith, rules}
 use Rattle.std.proofs.lemmas.Bool.{or_from, and_parts, not-true, leb-true, le-leb}
 use Rattle.regress_meaning.specs.Text.{◌∈◌, is_at}
 use Rattle.regress_meaning.specs.Class.{Class, no_string, range, union}
 use Rattle.regress_meaning.specs.Tokens.{Mode, Escape, point, set, groups, guard, class_escape_at}
 use Rattle.regress_meaning.specs.Grammar.{class_of, member_class, dash_before_member, is_point, Member, as_itself, escaped, Members, no_member, single, from_to, loose}
-use Rattle.regress_meaning.proofs.Inversion.{is_at-eq}
+use Rattle.regress_meaning.proofs.Inversion.{Gives, gives-none, gives-some, gives-weaker, gives-guard, gives-map, gives-then, is_at-eq}
 use Rattle.regress_meaning.proofs.Shorter.{Member-shorter}
-use Rattle.regress_meaning.proofs.Yields.{Yields, nothing_yields, this_yields, yields-test, yields-guard, yields-and_then, yields-some, yields-itself, yields-map, told_apart, on_true, on_false, on_some}
+use Rattle.regress_meaning.proofs.ReadSteps.{gives-test, gives-itself, on_true, on_false, on_some, on_map, told_apart, front}
 
 -- the closing bracket of a class stands here
 abbrev pub closes_class : List ℕ → Bool
@@ -40,12 +40,12 @@ read_members m (suc n) t = elim (closes_class t) [
     | false ↦ with_class (λ s. Some (union (member_class e) s)) (read_members m n u) ]) (read_member m t) ]
 
 
-read_member-yields : (m : Mode) (t : List ℕ) → Yields (λ x. Member m t x.0 x.1) (read_member m t)
+read_member-gives : (m : Mode) (t : List ℕ) → Gives (λ x. Member m t x.0 x.1) (read_member m t)
 unfolding read_member
-read_member-yields m [] = nothing_yields
-read_member-yields m (c ∷ t) = yields-test (c == 0x5C)
-    (λ is_backslash. rw (eqb-true c 0x5C is_backslash) (yields-map (yields-itself (class_escape_at m t)) (λ x h. escaped h)))
-    (λ no_backslash. yields-test (c == 0x5D) (λ closes. nothing_yields) (λ stays. this_yields (as_itself (search (rules, or_from)))))
+read_member-gives m [] = gives-none
+read_member-gives m (c ∷ t) = gives-test (c == 0x5C)
+    (λ is_backslash. rw (eqb-true c 0x5C is_backslash) (gives-weaker (λ x h. escaped h) (gives-itself (class_escape_at m t))))
+    (λ no_backslash. gives-test (c == 0x5D) (λ closes. gives-none) (λ stays. gives-some (as_itself (search (rules, or_from)))))
 
 pub read_member-complete : (m : Mode) {t r : List ℕ} {e : Escape} → Member m t e r → read_member m t ≡ Some (e, r)
 unfolding read_member
@@ -56,19 +56,19 @@ dash-front : (u : List ℕ) → dash_before_member u ≡ true → u ≡ 0x2D ∷
 dash-front [] h = cc
 dash-front (c ∷ u) h = ap (λ d. d ∷ u) (eqb-true c 0x2D (and_parts _ _ h).0)
 
-dashed-yields : (m : Mode) {t u v r : List ℕ} (d e : Escape) {s : Class} → Member m t d (0x2D ∷ u) → dash_before_member (0x2D ∷ u) ≡ true → Member m u e v → Members m v s r → Yields (λ k. Members m t k r) (dashed m d e s)
-dashed-yields m (point a) (point b) h dash k l = yields-guard (nat_le a b) (λ ordered. this_yields (from_to h dash k (leb-true a b ordered) l))
-dashed-yields m d e h dash k l = yields-guard (not m.unicode) (λ legacy. this_yields (loose (not-true _ legacy) h dash k refl l))
+dashed-gives : (m : Mode) {t u v r : List ℕ} (d e : Escape) {s : Class} → Member m t d (0x2D ∷ u) → dash_before_member (0x2D ∷ u) ≡ true → Member m u e v → Members m v s r → Gives (λ k. Members m t k r) (dashed m d e s)
+dashed-gives m (point a) (point b) h dash k l = gives-guard (nat_le a b) (λ ordered. gives-some (from_to h dash k (leb-true a b ordered) l))
+dashed-gives m d e h dash k l = gives-guard (not m.unicode) (λ legacy. gives-some (loose (not-true _ legacy) h dash k refl l))
 
-pub read_members-yields : (m : Mode) (n : ℕ) (t : List ℕ) → Yields (λ x. Members m t x.0 x.1) (read_members m n t)
+pub read_members-gives : (m : Mode) (n : ℕ) (t : List ℕ) → Gives (λ x. Members m t x.0 x.1) (read_members m n t)
 unfolding read_members
-read_members-yields m zero t = nothing_yields
-read_members-yields m (suc n) t = yields-test (closes_class t)
-    (λ closes. let front = is_at-eq 0x5D t closes in rw (front.1) (this_yields no_member))
-    (λ opens. yields-and_then (read_member-yields m t) (λ x h. yields-test (dash_before_member x.1)
-        (λ dash. yields-and_then (read_member-yields m (drop 1 x.1)) (λ y k. yields-and_then (read_members-yields m n y.1) (λ z l.
-            let front = dash-front x.1 dash in yields-and_then (dashed-yields m x.0 y.0 (subst (Member m t x.0) front h) (subst (λ u. dash_before_member u ≡ true) front dash) k l) (λ s g. this_yields g))))
-        (λ none. yields-and_then (read_members-yields m n x.1) (λ y l. this_yields (single h none l)))))
+read_members-gives m zero t = gives-none
+read_members-gives m (suc n) t = gives-test (closes_class t)
+    (λ closes. let front = is_at-eq 0x5D t closes in rw (front.1) (gives-some no_member))
+    (λ opens. gives-then _ _ (read_member-gives m t) (λ x h. gives-test (dash_before_member x.1)
+        (λ dash. gives-then _ _ (read_member-gives m (drop 1 x.1)) (λ y k. gives-then _ _ (read_members-gives m n y.1) (λ z l.
+            let front = dash-front x.1 dash in gives-then _ _ (dashed-gives m x.0 y.0 (subst (Member m t x.0) front h) (subst (λ u. dash_before_member u ≡ true) front dash) k l) (λ s g. gives-some g))))
+        (λ none. gives-then _ _ (read_members-gives m n x.1) (λ y l. gives-some (single h none l)))))
 
 Member-opens : (m : Mode) {t r : List ℕ} {e : Escape} → Member m t e r → closes_class t ≡ false
 Member-opens m (as_itself {c = c} h) = told_apart (λ c. c ∈ "\\]") c 0x5D h refl
