@@ -1,5 +1,4 @@
 -- The functions that read a class with `v`, behind its opening bracket, and that what they read fits the grammar.
-use Rattle.std.specs.Prelude.{if◌then◌else◌}
 use Rattle.std.proofs.Common.{◌≡◌, ℕ, suc, zero, Bool, true, false, not, ◌&&◌, ◌==◌, nat_le, List, [], ◌∷◌, drop, Option, Some, None, option_and_then, option_map, sym, ap, eqb-true, ◌∙◌, subst}
 use Rattle.std.proofs.lemmas.Bool.{and_parts, and_from, not-true, leb-true}
 use Rattle.regress_meaning.specs.Text.{◌∈◌, is_at}

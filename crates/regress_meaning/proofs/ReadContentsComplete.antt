@@ -1,5 +1,4 @@
 -- What the grammar spells as a class with `v`, the functions read, in Unicode mode.
-use Rattle.std.specs.Prelude.{if◌then◌else◌}
 use Rattle.std.proofs.Common.{◌≡◌, ℕ, suc, zero, ◌+◌, ◌*◌, ◌<◌, ◌≤◌, Bool, true, false, not, ◌&&◌, ◌||◌, ◌==◌, List, [], ◌∷◌, length, drop, Option, Some, None, refl, sym, ap, eqb-true, ◌∙◌, subst, arith, rules}
 use Rattle.std.proofs.lemmas.Bool.{and_from, and_left, or_parts, or_from, not_from_false, not_from_true, le-leb}
 use lib.Chars.{codes}
