@@ -16,64 +16,60 @@ read_member m (c ∷ t) = elim (c == 0x5C) [
     true ↦ class_escape_at m t
   | false ↦ elim (c == 0x5D) [ true ↦ None | false ↦ Some (point c, t) ] ]
 
--- two members with a dash between them, and the class of what follows: a range of two code points, or three members
+-- two members with a dash between them, and the class s behind: a range of two code points, or three members
 abbrev pub dashed : Mode → Escape → Escape → Class → Option Class
 dashed m (point a) (point b) s = guard (nat_le a b) (Some (union (range a b) s))
 dashed m d e s = guard (not m.unicode) (Some (union (member_class d) (union (class_of 0x2D) (union (member_class e) s))))
 
--- what was read, with its class changed
-abbrev pub with_class : (Class → Option Class) → Option (Class × List ℕ) → Option (Class × List ℕ)
-with_class f o = option_and_then (λ (s, r). option_and_then (λ k. Some (k, r)) (f s)) o
-
--- the members up to the closing bracket, and what follows that
+-- the members up to the closing bracket, and what follows that; the number bounds how many they are
 unfoldable pub read_members : Mode → ℕ → List ℕ → Option (Class × List ℕ)
 read_members m zero t = None
 read_members m (suc n) t = elim (closes_class t) [
     true ↦ Some (no_string, drop 1 t)
-  | false ↦ option_and_then (λ (e, u). elim (dash_before_member u) [
-      true ↦ option_and_then (λ (d, v). with_class (dashed m e d) (read_members m n v)) (read_member m (drop 1 u))
-    | false ↦ with_class (λ s. Some (union (member_class e) s)) (read_members m n u) ]) (read_member m t) ]
+  | false ↦ option_and_then (λ (d, u). elim (dash_before_member u) [
+      true ↦ option_and_then (λ (e, v). option_and_then (λ (s, r). option_map (λ k. (k, r)) (dashed m d e s)) (read_members m n v)) (read_member m (drop 1 u))
+    | false ↦ option_map (λ (s, r). (union (member_class d) s, r)) (read_members m n u) ]) (read_member m t) ]
 
 -- the text begins with j and k
 abbrev pub two_at : ℕ → ℕ → List ℕ → Bool
 two_at j k t = is_at (λ c. c == j) t && is_at (λ c. c == k) (drop 1 t)
 
 -- what stands side by side in a class: one code point, or any other operand
-pub data Item : Type 0 where
-  character : ℕ → Item
-  other : Class → Item
+pub data SetItem : Type 0 where
+  one_point : ℕ → SetItem
+  any_class : Class → SetItem
 
 -- its class
-abbrev pub item_class : Item → Class
-item_class (character c) = class_of c
-item_class (other s) = s
+abbrev pub item_class : SetItem → Class
+item_class (one_point c) = class_of c
+item_class (any_class s) = s
 
 -- what an escape stands for, but for groups
-abbrev pub item_of : Escape → List ℕ → Option (Item × List ℕ)
-item_of (point c) r = Some (character c, r)
-item_of (set s) r = Some (other s, r)
+abbrev pub item_of : Escape → List ℕ → Option (SetItem × List ℕ)
+item_of (point c) r = Some (one_point c, r)
+item_of (set s) r = Some (any_class s, r)
 item_of (groups ks) r = None
 
 -- an item, if it is one code point
-abbrev pub only_character : Item → List ℕ → Option (ℕ × List ℕ)
-only_character (character c) r = Some (c, r)
-only_character (other s) r = None
+abbrev pub only_character : SetItem → List ℕ → Option (ℕ × List ℕ)
+only_character (one_point c) r = Some (c, r)
+only_character (any_class s) r = None
 
 -- behind a backslash
-unfoldable pub read_set_escape : Mode → List ℕ → Option (Item × List ℕ)
+unfoldable pub read_set_escape : Mode → List ℕ → Option (SetItem × List ℕ)
 read_set_escape m [] = None
 read_set_escape m (c ∷ t) = elim (c == 0x62) [
-    true ↦ Some (character 8, t)
+    true ↦ Some (one_point 8, t)
   | false ↦ elim (c ∈ "&-!#%,:;<=>@`~") [
-      true ↦ Some (character c, t)
+      true ↦ Some (one_point c, t)
     | false ↦ option_and_then (λ (e, r). item_of e r) (escape_at m (c ∷ t)) ] ]
 
 -- one code point, or the class of an escape
-unfoldable pub read_set_atom : Mode → List ℕ → Option (Item × List ℕ)
+unfoldable pub read_set_atom : Mode → List ℕ → Option (SetItem × List ℕ)
 read_set_atom m [] = None
 read_set_atom m (c ∷ t) = elim (c == 0x5C) [
     true ↦ read_set_escape m t
-  | false ↦ guard (not (c ∈ "()[]{}/-\\|") && not (reserved_pair (c ∷ t))) (Some (character c, t)) ]
+  | false ↦ guard (not (c ∈ "()[]{}/-\\|") && not (reserved_pair (c ∷ t))) (Some (one_point c, t)) ]
 
 -- one code point
 unfoldable pub read_set_character : Mode → List ℕ → Option (ℕ × List ℕ)
@@ -95,30 +91,34 @@ read_set_strings m (suc n) t = option_and_then (λ (cs, u). elim (is_at (λ c. c
       true ↦ option_map (λ (ss, r). (cs ∷ ss, r)) (read_set_strings m n (drop 1 u))
     | false ↦ None ] ]) (read_set_string m n t)
 
--- an inner class: its contents were read, and the closing bracket follows
-abbrev pub closed : Bool → Option (Class × List ℕ) → Option (Item × List ℕ)
-closed negated o = option_and_then (λ (s, r). guard (closes_class r && not (negated && may_hold_strings s)) (Some (other (nested negated s), drop 1 r))) o
+-- contents were read: they end at a closing bracket, and what follows it
+abbrev pub behind_bracket : Option (Class × List ℕ) → Option (Class × List ℕ)
+behind_bracket o = option_and_then (λ (s, r). guard (closes_class r) (Some (s, drop 1 r))) o
+
+-- an inner class, by its contents; a negated one holds no strings
+abbrev pub inner_item : Bool → Option (Class × List ℕ) → Option (SetItem × List ℕ)
+inner_item negated o = option_and_then (λ (s, r). guard (not (negated && may_hold_strings s)) (Some (any_class (nested negated s), r))) (behind_bracket o)
 
 -- behind an item, the class of both: a dash makes it a range
-unfoldable pub read_range : Mode → Item → List ℕ → Option (Class × List ℕ)
-read_range m (character first) t = elim (is_at (λ c. c == 0x2D) t) [
+unfoldable pub read_range : Mode → SetItem → List ℕ → Option (Class × List ℕ)
+read_range m (one_point first) t = elim (is_at (λ c. c == 0x2D) t) [
     true ↦ option_and_then (λ (last, r). guard (nat_le first last) (Some (range first last, r))) (read_set_character m (drop 1 t))
   | false ↦ Some (class_of first, t) ]
-read_range m (other s) t = guard (not (is_at (λ c. c == 0x2D) t)) (Some (s, t))
+read_range m (any_class s) t = guard (not (is_at (λ c. c == 0x2D) t)) (Some (s, t))
 
 -- behind the first item of a union, that union; `rest` reads one
-abbrev pub union_from : Mode → (List ℕ → Option (Class × List ℕ)) → Item → List ℕ → Option (Class × List ℕ)
+abbrev pub union_from : Mode → (List ℕ → Option (Class × List ℕ)) → SetItem → List ℕ → Option (Class × List ℕ)
 union_from m rest i t = option_and_then (λ (a, u). option_map (λ (s, r). (union a s, r)) (rest u)) (read_range m i t)
 
 unfoldable mutual
-  pub read_operand : Mode → ℕ → List ℕ → Option (Item × List ℕ)
+  pub read_operand : Mode → ℕ → List ℕ → Option (SetItem × List ℕ)
   read_operand m zero t = None
   read_operand m (suc n) t = elim (is_at (λ c. c == 0x5B) t) [
       true ↦ elim (is_at (λ c. c == 0x5E) (drop 1 t)) [
-        true ↦ closed true (read_contents m n (drop 2 t))
-      | false ↦ closed false (read_contents m n (drop 1 t)) ]
+        true ↦ inner_item true (read_contents m n (drop 2 t))
+      | false ↦ inner_item false (read_contents m n (drop 1 t)) ]
     | false ↦ elim (is_at (λ c. c == 0x5C) t && two_at 0x71 0x7B (drop 1 t)) [
-        true ↦ option_map (λ (ss, r). (other (strings ss), r)) (read_set_strings m n (drop 3 t))
+        true ↦ option_map (λ (ss, r). (any_class (strings ss), r)) (read_set_strings m n (drop 3 t))
       | false ↦ read_set_atom m t ] ]
 
   -- up to the closing bracket, which is left
@@ -157,9 +157,8 @@ unfoldable mutual
       | false ↦ read_difference m n (difference a (item_class i)) u ]) (read_operand m n (drop 2 t))
     | false ↦ None ]
 
--- A class: members without `v`, contents and the closing bracket with it.
+-- behind the opening bracket of a class, and behind its `^`: the class, and what follows its closing bracket
 unfoldable pub read_class : Mode → List ℕ → Option (Class × List ℕ)
-read_class m t = elim m.sets [
-    true ↦ option_and_then (λ (s, r). guard (closes_class r) (Some (s, drop 1 r))) (read_contents m (2 * length t + 2) t)
-  | false ↦ read_members m (suc (length t)) t
-  ]
+read_class m t = elim (m.sets) [
+    true ↦ behind_bracket (read_contents m (2 * length t + 2) t)
+  | false ↦ read_members m (suc (length t)) t ]
