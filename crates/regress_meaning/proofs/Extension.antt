@@ -3,8 +3,8 @@ use Rattle.std.proofs.Common.{◌≡◌, ℕ, zero, suc, ◌≤◌, Bool, true, 
 use Rattle.std.proofs.lemmas.Bool.{false≢true, and_right, and_parts}
 use Rattle.std.specs.Option.{option_or}
 use Rattle.regress_meaning.specs.Text.{between, is_at, span, span_up_to}
-use Rattle.regress_meaning.specs.Tokens.{Reads, guard, is_octal, is_hex, number_of, decimal_at, braced_end, bounds_at, hex_at, low_half, pair_at, braces_at, unicode_escape, octal_at, name_point, begins_name, continues_name, name_rest, name_at, key_at, Mode, property_of, property_at, numbers_from, named_reference, octal_or_digit, decimal_escape, point, set, control, class_letter, control_letter, identity, escape_at, class_escape_at}
-use Rattle.regress_meaning.specs.Table.{Table, last_code_point}
+use Rattle.regress_meaning.specs.Tokens.{Reads, guard, is_octal, is_hex, decimal_at, braced_end, bounds_at, hex_at, low_half, pair_at, braces_at, unicode_escape, octal_at, name_point, begins_name, continues_name, name_rest, name_at, key_at, Mode, property_of, property_at, numbers_from, named_reference, octal_or_digit, decimal_escape, point, set, control, class_letter, control_letter, identity, escape_at, class_escape_at}
+use Rattle.regress_meaning.specs.Table.{Table}
 use Rattle.regress_meaning.specs.Class.{is_digit, is_letter, is_ascii_word}
 
 -- a function of what a test chooses
@@ -125,7 +125,7 @@ module _ (w : List ℕ) where
   braced_end_more n [] = no_word
   braced_end_more n (c ∷ t) =
       if_more _ a_word (if_more _ no_word (mark_more (λ d. d == 0x7D) _ t refl
-          (then_more _ _ (decimal_more t) (λ m r. mark_more (λ d. d == 0x7D) _ r refl no_word))))
+      (then_more _ _ (decimal_more t) (λ m r. mark_more (λ d. d == 0x7D) _ r refl no_word))))
 
   pub bounds_more : (t : List ℕ) → More true (bounds_at t) (bounds_at (closed t))
   unfolding bounds_at
@@ -169,7 +169,7 @@ module _ (w : List ℕ) where
   name_rest_more table (suc n) zero t h = absurd (not-suc-le-zero h)
   name_rest_more table (suc n) (suc m) t h =
       mark_more (λ d. d == 0x3E) [] t refl (then_more _ _ (name_point_more t)
-          (λ c r. if_more (continues_name table c) (map_more (λ cs. c ∷ cs) (name_rest_more table n m r (le_of_suc-le-suc h))) no_word))
+      (λ c r. if_more (continues_name table c) (map_more (λ cs. c ∷ cs) (name_rest_more table n m r (le_of_suc-le-suc h))) no_word))
 
   pub name_more : (table : Table) (t : List ℕ) → More false (name_at table t) (name_at table (closed t))
   unfolding name_at
@@ -188,7 +188,7 @@ module _ (w : List ℕ) where
   key_end_more c name [] = if_more (c == 0x7B && nat_lt 0 (length name)) no_word no_word
   key_end_more c name (d ∷ r) = if_more (c == 0x7B && nat_lt 0 (length name)) (if_more (d == 0x7D) a_word (rw (span_more is_ascii_word refl r)
       (end_more _ _ (λ e. e == 0x7D) _ (span is_ascii_word r).1 (λ e. (and_parts _ _ e).1)
-          (rw (is_at_more (λ e. e == 0x7D) refl (span is_ascii_word r).1))))) no_word
+      (rw (is_at_more (λ e. e == 0x7D) refl (span is_ascii_word r).1))))) no_word
 
   key_more : {both : Bool} (t : List ℕ) → More both (key_at t) (key_at (closed t))
   unfolding key_at

@@ -37,7 +37,7 @@ pub group-matches : (table : Table) (o : Options) (p : Pattern) (text : List ℕ
 unfolding match_list first_match
 group-matches table o p text place =
     ap (λ (f : ℕ → Option Item). list_from (λ q. first_from f (length text + 1 - q) q) (length text + 1 - place) place)
-        (λ i. λ q. attempt-grouped table o p text q i)
+    (λ i. λ q. attempt-grouped table o p text q i)
 
 -- What is asked of the text behind a tree is so, or not, also where `)` follows.
 module _ (w : List ℕ) where
@@ -152,11 +152,11 @@ module _ (w : List ℕ) where
       term_more (ahead {r = r} a h) = ahead (lookahead_more a) (at_none w (bounds_more w r) h)
       term_more (repeated_ahead {t = t} {u = u} {v = v} {k = k} {l = l} {p = p} {b = b} h a e le) =
           quantifier_more (λ g x. Term m (closed w t) k (repeated p k l b.least b.most g) l x) v
-              (repeated_ahead h (lookahead_more a) (at_word w (bounds_more w u) e) le)
+          (repeated_ahead h (lookahead_more a) (at_word w (bounds_more w u) e) le)
       term_more (once {r = r} a h) = once (atom_more a) (at_none w (bounds_more w r) h)
       term_more (quantified {t = t} {u = u} {v = v} {k = k} {l = l} {p = p} {b = b} a e le) =
           quantifier_more (λ g x. Term m (closed w t) k (repeated p k l b.least b.most g) l x) v
-              (quantified (atom_more a) (at_word w (bounds_more w u) e) le)
+          (quantified (atom_more a) (at_word w (bounds_more w u) e) le)
 
       lookahead_more : {t r : List ℕ} {k l : ℕ} {p : Pattern} → Lookahead m t k p l r → Lookahead m (closed w t) k p l (closed w r)
       lookahead_more (positive a) = positive (disjunction_more a)
@@ -175,7 +175,7 @@ module _ (w : List ℕ) where
       atom_more (modifiers {t = t} e h k a) = modifiers (span_more w is_flag refl t ∙ ap (closed_rest w) e) h k (disjunction_more a)
       atom_more (modifiers_off {t = t} {u = u} e f h k a) =
           modifiers_off (span_more w is_flag refl t ∙ ap (closed_rest w) e)
-              (span_more w is_flag refl u ∙ ap (closed_rest w) f) h k (disjunction_more a)
+          (span_more w is_flag refl u ∙ ap (closed_rest w) f) h k (disjunction_more a)
 
 -- a `)` at the end makes no opening of a name, and unmakes none
 opens_name_more : (c : ℕ) (t : List ℕ) → opens_name (closed [] (c ∷ t)) ≡ opens_name (c ∷ t)
@@ -212,11 +212,11 @@ pub group-spelled : (table : Table) (o : Options) (source : List ℕ) (p : Patte
     Spells table o source p → Spells table o (in_group source) (sequence (grouped p) nothing)
 unfolding bounds_at
 group-spelled table o source p s = record {
-    whole = subst₂ (λ m n. Disjunction m (in_group source) 0 (sequence (grouped p) nothing) n [])
-        (sym (mode-grouped table o source p)) (sym (ap length (names-grouped p)))
-        (one (next (once (uncaptured (disjunction_more [] (mode_of table o source (names_of p)) s.whole)) refl) (done refl)) refl);
-    apart = rw (s.apart, shares-no_name (names_of p));
-  }
+  whole = subst₂ (λ m n. Disjunction m (in_group source) 0 (sequence (grouped p) nothing) n [])
+      (sym (mode-grouped table o source p)) (sym (ap length (names-grouped p)))
+      (one (next (once (uncaptured (disjunction_more [] (mode_of table o source (names_of p)) s.whole)) refl) (done refl)) refl);
+  apart = rw (s.apart, shares-no_name (names_of p));
+}
 
 -- the match list of a text in `(?:..)` is that of the text, where a text spells at most one tree
 pub transparent : (table : Table) (o : Options) (source : List ℕ) (p q : Pattern) →
@@ -225,4 +225,4 @@ pub transparent : (table : Table) (o : Options) (source : List ℕ) (p q : Patte
     match_list table o q text place ≡ match_list table o p text place
 transparent table o source p q one_tree s t text place =
     ap (λ r. match_list table o r text place)
-        (one_tree q (sequence (grouped p) nothing) t (group-spelled table o source p s)) ∙ group-matches table o p text place
+    (one_tree q (sequence (grouped p) nothing) t (group-spelled table o source p s)) ∙ group-matches table o p text place

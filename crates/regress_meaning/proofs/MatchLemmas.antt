@@ -45,8 +45,8 @@ StartsFrom p (i ∷ items) = p ≤ i.start
 next_place-past : (i : Item) → i.start ≤ i.end → (i.start < next_place i) × (i.end ≤ next_place i)
 next_place-past i h =
     cond_both (i.start == i.end) (i.start + 1) i.end (λ n. (i.start < n) × (i.end ≤ n))
-      (λ e. let s : i.start ≡ i.end = eqb-true _ _ e in (omega arith, omega arith))
-      (λ e. let s : i.start ≡ i.end → ⊥ = eqb-false _ _ e in (omega arith, omega arith))
+    (λ e. let s : i.start ≡ i.end = eqb-true _ _ e in (omega arith, omega arith))
+    (λ e. let s : i.start ≡ i.end → ⊥ = eqb-false _ _ e in (omega arith, omega arith))
 
 ItemsRise-cons : (i : Item) (items : List Item) → i.start ≤ i.end → StartsFrom (next_place i) items → ItemsRise items
     → ItemsRise (i ∷ items)
@@ -89,8 +89,10 @@ module _ (table : Table) (o : Options) (p : Pattern) (text : List ℕ) where
     where
       context : Context
       context = record { text = text; table = table; unicode = is_unicode o }
+
       state : State
       state = record { place = q; groups = replicate (length (names_of p)) None }
+
       go : (ts : List State) → All (Leads text Forward state) ts → IfSome (item_at q ts) (IsFrom q)
       go [] h = tt
       go (t ∷ ts) h = record { start = omega arith; end = (All-head (Leads text Forward state) t ts h).ahead }
@@ -99,4 +101,4 @@ module _ (table : Table) (o : Options) (p : Pattern) (text : List ℕ) where
   unfolding match_list first_match
   matches_rise place =
       (list_from-rise (first_match table o p text)
-        (λ q. first_from-from (attempt table o p text) attempt-from (length text + 1 - q) q) (length text + 1 - place) place).1
+      (λ q. first_from-from (attempt table o p text) attempt-from (length text + 1 - q) q) (length text + 1 - place) place).1

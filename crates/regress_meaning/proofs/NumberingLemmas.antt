@@ -41,7 +41,7 @@ decimal_at-positive : (c : ℕ) (t : List ℕ) → is_digit c ≡ true → (c ==
 unfolding decimal_at
 decimal_at-positive c t d n = gives-guard (nat_lt 0 (length (span is_digit (c ∷ t)).0)) (λ _. gives-some
     (subst (λ (p : List ℕ × List ℕ). 0 < number_of 10 p.0) (sym (span-cons is_digit c t d))
-        (omega (arith, digit_value-positive c d n, number_of-least (0 * 10 + digit_value c) (span is_digit t).0))))
+    (omega (arith, digit_value-positive c d n, number_of-least (0 * 10 + digit_value c) (span is_digit t).0))))
 
 module _ (m : Mode) where
   -- an escape's groups are groups of the pattern
@@ -63,16 +63,16 @@ module _ (m : Mode) where
   unfolding decimal_escape
   decimal_escape-fits c t d n = gives-then _ (decimal_at (c ∷ t)) (decimal_at-positive c t d n)
       (λ p h. gives-if (nat_le p.0 (length m.names))
-          (λ e. gives-some (All-cons (λ i. i < length m.names) (p.0 - 1) [] (omega (arith, leb-true _ _ e))
-              (All-nil (λ i. i < length m.names))))
-          (λ _. octal_or_digit-fits c t))
+      (λ e. gives-some (All-cons (λ i. i < length m.names) (p.0 - 1) [] (omega (arith, leb-true _ _ e))
+      (All-nil (λ i. i < length m.names))))
+      (λ _. octal_or_digit-fits c t))
 
   named_reference-fits : (t : List ℕ) → Gives Fits (named_reference m t)
   unfolding named_reference
   named_reference-fits t =
       let o = guard (is_at (λ d. d == 0x3C) t) (name_at m.table (drop 1 t)) in
       gives-then _ o (gives-any o) (λ p h. gives-guard (nat_lt 0 (length (numbers_from 0 p.0 m.names)))
-          (λ _. gives-some (numbers_from-below (length m.names) 0 p.0 m.names (omega arith))))
+      (λ _. gives-some (numbers_from-below (length m.names) 0 p.0 m.names (omega arith))))
 
   control_letter-fits : (test : ℕ → Bool) (t : List ℕ) → Gives Fits (control_letter test t)
   control_letter-fits test [] = gives-none
@@ -85,15 +85,15 @@ module _ (m : Mode) where
       gives-if (is_some (class_letter c)) (λ _. gives-map _ (class_letter c) (gives-any (class_letter c)) (λ s h. tt)) (λ _.
       gives-if (is_some (control c)) (λ _. gives-map _ (control c) (gives-any (control c)) (λ s h. tt)) (λ _.
       gives-if (c == 0x63) (λ _. gives-or (control_letter is_letter t) (control_letter-fits is_letter t)
-          (gives-guard (not m.unicode) (λ _. gives-some tt))) (λ _.
+      (gives-guard (not m.unicode) (λ _. gives-some tt))) (λ _.
       gives-if (c == 0x30) (λ _. gives-if (is_at is_digit t) (λ _. octal_or_digit-fits c t) (λ _. gives-some tt)) (λ n.
       gives-if (is_digit c) (λ d. decimal_escape-fits c t d n) (λ _.
       gives-if (c == 0x78) (λ _. gives-or (as_point (hex_at 2 t)) (as_point-fits (hex_at 2 t)) (identity-fits c t)) (λ _.
       gives-if (c == 0x75) (λ _. gives-or (as_point (if m.unicode then unicode_escape t else hex_at 4 t))
-          (as_point-fits (if m.unicode then unicode_escape t else hex_at 4 t)) (identity-fits c t)) (λ _.
+      (as_point-fits (if m.unicode then unicode_escape t else hex_at 4 t)) (identity-fits c t)) (λ _.
       gives-if (c == 0x6B) (λ _. gives-if m.named (λ _. named_reference-fits t) (λ _. gives-some tt)) (λ _.
       gives-if ((c == 0x70 || c == 0x50) && m.unicode)
-          (λ _. gives-map _ (property_at m c t) (gives-any (property_at m c t)) (λ p h. tt)) (λ _.
+      (λ _. gives-map _ (property_at m c t) (gives-any (property_at m c t)) (λ p h. tt)) (λ _.
       identity-fits c t)))))))))
 
 count_up-append : (k a b : ℕ) → count_up k (a + b) ≡ count_up k a ++ count_up (k + a) b
@@ -114,16 +114,18 @@ no_groups : {n k : ℕ} (p : Pattern) → names_of p ≡ [] → group_numbers p 
 no_groups {k = k} p e f h = record {
   counted = omega (arith, ap length e);
   in_order = rw (e, f) refl;
-  fitting = h }
+  fitting = h;
+}
 
 -- two lists of groups side by side
 in_order-append : {n k l o : ℕ} {p q : Pattern} → NumbersFrom n k p l → NumbersFrom n l q o
     → (o ≡ k + length (names_of p ++ names_of q)) × (group_numbers p ++ group_numbers q ≡ count_up k (length (names_of p ++ names_of q)))
 in_order-append {k = k} {p = p} {q = q} a b =
-    let e = length-append (names_of p) (names_of q) in
-    (omega (arith, a.counted, b.counted, e),
-    ap₂ (λ u v. u ++ v) a.in_order (b.in_order ∙ ap (λ j. count_up j (length (names_of q))) a.counted)
-        ∙ (sym (count_up-append k (length (names_of p)) (length (names_of q))) ∙ ap (count_up k) (sym e)))
+    let e = length-append (names_of p) (names_of q) in (
+      omega (arith, a.counted, b.counted, e),
+      ap₂ (λ u v. u ++ v) a.in_order (b.in_order ∙ ap (λ j. count_up j (length (names_of q))) a.counted)
+          ∙ (sym (count_up-append k (length (names_of p)) (length (names_of q))) ∙ ap (count_up k) (sym e)),
+    )
 
 sequence-numbers : {n k l o : ℕ} {p q : Pattern} → NumbersFrom n k p l → NumbersFrom n l q o → NumbersFrom n k (sequence p q) o
 sequence-numbers a b =
@@ -147,7 +149,8 @@ repeated-numbers {k = k} {l = l} {p = p} least most greedy a h =
     record {
       counted = a.counted;
       in_order = a.in_order;
-      fitting = (omega (arith, a.counted), a.in_order ∙ ap (count_up k) e, h, a.fitting) }
+      fitting = (omega (arith, a.counted), a.in_order ∙ ap (count_up k) e, h, a.fitting);
+    }
 
 escape-numbers : {n k : ℕ} (e : Escape) → FitsGroups n (tree_of e) → NumbersFrom n k (tree_of e) k
 escape-numbers (point c) h = no_groups (character c) refl refl tt
@@ -160,7 +163,8 @@ wrapped-numbers : {n k l : ℕ} {p : Pattern} (q : Pattern) → names_of q ≡ n
 wrapped-numbers {k = k} q e f g a = record {
   counted = omega (arith, a.counted, ap length e);
   in_order = f ∙ (a.in_order ∙ ap (λ u. count_up k (length u)) (sym e));
-  fitting = g a.fitting }
+  fitting = g a.fitting;
+}
 
 mutual
   Disjunction-numbers : (m : Mode) {t r : List ℕ} {k l : ℕ} {p : Pattern} → Disjunction m t k p l r → NumbersFrom (length m.names) k p l

@@ -1,13 +1,13 @@
 -- What the opening of a term tells is what the grammar asks.
 use Rattle.std.specs.Prelude.{if◌then◌else◌}
 use Rattle.std.proofs.lemmas.Bool.{and_parts, not-true}
-use Rattle.std.proofs.Common.{◌≡◌, ℕ, suc, Bool, true, false, not, ◌&&◌, ◌||◌, ◌==◌, List, [], ◌∷◌, ◌++◌, length, drop, Option, Some, None, refl, sym, ap, ◌∙◌, subst, eqb-true, ◌⊎◌, inl, inr, ⊎_elim}
+use Rattle.std.proofs.Common.{◌≡◌, ℕ, suc, Bool, true, false, not, ◌&&◌, ◌||◌, ◌==◌, List, [], ◌∷◌, ◌++◌, length, drop, Option, Some, None, refl, sym, eqb-true, ◌⊎◌, inl, inr, ⊎_elim}
 use Rattle.regress_meaning.specs.Text.{◌∈◌, is_at, span}
 use Rattle.regress_meaning.specs.Class.{Class, may_hold_strings}
-use Rattle.regress_meaning.specs.Pattern.{Pattern, word_boundary, capture, grouped, modified, look, class}
+use Rattle.regress_meaning.specs.Pattern.{Pattern, word_boundary, capture, grouped, modified, look}
 use Rattle.regress_meaning.specs.Flags.{settings_of}
 use Rattle.regress_meaning.specs.Tokens.{Mode, Escape, escape_at, name_at}
-use Rattle.regress_meaning.specs.Grammar.{Disjunction, Term, Lookahead, Atom, start, end, boundary, no_boundary, behind, not_behind, positive, negative, dot, plain, escape, a_class, a_negated_class, group as a_group, named_group as a_named_group, uncaptured as an_uncaptured, modifiers as some_modifiers, modifiers_off, is_pattern_character, tree_of, is_flag, all_differ}
+use Rattle.regress_meaning.specs.Grammar.{Disjunction, Term, Lookahead, Atom, start, end, boundary, no_boundary, behind, not_behind, positive, negative, dot, plain, escape, a_class, a_negated_class, group as a_group, named_group as a_named_group, uncaptured as an_uncaptured, modifiers as some_modifiers, modifiers_off, is_pattern_character, is_flag, all_differ}
 use Rattle.regress_meaning.specs.ReadingClass.{read_class}
 use Rattle.regress_meaning.specs.Reading.{Opening, assertion, single, lookahead, lookbehind, group, named_group, uncaptured, modifiers, no_term, of_escape, of_class, of_name, of_letters, modifiers_at, escape_opening, class_opening, angle_opening, question_opening, parenthesis_opening, opening}
 use Rattle.regress_meaning.proofs.Inversion.{is_at-eq}
@@ -85,7 +85,7 @@ module _ (m : Mode) where
   -- letters up to a colon, where they are some and differ
   of_letters-fits : (letters on off r t : List ℕ)
       → ((u : List ℕ) (k l : ℕ) (p : Pattern) (s : List ℕ) → r ≡ 0x3A ∷ u → (length letters == 0) ≡ false → all_differ letters ≡ true
-        → Disjunction m u k p l (0x29 ∷ s) → Atom m t k (modified (settings_of on) (settings_of off) p) l s)
+      → Disjunction m u k p l (0x29 ∷ s) → Atom m t k (modified (settings_of on) (settings_of off) p) l s)
       → Fits t (of_letters letters on off r)
   of_letters-fits letters on off r t f = if-fits t (not (length letters == 0) && all_differ letters && is_at (λ c. c == 0x3A) r) _ _ passed (λ h. tt)
     where

@@ -1,14 +1,12 @@
 -- What the grammar asks at the front of a term is what its opening tells.
 use Rattle.std.specs.Prelude.{if◌then◌else◌}
-use Rattle.std.proofs.lemmas.Bool.{and_parts, not_from_false}
-use Rattle.std.proofs.Common.{◌≡◌, ℕ, suc, Bool, true, false, not, ◌&&◌, ◌||◌, ◌==◌, List, [], ◌∷◌, ◌++◌, length, drop, Option, Some, None, refl, sym, ap, ◌∙◌, subst, eqb-true, ◌⊎◌, inl, inr, ⊎_elim, is_some}
+use Rattle.std.proofs.Common.{◌≡◌, ℕ, Bool, true, false, ◌||◌, ◌==◌, List, [], ◌∷◌, ◌++◌, length, Some, refl, sym, ap, ◌∙◌, eqb-true, ◌⊎◌, inl, inr, ⊎_elim}
 use Rattle.regress_meaning.specs.Text.{◌∈◌, is_at, span}
 use Rattle.regress_meaning.specs.Class.{Class, may_hold_strings}
-use Rattle.regress_meaning.specs.Pattern.{Pattern, character, class}
-use Rattle.regress_meaning.specs.Tokens.{Mode, Escape, escape_at, name_at, bounds_at}
+use Rattle.regress_meaning.specs.Pattern.{character, class}
+use Rattle.regress_meaning.specs.Tokens.{Mode, Escape, escape_at, name_at}
 use Rattle.regress_meaning.specs.Grammar.{ClassBody, is_pattern_character, tree_of, is_flag, all_differ}
-use Rattle.regress_meaning.specs.ReadingClass.{read_class}
-use Rattle.regress_meaning.specs.Reading.{Opening, assertion, single, lookahead, lookbehind, group, named_group, uncaptured, modifiers, no_term, of_escape, of_class, of_name, of_letters, modifiers_at, escape_opening, class_opening, angle_opening, question_opening, parenthesis_opening, opening}
+use Rattle.regress_meaning.specs.Reading.{single, lookahead, lookbehind, group, named_group, uncaptured, modifiers, of_letters, modifiers_at, escape_opening, class_opening, angle_opening, question_opening, parenthesis_opening, opening}
 use Rattle.regress_meaning.proofs.ReadClass.{read_class-complete}
 
 -- a test that fails somewhere fails at what equals it
@@ -42,6 +40,7 @@ no_front test (c ∷ t) on u d e i m s h = go (is_flag c) refl
   where
     stopped : is_flag c ≡ false → ◌≡◌ {A = List ℕ × List ℕ} ([], c ∷ t) (on, d ∷ u)
     stopped f = sym (span_stops is_flag c t f) ∙ e
+
     go : (b : Bool) → is_flag c ≡ b → test c ≡ false
     go true f = ⊎_elim (λ p. rw p i) (λ q. ⊎_elim (λ p. rw p m) (λ p. rw p s) q) (flag_cases c f)
     go false f =
@@ -113,12 +112,21 @@ module _ (m : Mode) where
   pub modifiers-opening : (t on u : List ℕ) → span is_flag t ≡ (on, 0x3A ∷ u) → (length on == 0) ≡ false → all_differ on ≡ true → opening m (0x28 ∷ 0x3F ∷ t) ≡ modifiers on [] u
   unfolding opening parenthesis_opening question_opening modifiers_at
   modifiers-opening t on u e a b =
-      rw (no_front (λ c. c ∈ "=!") t on u 0x3A e refl refl refl (λ p. refl), no_front (λ c. c == 0x3A) t on u 0x3A e refl refl refl (λ p. let no : true ≡ false = rw p at a in cc),
-        no_front (λ c. c == 0x3C) t on u 0x3A e refl refl refl (λ p. refl), e) (letters-opening on on [] u a b)
+      rw (
+        no_front (λ c. c ∈ "=!") t on u 0x3A e refl refl refl (λ p. refl),
+        no_front (λ c. c == 0x3A) t on u 0x3A e refl refl refl (λ p. let no : true ≡ false = rw p at a in cc),
+        no_front (λ c. c == 0x3C) t on u 0x3A e refl refl refl (λ p. refl),
+        e,
+      ) (letters-opening on on [] u a b)
 
   pub modifiers_off-opening : (t on off u v : List ℕ) → span is_flag t ≡ (on, 0x2D ∷ u) → span is_flag u ≡ (off, 0x3A ∷ v) → (length (on ++ off) == 0) ≡ false → all_differ (on ++ off) ≡ true
       → opening m (0x28 ∷ 0x3F ∷ t) ≡ modifiers on off v
   unfolding opening parenthesis_opening question_opening modifiers_at
   modifiers_off-opening t on off u v e g a b =
-      rw (no_front (λ c. c ∈ "=!") t on u 0x2D e refl refl refl (λ p. refl), no_front (λ c. c == 0x3A) t on u 0x2D e refl refl refl (λ p. refl),
-        no_front (λ c. c == 0x3C) t on u 0x2D e refl refl refl (λ p. refl), e, g) (letters-opening (on ++ off) on off v a b)
+      rw (
+        no_front (λ c. c ∈ "=!") t on u 0x2D e refl refl refl (λ p. refl),
+        no_front (λ c. c == 0x3A) t on u 0x2D e refl refl refl (λ p. refl),
+        no_front (λ c. c == 0x3C) t on u 0x2D e refl refl refl (λ p. refl),
+        e,
+        g,
+      ) (letters-opening (on ++ off) on off v a b)

@@ -56,7 +56,8 @@ module _ (context : Context) where
   Leads-then dir s t u l m = record {
     ahead = IsAhead-then dir s.place t.place u.place l.ahead m.ahead;
     inside = λ h. m.inside (l.inside h);
-    count = m.count ∙ l.count }
+    count = m.count ∙ l.count;
+  }
 
   -- a list of one state, or of none
   one : (dir : Direction) (s t : State) → To dir s t → All (To dir s) (t ∷ [])
@@ -92,10 +93,10 @@ module _ (context : Context) where
   unfolding beside
   beside-ahead Forward k p =
       cond_both (nat_le (p + k) (length context.text)) (Some (slice_range context.text p (p + k), p + k)) None
-        (λ o. IfSome o (Beside Forward p)) (λ e. (omega arith, λ h. leb-true _ _ e)) (λ e. tt)
+      (λ o. IfSome o (Beside Forward p)) (λ e. (omega arith, λ h. leb-true _ _ e)) (λ e. tt)
   beside-ahead Backward k p =
       cond_both (nat_le k p) (Some (slice_range context.text (p - k) p, p - k)) None
-        (λ o. IfSome o (Beside Backward p)) (λ e. (omega arith, λ h. omega arith)) (λ e. tt)
+      (λ o. IfSome o (Beside Backward p)) (λ e. (omega arith, λ h. omega arith)) (λ e. tt)
 
   stepped-ahead : (dir : Direction) (test : List ℕ → Bool) (s : State) (o : Option (List ℕ × ℕ)) → IfSome o (Beside dir s.place)
       → All (To dir s) (stepped context test s o)
@@ -103,9 +104,12 @@ module _ (context : Context) where
   stepped-ahead dir test s (Some (cs, p)) h =
       let t : State = record s { place = p } in
       cond_both (test cs) (t ∷ []) [] (All (To dir s))
-        (λ e. one dir s t (record {
-          ahead = h.0; inside = λ i. record { place = h.1 i.place; groups = i.groups }; count = refl }))
-        (λ e. none dir s)
+      (λ e. one dir s t (record {
+        ahead = h.0;
+        inside = λ i. record { place = h.1 i.place; groups = i.groups };
+        count = refl;
+      }))
+      (λ e. none dir s)
 
   Goes-step : (dir : Direction) (k : ℕ) (test : List ℕ → Bool) → Goes dir (step context dir k test)
   unfolding step
@@ -138,15 +142,15 @@ module _ (context : Context) where
   Goes-references dir e [] s = stays dir s
   Goes-references dir e (k ∷ ks) s =
       All-after dir (references context dir e ks) (Goes-references dir e ks) s _
-        (Goes-repeat_group dir e (slice_get s.groups k) s)
+      (Goes-repeat_group dir e (slice_get s.groups k) s)
 
   clear_from-lie : (n i first last : ℕ) (gs : List (Option (ℕ × ℕ))) → All (GroupLies n) gs
       → All (GroupLies n) (clear_from context i first last gs)
   clear_from-lie n i first last [] h = All-nil (GroupLies n)
   clear_from-lie n i first last (g ∷ gs) h =
       All-cons (GroupLies n) _ (clear_from context (i + 1) first last gs)
-        (cond_both (nat_le first i && nat_lt i last) None g (GroupLies n) (λ e. tt) (λ e. All-head (GroupLies n) g gs h))
-        (clear_from-lie n (i + 1) first last gs (All-tail (GroupLies n) g gs h))
+      (cond_both (nat_le first i && nat_lt i last) None g (GroupLies n) (λ e. tt) (λ e. All-head (GroupLies n) g gs h))
+      (clear_from-lie n (i + 1) first last gs (All-tail (GroupLies n) g gs h))
 
   length-clear_from : (i first last : ℕ) (gs : List (Option (ℕ × ℕ))) → length (clear_from context i first last gs) ≡ length gs
   length-clear_from i first last [] = refl
@@ -156,8 +160,11 @@ module _ (context : Context) where
   Leads-cleared dir first last s = record {
     ahead = IsAhead-same dir s.place;
     inside = λ h. record {
-      place = h.place; groups = clear_from-lie (length context.text) 0 first last s.groups h.groups };
-    count = length-clear_from 0 first last s.groups }
+      place = h.place;
+      groups = clear_from-lie (length context.text) 0 first last s.groups h.groups;
+    };
+    count = length-clear_from 0 first last s.groups;
+  }
 
   Goes-iterations : (dir : Direction) (body : Outcomes) → Goes dir body → (greedy : Bool) (left need : ℕ)
       → Goes dir (iterations context body greedy left need)
@@ -165,11 +172,11 @@ module _ (context : Context) where
   Goes-iterations dir body goes greedy zero need s = stays dir s
   Goes-iterations dir body goes greedy (suc left) zero s =
       let more : All (To dir s) (flat_map (iterations context body greedy left zero) (filter (moved context s) (body s))) =
-            All-after dir (iterations context body greedy left zero) (Goes-iterations dir body goes greedy left zero) s _
-              (All-filter (moved context s) (To dir s) (body s) (goes s)) in
+      All-after dir (iterations context body greedy left zero) (Goes-iterations dir body goes greedy left zero) s _
+      (All-filter (moved context s) (To dir s) (body s) (goes s)) in
       cond_both greedy _ _ (All (To dir s))
-        (λ e. All-append (To dir s) _ (s ∷ []) more (stays dir s))
-        (λ e. All-cons (To dir s) s _ (Leads-same dir s) more)
+      (λ e. All-append (To dir s) _ (s ∷ []) more (stays dir s))
+      (λ e. All-cons (To dir s) s _ (Leads-same dir s) more)
   Goes-iterations dir body goes greedy (suc left) (suc need) s =
       All-after dir (iterations context body greedy left need) (Goes-iterations dir body goes greedy left need) s (body s) (goes s)
 
@@ -182,7 +189,10 @@ module _ (context : Context) where
   looked-stays dir turned false s (t ∷ ts) h =
       let l = All-head (To turned s) t ts h in
       one dir s (record s { groups = t.groups }) (record {
-        ahead = IsAhead-same dir s.place; inside = λ i. record { place = i.place; groups = (l.inside i).groups }; count = l.count })
+        ahead = IsAhead-same dir s.place;
+        inside = λ i. record { place = i.place; groups = (l.inside i).groups };
+        count = l.count;
+      })
 
   Leads-captured : (dir : Direction) (k : ℕ) (s t : State) → To dir s t → To dir s (captured context k s.place t)
   Leads-captured dir k s t l =
@@ -192,8 +202,10 @@ module _ (context : Context) where
         inside = λ h. record {
           place = (l.inside h).place;
           groups = All-set (GroupLies (length context.text)) t.groups k range
-            (let a = h.place in let b = (l.inside h).place in (omega arith, omega arith)) (l.inside h).groups };
-        count = length-set t.groups k range ∙ l.count }
+              (let a = h.place in let b = (l.inside h).place in (omega arith, omega arith)) (l.inside h).groups;
+        };
+        count = length-set t.groups k range ∙ l.count;
+      }
 
   -- from each state all outcomes of a pattern are ahead, and inside the text if the state is
   pub Goes-outcomes : (p : Pattern) (dir : Direction) (e : Settings) → Goes dir (outcomes context p dir e)
@@ -208,14 +220,14 @@ module _ (context : Context) where
   Goes-outcomes (choice a b) dir e s = All-append (To dir s) _ _ (Goes-outcomes a dir e s) (Goes-outcomes b dir e s)
   Goes-outcomes (capture k name a) dir e s =
       All-map (To dir s) (captured context k s.place) _
-        (All-weaker (To dir s) (λ t. To dir s (captured context k s.place t)) (Leads-captured dir k s) _
-          (Goes-outcomes a dir e s))
+      (All-weaker (To dir s) (λ t. To dir s (captured context k s.place t)) (Leads-captured dir k s) _
+      (Goes-outcomes a dir e s))
   Goes-outcomes (grouped a) dir e s = Goes-outcomes a dir e s
   Goes-outcomes (modified on off a) dir e s = Goes-outcomes a dir _ s
   Goes-outcomes (repeated a first last least most greedy) dir e s =
       Goes-iterations dir (λ t. outcomes context a dir e (cleared context first last t))
-        (λ t. let u = cleared context first last t in All-then dir t u _ (Leads-cleared dir first last t) (Goes-outcomes a dir e u))
-        greedy most least s
+      (λ t. let u = cleared context first last t in All-then dir t u _ (Leads-cleared dir first last t) (Goes-outcomes a dir e u))
+      greedy most least s
   Goes-outcomes (look negated backward a) dir e s =
       let turned : Direction = if backward then Backward else Forward in looked-stays dir turned negated s _ (Goes-outcomes a turned e s)
   Goes-outcomes (reference ks) Forward e s = Goes-references Forward e ks s
@@ -228,4 +240,4 @@ module _ (context : Context) where
       → All (λ t. IsInside context.text t × (length t.groups ≡ length s.groups)) (outcomes context p dir e s)
   outcomes_inside p dir e s h =
       All-weaker (To dir s) (λ t. IsInside context.text t × (length t.groups ≡ length s.groups))
-        (λ t l. (l.inside h, l.count)) _ (Goes-outcomes p dir e s)
+      (λ t l. (l.inside h, l.count)) _ (Goes-outcomes p dir e s)

@@ -1,12 +1,12 @@
 -- What the grammar derives, the reading function answers, where it may go deep enough.
-use Rattle.std.proofs.lemmas.Bool.{le-leb, and_parts, not_from_false}
-use Rattle.std.proofs.Common.{◌≡◌, ℕ, zero, suc, ◌+◌, ◌*◌, ◌<◌, ◌≤◌, Bool, true, false, not, ◌&&◌, ◌==◌, nat_le, List, [], ◌∷◌, length, drop, Option, Some, None, option_and_then, refl, sym, ap, ◌∙◌, subst, eqb-true, ⊎_elim, arith}
+use Rattle.std.proofs.lemmas.Bool.{le-leb, not_from_false}
+use Rattle.std.proofs.Common.{◌≡◌, ℕ, zero, suc, ◌+◌, ◌*◌, ◌<◌, ◌≤◌, Bool, true, false, not, ◌==◌, List, [], ◌∷◌, length, Option, Some, None, refl, ap, ◌∙◌, eqb-true, ⊎_elim, arith}
 use Rattle.regress_meaning.specs.Text.{◌∈◌, is_at, span}
-use Rattle.regress_meaning.specs.Pattern.{Pattern, nothing, capture, grouped, modified, repeated, look}
+use Rattle.regress_meaning.specs.Pattern.{Pattern, capture, grouped, modified, repeated, look}
 use Rattle.regress_meaning.specs.Flags.{settings_of}
-use Rattle.regress_meaning.specs.Tokens.{Mode, Bounds, bounds_at, guard}
+use Rattle.regress_meaning.specs.Tokens.{Mode, Bounds, bounds_at}
 use Rattle.regress_meaning.specs.Grammar.{Disjunction, Alternative, Term, Lookahead, Atom, one, more, done, next, start, end, boundary, no_boundary, behind, not_behind, ahead, repeated_ahead, once, quantified as with_bounds, positive, negative, dot, plain, escape, a_class, a_negated_class, group, named_group, uncaptured, modifiers, modifiers_off, ends_alternative, ends_disjunction, greedy_at, after_mark, is_flag, is_pattern_character}
-use Rattle.regress_meaning.specs.Reading.{opening, parenthesis_opening, question_opening, angle_opening, escape_opening, Front, bounded, quantified, closed, closed_and_quantified, read_term, alternatives_if, alternatives, terms, read_terms, read_disjunction, read_alternative}
+use Rattle.regress_meaning.specs.Reading.{opening, escape_opening, Front, bounded, quantified, closed, closed_and_quantified, read_term, alternatives_if, alternatives, terms, read_terms, read_disjunction, read_alternative}
 use Rattle.regress_meaning.proofs.Openings.{either_mark}
 use Rattle.regress_meaning.proofs.OpeningsComplete.{neither, plain-opening, escape-opening, class-opening, negated_class-opening, group-opening, named_group-opening, modifiers-opening, modifiers_off-opening, uncaptured-opening, positive-opening, negative-opening, behind-opening, not_behind-opening}
 use Rattle.regress_meaning.proofs.Shorter.{span-shorter, name_at-shorter, Alternative-shorter, Term-shorter}
@@ -61,7 +61,7 @@ module _ (m : Mode) (coherent : m.sets ≡ true → m.unicode ≡ true) (read : 
       let shorter = span-leaves_shorter is_flag t on u 0x2D e in
       let shorter_still = span-leaves_shorter is_flag u off v 0x3A g in
       rw (modifiers_off-opening m t on off u v e g a b)
-        (closed-complete true k k l (modified (settings_of on) (settings_of off)) v r p (reads v k l p (0x29 ∷ r) (omega arith) d))
+      (closed-complete true k k l (modified (settings_of on) (settings_of off)) v r p (reads v k l p (0x29 ∷ r) (omega arith) d))
 
   lookahead-complete : {t r : List ℕ} {k l : ℕ} {p : Pattern} → ReadsBelow (length t) → Lookahead m t k p l r → read_term m read k (opening m t) ≡ quantified (not m.unicode) k (front p l r)
   unfolding read_term
@@ -90,6 +90,7 @@ plain-goes_on m c r h = go (c ∈ "|)") refl
   where
     is_none : (d : ℕ) → is_pattern_character m d r ≡ false → c ≡ d → (c ∈ "|)") ≡ false
     is_none d not_plain p = let wrong : is_pattern_character m d r ≡ true = rw p at h in cc
+
     go : (b : Bool) → (c ∈ "|)") ≡ b → (c ∈ "|)") ≡ false
     go false e = e
     go true e = ⊎_elim (is_none 0x7C (neither m.unicode)) (is_none 0x29 (neither m.unicode)) (either_mark 0x7C 0x29 c e)
@@ -131,6 +132,7 @@ no_bar (c ∷ r) h = rw (eqb-true c 0x29 h) refl
 module _ (m : Mode) (coherent : m.sets ≡ true → m.unicode ≡ true) where
   mutual
     unfolding read_disjunction read_alternative alternatives alternatives_if read_terms terms
+
     pub read_disjunction-complete : (n : ℕ) {t r : List ℕ} {k l : ℕ} {p : Pattern} → 3 * length t + 3 ≤ n → Disjunction m t k p l r → read_disjunction m n t k ≡ Some (front p l r)
     read_disjunction-complete zero room d = absurd (omega arith)
     read_disjunction-complete (suc n) room (one {t} {r} d h) = rw (read_alternative-complete n (omega arith) d, no_bar r h) refl

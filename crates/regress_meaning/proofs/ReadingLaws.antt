@@ -1,10 +1,9 @@
 -- The reading function decides the grammar, and a text spells at most one tree.
 use Rattle.std.proofs.lemmas.Bool.{and_parts}
-use Rattle.std.proofs.Common.{◌≡◌, ℕ, suc, ◌+◌, ◌*◌, ◌≤◌, Bool, true, false, ◌&&◌, ◌||◌, ◌==◌, ◌↔◌, List, [], ◌∷◌, length, Option, Some, None, option_and_then, refl, sym, ap, ◌∙◌, subst, eqb-true, zero-add, le_refl, suc-ne-zero}
+use Rattle.std.proofs.Common.{◌≡◌, ℕ, suc, ◌+◌, ◌*◌, Bool, true, false, ◌&&◌, ◌||◌, ◌==◌, ◌↔◌, List, [], ◌∷◌, length, Option, Some, refl, sym, ap, ◌∙◌, subst, eqb-true, zero-add, le_refl, suc-ne-zero}
 use Rattle.regress_meaning.specs.Table.{Table}
 use Rattle.regress_meaning.specs.Pattern.{Pattern, names_of}
-use Rattle.regress_meaning.specs.Flags.{Options, is_unicode}
-use Rattle.regress_meaning.specs.Tokens.{Mode}
+use Rattle.regress_meaning.specs.Flags.{Options}
 use Rattle.regress_meaning.specs.Grammar.{Disjunction, Spells, mode_of, names_apart}
 use Rattle.regress_meaning.specs.Scan.{scanned_names}
 use Rattle.regress_meaning.specs.Reading.{Front, disjunction_at, whole_tree, read_pattern}

@@ -1,8 +1,7 @@
-use Rattle.std.proofs.Common.{◌≡◌, ℕ, true, false, List, [], ◌∷◌, Some, None, refl, ◌^◌, ◌-◌}
+use Rattle.std.proofs.Common.{◌≡◌, ℕ, true, false, Some, refl, ◌^◌, ◌-◌}
 use lib.Chars.{codes}
-use Rattle.regress_meaning.specs.Table.{Table}
-use Rattle.regress_meaning.specs.Flags.{Options, options_of}
-use Rattle.regress_meaning.specs.Pattern.{nothing, character, class, sequence, choice, capture, grouped, repeated, look, reference, line_end}
+use Rattle.regress_meaning.specs.Flags.{options_of}
+use Rattle.regress_meaning.specs.Pattern.{nothing, character, sequence, choice, grouped, repeated, look}
 use Rattle.regress_meaning.specs.Reading.{read_pattern, disjunction_at, opening, parenthesis_opening, question_opening, angle_opening, read_term, quantified, bounded, closed, closed_and_quantified, alternatives_if, alternatives, terms, read_terms, read_disjunction, read_alternative, whole_tree, class_opening, escape_opening, modifiers_at}
 use Rattle.regress_meaning.specs.Tokens.{bounds_at, decimal_at, escape_at}
 use Rattle.regress_meaning.specs.Grammar.{holds_a_name}

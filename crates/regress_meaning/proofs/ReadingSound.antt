@@ -1,11 +1,11 @@
 -- What the reading function answers, the grammar derives.
-use Rattle.std.proofs.Common.{◌≡◌, ℕ, zero, suc, Bool, true, false, not, ◌&&◌, ◌==◌, List, [], ◌∷◌, length, drop, Option, Some, None, ◌≤◌, nat_le, option_and_then, option_map, refl, sym, ap, ◌∙◌, subst, ⊎_elim}
+use Rattle.std.proofs.Common.{◌≡◌, ℕ, zero, suc, Bool, true, false, not, ◌&&◌, ◌==◌, List, [], ◌∷◌, drop, Option, Some, None, nat_le, option_and_then, refl, sym, subst, ⊎_elim}
 use Rattle.std.proofs.lemmas.Bool.{and_parts, not-true, leb-true}
 use Rattle.regress_meaning.specs.Text.{is_at}
-use Rattle.regress_meaning.specs.Pattern.{Pattern, nothing, sequence, choice, capture, grouped, modified, repeated, look}
+use Rattle.regress_meaning.specs.Pattern.{Pattern, nothing, sequence, choice, capture, grouped, modified, look}
 use Rattle.regress_meaning.specs.Flags.{settings_of}
-use Rattle.regress_meaning.specs.Tokens.{Mode, Bounds, bounds_at, guard}
-use Rattle.regress_meaning.specs.Grammar.{Disjunction, Alternative, Term, Lookahead, Atom, one, more, done, next, ahead, repeated_ahead, once, quantified as with_bounds, ends_alternative, ends_disjunction, greedy_at, after_mark}
+use Rattle.regress_meaning.specs.Tokens.{Mode, Bounds, bounds_at}
+use Rattle.regress_meaning.specs.Grammar.{Disjunction, Alternative, Term, Lookahead, Atom, one, more, done, next, ahead, repeated_ahead, once, quantified as with_bounds, ends_alternative, ends_disjunction}
 use Rattle.regress_meaning.specs.Reading.{Opening, assertion, single, lookahead, lookbehind, group, named_group, uncaptured, modifiers, no_term, opening, Front, bounded, quantified, closed, closed_and_quantified, read_term, joined_by, alternatives_if, alternatives, terms, read_terms, read_disjunction, read_alternative}
 use Rattle.regress_meaning.proofs.Inversion.{guard-some, and_then-some, map-some, is_at-eq, if-cases}
 use Rattle.regress_meaning.proofs.Openings.{either_mark, Fits, opening-fits}
@@ -73,8 +73,8 @@ module _ (m : Mode) where
     atom_closed-sound wrap t u j k (Some f) g h make e =
         let (inner, closing, behind) = and_then-some (quantified true k) (closed wrap f) e in
         atom_bounded-sound t k inner g (bounds_at inner.rest) refl
-          (closed-sound (Atom m) wrap t u j k f inner (make f.opened f.tree) (read-sound u j f h) closing)
-          (unfold quantified in behind)
+        (closed-sound (Atom m) wrap t u j k f inner (make f.opened f.tree) (read-sound u j f h) closing)
+        (unfold quantified in behind)
 
     lookahead_closed-sound : (wrap : Pattern → Pattern) (t u : List ℕ) (k : ℕ) (o : Option Front) (g : Front) → read u k ≡ o
         → ((l : ℕ) (p : Pattern) (r : List ℕ) → Disjunction m u k p l (0x29 ∷ r) → Lookahead m t k (wrap p) l r)
@@ -84,8 +84,8 @@ module _ (m : Mode) where
     lookahead_closed-sound wrap t u k (Some f) g h make e =
         let (inner, closing, behind) = and_then-some (quantified (not m.unicode) k) (closed wrap f) e in
         lookahead_bounded-sound t k inner g (bounds_at inner.rest) refl
-          (closed-sound (Lookahead m) wrap t u k k f inner (make f.opened f.tree) (read-sound u k f h) closing)
-          (unfold quantified in behind)
+        (closed-sound (Lookahead m) wrap t u k k f inner (make f.opened f.tree) (read-sound u k f h) closing)
+        (unfold quantified in behind)
 
     -- one term, by what begins it
     pub term-sound : (t : List ℕ) (k : ℕ) (g : Front) (o : Opening) → Fits m t o → read_term m read k o ≡ Some g → IsFront (Term m) t k g
@@ -133,6 +133,7 @@ module _ (m : Mode) where
         where
           ended : (ends_alternative t ≡ true) × (◌≡◌ {A = Option Front} (Some (record { tree = nothing; opened = k; rest = t })) (Some g)) → IsFront (Alternative m) t k g
           ended (h, given) = subst (IsFront (Alternative m) t k) (found given) (done h)
+
           further : (ends_alternative t ≡ false) × (option_and_then (terms rest) (read_term m read k (opening m t)) ≡ Some g) → IsFront (Alternative m) t k g
           further (h, given) =
               let (f, taken, behind) = and_then-some (terms rest) (read_term m read k (opening m t)) given in
@@ -140,6 +141,7 @@ module _ (m : Mode) where
 
   mutual
     unfolding read_disjunction read_alternative
+
     -- What is read is derived.
     pub read_disjunction-sound : (n : ℕ) (t : List ℕ) (k : ℕ) (g : Front) → read_disjunction m n t k ≡ Some g → IsFront (Disjunction m) t k g
     read_disjunction-sound zero t k g e = cc

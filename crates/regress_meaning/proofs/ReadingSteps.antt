@@ -1,15 +1,14 @@
 -- The reading function goes step by step, whatever the bound on how deep its calls go, if that is enough.
 use Rattle.std.specs.Prelude.{if◌then◌else◌}
-use Rattle.std.proofs.Common.{◌≡◌, ℕ, suc, ◌+◌, ◌*◌, ◌<◌, ◌≤◌, Bool, true, false, ◌==◌, List, [], ◌∷◌, length, drop, Option, Some, None, option_and_then, option_map, refl, sym, ap, ◌∙◌, subst, le_refl, arith}
+use Rattle.std.proofs.Common.{◌≡◌, ℕ, suc, ◌+◌, ◌*◌, ◌<◌, ◌≤◌, Bool, true, false, ◌==◌, List, [], ◌∷◌, length, drop, Option, Some, None, option_and_then, option_map, refl, sym, ap, ◌∙◌, le_refl, arith}
 use Rattle.regress_meaning.specs.Text.{is_at}
 use Rattle.regress_meaning.specs.Pattern.{choice, sequence, nothing}
 use Rattle.regress_meaning.specs.Tokens.{Mode}
-use Rattle.regress_meaning.specs.Grammar.{Disjunction, Alternative, Term, ends_alternative}
+use Rattle.regress_meaning.specs.Grammar.{ends_alternative}
 use Rattle.regress_meaning.specs.Reading.{Front, opening, read_term, joined_by, alternatives_if, alternatives, terms, read_terms, read_disjunction, read_alternative, disjunction_at, alternative_at, term_at, ReadsBySteps}
-use Rattle.regress_meaning.proofs.Inversion.{is_at-eq}
 use Rattle.regress_meaning.proofs.Openings.{opening-fits}
-use Rattle.regress_meaning.proofs.ReadingSound.{IsFront, ReadsDisjunctions, term-sound, read_disjunction-sound, read_alternative-sound}
-use Rattle.regress_meaning.proofs.ReadingComplete.{front, ReadsBelow, term-complete, read_disjunction-complete, read_alternative-complete}
+use Rattle.regress_meaning.proofs.ReadingSound.{ReadsDisjunctions, term-sound, read_disjunction-sound, read_alternative-sound}
+use Rattle.regress_meaning.proofs.ReadingComplete.{ReadsBelow, term-complete, read_disjunction-complete, read_alternative-complete}
 use Rattle.regress_meaning.proofs.Shorter.{Alternative-shorter, Term-shorter}
 
 -- what finds the same values is the same
@@ -52,9 +51,9 @@ module _ (m : Mode) (coherent : m.sets ≡ true → m.unicode ≡ true) where
   unfolding term_at
   term-enough n t k room = agree _ _
       (λ f e. term-complete m coherent (disjunction_at m) (disjunction_at-complete (length t))
-        (term-sound m (read_disjunction m n) (read_disjunction-sound m n) t k f (opening m t) (opening-fits m t) e))
+      (term-sound m (read_disjunction m n) (read_disjunction-sound m n) t k f (opening m t) (opening-fits m t) e))
       (λ f e. term-complete m coherent (read_disjunction m n) (λ s i j p r below d. read_disjunction-complete m coherent n (omega arith) d)
-        (term-sound m (disjunction_at m) disjunction_at-sound t k f (opening m t) (opening-fits m t) e))
+      (term-sound m (disjunction_at m) disjunction_at-sound t k f (opening m t) (opening-fits m t) e))
 
   -- behind an alternative the rest of the disjunction is read alike
   alternatives-enough : (n : ℕ) (t : List ℕ) (f : Front) → length f.rest ≤ length t → 3 * length t ≤ n → alternatives (read_disjunction m n) f ≡ alternatives (disjunction_at m) f
@@ -64,6 +63,7 @@ module _ (m : Mode) (coherent : m.sets ≡ true → m.unicode ≡ true) where
       rest_shorter : (u : List ℕ) → is_at (λ c. c == 0x7C) u ≡ true → length (drop 1 u) < length u
       rest_shorter [] h = cc
       rest_shorter (c ∷ u) h = omega arith
+
       by_bar : (bar : Bool) → is_at (λ c. c == 0x7C) f.rest ≡ bar → alternatives_if bar (read_disjunction m n) f ≡ alternatives_if bar (disjunction_at m) f
       by_bar false h = refl
       by_bar true h =
@@ -77,7 +77,7 @@ module _ (m : Mode) (coherent : m.sets ≡ true → m.unicode ≡ true) where
       let deeper : suc room ≡ 3 * length t + 3 = omega arith in
       sym (disjunction-enough (suc room) t k (omega arith))
       ∙ then_agree (alternatives (read_disjunction m room)) (alternatives (disjunction_at m)) (read_alternative m room t k)
-        (λ f e. alternatives-enough room t f (Alternative-shorter m (read_alternative-sound m room t k f e)) (omega arith))
+      (λ f e. alternatives-enough room t f (Alternative-shorter m (read_alternative-sound m room t k f e)) (omega arith))
 
   -- behind a term the rest of the alternative is read alike
   terms-enough : (n : ℕ) (t : List ℕ) (f : Front) → length f.rest < length t → 3 * length t ≤ n + 1 → terms (read_alternative m n) f ≡ terms (alternative_at m) f
@@ -92,9 +92,9 @@ module _ (m : Mode) (coherent : m.sets ≡ true → m.unicode ≡ true) where
       let room = 3 * length t + 1 in
       sym (alternative-enough (suc room) t k (omega arith))
       ∙ if_agree (ends_alternative t) _ _ _ (λ h.
-        then_agree (terms (read_alternative m room)) (terms (alternative_at m)) (read_term m (read_disjunction m room) k (opening m t))
-          (λ f e. terms-enough room t f (Term-shorter m (term-sound m (read_disjunction m room) (read_disjunction-sound m room) t k f (opening m t) (opening-fits m t) e)) (omega arith))
-        ∙ ap (option_and_then (terms (alternative_at m))) (term-enough room t k (omega arith)))
+      then_agree (terms (read_alternative m room)) (terms (alternative_at m)) (read_term m (read_disjunction m room) k (opening m t))
+      (λ f e. terms-enough room t f (Term-shorter m (term-sound m (read_disjunction m room) (read_disjunction-sound m room) t k f (opening m t) (opening-fits m t) e)) (omega arith))
+      ∙ ap (option_and_then (terms (alternative_at m))) (term-enough room t k (omega arith)))
 
   pub read_by_steps : (t : List ℕ) (k : ℕ) → ReadsBySteps m t k
   read_by_steps t k = record { disjunction = disjunction-step t k; alternative = alternative-step t k }

@@ -86,7 +86,7 @@ maybe a first last = repeated a first last 0 1 true
 abbrev pub two_choices : Pattern
 two_choices =
     terms (group 0 (choice (letters "a") (letters "ab")) ∷ group 1 (choice (letters "c") (letters "bcd"))
-        ∷ group 2 (terms (star (letter "d") 3 3 ∷ [])) ∷ [])
+    ∷ group 2 (terms (star (letter "d") 3 3 ∷ [])) ∷ [])
 
 ordered_alternatives_prefer_the_first : matches two_choices "abcd" ≡ item 0 4 (took 0 1 ∷ took 1 4 ∷ took 4 4 ∷ []) ∷ []
 unfolding computation
@@ -96,9 +96,9 @@ ordered_alternatives_prefer_the_first = refl
 abbrev pub groups_in_a_repetition : Pattern
 groups_in_a_repetition =
     terms (group 0 (letters "z") ∷ star (group 1 (terms (
-        maybe (group 2 (terms (plus (letter "a") 3 3 ∷ []))) 2 3
-        ∷ maybe (group 3 (terms (plus (letter "b") 4 4 ∷ []))) 3 4
-        ∷ group 4 (letters "c") ∷ []))) 1 5 ∷ [])
+    maybe (group 2 (terms (plus (letter "a") 3 3 ∷ []))) 2 3
+    ∷ maybe (group 3 (terms (plus (letter "b") 4 4 ∷ []))) 3 4
+    ∷ group 4 (letters "c") ∷ []))) 1 5 ∷ [])
 
 each_iteration_clears_the_groups_inside : matches groups_in_a_repetition "zaacbbbcac"
     ≡ item 0 10 (took 0 1 ∷ took 8 10 ∷ took 8 9 ∷ None ∷ took 9 10 ∷ []) ∷ []
@@ -148,9 +148,9 @@ an_iteration_that_takes_nothing_is_dropped = refl
 abbrev pub counted_repetitions : Pattern
 counted_repetitions =
     terms (line_start
-        ∷ repeated (grouped (terms (repeated (grouped (choice (letters "a") (letters "ab"))) 0 0 2 2 true ∷ [])))
-            0 0 1 2 true
-        ∷ line_end ∷ [])
+    ∷ repeated (grouped (terms (repeated (grouped (choice (letters "a") (letters "ab"))) 0 0 2 2 true ∷ [])))
+    0 0 1 2 true
+    ∷ line_end ∷ [])
 
 counts_are_tried_until_the_rest_matches : matches counted_repetitions "aab" ≡ item 0 3 [] ∷ []
 unfolding computation
@@ -228,7 +228,7 @@ a_number_without_a_group_is_octal = refl
 abbrev pub one_name_in_two_alternatives : Pattern
 one_name_in_two_alternatives =
     choice (terms (capture 0 (Some (codes "n")) (letters "a") ∷ []))
-      (terms (capture 1 (Some (codes "n")) (letters "b") ∷ []))
+    (terms (capture 1 (Some (codes "n")) (letters "b") ∷ []))
 
 each_group_of_a_name_has_its_own_range : matches one_name_in_two_alternatives "b" ≡ item 0 1 (None ∷ took 0 1 ∷ []) ∷ []
 unfolding computation
@@ -240,7 +240,7 @@ each_group_of_a_name_has_its_own_range = refl
 abbrev pub digits_behind : Pattern
 digits_behind =
     terms (look false true (terms (group 0 (terms (plus (class_escape digits) 1 1 ∷ []))
-        ∷ group 1 (terms (plus (class_escape digits) 2 2 ∷ [])) ∷ [])) ∷ line_end ∷ [])
+    ∷ group 1 (terms (plus (class_escape digits) 2 2 ∷ [])) ∷ [])) ∷ line_end ∷ [])
 
 a_lookbehind_is_read_backward : matches digits_behind "1053" ≡ item 4 4 (took 0 1 ∷ took 1 4 ∷ []) ∷ []
 unfolding computation
@@ -250,7 +250,7 @@ a_lookbehind_is_read_backward = refl
 abbrev pub letters_ahead : Pattern
 letters_ahead =
     terms (look false false (terms (group 0 (terms (plus (letter "a") 1 1 ∷ [])) ∷ []))
-        ∷ star (letter "a") 1 1 ∷ letter "b" ∷ reference (0 ∷ []) ∷ [])
+    ∷ star (letter "a") 1 1 ∷ letter "b" ∷ reference (0 ∷ []) ∷ [])
 
 a_lookahead_gives_only_its_first_outcome : matches letters_ahead "baaabac" ≡ item 3 6 (took 3 4 ∷ []) ∷ []
 unfolding computation
@@ -260,8 +260,8 @@ a_lookahead_gives_only_its_first_outcome = refl
 abbrev pub names_behind : Pattern
 names_behind =
     terms (look false true (terms (
-        capture 0 (Some (codes "a")) (letters "x") ∷ capture 1 (Some (codes "b")) (letters "y") ∷ []))
-        ∷ letter "z" ∷ [])
+    capture 0 (Some (codes "a")) (letters "x") ∷ capture 1 (Some (codes "b")) (letters "y") ∷ []))
+    ∷ letter "z" ∷ [])
 
 groups_in_a_lookbehind_keep_their_order : matches names_behind "xyz" ≡ item 2 3 (took 0 1 ∷ took 1 2 ∷ []) ∷ []
 unfolding computation
@@ -312,7 +312,7 @@ a_lookahead_takes_nothing = refl
 abbrev pub first_letter_of_a_word : Pattern
 first_letter_of_a_word =
     terms (word_boundary false ∷ group 0 (terms (class_escape words ∷ []))
-        ∷ group 1 (terms (plus (class_escape words) 2 2 ∷ [])) ∷ [])
+    ∷ group 1 (terms (plus (class_escape words) 2 2 ∷ [])) ∷ [])
 
 words_begin_at_boundaries : matches first_letter_of_a_word "hello world"
     ≡ item 0 5 (took 0 1 ∷ took 1 5 ∷ []) ∷ item 6 11 (took 6 7 ∷ took 7 11 ∷ []) ∷ []
@@ -432,9 +432,9 @@ a_difference_lacks_what_is_taken_away = refl
 abbrev pub vowels : Pattern
 vowels =
     terms (class false (intersection
-        (nested false (union (range (code "a") (code "z")) no_string))
-        (nested false (union (class_of (code "a")) (union (class_of (code "e")) (union (class_of (code "i"))
-            (union (class_of (code "o")) (union (class_of (code "u")) no_string))))))) ∷ [])
+    (nested false (union (range (code "a") (code "z")) no_string))
+    (nested false (union (class_of (code "a")) (union (class_of (code "e")) (union (class_of (code "i"))
+    (union (class_of (code "o")) (union (class_of (code "u")) no_string))))))) ∷ [])
 
 an_intersection_holds_what_both_hold : matches_under (options_of (codes "v")) vowels (codes "xe") 0 ≡ item 1 2 [] ∷ []
 unfolding computation

@@ -39,8 +39,8 @@ module _ (m : Mode) where
   unfolding decimal_escape
   decimal_escape-quiet c t e = gives-then _ (decimal_at (c ∷ t)) (decimal-leads (c ∷ t)) (λ x p.
       gives-if (nat_le x.0 (length m.names))
-        (λ known. gives-some (behind_neutral c t (digits-neutral c e) p))
-        (λ unknown. octal_or_digit-quiet c t e))
+      (λ known. gives-some (behind_neutral c t (digits-neutral c e) p))
+      (λ unknown. octal_or_digit-quiet c t e))
 
   identity-quiet : (c : ℕ) (t : List ℕ) → Quiet t (identity m c t)
   identity-quiet c t = gives-guard (not m.unicode || c ∈ "^$\\.*+?()[]{}|/") (λ e. gives-some (stay t))
@@ -60,19 +60,19 @@ module _ (m : Mode) where
       gives-if (is_some (class_letter c)) (λ is. gives-map _ (class_letter c) (gives-any _) (λ s known. stay t)) (λ no.
       gives-if (is_some (control c)) (λ is. gives-map _ (control c) (gives-any _) (λ d known. stay t)) (λ no.
       gives-if (c == 0x63) (λ is. gives-or (control_letter is_letter t)
-          (control_letter-quiet is_letter (neutral_by is_letter refl refl refl refl) t)
-          (gives-guard (not m.unicode) (λ mode. control-quiet c t is))) (λ no.
+      (control_letter-quiet is_letter (neutral_by is_letter refl refl refl refl) t)
+      (gives-guard (not m.unicode) (λ mode. control-quiet c t is))) (λ no.
       gives-if (c == 0x30) (λ is. gives-if (is_at is_digit t)
-          (λ digit. octal_or_digit-quiet c t (ap is_digit (eqb-true c 0x30 is)))
-          (λ no. gives-some (stay t))) (λ no.
+      (λ digit. octal_or_digit-quiet c t (ap is_digit (eqb-true c 0x30 is)))
+      (λ no. gives-some (stay t))) (λ no.
       gives-if (is_digit c) (decimal_escape-quiet c t) (λ no.
       gives-if (c == 0x78) (λ is. gives-or (as_point (hex_at 2 t))
-          (as_point-quiet (hex_at 2 t) (hex-leads 2 t)) (identity-quiet c t)) (λ no.
+      (as_point-quiet (hex_at 2 t) (hex-leads 2 t)) (identity-quiet c t)) (λ no.
       gives-if (c == 0x75) (λ is. gives-or (as_point (if m.unicode then unicode_escape t else hex_at 4 t))
-          (unicode-quiet t) (identity-quiet c t)) (λ no.
+      (unicode-quiet t) (identity-quiet c t)) (λ no.
       gives-if (c == 0x6B) (λ is. absurd (false≢true (sym e ∙ is))) (λ no.
       gives-if ((c == 0x70 || c == 0x50) && m.unicode) (λ is.
-          gives-map _ (property_at m c t) (property-leads m c t) (λ x p. passed-agrees m p)) (λ no.
+      gives-map _ (property_at m c t) (property-leads m c t) (λ x p. passed-agrees m p)) (λ no.
       identity-quiet c t)))))))))
 
   -- behind a backslash in a class without `v`
@@ -82,7 +82,7 @@ module _ (m : Mode) where
       gives-if (c == 0x62) (λ is. gives-some (stay t)) (λ no.
       gives-if (c == 0x2D) (λ is. gives-some (stay t)) (λ no.
       gives-if (c == 0x63 && not m.unicode && is_at is_ascii_word t) (λ is.
-          control_letter-quiet is_ascii_word words-neutral t) (λ no.
+      control_letter-quiet is_ascii_word words-neutral t) (λ no.
       gives-if (is_digit c && not (c == 0x30)) (λ is. octal_or_digit-quiet c t (and_parts (is_digit c) _ is).0) (λ no.
       gives-if (c == 0x6B) (λ is. gives-guard (not m.named) (λ unnamed. gives-some (stay t))) (λ no.
       escape-quiet c t no)))))
@@ -92,8 +92,10 @@ module _ (m : Mode) where
       Gives (λ x. AgreeIn m false (0x5C ∷ 0x6B ∷ t) x.1) (guard (is_at (λ d. d == 0x3C) t) (name_at m.table (drop 1 t)))
   name-passed named t = gives-guard (is_at (λ d. d == 0x3C) t) (λ e.
       let front = is_at-eq 0x3C t e in
-      rw front.1 (record { holds = λ {x} read.
-          reference-step m front.0 x.0 x.1 named read ((name-ends m.table front.0).holds read) }))
+      rw front.1 (record {
+        holds = λ {x} read.
+            reference-step m front.0 x.0 x.1 named read ((name-ends m.table front.0).holds read);
+      }))
 
   -- what was read refers to no group
   abbrev pub is_no_group : Escape → Bool
@@ -111,8 +113,8 @@ module _ (m : Mode) where
   unfolding escape_at named_reference
   k-passed t = gives-if m.named
       (λ e. gives-then _ (guard (is_at (λ d. d == 0x3C) t) (name_at m.table (drop 1 t))) (name-passed e t) (λ x agree.
-          gives-guard (nat_lt 0 (length (numbers_from 0 x.0 m.names))) (λ some.
-          gives-some (record { outside = agree; anywhere = λ named other. absurd (false≢true other) }))))
+      gives-guard (nat_lt 0 (length (numbers_from 0 x.0 m.names))) (λ some.
+      gives-some (record { outside = agree; anywhere = λ named other. absurd (false≢true other) }))))
       (λ e. gives-some (record { outside = unnamed_k-step m t e; anywhere = λ named other. absurd (false≢true (sym e ∙ named)) }))
 
   pub escape-passed : (t : List ℕ) → Gives (IsPassedOver t) (escape_at m t)

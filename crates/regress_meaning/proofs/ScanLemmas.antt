@@ -43,7 +43,6 @@ module _ (m : Mode) where
   agree-crosses h = record { into = λ b. b; same = λ b. h.within b }
 
   infixr 60 ◌then◌
-
   ◌then◌ : {t u r : List ℕ} → Crosses t u → Crosses u r → Crosses t r
   h then g = record { into = λ b. g.into (h.into b); same = λ b. h.same b ∙ g.same (h.into b) }
 
@@ -148,7 +147,7 @@ module _ (m : Mode) where
       go : (b : Bool) → (0x3C == d) ≡ b → opens_name (0x28 ∷ 0x3F ∷ d ∷ t) ≡ false
       go true h =
           let cut : span is_flag (0x3C ∷ t) ≡ (on, c ∷ u) =
-              subst (λ k. span is_flag (k ∷ t) ≡ (on, c ∷ u)) (sym (eqb-true 0x3C d h)) e in
+          subst (λ k. span is_flag (k ∷ t) ≡ (on, c ∷ u)) (sym (eqb-true 0x3C d h)) e in
           absurd (false≢true (sym f ∙ sym (ap (λ (x : List ℕ × List ℕ). is_at (λ k. 0x3C == k) x.1) cut)))
       go false h = rw h refl
 
@@ -193,8 +192,10 @@ module _ (m : Mode) where
     mutual
       pub disjunction-found : {t r : List ℕ} {k l : ℕ} {p : Pattern} → Disjunction m t k p l r → Finds t p r
       disjunction-found (one a e) = alternative-found a
-      disjunction-found (more {u} a d) = record { same =
-          both_find (after (alternative-found a) (neutral false 0x7C u refl)) (disjunction-found d) }
+      disjunction-found (more {u} a d) = record {
+        same =
+            both_find (after (alternative-found a) (neutral false 0x7C u refl)) (disjunction-found d);
+      }
 
       alternative-found : {t r : List ℕ} {k l : ℕ} {p : Pattern} → Alternative m t k p l r → Finds t p r
       alternative-found (done e) = record { same = refl }
@@ -205,10 +206,14 @@ module _ (m : Mode) where
       term-found (end {r}) = record { same = neutral false 0x24 r refl }
       term-found (boundary {r}) = record { same = (pair-agrees m 0x62 r refl).within false }
       term-found (no_boundary {r}) = record { same = (pair-agrees m 0x42 r refl).within false }
-      term-found (behind {t} d) = record { same =
-          opened 0x3C (0x3D ∷ t) refl refl ∙ neutral false 0x3D t refl ∙ inside (disjunction-found d) }
-      term-found (not_behind {t} d) = record { same =
-          opened 0x3C (0x21 ∷ t) refl refl ∙ neutral false 0x21 t refl ∙ inside (disjunction-found d) }
+      term-found (behind {t} d) = record {
+        same =
+            opened 0x3C (0x3D ∷ t) refl refl ∙ neutral false 0x3D t refl ∙ inside (disjunction-found d);
+      }
+      term-found (not_behind {t} d) = record {
+        same =
+            opened 0x3C (0x21 ∷ t) refl refl ∙ neutral false 0x21 t refl ∙ inside (disjunction-found d);
+      }
       term-found (ahead a e) = lookahead-found a
       term-found (repeated_ahead {u} {v} {b} mode a e le) = record { same = (after (lookahead-found a) (quantifier-agrees u b v e)).same }
       term-found (once a e) = atom-found a
@@ -223,16 +228,24 @@ module _ (m : Mode) where
       atom-found (plain {c} {r} e) = record { same = pattern_character-agrees c r e }
       atom-found (escape {t} {e} other read) = record { same = rw (tree_of-names e) ((escape-passed m t).holds read).outside }
       atom-found (a_class {t} other body) = record { same = enter m t ∙ body-leaves body }
-      atom-found (a_negated_class {t} body other) = record { same =
-          enter m (0x5E ∷ t) ∙ neutral true 0x5E t refl ∙ body-leaves body }
+      atom-found (a_negated_class {t} body other) = record {
+        same =
+            enter m (0x5E ∷ t) ∙ neutral true 0x5E t refl ∙ body-leaves body;
+      }
       atom-found (group {t} other d) = record { same = group-step m t other ∙ ap (λ names. [] ∷ names) (inside (disjunction-found d)) }
-      atom-found (named_group {t} {u} {name} other read d) = record { same =
-          named_group-step m t name u other read ((name-ends m.table t).holds read) ∙ ap (λ names. name ∷ names) (inside (disjunction-found d)) }
+      atom-found (named_group {t} {u} {name} other read d) = record {
+        same =
+            named_group-step m t name u other read ((name-ends m.table t).holds read) ∙ ap (λ names. name ∷ names) (inside (disjunction-found d));
+      }
       atom-found (uncaptured {t} d) = record { same = opened 0x3A t refl refl ∙ inside (disjunction-found d) }
-      atom-found (modifiers {t} {u} {on} e some apart d) = record { same =
-          flags-opened t on u 0x3A refl refl e ∙ inside (disjunction-found d) }
-      atom-found (modifiers_off {t} {u} {v} {on} {off} e f some apart d) = record { same =
-          flags-opened t on u 0x2D refl refl e ∙ flags-agree u off v 0x3A refl f ∙ inside (disjunction-found d) }
+      atom-found (modifiers {t} {u} {on} e some apart d) = record {
+        same =
+            flags-opened t on u 0x3A refl refl e ∙ inside (disjunction-found d);
+      }
+      atom-found (modifiers_off {t} {u} {v} {on} {off} e f some apart d) = record {
+        same =
+            flags-opened t on u 0x2D refl refl e ∙ flags-agree u off v 0x3A refl f ∙ inside (disjunction-found d);
+      }
 
 -- The names of a tree are those that a scan of its text finds.
 pub names-scanned : (table : Table) (o : Options) (text : List ℕ) (p : Pattern) (names : List (List ℕ)) (l : ℕ) →

@@ -63,6 +63,7 @@ module _ (m : Mode) where
     where
       apart : (d : ℕ) → is_neutral d ≡ false → (c == d) ≡ false
       apart d f = neutral-differs c d e f
+
       in_both : (b : Bool) → AgreeIn b (c ∷ t) t
       in_both true = class-step c t (apart 0x5C refl) (apart 0x5D refl)
       in_both false = plain-step c t (apart 0x5C refl) (apart 0x28 refl) (apart 0x5B refl)
@@ -74,6 +75,7 @@ module _ (m : Mode) where
     where
       no_name : starts_with nat_eq (c ∷ t) (codes "k<") ≡ false
       no_name = rw (differs (λ d. d == 0x6B) c 0x6B e).1 refl
+
       in_both : (b : Bool) → AgreeIn b (0x5C ∷ c ∷ t) t
       in_both true = refl
       in_both false = outside-step 0x5C (c ∷ t) ([], t) (rw (no_name, and-false m.named) refl) (past here)

@@ -17,6 +17,7 @@ differs test c d e = (ne_eqb c d clash, ne_eqb d c (λ p. clash (sym p)))
     other : (b : Bool) → b ≡ not b → ⊥
     other true p = true≢false p
     other false p = false≢true p
+
     clash : c ≡ d → ⊥
     clash p = other (test d) (sym (ap test p) ∙ e)
 
@@ -130,8 +131,8 @@ pair-leads : (t : List ℕ) → Leads t (pair_at t)
 unfolding pair_at
 pair-leads t = gives-then _ (hex_at 4 t) (hex-leads 4 t) (λ x p.
     gives-or (guard (is_high x.0) (low_half x.0 x.1))
-      (gives-guard (is_high x.0) (λ e. leads-behind p (low_half-leads x.0 x.1)))
-      (gives-some p))
+    (gives-guard (is_high x.0) (λ e. leads-behind p (low_half-leads x.0 x.1)))
+    (gives-some p))
 
 braces-leads : (t : List ℕ) → Leads t (braces_at t)
 unfolding braces_at
@@ -200,7 +201,7 @@ bounds-leads (c ∷ t) =
     gives-if (c == 0x2B) (λ e. gives-some (known-passed c 0x2B refl e here)) (λ no.
     gives-if (c == 0x3F) (λ e. gives-some (known-passed c 0x3F refl e here)) (λ no.
     gives-if (c == 0x7B) (λ e. gives-then _ (decimal_at t) (decimal-leads t) (λ x p.
-        leads-behind (known-passed c 0x7B refl e p) (braced_end-leads x.0 x.1)))
+    leads-behind (known-passed c 0x7B refl e p) (braced_end-leads x.0 x.1)))
     (λ no. gives-none))))
 
 -- what is read leads from t to an end of t
@@ -216,7 +217,7 @@ unfolding name_point
 name_point-ends [] = gives-none
 name_point-ends (c ∷ t) = gives-if (c == 0x5C)
     (λ e. gives-guard (is_at (λ d. d == 0x75) t) (λ u.
-        gives-weaker (λ x p. past (behind_trans (drop_one-behind t) (passed-behind p))) (unicode_escape-leads (drop 1 t))))
+    gives-weaker (λ x p. past (behind_trans (drop_one-behind t) (passed-behind p))) (unicode_escape-leads (drop 1 t))))
     (λ no. gives-some (past here))
 
 name_rest-ends : (table : Table) (n : ℕ) (t : List ℕ) → Ends t (name_rest table n t)

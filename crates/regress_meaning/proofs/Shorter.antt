@@ -19,7 +19,7 @@ length-span test [] = omega arith
 length-span test (c ∷ t) =
     let h = length-span test t in
     cond_both (test c) _ _ (λ (p : List ℕ × List ℕ). length p.0 + length p.1 ≡ suc (length t))
-        (λ _. omega arith) (λ _. omega arith)
+    (λ _. omega arith) (λ _. omega arith)
 
 pub length-span_up_to : (n : ℕ) (test : ℕ → Bool) (t : List ℕ) → length (span_up_to n test t).0 + length (span_up_to n test t).1 ≡ length t
 unfolding span_up_to
@@ -28,7 +28,7 @@ length-span_up_to (suc n) test [] = omega arith
 length-span_up_to (suc n) test (c ∷ t) =
     let h = length-span_up_to n test t in
     cond_both (test c) _ _ (λ (p : List ℕ × List ℕ). length p.0 + length p.1 ≡ suc (length t))
-        (λ _. omega arith) (λ _. omega arith)
+    (λ _. omega arith) (λ _. omega arith)
 
 pub span-shorter : (test : ℕ → Bool) (t : List ℕ) → length (span test t).1 ≤ length t
 span-shorter test t = omega (arith, length-span test t)
@@ -65,7 +65,7 @@ braced_end-below n (c ∷ t) =
     if-below (not (c == 0x2C)) gives-none (
     if-below (is_at (λ d. d == 0x7D) t) (drop-below t (omega arith))
     (gives-then _ (decimal_at t) (decimal_at-below t)
-        (λ p h. gives-guard (is_at (λ d. d == 0x7D) p.1) (λ _. drop-below p.1 (omega arith))))))
+    (λ p h. gives-guard (is_at (λ d. d == 0x7D) p.1) (λ _. drop-below p.1 (omega arith))))))
 
 bounds_at-below : (t : List ℕ) → LeavesBelow (length t) (bounds_at t)
 unfolding bounds_at
@@ -75,7 +75,7 @@ bounds_at-below (c ∷ t) =
     if-below (c == 0x2B) (gives-some (omega arith)) (
     if-below (c == 0x3F) (gives-some (omega arith)) (
     if-below (c == 0x7B) (gives-then _ (decimal_at t) (decimal_at-below t)
-        (λ p h. weaker-below (omega arith) (braced_end-below p.0 p.1)))
+    (λ p h. weaker-below (omega arith) (braced_end-below p.0 p.1)))
     gives-none)))
 
 hex_at-below : (n : ℕ) (t : List ℕ) → LeavesBelow (suc (length t)) (hex_at n t)
@@ -100,8 +100,8 @@ pair_at-below : (t : List ℕ) → LeavesBelow (length t) (pair_at t)
 unfolding pair_at
 pair_at-below t = gives-then _ (hex_at 4 t) (hex_at-some-below 3 t)
     (λ p h. gives-or (guard (is_high p.0) (low_half p.0 p.1))
-        (gives-guard (is_high p.0) (λ _. weaker-below (omega arith) (low_half-below p.0 p.1)))
-        (gives-some h))
+    (gives-guard (is_high p.0) (λ _. weaker-below (omega arith) (low_half-below p.0 p.1)))
+    (gives-some h))
 
 braces_at-below : (t : List ℕ) → LeavesBelow (length t) (braces_at t)
 unfolding braces_at
@@ -127,7 +127,7 @@ unfolding name_point
 name_point-below [] = gives-none
 name_point-below (c ∷ t) =
     if-below (c == 0x5C) (gives-guard (is_at (λ d. d == 0x75) t)
-        (λ _. weaker-below (omega (arith, length-drop 1 t)) (unicode_escape-below (drop 1 t))))
+    (λ _. weaker-below (omega (arith, length-drop 1 t)) (unicode_escape-below (drop 1 t))))
     (gives-some (omega arith))
 
 name_rest-below : (table : Table) (n : ℕ) (t : List ℕ) → LeavesBelow (suc (length t)) (name_rest table n t)
@@ -173,7 +173,7 @@ unfolding named_reference
 named_reference-below m t =
     gives-then _ (guard (is_at (λ d. d == 0x3C) t) (name_at m.table (drop 1 t)))
     (gives-guard (is_at (λ d. d == 0x3C) t)
-        (λ _. weaker-below (omega (arith, length-drop 1 t)) (name_at-below m.table (drop 1 t))))
+    (λ _. weaker-below (omega (arith, length-drop 1 t)) (name_at-below m.table (drop 1 t))))
     (λ p h. gives-guard (nat_lt 0 (length (numbers_from 0 p.0 m.names))) (λ _. gives-some h))
 
 octal_or_digit-below : (m : Mode) (c : ℕ) (t : List ℕ) → LeavesBelow (suc (length t)) (octal_or_digit m c t)
@@ -198,20 +198,20 @@ escape_at-below m (c ∷ t) =
     if-below (is_some (class_letter c)) (option-below set t (class_letter c) (omega arith)) (
     if-below (is_some (control c)) (option-below point t (control c) (omega arith)) (
     if-below (c == 0x63) (gives-or (control_letter is_letter t)
-        (weaker-below (omega arith) (control_letter-below is_letter t)) (gives-guard (not m.unicode) (λ _. gives-some (omega arith)))) (
+    (weaker-below (omega arith) (control_letter-below is_letter t)) (gives-guard (not m.unicode) (λ _. gives-some (omega arith)))) (
     if-below (c == 0x30) (if-below (is_at is_digit t)
-        (weaker-below (omega arith) (octal_or_digit-below m c t)) (gives-some (omega arith))) (
+    (weaker-below (omega arith) (octal_or_digit-below m c t)) (gives-some (omega arith))) (
     if-below (is_digit c) (weaker-below (omega arith) (decimal_escape-below m c t)) (
     if-below (c == 0x78) (gives-or (as_point (hex_at 2 t))
-        (as_point-below (hex_at 2 t) (weaker-below (omega arith) (hex_at-below 2 t))) same) (
+    (as_point-below (hex_at 2 t) (weaker-below (omega arith) (hex_at-below 2 t))) same) (
     if-below (c == 0x75) (gives-or (as_point (if m.unicode then unicode_escape t else hex_at 4 t))
-        (as_point-below (if m.unicode then unicode_escape t else hex_at 4 t)
-            (if-below m.unicode (weaker-below (omega arith) (unicode_escape-below t))
-                (weaker-below (omega arith) (hex_at-below 4 t)))) same) (
+    (as_point-below (if m.unicode then unicode_escape t else hex_at 4 t)
+    (if-below m.unicode (weaker-below (omega arith) (unicode_escape-below t))
+    (weaker-below (omega arith) (hex_at-below 4 t)))) same) (
     if-below (c == 0x6B) (if-below m.named
-        (weaker-below (omega arith) (named_reference-below m t)) (gives-some (omega arith))) (
+    (weaker-below (omega arith) (named_reference-below m t)) (gives-some (omega arith))) (
     if-below ((c == 0x70 || c == 0x50) && m.unicode)
-        (gives-map _ (property_at m c t) (property_at-below m c t) (λ p h. omega arith))
+    (gives-map _ (property_at m c t) (property_at-below m c t) (λ p h. omega arith))
     same))))))))
 
 class_escape_at-below : (m : Mode) (t : List ℕ) → LeavesBelow (suc (length t)) (class_escape_at m t)
@@ -221,7 +221,7 @@ class_escape_at-below m (c ∷ t) =
     if-below (c == 0x62) (gives-some (omega arith)) (
     if-below (c == 0x2D) (gives-some (omega arith)) (
     if-below (c == 0x63 && not m.unicode && is_at is_ascii_word t)
-        (weaker-below (omega arith) (control_letter-below is_ascii_word t)) (
+    (weaker-below (omega arith) (control_letter-below is_ascii_word t)) (
     if-below (is_digit c && not (c == 0x30)) (weaker-below (omega arith) (octal_or_digit-below m c t)) (
     if-below (c == 0x6B) (gives-guard (not m.named) (λ _. gives-some (omega arith)))
     (escape_at-below m (c ∷ t))))))

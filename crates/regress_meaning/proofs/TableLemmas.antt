@@ -1,5 +1,5 @@
 -- What holds of every number, from finite checks of the lists that a table is made of.
-use Rattle.std.proofs.Common.{◌≡◌, ℕ, zero, suc, ◌+◌, ◌-◌, ◌<◌, ◌≤◌, ◌⊎◌, Bool, true, false, not, ◌&&◌, ◌||◌, ◌==◌, nat_le, nat_lt, List, [], ◌∷◌, length, All, refl, sym, ap, ◌∙◌, inl, inr, arith, le_refl, le_trans, le_of_eq, if◌then◌else◌, cond}
+use Rattle.std.proofs.Common.{◌≡◌, ℕ, zero, suc, ◌+◌, ◌<◌, ◌≤◌, ◌⊎◌, Bool, true, false, not, ◌&&◌, ◌||◌, ◌==◌, nat_le, nat_lt, List, [], ◌∷◌, length, All, refl, sym, ap, ◌∙◌, inl, inr, arith, le_refl, le_trans, le_of_eq, if◌then◌else◌, cond}
 use Rattle.std.specs.List.{list_all}
 use Rattle.std.proofs.lemmas.Bool.{and_parts, and_from, and_left, and_right, or_cases, or_left, or_right, cases_eq, false≢true, eqb-true, eq-eqb, ne_eqb, leb-true, ltb-true, lt-leb, not-true, not_from_true, agree_below, agree_below_at}
 use Rattle.std.proofs.lemmas.List.Sums.{AllPass-from_list_all}
@@ -21,8 +21,8 @@ unfolding some_below
 some_below-from zero d test l e = absurd (omega arith)
 some_below-from (suc n) d test l e =
     elim (cases_eq d n) [
-      inl p ↦ or_left _ _ (ap test (sym p) ∙ e)
-    | inr ne ↦ or_right _ _ (some_below-from n d test (omega arith) e)
+      | inl p ↦ or_left _ _ (ap test (sym p) ∙ e)
+      | inr ne ↦ or_right _ _ (some_below-from n d test (omega arith) e)
     ]
 
 some_below-true : (n : ℕ) (test : ℕ → Bool) → some_below n test ≡ true → (d : ℕ) × (d < n) × (test d ≡ true)
@@ -30,8 +30,8 @@ unfolding some_below
 some_below-true zero test e = absurd (false≢true e)
 some_below-true (suc n) test e =
     elim (or_cases _ _ e) [
-      inl h ↦ (n, le_refl (suc n), h)
-    | inr h ↦ let r = some_below-true n test h in (r.0, omega (arith, r.1), r.2)
+      | inl h ↦ (n, le_refl (suc n), h)
+      | inr h ↦ let r = some_below-true n test h in (r.0, omega (arith, r.1), r.2)
     ]
 
 -- c has the canon of a member
@@ -53,11 +53,11 @@ pub closure-idempotent : (canon_of : ℕ → ℕ) (members : ℕ → Bool) (c : 
     → closure canon_of (closure canon_of members) c ≡ closure canon_of members c
 closure-idempotent canon_of members c = same_bool _ _
     (λ e. let r = closure-true canon_of (closure canon_of members) c e in
-      let s = closure-true canon_of members r.0 r.2 in
-      closure-from canon_of members c s.0 s.1 s.2 (s.3 ∙ r.3))
+    let s = closure-true canon_of members r.0 r.2 in
+    closure-from canon_of members c s.0 s.1 s.2 (s.3 ∙ r.3))
     (λ e. let r = closure-true canon_of members c e in
-      let own = closure-from canon_of members r.0 r.0 r.1 r.2 refl in
-      closure-from canon_of (closure canon_of members) c r.0 r.1 own r.3)
+    let own = closure-from canon_of members r.0 r.0 r.1 r.2 refl in
+    closure-from canon_of (closure canon_of members) c r.0 r.1 own r.3)
 
 -- ---- counts
 
@@ -150,9 +150,10 @@ image-sources (p ∷ pairs) d c e = go (p.0 == c) refl e (image-sources pairs d 
     put false h = h
     put true h =
         elim (or_cases (d == c) (holds (sources d pairs) c) h) [
-          inl k ↦ or_left _ _ k
-        | inr k ↦ or_right (d == c) _ (or_right (p.0 == c) _ k)
+          | inl k ↦ or_left _ _ k
+          | inr k ↦ or_right (d == c) _ (or_right (p.0 == c) _ k)
         ]
+
     go : (b : Bool) → (p.0 == c) ≡ b → cond b p.1 (image pairs c) ≡ d
         → (image pairs c ≡ d → holds (d ∷ sources d pairs) c ≡ true) → holds (d ∷ sources d (p ∷ pairs)) c ≡ true
     go true h k r = rw (eq-eqb p.1 d k) (or_right (d == c) _ (or_left _ _ h))
@@ -175,13 +176,13 @@ image-class_size : (pairs : List (ℕ × ℕ)) → list_all (λ p. nat_le (lengt
     → (n d : ℕ) → count_below n (λ c. image pairs c == d) ≤ 4
 image-class_size pairs e n d =
     le_trans (count_below-mono n _ (holds (d ∷ sources d pairs)) (λ c h. image-sources pairs d c (eqb-true _ _ h)))
-      (le_trans (count_below-holds n (d ∷ sources d pairs)) few)
+    (le_trans (count_below-holds n (d ∷ sources d pairs)) few)
   where
     few : suc (length (sources d pairs)) ≤ 4
     few = elim (sources_cases (λ x. nat_le (length (sources x pairs)) 3) pairs d e) [
-        inl h ↦ rw h (omega arith)
+      | inl h ↦ rw h (omega arith)
       | inr h ↦ omega (arith, leb-true _ _ h)
-      ]
+    ]
 
 -- ---- lists in order
 
@@ -220,8 +221,8 @@ in_intervals-no_surrogate [] c e h = absurd (false≢true h)
 in_intervals-no_surrogate (i ∷ intervals) c e h =
     let parts = and_parts (beside_surrogates i) _ e in
     elim (or_cases (between i.0 i.1 c) _ h) [
-      inl m ↦ here (and_parts (nat_le i.0 c) _ m) (or_cases (nat_lt i.1 0xD800) _ parts.0)
-    | inr m ↦ in_intervals-no_surrogate intervals c parts.1 m
+      | inl m ↦ here (and_parts (nat_le i.0 c) _ m) (or_cases (nat_lt i.1 0xD800) _ parts.0)
+      | inr m ↦ in_intervals-no_surrogate intervals c parts.1 m
     ]
   where
     here : (nat_le i.0 c ≡ true) × (nat_le c i.1 ≡ true) → (nat_lt i.1 0xD800 ≡ true) ⊎ (nat_lt 0xDFFF i.0 ≡ true)
@@ -240,12 +241,13 @@ identifier-part : (passes : ℕ → Bool) (intervals : List (ℕ × ℕ)) → id
 unfolding identifier_test
 identifier-part passes intervals e c h =
     let fits : ℕ → Bool = λ d. not (in_intervals intervals d) || passes d in
-    let parts = and_parts (agree_below fits (λ d. true) 0x80) _ e in
-    (λ l. elim (or_cases (not (in_intervals intervals c)) _ (agree_below_at fits (λ d. true) 0x80 c parts.0 l)) [
-        inl k ↦ absurd (false≢true (sym (not_from_true _ h) ∙ k))
-      | inr k ↦ k
+    let parts = and_parts (agree_below fits (λ d. true) 0x80) _ e in (
+      λ l. elim (or_cases (not (in_intervals intervals c)) _ (agree_below_at fits (λ d. true) 0x80 c parts.0 l)) [
+        | inl k ↦ absurd (false≢true (sym (not_from_true _ h) ∙ k))
+        | inr k ↦ k
       ],
-     in_intervals-no_surrogate intervals c parts.1 h)
+      in_intervals-no_surrogate intervals c parts.1 h,
+    )
 
 -- ---- the laws of a table's parts
 
@@ -324,11 +326,13 @@ IsLawful-from_test parts e =
     let fold = IsMap-from_test parts.fold a.0 in
     let upper = IsMap-from_test parts.upper b.0 in
     record {
-      range = ((fold.range, upper.range),
-          All-from_test (λ e. All (All is_code_point) e.1) (λ e. list_all are_code_points e.1)
-          (λ e. All-from_test (All is_code_point) are_code_points
+      range = (
+        (fold.range, upper.range),
+        All-from_test (λ e. All (All is_code_point) e.1) (λ e. list_all are_code_points e.1)
+            (λ e. All-from_test (All is_code_point) are_code_points
             (All-from_test is_code_point (λ c. nat_le c last_code_point) (λ c. leb-true c last_code_point)) e.1)
-          parts.sequences c.0);
+            parts.sequences c.0,
+      );
       order = (fold.order, upper.order);
       ascii_case = λ k l.
           let passed = agree_below_at (ascii_test parts) (λ c. true) 0x80 k d.0 l in
@@ -337,9 +341,12 @@ IsLawful-from_test parts e =
       idempotent = (fold.idempotent, upper.idempotent);
       class_size = (fold.class_size, upper.class_size);
       surrogate = (fold.surrogate, upper.surrogate);
-      canonical = (IntervalsRise-from_test parts.id_start f.0, IntervalsRise-from_test parts.id_continue g.0,
-          All-from_test (λ e. IntervalsRise e.1) (λ e. intervals_rise e.1) (λ e. IntervalsRise-from_test e.1)
-            parts.properties h.0);
+      canonical = (
+        IntervalsRise-from_test parts.id_start f.0,
+        IntervalsRise-from_test parts.id_continue g.0,
+        All-from_test (λ e. IntervalsRise e.1) (λ e. intervals_rise e.1) (λ e. IntervalsRise-from_test e.1)
+            parts.properties h.0,
+      );
       identifier = λ k.
           (identifier-part is_letter parts.id_start i.0 k, identifier-part is_ascii_word parts.id_continue i.1 k);
     }

@@ -2,7 +2,7 @@
 use Rattle.std.specs.Prelude.{ℕ, ◌+◌, ◌<◌, ◌≤◌, Bool, List, length, max, count_by}
 use Rattle.regress_meaning.specs.Table.{Table}
 use Rattle.regress_meaning.specs.Class.{Class, union, intersection, difference, nested}
-use Rattle.regress_meaning.specs.Pattern.{Pattern, names_of, class, class_escape, sequence, choice, capture, grouped, modified, repeated, look}
+use Rattle.regress_meaning.specs.Pattern.{Pattern, names_of, class, sequence, choice, capture, grouped, modified, repeated, look}
 use Rattle.regress_meaning.specs.Flags.{Options}
 use Rattle.regress_meaning.specs.Text.{◌∈◌}
 use Rattle.regress_meaning.specs.Grammar.{Spells}

@@ -1,10 +1,10 @@
 -- What a table is made of, as plain lists, when such parts are lawful, and the small table's parts.
-use Rattle.std.specs.Prelude.{◌≡◌, ℕ, ◌+◌, ◌-◌, ◌<◌, ◌≤◌, Bool, true, false, not, ◌&&◌, ◌||◌, ◌==◌, List, [], ◌∷◌, ◌++◌, Option, Some, None, option_map, if◌then◌else◌, map, All}
+use Rattle.std.specs.Prelude.{◌≡◌, ℕ, ◌+◌, ◌-◌, ◌<◌, ◌≤◌, Bool, true, false, ◌==◌, List, [], ◌∷◌, ◌++◌, Option, Some, None, option_map, if◌then◌else◌, map, All}
 use Rattle.std.specs.List.{list_any}
 use lib.Chars.{codes}
 use Rattle.regress_meaning.specs.Text.{between, count_up, same_text}
 use Rattle.regress_meaning.specs.Table.{Table, last_code_point, code_points, count_below}
-use Rattle.regress_meaning.specs.Class.{is_digit, is_letter, is_ascii_word}
+use Rattle.regress_meaning.specs.Class.{is_letter, is_ascii_word}
 
 -- Pairs (from, to), intervals (first, last), and lists by name.
 pub record TableParts : Type 0 where

@@ -1,5 +1,5 @@
 -- Words on texts. A text is a list of code points, and a word stands at its front.
-use Rattle.std.specs.Prelude.{ℕ, zero, suc, Bool, false, ◌&&◌, ◌==◌, nat_eq, nat_le, List, [], ◌∷◌, Option, if◌then◌else◌}
+use Rattle.std.specs.Prelude.{ℕ, zero, suc, Bool, false, ◌&&◌, ◌==◌, nat_eq, nat_le, List, [], ◌∷◌, if◌then◌else◌}
 use Rattle.std.specs.List.{list_any}
 use Prim.Native.String.{String}
 use lib.Chars.{codes}
@@ -19,7 +19,6 @@ abbrev pub holds : List ℕ → ℕ → Bool
 holds cs c = list_any (λ d. d == c) cs
 
 infix 60 ◌∈◌
-
 -- c is one of the characters written
 abbrev pub ◌∈◌ : ℕ → String → Bool
 c ∈ s = holds (codes s) c

@@ -21,68 +21,57 @@ ghost use Rattle.regress_meaning.specs.Laws.{IsInside, ItemsRise, OffsetsRise, i
 /// The closure of a closed set is that set, whatever the canon.
 pub fn closure_is_idempotent()
     ensures { (canon_of : ℕ → ℕ) → (members : ℕ → Bool) → (c : ℕ) → closure canon_of (closure canon_of members) c ≡ closure canon_of members c }
-{
-}
+{}
 
 /// The small table's parts keep all laws.
 pub fn small_parts_are_lawful()
     ensures { IsLawful small_parts }
-{
-}
+{}
 
 /// In a tree that a text spells groups are numbered from 0 in order of opening, and what refers to groups fits them.
 pub fn spelled_trees_are_numbered()
     ensures { (table : Table) → (o : Options) → (text : List ℕ) → (p : Pattern) → Spells table o text p → IsNumbered p }
-{
-}
+{}
 
 /// A text spells a tree exactly where the reading function finds it; where it finds none, the text spells none.
 pub fn reading_decides_the_grammar()
     ensures { (table : Table) → (o : Options) → (text : List ℕ) → (p : Pattern) → Spells table o text p ↔ (read_pattern table o text ≡ Some p) }
-{
-}
+{}
 
 /// The reading function goes step by step: a disjunction by its first alternative, an alternative by its first term.
 pub fn reading_goes_by_steps()
     ensures { (m : Mode) → (m.sets ≡ true → m.unicode ≡ true) → (text : List ℕ) → (opened : ℕ) → ReadsBySteps m text opened }
-{
-}
+{}
 
 /// The names of a text's groups that a scan finds are those of the tree that it spells, in order.
 pub fn names_are_found_by_a_scan()
     ensures { (table : Table) → (o : Options) → (text : List ℕ) → (p : Pattern) → Spells table o text p → scanned_names table o text ≡ names_of p }
-{
-}
+{}
 
 /// A text spells at most one tree.
 pub fn spells_one_tree()
     ensures { (table : Table) → (o : Options) → (text : List ℕ) → (p : Pattern) → (q : Pattern) → Spells table o text p → Spells table o text q → p ≡ q }
-{
-}
+{}
 
 /// From a state inside the text each outcome is inside it, and has as many groups.
 pub fn outcomes_stay_inside()
     ensures { (context : Context) → (p : Pattern) → (dir : Direction) → (e : Settings) → (s : State) → IsInside context.text s → All (λ t. IsInside context.text t × (length t.groups ≡ length s.groups)) (outcomes context p dir e s) }
-{
-}
+{}
 
 /// In a match list starts strictly increase, and each is at least the end before it.
 pub fn matches_rise()
     ensures { (table : Table) → (o : Options) → (p : Pattern) → (text : List ℕ) → (place : ℕ) → ItemsRise (match_list table o p text place) }
-{
-}
+{}
 
 /// From a place on there are at most as many matches as places, the end included.
 pub fn matches_are_bounded()
     ensures { (table : Table) → (o : Options) → (p : Pattern) → (text : List ℕ) → (place : ℕ) → length (match_list table o p text place) ≤ length text + 1 - place }
-{
-}
+{}
 
 /// A pattern and the same in `(?:..)` have the same matches, groups included.
 pub fn group_without_capture_is_transparent()
     ensures { (table : Table) → (o : Options) → (source : List ℕ) → (p : Pattern) → (q : Pattern) → Spells table o source p → Spells table o (in_group source) q → (text : List ℕ) → (place : ℕ) → match_list table o q text place ≡ match_list table o p text place }
-{
-}
+{}
 
 /// Later places have greater offsets, in each of the four readings.
 pub fn offsets_rise()
@@ -90,5 +79,4 @@ pub fn offsets_rise()
     ensures ascii { (bytes : List ℕ) → OffsetsRise (of_ascii bytes) }
     ensures utf16 { (units : List ℕ) → OffsetsRise (of_utf16 units) }
     ensures ucs2 { (units : List ℕ) → OffsetsRise (of_ucs2 units) }
-{
-}
+{}
