@@ -3,17 +3,12 @@ use Rattle.std.proofs.Common.{◌≡◌, ℕ, suc, ◌+◌, ◌*◌, true, false
 use Rattle.regress_meaning.specs.Class.{Class}
 use Rattle.regress_meaning.specs.Tokens.{Mode}
 use Rattle.regress_meaning.specs.Grammar.{ClassBody, of_members, of_contents}
+use Rattle.regress_meaning.specs.ReadingClass.{behind_bracket, read_members, read_contents, read_class}
 use Rattle.regress_meaning.proofs.Inversion.{gives-weaker, Gives}
 use Rattle.regress_meaning.proofs.ReadSteps.{gives-test, on_true, on_false, on_some}
-use Rattle.regress_meaning.proofs.ReadMembers.{read_members, read_members-gives, read_members-complete}
-use Rattle.regress_meaning.proofs.ReadContents.{behind_bracket, read_contents, behind_bracket-gives, read_contents-gives}
+use Rattle.regress_meaning.proofs.ReadMembers.{read_members-gives, read_members-complete}
+use Rattle.regress_meaning.proofs.ReadContents.{behind_bracket-gives, read_contents-gives}
 use Rattle.regress_meaning.proofs.ReadContentsComplete.{read_contents-complete}
-
--- behind the opening bracket of a class, and behind its `^`: the class, and what follows its closing bracket
-unfoldable pub read_class : Mode → List ℕ → Option (Class × List ℕ)
-read_class m t = elim (m.sets) [
-    true ↦ behind_bracket (read_contents m (2 * length t + 2) t)
-  | false ↦ read_members m (suc (length t)) t ]
 
 read_class-gives : (m : Mode) (t : List ℕ) → Gives (λ x. ClassBody m t x.0 x.1) (read_class m t)
 unfolding read_class

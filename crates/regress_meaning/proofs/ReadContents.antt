@@ -5,164 +5,29 @@ use Rattle.regress_meaning.specs.Text.{◌∈◌, is_at}
 use Rattle.regress_meaning.specs.Class.{Class, no_string, range, strings, union, intersection, difference, nested, may_hold_strings}
 use Rattle.regress_meaning.specs.Tokens.{Mode, Escape, point, set, groups, guard, escape_at}
 use Rattle.regress_meaning.specs.Grammar.{class_of, reserved_pair, SetCharacter, bare, backspace, punctuator, of_escape, SetString, no_more, and_then, SetStrings, last_string, more_strings, Operand, one_character, of_class, of_strings, inner, inner_negated, Contents, of_union, of_intersection, of_difference, Union, union_end, union_range, union_operand, Intersection, last_and, more_and, Difference, last_minus, more_minus}
+use Rattle.regress_meaning.specs.ReadingClass.{closes_class, two_at, is_set_syntax, is_set_mark, opens_strings, SetItem, one_point, any_class, item_class, item_of, only_character, read_set_escape, read_set_atom, read_set_character, read_set_string, read_set_strings, behind_bracket, inner_item, read_range, union_from, read_operand, read_contents, read_union, read_intersection, read_difference}
 use Rattle.regress_meaning.proofs.Inversion.{Gives, gives-none, gives-some, gives-weaker, gives-guard, gives-map, gives-then}
-use Rattle.regress_meaning.proofs.ReadSteps.{gives-test, gives-itself, two_at, front, two_front}
-use Rattle.regress_meaning.proofs.ReadMembers.{closes_class}
-
--- a mark that only behind a backslash stands for itself ("ClassSetSyntaxCharacter")
-abbrev pub is_set_syntax : ℕ → Bool
-is_set_syntax c = c ∈ "()[]{}/-\\|"
-
--- a mark that a backslash may precede ("ClassSetReservedPunctuator")
-abbrev pub is_set_mark : ℕ → Bool
-is_set_mark c = c ∈ "&-!#%,:;<=>@`~"
-
--- the opening of `\q{..}`
-abbrev pub opens_strings : List ℕ → Bool
-opens_strings t = is_at (λ c. c == 0x5C) t && two_at 0x71 0x7B (drop 1 t)
-
--- what stands side by side in a class: one code point, or any other operand
-pub data Item : Type 0 where
-  character : ℕ → Item
-  other : Class → Item
-
--- its class
-abbrev pub item_class : Item → Class
-item_class (character c) = class_of c
-item_class (other s) = s
-
--- what an escape stands for, but for groups
-abbrev pub item_of : Escape → List ℕ → Option (Item × List ℕ)
-item_of (point c) r = Some (character c, r)
-item_of (set s) r = Some (other s, r)
-item_of (groups ks) r = None
-
--- an item, if it is one code point
-abbrev pub only_character : Item → List ℕ → Option (ℕ × List ℕ)
-only_character (character c) r = Some (c, r)
-only_character (other s) r = None
-
--- behind a backslash
-unfoldable pub read_set_escape : Mode → List ℕ → Option (Item × List ℕ)
-read_set_escape m [] = None
-read_set_escape m (c ∷ t) = elim (c == 0x62) [
-    true ↦ Some (character 8, t)
-  | false ↦ elim (is_set_mark c) [
-      true ↦ Some (character c, t)
-    | false ↦ option_and_then (λ (e, r). item_of e r) (escape_at m (c ∷ t)) ] ]
-
--- one code point, or the class of an escape
-unfoldable pub read_set_atom : Mode → List ℕ → Option (Item × List ℕ)
-read_set_atom m [] = None
-read_set_atom m (c ∷ t) = elim (c == 0x5C) [
-    true ↦ read_set_escape m t
-  | false ↦ guard (not (is_set_syntax c) && not (reserved_pair (c ∷ t))) (Some (character c, t)) ]
-
--- one code point
-unfoldable pub read_set_character : Mode → List ℕ → Option (ℕ × List ℕ)
-read_set_character m t = option_and_then (λ (i, r). only_character i r) (read_set_atom m t)
-
--- a string of `\q{..}`, up to `|` or `}`
-unfoldable pub read_set_string : Mode → ℕ → List ℕ → Option (List ℕ × List ℕ)
-read_set_string m zero t = None
-read_set_string m (suc n) t = elim (is_at (λ c. c ∈ "|}") t) [
-    true ↦ Some ([], t)
-  | false ↦ option_and_then (λ (c, u). option_map (λ (cs, r). (c ∷ cs, r)) (read_set_string m n u)) (read_set_character m t) ]
-
--- the strings of `\q{..}`, and what follows the brace
-unfoldable pub read_set_strings : Mode → ℕ → List ℕ → Option (List (List ℕ) × List ℕ)
-read_set_strings m zero t = None
-read_set_strings m (suc n) t = option_and_then (λ (cs, u). elim (is_at (λ c. c == 0x7D) u) [
-    true ↦ Some (cs ∷ [], drop 1 u)
-  | false ↦ elim (is_at (λ c. c == 0x7C) u) [
-      true ↦ option_map (λ (ss, r). (cs ∷ ss, r)) (read_set_strings m n (drop 1 u))
-    | false ↦ None ] ]) (read_set_string m n t)
-
--- contents were read: they end at a closing bracket, and what follows it
-abbrev pub behind_bracket : Option (Class × List ℕ) → Option (Class × List ℕ)
-behind_bracket o = option_and_then (λ (s, r). guard (closes_class r) (Some (s, drop 1 r))) o
-
--- an inner class, by its contents; a negated one holds no strings
-abbrev pub inner_item : Bool → Option (Class × List ℕ) → Option (Item × List ℕ)
-inner_item negated o = option_and_then (λ (s, r). guard (not (negated && may_hold_strings s)) (Some (other (nested negated s), r))) (behind_bracket o)
-
--- behind an item, the class of both: a dash makes it a range
-unfoldable pub read_range : Mode → Item → List ℕ → Option (Class × List ℕ)
-read_range m (character first) t = elim (is_at (λ c. c == 0x2D) t) [
-    true ↦ option_and_then (λ (last, r). guard (nat_le first last) (Some (range first last, r))) (read_set_character m (drop 1 t))
-  | false ↦ Some (class_of first, t) ]
-read_range m (other s) t = guard (not (is_at (λ c. c == 0x2D) t)) (Some (s, t))
-
--- behind the first item of a union, that union; `rest` reads one
-abbrev pub union_from : Mode → (List ℕ → Option (Class × List ℕ)) → Item → List ℕ → Option (Class × List ℕ)
-union_from m rest i t = option_and_then (λ (a, u). option_map (λ (s, r). (union a s, r)) (rest u)) (read_range m i t)
-
-unfoldable mutual
-  pub read_operand : Mode → ℕ → List ℕ → Option (Item × List ℕ)
-  read_operand m zero t = None
-  read_operand m (suc n) t = elim (is_at (λ c. c == 0x5B) t) [
-      true ↦ elim (is_at (λ c. c == 0x5E) (drop 1 t)) [
-        true ↦ inner_item true (read_contents m n (drop 2 t))
-      | false ↦ inner_item false (read_contents m n (drop 1 t)) ]
-    | false ↦ elim (opens_strings t) [
-        true ↦ option_map (λ (ss, r). (other (strings ss), r)) (read_set_strings m n (drop 3 t))
-      | false ↦ read_set_atom m t ] ]
-
-  -- up to the closing bracket, which is left
-  pub read_contents : Mode → ℕ → List ℕ → Option (Class × List ℕ)
-  read_contents m zero t = None
-  read_contents m (suc n) t = elim (closes_class t) [
-      true ↦ Some (no_string, t)
-    | false ↦ option_and_then (λ (i, u). elim (two_at 0x26 0x26 u) [
-        true ↦ read_intersection m n (item_class i) u
-      | false ↦ elim (two_at 0x2D 0x2D u) [
-          true ↦ read_difference m n (item_class i) u
-        | false ↦ union_from m (λ v. read_union m n v) i u ] ]) (read_operand m n t) ]
-
-  -- items and ranges side by side
-  pub read_union : Mode → ℕ → List ℕ → Option (Class × List ℕ)
-  read_union m zero t = None
-  read_union m (suc n) t = elim (closes_class t) [
-      true ↦ Some (no_string, t)
-    | false ↦ option_and_then (λ (i, u). union_from m (λ v. read_union m n v) i u) (read_operand m n t) ]
-
-  -- behind what is joined so far: `&&` and one more operand, at least once
-  pub read_intersection : Mode → ℕ → Class → List ℕ → Option (Class × List ℕ)
-  read_intersection m zero a t = None
-  read_intersection m (suc n) a t = elim (two_at 0x26 0x26 t && not (is_at (λ c. c == 0x26) (drop 2 t))) [
-      true ↦ option_and_then (λ (i, u). elim (closes_class u) [
-        true ↦ Some (intersection a (item_class i), u)
-      | false ↦ read_intersection m n (intersection a (item_class i)) u ]) (read_operand m n (drop 2 t))
-    | false ↦ None ]
-
-  -- the same with `--`
-  pub read_difference : Mode → ℕ → Class → List ℕ → Option (Class × List ℕ)
-  read_difference m zero a t = None
-  read_difference m (suc n) a t = elim (two_at 0x2D 0x2D t) [
-      true ↦ option_and_then (λ (i, u). elim (closes_class u) [
-        true ↦ Some (difference a (item_class i), u)
-      | false ↦ read_difference m n (difference a (item_class i)) u ]) (read_operand m n (drop 2 t))
-    | false ↦ None ]
+use Rattle.regress_meaning.proofs.ReadSteps.{gives-test, gives-itself, front, two_front}
 
 -- What is read fits the grammar.
 
 -- the item stands there in the grammar
-abbrev pub ItemFits : Mode → List ℕ → Item → List ℕ → Type 0
-ItemFits m t (character c) r = SetCharacter m t c r
-ItemFits m t (other s) r = Operand m t s r
+abbrev pub ItemFits : Mode → List ℕ → SetItem → List ℕ → Type 0
+ItemFits m t (one_point c) r = SetCharacter m t c r
+ItemFits m t (any_class s) r = Operand m t s r
 
-item-operand : (m : Mode) (t : List ℕ) (i : Item) {r : List ℕ} → ItemFits m t i r → Operand m t (item_class i) r
-item-operand m t (character c) h = one_character h
-item-operand m t (other s) h = h
+item-operand : (m : Mode) (t : List ℕ) (i : SetItem) {r : List ℕ} → ItemFits m t i r → Operand m t (item_class i) r
+item-operand m t (one_point c) h = one_character h
+item-operand m t (any_class s) h = h
 
 item_of-gives : (m : Mode) (t : List ℕ) {r : List ℕ} (e : Escape) → escape_at m t ≡ Some (e, r) → Gives (λ x. ItemFits m (0x5C ∷ t) x.0 x.1) (item_of e r)
 item_of-gives m t (point c) h = gives-some (of_escape h)
 item_of-gives m t (set s) h = gives-some (of_class h)
 item_of-gives m t (groups ks) h = gives-none
 
-only_character-gives : (m : Mode) {t : List ℕ} (i : Item) (r : List ℕ) → ItemFits m t i r → Gives (λ x. SetCharacter m t x.0 x.1) (only_character i r)
-only_character-gives m (character c) r h = gives-some h
-only_character-gives m (other s) r h = gives-none
+only_character-gives : (m : Mode) {t : List ℕ} (i : SetItem) (r : List ℕ) → ItemFits m t i r → Gives (λ x. SetCharacter m t x.0 x.1) (only_character i r)
+only_character-gives m (one_point c) r h = gives-some h
+only_character-gives m (any_class s) r h = gives-none
 
 read_set_escape-gives : (m : Mode) (t : List ℕ) → Gives (λ x. ItemFits m (0x5C ∷ t) x.0 x.1) (read_set_escape m t)
 unfolding read_set_escape
@@ -205,9 +70,9 @@ pub behind_bracket-gives : (m : Mode) (t : List ℕ) {o : Option (Class × List 
 behind_bracket-gives m t h = gives-then _ _ h (λ x k. gives-guard (closes_class x.1)
     (λ closes. gives-some (subst (Contents m t x.0) (front 0x5D x.1 closes) k)))
 
-inner_item-gives : (m : Mode) (t : List ℕ) (negated : Bool) {o : Option (Class × List ℕ)} {P : Item × List ℕ → Type 0}
+inner_item-gives : (m : Mode) (t : List ℕ) (negated : Bool) {o : Option (Class × List ℕ)} {P : SetItem × List ℕ → Type 0}
     → Gives (λ x. Contents m t x.0 x.1) o
-    → ((s : Class) (r : List ℕ) → Contents m t s (0x5D ∷ r) → (negated && may_hold_strings s) ≡ false → P (other (nested negated s), r))
+    → ((s : Class) (r : List ℕ) → Contents m t s (0x5D ∷ r) → (negated && may_hold_strings s) ≡ false → P (any_class (nested negated s), r))
     → Gives P (inner_item negated o)
 inner_item-gives m t negated h g = gives-then _ _ (behind_bracket-gives m t h)
     (λ x k. gives-guard (not (negated && may_hold_strings x.0)) (λ e. gives-some (g x.0 x.1 k (not-true _ e))))
@@ -216,17 +81,17 @@ Union-closing : (m : Mode) (t : List ℕ) → closes_class t ≡ true → Union 
 Union-closing m t h = subst (λ t. Union m t no_string t) (sym (front 0x5D t h)) union_end
 
 -- what was read goes with each union behind it
-read_range-gives : (m : Mode) {t : List ℕ} (i : Item) (u : List ℕ) → ItemFits m t i u
+read_range-gives : (m : Mode) {t : List ℕ} (i : SetItem) (u : List ℕ) → ItemFits m t i u
     → Gives (λ x. (s : Class) (r : List ℕ) → Union m x.1 s r → Union m t (union x.0 s) r) (read_range m i u)
 unfolding read_range
-read_range-gives m {t} (character c) u h = gives-test (is_at (λ c. c == 0x2D) u)
+read_range-gives m {t} (one_point c) u h = gives-test (is_at (λ c. c == 0x2D) u)
     (λ dash. gives-then _ _ (read_set_character-gives m (drop 1 u)) (λ x k. gives-guard (nat_le c x.0)
         (λ ordered. gives-some (λ s r l. union_range (subst (SetCharacter m t c) (front 0x2D u dash) h) k (leb-true c x.0 ordered) l))))
     (λ none. gives-some (λ s r l. union_operand (one_character h) none l))
-read_range-gives m (other a) u h = gives-guard (not (is_at (λ c. c == 0x2D) u))
+read_range-gives m (any_class a) u h = gives-guard (not (is_at (λ c. c == 0x2D) u))
     (λ none. gives-some (λ s r l. union_operand h (not-true _ none) l))
 
-union_from-gives : (m : Mode) {t : List ℕ} (i : Item) (u : List ℕ) (rest : List ℕ → Option (Class × List ℕ))
+union_from-gives : (m : Mode) {t : List ℕ} (i : SetItem) (u : List ℕ) (rest : List ℕ → Option (Class × List ℕ))
     → ((v : List ℕ) → Gives (λ x. Union m v x.0 x.1) (rest v)) → ItemFits m t i u → Gives (λ x. Union m t x.0 x.1) (union_from m rest i u)
 union_from-gives m i u rest g h = gives-then _ _ (read_range-gives m i u h) (λ x k. gives-map _ _ (g x.1) (λ y l. k y.0 y.1 l))
 

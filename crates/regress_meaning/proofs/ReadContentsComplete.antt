@@ -6,10 +6,9 @@ use Rattle.regress_meaning.specs.Text.{holds, ◌∈◌, is_at}
 use Rattle.regress_meaning.specs.Class.{Class, range, strings, union, intersection, difference, nested}
 use Rattle.regress_meaning.specs.Tokens.{Mode, Escape, point, set, guard, escape_at}
 use Rattle.regress_meaning.specs.Grammar.{reserved_pair, SetCharacter, bare, backspace, punctuator, of_escape, SetString, no_more, and_then, SetStrings, last_string, more_strings, Operand, one_character, of_class, of_strings, inner, inner_negated, Contents, of_union, of_intersection, of_difference, Union, union_end, union_range, union_operand, Intersection, last_and, more_and, Difference, last_minus, more_minus}
+use Rattle.regress_meaning.specs.ReadingClass.{closes_class, two_at, is_set_syntax, is_set_mark, opens_strings, SetItem, one_point, any_class, item_class, item_of, only_character, read_set_escape, read_set_atom, read_set_character, read_set_string, read_set_strings, behind_bracket, inner_item, read_range, union_from, read_operand, read_contents, read_union, read_intersection, read_difference}
 use Rattle.regress_meaning.proofs.Shorter.{SetCharacter-shorter, SetString-shorter, Operand-shorter}
-use Rattle.regress_meaning.proofs.ReadSteps.{on_true, on_false, on_some, on_map, on_guard, told_apart, two_at}
-use Rattle.regress_meaning.proofs.ReadMembers.{closes_class}
-use Rattle.regress_meaning.proofs.ReadContents.{is_set_syntax, is_set_mark, opens_strings, Item, character, other, item_class, item_of, read_set_escape, read_set_atom, read_set_character, read_set_string, read_set_strings, read_range, union_from, read_operand, read_contents, read_union, read_intersection, read_difference}
+use Rattle.regress_meaning.proofs.ReadSteps.{on_true, on_false, on_some, on_map, on_guard, told_apart}
 
 -- P holds of each
 abbrev Each : (ℕ → Type 0) → List ℕ → Type 0
@@ -55,22 +54,22 @@ module _ (m : Mode) (unicode : m.unicode ≡ true) where
       let marks : is_set_mark c ≡ false = (or_parts (0x71 == c) (is_set_mark c) (or_parts (0x62 == c) _ f).1).1 in
       on_false _ b (on_false _ marks (on_some (λ x. item_of x.0 x.1) h refl))
 
-  read_set_atom-character : {t r : List ℕ} {c : ℕ} → SetCharacter m t c r → read_set_atom m t ≡ Some (character c, r)
+  read_set_atom-one_point : {t r : List ℕ} {c : ℕ} → SetCharacter m t c r → read_set_atom m t ≡ Some (one_point c, r)
   unfolding read_set_atom read_set_escape
-  read_set_atom-character (bare {c = c} h k) =
+  read_set_atom-one_point (bare {c = c} h k) =
       on_false _ (told_apart is_set_syntax c 0x5C h refl) (on_guard _ (and_from _ _ (not_from_false _ h) (not_from_false _ k)))
-  read_set_atom-character backspace = refl
-  read_set_atom-character (punctuator {c = c} h) =
+  read_set_atom-one_point backspace = refl
+  read_set_atom-one_point (punctuator {c = c} h) =
       on_false _ (told_apart (λ c. not (is_set_mark c)) c 0x62 (not_from_true _ h) refl) (on_true _ h refl)
-  read_set_atom-character (of_escape {t = t} h) = read_set_escape-complete t h
+  read_set_atom-one_point (of_escape {t = t} h) = read_set_escape-complete t h
 
-  read_set_atom-class : (t : List ℕ) {r : List ℕ} {s : Class} → escape_at m t ≡ Some (set s, r) → read_set_atom m (0x5C ∷ t) ≡ Some (other s, r)
+  read_set_atom-class : (t : List ℕ) {r : List ℕ} {s : Class} → escape_at m t ≡ Some (set s, r) → read_set_atom m (0x5C ∷ t) ≡ Some (any_class s, r)
   unfolding read_set_atom
   read_set_atom-class t h = read_set_escape-complete t h
 
   read_set_character-complete : {t r : List ℕ} {c : ℕ} → SetCharacter m t c r → read_set_character m t ≡ Some (c, r)
   unfolding read_set_character
-  read_set_character-complete h = on_some _ (read_set_atom-character h) refl
+  read_set_character-complete h = on_some _ (read_set_atom-one_point h) refl
 
   -- what a code point of a class does not begin with
   SetCharacter-front : (test : ℕ → Bool) → ((c : ℕ) → is_set_syntax c ≡ false → test c ≡ false) → test 0x5C ≡ false
@@ -162,43 +161,43 @@ module _ (m : Mode) (unicode : m.unicode ≡ true) where
   Difference-opens (last_minus h) = refl
   Difference-opens (more_minus h k) = refl
 
-  read_operand-character : (n : ℕ) {t r : List ℕ} {c : ℕ} → SetCharacter m t c r → read_operand m (suc n) t ≡ Some (character c, r)
+  read_operand-one_point : (n : ℕ) {t r : List ℕ} {c : ℕ} → SetCharacter m t c r → read_operand m (suc n) t ≡ Some (one_point c, r)
   unfolding read_operand
-  read_operand-character n h = on_false _ (SetCharacter-not_at 0x5B refl refl h) (on_false _ (SetCharacter-no_strings h) (read_set_atom-character h))
+  read_operand-one_point n h = on_false _ (SetCharacter-not_at 0x5B refl refl h) (on_false _ (SetCharacter-no_strings h) (read_set_atom-one_point h))
 
   union_from-range : (rest : List ℕ → Option (Class × List ℕ)) {u v r : List ℕ} {a b : ℕ} {s : Class}
-      → SetCharacter m u b v → a ≤ b → rest v ≡ Some (s, r) → union_from m rest (character a) (0x2D ∷ u) ≡ Some (union (range a b) s, r)
+      → SetCharacter m u b v → a ≤ b → rest v ≡ Some (s, r) → union_from m rest (one_point a) (0x2D ∷ u) ≡ Some (union (range a b) s, r)
   unfolding read_range
   union_from-range rest {a = a} {b = b} h le e = on_some _ (on_some _ (read_set_character-complete h) (on_guard _ (le-leb a b le))) (on_map _ e)
 
-  read_range-none : (i : Item) {u : List ℕ} → is_at (λ c. c == 0x2D) u ≡ false → read_range m i u ≡ Some (item_class i, u)
+  read_range-none : (i : SetItem) {u : List ℕ} → is_at (λ c. c == 0x2D) u ≡ false → read_range m i u ≡ Some (item_class i, u)
   unfolding read_range
-  read_range-none (character c) none = on_false _ none refl
-  read_range-none (other s) none = on_guard _ (not_from_false _ none)
+  read_range-none (one_point c) none = on_false _ none refl
+  read_range-none (any_class s) none = on_guard _ (not_from_false _ none)
 
-  union_from-item : (rest : List ℕ → Option (Class × List ℕ)) (i : Item) {u r : List ℕ} {a s : Class}
+  union_from-item : (rest : List ℕ → Option (Class × List ℕ)) (i : SetItem) {u r : List ℕ} {a s : Class}
       → is_at (λ c. c == 0x2D) u ≡ false → item_class i ≡ a → rest u ≡ Some (s, r) → union_from m rest i u ≡ Some (union a s, r)
   union_from-item rest i {r = r} {s = s} none same e = on_some _ (read_range-none i none) (on_map _ e) ∙ ap (λ a. Some (union a s, r)) same
 
   mutual
     unfolding read_operand
     read_operand-complete : (n : ℕ) {t r : List ℕ} {s : Class} → 2 * length t < n → Operand m t s r
-        → (i : Item) × (read_operand m n t ≡ Some (i, r)) × (item_class i ≡ s)
+        → (i : SetItem) × (read_operand m n t ≡ Some (i, r)) × (item_class i ≡ s)
     read_operand-complete zero room h = absurd (omega arith)
-    read_operand-complete (suc n) room (one_character {c = c} h) = (character c, read_operand-character n h, refl)
-    read_operand-complete (suc n) room (of_class {t = t} {s = s} h) = (other s, on_false _ (escape-no_strings t h) (read_set_atom-class t h), refl)
-    read_operand-complete (suc n) room (of_strings {ss = ss} h) = (other (strings ss), on_map _ (read_set_strings-complete n (omega arith) h), refl)
+    read_operand-complete (suc n) room (one_character {c = c} h) = (one_point c, read_operand-one_point n h, refl)
+    read_operand-complete (suc n) room (of_class {t = t} {s = s} h) = (any_class s, on_false _ (escape-no_strings t h) (read_set_atom-class t h), refl)
+    read_operand-complete (suc n) room (of_strings {ss = ss} h) = (any_class (strings ss), on_map _ (read_set_strings-complete n (omega arith) h), refl)
     read_operand-complete (suc n) room (inner {s = s} none h) =
-        (other (nested false s), on_false _ none (on_some _ (on_some _ (read_contents-complete n (omega arith) h) refl) refl), refl)
+        (any_class (nested false s), on_false _ none (on_some _ (on_some _ (read_contents-complete n (omega arith) h) refl) refl), refl)
     read_operand-complete (suc n) room (inner_negated {s = s} h none) =
-        (other (nested true s), on_some _ (on_some _ (read_contents-complete n (omega arith) h) refl) (on_guard _ (not_from_false _ none)), refl)
+        (any_class (nested true s), on_some _ (on_some _ (read_contents-complete n (omega arith) h) refl) (on_guard _ (not_from_false _ none)), refl)
 
     pub read_contents-complete : (n : ℕ) {t r : List ℕ} {s : Class} → 2 * length t + 1 < n → Contents m t s r → read_contents m n t ≡ Some (s, r)
     read_contents-complete zero room h = absurd (omega arith)
     read_contents-complete (suc n) room (of_union union_end) = refl
     read_contents-complete (suc zero) room (of_union (union_range h k le l)) = absurd (omega arith)
     read_contents-complete (suc (suc n)) room (of_union (union_range h k le l)) =
-        on_false _ (SetCharacter-not_at 0x5D refl refl h) (on_some _ (read_operand-character n h) (on_false _ (SetCharacter-not_at 0x2D refl refl k)
+        on_false _ (SetCharacter-not_at 0x5D refl refl h) (on_some _ (read_operand-one_point n h) (on_false _ (SetCharacter-not_at 0x2D refl refl k)
         (union_from-range (λ v. read_union m (suc n) v) k le
         (read_union-complete (suc n) (omega (arith, SetCharacter-shorter m h, SetCharacter-shorter m k)) l))))
     read_contents-complete (suc n) room (of_union (union_operand h none k)) =
@@ -220,7 +219,7 @@ module _ (m : Mode) (unicode : m.unicode ≡ true) where
     read_union-complete (suc n) room union_end = refl
     read_union-complete (suc zero) room (union_range h k le l) = absurd (omega arith)
     read_union-complete (suc (suc n)) room (union_range h k le l) =
-        on_false _ (SetCharacter-not_at 0x5D refl refl h) (on_some _ (read_operand-character n h)
+        on_false _ (SetCharacter-not_at 0x5D refl refl h) (on_some _ (read_operand-one_point n h)
         (union_from-range (λ v. read_union m (suc n) v) k le
         (read_union-complete (suc n) (omega (arith, SetCharacter-shorter m h, SetCharacter-shorter m k)) l)))
     read_union-complete (suc n) room (union_operand h none k) =

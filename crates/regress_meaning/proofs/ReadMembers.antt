@@ -5,34 +5,10 @@ use Rattle.regress_meaning.specs.Text.{◌∈◌, is_at}
 use Rattle.regress_meaning.specs.Class.{Class, no_string, range, union}
 use Rattle.regress_meaning.specs.Tokens.{Mode, Escape, point, guard, class_escape_at}
 use Rattle.regress_meaning.specs.Grammar.{class_of, member_class, dash_before_member, is_point, Member, as_itself, escaped, Members, no_member, single, from_to, loose}
+use Rattle.regress_meaning.specs.ReadingClass.{closes_class, read_member, dashed, read_members}
 use Rattle.regress_meaning.proofs.Inversion.{Gives, gives-none, gives-some, gives-weaker, gives-guard, gives-map, gives-then}
 use Rattle.regress_meaning.proofs.Shorter.{Member-shorter}
 use Rattle.regress_meaning.proofs.ReadSteps.{gives-test, gives-itself, on_true, on_false, on_some, on_map, told_apart, front}
-
--- the closing bracket of a class stands here
-abbrev pub closes_class : List ℕ → Bool
-closes_class t = is_at (λ c. c == 0x5D) t
-
--- one member
-unfoldable pub read_member : Mode → List ℕ → Option (Escape × List ℕ)
-read_member m [] = None
-read_member m (c ∷ t) = elim (c == 0x5C) [
-    true ↦ class_escape_at m t
-  | false ↦ elim (c == 0x5D) [ true ↦ None | false ↦ Some (point c, t) ] ]
-
--- two members with a dash between them, and the class s behind: a range of two code points, or three members
-abbrev pub dashed : Mode → Escape → Escape → Class → Option Class
-dashed m (point a) (point b) s = guard (nat_le a b) (Some (union (range a b) s))
-dashed m d e s = guard (not m.unicode) (Some (union (member_class d) (union (class_of 0x2D) (union (member_class e) s))))
-
--- the members up to the closing bracket, and what follows that; the number bounds how many they are
-unfoldable pub read_members : Mode → ℕ → List ℕ → Option (Class × List ℕ)
-read_members m zero t = None
-read_members m (suc n) t = elim (closes_class t) [
-    true ↦ Some (no_string, drop 1 t)
-  | false ↦ option_and_then (λ (d, u). elim (dash_before_member u) [
-      true ↦ option_and_then (λ (e, v). option_and_then (λ (s, r). option_map (λ k. (k, r)) (dashed m d e s)) (read_members m n v)) (read_member m (drop 1 u))
-    | false ↦ option_map (λ (s, r). (union (member_class d) s, r)) (read_members m n u) ]) (read_member m t) ]
 
 -- What is read fits the grammar.
 

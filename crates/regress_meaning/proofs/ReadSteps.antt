@@ -4,6 +4,7 @@ use Rattle.std.proofs.Common.{◌≡◌, ℕ, Bool, true, false, ◌==◌, ◌&&
 use Rattle.std.proofs.lemmas.Bool.{and_parts}
 use Rattle.regress_meaning.specs.Text.{is_at}
 use Rattle.regress_meaning.specs.Tokens.{guard}
+use Rattle.regress_meaning.specs.ReadingClass.{two_at}
 use Rattle.regress_meaning.proofs.Inversion.{Gives, is_at-eq}
 
 -- each case of an `elim` on a test, where the test is known
@@ -40,11 +41,7 @@ told_apart test c d h k = go (c == d) refl
     go false e = e
     go true e = let same : test c ≡ test d = ap test (eqb-true c d e) in absurd (cc)
 
--- the text begins with j and k
-abbrev pub two_at : ℕ → ℕ → List ℕ → Bool
-two_at j k t = is_at (λ c. c == j) t && is_at (λ c. c == k) (drop 1 t)
-
--- a text that begins so is that front and the rest
+-- a text that begins with k is that front and the rest
 pub front : (k : ℕ) (t : List ℕ) → is_at (λ c. c == k) t ≡ true → t ≡ k ∷ drop 1 t
 front k t h = let e = is_at-eq k t h in e.1 ∙ ap (λ u. k ∷ drop 1 u) (sym e.1)
 
