@@ -227,7 +227,7 @@ p_in_a_class = refl
 -- a bracket or a backslash inside a class leaves the groups behind it as they are
 groups_behind_classes : PlainReads "[[](a)[\\]](?<n>b)\\k<n>\\2"
     (terms (class false (points "[") ∷ group 0 (letters "a") ∷ class false (points "]") ∷ named 1 "n" (letters "b")
-        ∷ reference (1 ∷ []) ∷ reference (1 ∷ []) ∷ []))
+    ∷ reference (1 ∷ []) ∷ reference (1 ∷ []) ∷ []))
 unfolding reading
 groups_behind_classes = refl
 

@@ -35,7 +35,7 @@ read_set_escape-gives m [] = gives-none
 read_set_escape-gives m (c ∷ t) = gives-test (c == 0x62)
     (λ b. rw (eqb-true c 0x62 b) (gives-some backspace))
     (λ _. gives-test (is_set_mark c) (λ h. gives-some (punctuator h))
-        (λ _. gives-then _ _ (gives-itself (escape_at m (c ∷ t))) (λ x h. item_of-gives m (c ∷ t) x.0 h)))
+    (λ _. gives-then _ _ (gives-itself (escape_at m (c ∷ t))) (λ x h. item_of-gives m (c ∷ t) x.0 h)))
 
 read_set_atom-gives : (m : Mode) (t : List ℕ) → Gives (λ x. ItemFits m t x.0 x.1) (read_set_atom m t)
 unfolding read_set_atom
@@ -43,7 +43,7 @@ read_set_atom-gives m [] = gives-none
 read_set_atom-gives m (c ∷ t) = gives-test (c == 0x5C)
     (λ b. rw (eqb-true c 0x5C b) (read_set_escape-gives m t))
     (λ _. gives-guard (not (is_set_syntax c) && not (reserved_pair (c ∷ t)))
-        (λ h. let parts = and_parts _ _ h in gives-some (bare (not-true _ parts.0) (not-true _ parts.1))))
+    (λ h. let parts = and_parts _ _ h in gives-some (bare (not-true _ parts.0) (not-true _ parts.1))))
 
 read_set_character-gives : (m : Mode) (t : List ℕ) → Gives (λ x. SetCharacter m t x.0 x.1) (read_set_character m t)
 unfolding read_set_character
@@ -62,8 +62,8 @@ read_set_strings-gives m zero t = gives-none
 read_set_strings-gives m (suc n) t = gives-then _ _ (read_set_string-gives m n t) (λ x h. gives-test (is_at (λ c. c == 0x7D) x.1)
     (λ ends. gives-some (last_string (subst (SetString m t x.0) (front 0x7D x.1 ends) h)))
     (λ _. gives-test (is_at (λ c. c == 0x7C) x.1)
-        (λ bar. gives-map _ _ (read_set_strings-gives m n (drop 1 x.1)) (λ y k. more_strings (subst (SetString m t x.0) (front 0x7C x.1 bar) h) k))
-        (λ _. gives-none)))
+    (λ bar. gives-map _ _ (read_set_strings-gives m n (drop 1 x.1)) (λ y k. more_strings (subst (SetString m t x.0) (front 0x7C x.1 bar) h) k))
+    (λ _. gives-none)))
 
 pub behind_bracket-gives : (m : Mode) (t : List ℕ) {o : Option (Class × List ℕ)} → Gives (λ x. Contents m t x.0 x.1) o
     → Gives (λ x. Contents m t x.0 (0x5D ∷ x.1)) (behind_bracket o)
@@ -86,7 +86,7 @@ read_range-gives : (m : Mode) {t : List ℕ} (i : SetItem) (u : List ℕ) → It
 unfolding read_range
 read_range-gives m {t} (one_point c) u h = gives-test (is_at (λ c. c == 0x2D) u)
     (λ dash. gives-then _ _ (read_set_character-gives m (drop 1 u)) (λ x k. gives-guard (nat_le c x.0)
-        (λ ordered. gives-some (λ s r l. union_range (subst (SetCharacter m t c) (front 0x2D u dash) h) k (leb-true c x.0 ordered) l))))
+    (λ ordered. gives-some (λ s r l. union_range (subst (SetCharacter m t c) (front 0x2D u dash) h) k (leb-true c x.0 ordered) l))))
     (λ none. gives-some (λ s r l. union_operand (one_character h) none l))
 read_range-gives m (any_class a) u h = gives-guard (not (is_at (λ c. c == 0x2D) u))
     (λ none. gives-some (λ s r l. union_operand h (not-true _ none) l))
@@ -112,28 +112,29 @@ closing_minus m {a} {b} {t} {r} h closes =
 
 mutual
   unfolding read_operand
+
   read_operand-gives : (m : Mode) (n : ℕ) (t : List ℕ) → Gives (λ x. ItemFits m t x.0 x.1) (read_operand m n t)
   read_operand-gives m zero t = gives-none
   read_operand-gives m (suc n) t = gives-test (is_at (λ c. c == 0x5B) t)
       (λ bracket. gives-test (is_at (λ c. c == 0x5E) (drop 1 t))
-          (λ caret. inner_item-gives m (drop 2 t) true (read_contents-gives m n (drop 2 t))
-              (λ s r h e. subst (λ t. Operand m t (nested true s) r) (sym (two_front 0x5B 0x5E t (and_from _ _ bracket caret))) (inner_negated h e)))
-          (λ none. inner_item-gives m (drop 1 t) false (read_contents-gives m n (drop 1 t))
-              (λ s r h e. subst (λ t. Operand m t (nested false s) r) (sym (front 0x5B t bracket)) (inner none h))))
+      (λ caret. inner_item-gives m (drop 2 t) true (read_contents-gives m n (drop 2 t))
+      (λ s r h e. subst (λ t. Operand m t (nested true s) r) (sym (two_front 0x5B 0x5E t (and_from _ _ bracket caret))) (inner_negated h e)))
+      (λ none. inner_item-gives m (drop 1 t) false (read_contents-gives m n (drop 1 t))
+      (λ s r h e. subst (λ t. Operand m t (nested false s) r) (sym (front 0x5B t bracket)) (inner none h))))
       (λ _. gives-test (opens_strings t)
-          (λ opens. gives-map _ _ (read_set_strings-gives m n (drop 3 t))
-              (λ x h. subst (λ t. Operand m t (strings x.0) x.1) (sym (strings_front t opens)) (of_strings h)))
-          (λ _. read_set_atom-gives m t))
+      (λ opens. gives-map _ _ (read_set_strings-gives m n (drop 3 t))
+      (λ x h. subst (λ t. Operand m t (strings x.0) x.1) (sym (strings_front t opens)) (of_strings h)))
+      (λ _. read_set_atom-gives m t))
 
   pub read_contents-gives : (m : Mode) (n : ℕ) (t : List ℕ) → Gives (λ x. Contents m t x.0 x.1) (read_contents m n t)
   read_contents-gives m zero t = gives-none
   read_contents-gives m (suc n) t = gives-test (closes_class t)
       (λ closes. gives-some (of_union (Union-closing m t closes)))
       (λ _. gives-then _ _ (read_operand-gives m n t) (λ x h. gives-test (two_at 0x26 0x26 x.1)
-          (λ _. gives-weaker (λ y k. of_intersection (item-operand m t x.0 h) k) (read_intersection-gives m n (item_class x.0) x.1))
-          (λ _. gives-test (two_at 0x2D 0x2D x.1)
-              (λ _. gives-weaker (λ y k. of_difference (item-operand m t x.0 h) k) (read_difference-gives m n (item_class x.0) x.1))
-              (λ _. gives-weaker (λ y k. of_union k) (union_from-gives m x.0 x.1 (λ v. read_union m n v) (λ v. read_union-gives m n v) h)))))
+      (λ _. gives-weaker (λ y k. of_intersection (item-operand m t x.0 h) k) (read_intersection-gives m n (item_class x.0) x.1))
+      (λ _. gives-test (two_at 0x2D 0x2D x.1)
+      (λ _. gives-weaker (λ y k. of_difference (item-operand m t x.0 h) k) (read_difference-gives m n (item_class x.0) x.1))
+      (λ _. gives-weaker (λ y k. of_union k) (union_from-gives m x.0 x.1 (λ v. read_union m n v) (λ v. read_union-gives m n v) h)))))
 
   read_union-gives : (m : Mode) (n : ℕ) (t : List ℕ) → Gives (λ x. Union m t x.0 x.1) (read_union m n t)
   read_union-gives m zero t = gives-none
@@ -145,18 +146,18 @@ mutual
   read_intersection-gives m zero a t = gives-none
   read_intersection-gives m (suc n) a t = gives-test (two_at 0x26 0x26 t && not (is_at (λ c. c == 0x26) (drop 2 t)))
       (λ both. let parts = and_parts (two_at 0x26 0x26 t) _ both in let none = not-true _ parts.1 in let here = two_front 0x26 0x26 t parts.0 in
-          gives-then _ _ (read_operand-gives m n (drop 2 t)) (λ x h. let k = item-operand m (drop 2 t) x.0 h in gives-test (closes_class x.1)
-              (λ closes. gives-some (subst (λ t. Intersection m a t (intersection a (item_class x.0)) x.1) (sym here) (closing_and m none k closes)))
-              (λ _. gives-weaker (λ y l. subst (λ t. Intersection m a t y.0 y.1) (sym here) (more_and none k l))
-                  (read_intersection-gives m n (intersection a (item_class x.0)) x.1))))
+      gives-then _ _ (read_operand-gives m n (drop 2 t)) (λ x h. let k = item-operand m (drop 2 t) x.0 h in gives-test (closes_class x.1)
+      (λ closes. gives-some (subst (λ t. Intersection m a t (intersection a (item_class x.0)) x.1) (sym here) (closing_and m none k closes)))
+      (λ _. gives-weaker (λ y l. subst (λ t. Intersection m a t y.0 y.1) (sym here) (more_and none k l))
+      (read_intersection-gives m n (intersection a (item_class x.0)) x.1))))
       (λ _. gives-none)
 
   read_difference-gives : (m : Mode) (n : ℕ) (a : Class) (t : List ℕ) → Gives (λ x. Difference m a t x.0 x.1) (read_difference m n a t)
   read_difference-gives m zero a t = gives-none
   read_difference-gives m (suc n) a t = gives-test (two_at 0x2D 0x2D t)
       (λ both. let here = two_front 0x2D 0x2D t both in
-          gives-then _ _ (read_operand-gives m n (drop 2 t)) (λ x h. let k = item-operand m (drop 2 t) x.0 h in gives-test (closes_class x.1)
-              (λ closes. gives-some (subst (λ t. Difference m a t (difference a (item_class x.0)) x.1) (sym here) (closing_minus m k closes)))
-              (λ _. gives-weaker (λ y l. subst (λ t. Difference m a t y.0 y.1) (sym here) (more_minus k l))
-                  (read_difference-gives m n (difference a (item_class x.0)) x.1))))
+      gives-then _ _ (read_operand-gives m n (drop 2 t)) (λ x h. let k = item-operand m (drop 2 t) x.0 h in gives-test (closes_class x.1)
+      (λ closes. gives-some (subst (λ t. Difference m a t (difference a (item_class x.0)) x.1) (sym here) (closing_minus m k closes)))
+      (λ _. gives-weaker (λ y l. subst (λ t. Difference m a t y.0 y.1) (sym here) (more_minus k l))
+      (read_difference-gives m n (difference a (item_class x.0)) x.1))))
       (λ _. gives-none)

@@ -181,6 +181,7 @@ module _ (m : Mode) (unicode : m.unicode ≡ true) where
 
   mutual
     unfolding read_operand
+
     read_operand-complete : (n : ℕ) {t r : List ℕ} {s : Class} → 2 * length t < n → Operand m t s r
         → (i : SetItem) × (read_operand m n t ≡ Some (i, r)) × (item_class i ≡ s)
     read_operand-complete zero room h = absurd (omega arith)

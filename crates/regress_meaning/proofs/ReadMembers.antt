@@ -34,10 +34,10 @@ read_members-gives m zero t = gives-none
 read_members-gives m (suc n) t = gives-test (closes_class t)
     (λ closes. rw (front 0x5D t closes) (gives-some no_member))
     (λ _. gives-then _ _ (read_member-gives m t) (λ x h. gives-test (dash_before_member x.1)
-        (λ dash. let here = dash_front x.1 dash in
-            gives-then _ _ (read_member-gives m (drop 1 x.1)) (λ y k. gives-then _ _ (read_members-gives m n y.1) (λ z l. gives-map _ _
-                (dashed-gives m x.0 y.0 (subst (Member m t x.0) here h) (subst (λ u. dash_before_member u ≡ true) here dash) k l) (λ s g. g))))
-        (λ none. gives-map _ _ (read_members-gives m n x.1) (λ y l. single h none l))))
+    (λ dash. let here = dash_front x.1 dash in
+    gives-then _ _ (read_member-gives m (drop 1 x.1)) (λ y k. gives-then _ _ (read_members-gives m n y.1) (λ z l. gives-map _ _
+    (dashed-gives m x.0 y.0 (subst (Member m t x.0) here h) (subst (λ u. dash_before_member u ≡ true) here dash) k l) (λ s g. g))))
+    (λ none. gives-map _ _ (read_members-gives m n x.1) (λ y l. single h none l))))
 
 -- What the grammar spells is read.
 

@@ -236,7 +236,7 @@ lazily_quantified_lookahead = refl
 -- the groups inside are those opened before it and up to its end
 quantified_groups : AlwaysReads "(a)((b)c)*(d)?"
     (terms (group 0 (letters "a") ∷ star (group 1 (terms (group 2 (letters "b") ∷ letter "c" ∷ []))) 1 3
-        ∷ maybe (group 3 (letters "d")) 3 4 ∷ []))
+    ∷ maybe (group 3 (letters "d")) 3 4 ∷ []))
 unfolding reading
 quantified_groups = (refl, refl, refl)
 
@@ -369,6 +369,6 @@ reference_to_two_groups_of_a_name = (refl, refl, refl)
 
 reference_behind_two_groups_of_a_name : AlwaysReads "(?:(?<n>a)|(?<m>b)|(?<n>c))\\k<n>"
     (terms (grouped (choice (alone (named 0 "n" (letters "a"))) (choice (alone (named 1 "m" (letters "b"))) (alone (named 2 "n" (letters "c")))))
-        ∷ reference (0 ∷ 2 ∷ []) ∷ []))
+    ∷ reference (0 ∷ 2 ∷ []) ∷ []))
 unfolding reading
 reference_behind_two_groups_of_a_name = (refl, refl, refl)
