@@ -1,10 +1,10 @@
 -- Which trees classes spell, by example, without flag v and with it.
-use Rattle.std.proofs.Common.{◌≡◌, true, false, List, [], ◌∷◌, map, Some, refl}
+use Rattle.std.proofs.Common.{◌≡◌, true, false, List, [], ◌∷◌, Some, refl}
 use Prim.Native.Char.{Char, code}
 use Prim.Native.String.{String}
 use lib.Chars.{codes}
 use Rattle.regress_meaning.specs.Grammar.{class_of}
-use Rattle.regress_meaning.specs.Class.{Class, no_string, range, digits, spaces, words, property, sequences, strings, union, intersection, difference, complement, nested}
+use Rattle.regress_meaning.specs.Class.{Class, no_string, range, digits, spaces, words, property, sequences, strings, intersection, difference, complement, nested}
 use Rattle.regress_meaning.specs.Pattern.{Pattern, class, reference}
 use Rattle.regress_meaning.proofs.Rows.{terms, letter, letters, group, star}
 use Rattle.regress_meaning.proofs.ReadingRows.{reading, read, Reads, PlainReads, UnicodeReads, AlwaysReads, alone, named, members, points}

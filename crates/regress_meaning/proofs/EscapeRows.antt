@@ -3,7 +3,7 @@ use Rattle.std.proofs.Common.{◌≡◌, true, false, [], ◌∷◌, ◌++◌, m
 use lib.Chars.{codes}
 use Rattle.regress_meaning.specs.Class.{digits, spaces, words, property, sequences, complement}
 use Rattle.regress_meaning.specs.Flags.{settings_of}
-use Rattle.regress_meaning.specs.Pattern.{Pattern, nothing, character, class, class_escape, grouped, modified, repeated, look, reference}
+use Rattle.regress_meaning.specs.Pattern.{nothing, character, class, class_escape, grouped, modified, repeated, look, reference}
 use Rattle.regress_meaning.proofs.Rows.{terms, letter, letters, group, star, plus, maybe}
 use Rattle.regress_meaning.proofs.ReadingRows.{reading, read, Reads, PlainReads, UnicodeReads, AlwaysReads, alone, named, points}
 

@@ -1,9 +1,9 @@
 -- The function that reads a class, and that it fits the grammar both ways.
-use Rattle.std.proofs.Common.{◌≡◌, ℕ, suc, ◌+◌, ◌*◌, true, false, List, length, Option, Some, refl, arith}
+use Rattle.std.proofs.Common.{◌≡◌, ℕ, suc, ◌+◌, ◌*◌, true, List, length, Some, refl, arith}
 use Rattle.regress_meaning.specs.Class.{Class}
 use Rattle.regress_meaning.specs.Tokens.{Mode}
 use Rattle.regress_meaning.specs.Grammar.{ClassBody, of_members, of_contents}
-use Rattle.regress_meaning.specs.ReadingClass.{behind_bracket, read_members, read_contents, read_class}
+use Rattle.regress_meaning.specs.ReadingClass.{read_class}
 use Rattle.regress_meaning.proofs.Inversion.{gives-weaker, Gives}
 use Rattle.regress_meaning.proofs.ReadSteps.{gives-test, on_true, on_false, on_some}
 use Rattle.regress_meaning.proofs.ReadMembers.{read_members-gives, read_members-complete}

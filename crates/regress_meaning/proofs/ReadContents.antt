@@ -1,10 +1,10 @@
 -- The functions that read a class with `v`, behind its opening bracket, and that what they read fits the grammar.
-use Rattle.std.proofs.Common.{◌≡◌, ℕ, suc, zero, Bool, true, false, not, ◌&&◌, ◌==◌, nat_le, List, [], ◌∷◌, drop, Option, Some, None, option_and_then, option_map, sym, ap, eqb-true, ◌∙◌, subst}
+use Rattle.std.proofs.Common.{◌≡◌, ℕ, suc, zero, Bool, true, false, not, ◌&&◌, ◌==◌, nat_le, List, [], ◌∷◌, drop, Option, Some, sym, ap, eqb-true, ◌∙◌, subst}
 use Rattle.std.proofs.lemmas.Bool.{and_parts, and_from, not-true, leb-true}
 use Rattle.regress_meaning.specs.Text.{◌∈◌, is_at}
-use Rattle.regress_meaning.specs.Class.{Class, no_string, range, strings, union, intersection, difference, nested, may_hold_strings}
-use Rattle.regress_meaning.specs.Tokens.{Mode, Escape, point, set, groups, guard, escape_at}
-use Rattle.regress_meaning.specs.Grammar.{class_of, reserved_pair, SetCharacter, bare, backspace, punctuator, of_escape, SetString, no_more, and_then, SetStrings, last_string, more_strings, Operand, one_character, of_class, of_strings, inner, inner_negated, Contents, of_union, of_intersection, of_difference, Union, union_end, union_range, union_operand, Intersection, last_and, more_and, Difference, last_minus, more_minus}
+use Rattle.regress_meaning.specs.Class.{Class, no_string, strings, union, intersection, difference, nested, may_hold_strings}
+use Rattle.regress_meaning.specs.Tokens.{Mode, Escape, point, set, groups, escape_at}
+use Rattle.regress_meaning.specs.Grammar.{reserved_pair, SetCharacter, bare, backspace, punctuator, of_escape, SetString, no_more, and_then, SetStrings, last_string, more_strings, Operand, one_character, of_class, of_strings, inner, inner_negated, Contents, of_union, of_intersection, of_difference, Union, union_end, union_range, union_operand, Intersection, last_and, more_and, Difference, last_minus, more_minus}
 use Rattle.regress_meaning.specs.ReadingClass.{closes_class, two_at, is_set_syntax, is_set_mark, opens_strings, SetItem, one_point, any_class, item_class, item_of, only_character, read_set_escape, read_set_atom, read_set_character, read_set_string, read_set_strings, behind_bracket, inner_item, read_range, union_from, read_operand, read_contents, read_union, read_intersection, read_difference}
 use Rattle.regress_meaning.proofs.Inversion.{Gives, gives-none, gives-some, gives-weaker, gives-guard, gives-map, gives-then}
 use Rattle.regress_meaning.proofs.ReadSteps.{gives-test, gives-itself, front, two_front}

@@ -6,7 +6,7 @@ use Rattle.regress_meaning.specs.Text.{holds, ◌∈◌, is_at}
 use Rattle.regress_meaning.specs.Class.{Class, range, strings, union, intersection, difference, nested}
 use Rattle.regress_meaning.specs.Tokens.{Mode, Escape, point, set, guard, escape_at}
 use Rattle.regress_meaning.specs.Grammar.{reserved_pair, SetCharacter, bare, backspace, punctuator, of_escape, SetString, no_more, and_then, SetStrings, last_string, more_strings, Operand, one_character, of_class, of_strings, inner, inner_negated, Contents, of_union, of_intersection, of_difference, Union, union_end, union_range, union_operand, Intersection, last_and, more_and, Difference, last_minus, more_minus}
-use Rattle.regress_meaning.specs.ReadingClass.{closes_class, two_at, is_set_syntax, is_set_mark, opens_strings, SetItem, one_point, any_class, item_class, item_of, only_character, read_set_escape, read_set_atom, read_set_character, read_set_string, read_set_strings, behind_bracket, inner_item, read_range, union_from, read_operand, read_contents, read_union, read_intersection, read_difference}
+use Rattle.regress_meaning.specs.ReadingClass.{closes_class, two_at, is_set_syntax, is_set_mark, opens_strings, SetItem, one_point, any_class, item_class, item_of, read_set_escape, read_set_atom, read_set_character, read_set_string, read_set_strings, read_range, union_from, read_operand, read_contents, read_union, read_intersection, read_difference}
 use Rattle.regress_meaning.proofs.Shorter.{SetCharacter-shorter, SetString-shorter, Operand-shorter}
 use Rattle.regress_meaning.proofs.ReadSteps.{on_true, on_false, on_some, on_map, on_guard, told_apart}
 

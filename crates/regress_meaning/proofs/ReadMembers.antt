@@ -1,9 +1,9 @@
 -- The function that reads a class without `v`, behind its opening bracket, and that it fits the grammar both ways.
-use Rattle.std.proofs.Common.{◌≡◌, ℕ, suc, zero, ◌<◌, ◌≤◌, Bool, true, false, not, ◌&&◌, ◌==◌, nat_le, List, [], ◌∷◌, length, drop, Option, Some, None, option_and_then, option_map, refl, ap, eqb-true, subst, arith, rules}
+use Rattle.std.proofs.Common.{◌≡◌, ℕ, suc, zero, ◌<◌, ◌≤◌, true, false, not, ◌&&◌, ◌==◌, nat_le, List, [], ◌∷◌, length, drop, Some, refl, ap, eqb-true, subst, arith, rules}
 use Rattle.std.proofs.lemmas.Bool.{or_from, and_parts, not-true, leb-true, le-leb}
-use Rattle.regress_meaning.specs.Text.{◌∈◌, is_at}
-use Rattle.regress_meaning.specs.Class.{Class, no_string, range, union}
-use Rattle.regress_meaning.specs.Tokens.{Mode, Escape, point, guard, class_escape_at}
+use Rattle.regress_meaning.specs.Text.{◌∈◌}
+use Rattle.regress_meaning.specs.Class.{Class, range, union}
+use Rattle.regress_meaning.specs.Tokens.{Mode, Escape, point, class_escape_at}
 use Rattle.regress_meaning.specs.Grammar.{class_of, member_class, dash_before_member, is_point, Member, as_itself, escaped, Members, no_member, single, from_to, loose}
 use Rattle.regress_meaning.specs.ReadingClass.{closes_class, read_member, dashed, read_members}
 use Rattle.regress_meaning.proofs.Inversion.{Gives, gives-none, gives-some, gives-weaker, gives-guard, gives-map, gives-then}

@@ -1,6 +1,6 @@
 -- The steps of a function that reads: what is known of what an `elim` on a test gives, and what a step gives where its
 -- parts are known.
-use Rattle.std.proofs.Common.{◌≡◌, ℕ, Bool, true, false, ◌==◌, ◌&&◌, List, [], ◌∷◌, drop, Option, Some, option_and_then, option_map, refl, sym, ap, ◌∙◌, eqb-true}
+use Rattle.std.proofs.Common.{◌≡◌, ℕ, Bool, true, false, ◌==◌, List, [], ◌∷◌, drop, Option, Some, option_and_then, option_map, refl, sym, ap, ◌∙◌, eqb-true}
 use Rattle.std.proofs.lemmas.Bool.{and_parts}
 use Rattle.regress_meaning.specs.Text.{is_at}
 use Rattle.regress_meaning.specs.Tokens.{guard}

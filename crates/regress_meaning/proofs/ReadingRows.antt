@@ -1,19 +1,19 @@
 -- Which trees texts spell, by example: terms, quantifiers, groups and names. Each tree is computed by the reading
 -- function, with the small table.
-use Rattle.std.proofs.Common.{◌≡◌, ℕ, Bool, true, false, List, [], ◌∷◌, map, Option, Some, None, refl, ◌^◌, ◌-◌}
+use Rattle.std.proofs.Common.{◌≡◌, ℕ, Bool, true, false, List, [], ◌∷◌, map, Option, Some, refl, ◌^◌, ◌-◌}
 use Prim.Native.String.{String}
 use lib.Chars.{codes}
 use Rattle.regress_meaning.specs.Text.{span, span_up_to}
 use Rattle.regress_meaning.specs.TableParts.{image, in_intervals, entry}
 use Rattle.regress_meaning.specs.Flags.{options_of, settings_of}
-use Rattle.regress_meaning.specs.Pattern.{Pattern, nothing, character, any, choice, sequence, capture, grouped, modified, repeated, look, reference, line_start, line_end, word_boundary}
+use Rattle.regress_meaning.specs.Pattern.{Pattern, nothing, character, any, choice, capture, grouped, modified, repeated, look, reference, line_start, line_end, word_boundary}
 use Rattle.regress_meaning.specs.Tokens.{greatest, decimal_at, bounds_at, hex_at, low_half, pair_at, braces_at, unicode_escape, octal_at, name_point, name_rest, name_at, key_at, property_at, named_reference, octal_or_digit, decimal_escape, escape_at, class_escape_at}
 use Rattle.regress_meaning.specs.Class.{Class, no_string, union}
 use Rattle.regress_meaning.specs.Grammar.{class_of, holds_a_name}
 use Rattle.regress_meaning.specs.Scan.{group_names}
 use Rattle.regress_meaning.specs.ReadingClass.{read_member, read_members, read_set_escape, read_set_atom, read_set_character, read_set_string, read_set_strings, read_range, read_operand, read_contents, read_union, read_intersection, read_difference, read_class}
 use Rattle.regress_meaning.specs.Reading.{modifiers_at, escape_opening, class_opening, angle_opening, question_opening, parenthesis_opening, opening, bounded, quantified, closed, closed_and_quantified, read_term, alternatives_if, alternatives, terms as terms_of, read_terms, read_disjunction, read_alternative, whole_tree, disjunction_at, read_pattern}
-use Rattle.regress_meaning.proofs.Rows.{small, terms, letter, letters, group, star, plus, maybe}
+use Rattle.regress_meaning.proofs.Rows.{small, terms, letter, letters, group, star, maybe}
 
 -- ---- words for the examples
 
