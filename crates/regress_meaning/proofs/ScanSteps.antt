@@ -6,7 +6,7 @@ use Rattle.std.proofs.Math.Bool.{and-false}
 use Rattle.regress_meaning.specs.Text.{◌∈◌, is_at}
 use Rattle.regress_meaning.specs.Tokens.{Mode, name_at}
 use Rattle.regress_meaning.specs.Grammar.{opens_name}
-use Rattle.regress_meaning.specs.Scan.{group_names, opening}
+use Rattle.regress_meaning.specs.Scan.{group_names, opened_groups}
 use Rattle.regress_meaning.proofs.ScanWords.{differs, is_neutral, Passed, here, plain, pair, Behind, past}
 
 behind-length : {t r : List ℕ} → Behind t r → length r ≤ length t
@@ -41,7 +41,7 @@ module _ (m : Mode) where
       rw e (behind-skipped b p)
 
   -- outside a class, what c opens is found, and what it begins is passed over
-  outside-step : (c : ℕ) (t : List ℕ) (word : List (List ℕ) × List ℕ) → opening m.table m.named c t ≡ word → Behind t word.1 →
+  outside-step : (c : ℕ) (t : List ℕ) (word : List (List ℕ) × List ℕ) → opened_groups m.table m.named c t ≡ word → Behind t word.1 →
       found_from false (c ∷ t) ≡ word.0 ++ found_from (c == 0x5B) word.1
   unfolding group_names
   outside-step c t word e p = rw e (ap (λ names. word.0 ++ names) (behind-skipped (c == 0x5B) p))
@@ -51,11 +51,11 @@ module _ (m : Mode) where
   unfolding group_names
   class-step c t e f = rw (f, e) refl
 
-  -- outside one anything but a backslash and the opening brackets
+  -- outside one anything but a backslash and the opened_groups brackets
   pub plain-step : (c : ℕ) (t : List ℕ) → (c == 0x5C) ≡ false → (c == 0x28) ≡ false → (c == 0x5B) ≡ false →
       AgreeIn false (c ∷ t) t
   plain-step c t e f g =
-      let nothing : opening m.table m.named c t ≡ ([], t) = rw (e, f) refl in
+      let nothing : opened_groups m.table m.named c t ≡ ([], t) = rw (e, f) refl in
       rw g at (outside-step c t ([], t) nothing here)
 
   pub neutral-agrees : (c : ℕ) (t : List ℕ) → is_neutral c ≡ true → Agree (c ∷ t) t

@@ -15,8 +15,8 @@ after_escape table named t =
     unwrap_or (guard (named && starts_with nat_eq t (codes "k<")) (option_map (λ (name, r). r) (name_at table (drop 2 t)))) (drop 1 t)
 
 -- What c begins outside a class, with t behind it: the names of the groups that it opens, at most one, and what follows.
-abbrev pub opening : Table → (named : Bool) → ℕ → List ℕ → List (List ℕ) × List ℕ
-opening table named c t =
+abbrev pub opened_groups : Table → (named : Bool) → ℕ → List ℕ → List (List ℕ) × List ℕ
+opened_groups table named c t =
     if c == 0x5C then ([], after_escape table named t)
     else if not (c == 0x28) then ([], t)
     else if not (is_at (λ d. d == 0x3F) t) then ([] ∷ [], t)
@@ -30,7 +30,7 @@ group_names table named in_class passed [] = []
 group_names table named in_class (suc n) (c ∷ t) = group_names table named in_class n t
 group_names table named true zero (c ∷ t) = group_names table named (not (c == 0x5D)) (if c == 0x5C then 1 else 0) t
 group_names table named false zero (c ∷ t) =
-    let (names, r) = opening table named c t in names ++ group_names table named (c == 0x5B) (length t - length r) t
+    let (names, r) = opened_groups table named c t in names ++ group_names table named (c == 0x5B) (length t - length r) t
 
 -- the names of the groups of a whole text
 abbrev pub scanned_names : Table → Options → List ℕ → List (List ℕ)
