@@ -104,7 +104,7 @@ module _ (m : Mode) where
       difference-crosses (more_minus {t} b rest) =
           past_one 0x2D (0x2D ∷ t) refl then past_one 0x2D t refl then operand-crosses b then difference-crosses rest
 
-  -- what passes a test that the backslash and the opened_groups brackets fail is passed over outside a class
+  -- what passes a test that the backslash and the opening brackets fail is passed over outside a class
   plain_by : (test : ℕ → Bool) → test 0x5C ≡ false → test 0x28 ≡ false → test 0x5B ≡ false →
       (c : ℕ) (t : List ℕ) → test c ≡ true → AgreeIn m false (c ∷ t) t
   plain_by test p q r c t h = plain-step m c t (apart 0x5C p) (apart 0x28 q) (apart 0x5B r)

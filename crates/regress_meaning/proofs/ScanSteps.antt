@@ -51,7 +51,7 @@ module _ (m : Mode) where
   unfolding group_names
   class-step c t e f = rw (f, e) refl
 
-  -- outside one anything but a backslash and the opened_groups brackets
+  -- outside one anything but a backslash and the opening brackets
   pub plain-step : (c : ℕ) (t : List ℕ) → (c == 0x5C) ≡ false → (c == 0x28) ≡ false → (c == 0x5B) ≡ false →
       AgreeIn false (c ∷ t) t
   plain-step c t e f g =

@@ -21,7 +21,7 @@ differs test c d e = (ne_eqb c d clash, ne_eqb d c (λ p. clash (sym p)))
     clash : c ≡ d → ⊥
     clash p = other (test d) (sym (ap test p) ∙ e)
 
--- neither a bracket, an opened_groups parenthesis nor a backslash
+-- neither a bracket, an opening parenthesis nor a backslash
 abbrev pub is_neutral : ℕ → Bool
 is_neutral c = not (c ∈ "([\\]")
 
@@ -58,7 +58,7 @@ passed-behind here = here
 passed-behind (plain e p) = past (passed-behind p)
 passed-behind (pair e p) = past (past (passed-behind p))
 
--- a test that no bracket, opened_groups parenthesis or backslash passes
+-- a test that no bracket, opening parenthesis or backslash passes
 abbrev pub OnlyNeutral : (ℕ → Bool) → Type 0
 OnlyNeutral test = (c : ℕ) → test c ≡ true → is_neutral c ≡ true
 
