@@ -1,0 +1,4 @@
+pub mod Trees
+pub mod Stage
+pub mod Parsing
+pub mod Views

@@ -1,0 +1,19 @@
+-- How the values of the public calls stand to the definitions.
+use Rattle.std.specs.Prelude.{◌≡◌, ℕ, List, Option, map, option_map}
+use Rattle.std.specs.declared.ops.Range.{Range}
+use Rattle.regress_meaning.specs.Flags.{Options, options_of}
+use Rattle.regress_meaning.specs.Matches.{Item}
+use Rattle.regress.specs.declared.front.flags.Flags.{Flags}
+use Rattle.regress.specs.declared.engine.found.Match.{Match}
+
+-- what flags switch on
+abbrev pub options : Flags → Options
+options f = record { icase = f.icase; multiline = f.multiline; dot_all = f.dot_all; unicode = f.unicode; sets = f.unicode_sets }
+
+-- the ends of a range
+abbrev pub ends : Range ℕ → ℕ × ℕ
+ends r = (r.start, r.end)
+
+-- the item that a match is
+abbrev pub item_of : Match → Item
+item_of m = record { start = m.range.start; end = m.range.end; groups = map (option_map ends) m.captures.items }

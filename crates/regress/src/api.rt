@@ -1,0 +1,12 @@
+//! The user's calls.
+
+/// Whether all numbers are code points, at most 10FFFF.
+pub fn are_code_points(points: &[u32]) -> bool {
+    points.iter().all(|c| *c <= 0x10_FFFF)
+}
+
+/// A compiled pattern.
+#[derive(Debug, Drop)]
+pub struct Regex {
+    syntax: u32,
+}

@@ -1,0 +1,4 @@
+//! From a tree and a text to matches.
+
+pub(crate) mod evaluator;
+pub(crate) mod found;

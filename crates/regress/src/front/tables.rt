@@ -1,0 +1,1 @@
+//! Case and properties of code points.

@@ -1,0 +1,14 @@
+//! Regular expressions of ECMAScript (ECMA-262, 16th edition, 2025), in the names of the Rust crate `regress`.
+//!
+//! What a pattern matches is said by the definitions of `regress_meaning`, and each contract here cites those.
+#![tactic(auto)]
+
+mod api;
+mod engine;
+mod front;
+
+pub use api::{Regex, are_code_points};
+pub use engine::found::{Match, Range};
+pub use front::error::Error;
+pub use front::flags::Flags;
+
