@@ -122,6 +122,14 @@ dash_behind_a_range : BothRead "[a-c-e]" (in_brackets (members (from_to "a" "c" 
 unfolding reading
 dash_behind_a_range = (refl, refl)
 
+range_from_a_dash_behind_a_range : BothRead "[a-c--e]" (in_brackets (members (from_to "a" "c" ∷ from_to "-" "e" ∷ [])))
+unfolding reading
+range_from_a_dash_behind_a_range = (refl, refl)
+
+dash_between_a_range_and_a_set : BothRead "[a-b-\\d]" (in_brackets (members (from_to "a" "b" ∷ one "-" ∷ digits ∷ [])))
+unfolding reading
+dash_between_a_range_and_a_set = (refl, refl)
+
 -- the second dash stands between two members, of which the first dash is one
 range_from_a_dash : BothRead "[--a]" (in_brackets (members (from_to "-" "a" ∷ [])))
 unfolding reading
@@ -157,6 +165,10 @@ dash_behind_three = refl
 backspace : AlwaysReads "[\\b]" (in_brackets (members (class_of 8 ∷ [])))
 unfolding reading
 backspace = (refl, refl, refl)
+
+range_from_backspace : AlwaysReads "[\\b-\\n]" (in_brackets (members (range 8 10 ∷ [])))
+unfolding reading
+range_from_backspace = (refl, refl, refl)
 
 no_boundary_in_a_class : PlainReads "[\\B]" (in_brackets (points "B"))
 unfolding reading
@@ -211,6 +223,14 @@ syntax_characters_in_a_class = (refl, refl, refl)
 pair_in_a_class : UnicodeReads "[\\uD83D\\uDE00\\u{61}]" (in_brackets (members (class_of 0x1F600 ∷ one "a" ∷ [])))
 unfolding reading
 pair_in_a_class = (refl, refl)
+
+range_of_pairs : UnicodeReads "[\\uD83D\\uDE00-\\uD83D\\uDE02]" (in_brackets (members (range 0x1F600 0x1F602 ∷ [])))
+unfolding reading
+range_of_pairs = (refl, refl)
+
+range_of_halves : AlwaysReads "[\\uD83D-\\uDE00]" (in_brackets (members (range 0xD83D 0xDE00 ∷ [])))
+unfolding reading
+range_of_halves = (refl, refl, refl)
 
 halves_in_a_class : PlainReads "[\\uD83D\\uDE00]" (in_brackets (members (class_of 0xD83D ∷ class_of 0xDE00 ∷ [])))
 unfolding reading

@@ -2,8 +2,11 @@
 use Rattle.std.proofs.Common.{◌≡◌, true, false, [], ◌∷◌, ◌++◌, map, Some, refl}
 use lib.Chars.{codes}
 use Rattle.regress_meaning.specs.Class.{digits, spaces, words, property, sequences, complement}
-use Rattle.regress_meaning.specs.Flags.{settings_of}
-use Rattle.regress_meaning.specs.Pattern.{nothing, character, class, class_escape, grouped, modified, repeated, look, reference}
+use Rattle.regress_meaning.specs.Table.{Table}
+use Rattle.regress_meaning.specs.TableParts.{table_of, small_parts}
+use Rattle.regress_meaning.specs.Flags.{options_of, settings_of}
+use Rattle.regress_meaning.specs.Pattern.{nothing, character, class, class_escape, capture, grouped, modified, repeated, look, reference}
+use Rattle.regress_meaning.specs.Reading.{read_pattern}
 use Rattle.regress_meaning.proofs.Rows.{terms, letter, letters, group, star, plus, maybe}
 use Rattle.regress_meaning.proofs.ReadingRows.{reading, read, Reads, PlainReads, UnicodeReads, AlwaysReads, alone, named, points}
 
@@ -20,6 +23,11 @@ spaces_and_others = (refl, refl, refl)
 word_characters_and_others : AlwaysReads "\\w\\W" (terms (class_escape words ∷ class_escape (complement words) ∷ []))
 unfolding reading
 word_characters_and_others = (refl, refl, refl)
+
+counted_digits : AlwaysReads "(\\d{2})-\\d+"
+    (terms (group 0 (alone (repeated (class_escape digits) 1 1 2 2 true)) ∷ letter "-" ∷ plus (class_escape digits) 1 1 ∷ []))
+unfolding reading
+counted_digits = (refl, refl, refl)
 
 -- form feed, line feed, carriage return, tab and vertical tab
 control_escapes : AlwaysReads "\\f\\n\\r\\t\\v" (terms (map character (0xC ∷ 0xA ∷ 0xD ∷ 9 ∷ 0xB ∷ [])))
@@ -83,9 +91,9 @@ octal_of_one_digit : PlainReads "\\18" (terms (character 1 ∷ letter "8" ∷ []
 unfolding reading
 octal_of_one_digit = refl
 
-eight_and_nine : PlainReads "\\8" (letters "8") × PlainReads "\\9" (letters "9") × PlainReads "\\81" (letters "81")
+eight_and_nine : PlainReads "\\8" (letters "8") × PlainReads "\\9" (letters "9") × PlainReads "\\81" (letters "81") × PlainReads "\\99" (letters "99")
 unfolding reading
-eight_and_nine = (refl, refl, refl)
+eight_and_nine = (refl, refl, refl, refl)
 
 reference_by_number : AlwaysReads "(a)\\1" (terms (group 0 (letters "a") ∷ reference (0 ∷ []) ∷ []))
 unfolding reading
@@ -125,6 +133,14 @@ quantified_reference = (refl, refl, refl)
 escaped_parentheses_are_no_group : AlwaysReads "\\((a)\\)\\1" (terms (letter "(" ∷ group 0 (letters "a") ∷ letter ")" ∷ reference (0 ∷ []) ∷ []))
 unfolding reading
 escaped_parentheses_are_no_group = (refl, refl, refl)
+
+parenthesis_behind_an_escaped_backslash : AlwaysReads "\\\\(a)\\1" (terms (letter "\\" ∷ group 0 (letters "a") ∷ reference (0 ∷ []) ∷ []))
+unfolding reading
+parenthesis_behind_an_escaped_backslash = (refl, refl, refl)
+
+parenthesis_behind_a_lone_backslash : PlainReads "\\c(a)\\1" (terms (letter "\\" ∷ letter "c" ∷ group 0 (letters "a") ∷ reference (0 ∷ []) ∷ []))
+unfolding reading
+parenthesis_behind_a_lone_backslash = refl
 
 parentheses_of_a_class_are_no_group : PlainReads "[()]\\1" (terms (class false (points "()") ∷ character 1 ∷ []))
 unfolding reading
@@ -181,6 +197,12 @@ half_in_braces_is_not_joined : UnicodeReads "\\uD83D\\u{DE00}" (terms (character
 unfolding reading
 half_in_braces_is_not_joined = (refl, refl)
 
+-- a half as it stands and an escaped one
+raw_half_beside_an_escaped_half : (read "u" (0xD83D ∷ codes "\\uDE00") ≡ Some (terms (character 0xD83D ∷ character 0xDE00 ∷ [])))
+    × (read "u" (codes "\\uD83D" ++ 0xDE00 ∷ []) ≡ Some (terms (character 0xD83D ∷ character 0xDE00 ∷ [])))
+unfolding reading
+raw_half_beside_an_escaped_half = (refl, refl)
+
 quantified_pair : UnicodeReads "\\uD83D\\uDE00?" (alone (maybe (character 0x1F600) 0 0))
 unfolding reading
 quantified_pair = (refl, refl)
@@ -220,6 +242,10 @@ k_without_a_named_group : PlainReads "(a)\\k<n>" (terms (group 0 (letters "a") �
 unfolding reading
 k_without_a_named_group = refl
 
+k_and_a_group : PlainReads "\\k<(a)>\\1" (terms (letter "k" ∷ letter "<" ∷ group 0 (letters "a") ∷ letter ">" ∷ reference (0 ∷ []) ∷ []))
+unfolding reading
+k_and_a_group = refl
+
 k_alone : PlainReads "\\k" (letters "k")
 unfolding reading
 k_alone = refl
@@ -256,6 +282,30 @@ p_without_unicode_mode = (refl, refl)
 braces_behind_p : PlainReads "\\p{ASCII}" (letters "p{ASCII}") × PlainReads "\\P{2}" (alone (repeated (letter "P") 0 0 2 2 true))
 unfolding reading
 braces_behind_p = (refl, refl)
+
+-- ---- another table
+
+-- one that knows one letter, a property with a value, and one name both as a property and as strings
+abbrev other_table : Table
+other_table = table_of (record small_parts {
+  id_start = (0x1F600, 0x1F600) ∷ [];
+  properties = (codes "Script=Greek", []) ∷ (codes "Both", []) ∷ [];
+  sequences = (codes "Both", []) ∷ [];
+})
+
+property_with_a_value : read_pattern other_table (options_of (codes "u")) (codes "\\p{Script=Greek}") ≡ Some (alone (class_escape (property (codes "Script=Greek"))))
+unfolding reading
+property_with_a_value = refl
+
+property_of_code_points_comes_first : read_pattern other_table (options_of (codes "v")) (codes "\\P{Both}") ≡ Some (alone (class_escape (complement (property (codes "Both")))))
+unfolding reading
+property_of_code_points_comes_first = refl
+
+-- without Unicode mode too
+pair_in_a_name : read_pattern other_table (options_of []) (codes "(?<\\uD83D\\uDE00>)\\k<\\u{1F600}>")
+    ≡ Some (terms (capture 0 (Some (0x1F600 ∷ [])) nothing ∷ reference (0 ∷ []) ∷ []))
+unfolding reading
+pair_in_a_name = refl
 
 -- ---- characters escaped
 

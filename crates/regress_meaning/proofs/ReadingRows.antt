@@ -125,7 +125,7 @@ a_choice_a_star_and_a_lookahead = (refl, refl, refl)
 -- ---- quantifiers
 
 -- a quantifier behind the letter a
-abbrev pub times : ℕ → ℕ → Bool → Pattern
+abbrev times : ℕ → ℕ → Bool → Pattern
 times least most greedy = alone (repeated (letter "a") 0 0 least most greedy)
 
 any_number_of_times : AlwaysReads "a*" (times 0 greatest true)
@@ -209,6 +209,14 @@ count_that_is_not_closed : PlainReads "a{2" (letters "a{2") × PlainReads "a{2,3
 unfolding reading
 count_that_is_not_closed = (refl, refl)
 
+count_without_an_atom_that_is_not_closed : PlainReads "{2" (letters "{2") × PlainReads "{,2}" (letters "{,2}") × PlainReads "a{3,2" (letters "a{3,2")
+unfolding reading
+count_without_an_atom_that_is_not_closed = (refl, refl, refl)
+
+brace_behind_an_assertion : PlainReads "^{" (terms (line_start ∷ letter "{" ∷ [])) × PlainReads "(?<=a){" (terms (look false true (letters "a") ∷ letter "{" ∷ []))
+unfolding reading
+brace_behind_an_assertion = (refl, refl)
+
 count_with_a_space : PlainReads "a{2, 3}" (letters "a{2, 3}")
 unfolding reading
 count_with_a_space = refl
@@ -224,6 +232,10 @@ quantified_brace = refl
 quantified_dot : AlwaysReads ".*" (alone (star any 0 0))
 unfolding reading
 quantified_dot = (refl, refl, refl)
+
+quantified_group_of_an_assertion : AlwaysReads "(?:$){4294967296}" (alone (repeated (grouped (alone line_end)) 0 0 4294967296 4294967296 true))
+unfolding reading
+quantified_group_of_an_assertion = (refl, refl, refl)
 
 quantified_lookahead : PlainReads "(?=a)*" (alone (star (look false false (letters "a")) 0 0))
 unfolding reading
@@ -276,12 +288,16 @@ unfolding reading
 negated_lookbehind = (refl, refl, refl)
 
 -- a group with modifiers, with the letter a inside
-abbrev pub switched : String → String → Pattern
+abbrev switched : String → String → Pattern
 switched on off = alone (modified (settings_of (codes on)) (settings_of (codes off)) (letters "a"))
 
 switches_on : AlwaysReads "(?i:a)" (switched "i" "")
 unfolding reading
 switches_on = (refl, refl, refl)
+
+switches_in_both_alternatives : AlwaysReads "(?i:a|b)" (alone (modified (settings_of (codes "i")) (settings_of []) (choice (letters "a") (letters "b"))))
+unfolding reading
+switches_in_both_alternatives = (refl, refl, refl)
 
 switches_on_and_off : AlwaysReads "(?i-m:a)" (switched "i" "m")
 unfolding reading
