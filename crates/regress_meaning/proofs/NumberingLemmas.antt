@@ -211,6 +211,12 @@ mutual
       wrapped-numbers {p = p} (modified (settings_of on) (settings_of off) p) refl refl (λ f. f) (Disjunction-numbers m h)
 
 -- so many groups are opened as the tree has names
+pub Alternative-counts : (m : Mode) {t r : List ℕ} {k l : ℕ} {p : Pattern} → Alternative m t k p l r → l ≡ k + length (names_of p)
+Alternative-counts m h = (Alternative-numbers m h).counted
+
+pub Term-counts : (m : Mode) {t r : List ℕ} {k l : ℕ} {p : Pattern} → Term m t k p l r → l ≡ k + length (names_of p)
+Term-counts m h = (Term-numbers m h).counted
+
 pub Disjunction-counts : (m : Mode) {t r : List ℕ} {k l : ℕ} {p : Pattern} → Disjunction m t k p l r → l ≡ k + length (names_of p)
 Disjunction-counts m h = (Disjunction-numbers m h).counted
 

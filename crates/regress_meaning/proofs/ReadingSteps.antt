@@ -5,11 +5,12 @@ use Rattle.regress_meaning.specs.Text.{is_at}
 use Rattle.regress_meaning.specs.Pattern.{choice, sequence, nothing}
 use Rattle.regress_meaning.specs.Tokens.{Mode}
 use Rattle.regress_meaning.specs.Grammar.{ends_alternative}
-use Rattle.regress_meaning.specs.Reading.{Front, opening, read_term, joined_by, alternatives_if, alternatives, terms, read_terms, read_disjunction, read_alternative, disjunction_at, alternative_at, term_at, ReadsBySteps}
+use Rattle.regress_meaning.specs.Reading.{Front, opening, read_term, joined_by, alternatives_if, alternatives, terms, read_terms, read_disjunction, read_alternative, disjunction_at, alternative_at, term_at, GoesForward, ReadsBySteps}
 use Rattle.regress_meaning.proofs.Openings.{opening-fits}
 use Rattle.regress_meaning.proofs.ReadingSound.{ReadsDisjunctions, term-sound, read_disjunction-sound, read_alternative-sound}
 use Rattle.regress_meaning.proofs.ReadingComplete.{ReadsBelow, term-complete, read_disjunction-complete, read_alternative-complete}
-use Rattle.regress_meaning.proofs.Shorter.{Alternative-shorter, Term-shorter}
+use Rattle.regress_meaning.proofs.Shorter.{Disjunction-shorter, Alternative-shorter, Term-shorter}
+use Rattle.regress_meaning.proofs.NumberingLemmas.{Disjunction-counts, Alternative-counts, Term-counts}
 
 -- what finds the same values is the same
 agree : {A : Type 0} (o u : Option A) → ((a : A) → o ≡ Some a → u ≡ Some a) → ((a : A) → u ≡ Some a → o ≡ Some a) → o ≡ u
@@ -96,5 +97,31 @@ module _ (m : Mode) (coherent : m.sets ≡ true → m.unicode ≡ true) where
       (λ f e. terms-enough room t f (Term-shorter m (term-sound m (read_disjunction m room) (read_disjunction-sound m room) t k f (opening m t) (opening-fits m t) e)) (omega arith))
       ∙ ap (option_and_then (terms (alternative_at m))) (term-enough room t k (omega arith)))
 
+  disjunction-forward : (t : List ℕ) (k : ℕ) → GoesForward t k (disjunction_at m t k)
+  disjunction-forward t k f e =
+      let d = disjunction_at-sound t k f e in
+      let counted = Disjunction-counts m d in
+      (omega arith, Disjunction-shorter m d)
+
+  alternative-forward : (t : List ℕ) (k : ℕ) → GoesForward t k (alternative_at m t k)
+  unfolding alternative_at
+  alternative-forward t k f e =
+      let d = read_alternative-sound m (3 * length t + 2) t k f e in
+      let counted = Alternative-counts m d in
+      (omega arith, Alternative-shorter m d)
+
+  term-forward : (t : List ℕ) (k : ℕ) → GoesForward t k (term_at m t k)
+  unfolding term_at
+  term-forward t k f e =
+      let d = term-sound m (disjunction_at m) disjunction_at-sound t k f (opening m t) (opening-fits m t) e in
+      let counted = Term-counts m d in
+      let shorter = Term-shorter m d in
+      (omega arith, omega arith)
+
   pub read_by_steps : (t : List ℕ) (k : ℕ) → ReadsBySteps m t k
-  read_by_steps t k = record { disjunction = disjunction-step t k; alternative = alternative-step t k }
+  read_by_steps t k = record {
+    disjunction = disjunction-step t k;
+    alternative = alternative-step t k;
+    disjunction_forward = disjunction-forward t k;
+    alternative_forward = alternative-forward t k;
+    term_forward = term-forward t k }

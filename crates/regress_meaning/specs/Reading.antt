@@ -1,6 +1,6 @@
 -- The reading function: it finds the tree that a text spells, or nothing. The grammar says what a tree is; this says how it is
 -- found, from the left, each construct by its first code points, with no way back.
-use Rattle.std.specs.Prelude.{◌≡◌, ℕ, zero, suc, ◌+◌, ◌*◌, Bool, true, false, not, ◌&&◌, ◌==◌, nat_le, List, [], ◌∷◌, ◌++◌, length, drop, Option, Some, None, option_and_then, option_map, if◌then◌else◌}
+use Rattle.std.specs.Prelude.{◌≡◌, ℕ, zero, suc, ◌+◌, ◌*◌, ◌≤◌, Bool, true, false, not, ◌&&◌, ◌==◌, nat_le, List, [], ◌∷◌, ◌++◌, length, drop, Option, Some, None, option_and_then, option_map, if◌then◌else◌}
 use Rattle.regress_meaning.specs.Text.{◌∈◌, is_at, span}
 use Rattle.regress_meaning.specs.Table.{Table}
 use Rattle.regress_meaning.specs.Class.{Class, may_hold_strings}
@@ -188,9 +188,16 @@ whole_tree f = guard (length f.rest == 0 && names_apart f.tree) (Some f.tree)
 unfoldable pub read_pattern : Table → Options → List ℕ → Option Pattern
 read_pattern table o text = option_and_then whole_tree (disjunction_at (mode_of table o text (scanned_names table o text)) text 0)
 
+-- what is read is no longer than the text, and opens groups behind those opened before
+abbrev pub GoesForward : List ℕ → ℕ → Option Front → Type 0
+GoesForward t k o = (f : Front) → o ≡ Some f → (k ≤ f.opened) × (length f.rest ≤ length t)
+
 -- The functions read step by step: a disjunction by its first alternative, an alternative by its first term.
 pub record ReadsBySteps (m : Mode) (t : List ℕ) (k : ℕ) : Type 0 where
   pub disjunction : disjunction_at m t k ≡ option_and_then (alternatives (disjunction_at m)) (alternative_at m t k)
   pub alternative : alternative_at m t k ≡ (if ends_alternative t
       then Some (record { tree = nothing; opened = k; rest = t })
       else option_and_then (terms (alternative_at m)) (term_at m t k))
+  pub disjunction_forward : GoesForward t k (disjunction_at m t k)
+  pub alternative_forward : GoesForward t k (alternative_at m t k)
+  pub term_forward : GoesForward t k (term_at m t k)
