@@ -1,9 +1,9 @@
 -- What an answer of the parser says of the reading function, in every mode.
-use Rattle.std.specs.Prelude.{◌≡◌, ℕ, ◌+◌, ◌<◌, ◌≤◌, ◌⊎◌, Bool, true, List, length, drop, Option, Some, None, Result, Ok, Err, count_by, codes}
+use Rattle.std.specs.Prelude.{◌≡◌, ℕ, ◌+◌, ◌<◌, ◌≤◌, ◌⊎◌, Bool, true, List, ◌∷◌, length, drop, Option, Some, None, Result, Ok, Err, count_by, codes}
 use Rattle.regress_meaning.specs.Pattern.{Pattern, names_of}
 use Rattle.regress_meaning.specs.Tokens.{Mode}
 use Rattle.regress_meaning.specs.Limits.{depth, quantifiers, opens_nesting, opens_group, greatest_depth, most_groups}
-use Rattle.regress_meaning.specs.Reading.{Front}
+use Rattle.regress_meaning.specs.Reading.{Front, quantified}
 use Rattle.regress.specs.declared.front.error.Error.{Error}
 use Rattle.regress.specs.declared.front.error.Error.TheVariants.{Syntax as SyntaxError, TooDeep, TooManyGroups, TooManyLoops, TooLarge, OutOfMemory}
 use Rattle.regress.specs.declared.front.syntax.Syntax.{Syntax}
@@ -19,36 +19,57 @@ IsCoherent m = m.sets ≡ true → m.unicode ≡ true
 abbrev pub unread : Parser → List ℕ
 unread p = drop p.position p.points.now
 
--- how deep, with how many groups opened before, and on which text something is read
+-- where something is read: inside so many parentheses, with so many groups opened before, at the front of a text
 pub record Place : Type 0 where
   pub nesting : ℕ
   pub opened : ℕ
   pub text : List ℕ
 
--- the place at which a parser stands, inside so many parentheses
+-- where a parser stands, inside so many parentheses
 abbrev pub place : ℕ → Parser → Place
 place nesting p = record { nesting = nesting; opened = p.groups; text = unread p }
 
--- a front with this tree was read, and it passes no limit
-pub record IsTree (at : Place) (read : Option Front) (p : Pattern) (after : Parser) : Type 0 where
-  pub read_so : read ≡ Some (record { tree = p; opened = after.groups; rest = unread after })
-  pub counted : after.groups ≡ at.opened + length (names_of p)
-  pub deep : at.nesting + depth p ≤ greatest_depth
+-- what is counted at a later place was counted at the place before, and what goes beyond the stage there did so here
+pub record Leads (here there : Place) : Type 0 where
+  pub nested : there.nesting + count_by opens_nesting there.text ≤ here.nesting + count_by opens_nesting here.text
+  pub grouped : there.opened + count_by opens_group there.text ≤ here.opened + count_by opens_group here.text
+  pub staged : is_beyond_stage 0 there.text ≡ true → is_beyond_stage 0 here.text ≡ true
+
+-- a tree within the limits was read from one place to another
+pub record Grows (here there : Place) (p : Pattern) : Type 0 where
+  pub counted : there.opened ≡ here.opened + length (names_of p)
+  pub deep : here.nesting + depth p ≤ greatest_depth
   pub loops : quantifiers p ≡ 0
+  pub leads : Leads here there
+
+-- the front of a tree that ends at a place
+abbrev pub front_to : Place → Pattern → Front
+front_to there p = record { tree = p; opened = there.opened; rest = there.text }
 
 -- what a refusal says: no front is read, or the text goes beyond the stage; or each front passes the limit, and so does
 -- the number of characters by which a text is judged that spells no tree
 abbrev pub IsRefusal : Place → Option Front → Error → Type 0
-IsRefusal at read (SyntaxError text) = (read ≡ None) ⊎ ((text.now ≡ codes "Not in this stage") × (is_beyond_stage 0 at.text ≡ true))
-IsRefusal at read TooDeep =
-    ((f : Front) → read ≡ Some f → greatest_depth < at.nesting + depth f.tree) × (greatest_depth < at.nesting + count_by opens_nesting at.text)
-IsRefusal at read TooManyGroups =
-    ((f : Front) → read ≡ Some f → most_groups < f.opened) × (most_groups < at.opened + count_by opens_group at.text)
-IsRefusal at read TooManyLoops = ⊥
-IsRefusal at read TooLarge = ⊥
-IsRefusal at read OutOfMemory = Unit {0}
+IsRefusal here read (SyntaxError text) = (read ≡ None) ⊎ ((text.now ≡ codes "Not in this stage") × (is_beyond_stage 0 here.text ≡ true))
+IsRefusal here read TooDeep =
+    ((f : Front) → read ≡ Some f → greatest_depth < here.nesting + depth f.tree) × (greatest_depth < here.nesting + count_by opens_nesting here.text)
+IsRefusal here read TooManyGroups =
+    ((f : Front) → read ≡ Some f → most_groups < f.opened) × (most_groups < here.opened + count_by opens_group here.text)
+IsRefusal here read TooManyLoops = ⊥
+IsRefusal here read TooLarge = ⊥
+IsRefusal here read OutOfMemory = Unit {0}
 
--- What was answered at a place, where the reading function answers so.
-abbrev pub IsAnswer : Place → Option Front → Result Syntax Error → Parser → Type 0
-IsAnswer at read (Ok s) after = IsTree at read (tree s) after
-IsAnswer at read (Err e) after = IsRefusal at read e
+-- What was answered from one place to another, where the reading function answers so.
+abbrev pub IsAnswer : (here there : Place) → Option Front → Result Syntax Error → Type 0
+IsAnswer here there read (Ok s) = (read ≡ Some (front_to there (tree s))) × Grows here there (tree s)
+IsAnswer here there read (Err e) = IsRefusal here read e
+
+-- The same for an atom: the reading function goes on to the quantifier behind it.
+abbrev pub IsAtom : (here there : Place) → Option Front → Result Syntax Error → Type 0
+IsAtom here there read (Ok s) = (read ≡ quantified true here.opened (front_to there (tree s))) × Grows here there (tree s)
+IsAtom here there read (Err e) = IsRefusal here read e
+
+-- The same for the contents of parentheses, up to the closing one.
+abbrev pub AreContents : (here there : Place) → Option Front → Result Syntax Error → Type 0
+AreContents here there read (Ok s) =
+    (read ≡ Some (record { tree = tree s; opened = there.opened; rest = 0x29 ∷ there.text })) × Grows here there (tree s)
+AreContents here there read (Err e) = IsRefusal here read e

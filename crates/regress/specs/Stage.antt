@@ -10,9 +10,9 @@ is_beyond before c t =
     else if before == 0x28 && c == 0x3F then not (is_at (λ d. d == 0x3A) t)
     else c ∈ "^$.*+?[]{}"
 
--- what stands for the code point before the next one: none behind an escape, and behind `(?`
+-- c as what stands before the next code point: only a backslash that begins an escape and an opening parenthesis matter
 abbrev pub passed_by : (before : ℕ) → ℕ → ℕ
-passed_by before c = if before == 0x5C || (before == 0x28 && c == 0x3F) then 0 else c
+passed_by before c = if not (before == 0x5C) && (c == 0x5C || c == 0x28) then c else 0
 
 -- The text holds something that is not read yet; `before` is the code point before it, 0 for none.
 unfoldable pub is_beyond_stage : (before : ℕ) → List ℕ → Bool

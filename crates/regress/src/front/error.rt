@@ -1,9 +1,11 @@
 //! Why a call is refused.
-use std::error;
-use std::fmt;
+ghost use Rattle.std.specs.Prelude.{◌≡◌};
+ghost use Rattle.regress.specs.declared.front.error.Error.TheVariants.{OutOfMemory};
+
+use std::alloc::{AllocError, AllocFailed};
 
 /// Why a pattern is refused, or a search ends early.
-#[derive(Clone, Copy, Debug, PartialEq, Eq, Hash)]
+#[derive(Clone, Debug, PartialEq, Eq, Hash, Drop)]
 pub enum Error {
     /// The text is no pattern.
     Syntax {
@@ -20,4 +22,20 @@ pub enum Error {
     TooLarge,
     /// A request for memory was refused.
     OutOfMemory,
+}
+
+impl From<AllocError> for Error {
+    ghost from_gives = { λ _ e. e ≡ OutOfMemory };
+
+    fn from(_refused: AllocError) -> Error {
+        Error::OutOfMemory
+    }
+}
+
+impl<T: Drop> From<AllocFailed<T>> for Error {
+    ghost from_gives = { λ _ e. e ≡ OutOfMemory };
+
+    fn from(_refused: AllocFailed<T>) -> Error {
+        Error::OutOfMemory
+    }
 }

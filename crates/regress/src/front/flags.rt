@@ -1,7 +1,6 @@
 //! The flags of a pattern.
 ghost use Rattle.std.specs.Prelude.{◌≡◌, chars, Some};
 
-use std::fmt;
 
 /// What holds for a whole pattern. All flags are off by default.
 #[derive(Clone, Copy, Debug, Default)]

@@ -1,19 +1,40 @@
 //! The parser: one cursor over the code points of a pattern, and a function for each construct.
-ghost use Rattle.std.specs.Prelude.{◌≡◌, ◌==◌, ◌+◌, ◌<◌, ◌≤◌, ℕ, length, List, drop, IsTrue, Some, None, IfOk, IfErr, slice_get};
-ghost use Rattle.regress_meaning.specs.Text.{is_at};
+ghost use Rattle.std.specs.Prelude.{◌≡◌, ◌==◌, ◌+◌, ◌-◌, ◌<◌, ◌≤◌, ℕ, length, List, drop, true, false, IsTrue, OnOk, Some, None, IfOk, IfErr, slice_get, if◌then◌else◌};
+ghost use Rattle.regress_meaning.specs.Text.{is_at, holds};
+ghost use Rattle.regress_meaning.specs.Tokens.{Mode};
+ghost use Rattle.regress_meaning.specs.Grammar.{ends_alternative};
+ghost use Rattle.regress_meaning.specs.Reading.{disjunction_at, alternative_at, term_at};
 
 use crate::front::error::Error;
-use crate::front::syntax::Syntax;
+use crate::front::syntax::{CaptureGroupID, Syntax};
 use std::alloc::Global;
-
-/// What is answered for a pattern that holds something which is not read yet.
-pub(crate) const NOT_IN_STAGE: &str = "Not in this stage";
 
 /// How many parentheses may be open at once.
 const MAX_NESTING_DEPTH: u32 = 256;
 
 /// How many capturing groups there may be.
 const MAX_CAPTURE_GROUPS: u16 = 65535;
+
+/// The characters of syntax, and the solidus: a backslash before one of them makes it stand for itself.
+const SYNTAX_CHARACTERS: &str = "^$\\.*+?()[]{}|/";
+
+/// The characters that begin what is not read yet.
+const NOT_READ_YET: &str = "^$.*+?[]{}";
+
+/// The characters that begin a quantifier.
+const QUANTIFIERS: &str = "*+?{";
+
+/// What is answered for a pattern that holds something which is not read yet.
+pub(crate) const NOT_IN_STAGE: Error = Error::Syntax {
+    text: "Not in this stage",
+};
+
+/// Whether the code point is one of these characters of ASCII.
+fn is_one_of(point: u32, marks: &str) -> bool
+    ensures { result ≡ holds marks.now point }
+{
+    marks.bytes().any(|mark| u32::from(mark) == point)
+}
 
 /// The code points of a pattern, how far they are read, and how many groups were opened so far.
 #[derive(Drop)]
@@ -26,13 +47,19 @@ pub(crate) struct Parser<'p> {
 }
 
 impl<'p> Parser<'p> {
-    ghost use Rattle.regress.specs.Parsing.{unread};
+    ghost use Rattle.regress.specs.Parsing.{unread, place, IsCoherent, IsAnswer, IsAtom, AreContents};
 
     /// A parser at the beginning of a text.
     pub(crate) fn new(alloc: Global, points: &'p [u32]) -> Self
-        ensures { (result.points.now ≡ points.now) × (result.position ≡ 0) × (result.groups ≡ 0) }
+        ensures text { result.points.now ≡ points.now }
+        ensures beginning { (result.position ≡ 0) × (result.groups ≡ 0) }
     {
-        Parser { alloc, points, position: 0, groups: 0 }
+        Parser {
+            alloc,
+            points,
+            position: 0,
+            groups: 0,
+        }
     }
 
     /// The next code point, if there is one.
@@ -47,5 +74,170 @@ impl<'p> Parser<'p> {
         ensures { result ≡ is_at (λ c. c == mark) (unread self.now) }
     {
         self.peek() == Some(u32::from(mark))
+    }
+
+    /// The code point that begins a term; `None` where the alternative ends.
+    fn peek_term(&self) -> Option<u32>
+        ensures { result ≡ (if ends_alternative (unread self.now) then None else slice_get (unread self.now) 0) }
+    {
+        self.peek().filter(|point| !is_one_of(*point, "|)"))
+    }
+
+    /// Goes on behind the next code point.
+    fn bump(&mut self)
+        requires { 0 < length (unread self.old) }
+        ensures read { unread self.new ≡ drop 1 (unread self.old) }
+        ensures kept { (self.new.points.now ≡ self.old.points.now) × (self.new.groups ≡ self.old.groups) }
+    {
+        self.position += 1;
+    }
+
+    /// Alternatives between `|`, inside so many parentheses ("Disjunction").
+    #[cycle(parser)]
+    pub(crate) fn disjunction(&mut self, nesting: u32) -> Result<Syntax, Error>
+        requires { nesting ≤ 256 }
+        ensures answer { (m : Mode) → IsCoherent m → IsAnswer (place nesting self.old) (place nesting self.new) (disjunction_at m (unread self.old) self.old.groups) result }
+    {
+        regress_meaning::reading_goes_by_steps();
+        let mut arms = Vec::new(self.alloc);
+        loop {
+            let arm = self.alternative(nesting)?;
+            arms.push(arm)?;
+            if !self.is_at('|') {
+                break;
+            }
+            self.bump();
+        }
+        Ok(Syntax::Disjunction(arms))
+    }
+
+    /// Terms one after another ("Alternative").
+    #[cycle(parser)]
+    fn alternative(&mut self, nesting: u32) -> Result<Syntax, Error>
+        requires { nesting ≤ 256 }
+        ensures answer { (m : Mode) → IsCoherent m → IsAnswer (place nesting self.old) (place nesting self.new) (alternative_at m (unread self.old) self.old.groups) result }
+        ensures ended { OnOk result (ends_alternative (unread self.new) ≡ true) }
+    {
+        regress_meaning::reading_goes_by_steps();
+        let mut terms = Vec::new(self.alloc);
+        while let Some(first) = self.peek_term() {
+            let term = self.term(first, nesting)?;
+            terms.push(term)?;
+        }
+        Ok(Syntax::Alternative(terms))
+    }
+
+    /// An atom, which has no quantifier yet ("Term").
+    #[cycle(parser)]
+    fn term(&mut self, first: u32, nesting: u32) -> Result<Syntax, Error>
+        requires shallow { nesting ≤ 256 }
+        requires begins { slice_get (unread self.old) 0 ≡ Some first }
+        requires goes_on { ends_alternative (unread self.old) ≡ false }
+        ensures answer { (m : Mode) → IsCoherent m → IsAnswer (place nesting self.old) (place nesting self.new) (term_at m (unread self.old) self.old.groups) result }
+        ensures progress { OnOk result (length (unread self.new) < length (unread self.old)) }
+    {
+        let atom = self.atom(first, nesting)?;
+        match self.peek() {
+            Some(point) if is_one_of(point, QUANTIFIERS) => Err(NOT_IN_STAGE),
+            _ => Ok(atom),
+        }
+    }
+
+    /// A character, an escape or a group ("Atom").
+    #[cycle(parser)]
+    fn atom(&mut self, first: u32, nesting: u32) -> Result<Syntax, Error>
+        requires shallow { nesting ≤ 256 }
+        requires begins { slice_get (unread self.old) 0 ≡ Some first }
+        requires goes_on { ends_alternative (unread self.old) ≡ false }
+        ensures answer { (m : Mode) → IsCoherent m → IsAtom (place nesting self.old) (place nesting self.new) (term_at m (unread self.old) self.old.groups) result }
+        ensures progress { OnOk result (length (unread self.new) < length (unread self.old)) }
+    {
+        if self.is_at('(') {
+            return self.group(nesting);
+        }
+        if self.is_at('\\') {
+            return self.escape(nesting);
+        }
+        if is_one_of(first, NOT_READ_YET) {
+            return Err(NOT_IN_STAGE);
+        }
+        self.bump();
+        Ok(Syntax::Character(first))
+    }
+
+    /// A backslash and a character of syntax, which stands for itself ("IdentityEscape").
+    fn escape(&mut self, ghost_nesting: u32) -> Result<Syntax, Error>
+        requires shallow { ghost_nesting ≤ 256 }
+        requires begins { is_at (λ c. c == 0x5C) (unread self.old) ≡ true }
+        ensures answer { (m : Mode) → IsCoherent m → IsAtom (place ghost_nesting self.old) (place ghost_nesting self.new) (term_at m (unread self.old) self.old.groups) result }
+        ensures progress { OnOk result (length (unread self.new) < length (unread self.old)) }
+    {
+        self.bump();
+        let Some(point) = self.peek() else {
+            return Err(Error::Syntax {
+                text: "Invalid escape",
+            });
+        };
+        if !is_one_of(point, SYNTAX_CHARACTERS) {
+            return Err(NOT_IN_STAGE);
+        }
+        self.bump();
+        Ok(Syntax::Character(point))
+    }
+
+    /// `(..)` or `(?:..)`.
+    #[cycle(parser)]
+    fn group(&mut self, nesting: u32) -> Result<Syntax, Error>
+        requires shallow { nesting ≤ 256 }
+        requires begins { is_at (λ c. c == 0x28) (unread self.old) ≡ true }
+        ensures answer { (m : Mode) → IsCoherent m → IsAtom (place nesting self.old) (place nesting self.new) (term_at m (unread self.old) self.old.groups) result }
+        ensures progress { OnOk result (length (unread self.new) < length (unread self.old)) }
+    {
+        self.bump();
+        if self.is_at('?') {
+            return self.uncaptured(nesting);
+        }
+        if nesting == MAX_NESTING_DEPTH {
+            return Err(Error::TooDeep);
+        }
+        if self.groups == MAX_CAPTURE_GROUPS {
+            return Err(Error::TooManyGroups);
+        }
+        let id: CaptureGroupID = self.groups;
+        self.groups += 1;
+        let contents = self.contents(nesting + 1)?;
+        Ok(Syntax::Capture(id, Box::new(self.alloc, contents)?))
+    }
+
+    /// Behind `(`: `?:`, contents and `)`.
+    #[cycle(parser)]
+    fn uncaptured(&mut self, nesting: u32) -> Result<Syntax, Error>
+        requires shallow { nesting ≤ 256 }
+    {
+        self.bump();
+        if !self.is_at(':') {
+            return Err(NOT_IN_STAGE);
+        }
+        if nesting == MAX_NESTING_DEPTH {
+            return Err(Error::TooDeep);
+        }
+        self.bump();
+        let contents = self.contents(nesting + 1)?;
+        Ok(Syntax::Group(Box::new(self.alloc, contents)?))
+    }
+
+    /// The contents of parentheses and the closing one; `nesting` counts their own too.
+    #[cycle(parser)]
+    fn contents(&mut self, nesting: u32) -> Result<Syntax, Error>
+        requires { nesting ≤ 256 }
+    {
+        let contents = self.disjunction(nesting)?;
+        if !self.is_at(')') {
+            return Err(Error::Syntax {
+                text: "Unbalanced parenthesis",
+            });
+        }
+        self.bump();
+        Ok(contents)
     }
 }
