@@ -12,7 +12,7 @@ use Rattle.regress.specs.declared.front.error.Error.{Error}
 use Rattle.regress.specs.declared.front.error.Error.TheVariants.{Syntax as SyntaxError, TooDeep, TooManyGroups, TooManyLoops, TooLarge, OutOfMemory}
 use Rattle.regress.proofs.MarkLemmas.{each_differs, differ_back}
 use Rattle.regress.specs.Stage.{is_beyond, passed_by, is_beyond_stage}
-use Rattle.regress.specs.Parsing.{Place, Leads, Grows, front_to, IsRefusal}
+use Rattle.regress.specs.Parsing.{Place, Leads, Grows, front_to, IsRefusal, contents_of}
 
 -- What is read here was read on the way there, and is no smaller.
 pub record Within (here there : Place) (read inner : Option Front) : Type 0 where
@@ -129,10 +129,6 @@ quantified-keeps allowed k f g e = bounded-keeps allowed k f g (bounds_at f.rest
 pub quantified-none : (allowed : Bool) (k : ℕ) (f : Front) → bounds_at f.rest ≡ None → quantified allowed k f ≡ Some f
 unfolding quantified bounded
 quantified-none allowed k f h = rw h refl
-
--- contents up to the closing parenthesis, as they are
-abbrev pub contents_of : Option Front → Option Front
-contents_of o = option_and_then (closed (λ p. p)) o
 
 -- a tree in parentheses, by its contents
 pub closed-contents : (k : ℕ) (wrap : Pattern → Pattern) (o : Option Front) →

@@ -1,3 +1,5 @@
 pub mod TreeLaws
 pub mod MarkLemmas
 pub mod AnswerLemmas
+pub mod AtomLemmas
+pub mod LoopLemmas

@@ -1,9 +1,9 @@
 -- What an answer of the parser says of the reading function, in every mode.
-use Rattle.std.specs.Prelude.{◌≡◌, ℕ, ◌+◌, ◌<◌, ◌≤◌, ◌⊎◌, Bool, true, List, ◌∷◌, length, drop, Option, Some, None, Result, Ok, Err, count_by, codes}
+use Rattle.std.specs.Prelude.{◌≡◌, ℕ, ◌+◌, ◌<◌, ◌≤◌, ◌⊎◌, Bool, true, List, length, drop, Option, option_and_then, Some, None, Result, Ok, Err, count_by, codes}
 use Rattle.regress_meaning.specs.Pattern.{Pattern, names_of}
 use Rattle.regress_meaning.specs.Tokens.{Mode}
 use Rattle.regress_meaning.specs.Limits.{depth, quantifiers, opens_nesting, opens_group, greatest_depth, most_groups}
-use Rattle.regress_meaning.specs.Reading.{Front, quantified}
+use Rattle.regress_meaning.specs.Reading.{Front, quantified, closed}
 use Rattle.regress.specs.declared.front.error.Error.{Error}
 use Rattle.regress.specs.declared.front.error.Error.TheVariants.{Syntax as SyntaxError, TooDeep, TooManyGroups, TooManyLoops, TooLarge, OutOfMemory}
 use Rattle.regress.specs.declared.front.syntax.Syntax.{Syntax}
@@ -68,8 +68,6 @@ abbrev pub IsAtom : (here there : Place) → Option Front → Result Syntax Erro
 IsAtom here there read (Ok s) = (read ≡ quantified true here.opened (front_to there (tree s))) × Grows here there (tree s)
 IsAtom here there read (Err e) = IsRefusal here read e
 
--- The same for the contents of parentheses, up to the closing one.
-abbrev pub AreContents : (here there : Place) → Option Front → Result Syntax Error → Type 0
-AreContents here there read (Ok s) =
-    (read ≡ Some (record { tree = tree s; opened = there.opened; rest = 0x29 ∷ there.text })) × Grows here there (tree s)
-AreContents here there read (Err e) = IsRefusal here read e
+-- contents up to the closing parenthesis, as they are
+abbrev pub contents_of : Option Front → Option Front
+contents_of o = option_and_then (closed (λ p. p)) o

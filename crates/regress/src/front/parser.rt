@@ -47,7 +47,7 @@ pub(crate) struct Parser<'p> {
 }
 
 impl<'p> Parser<'p> {
-    ghost use Rattle.regress.specs.Parsing.{unread, place, IsCoherent, IsAnswer, IsAtom, AreContents};
+    ghost use Rattle.regress.specs.Parsing.{unread, place, IsCoherent, IsAnswer, IsAtom, contents_of};
 
     /// A parser at the beginning of a text.
     pub(crate) fn new(alloc: Global, points: &'p [u32]) -> Self
@@ -76,6 +76,13 @@ impl<'p> Parser<'p> {
         self.peek() == Some(u32::from(mark))
     }
 
+    /// Whether the code point behind the next one is a question mark.
+    fn is_special(&self) -> bool
+        ensures { result ≡ is_at (λ c. c == 0x3F) (drop 1 (unread self.now)) }
+    {
+        self.points.get(self.position..).is_some_and(|rest| rest.get(1) == Some(&u32::from('?')))
+    }
+
     /// The code point that begins a term; `None` where the alternative ends.
     fn peek_term(&self) -> Option<u32>
         ensures { result ≡ (if ends_alternative (unread self.now) then None else slice_get (unread self.now) 0) }
@@ -97,6 +104,7 @@ impl<'p> Parser<'p> {
     pub(crate) fn disjunction(&mut self, nesting: u32) -> Result<Syntax, Error>
         requires { nesting ≤ 256 }
         ensures answer { (m : Mode) → IsCoherent m → IsAnswer (place nesting self.old) (place nesting self.new) (disjunction_at m (unread self.old) self.old.groups) result }
+        ensures progress { OnOk result (length (unread self.new) ≤ length (unread self.old)) }
     {
         regress_meaning::reading_goes_by_steps();
         let mut arms = Vec::new(self.alloc);
@@ -117,6 +125,7 @@ impl<'p> Parser<'p> {
         requires { nesting ≤ 256 }
         ensures answer { (m : Mode) → IsCoherent m → IsAnswer (place nesting self.old) (place nesting self.new) (alternative_at m (unread self.old) self.old.groups) result }
         ensures ended { OnOk result (ends_alternative (unread self.new) ≡ true) }
+        ensures progress { OnOk result (length (unread self.new) ≤ length (unread self.old)) }
     {
         regress_meaning::reading_goes_by_steps();
         let mut terms = Vec::new(self.alloc);
@@ -153,10 +162,14 @@ impl<'p> Parser<'p> {
         ensures progress { OnOk result (length (unread self.new) < length (unread self.old)) }
     {
         if self.is_at('(') {
-            return self.group(nesting);
+            return if self.is_special() {
+                self.uncaptured(nesting)
+            } else {
+                self.capture(nesting)
+            };
         }
         if self.is_at('\\') {
-            return self.escape(nesting);
+            return self.escape();
         }
         if is_one_of(first, NOT_READ_YET) {
             return Err(NOT_IN_STAGE);
@@ -166,10 +179,9 @@ impl<'p> Parser<'p> {
     }
 
     /// A backslash and a character of syntax, which stands for itself ("IdentityEscape").
-    fn escape(&mut self, ghost_nesting: u32) -> Result<Syntax, Error>
-        requires shallow { ghost_nesting ≤ 256 }
-        requires begins { is_at (λ c. c == 0x5C) (unread self.old) ≡ true }
-        ensures answer { (m : Mode) → IsCoherent m → IsAtom (place ghost_nesting self.old) (place ghost_nesting self.new) (term_at m (unread self.old) self.old.groups) result }
+    fn escape(&mut self) -> Result<Syntax, Error>
+        requires { is_at (λ c. c == 0x5C) (unread self.old) ≡ true }
+        ensures answer { (nesting : ℕ) → nesting ≤ 256 → (m : Mode) → IsAtom (place nesting self.old) (place nesting self.new) (term_at m (unread self.old) self.old.groups) result }
         ensures progress { OnOk result (length (unread self.new) < length (unread self.old)) }
     {
         self.bump();
@@ -185,18 +197,17 @@ impl<'p> Parser<'p> {
         Ok(Syntax::Character(point))
     }
 
-    /// `(..)` or `(?:..)`.
+    /// `(..)` ("Atom").
     #[cycle(parser)]
-    fn group(&mut self, nesting: u32) -> Result<Syntax, Error>
+    fn capture(&mut self, nesting: u32) -> Result<Syntax, Error>
         requires shallow { nesting ≤ 256 }
         requires begins { is_at (λ c. c == 0x28) (unread self.old) ≡ true }
+        requires plain { is_at (λ c. c == 0x3F) (drop 1 (unread self.old)) ≡ false }
         ensures answer { (m : Mode) → IsCoherent m → IsAtom (place nesting self.old) (place nesting self.new) (term_at m (unread self.old) self.old.groups) result }
         ensures progress { OnOk result (length (unread self.new) < length (unread self.old)) }
     {
+        regress_meaning::reading_goes_by_steps();
         self.bump();
-        if self.is_at('?') {
-            return self.uncaptured(nesting);
-        }
         if nesting == MAX_NESTING_DEPTH {
             return Err(Error::TooDeep);
         }
@@ -209,19 +220,24 @@ impl<'p> Parser<'p> {
         Ok(Syntax::Capture(id, Box::new(self.alloc, contents)?))
     }
 
-    /// Behind `(`: `?:`, contents and `)`.
+    /// `(?:..)` ("Atom").
     #[cycle(parser)]
     fn uncaptured(&mut self, nesting: u32) -> Result<Syntax, Error>
         requires shallow { nesting ≤ 256 }
+        requires begins { is_at (λ c. c == 0x28) (unread self.old) ≡ true }
+        requires special { is_at (λ c. c == 0x3F) (drop 1 (unread self.old)) ≡ true }
+        ensures answer { (m : Mode) → IsCoherent m → IsAtom (place nesting self.old) (place nesting self.new) (term_at m (unread self.old) self.old.groups) result }
+        ensures progress { OnOk result (length (unread self.new) < length (unread self.old)) }
     {
+        self.bump();
         self.bump();
         if !self.is_at(':') {
             return Err(NOT_IN_STAGE);
         }
+        self.bump();
         if nesting == MAX_NESTING_DEPTH {
             return Err(Error::TooDeep);
         }
-        self.bump();
         let contents = self.contents(nesting + 1)?;
         Ok(Syntax::Group(Box::new(self.alloc, contents)?))
     }
@@ -230,6 +246,8 @@ impl<'p> Parser<'p> {
     #[cycle(parser)]
     fn contents(&mut self, nesting: u32) -> Result<Syntax, Error>
         requires { nesting ≤ 256 }
+        ensures answer { (m : Mode) → IsCoherent m → IsAnswer (place nesting self.old) (place nesting self.new) (contents_of (disjunction_at m (unread self.old) self.old.groups)) result }
+        ensures progress { OnOk result (length (unread self.new) ≤ length (unread self.old)) }
     {
         let contents = self.disjunction(nesting)?;
         if !self.is_at(')') {

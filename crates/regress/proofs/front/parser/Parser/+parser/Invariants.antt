@@ -1,0 +1,37 @@
+use Rattle.std.proofs.Common.{◌≡◌, ◌+◌, ◌-◌, ◌*◌, ◌<◌, ◌≤◌, ℕ, length, List}
+use Rattle.regress.specs.Parsing.{unread}
+use Rattle.regress.proofs.front.parser.Parser.+parser.Given as goal
+
+-- The measure of the calls is the room that the limit on nesting leaves, so that limit bounds how deep they go.
+abbrev pub decreases-contents : goal.decreases-contents
+decreases-contents l = 6 * (256 - l.nesting) + 5
+
+abbrev pub decreases-disjunction : goal.decreases-disjunction
+decreases-disjunction l = 6 * (256 - l.nesting) + 4
+
+abbrev pub decreases-alternative : goal.decreases-alternative
+decreases-alternative l = 6 * (256 - l.nesting) + 3
+
+abbrev pub decreases-term : goal.decreases-term
+decreases-term l = 6 * (256 - l.nesting) + 2
+
+abbrev pub decreases-atom : goal.decreases-atom
+decreases-atom l = 6 * (256 - l.nesting) + 1
+
+abbrev pub decreases-capture : goal.decreases-capture
+decreases-capture l = 6 * (256 - l.nesting)
+
+abbrev pub decreases-uncaptured : goal.decreases-uncaptured
+decreases-uncaptured l = 6 * (256 - l.nesting)
+
+abbrev pub invariant-alternative-loop-first : goal.invariant-alternative-loop-first
+invariant-alternative-loop-first l = length (unread l.self) ≤ length (unread l.fn.self)
+
+abbrev pub decreases-alternative-loop-first : goal.decreases-alternative-loop-first
+decreases-alternative-loop-first l = length (unread l.self)
+
+abbrev pub invariant-disjunction-loop-arms : goal.invariant-disjunction-loop-arms
+invariant-disjunction-loop-arms l = length (unread l.self) ≤ length (unread l.fn.self)
+
+abbrev pub decreases-disjunction-loop-arms : goal.decreases-disjunction-loop-arms
+decreases-disjunction-loop-arms l = length (unread l.self)
