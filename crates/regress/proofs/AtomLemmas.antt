@@ -51,7 +51,7 @@ module _ (m : Mode) where
   uncaptured-read t k = rw (uncaptured-opens m t) (closed-contents k grouped (disjunction_at m t k))
 
 -- what is read of a tree in parentheses has its contents within
-wrapped-within : (here there : Place) (k : ℕ) (wrap : Pattern → Pattern) (o : Option Front) (read : Option Front)
+pub wrapped-within : (here there : Place) (k : ℕ) (wrap : Pattern → Pattern) (o : Option Front) (read : Option Front)
     → read ≡ option_and_then (λ (f : Front). quantified true k (record { tree = wrap f.tree; opened = f.opened; rest = f.rest })) o
     → there.nesting ≡ suc here.nesting → ((p : Pattern) → depth (wrap p) ≡ depth p + 1) → Leads here there → Within here there read o
 wrapped-within here there k wrap o read e deeper wraps leads = record { fronts = λ f found. by_contents o f (sym e ∙ found); leads = leads }
@@ -76,7 +76,7 @@ too_many_groups {here} {there} {read} w more full forward =
     ((λ f e. let (g, found, deep, opened) = w.fronts f e in let (further, shorter) = forward g found in omega arith), (let grouped = w.leads.grouped in omega arith))
 
 -- a text that begins with d
-begins : (d : ℕ) (t : List ℕ) → is_at (λ c. c == d) t ≡ true → t ≡ d ∷ drop 1 t
+pub begins : (d : ℕ) (t : List ℕ) → is_at (λ c. c == d) t ≡ true → t ≡ d ∷ drop 1 t
 begins d [] h = cc
 begins d (c ∷ t) h = ap (λ x. x ∷ t) (eqb-true c d h)
 

@@ -3,3 +3,4 @@ pub mod MarkLemmas
 pub mod AnswerLemmas
 pub mod AtomLemmas
 pub mod LoopLemmas
+pub mod StepLemmas
