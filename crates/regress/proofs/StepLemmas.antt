@@ -107,3 +107,67 @@ closed-grows here there next p grows h nesting opened text =
     let whole = begins 0x29 there.text h in
     let leads = subst (λ t. Leads (at there.nesting there.opened t) (at there.nesting there.opened (drop 1 there.text))) (sym whole) (Leads_mark there.nesting there.opened 0x29 (drop 1 there.text) refl) in
     rw place (record { counted = grows.counted; deep = grows.deep; loops = grows.loops; leads = Leads_trans grows.leads leads })
+
+-- a tree in parentheses, by its contents
+wrapped-answer : (m : Mode) (n k : ℕ) (t : List ℕ) (wrap : Pattern → Pattern) (inside end there : Place) (p q : Pattern)
+    → term_at m t k ≡ option_and_then (λ (f : Front). quantified true k (record { tree = wrap f.tree; opened = f.opened; rest = f.rest })) (contents_of (disjunction_at m inside.text inside.opened))
+    → contents_of (disjunction_at m inside.text inside.opened) ≡ Some (front_to end p) → Grows inside end p → inside.nesting ≡ suc n → end.nesting ≡ suc n
+    → inside.opened + length (names_of p) ≡ k + length (names_of (wrap p)) → depth (wrap p) ≡ depth p + 1 → quantifiers (wrap p) ≡ quantifiers p → Leads (at n k t) inside
+    → q ≡ wrap p → there.nesting ≡ n → there.opened ≡ end.opened → there.text ≡ end.text
+    → (term_at m t k ≡ quantified true k (front_to there q)) × Grows (at n k t) there q
+wrapped-answer m n k t wrap inside end there p q found e grows nesting deeper names deep loops leads same level count rest =
+    let place : there ≡ at n end.opened end.text = λ i. record { nesting = level i; opened = count i; text = rest i } in
+    let inner = Leads_trans leads grows.leads in
+    let read = found ∙ ap (option_and_then (λ (f : Front). quantified true k (record { tree = wrap f.tree; opened = f.opened; rest = f.rest }))) e in
+    let grown : Grows (at n k t) (at n end.opened end.text) (wrap p) = record {
+        counted = (let counted = grows.counted in omega arith);
+        deep = (let deeper = grows.deep in omega arith);
+        loops = loops ∙ grows.loops;
+        leads = record { nested = (let nested = inner.nested in omega arith); grouped = inner.grouped; staged = inner.staged } } in
+    rw (place, same) (read, grown)
+
+-- a group and what it holds, at places given by their parts
+module _ (m : Mode) (n k : ℕ) (t : List ℕ) (h : is_at (λ c. c == 0x28) t ≡ true) where
+  module _ (plain : is_at (λ c. c == 0x3F) (drop 1 t) ≡ false) (inside : Place) (nesting : inside.nesting ≡ suc n) (opened : inside.opened ≡ suc k) (text : inside.text ≡ drop 1 t) where
+    inside_is : inside ≡ at (suc n) (suc k) (drop 1 t)
+    inside_is = λ i. record { nesting = nesting i; opened = opened i; text = text i }
+
+    pub capture-leads : Leads (at n k t) inside
+    capture-leads = rw inside_is (subst (λ t'. Leads (at n k t') (at (suc n) (suc k) (drop 1 t))) (sym (begins 0x28 t h)) (Leads_group n k (drop 1 t) plain))
+
+    -- what is read of a group has its contents within
+    pub capture-within : Within (at n k t) inside (term_at m t k) (contents_of (disjunction_at m inside.text inside.opened))
+    capture-within = wrapped-within (at n k t) inside k (capture k None) (contents_of (disjunction_at m inside.text inside.opened)) (term_at m t k)
+        (ap (λ t. term_at m t k) (begins 0x28 t h) ∙ capture-read m (drop 1 t) k plain ∙ rw (text, opened) refl) nesting (λ p. refl) capture-leads
+
+    capture-found : term_at m t k ≡ option_and_then (λ (f : Front). quantified true k (record { tree = capture k None f.tree; opened = f.opened; rest = f.rest })) (contents_of (disjunction_at m inside.text inside.opened))
+    capture-found = ap (λ t. term_at m t k) (begins 0x28 t h) ∙ capture-read m (drop 1 t) k plain ∙ rw (text, opened) refl
+
+    pub capture-answer : (end there : Place) (p q : Pattern) → contents_of (disjunction_at m inside.text inside.opened) ≡ Some (front_to end p) → Grows inside end p → end.nesting ≡ suc n
+        → q ≡ capture k None p → there.nesting ≡ n → there.opened ≡ end.opened → there.text ≡ end.text
+        → (term_at m t k ≡ quantified true k (front_to there q)) × Grows (at n k t) there q
+    capture-answer end there p q e grows deeper same level count rest =
+        wrapped-answer m n k t (capture k None) inside end there p q capture-found e grows nesting deeper (omega arith) refl refl capture-leads same level count rest
+
+  module _ (special : is_at (λ c. c == 0x3F) (drop 1 t) ≡ true) (colon : is_at (λ c. c == 0x3A) (drop 1 (drop 1 t)) ≡ true)
+      (inside : Place) (nesting : inside.nesting ≡ suc n) (opened : inside.opened ≡ k) (text : inside.text ≡ drop 1 (drop 1 (drop 1 t))) where
+    front_is : t ≡ 0x28 ∷ 0x3F ∷ 0x3A ∷ drop 1 (drop 1 (drop 1 t))
+    front_is = begins 0x28 t h ∙ ap (λ u. 0x28 ∷ u) (begins 0x3F (drop 1 t) special) ∙ ap (λ u. 0x28 ∷ 0x3F ∷ u) (begins 0x3A (drop 1 (drop 1 t)) colon)
+
+    inside_uncaptured : inside ≡ at (suc n) k (drop 1 (drop 1 (drop 1 t)))
+    inside_uncaptured = λ i. record { nesting = nesting i; opened = opened i; text = text i }
+
+    uncaptured-leads : Leads (at n k t) inside
+    uncaptured-leads = rw inside_uncaptured (subst (λ t'. Leads (at n k t') (at (suc n) k (drop 1 (drop 1 (drop 1 t))))) (sym front_is) (Leads_uncaptured n k (drop 1 (drop 1 (drop 1 t)))))
+
+    uncaptured-found : term_at m t k ≡ option_and_then (λ (f : Front). quantified true k (record { tree = grouped f.tree; opened = f.opened; rest = f.rest })) (contents_of (disjunction_at m inside.text inside.opened))
+    uncaptured-found = ap (λ t. term_at m t k) front_is ∙ uncaptured-read m (drop 1 (drop 1 (drop 1 t))) k ∙ rw (text, opened) refl
+
+    pub uncaptured-within : Within (at n k t) inside (term_at m t k) (contents_of (disjunction_at m inside.text inside.opened))
+    uncaptured-within = wrapped-within (at n k t) inside k grouped (contents_of (disjunction_at m inside.text inside.opened)) (term_at m t k) uncaptured-found nesting (λ p. refl) uncaptured-leads
+
+    pub uncaptured-answer : (end there : Place) (p q : Pattern) → contents_of (disjunction_at m inside.text inside.opened) ≡ Some (front_to end p) → Grows inside end p → end.nesting ≡ suc n
+        → q ≡ grouped p → there.nesting ≡ n → there.opened ≡ end.opened → there.text ≡ end.text
+        → (term_at m t k ≡ quantified true k (front_to there q)) × Grows (at n k t) there q
+    uncaptured-answer end there p q e grows deeper same level count rest =
+        wrapped-answer m n k t grouped inside end there p q uncaptured-found e grows nesting deeper (omega arith) refl refl uncaptured-leads same level count rest
