@@ -6,12 +6,12 @@ use Rattle.regress_meaning.specs.Pattern.{Pattern, names_of, character, capture,
 use Rattle.regress_meaning.specs.Tokens.{Mode}
 use Rattle.regress_meaning.specs.Grammar.{ends_alternative}
 use Rattle.regress_meaning.specs.Limits.{depth, quantifiers, opens_nesting, opens_group, greatest_depth, most_groups}
-use Rattle.regress_meaning.specs.Reading.{Front, opening, quantified, closed, closed_and_quantified, read_term, disjunction_at, term_at, GoesForward}
+use Rattle.regress_meaning.specs.Reading.{Front, opening, quantified, closed, closed_and_quantified, read_term, disjunction_at, term_at}
 use Rattle.regress.specs.declared.front.error.Error.{Error}
 use Rattle.regress.specs.declared.front.error.Error.TheVariants.{Syntax as SyntaxError, TooDeep, TooManyGroups}
 use Rattle.regress.specs.Stage.{is_beyond_stage}
 use Rattle.regress.specs.Parsing.{Place, Leads, Grows, front_to, IsRefusal, contents_of}
-use Rattle.regress.proofs.MarkLemmas.{holds_none, differ_back, character-opens, escape-opens, group-opens, uncaptured-opens, no_quantifier}
+use Rattle.regress.proofs.MarkLemmas.{holds_none, holds_each, differ_back, character-opens, escape-opens, group-opens, uncaptured-opens, no_quantifier}
 use Rattle.regress.proofs.AnswerLemmas.{Within, refused_within, Leads_trans, Leads_mark, Leads_group, Leads_uncaptured, Leads_escape, quantified-keeps, quantified-none, closed-contents}
 
 -- a place, by its parts
@@ -71,9 +71,9 @@ too_deep {here} {there} {read} w deeper full =
 
 -- one group too many
 pub too_many_groups : {here there : Place} {read inner : Option Front} → Within here there read inner → there.opened ≡ suc here.opened → here.opened ≡ most_groups
-    → GoesForward there.text there.opened inner → IsRefusal here read TooManyGroups
+    → ((g : Front) → inner ≡ Some g → there.opened ≤ g.opened) → IsRefusal here read TooManyGroups
 too_many_groups {here} {there} {read} w more full forward =
-    ((λ f e. let (g, found, deep, opened) = w.fronts f e in let (further, shorter) = forward g found in omega arith), (let grouped = w.leads.grouped in omega arith))
+    ((λ f e. let (g, found, deep, opened) = w.fronts f e in let further = forward g found in omega arith), (let grouped = w.leads.grouped in omega arith))
 
 -- a text that begins with d
 pub begins : (d : ℕ) (t : List ℕ) → is_at (λ c. c == d) t ≡ true → t ≡ d ∷ drop 1 t
@@ -139,3 +139,16 @@ character-answer m n k t c q there shallow e goes_on parenthesis backslash later
 pub character-beyond : (t : List ℕ) (c : ℕ) → slice_get t 0 ≡ Some c → holds (codes "^$.*+?[]{}") c ≡ true → is_beyond_stage 0 t ≡ true
 unfolding is_beyond_stage
 character-beyond t c e later = rw (starts c t e, later) refl
+
+-- a quantifier is not read yet
+pub quantifier-beyond : (t : List ℕ) → is_at (λ c. holds (codes "*+?{") c) t ≡ true → is_beyond_stage 0 t ≡ true
+unfolding is_beyond_stage
+quantifier-beyond [] h = cc
+quantifier-beyond (c ∷ t) h = holds_each (λ c. is_beyond_stage 0 (c ∷ t) ≡ true) (codes "*+?{") (refl, (refl, (refl, (refl, tt)))) c h
+
+-- a group of another kind is not read yet
+pub special-beyond : (t : List ℕ) → is_at (λ c. c == 0x28) t ≡ true → is_at (λ c. c == 0x3F) (drop 1 t) ≡ true → is_at (λ c. c == 0x3A) (drop 1 (drop 1 t)) ≡ false → is_beyond_stage 0 t ≡ true
+unfolding is_beyond_stage
+special-beyond t parenthesis question colon =
+    let whole : t ≡ 0x28 ∷ 0x3F ∷ drop 1 (drop 1 t) = begins 0x28 t parenthesis ∙ ap (λ u. 0x28 ∷ u) (begins 0x3F (drop 1 t) question) in
+    rw (whole, colon) refl

@@ -1,6 +1,6 @@
 -- How a disjunction, an alternative and the contents of parentheses are read from their parts.
 use Rattle.std.specs.Prelude.{if◌then◌else◌}
-use Rattle.std.proofs.Common.{◌≡◌, ℕ, suc, ◌+◌, ◌<◌, ◌≤◌, Bool, true, false, ◌==◌, List, [], ◌∷◌, length, drop, max, Option, Some, None, option_and_then, option_map, refl, sym, ap, ◌∙◌, subst, arith}
+use Rattle.std.proofs.Common.{◌≡◌, ℕ, suc, ◌+◌, ◌<◌, ◌≤◌, Bool, true, false, ◌==◌, List, [], ◌∷◌, length, drop, max, Option, Some, None, option_and_then, option_map, slice_get, refl, sym, ap, ◌∙◌, subst, arith}
 use Rattle.regress_meaning.specs.Text.{◌∈◌, is_at}
 use Rattle.regress_meaning.specs.Pattern.{Pattern, names_of, nothing, sequence, choice, capture, grouped}
 use Rattle.regress_meaning.specs.Tokens.{Mode, guard}
@@ -171,3 +171,33 @@ module _ (m : Mode) (n k : ℕ) (t : List ℕ) (h : is_at (λ c. c == 0x28) t �
         → (term_at m t k ≡ quantified true k (front_to there q)) × Grows (at n k t) there q
     uncaptured-answer end there p q e grows deeper same level count rest =
         wrapped-answer m n k t grouped inside end there p q uncaptured-found e grows nesting deeper (omega arith) refl refl uncaptured-leads same level count rest
+
+-- what is read up to a closing parenthesis opens as many groups
+pub contents-opened : (k : ℕ) (o : Option Front) → ((f : Front) → o ≡ Some f → k ≤ f.opened) → (f : Front) → contents_of o ≡ Some f → k ≤ f.opened
+unfolding closed
+contents-opened k None forward f e = absurd (cc)
+contents-opened k (Some g) forward f e = kept (is_at (λ c. c == 0x29) g.rest) _ e (forward g refl)
+  where
+    kept : (b : Bool) (h : Front) → guard b (Some h) ≡ Some f → k ≤ h.opened → k ≤ f.opened
+    kept true h e l = let same : h ≡ f = cc in rw (← same) l
+    kept false h e l = absurd (cc)
+
+-- a term begins where the alternative goes on, and none where it ends
+pub peek-goes_on : (t : List ℕ) (c : ℕ) → (if ends_alternative t then None else slice_get t 0) ≡ Some c → ends_alternative t ≡ false
+peek-goes_on t c e = go (ends_alternative t) e
+  where
+    go : (b : Bool) → (if b then None else slice_get t 0) ≡ Some c → b ≡ false
+    go false e = refl
+    go true e = absurd (cc)
+
+pub peek-ends : (t : List ℕ) → (if ends_alternative t then None else slice_get t 0) ≡ None → ends_alternative t ≡ true
+peek-ends [] e = refl
+peek-ends (c ∷ t) e = go (ends_alternative (c ∷ t)) e
+  where
+    go : (b : Bool) → (if b then None else Some c) ≡ None → b ≡ true
+    go true e = refl
+    go false e = absurd (cc)
+
+-- behind a bar
+pub bar-leads : (n k : ℕ) (t : List ℕ) → is_at (λ c. c == 0x7C) t ≡ true → Leads (at n k t) (at n k (drop 1 t))
+bar-leads n k t h = subst (λ u. Leads (at n k u) (at n k (drop 1 t))) (sym (begins 0x7C t h)) (Leads_mark n k 0x7C (drop 1 t) refl)

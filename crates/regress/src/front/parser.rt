@@ -1,5 +1,5 @@
 //! The parser: one cursor over the code points of a pattern, and a function for each construct.
-ghost use Rattle.std.specs.Prelude.{◌≡◌, ◌==◌, ◌+◌, ◌-◌, ◌<◌, ◌≤◌, ℕ, length, List, drop, true, false, IsTrue, OnOk, Some, None, IfOk, IfErr, slice_get, if◌then◌else◌};
+ghost use Rattle.std.specs.Prelude.{◌≡◌, ◌==◌, ◌+◌, ◌-◌, ◌<◌, ◌≤◌, ℕ, length, List, drop, true, false, IsTrue, OnOk, Some, None, IfOk, IfErr, slice_get, codes, if◌then◌else◌};
 ghost use Rattle.regress_meaning.specs.Text.{is_at, holds};
 ghost use Rattle.regress_meaning.specs.Tokens.{Mode};
 ghost use Rattle.regress_meaning.specs.Grammar.{ends_alternative};
@@ -76,6 +76,13 @@ impl<'p> Parser<'p> {
         self.peek() == Some(u32::from(mark))
     }
 
+    /// Whether a quantifier may begin here.
+    fn is_at_quantifier(&self) -> bool
+        ensures { result ≡ is_at (λ c. holds (codes "*+?{") c) (unread self.now) }
+    {
+        self.peek().is_some_and(|point| is_one_of(point, QUANTIFIERS))
+    }
+
     /// Whether the code point behind the next one is a question mark.
     fn is_special(&self) -> bool
         ensures { result ≡ is_at (λ c. c == 0x3F) (drop 1 (unread self.now)) }
@@ -146,10 +153,10 @@ impl<'p> Parser<'p> {
         ensures progress { OnOk result (length (unread self.new) < length (unread self.old)) }
     {
         let atom = self.atom(first, nesting)?;
-        match self.peek() {
-            Some(point) if is_one_of(point, QUANTIFIERS) => Err(NOT_IN_STAGE),
-            _ => Ok(atom),
+        if self.is_at_quantifier() {
+            return Err(NOT_IN_STAGE);
         }
+        Ok(atom)
     }
 
     /// A character, an escape or a group ("Atom").
