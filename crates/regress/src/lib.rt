@@ -11,4 +11,4 @@ pub use api::{Regex, are_code_points};
 pub use engine::found::{Match, Range};
 pub use front::error::Error;
 pub use front::flags::Flags;
-
+pub use front::tables::{TableError, Tables};

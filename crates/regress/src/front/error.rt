@@ -1,9 +1,12 @@
 //! Why a call is refused.
+ghost use Rattle.std.specs.Prelude.{◌≡◌, Some};
+
+use std::alloc::{AllocError, AllocFailed};
 use std::error;
 use std::fmt;
 
 /// Why a pattern is refused, or a search ends early.
-#[derive(Clone, Copy, Debug, PartialEq, Eq, Hash)]
+#[derive(Clone, Debug, Drop, PartialEq, Eq, Hash)]
 pub enum Error {
     /// The text is no pattern.
     Syntax {
@@ -20,4 +23,43 @@ pub enum Error {
     TooLarge,
     /// A request for memory was refused.
     OutOfMemory,
+}
+
+impl fmt::Display for Error {
+    ghost use Rattle.regress.specs.ErrorTexts.{error_text};
+
+    ghost output = { λ e. Some (error_text e) };
+
+    fn fmt<W: fmt::Write>(&self, f: &mut fmt::Formatter<W>) -> fmt::Result {
+        f.write_str(match self {
+            Error::Syntax { text } => text,
+            Error::TooDeep => "pattern is nested too deeply",
+            Error::TooManyGroups => "too many capture groups",
+            Error::TooManyLoops => "too many quantifiers",
+            Error::TooLarge => "program is too large",
+            Error::OutOfMemory => "out of memory",
+        })
+    }
+}
+
+impl error::Error for Error {}
+
+impl From<AllocError> for Error {
+    ghost use Rattle.regress.specs.declared.front.error.Error.TheVariants.{OutOfMemory};
+
+    ghost from_gives = { λ _ e. e ≡ OutOfMemory };
+
+    fn from(_refused: AllocError) -> Error {
+        Error::OutOfMemory
+    }
+}
+
+impl<T: Drop> From<AllocFailed<T>> for Error {
+    ghost use Rattle.regress.specs.declared.front.error.Error.TheVariants.{OutOfMemory};
+
+    ghost from_gives = { λ _ e. e ≡ OutOfMemory };
+
+    fn from(_refused: AllocFailed<T>) -> Error {
+        Error::OutOfMemory
+    }
 }

@@ -1,5 +1,8 @@
 //! The flags of a pattern.
-ghost use Rattle.std.specs.Prelude.{◌≡◌, chars, Some};
+ghost use Rattle.std.specs.Prelude.{◌≡◌, List, ℕ, chars, Some};
+ghost use Rattle.std.specs.Iterator.{IsFinite};
+ghost use Rattle.std.specs.Iterator.Runs.{WholeRun};
+ghost use Rattle.regress.specs.FlagWords.{flags_of, letters_of, letter_if};
 
 use std::fmt;
 
@@ -18,4 +21,56 @@ pub struct Flags {
     pub unicode: bool,
     /// `v`: Unicode mode, with sets in classes.
     pub unicode_sets: bool,
+}
+
+impl Flags {
+    /// The flags that the code points of a word set: `i`, `m`, `s`, `u` and `v`, wherever they stand in it and however
+    /// often. All else is skipped ("RegExpInitialize" refuses it, and so does the caller that wants to).
+    pub fn new<I: Iterator<Item = u32>>(letters: I) -> Flags
+        requires can { I.can_next letters }
+        requires ends { IsFinite (I.remaining letters) }
+        ensures { WholeRun I.next_gives letters (λ run. result ≡ flags_of run.items) }
+    {
+        let mut flags = Flags::default();
+        for letter in letters {
+            match letter {
+                0x69 => flags.icase = true,
+                0x6D => flags.multiline = true,
+                0x73 => flags.dot_all = true,
+                0x75 => flags.unicode = true,
+                0x76 => flags.unicode_sets = true,
+                _ => {}
+            }
+        }
+        flags
+    }
+}
+
+/// The flags that a word's letters set, as `Flags::new` says.
+impl From<&str> for Flags {
+    ghost from_gives = { λ text flags. flags ≡ flags_of (chars text.now) };
+
+    fn from(text: &str) -> Flags {
+        Flags::new(text.chars().map(u32::from))
+    }
+}
+
+/// The letters of the flags that are set, in the order `misuv`. Nothing is written for `no_opt`.
+impl fmt::Display for Flags {
+    ghost output = { λ flags. Some (letters_of flags) };
+
+    fn fmt<W: fmt::Write>(&self, f: &mut fmt::Formatter<W>) -> fmt::Result {
+        f.write_str(letter_if(self.multiline, "m"))?;
+        f.write_str(letter_if(self.icase, "i"))?;
+        f.write_str(letter_if(self.dot_all, "s"))?;
+        f.write_str(letter_if(self.unicode, "u"))?;
+        f.write_str(letter_if(self.unicode_sets, "v"))
+    }
+}
+
+/// The letter of a flag where the flag is set, and else nothing.
+fn letter_if(is_set: bool, letter: &str) -> &str
+    ensures { result.now ≡ letter_if is_set letter.now }
+{
+    if is_set { letter } else { "" }
 }
