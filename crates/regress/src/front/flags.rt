@@ -1,7 +1,8 @@
 //! The flags of a pattern.
-ghost use Rattle.std.specs.Prelude.{◌≡◌, List, ℕ, chars, Some};
+ghost use Rattle.std.specs.Prelude.{◌≡◌, false, chars, Some};
 ghost use Rattle.std.specs.Iterator.{IsFinite};
 ghost use Rattle.std.specs.Iterator.Runs.{WholeRun};
+ghost use Rattle.regress.specs.declared.front.flags.Flags.{Flags};
 ghost use Rattle.regress.specs.FlagWords.{flags_of, letters_of, letter_if};
 
 use std::fmt;
@@ -67,6 +68,12 @@ impl fmt::Display for Flags {
         f.write_str(letter_if(self.unicode_sets, "v"))
     }
 }
+
+/// What is written for flags is read back as those flags, with `no_opt` off. The letters are one byte each.
+pub fn flags_are_read_back()
+    ensures read { (flags : Flags) → flags_of (letters_of flags) ≡ record flags { no_opt = false } }
+    ensures text { (flags : Flags) → chars (letters_of flags) ≡ letters_of flags }
+{}
 
 /// The letter of a flag where the flag is set, and else nothing.
 fn letter_if(is_set: bool, letter: &str) -> &str
