@@ -2,8 +2,7 @@
 ghost use Rattle.std.specs.Prelude.{◌≡◌, Some};
 
 use std::alloc::{AllocError, AllocFailed};
-use std::error;
-use std::fmt;
+use std::{error, fmt};
 
 /// Why a pattern is refused, or a search ends early.
 #[derive(Clone, Debug, Drop, PartialEq, Eq, Hash)]
@@ -25,6 +24,7 @@ pub enum Error {
     OutOfMemory,
 }
 
+/// The text of a syntax error, and else a few words that name the limit, or `out of memory`.
 impl fmt::Display for Error {
     ghost use Rattle.regress.specs.ErrorTexts.{error_text};
 
@@ -61,5 +61,37 @@ impl<T: Drop> From<AllocFailed<T>> for Error {
 
     fn from(_refused: AllocFailed<T>) -> Error {
         Error::OutOfMemory
+    }
+}
+
+#[cfg(test)]
+mod tests {
+    use super::*;
+    use std::alloc::Global;
+    use std::test::Fail;
+
+    fn is_written(alloc: Global, error: Error, expected: &str) -> Result<bool, AllocError> {
+        let text = error.to_string(alloc)?;
+        Ok(text.as_str() == expected)
+    }
+
+    #[test]
+    fn each_error_has_its_text(rt: HostRuntime) -> Result<(), Fail> {
+        let syntax = Error::Syntax {
+            text: "Unbalanced parenthesis",
+        };
+        assert!(rt; is_written(rt.alloc(), syntax, "Unbalanced parenthesis")?);
+        assert!(rt; is_written(rt.alloc(), Error::TooDeep, "pattern is nested too deeply")?);
+        assert!(rt; is_written(rt.alloc(), Error::TooManyGroups, "too many capture groups")?);
+        assert!(rt; is_written(rt.alloc(), Error::TooManyLoops, "too many quantifiers")?);
+        assert!(rt; is_written(rt.alloc(), Error::TooLarge, "program is too large")?);
+        assert!(rt; is_written(rt.alloc(), Error::OutOfMemory, "out of memory")?);
+        Ok(())
+    }
+
+    #[test]
+    fn refused_memory_is_told(rt: HostRuntime) {
+        assert_eq!(rt; Error::from(AllocError), Error::OutOfMemory);
+        assert_eq!(rt; Error::from(AllocFailed { value: 1u8 }), Error::OutOfMemory);
     }
 }

@@ -7,7 +7,7 @@ ghost use Rattle.regress.specs.FlagWords.{flags_of, letters_of, letter_if};
 
 use std::fmt;
 
-/// What holds for a whole pattern. All flags are off by default.
+/// What holds for a whole pattern ("RegExp Records"). All flags are off by default.
 #[derive(Clone, Copy, Debug, Default)]
 pub struct Flags {
     /// `i`: case is ignored.
@@ -25,8 +25,8 @@ pub struct Flags {
 }
 
 impl Flags {
-    /// The flags that the code points of a word set: `i`, `m`, `s`, `u` and `v`, wherever they stand in it and however
-    /// often. All else is skipped ("RegExpInitialize" refuses it, and so does the caller that wants to).
+    /// The flags that a word sets, given as its code points: `i`, `m`, `s`, `u` and `v`, wherever they stand in it and
+    /// however often. All else is skipped, where "RegExpInitialize" refuses the word.
     pub fn new<I: Iterator<Item = u32>>(letters: I) -> Flags
         requires can { I.can_next letters }
         requires ends { IsFinite (I.remaining letters) }
@@ -47,7 +47,7 @@ impl Flags {
     }
 }
 
-/// The flags that a word's letters set, as `Flags::new` says.
+/// The flags that a word sets, as `Flags::new` reads its code points.
 impl From<&str> for Flags {
     ghost from_gives = { λ text flags. flags ≡ flags_of (chars text.now) };
 
@@ -80,4 +80,40 @@ fn letter_if(is_set: bool, letter: &str) -> &str
     ensures { result.now ≡ letter_if is_set letter.now }
 {
     if is_set { letter } else { "" }
+}
+
+#[cfg(test)]
+mod tests {
+    use super::*;
+    use std::test::Fail;
+
+    #[test]
+    fn letters_are_written_in_one_order(rt: HostRuntime) -> Result<(), Fail> {
+        let text = Flags::from("vusim").to_string(rt.alloc())?;
+        assert_eq!(rt; text.as_str(), "misuv");
+        Ok(())
+    }
+
+    #[test]
+    fn other_letters_set_nothing(rt: HostRuntime) -> Result<(), Fail> {
+        let text = Flags::from("gy").to_string(rt.alloc())?;
+        assert_eq!(rt; text.as_str(), "");
+        Ok(())
+    }
+
+    #[test]
+    fn code_points_are_read(rt: HostRuntime) -> Result<(), Fail> {
+        let text = Flags::new([0x76, 0x1_F600, 0x69, 0x69].into_iter()).to_string(rt.alloc())?;
+        assert_eq!(rt; text.as_str(), "iv");
+        Ok(())
+    }
+
+    #[test]
+    fn all_flags_are_off_by_default(rt: HostRuntime) -> Result<(), Fail> {
+        let flags = Flags::default();
+        assert!(rt; !flags.no_opt);
+        let text = flags.to_string(rt.alloc())?;
+        assert_eq!(rt; text.as_str(), "");
+        Ok(())
+    }
 }

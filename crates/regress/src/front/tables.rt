@@ -2,8 +2,7 @@
 ghost use Rattle.std.specs.Prelude.{◌≡◌, Some};
 
 use std::alloc::{AllocError, Global};
-use std::error;
-use std::fmt;
+use std::{error, fmt};
 
 /// Case and properties of code points, which patterns are compiled by.
 #[derive(Debug, Drop)]
@@ -14,7 +13,7 @@ impl Tables {
     ghost use Rattle.regress_meaning.specs.TableParts.{table_of, small_parts};
     ghost use Rattle.regress.specs.TableViews.{table};
 
-    /// The small table, which knows ASCII, a few letters beyond it and four names. It takes no memory.
+    /// The small table, which knows ASCII, a few letters beyond it and four names. It takes no memory, and never errs.
     pub fn small(_alloc: Global) -> Result<Tables, TableError>
         ensures made { IsOk result }
         ensures small { IfOk result (λ tables. table tables ≡ table_of small_parts) }
@@ -51,5 +50,23 @@ impl From<AllocError> for TableError {
 
     fn from(_refused: AllocError) -> TableError {
         TableError::OutOfMemory
+    }
+}
+
+#[cfg(test)]
+mod tests {
+    use super::*;
+    use std::test::Fail;
+
+    #[test]
+    fn the_small_table_is_made(rt: HostRuntime) {
+        assert!(rt; Tables::small(rt.alloc()).is_ok());
+    }
+
+    #[test]
+    fn the_error_has_its_text(rt: HostRuntime) -> Result<(), Fail> {
+        let text = TableError::from(AllocError).to_string(rt.alloc())?;
+        assert_eq!(rt; text.as_str(), "out of memory");
+        Ok(())
     }
 }
