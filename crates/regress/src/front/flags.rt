@@ -26,7 +26,7 @@ pub struct Flags {
 
 impl Flags {
     /// The flags that a word sets, given as its code points: `i`, `m`, `s`, `u` and `v`, wherever they stand in it and
-    /// however often. All else is skipped, where "RegExpInitialize" refuses the word.
+    /// however often. All else is skipped, and unlike in "RegExpInitialize" no word is refused.
     pub fn new<I: Iterator<Item = u32>>(letters: I) -> Flags
         requires can { I.can_next letters }
         requires ends { IsFinite (I.remaining letters) }
@@ -34,12 +34,12 @@ impl Flags {
     {
         let mut flags = Flags::default();
         for letter in letters {
-            match letter {
-                0x69 => flags.icase = true,
-                0x6D => flags.multiline = true,
-                0x73 => flags.dot_all = true,
-                0x75 => flags.unicode = true,
-                0x76 => flags.unicode_sets = true,
+            match char::from_u32(letter) {
+                Some('i') => flags.icase = true,
+                Some('m') => flags.multiline = true,
+                Some('s') => flags.dot_all = true,
+                Some('u') => flags.unicode = true,
+                Some('v') => flags.unicode_sets = true,
                 _ => {}
             }
         }

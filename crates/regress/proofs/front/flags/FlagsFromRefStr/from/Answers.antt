@@ -10,5 +10,6 @@ returns c =
     let (run, from, whole, is) = c.new.ensures in
     let text = c.args.text.now in
     let drained = took run in
-    let items = items_from_drains run.items (drained.0, drained.1, λ _. drained.2 whole) (YieldsList-at from (YieldsList-from_map _ (λ x. x) (YieldsList-from_chars text c.utf8.text (cc)) c.map.ensures.closure (λ x r q k. search rules))) in
+    let items = items_from_drains run.items (drained.0, drained.1, λ _. drained.2 whole) (YieldsList-at from
+    (YieldsList-from_map _ (λ x. x) (YieldsList-from_chars text c.utf8.text (cc)) c.map.ensures.closure (λ x r q k. search rules))) in
     is ∙ ap flags_of (sym (map-id run.items) ∙ items ∙ map-id (chars text))
