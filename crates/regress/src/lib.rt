@@ -10,5 +10,5 @@ mod front;
 pub use api::{Regex, are_code_points};
 pub use engine::found::{Match, Range};
 pub use front::error::Error;
-pub use front::flags::Flags;
-
+pub use front::flags::{Flags, flags_are_read_back};
+pub use front::tables::{TableError, Tables};
