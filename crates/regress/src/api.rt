@@ -1,7 +1,10 @@
 //! The user's calls.
+ghost use Rattle.std.specs.Prelude.{◌≤◌, ◌↔◌, IsTrue, All};
 
 /// Whether all numbers are code points, at most 10FFFF.
-pub fn are_code_points(points: &[u32]) -> bool {
+pub fn are_code_points(points: &[u32]) -> bool
+    ensures { IsTrue result ↔ All (λ c. c ≤ 0x10FFFF) points.now }
+{
     points.iter().all(|c| *c <= 0x10_FFFF)
 }
 

@@ -1,4 +1,6 @@
 //! A match, and what is read from it.
+ghost use Rattle.std.specs.Prelude.{◌≡◌, ◌<◌, ◌≤◌, ◌-◌, Some, None, vec_len, slice_get, slice_range};
+ghost use Rattle.std.specs.Str.{IsCharBoundary};
 
 /// A range of offsets.
 pub type Range = std::ops::Range<usize>;
@@ -10,4 +12,54 @@ pub struct Match {
     pub range: Range,
     /// The range of each capturing group in order of its number, `None` where the group took no part.
     pub captures: Vec<Option<Range>>,
+}
+
+impl Match {
+    /// The range of a group, in bytes of the text that was searched: 0 is the whole match, and 1 the first capturing
+    /// group. `None` where the group took no part, and past the last one.
+    pub fn group(&self, index: usize) -> Option<Range>
+        ensures whole { index ≡ 0 → result ≡ Some self.now.range }
+        ensures capture { 0 < index → index ≤ vec_len self.now.captures
+            → slice_get self.now.captures.items (index - 1) ≡ Some result }
+        ensures past { vec_len self.now.captures < index → result ≡ None }
+    {
+        if index == 0 {
+            return Some(self.range());
+        }
+        match self.captures.get(index - 1) {
+            Some(Some(range)) => Some(range.start..range.end),
+            _ => None,
+        }
+    }
+
+    /// Where the match lies, in bytes of the text that was searched.
+    pub fn range(&self) -> Range
+        ensures { result ≡ self.now.range }
+    {
+        self.range.start..self.range.end
+    }
+
+    /// The offset of the first byte of the match.
+    pub fn start(&self) -> usize
+        ensures { result ≡ self.now.range.start }
+    {
+        self.range.start
+    }
+
+    /// The offset behind the last byte of the match.
+    pub fn end(&self) -> usize
+        ensures { result ≡ self.now.range.end }
+    {
+        self.range.end
+    }
+
+    /// The part of `text`, the text that was searched, at which the match lies.
+    pub fn as_str<'t>(&self, text: &'t str) -> &'t str
+        requires ordered { self.now.range.start ≤ self.now.range.end }
+        requires start_inside { IsCharBoundary text.now self.now.range.start }
+        requires end_inside { IsCharBoundary text.now self.now.range.end }
+        ensures { result.now ≡ slice_range text.now self.now.range.start self.now.range.end }
+    {
+        &text[self.range()]
+    }
 }
