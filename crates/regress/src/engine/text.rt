@@ -1,0 +1,47 @@
+//! A text as code points, and where each of them stands in its bytes.
+ghost use Rattle.std.specs.Prelude.{◌≡◌, ◌≤◌, ◌+◌, ℕ, chars, length, slice_get, Some, IfOk, vec_len};
+ghost use Rattle.regress_meaning.specs.Offsets.{offset};
+ghost use Rattle.regress.specs.TextViews.{utf8_reading};
+
+use std::alloc::{AllocError, Global};
+
+/// The code points of a text, and the offset in bytes of each of its places, the end included.
+#[derive(Drop)]
+pub(crate) struct Text {
+    points: Vec<u32>,
+    offsets: Vec<usize>,
+    ghost each_place: { vec_len offsets ≡ vec_len points + 1 },
+    ghost in_bytes: { (place : ℕ) → place ≤ vec_len points
+        → slice_get offsets.items place ≡ Some (offset (utf8_reading points.items) place) },
+}
+
+impl Text {
+    /// The text `text`.
+    pub(crate) fn new(alloc: Global, text: &str) -> Result<Self, AllocError>
+        ensures { IfOk result (λ t. t.points.items ≡ chars text.now) }
+    {
+        let mut points = Vec::new(alloc);
+        let mut offsets = Vec::new(alloc);
+        for (start, point) in text.char_indices() {
+            points.push(u32::from(point))?;
+            offsets.push(start)?;
+        }
+        offsets.push(text.len())?;
+        Ok(Text { points, offsets })
+    }
+
+    /// Its code points.
+    pub(crate) fn points(&self) -> &[u32]
+        ensures { result.now ≡ self.now.points.items }
+    {
+        &self.points
+    }
+
+    /// The offset in bytes of the place before the code point with the index `place`, or of the end.
+    pub(crate) fn offset(&self, place: usize) -> usize
+        requires { place ≤ vec_len self.now.points }
+        ensures { result ≡ offset (utf8_reading self.now.points.items) place }
+    {
+        self.offsets[place]
+    }
+}
