@@ -1,8 +1,10 @@
 //! A text as code points, and where each of them stands in its bytes.
 ghost use Rattle.std.specs.Prelude.{◌≡◌, ◌≤◌, ◌+◌, ℕ, chars, length, slice_get, Some, IfOk, vec_len};
-ghost use Rattle.regress_meaning.specs.Offsets.{offset};
-ghost use Rattle.regress.specs.TextViews.{utf8_reading};
+ghost use Rattle.regress_meaning.specs.Offsets.{offset, offset_range, told};
+ghost use Rattle.regress.specs.TextViews.{utf8_reading, PlacesWithin};
+ghost use Rattle.regress.specs.Views.{ends, item_of};
 
+use crate::engine::found::{Match, Range};
 use std::alloc::{AllocError, Global};
 
 /// The code points of a text, and the offset in bytes of each of its places, the end included.
@@ -43,5 +45,28 @@ impl Text {
         ensures { result ≡ offset (utf8_reading self.now.points.items) place }
     {
         self.offsets[place]
+    }
+
+    /// A range of places, told in bytes.
+    fn range(&self, places: &Range) -> Range
+        requires start { places.now.start ≤ vec_len self.now.points }
+        requires end { places.now.end ≤ vec_len self.now.points }
+        ensures { ends result ≡ offset_range (utf8_reading self.now.points.items) (ends places.now) }
+    {
+        self.offset(places.start)..self.offset(places.end)
+    }
+
+    /// A match told in places of this text, told in bytes.
+    pub(crate) fn told(&self, found: Match) -> Match
+        requires { PlacesWithin (vec_len self.now.points) (item_of found) }
+        ensures { item_of result ≡ told (utf8_reading self.now.points.items) (item_of found) }
+    {
+        let Match { range, mut captures } = found;
+        for group in captures.iter_mut() {
+            if let Some(places) = group {
+                *group = Some(self.range(places));
+            }
+        }
+        Match { range: self.range(&range), captures }
     }
 }
