@@ -1,12 +1,13 @@
 -- The code points of a text and the offsets of its places, one code point after another.
-use Rattle.std.proofs.Common.{◌≡◌, ℕ, zero, suc, ◌+◌, ◌<◌, ◌≤◌, ◌⊎◌, List, [], ◌∷◌, ◌++◌, length, take, Option, Some, sum_by, sym, ap, ◌∙◌, refl, inl, inr, arith}
+use Rattle.std.proofs.Common.{◌≡◌, ℕ, zero, suc, ◌+◌, ◌<◌, ◌≤◌, ◌⊎◌, List, [], ◌∷◌, ◌++◌, length, take, drop, Bool, true, false, ◌&&◌, Option, Some, sum_by, sym, ap, ◌∙◌, refl, inl, inr, arith}
 use Rattle.std.proofs.lemmas.Bool.{cases_lt}
-use Rattle.std.proofs.lemmas.List.{append_assoc, append-nil, length-append, length_push, take-append-le, take_all, nil_from_length}
-use Rattle.std.proofs.lemmas.List.Sums.{sum_by-cons, sum_by_push}
-use Rattle.std.proofs.lemmas.Str.{encodes-append, length-encode, chars_from_encodes}
+use Rattle.std.proofs.lemmas.List.{append_assoc, append-nil, length-append, length_push, take-append-le, take_all, take-take, take-append-drop, nil_from_length}
+use Rattle.std.proofs.lemmas.List.Sums.{sum_by-cons, sum_by_push, sum_by-take-le}
+use Rattle.std.proofs.lemmas.Str.{encodes-append, length-encode, chars_from_encodes, encodes-chars, scalars-chars, IsCharBoundary-at_seam}
 use Rattle.std.specs.Prelude.{encode_utf8, slice_get}
 use Rattle.std.specs.Char.{len_utf8}
-use Rattle.std.specs.Str.{encode_utf8_all, chars, IsUtf8}
+use Rattle.std.specs.Str.{encode_utf8_all, all_scalars, chars, IsUtf8, IsCharBoundary}
+use Rattle.regress_meaning.specs.Offsets.{Reading, offset, of_utf8}
 
 -- an element of a list that grows at its end
 slice_get-append : {X : Type 0} (xs ys : List X) (k : ℕ) (x : X) → slice_get xs k ≡ Some x → slice_get (xs ++ ys) k ≡ Some x
@@ -94,3 +95,36 @@ offsets_read bytes rest at points offsets r end =
     let all : length bytes ≡ sum_by len_utf8 points =
         ap length (nothing_left bytes rest at points offsets r end) ∙ length-encodes points in
     grown points offsets (length bytes) all r.count r.each
+
+-- the second of two tests that both pass
+second_passes : (a b : Bool) → (a && b) ≡ true → b ≡ true
+second_passes true b e = e
+second_passes false b e = cc
+
+-- characters behind a place are characters
+scalars-drop : (cs : List ℕ) (k : ℕ) → all_scalars cs ≡ true → all_scalars (drop k cs) ≡ true
+scalars-drop [] zero e = e
+scalars-drop [] (suc k) e = e
+scalars-drop (c ∷ cs) zero e = e
+scalars-drop (c ∷ cs) (suc k) e = scalars-drop cs k (second_passes _ _ e)
+
+-- the offset of each place of a text is where it may be cut
+pub offset_is_boundary : (bytes : List ℕ) → IsUtf8 bytes → (place : ℕ) → IsCharBoundary bytes (offset (of_utf8 bytes) place)
+offset_is_boundary bytes utf8 place =
+    let cs = chars bytes in
+    let front = encode_utf8_all (take place cs) in
+    let back = encode_utf8_all (drop place cs) in
+    let cut : bytes ≡ front ++ back =
+        sym (encodes-chars bytes utf8) ∙ ap encode_utf8_all (sym (take-append-drop place cs)) ∙ encodes-append (take place cs) (drop place cs) in
+    let characters : IsUtf8 back = (drop place cs, (scalars-drop cs place (scalars-chars bytes utf8), refl)) in
+    rw (← length-encodes (take place cs)) (IsCharBoundary-at_seam bytes front back cut characters)
+
+-- that of the end is its length
+pub offset_of_end : (bytes : List ℕ) → IsUtf8 bytes → offset (of_utf8 bytes) (length (chars bytes)) ≡ length bytes
+offset_of_end bytes utf8 =
+    ap (sum_by len_utf8) (take_all (length (chars bytes)) (chars bytes) (omega arith)) ∙ sym (length-encodes (chars bytes))
+    ∙ ap length (encodes-chars bytes utf8)
+
+-- a place that is no later has no greater offset
+pub offset-le : (r : Reading) (p q : ℕ) → p ≤ q → offset r p ≤ offset r q
+offset-le r p q le = rw take-take at (sum_by-take-le r.width (take q r.points) p)

@@ -63,3 +63,31 @@ impl Match {
         &text[self.range()]
     }
 }
+
+#[cfg(test)]
+mod tests {
+    use super::*;
+    use std::test::Fail;
+
+    #[test]
+    fn a_match_is_read(rt: HostRuntime) -> Result<(), Fail> {
+        let mut found = Match { range: 1..6, captures: vec![in rt.alloc(); Some(1..3), None]? };
+        assert_eq!(rt; found.range(), 1..6);
+        assert_eq!(rt; found.start(), 1);
+        assert_eq!(rt; found.end(), 6);
+        assert_eq!(rt; found.group(0), Some(1..6));
+        assert_eq!(rt; found.group(1), Some(1..3));
+        assert_eq!(rt; found.group(2), None);
+        assert_eq!(rt; found.group(3), None);
+        found.captures.clear();
+        assert_eq!(rt; found.group(1), None);
+        Ok(())
+    }
+
+    #[test]
+    fn a_part_of_the_text_is_read(rt: HostRuntime) -> Result<(), Fail> {
+        let found = Match { range: 1..6, captures: Vec::new(rt.alloc()) };
+        assert_eq!(rt; found.as_str("aé漢😀"), "é漢");
+        Ok(())
+    }
+}

@@ -70,3 +70,32 @@ impl Text {
         Match { range: self.range(&range), captures }
     }
 }
+
+#[cfg(test)]
+mod tests {
+    use super::*;
+    use std::test::Fail;
+
+    #[test]
+    fn offsets_of_one_to_four_bytes(rt: HostRuntime) -> Result<(), Fail> {
+        let text = Text::new(rt.alloc(), "aé漢😀")?;
+        assert_eq!(rt; text.points(), [0x61, 0xE9, 0x6F22, 0x1F600].as_slice());
+        assert_eq!(rt; text.points().len(), 4);
+        assert_eq!(rt; text.offset(1), 1);
+        assert_eq!(rt; text.offset(2), 3);
+        assert_eq!(rt; text.offset(3), 6);
+        assert_eq!(rt; text.offset(4), 10);
+        Ok(())
+    }
+
+    #[test]
+    fn a_match_is_told_in_bytes(rt: HostRuntime) -> Result<(), Fail> {
+        let text = Text::new(rt.alloc(), "aé漢😀")?;
+        assert_eq!(rt; text.points().len(), 4);
+        let found = text.told(Match { range: 1..4, captures: vec![in rt.alloc(); Some(2..3), None]? });
+        assert_eq!(rt; found.range(), 1..10);
+        assert_eq!(rt; found.group(1), Some(3..6));
+        assert_eq!(rt; found.group(2), None);
+        Ok(())
+    }
+}
