@@ -13,3 +13,14 @@ pub fn are_code_points(points: &[u32]) -> bool
 pub struct Regex {
     syntax: u32,
 }
+
+#[cfg(test)]
+mod tests {
+    use super::*;
+
+    #[test]
+    fn code_points_are_at_most_ten_ffff(rt: HostRuntime) {
+        assert!(rt; are_code_points([0x61, 0xD800, 0x10_FFFF].as_slice()));
+        assert!(rt; !are_code_points([0x61, 0x11_0000].as_slice()));
+    }
+}
