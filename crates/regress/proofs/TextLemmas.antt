@@ -1,5 +1,5 @@
 -- The code points of a text and the offsets of its places, one code point after another.
-use Rattle.std.proofs.Common.{◌≡◌, ℕ, zero, suc, ◌+◌, ◌<◌, ◌≤◌, ◌⊎◌, List, [], ◌∷◌, ◌++◌, length, take, drop, Bool, true, false, ◌&&◌, Option, Some, sum_by, sym, ap, ◌∙◌, refl, inl, inr, arith}
+use Rattle.std.proofs.Common.{◌≡◌, ℕ, zero, suc, ◌+◌, ◌<◌, ◌≤◌, ◌⊎◌, List, [], ◌∷◌, ◌++◌, length, take, drop, Bool, true, false, ◌&&◌, Some, sum_by, sym, ap, ◌∙◌, refl, inl, inr, arith}
 use Rattle.std.proofs.lemmas.Bool.{cases_lt}
 use Rattle.std.proofs.lemmas.List.{append_assoc, append-nil, length-append, length_push, take-append-le, take_all, take-take, take-append-drop, nil_from_length}
 use Rattle.std.proofs.lemmas.List.Sums.{sum_by-cons, sum_by_push, sum_by-take-le}
@@ -52,7 +52,7 @@ cut_more : (bytes rest rest' : List ℕ) (c : ℕ) (points : List ℕ) → bytes
     → bytes ≡ encode_utf8_all (points ++ c ∷ []) ++ rest'
 cut_more bytes rest rest' c points cut more =
     let one : encode_utf8_all (points ++ c ∷ []) ≡ encode_utf8_all points ++ encode_utf8 c =
-        encodes-append points (c ∷ []) ∙ ap (λ s. encode_utf8_all points ++ s) (append-nil (encode_utf8 c)) in
+    encodes-append points (c ∷ []) ∙ ap (λ s. encode_utf8_all points ++ s) (append-nil (encode_utf8 c)) in
     cut ∙ ap (λ s. encode_utf8_all points ++ s) more ∙ sym (append_assoc (encode_utf8_all points) (encode_utf8 c) rest')
     ∙ ap (λ s. s ++ rest') (sym one)
 
@@ -93,7 +93,7 @@ pub offsets_read : (bytes rest : List ℕ) (at : ℕ) (points offsets : List ℕ
     → slice_get (offsets ++ length bytes ∷ []) place ≡ Some (sum_by len_utf8 (take place points))
 offsets_read bytes rest at points offsets r end =
     let all : length bytes ≡ sum_by len_utf8 points =
-        ap length (nothing_left bytes rest at points offsets r end) ∙ length-encodes points in
+    ap length (nothing_left bytes rest at points offsets r end) ∙ length-encodes points in
     grown points offsets (length bytes) all r.count r.each
 
 -- the second of two tests that both pass
@@ -115,7 +115,7 @@ offset_is_boundary bytes utf8 place =
     let front = encode_utf8_all (take place cs) in
     let back = encode_utf8_all (drop place cs) in
     let cut : bytes ≡ front ++ back =
-        sym (encodes-chars bytes utf8) ∙ ap encode_utf8_all (sym (take-append-drop place cs)) ∙ encodes-append (take place cs) (drop place cs) in
+    sym (encodes-chars bytes utf8) ∙ ap encode_utf8_all (sym (take-append-drop place cs)) ∙ encodes-append (take place cs) (drop place cs) in
     let characters : IsUtf8 back = (drop place cs, (scalars-drop cs place (scalars-chars bytes utf8), refl)) in
     rw (← length-encodes (take place cs)) (IsCharBoundary-at_seam bytes front back cut characters)
 

@@ -4,12 +4,18 @@ use Rattle.std.proofs.lemmas.List.{append-nil, length-map, take_all, drop_all, w
 use Rattle.std.specs.Prelude.{All, IfSome}
 use Rattle.std.specs.Vec.{with_items}
 use Rattle.std.specs.declared.ops.Range.{Range}
+use Rattle.regress_meaning.specs.Meaning.{State}
 use Rattle.regress_meaning.specs.Matches.{Item}
 use Rattle.regress_meaning.specs.Offsets.{offset, offset_range, told}
-use Rattle.regress_meaning.specs.Laws.{LiesIn}
+use Rattle.regress_meaning.specs.Laws.{LiesIn, IsInside}
 use Rattle.regress.specs.declared.engine.found.Match.{Match}
 use Rattle.regress.specs.Views.{ends, item_of}
-use Rattle.regress.specs.TextViews.{utf8_reading}
+use Rattle.regress.specs.TextViews.{utf8_reading, PlacesWithin}
+
+-- a match that ends in a state inside the text lies in its places
+pub PlacesWithin-from_inside : (text : List ℕ) (start : ℕ) (s : State) → start ≤ length text → IsInside text s
+    → PlacesWithin (length text) (record { start = start; end = s.place; groups = s.groups })
+PlacesWithin-from_inside text start s within inside = record { start = within; end = inside.place; groups = inside.groups }
 
 -- a range of places told in bytes
 abbrev pub told_range : List ℕ → Range ℕ → Range ℕ
@@ -51,7 +57,7 @@ pub group_within : (n : ℕ) (f : Option (Range ℕ) → Option (Range ℕ)) (gs
     → get_or new k None ≡ Some r → LiesIn n (ends r)
 group_within n f gs old new k r all same changed within there =
     let e : get_or (map group old) k None ≡ Some (ends r) =
-        member_group old k ∙ ap group (sym (member_left f None old k) ∙ ap (λ hs. get_or hs k None) (sym changed) ∙ there) in
+    member_group old k ∙ ap group (sym (member_left f None old k) ∙ ap (λ hs. get_or hs k None) (sym changed) ∙ there) in
     let short : k < length (map group gs) = omega (arith, length-map gs group, ap length same) in
     rw (← same, e) at (all k None short)
 
@@ -61,7 +67,7 @@ pub group_told : (f : Option (Range ℕ) → Option (Range ℕ)) (old new new' :
     → new' ≡ map f (take (k + 1) old) ++ drop (k + 1) old
 group_told f old new new' k g h changed within there told_so written =
     let e : h ≡ f (get_or old k None) =
-        told_so ∙ ap f (sym there ∙ ap (λ gs. get_or gs k None) changed ∙ member_left f None old k) in
+    told_so ∙ ap f (sym there ∙ ap (λ gs. get_or gs k None) changed ∙ member_left f None old k) in
     rw (add-one, written, e, changed) (member_set f None old k within)
 
 -- groups told in bytes take the ranges told in bytes
@@ -87,8 +93,8 @@ match_told points found r old new k whole same count changed past =
     let f : Option (Range ℕ) → Option (Range ℕ) = option_map (told_range points) in
     let all : new ≡ map f old = all_told f old new k changed past in
     let kept : (with_items found.captures new).items ≡ new =
-        with_items_is found.captures new (ap length all ∙ length-map old f ∙ count) in
+    with_items_is found.captures new (ap length all ∙ length-map old f ∙ count) in
     let item : ℕ × ℕ → List (Option (ℕ × ℕ)) → Item = λ p gs. record { start = p.0; end = p.1; groups = gs } in
     ap (λ p. item p (map group (with_items found.captures new).items)) whole
     ∙ ap (λ gs. item (offset_range (utf8_reading points) (ends found.range)) gs)
-        (ap (map group) (kept ∙ all ∙ ap (map f) same) ∙ groups_told points found.captures.items)
+    (ap (map group) (kept ∙ all ∙ ap (map f) same) ∙ groups_told points found.captures.items)

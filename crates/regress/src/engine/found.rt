@@ -8,9 +8,9 @@ pub type Range = std::ops::Range<usize>;
 /// A match.
 #[derive(Debug, Drop)]
 pub struct Match {
-    /// Where the match lies.
+    /// Where the match lies, in bytes of the text that was searched.
     pub range: Range,
-    /// The range of each capturing group in order of its number, `None` where the group took no part.
+    /// The range of each capturing group in order of its number, in bytes too; `None` where the group took no part.
     pub captures: Vec<Option<Range>>,
 }
 
@@ -36,24 +36,25 @@ impl Match {
     pub fn range(&self) -> Range
         ensures { result ≡ self.now.range }
     {
-        self.range.start..self.range.end
+        self.start()..self.end()
     }
 
-    /// The offset of the first byte of the match.
+    /// The offset in bytes of the start of the match, in the text that was searched.
     pub fn start(&self) -> usize
         ensures { result ≡ self.now.range.start }
     {
         self.range.start
     }
 
-    /// The offset behind the last byte of the match.
+    /// The offset in bytes of the end of the match, in the text that was searched.
     pub fn end(&self) -> usize
         ensures { result ≡ self.now.range.end }
     {
         self.range.end
     }
 
-    /// The part of `text`, the text that was searched, at which the match lies.
+    /// The part of `text` at which the match lies, where `text` is the text that was searched. In any other text both ends
+    /// have to lie between characters, the start no later than the end.
     pub fn as_str<'t>(&self, text: &'t str) -> &'t str
         requires ordered { self.now.range.start ≤ self.now.range.end }
         requires start_inside { IsCharBoundary text.now self.now.range.start }
@@ -71,7 +72,10 @@ mod tests {
 
     #[test]
     fn a_match_is_read(rt: HostRuntime) -> Result<(), Fail> {
-        let mut found = Match { range: 1..6, captures: vec![in rt.alloc(); Some(1..3), None]? };
+        let mut found = Match {
+            range: 1..6,
+            captures: vec![in rt.alloc(); Some(1..3), None]?,
+        };
         assert_eq!(rt; found.range(), 1..6);
         assert_eq!(rt; found.start(), 1);
         assert_eq!(rt; found.end(), 6);
@@ -86,7 +90,10 @@ mod tests {
 
     #[test]
     fn a_part_of_the_text_is_read(rt: HostRuntime) -> Result<(), Fail> {
-        let found = Match { range: 1..6, captures: Vec::new(rt.alloc()) };
+        let found = Match {
+            range: 1..6,
+            captures: Vec::new(rt.alloc()),
+        };
         assert_eq!(rt; found.as_str("aé漢😀"), "é漢");
         Ok(())
     }

@@ -1,5 +1,5 @@
 //! A text as code points, and where each of them stands in its bytes.
-ghost use Rattle.std.specs.Prelude.{◌≡◌, ◌≤◌, ◌+◌, ℕ, chars, length, slice_get, Some, IfOk, vec_len};
+ghost use Rattle.std.specs.Prelude.{◌≡◌, ◌≤◌, ◌+◌, ℕ, chars, slice_get, Some, IfOk, vec_len};
 ghost use Rattle.regress_meaning.specs.Offsets.{offset, offset_range, told};
 ghost use Rattle.regress.specs.TextViews.{utf8_reading, PlacesWithin};
 ghost use Rattle.regress.specs.Views.{ends, item_of};
@@ -18,7 +18,7 @@ pub(crate) struct Text {
 }
 
 impl Text {
-    /// The text `text`.
+    /// The code points of `text` and the offsets of its places. Fails only where memory is refused.
     pub(crate) fn new(alloc: Global, text: &str) -> Result<Self, AllocError>
         ensures { IfOk result (λ t. t.points.items ≡ chars text.now) }
     {
@@ -39,7 +39,7 @@ impl Text {
         &self.points
     }
 
-    /// The offset in bytes of the place before the code point with the index `place`, or of the end.
+    /// The offset in bytes of a place: how many bytes the first `place` code points take.
     pub(crate) fn offset(&self, place: usize) -> usize
         requires { place ≤ vec_len self.now.points }
         ensures { result ≡ offset (utf8_reading self.now.points.items) place }
@@ -47,7 +47,7 @@ impl Text {
         self.offsets[place]
     }
 
-    /// A range of places, told in bytes.
+    /// The range in bytes that lies between two places.
     fn range(&self, places: &Range) -> Range
         requires start { places.now.start ≤ vec_len self.now.points }
         requires end { places.now.end ≤ vec_len self.now.points }
@@ -56,18 +56,24 @@ impl Text {
         self.offset(places.start)..self.offset(places.end)
     }
 
-    /// A match told in places of this text, told in bytes.
+    /// The match `found`, which is told in places of this text, told in bytes. It is written over in place.
     pub(crate) fn told(&self, found: Match) -> Match
         requires { PlacesWithin (vec_len self.now.points) (item_of found) }
         ensures { item_of result ≡ told (utf8_reading self.now.points.items) (item_of found) }
     {
-        let Match { range, mut captures } = found;
+        let Match {
+            range,
+            mut captures,
+        } = found;
         for group in captures.iter_mut() {
             if let Some(places) = group {
                 *group = Some(self.range(places));
             }
         }
-        Match { range: self.range(&range), captures }
+        Match {
+            range: self.range(&range),
+            captures,
+        }
     }
 }
 
@@ -92,7 +98,10 @@ mod tests {
     fn a_match_is_told_in_bytes(rt: HostRuntime) -> Result<(), Fail> {
         let text = Text::new(rt.alloc(), "aé漢😀")?;
         assert_eq!(rt; text.points().len(), 4);
-        let found = text.told(Match { range: 1..4, captures: vec![in rt.alloc(); Some(2..3), None]? });
+        let found = text.told(Match {
+            range: 1..4,
+            captures: vec![in rt.alloc(); Some(2..3), None]?,
+        });
         assert_eq!(rt; found.range(), 1..10);
         assert_eq!(rt; found.group(1), Some(3..6));
         assert_eq!(rt; found.group(2), None);
