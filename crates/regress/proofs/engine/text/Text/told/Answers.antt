@@ -13,7 +13,7 @@ pub range-requires-clause-end : goal.range-requires-clause-end
 range-requires-clause-end c =
     let f = option_map (told_range c.args.self.now.points.items) in
     let inside = group_within _ f _ _ _ _ _ c.requires.groups c.deref_mut-group-items.ensures.value c.loop-group.invariant c.loop-group-test.true c.in-Some.is in
-    inside.1
+    omega (arith, inside.0, inside.1)
 
 pub loop-group-preserved : goal.loop-group-preserved
 loop-group-preserved c =
