@@ -4,3 +4,5 @@ pub mod AnswerLemmas
 pub mod AtomLemmas
 pub mod LoopLemmas
 pub mod StepLemmas
+pub mod TextLemmas
+pub mod ToldLemmas

@@ -5,3 +5,4 @@ pub mod Views
 pub mod FlagWords
 pub mod ErrorTexts
 pub mod TableViews
+pub mod TextViews

@@ -2,3 +2,4 @@
 
 pub(crate) mod evaluator;
 pub(crate) mod found;
+pub(crate) mod text;

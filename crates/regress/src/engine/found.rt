@@ -1,4 +1,6 @@
 //! A match, and what is read from it.
+ghost use Rattle.std.specs.Prelude.{◌≡◌, ◌<◌, ◌≤◌, ◌-◌, Some, None, vec_len, slice_get, slice_range};
+ghost use Rattle.std.specs.Str.{IsCharBoundary};
 
 /// A range of offsets.
 pub type Range = std::ops::Range<usize>;
@@ -6,8 +8,93 @@ pub type Range = std::ops::Range<usize>;
 /// A match.
 #[derive(Debug, Drop)]
 pub struct Match {
-    /// Where the match lies.
+    /// Where the match lies, in bytes of the text that was searched.
     pub range: Range,
-    /// The range of each capturing group in order of its number, `None` where the group took no part.
+    /// The range of each capturing group in order of its number, in bytes too; `None` where the group took no part.
     pub captures: Vec<Option<Range>>,
+}
+
+impl Match {
+    /// The range of a group, in bytes of the text that was searched: 0 is the whole match, and 1 the first capturing
+    /// group. `None` where the group took no part, and past the last one.
+    pub fn group(&self, index: usize) -> Option<Range>
+        ensures whole { index ≡ 0 → result ≡ Some self.now.range }
+        ensures capture { 0 < index → index ≤ vec_len self.now.captures
+            → slice_get self.now.captures.items (index - 1) ≡ Some result }
+        ensures past { vec_len self.now.captures < index → result ≡ None }
+    {
+        if index == 0 {
+            return Some(self.range());
+        }
+        match self.captures.get(index - 1) {
+            Some(Some(range)) => Some(range.start..range.end),
+            _ => None,
+        }
+    }
+
+    /// Where the match lies, in bytes of the text that was searched.
+    pub fn range(&self) -> Range
+        ensures { result ≡ self.now.range }
+    {
+        self.start()..self.end()
+    }
+
+    /// The offset in bytes of the start of the match, in the text that was searched.
+    pub fn start(&self) -> usize
+        ensures { result ≡ self.now.range.start }
+    {
+        self.range.start
+    }
+
+    /// The offset in bytes of the end of the match, in the text that was searched.
+    pub fn end(&self) -> usize
+        ensures { result ≡ self.now.range.end }
+    {
+        self.range.end
+    }
+
+    /// The part of `text` at which the match lies, where `text` is the text that was searched. In any other text both ends
+    /// have to lie between characters, the start no later than the end.
+    pub fn as_str<'t>(&self, text: &'t str) -> &'t str
+        requires ordered { self.now.range.start ≤ self.now.range.end }
+        requires start_inside { IsCharBoundary text.now self.now.range.start }
+        requires end_inside { IsCharBoundary text.now self.now.range.end }
+        ensures { result.now ≡ slice_range text.now self.now.range.start self.now.range.end }
+    {
+        &text[self.range()]
+    }
+}
+
+#[cfg(test)]
+mod tests {
+    use super::*;
+    use std::test::Fail;
+
+    #[test]
+    fn a_match_is_read(rt: HostRuntime) -> Result<(), Fail> {
+        let mut found = Match {
+            range: 1..6,
+            captures: vec![in rt.alloc(); Some(1..3), None]?,
+        };
+        assert_eq!(rt; found.range(), 1..6);
+        assert_eq!(rt; found.start(), 1);
+        assert_eq!(rt; found.end(), 6);
+        assert_eq!(rt; found.group(0), Some(1..6));
+        assert_eq!(rt; found.group(1), Some(1..3));
+        assert_eq!(rt; found.group(2), None);
+        assert_eq!(rt; found.group(3), None);
+        found.captures.clear();
+        assert_eq!(rt; found.group(1), None);
+        Ok(())
+    }
+
+    #[test]
+    fn a_part_of_the_text_is_read(rt: HostRuntime) -> Result<(), Fail> {
+        let found = Match {
+            range: 1..6,
+            captures: Vec::new(rt.alloc()),
+        };
+        assert_eq!(rt; found.as_str("aé漢😀"), "é漢");
+        Ok(())
+    }
 }
