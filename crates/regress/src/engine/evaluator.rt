@@ -56,10 +56,10 @@ impl<'s> Evaluator<'s> {
     fn step(&self, point: u32, state: &State) -> Result<Vec<State>, AllocError>
         ensures { IfOk result (λ states. AreOutcomes self.now.points.now (character point) (state_of state.now) (map state_of states.items)) }
     {
-        let mut states = Vec::new(self.alloc);
-        if self.points.get(state.place).copied() == Some(point) {
-            states.push(state.moved_to(state.place + 1)?)?;
+        if state.place >= self.points.len() || self.points[state.place] != point {
+            return Ok(Vec::new(self.alloc));
         }
+        let states = vec![in self.alloc; state.moved_to(state.place + 1)?]?;
         Ok(states)
     }
 
@@ -107,7 +107,8 @@ impl<'s> Evaluator<'s> {
         ensures { IfOk result (λ states. AreOutcomes self.now.points.now (choice_of (map tree arms.now)) (state_of state.now) (map state_of states.items)) }
     {
         if arms.is_empty() {
-            return Ok(vec![in self.alloc; state.moved_to(state.place)?]?);
+            let states = vec![in self.alloc; state.moved_to(state.place)?]?;
+            return Ok(states);
         }
         let mut all = Vec::new(self.alloc);
         for arm in arms {

@@ -4,7 +4,7 @@ use Rattle.regress_meaning.specs.Table.{Table}
 use Rattle.regress_meaning.specs.Pattern.{Pattern, Settings}
 use Rattle.regress.specs.Trees.{tree, sequence_of}
 use Rattle.regress.specs.StateViews.{state_of, forward, AreOutcomesOfAll}
-use Rattle.regress.proofs.EvaluatorLemmas.{takes}
+use Rattle.regress.proofs.EvaluatorLemmas.{takes, leads_from}
 use Rattle.regress.proofs.engine.evaluator.Evaluator.+evaluator.Given as goal
 
 abbrev pub invariant-outcomes_of_all-loop-state : goal.invariant-outcomes_of_all-loop-state
@@ -20,7 +20,7 @@ invariant-outcomes_of_sequence-loop-term l = (table : Table) → (unicode : Bool
 abbrev pub invariant-outcomes_of_choice-loop-arm : goal.invariant-outcomes_of_choice-loop-arm
 invariant-outcomes_of_choice-loop-arm l = (table : Table) → (unicode : Bool) → (e : Settings) → e.icase ≡ false →
     map state_of l.all.items
-    ≡ flat_map (λ p. forward l.self.points.now p table unicode e (state_of l.state)) (map tree (take l.arm-index l.arms))
+    ≡ flat_map (leads_from (record { text = l.self.points.now; table = table; unicode = unicode }) e (state_of l.state)) (map tree (take l.arm-index l.arms))
 
 -- the group is set in the states so far, and the others are as they were
 abbrev pub invariant-outcomes_of_capture-loop-found : goal.invariant-outcomes_of_capture-loop-found
