@@ -1,15 +1,20 @@
 -- What trees lead to, read forward, in the form in which the evaluator's loops take it.
-use Rattle.std.proofs.Common.{◌≡◌, ◌≢◌, ℕ, zero, suc, ◌+◌, ◌<◌, ◌≤◌, ◌-◌, ◌==◌, ◌&&◌, leb, Bool, true, false, List, [], ◌∷◌, ◌++◌, length, map, option_map, take, drop, get_or, slice_get, slice_range, slice_set, min, max, nat_le, Option, Some, None, Vec, Box, Global, All, refl, sym, ap, ◌∙◌, arith, rules}
+use Rattle.std.proofs.Common.{◌≡◌, ◌≢◌, ℕ, zero, suc, ◌+◌, ◌<◌, ◌≤◌, ◌-◌, ◌==◌, ◌&&◌, leb, Bool, true, false, List, [], ◌∷◌, ◌++◌, length, map, option_map, take, drop, replicate, get_or, slice_get, slice_range, slice_set, min, max, nat_le, Option, Some, None, Vec, Box, Global, All, IfSome, refl, sym, ap, ◌∙◌, arith, rules}
 use Rattle.std.specs.List.{flat_map, list_all}
 use Rattle.std.proofs.lemmas.List.{append-nil, append_assoc, drop_more, take_more, map_more, map_push, take_more_set, take_all, drop_all, length-drop, drop-set-lt}
 use Rattle.std.proofs.lemmas.List.Concat.{flat_map-append}
-use Rattle.std.proofs.lemmas.List.Elements.{All-head, All-tail, All-weaker}
+use Rattle.std.proofs.lemmas.List.Elements.{All-head, All-tail, All-weaker, All-same, All-replicate}
 use Rattle.std.proofs.lemmas.Bool.{le-leb, eq-eqb, ne_eqb, leb-true, false_from_ne_true}
-use Rattle.regress_meaning.specs.Pattern.{Pattern, Settings, nothing, character, sequence, choice, capture, grouped}
+use Rattle.regress_meaning.specs.Pattern.{Pattern, Settings, names_of, nothing, character, sequence, choice, capture, grouped}
 use Rattle.regress_meaning.specs.Meaning.{State, Outcomes, Context, Forward, captured, same, beside, stepped, step, outcomes}
+use Rattle.regress_meaning.specs.Table.{Table}
+use Rattle.regress_meaning.specs.Flags.{Options, is_unicode, first_settings}
+use Rattle.regress_meaning.specs.Matches.{Item, item_at, first_from, attempt, first_match}
 use Rattle.regress_meaning.proofs.OutcomeLemmas.{Leads, Goes-outcomes}
 use Rattle.regress.specs.declared.engine.evaluator.State as evaluator
-use Rattle.regress.specs.StateViews.{state_of}
+use Rattle.regress.specs.StateViews.{state_of, forward, AreOutcomes, ItemIsInside}
+use Rattle.regress_meaning.specs.Laws.{LiesIn, IsInside}
+use Rattle.regress.specs.Views.{ends}
 use Rattle.regress.specs.Trees.{tree, node_tree, sequence_of, choice_of}
 use Rattle.regress.specs.declared.front.syntax.Syntax.{Syntax, Syntax-F, fold-roll-Syntax}
 use Rattle.regress.specs.declared.front.syntax.Syntax.TheVariants.{Character, Alternative, Disjunction, Capture, Group, rolls-Character, rolls-Alternative, rolls-Disjunction, rolls-Capture, rolls-Group}
@@ -179,3 +184,63 @@ pub arms_all : (context : Context) (e : Settings) (s : State) (arms : List Synta
     → leads context e (choice_of (map tree arms)) s ≡ flat_map (leads_from context e s) (map tree arms)
 arms_all context e s [] some = absurd (omega arith)
 arms_all context e s (arm ∷ arms) some = leads-choice_of context e (tree arm) (map tree arms) s
+
+-- no group is set
+pub map-replicate : (n : ℕ) → map (option_map ends) (replicate n None) ≡ replicate n None
+map-replicate zero = refl
+map-replicate (suc n) = ap (λ (gs : List (Option (ℕ × ℕ))). None ∷ gs) (map-replicate n)
+
+module _ (table : Table) (o : Options) (p : Pattern) (text : List ℕ) where
+  -- what a place has, from the outcomes there
+  pub attempt-from : (q : ℕ) (gs : List (Option (ℕ × ℕ))) (ts : List State) → gs ≡ replicate (length (names_of p)) None
+      → ts ≡ forward text p table (is_unicode o) (first_settings o) (record { place = q; groups = gs }) → attempt table o p text q ≡ item_at q ts
+  unfolding attempt
+  attempt-from q gs ts unset led = rw (led, unset) refl
+
+  pub first_match-found : (q : ℕ) (i : Item) → q ≤ length text → attempt table o p text q ≡ Some i → first_match table o p text q ≡ Some i
+  unfolding first_match first_from
+  first_match-found q i within found =
+      let left : length text + 1 - q ≡ suc (length text - q) = omega arith in
+      rw (left, found) refl
+
+  pub first_match-more : (q : ℕ) → q ≤ length text → attempt table o p text q ≡ None → first_match table o p text q ≡ first_match table o p text (q + 1)
+  unfolding first_match first_from
+  first_match-more q within none =
+      let left : length text + 1 - q ≡ suc (length text - q) = omega arith in
+      let behind : length text + 1 - (q + 1) ≡ length text - q = omega arith in
+      rw (left, none, behind) refl
+
+  pub first_match_past : (q : ℕ) → length text < q → first_match table o p text q ≡ None
+  unfolding first_match first_from
+  first_match_past q past =
+      let left : length text + 1 - q ≡ 0 = omega arith in
+      rw left refl
+
+-- a table that tells nothing
+no_table : Table
+no_table = record {
+  fold = λ c. c;
+  upper = λ c. c;
+  is_id_start = λ c. false;
+  is_id_continue = λ c. false;
+  property = λ name. None;
+  sequences = λ name. None;
+}
+
+no_settings : Settings
+no_settings = record { icase = false; multiline = false; dot_all = false }
+
+-- the first outcome from a place in the text, with no group set, is a match inside
+pub ItemIsInside-first : (text : List ℕ) (p : Pattern) (q n : ℕ) (gs : List (Option (ℕ × ℕ))) (t : State) (ts : List State) → q ≤ length text
+    → gs ≡ replicate n None → AreOutcomes text p (record { place = q; groups = gs }) (t ∷ ts)
+    → ItemIsInside text (record { start = q; end = t.place; groups = t.groups })
+unfolding no_settings
+ItemIsInside-first text p q n gs t ts within unset led =
+    let context : Context = record { text = text; table = no_table; unicode = false } in
+    let s : State = record { place = q; groups = gs } in
+    let to : State → Type 0 = Leads text Forward s in
+    let first : Leads text Forward s t =
+    All-head to t ts (All-same to (t ∷ ts) (leads context no_settings p s) (led no_table false no_settings refl) (Goes-outcomes context p Forward no_settings s)) in
+    let lies : Option (ℕ × ℕ) → Type 0 = λ g. IfSome g (LiesIn (length text)) in
+    let inside : IsInside text t = first.inside (record { place = within; groups = All-same lies gs (replicate n None) unset (All-replicate lies n None tt) }) in
+    record { range = (first.ahead, inside.place); groups = inside.groups }

@@ -147,7 +147,10 @@ impl<'s> Evaluator<'s> {
     {
         let groups = vec![in self.alloc; None; group_count]?;
         let states = self.outcomes(syntax, &State { place, groups })?;
-        Ok(states.into_iter().next().map(|state| Match {
+        let Some(state) = states.into_iter().next() else {
+            return Ok(None);
+        };
+        Ok(Some(Match {
             range: place..state.place,
             captures: state.groups,
         }))
