@@ -1,5 +1,6 @@
 -- What trees lead to, read forward, in the form in which the evaluator's loops take it.
-use Rattle.std.proofs.Common.{◌≡◌, ◌≢◌, ℕ, zero, suc, ◌+◌, ◌<◌, ◌≤◌, ◌-◌, ◌==◌, ◌&&◌, leb, Bool, true, false, List, [], ◌∷◌, ◌++◌, length, map, option_map, take, drop, replicate, get_or, slice_get, slice_range, slice_set, min, max, nat_le, Option, Some, None, Vec, Box, Global, All, IfSome, refl, sym, ap, ◌∙◌, arith, rules}
+use Rattle.std.proofs.Common.{◌≡◌, ◌≢◌, ℕ, zero, suc, ◌+◌, ◌<◌, ◌≤◌, ◌-◌, ◌==◌, ◌&&◌, leb, Bool, true, false, List, [], ◌∷◌, ◌++◌, length, map, option_map, take, drop, replicate, get_or, slice_get, slice_range, slice_set, min, max, nat_le, Option, Some, None, Result, Ok, Err, IfOk, Vec, Box, Global, All, IfSome, refl, sym, ap, ◌∙◌, arith, rules}
+use Rattle.std.specs.declared.alloc.AllocError.{AllocError}
 use Rattle.std.specs.List.{flat_map, list_all}
 use Rattle.std.proofs.lemmas.List.{append-nil, append_assoc, drop_more, take_more, map_more, map_push, take_more_set, take_all, drop_all, length-drop, drop-set-lt}
 use Rattle.std.proofs.lemmas.List.Concat.{flat_map-append}
@@ -127,6 +128,13 @@ module _ (context : Context) (e : Settings) where
   leads-capture k p s =
       takes_ahead context k s.place (leads p s)
       (All-weaker (Leads context.text Forward s) (λ t. s.place ≤ t.place) (λ t l. l.ahead) _ (Goes-outcomes context p Forward e s))
+
+-- what is answered leads on where it is known
+pub AreOutcomes-from_known : (text : List ℕ) (p : Pattern) (s : State) (r : Result (Vec evaluator.State Global) AllocError) (known : List State)
+    → IfOk r (λ states. map state_of states.items ≡ known) → AreOutcomes text p s known
+    → IfOk r (λ states. AreOutcomes text p s (map state_of states.items))
+AreOutcomes-from_known text p s (Ok states) known same led = λ table unicode e off. same ∙ led table unicode e off
+AreOutcomes-from_known text p s (Err failed) known same led = tt
 
 -- one arm more
 pub arms_more : (context : Context) (e : Settings) (s : State) (arms : List Syntax) (i : ℕ) (arm : Syntax) → i < length arms

@@ -1,7 +1,7 @@
 //! The evaluator: what a tree matches, on lists of states, as the definitions say it.
-ghost use Rattle.std.specs.Prelude.{◌≡◌, ◌+◌, ◌≤◌, ℕ, false, length, map, option_map, slice_set, Some, IfOk, IfSome};
+ghost use Rattle.std.specs.Prelude.{◌≡◌, ◌≤◌, false, [], ◌∷◌, length, map, option_map, slice_set, Some, IfOk, IfSome};
 ghost use Rattle.regress_meaning.specs.Table.{Table};
-ghost use Rattle.regress_meaning.specs.Pattern.{character, capture, names_of};
+ghost use Rattle.regress_meaning.specs.Pattern.{nothing, character, sequence, choice, capture, names_of};
 ghost use Rattle.regress_meaning.specs.Flags.{Options};
 ghost use Rattle.regress_meaning.specs.Matches.{attempt, first_match};
 ghost use Rattle.regress.specs.Trees.{tree, sequence_of, choice_of};
@@ -20,11 +20,12 @@ struct State {
 }
 
 impl State {
-    /// The same groups at another place.
-    fn moved_to(&self, place: usize) -> Result<State, AllocError>
-        ensures { IfOk result (λ state. state_of state ≡ record (state_of self.now) { place = place }) }
+    /// These groups at a place, as the only state.
+    fn alone_at(&self, place: usize) -> Result<Vec<State>, AllocError>
+        ensures { IfOk result (λ states. map state_of states.items ≡ record (state_of self.now) { place = place } ∷ []) }
     {
-        Ok(State { place, groups: self.groups.clone()? })
+        let groups = self.groups.clone()?;
+        Ok(vec![in *self.groups.allocator(); State { place, groups }]?)
     }
 
     /// The group takes what lies from a place to this one.
@@ -59,8 +60,7 @@ impl<'s> Evaluator<'s> {
         if state.place >= self.points.len() || self.points[state.place] != point {
             return Ok(Vec::new(self.alloc));
         }
-        let states = vec![in self.alloc; state.moved_to(state.place + 1)?]?;
-        Ok(states)
+        state.alone_at(state.place + 1)
     }
 
     /// The states that a tree leads to from a state, the most preferred first.
@@ -94,7 +94,7 @@ impl<'s> Evaluator<'s> {
     fn outcomes_of_sequence(&self, terms: &[Syntax], state: &State) -> Result<Vec<State>, AllocError>
         ensures { IfOk result (λ states. AreOutcomes self.now.points.now (sequence_of (map tree terms.now)) (state_of state.now) (map state_of states.items)) }
     {
-        let mut states = vec![in self.alloc; state.moved_to(state.place)?]?;
+        let mut states = state.alone_at(state.place)?;
         for term in terms {
             states = self.outcomes_of_all(term, &states)?;
         }
@@ -107,8 +107,7 @@ impl<'s> Evaluator<'s> {
         ensures { IfOk result (λ states. AreOutcomes self.now.points.now (choice_of (map tree arms.now)) (state_of state.now) (map state_of states.items)) }
     {
         if arms.is_empty() {
-            let states = vec![in self.alloc; state.moved_to(state.place)?]?;
-            return Ok(states);
+            return state.alone_at(state.place);
         }
         let mut all = Vec::new(self.alloc);
         for arm in arms {
@@ -176,5 +175,96 @@ impl<'s> Evaluator<'s> {
             }
         }
         Ok(None)
+    }
+}
+
+#[cfg(test)]
+mod tests {
+    use super::*;
+    use std::test::Fail;
+
+    const ABCD: [u32; 4] = [0x61, 0x62, 0x63, 0x64];
+
+    fn letter(c: char) -> Syntax
+        ensures { tree result ≡ character c }
+    {
+        Syntax::Character(u32::from(c))
+    }
+
+    fn pair(alloc: Global, first: Syntax, second: Syntax) -> Result<Syntax, AllocError>
+        ensures { IfOk result (λ s. tree s ≡ sequence (tree first) (sequence (tree second) nothing)) }
+    {
+        let terms = vec![in alloc; first, second]?;
+        Ok(Syntax::Alternative(terms))
+    }
+
+    fn either(alloc: Global, first: Syntax, second: Syntax) -> Result<Syntax, AllocError>
+        ensures { IfOk result (λ s. tree s ≡ choice (tree first) (tree second)) }
+    {
+        let arms = vec![in alloc; first, second]?;
+        Ok(Syntax::Disjunction(arms))
+    }
+
+    fn group(alloc: Global, number: CaptureGroupID, contents: Syntax) -> Result<Syntax, AllocError>
+        ensures { IfOk result (λ s. tree s ≡ capture number None (tree contents)) }
+    {
+        Ok(Syntax::Capture(number, Box::new(alloc, contents)?))
+    }
+
+    #[test]
+    fn goes_back_to_the_first_group(rt: HostRuntime) -> Result<(), Fail> {
+        let alloc = rt.alloc();
+        let first = either(alloc, letter('a'), pair(alloc, letter('a'), letter('b'))?)?;
+        let tail = pair(alloc, letter('b'), pair(alloc, letter('c'), letter('d'))?)?;
+        let second = either(alloc, letter('c'), tail)?;
+        let both = pair(alloc, group(alloc, 0, first)?, group(alloc, 1, second)?)?;
+        let found = Evaluator::new(alloc, &ABCD).first_match(&both, 2, 0)?;
+        let found = found.ok_or("no match")?;
+        assert_eq!(rt; found.range.start, 0);
+        assert_eq!(rt; found.range.end, 4);
+        assert_eq!(rt; found.captures.as_slice(), [Some(0..1), Some(1..4)].as_slice());
+        Ok(())
+    }
+
+    #[test]
+    fn searches_from_a_place_on(rt: HostRuntime) -> Result<(), Fail> {
+        let evaluator = Evaluator::new(rt.alloc(), &ABCD);
+        let found = evaluator.first_match(&letter('c'), 0, 1)?.ok_or("no match")?;
+        assert_eq!(rt; found.range.start, 2);
+        assert_eq!(rt; found.range.end, 3);
+        assert!(rt; evaluator.first_match(&letter('c'), 0, 3)?.is_none());
+        assert!(rt; evaluator.first_match(&letter('c'), 0, 9)?.is_none());
+        Ok(())
+    }
+
+    #[test]
+    fn takes_the_first_arm_that_works(rt: HostRuntime) -> Result<(), Fail> {
+        let alloc = rt.alloc();
+        let arms = vec![in alloc; letter('x'), pair(alloc, letter('a'), letter('b'))?, letter('a')]?;
+        let start = State { place: 0, groups: Vec::new(alloc) };
+        let states = Evaluator::new(alloc, &ABCD).outcomes(&Syntax::Disjunction(arms), &start)?;
+        assert_eq!(rt; states.len(), 2);
+        assert_eq!(rt; states[0].place, 2);
+        assert_eq!(rt; states[1].place, 1);
+        Ok(())
+    }
+
+    #[test]
+    fn goes_over_long_sequences_and_choices(rt: HostRuntime) -> Result<(), Fail> {
+        let alloc = rt.alloc();
+        let mut points = Vec::new(alloc);
+        let mut terms = Vec::new(alloc);
+        let mut arms = Vec::new(alloc);
+        for _ in 0..100_000 {
+            points.push(0x61)?;
+            terms.push(letter('a'))?;
+            arms.push(letter('b'))?;
+        }
+        arms.push(Syntax::Alternative(terms))?;
+        let start = State { place: 0, groups: Vec::new(alloc) };
+        let states = Evaluator::new(alloc, &points).outcomes(&Syntax::Disjunction(arms), &start)?;
+        assert_eq!(rt; states.len(), 1);
+        assert_eq!(rt; states[0].place, 100_000);
+        Ok(())
     }
 }

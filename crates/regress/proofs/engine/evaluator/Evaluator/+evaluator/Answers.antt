@@ -8,7 +8,7 @@ use Rattle.regress_meaning.specs.Meaning.{State, Context, outcomes}
 use Rattle.regress.specs.declared.front.syntax.Syntax.{Syntax}
 use Rattle.regress.specs.Trees.{tree, sequence_of, choice_of}
 use Rattle.regress.specs.StateViews.{state_of, forward, AreOutcomes, AreOutcomesOfAll}
-use Rattle.regress.proofs.EvaluatorLemmas.{tree-Character, tree-Alternative, tree-Disjunction, tree-Capture, tree-Group, leads, takes, leads-nothing, flat_map-nothing, leads-capture, arms_more, arms_all, terms_more, takes_more, takes_all}
+use Rattle.regress.proofs.EvaluatorLemmas.{tree-Character, tree-Alternative, tree-Disjunction, tree-Capture, tree-Group, leads, takes, leads-nothing, flat_map-nothing, leads-capture, arms_more, arms_all, terms_more, takes_more, takes_all, AreOutcomes-from_known}
 use Rattle.regress.proofs.engine.evaluator.Evaluator.+evaluator.Goals as goal
 
 pub outcomes-returns-in-Character : goal.outcomes-returns-in-Character
@@ -51,11 +51,12 @@ outcomes_of_sequence-returns t c = λ table unicode e off.
     ∙ rw (drop_all c.loop-term.term-index c.args.terms.now (omega arith)) at (c.loop-term.invariant table unicode e off)
 
 pub outcomes_of_choice-returns-then-is_empty : goal.outcomes_of_choice-returns-then-is_empty
-outcomes_of_choice-returns-then-is_empty t c = λ table unicode e off.
-    let context : Context = record { text = c.args.self.now.points.now; table = table; unicode = unicode } in
+outcomes_of_choice-returns-then-is_empty t c =
     let none : c.args.arms.now ≡ [] = nil_from_length c.args.arms.now (eqb-true (length c.args.arms.now) 0 (sym c.if-is_empty.ensures)) in
-    rw (none, c.in_ok-states.ensures.items)
-    (ap (λ (s : State). s ∷ []) c.in_ok-moved_to.ensures ∙ sym (leads-nothing context e (state_of c.args.state.now)))
+    AreOutcomes-from_known c.args.self.now.points.now (choice_of (map tree c.args.arms.now)) (state_of c.args.state.now) c.alone_at.result _ c.alone_at.ensures
+    (λ table unicode e off.
+      let context : Context = record { text = c.args.self.now.points.now; table = table; unicode = unicode } in
+      rw none (sym (leads-nothing context e (state_of c.args.state.now))))
 
 pub outcomes_of_choice-loop-arm-preserved : goal.outcomes_of_choice-loop-arm-preserved
 outcomes_of_choice-loop-arm-preserved t c = λ table unicode e off.
