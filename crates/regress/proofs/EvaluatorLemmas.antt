@@ -1,25 +1,26 @@
 -- What trees lead to, read forward, in the form in which the evaluator's loops take it.
-use Rattle.std.proofs.Common.{◌≡◌, ◌≢◌, ℕ, zero, suc, ◌+◌, ◌<◌, ◌≤◌, ◌-◌, ◌==◌, ◌&&◌, leb, Bool, true, false, List, [], ◌∷◌, ◌++◌, length, map, option_map, take, drop, replicate, get_or, slice_get, slice_range, slice_set, min, max, nat_le, Option, Some, None, Result, Ok, Err, IfOk, Vec, Box, Global, All, IfSome, refl, sym, ap, ◌∙◌, arith, rules}
+use Rattle.std.proofs.Common.{◌≡◌, ◌≢◌, ℕ, zero, suc, ◌+◌, ◌<◌, ◌≤◌, ◌-◌, ◌==◌, ◌&&◌, leb, true, false, List, [], ◌∷◌, ◌++◌, length, map, option_map, take, drop, replicate, get_or, slice_set, min, max, Option, Some, None, Result, Ok, Err, IfOk, Vec, Box, Global, All, IfSome, refl, sym, ap, ◌∙◌, arith}
 use Rattle.std.specs.declared.alloc.AllocError.{AllocError}
 use Rattle.std.specs.List.{flat_map, list_all}
-use Rattle.std.proofs.lemmas.List.{append-nil, append_assoc, drop_more, take_more, map_more, map_push, take_more_set, take_all, drop_all, length-drop, drop-set-lt}
+use Rattle.std.proofs.lemmas.List.{append-nil, drop_more, take_more, map_more, map_push, take_more_set, take_all, drop_all, length-drop, drop-set-lt}
 use Rattle.std.proofs.lemmas.List.Concat.{flat_map-append}
 use Rattle.std.proofs.lemmas.List.Elements.{All-head, All-tail, All-weaker, All-same, All-replicate}
 use Rattle.std.proofs.lemmas.Bool.{le-leb, eq-eqb, ne_eqb, leb-true, false_from_ne_true}
-use Rattle.regress_meaning.specs.Pattern.{Pattern, Settings, names_of, nothing, character, sequence, choice, capture, grouped}
-use Rattle.regress_meaning.specs.Meaning.{State, Outcomes, Context, Forward, captured, same, beside, stepped, step, outcomes}
+use Rattle.regress_meaning.specs.Pattern.{Pattern, Settings, names_of, nothing, character, sequence, capture, grouped}
+use Rattle.regress_meaning.specs.Meaning.{State, Outcomes, Context, Forward, captured, same, beside, step, outcomes}
 use Rattle.regress_meaning.specs.Table.{Table}
 use Rattle.regress_meaning.specs.Flags.{Options, is_unicode, first_settings}
 use Rattle.regress_meaning.specs.Matches.{Item, item_at, first_from, attempt, first_match}
 use Rattle.regress_meaning.proofs.OutcomeLemmas.{Leads, Goes-outcomes}
 use Rattle.regress.specs.declared.engine.evaluator.State as evaluator
-use Rattle.regress.specs.StateViews.{state_of, forward, AreOutcomes, ItemIsInside}
+use Rattle.regress.specs.StateViews.{state_of, forward, AreOutcomes, IsItemInside}
 use Rattle.regress_meaning.specs.Laws.{LiesIn, IsInside}
 use Rattle.regress.specs.Views.{ends}
 use Rattle.regress.specs.Trees.{tree, node_tree, sequence_of, choice_of}
 use Rattle.regress.specs.declared.front.syntax.Syntax.{Syntax, Syntax-F, fold-roll-Syntax}
 use Rattle.regress.specs.declared.front.syntax.Syntax.TheVariants.{Character, Alternative, Disjunction, Capture, Group, rolls-Character, rolls-Alternative, rolls-Disjunction, rolls-Capture, rolls-Group}
 
+-- the equations of `tree`, one for each variant
 pub tree-Character : (c : ℕ) → tree (Character c) ≡ character c
 tree-Character c = ap tree (sym (rolls-Character c)) ∙ fold-roll-Syntax Pattern node_tree (Syntax-F.Character c)
 
@@ -35,6 +36,7 @@ tree-Capture k contents = ap tree (sym (rolls-Capture k contents)) ∙ fold-roll
 pub tree-Group : (contents : Box Syntax Global) → tree (Group contents) ≡ grouped (tree contents.value)
 tree-Group contents = ap tree (sym (rolls-Group contents)) ∙ fold-roll-Syntax Pattern node_tree (Syntax-F.Group contents)
 
+-- a test that fails on a greater number
 lt-leb_false : (a b : ℕ) → b < a → leb a b ≡ false
 lt-leb_false a b h = false_from_ne_true (leb a b) (λ yes. absurd (omega (arith, leb-true a b yes)))
 
@@ -152,7 +154,7 @@ pub terms_more : (context : Context) (e : Settings) (ss : List State) (terms : L
 terms_more context e ss terms i term within read =
     sym (flat_map-sequence context e (tree term) (sequence_of (map tree (drop (i + 1) terms))) ss)
     ∙ ap (λ (ts : List Syntax). flat_map (leads context e (sequence_of (map tree ts))) ss)
-      (sym (drop_more terms i term within ∙ ap (λ (t : Syntax). t ∷ drop (i + 1) terms) (sym read)))
+    (sym (drop_more terms i term within ∙ ap (λ (t : Syntax). t ∷ drop (i + 1) terms) (sym read)))
 
 -- one state more takes the group
 pub takes_more : (k from : ℕ) (xs ys : List evaluator.State) (i : ℕ) (d new : evaluator.State) → i < length xs
@@ -164,8 +166,7 @@ takes_more k from xs ys i d new within set_so front back =
     let within' : i < length ys = omega (arith, length-drop i xs, length-drop i ys, ap length back) in
     let both : (get_or xs i d ∷ drop (i + 1) xs) ≡ (get_or ys i d ∷ drop (i + 1) ys) = cc (drop_more xs i d within, drop_more ys i d within', back) in
     let there : get_or ys i d ≡ get_or xs i d = cc in
-    let behind : drop (i + 1) xs ≡ drop (i + 1) ys = cc in
-    (
+    let behind : drop (i + 1) xs ≡ drop (i + 1) ys = cc in (
       rw (
         take_more_set xs i new within,
         map_push state_of (take i xs) new,
@@ -235,15 +236,16 @@ no_table = record {
   sequences = λ name. None;
 }
 
+-- settings of which none is on
 no_settings : Settings
 no_settings = record { icase = false; multiline = false; dot_all = false }
 
 -- the first outcome from a place in the text, with no group set, is a match inside
-pub ItemIsInside-first : (text : List ℕ) (p : Pattern) (q n : ℕ) (gs : List (Option (ℕ × ℕ))) (t : State) (ts : List State) → q ≤ length text
+pub IsItemInside-first : (text : List ℕ) (p : Pattern) (q n : ℕ) (gs : List (Option (ℕ × ℕ))) (t : State) (ts : List State) → q ≤ length text
     → gs ≡ replicate n None → AreOutcomes text p (record { place = q; groups = gs }) (t ∷ ts)
-    → ItemIsInside text (record { start = q; end = t.place; groups = t.groups })
+    → IsItemInside text (record { start = q; end = t.place; groups = t.groups })
 unfolding no_settings
-ItemIsInside-first text p q n gs t ts within unset led =
+IsItemInside-first text p q n gs t ts within unset led =
     let context : Context = record { text = text; table = no_table; unicode = false } in
     let s : State = record { place = q; groups = gs } in
     let to : State → Type 0 = Leads text Forward s in

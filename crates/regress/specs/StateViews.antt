@@ -1,5 +1,5 @@
 -- How the states and matches of the evaluator stand to those of the definitions.
-use Rattle.std.specs.Prelude.{◌≡◌, ℕ, Bool, false, List, Option, length, map, option_map, All, IfSome}
+use Rattle.std.specs.Prelude.{◌≡◌, ℕ, Bool, false, List, length, map, option_map, All, IfSome}
 use Rattle.std.specs.List.{flat_map}
 use Rattle.regress_meaning.specs.Table.{Table}
 use Rattle.regress_meaning.specs.Pattern.{Pattern, Settings}
@@ -28,6 +28,6 @@ AreOutcomesOfAll text p ss ts =
     (table : Table) → (unicode : Bool) → (e : Settings) → e.icase ≡ false → ts ≡ flat_map (forward text p table unicode e) ss
 
 -- A match lies in a text: its range does, and each range that a group took.
-pub record ItemIsInside (text : List ℕ) (i : Item) : Type 0 where
+pub record IsItemInside (text : List ℕ) (i : Item) : Type 0 where
   pub range : LiesIn (length text) (i.start, i.end)
   pub groups : All (λ g. IfSome g (LiesIn (length text))) i.groups

@@ -6,7 +6,7 @@ ghost use Rattle.regress_meaning.specs.Flags.{Options};
 ghost use Rattle.regress_meaning.specs.Matches.{attempt, first_match};
 ghost use Rattle.regress.specs.Trees.{tree, sequence_of, choice_of};
 ghost use Rattle.regress.specs.Views.{item_of};
-ghost use Rattle.regress.specs.StateViews.{state_of, AreOutcomes, AreOutcomesOfAll, ItemIsInside};
+ghost use Rattle.regress.specs.StateViews.{state_of, AreOutcomes, AreOutcomesOfAll, IsItemInside};
 
 use crate::engine::found::{Match, Range};
 use crate::front::syntax::{CaptureGroupID, Syntax};
@@ -22,7 +22,8 @@ struct State {
 impl State {
     /// These groups at a place, as the only state.
     fn alone_at(&self, place: usize) -> Result<Vec<State>, AllocError>
-        ensures { IfOk result (λ states. map state_of states.items ≡ record (state_of self.now) { place = place } ∷ []) }
+        ensures { IfOk result
+            (λ states. map state_of states.items ≡ record (state_of self.now) { place = place } ∷ []) }
     {
         let groups = self.groups.clone()?;
         Ok(vec![in *self.groups.allocator(); State { place, groups }]?)
@@ -30,7 +31,8 @@ impl State {
 
     /// The group takes what lies from a place to this one.
     fn capture(&mut self, group: CaptureGroupID, start: usize)
-        ensures { state_of self.new ≡ record (state_of self.old) { groups = slice_set (state_of self.old).groups group (Some (start, self.old.place)) } }
+        ensures { let old = state_of self.old in
+            state_of self.new ≡ record old { groups = slice_set old.groups group (Some (start, old.place)) } }
     {
         if let Some(range) = self.groups.get_mut(usize::from(group)) {
             *range = Some(start..self.place);
@@ -55,7 +57,8 @@ impl<'s> Evaluator<'s> {
 
     /// Steps over one code point.
     fn step(&self, point: u32, state: &State) -> Result<Vec<State>, AllocError>
-        ensures { IfOk result (λ states. AreOutcomes self.now.points.now (character point) (state_of state.now) (map state_of states.items)) }
+        ensures { IfOk result (λ states. AreOutcomes self.now.points.now (character point)
+            (state_of state.now) (map state_of states.items)) }
     {
         if state.place >= self.points.len() || self.points[state.place] != point {
             return Ok(Vec::new(self.alloc));
@@ -66,7 +69,8 @@ impl<'s> Evaluator<'s> {
     /// The states that a tree leads to from a state, the most preferred first.
     #[cycle(evaluator)]
     fn outcomes(&self, syntax: &Syntax, state: &State) -> Result<Vec<State>, AllocError>
-        ensures { IfOk result (λ states. AreOutcomes self.now.points.now (tree syntax.now) (state_of state.now) (map state_of states.items)) }
+        ensures { IfOk result (λ states. AreOutcomes self.now.points.now (tree syntax.now)
+            (state_of state.now) (map state_of states.items)) }
     {
         match syntax {
             Syntax::Character(point) => self.step(*point, state),
@@ -80,7 +84,8 @@ impl<'s> Evaluator<'s> {
     /// What a tree leads to from each state, one after another.
     #[cycle(evaluator)]
     fn outcomes_of_all(&self, syntax: &Syntax, states: &[State]) -> Result<Vec<State>, AllocError>
-        ensures { IfOk result (λ all. AreOutcomesOfAll self.now.points.now (tree syntax.now) (map state_of states.now) (map state_of all.items)) }
+        ensures { IfOk result (λ all. AreOutcomesOfAll self.now.points.now (tree syntax.now)
+            (map state_of states.now) (map state_of all.items)) }
     {
         let mut all = Vec::new(self.alloc);
         for state in states {
@@ -91,8 +96,13 @@ impl<'s> Evaluator<'s> {
 
     /// What terms lead to one after another.
     #[cycle(evaluator)]
-    fn outcomes_of_sequence(&self, terms: &[Syntax], state: &State) -> Result<Vec<State>, AllocError>
-        ensures { IfOk result (λ states. AreOutcomes self.now.points.now (sequence_of (map tree terms.now)) (state_of state.now) (map state_of states.items)) }
+    fn outcomes_of_sequence(
+        &self,
+        terms: &[Syntax],
+        state: &State,
+    ) -> Result<Vec<State>, AllocError>
+        ensures { IfOk result (λ states. AreOutcomes self.now.points.now (sequence_of (map tree terms.now))
+            (state_of state.now) (map state_of states.items)) }
     {
         let mut states = state.alone_at(state.place)?;
         for term in terms {
@@ -104,7 +114,8 @@ impl<'s> Evaluator<'s> {
     /// What arms lead to side by side. No arms lead where nothing does.
     #[cycle(evaluator)]
     fn outcomes_of_choice(&self, arms: &[Syntax], state: &State) -> Result<Vec<State>, AllocError>
-        ensures { IfOk result (λ states. AreOutcomes self.now.points.now (choice_of (map tree arms.now)) (state_of state.now) (map state_of states.items)) }
+        ensures { IfOk result (λ states. AreOutcomes self.now.points.now (choice_of (map tree arms.now))
+            (state_of state.now) (map state_of states.items)) }
     {
         if arms.is_empty() {
             return state.alone_at(state.place);
@@ -124,7 +135,8 @@ impl<'s> Evaluator<'s> {
         contents: &Syntax,
         state: &State,
     ) -> Result<Vec<State>, AllocError>
-        ensures { IfOk result (λ states. AreOutcomes self.now.points.now (capture group None (tree contents.now)) (state_of state.now) (map state_of states.items)) }
+        ensures { IfOk result (λ states. AreOutcomes self.now.points.now (capture group None (tree contents.now))
+            (state_of state.now) (map state_of states.items)) }
     {
         let mut states = self.outcomes(contents, state)?;
         for found in states.iter_mut() {
@@ -141,8 +153,10 @@ impl<'s> Evaluator<'s> {
         place: usize,
     ) -> Result<Option<Match>, AllocError>
         requires { group_count ≡ length (names_of (tree syntax.now)) }
-        ensures value { IfOk result (λ found. (table : Table) → (o : Options) → o.icase ≡ false → option_map item_of found ≡ attempt table o (tree syntax.now) self.now.points.now place) }
-        ensures inside { place ≤ length self.now.points.now → IfOk result (λ found. IfSome found (λ m. ItemIsInside self.now.points.now (item_of m))) }
+        ensures value { IfOk result (λ found. (table : Table) → (o : Options) → o.icase ≡ false →
+            option_map item_of found ≡ attempt table o (tree syntax.now) self.now.points.now place) }
+        ensures inside { place ≤ length self.now.points.now →
+            IfOk result (λ found. IfSome found (λ m. IsItemInside self.now.points.now (item_of m))) }
     {
         let groups = vec![in self.alloc; None; group_count]?;
         let states = self.outcomes(syntax, &State { place, groups })?;
@@ -166,8 +180,10 @@ impl<'s> Evaluator<'s> {
         place: usize,
     ) -> Result<Option<Match>, AllocError>
         requires { group_count ≡ length (names_of (tree syntax.now)) }
-        ensures value { IfOk result (λ found. (table : Table) → (o : Options) → o.icase ≡ false → option_map item_of found ≡ first_match table o (tree syntax.now) self.now.points.now place) }
-        ensures inside { IfOk result (λ found. IfSome found (λ m. ItemIsInside self.now.points.now (item_of m))) }
+        ensures value { IfOk result (λ found. (table : Table) → (o : Options) → o.icase ≡ false →
+            option_map item_of found ≡ first_match table o (tree syntax.now) self.now.points.now place) }
+        ensures inside { IfOk result
+            (λ found. IfSome found (λ m. IsItemInside self.now.points.now (item_of m))) }
     {
         for start in place..=self.points.len() {
             if let Some(found) = self.attempt(syntax, group_count, start)? {
@@ -222,14 +238,19 @@ mod tests {
         let found = found.ok_or("no match")?;
         assert_eq!(rt; found.range.start, 0);
         assert_eq!(rt; found.range.end, 4);
-        assert_eq!(rt; found.captures.as_slice(), [Some(0..1), Some(1..4)].as_slice());
+        assert_eq!(rt;
+            found.captures.as_slice(),
+            [Some(0..1), Some(1..4)].as_slice()
+        );
         Ok(())
     }
 
     #[test]
     fn searches_from_a_place_on(rt: HostRuntime) -> Result<(), Fail> {
         let evaluator = Evaluator::new(rt.alloc(), &ABCD);
-        let found = evaluator.first_match(&letter('c'), 0, 1)?.ok_or("no match")?;
+        let found = evaluator
+            .first_match(&letter('c'), 0, 1)?
+            .ok_or("no match")?;
         assert_eq!(rt; found.range.start, 2);
         assert_eq!(rt; found.range.end, 3);
         assert!(rt; evaluator.first_match(&letter('c'), 0, 3)?.is_none());
@@ -240,8 +261,15 @@ mod tests {
     #[test]
     fn takes_the_first_arm_that_works(rt: HostRuntime) -> Result<(), Fail> {
         let alloc = rt.alloc();
-        let arms = vec![in alloc; letter('x'), pair(alloc, letter('a'), letter('b'))?, letter('a')]?;
-        let start = State { place: 0, groups: Vec::new(alloc) };
+        let arms = vec![in alloc;
+            letter('x'),
+            pair(alloc, letter('a'), letter('b'))?,
+            letter('a'),
+        ]?;
+        let start = State {
+            place: 0,
+            groups: Vec::new(alloc),
+        };
         let states = Evaluator::new(alloc, &ABCD).outcomes(&Syntax::Disjunction(arms), &start)?;
         assert_eq!(rt; states.len(), 2);
         assert_eq!(rt; states[0].place, 2);
@@ -261,7 +289,10 @@ mod tests {
             arms.push(letter('b'))?;
         }
         arms.push(Syntax::Alternative(terms))?;
-        let start = State { place: 0, groups: Vec::new(alloc) };
+        let start = State {
+            place: 0,
+            groups: Vec::new(alloc),
+        };
         let states = Evaluator::new(alloc, &points).outcomes(&Syntax::Disjunction(arms), &start)?;
         assert_eq!(rt; states.len(), 1);
         assert_eq!(rt; states[0].place, 100_000);

@@ -1,13 +1,10 @@
-use Rattle.std.proofs.Common.{◌≡◌, ℕ, ◌+◌, ◌∷◌, List, [], length, map, take, drop, sym, ap, ◌∙◌, arith}
+use Rattle.std.proofs.Common.{◌≡◌, ◌+◌, [], length, map, drop, sym, ap, ◌∙◌, arith}
 use Rattle.std.specs.List.{flat_map}
 use Rattle.std.proofs.lemmas.Bool.{eqb-true, eqb-false}
 use Rattle.std.proofs.lemmas.List.{take_all, drop_all, map-append, nil_from_length}
-use Rattle.regress_meaning.specs.Pattern.{Settings}
-use Rattle.regress_meaning.specs.Table.{Table}
-use Rattle.regress_meaning.specs.Meaning.{State, Context, outcomes}
-use Rattle.regress.specs.declared.front.syntax.Syntax.{Syntax}
+use Rattle.regress_meaning.specs.Meaning.{Context, outcomes}
 use Rattle.regress.specs.Trees.{tree, sequence_of, choice_of}
-use Rattle.regress.specs.StateViews.{state_of, forward, AreOutcomes, AreOutcomesOfAll}
+use Rattle.regress.specs.StateViews.{state_of}
 use Rattle.regress.proofs.EvaluatorLemmas.{tree-Character, tree-Alternative, tree-Disjunction, tree-Capture, tree-Group, leads, takes, leads-nothing, flat_map-nothing, leads-capture, arms_more, arms_all, terms_more, takes_more, takes_all, AreOutcomes-from_known}
 use Rattle.regress.proofs.engine.evaluator.Evaluator.+evaluator.Goals as goal
 
@@ -40,7 +37,7 @@ outcomes_of_sequence-loop-term-preserved t c = λ table unicode e off.
     let terms = c.args.terms.now in
     let index = c.loop-term.term-index in
     ap (flat_map (leads context e (sequence_of (map tree (drop (index + 1) terms)))))
-      (rw c.deref.ensures.value at (c.in_ok-states-2.ensures table unicode e off))
+    (rw c.deref.ensures.value at (c.in_ok-states-2.ensures table unicode e off))
     ∙ terms_more context e (map state_of c.loop-term.states.items) terms index c.term-item.result c.loop-term-test.true c.term-item.is
     ∙ c.loop-term.invariant table unicode e off
 
@@ -55,8 +52,8 @@ outcomes_of_choice-returns-then-is_empty t c =
     let none : c.args.arms.now ≡ [] = nil_from_length c.args.arms.now (eqb-true (length c.args.arms.now) 0 (sym c.if-is_empty.ensures)) in
     AreOutcomes-from_known c.args.self.now.points.now (choice_of (map tree c.args.arms.now)) (state_of c.args.state.now) c.alone_at.result _ c.alone_at.ensures
     (λ table unicode e off.
-      let context : Context = record { text = c.args.self.now.points.now; table = table; unicode = unicode } in
-      rw none (sym (leads-nothing context e (state_of c.args.state.now))))
+    let context : Context = record { text = c.args.self.now.points.now; table = table; unicode = unicode } in
+    rw none (sym (leads-nothing context e (state_of c.args.state.now))))
 
 pub outcomes_of_choice-loop-arm-preserved : goal.outcomes_of_choice-loop-arm-preserved
 outcomes_of_choice-loop-arm-preserved t c = λ table unicode e off.
@@ -82,7 +79,7 @@ outcomes_of_capture-returns t c = λ table unicode e off.
     let context : Context = record { text = c.args.self.now.points.now; table = table; unicode = unicode } in
     let states = c.in_ok-states.states.items in
     takes_all c.args.group c.args.state.now.place c.loop-found.found-items states c.loop-found.found-index c.in_ok-states.states.len
-      (omega arith) (c.loop-found.auto.found-items ∙ ap length c.deref_mut-found-items.ensures.value) c.in_ok-states.states.ok.0
-      (rw c.deref_mut-found-items.ensures.value at c.loop-found.invariant.0)
+    (omega arith) (c.loop-found.auto.found-items ∙ ap length c.deref_mut-found-items.ensures.value) c.in_ok-states.states.ok.0
+    (rw c.deref_mut-found-items.ensures.value at c.loop-found.invariant.0)
     ∙ ap (map (takes c.args.group c.args.state.now.place)) (c.in_ok-states.ensures table unicode e off)
     ∙ sym (leads-capture context e c.args.group (tree c.args.contents.now) (state_of c.args.state.now))

@@ -1,7 +1,7 @@
-use Rattle.std.proofs.Common.{◌≡◌, Bool, false, map, take, drop, length}
+use Rattle.std.proofs.Common.{◌≡◌, Bool, false, map, take, drop}
 use Rattle.std.specs.List.{flat_map}
 use Rattle.regress_meaning.specs.Table.{Table}
-use Rattle.regress_meaning.specs.Pattern.{Pattern, Settings}
+use Rattle.regress_meaning.specs.Pattern.{Settings}
 use Rattle.regress.specs.Trees.{tree, sequence_of}
 use Rattle.regress.specs.StateViews.{state_of, forward, AreOutcomesOfAll}
 use Rattle.regress.proofs.EvaluatorLemmas.{takes, leads_from}
