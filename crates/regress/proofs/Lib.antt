@@ -6,3 +6,4 @@ pub mod LoopLemmas
 pub mod StepLemmas
 pub mod TextLemmas
 pub mod ToldLemmas
+pub mod EvaluatorLemmas

@@ -6,3 +6,4 @@ pub mod FlagWords
 pub mod ErrorTexts
 pub mod TableViews
 pub mod TextViews
+pub mod StateViews
