@@ -1,13 +1,4 @@
 //! Why a call is refused.
-<<<<<<< HEAD
-ghost use Rattle.std.specs.Prelude.{◌≡◌};
-ghost use Rattle.regress.specs.declared.front.error.Error.TheVariants.{OutOfMemory};
-
-use std::alloc::{AllocError, AllocFailed};
-
-/// Why a pattern is refused, or a search ends early.
-#[derive(Clone, Debug, PartialEq, Eq, Hash, Drop)]
-=======
 ghost use Rattle.std.specs.Prelude.{◌≡◌, Some};
 
 use std::alloc::{AllocError, AllocFailed};
@@ -15,7 +6,6 @@ use std::{error, fmt};
 
 /// Why a pattern is refused, or a search ends early.
 #[derive(Clone, Debug, Drop, PartialEq, Eq, Hash)]
->>>>>>> 3e893eaeeb19c805d1aa764676c8e21b070b71b7
 pub enum Error {
     /// The text is no pattern.
     Syntax {
@@ -34,9 +24,6 @@ pub enum Error {
     OutOfMemory,
 }
 
-<<<<<<< HEAD
-impl From<AllocError> for Error {
-=======
 /// The text of a syntax error, and else a few words that name the limit, or `out of memory`.
 impl fmt::Display for Error {
     ghost use Rattle.regress.specs.ErrorTexts.{error_text};
@@ -60,7 +47,6 @@ impl error::Error for Error {}
 impl From<AllocError> for Error {
     ghost use Rattle.regress.specs.declared.front.error.Error.TheVariants.{OutOfMemory};
 
->>>>>>> 3e893eaeeb19c805d1aa764676c8e21b070b71b7
     ghost from_gives = { λ _ e. e ≡ OutOfMemory };
 
     fn from(_refused: AllocError) -> Error {
@@ -69,19 +55,14 @@ impl From<AllocError> for Error {
 }
 
 impl<T: Drop> From<AllocFailed<T>> for Error {
-<<<<<<< HEAD
-=======
     ghost use Rattle.regress.specs.declared.front.error.Error.TheVariants.{OutOfMemory};
 
->>>>>>> 3e893eaeeb19c805d1aa764676c8e21b070b71b7
     ghost from_gives = { λ _ e. e ≡ OutOfMemory };
 
     fn from(_refused: AllocFailed<T>) -> Error {
         Error::OutOfMemory
     }
 }
-<<<<<<< HEAD
-=======
 
 #[cfg(test)]
 mod tests {
@@ -114,4 +95,3 @@ mod tests {
         assert_eq!(rt; Error::from(AllocFailed { value: 1u8 }), Error::OutOfMemory);
     }
 }
->>>>>>> 3e893eaeeb19c805d1aa764676c8e21b070b71b7

@@ -5,6 +5,7 @@ ghost use Rattle.std.specs.Iterator.Runs.{WholeRun};
 ghost use Rattle.regress.specs.declared.front.flags.Flags.{Flags};
 ghost use Rattle.regress.specs.FlagWords.{flags_of, letters_of, letter_if};
 
+use std::fmt;
 
 /// What holds for a whole pattern ("RegExp Records"). All flags are off by default.
 #[derive(Clone, Copy, Debug, Default)]

@@ -5,7 +5,8 @@ use Rattle.std.proofs.lemmas.List.{take_all, drop_all, map-append, nil_from_leng
 use Rattle.regress_meaning.specs.Meaning.{Context, outcomes}
 use Rattle.regress.specs.Trees.{tree, sequence_of, choice_of}
 use Rattle.regress.specs.StateViews.{state_of}
-use Rattle.regress.proofs.EvaluatorLemmas.{tree-Character, tree-Alternative, tree-Disjunction, tree-Capture, tree-Group, leads, takes, leads-nothing, flat_map-nothing, leads-capture, arms_more, arms_all, terms_more, takes_more, takes_all, AreOutcomes-from_known}
+use Rattle.regress.proofs.EvaluatorLemmas.{leads, takes, leads-nothing, flat_map-nothing, leads-capture, arms_more, arms_all, terms_more, takes_more, takes_all, AreOutcomes-from_known}
+use Rattle.regress.proofs.TreeLaws.{tree-Character, tree-Alternative, tree-Disjunction, tree-Capture, tree-Group}
 use Rattle.regress.proofs.engine.evaluator.Evaluator.+evaluator.Goals as goal
 
 pub outcomes-returns-in-Character : goal.outcomes-returns-in-Character
