@@ -20,7 +20,7 @@ at n k t = record { nesting = n; opened = k; text = t }
 
 -- what an atom's tree of one code point adds
 character-grows : (n k c : ℕ) (t u : List ℕ) → n ≤ greatest_depth → Leads (at n k t) (at n k u) → Grows (at n k t) (at n k u) (character c)
-character-grows n k c t u shallow leads = record { counted = omega arith; deep = omega arith; loops = refl; leads = leads }
+character-grows n k c t u shallow leads = record { unnamed = tt; counted = omega arith; deep = omega arith; loops = refl; leads = leads }
 
 module _ (m : Mode) where
   single-read : (t u : List ℕ) (k c : ℕ) → opening m t ≡ Rattle.regress_meaning.specs.Reading.single (character c) u → term_at m t k ≡ quantified true k (record { tree = character c; opened = k; rest = u })

@@ -9,7 +9,7 @@ use Rattle.regress_meaning.specs.Limits.{depth, quantifiers, greatest_depth}
 use Rattle.regress_meaning.specs.Reading.{Front, joined_by, alternatives_if, alternatives, terms, disjunction_at, alternative_at, term_at, ReadsBySteps}
 use Rattle.regress.specs.declared.front.error.Error.{Error}
 use Rattle.regress.specs.Trees.{sequence_of, choice_of}
-use Rattle.regress.specs.Parsing.{Place, Leads, Grows, front_to, IsRefusal}
+use Rattle.regress.specs.Parsing.{Place, AreUnnamed, Leads, Grows, front_to, IsRefusal}
 use Rattle.regress.proofs.AnswerLemmas.{Within, refused_within, Leads_refl, Leads_trans, Leads_mark}
 
 -- some trees, and then one more
@@ -53,6 +53,11 @@ deeper_before join joins (q ∷ qs) p =
     let outer = joins.deep q (before join qs p) in
     omega arith
 
+-- names of both are none where those of each are none
+AreUnnamed-append : (xs ys : List (List ℕ)) → AreUnnamed xs → AreUnnamed ys → AreUnnamed (xs ++ ys)
+AreUnnamed-append [] ys x y = y
+AreUnnamed-append (name ∷ xs) ys x y = (x.0, AreUnnamed-append xs ys x.1 y)
+
 -- one tree read behind another
 grows-joined : (join : Pattern → Pattern → Pattern) → Joins join → {a b c d : Place} (p q : Pattern) → Grows a b p → c.nesting ≡ a.nesting → c.opened ≡ b.opened → Leads b c → Grows c d q → Grows a d (join p q)
 grows-joined join joins {a} {b} {c} {d} p q x level same leads y =
@@ -60,6 +65,7 @@ grows-joined join joins {a} {b} {c} {d} p q x level same leads y =
     let deep = joins.deep p q in
     let loops = joins.loops p q in
     record {
+      unnamed = subst AreUnnamed (sym (joins.names p q)) (AreUnnamed-append (names_of p) (names_of q) x.unnamed y.unnamed);
       counted = (let first = x.counted in let second = y.counted in omega arith);
       deep = (let first = x.deep in let second = y.deep in omega arith);
       loops = (let first = x.loops in let second = y.loops in omega arith);

@@ -7,14 +7,14 @@ use Rattle.regress_meaning.specs.Tokens.{Mode, guard}
 use Rattle.regress_meaning.specs.Grammar.{ends_alternative}
 use Rattle.regress_meaning.specs.Limits.{depth, quantifiers, greatest_depth}
 use Rattle.regress_meaning.specs.Reading.{Front, joined_by, alternatives_if, alternatives, terms, closed, quantified, disjunction_at, alternative_at, term_at, ReadsBySteps}
-use Rattle.regress.specs.Parsing.{Place, Leads, Grows, front_to, IsRefusal, contents_of}
+use Rattle.regress.specs.Parsing.{Place, AreUnnamed, Leads, Grows, front_to, IsRefusal, contents_of}
 use Rattle.regress.proofs.AnswerLemmas.{Within, Leads_refl, Leads_trans, Leads_mark, Leads_group, Leads_uncaptured}
 use Rattle.regress.proofs.LoopLemmas.{Joins, sequence_joins, choice_joins}
 use Rattle.regress.proofs.AtomLemmas.{at, begins, wrapped-within, capture-read, uncaptured-read}
 
 -- a front with nothing in it
 pub nothing-grows : (here : Place) → here.nesting ≤ greatest_depth → Grows here here nothing
-nothing-grows here shallow = record { counted = omega arith; deep = omega arith; loops = refl; leads = Leads_refl here }
+nothing-grows here shallow = record { unnamed = tt; counted = omega arith; deep = omega arith; loops = refl; leads = Leads_refl here }
 
 module _ (m : Mode) (steps : (t : List ℕ) (k : ℕ) → ReadsBySteps m t k) where
   module _ (now there : Place) (p : Pattern) (e : alternative_at m now.text now.opened ≡ Some (front_to there p)) where
@@ -106,20 +106,21 @@ closed-grows here there next p grows h nesting opened text =
     let place : next ≡ at there.nesting there.opened (drop 1 there.text) = λ i. record { nesting = nesting i; opened = opened i; text = text i } in
     let whole = begins 0x29 there.text h in
     let leads = subst (λ t. Leads (at there.nesting there.opened t) (at there.nesting there.opened (drop 1 there.text))) (sym whole) (Leads_mark there.nesting there.opened 0x29 (drop 1 there.text) refl) in
-    rw place (record { counted = grows.counted; deep = grows.deep; loops = grows.loops; leads = Leads_trans grows.leads leads })
+    rw place (record { unnamed = grows.unnamed; counted = grows.counted; deep = grows.deep; loops = grows.loops; leads = Leads_trans grows.leads leads })
 
 -- a tree in parentheses, by its contents
 wrapped-answer : (m : Mode) (n k : ℕ) (t : List ℕ) (wrap : Pattern → Pattern) (inside end there : Place) (p q : Pattern)
     → term_at m t k ≡ option_and_then (λ (f : Front). quantified true k (record { tree = wrap f.tree; opened = f.opened; rest = f.rest })) (contents_of (disjunction_at m inside.text inside.opened))
     → contents_of (disjunction_at m inside.text inside.opened) ≡ Some (front_to end p) → Grows inside end p → inside.nesting ≡ suc n → end.nesting ≡ suc n
-    → inside.opened + length (names_of p) ≡ k + length (names_of (wrap p)) → depth (wrap p) ≡ depth p + 1 → quantifiers (wrap p) ≡ quantifiers p → Leads (at n k t) inside
+    → inside.opened + length (names_of p) ≡ k + length (names_of (wrap p)) → depth (wrap p) ≡ depth p + 1 → quantifiers (wrap p) ≡ quantifiers p → (AreUnnamed (names_of p) → AreUnnamed (names_of (wrap p))) → Leads (at n k t) inside
     → q ≡ wrap p → there.nesting ≡ n → there.opened ≡ end.opened → there.text ≡ end.text
     → (term_at m t k ≡ quantified true k (front_to there q)) × Grows (at n k t) there q
-wrapped-answer m n k t wrap inside end there p q found e grows nesting deeper names deep loops leads same level count rest =
+wrapped-answer m n k t wrap inside end there p q found e grows nesting deeper names deep loops unnamed leads same level count rest =
     let place : there ≡ at n end.opened end.text = λ i. record { nesting = level i; opened = count i; text = rest i } in
     let inner = Leads_trans leads grows.leads in
     let read = found ∙ ap (option_and_then (λ (f : Front). quantified true k (record { tree = wrap f.tree; opened = f.opened; rest = f.rest }))) e in
     let grown : Grows (at n k t) (at n end.opened end.text) (wrap p) = record {
+        unnamed = unnamed grows.unnamed;
         counted = (let counted = grows.counted in omega arith);
         deep = (let deeper = grows.deep in omega arith);
         loops = loops ∙ grows.loops;
@@ -147,7 +148,7 @@ module _ (m : Mode) (n k : ℕ) (t : List ℕ) (h : is_at (λ c. c == 0x28) t �
         → q ≡ capture k None p → there.nesting ≡ n → there.opened ≡ end.opened → there.text ≡ end.text
         → (term_at m t k ≡ quantified true k (front_to there q)) × Grows (at n k t) there q
     capture-answer end there p q e grows deeper same level count rest =
-        wrapped-answer m n k t (capture k None) inside end there p q capture-found e grows nesting deeper (omega arith) refl refl capture-leads same level count rest
+        wrapped-answer m n k t (capture k None) inside end there p q capture-found e grows nesting deeper (omega arith) refl refl (λ none. (refl, none)) capture-leads same level count rest
 
   module _ (special : is_at (λ c. c == 0x3F) (drop 1 t) ≡ true) (colon : is_at (λ c. c == 0x3A) (drop 1 (drop 1 t)) ≡ true)
       (inside : Place) (nesting : inside.nesting ≡ suc n) (opened : inside.opened ≡ k) (text : inside.text ≡ drop 1 (drop 1 (drop 1 t))) where
@@ -170,7 +171,7 @@ module _ (m : Mode) (n k : ℕ) (t : List ℕ) (h : is_at (λ c. c == 0x28) t �
         → q ≡ grouped p → there.nesting ≡ n → there.opened ≡ end.opened → there.text ≡ end.text
         → (term_at m t k ≡ quantified true k (front_to there q)) × Grows (at n k t) there q
     uncaptured-answer end there p q e grows deeper same level count rest =
-        wrapped-answer m n k t grouped inside end there p q uncaptured-found e grows nesting deeper (omega arith) refl refl uncaptured-leads same level count rest
+        wrapped-answer m n k t grouped inside end there p q uncaptured-found e grows nesting deeper (omega arith) refl refl (λ none. none) uncaptured-leads same level count rest
 
 -- what is read up to a closing parenthesis opens as many groups
 pub contents-opened : (k : ℕ) (o : Option Front) → ((f : Front) → o ≡ Some f → k ≤ f.opened) → (f : Front) → contents_of o ≡ Some f → k ≤ f.opened

@@ -7,3 +7,4 @@ pub mod ErrorTexts
 pub mod TableViews
 pub mod TextViews
 pub mod StateViews
+pub mod Refusing

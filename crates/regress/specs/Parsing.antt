@@ -1,5 +1,5 @@
 -- What an answer of the parser says of the reading function, in every mode.
-use Rattle.std.specs.Prelude.{◌≡◌, ℕ, ◌+◌, ◌<◌, ◌≤◌, ◌⊎◌, Bool, true, List, length, drop, Option, option_and_then, Some, None, Result, Ok, Err, count_by, codes}
+use Rattle.std.specs.Prelude.{◌≡◌, ℕ, ◌+◌, ◌<◌, ◌≤◌, ◌⊎◌, Bool, true, List, [], ◌∷◌, length, drop, Option, option_and_then, Some, None, Result, Ok, Err, count_by, codes}
 use Rattle.regress_meaning.specs.Pattern.{Pattern, names_of}
 use Rattle.regress_meaning.specs.Tokens.{Mode}
 use Rattle.regress_meaning.specs.Limits.{depth, quantifiers, opens_nesting, opens_group, greatest_depth, most_groups}
@@ -35,8 +35,14 @@ pub record Leads (here there : Place) : Type 0 where
   pub grouped : there.opened + count_by opens_group there.text ≤ here.opened + count_by opens_group here.text
   pub staged : is_beyond_stage 0 there.text ≡ true → is_beyond_stage 0 here.text ≡ true
 
+-- no group has a name
+abbrev pub AreUnnamed : List (List ℕ) → Type 0
+AreUnnamed [] = Unit {0}
+AreUnnamed (name ∷ names) = (name ≡ []) × AreUnnamed names
+
 -- a tree within the limits was read from one place to another
 pub record Grows (here there : Place) (p : Pattern) : Type 0 where
+  pub unnamed : AreUnnamed (names_of p)
   pub counted : there.opened ≡ here.opened + length (names_of p)
   pub deep : here.nesting + depth p ≤ greatest_depth
   pub loops : quantifiers p ≡ 0

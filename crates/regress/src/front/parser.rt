@@ -47,6 +47,13 @@ pub(crate) struct Parser<'p> {
 }
 
 impl<'p> Parser<'p> {
+    ghost use Rattle.regress_meaning.specs.Table.{Table};
+    ghost use Rattle.regress_meaning.specs.Pattern.{names_of};
+    ghost use Rattle.regress_meaning.specs.Flags.{Options};
+    ghost use Rattle.regress_meaning.specs.Grammar.{Spells};
+    ghost use Rattle.regress_meaning.specs.Limits.{WithinLimits};
+    ghost use Rattle.regress.specs.Trees.{tree};
+    ghost use Rattle.regress.specs.Refusing.{MayRefuse};
     ghost use Rattle.regress.specs.Parsing.{unread, place, IsCoherent, IsAnswer, IsAtom, contents_of};
 
     /// A parser at the beginning of a text.
@@ -60,6 +67,22 @@ impl<'p> Parser<'p> {
             position: 0,
             groups: 0,
         }
+    }
+
+    /// Reads the whole pattern: its tree, and how many capturing groups it has ("Pattern").
+    pub(crate) fn parse(mut self) -> Result<(Syntax, usize), Error>
+        requires { (self.position ≡ 0) × (self.groups ≡ 0) }
+        ensures accepted { IfOk result (λ parsed. ((table : Table) → (o : Options) → Spells table o self.entry.points.now (tree parsed.0)) × WithinLimits (tree parsed.0) × (parsed.1 ≡ length (names_of (tree parsed.0)))) }
+        ensures refused { IfErr result (λ e. (table : Table) → (o : Options) → MayRefuse table o self.entry.points.now e) }
+    {
+        regress_meaning::reading_decides_the_grammar();
+        let syntax = self.disjunction(0)?;
+        if self.peek().is_some() {
+            return Err(Error::Syntax {
+                text: "Unbalanced parenthesis",
+            });
+        }
+        Ok((syntax, usize::from(self.groups)))
     }
 
     /// The next code point, if there is one.
