@@ -7,3 +7,4 @@ pub mod StepLemmas
 pub mod TextLemmas
 pub mod ToldLemmas
 pub mod EvaluatorLemmas
+pub mod PatternLemmas

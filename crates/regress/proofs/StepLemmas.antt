@@ -42,7 +42,7 @@ module _ (m : Mode) (steps : (t : List ℕ) (k : ℕ) → ReadsBySteps m t k) wh
   alternatives-larger : (bar : Bool) (g f : Front) → alternatives_if bar (disjunction_at m) g ≡ Some f → (depth g.tree ≤ depth f.tree) × (g.opened ≤ f.opened)
   unfolding alternatives_if
   alternatives-larger true g f e =
-      joined-larger choice choice_joins g (disjunction_at m (drop 1 g.rest) g.opened) f (λ r h. ((steps (drop 1 g.rest) g.opened).disjunction_forward r h).0) e
+      joined-larger choice choice_joins g (disjunction_at m (drop 1 g.rest) g.opened) f (λ r h. let counted = ((steps (drop 1 g.rest) g.opened).disjunction_forward r h).0 in omega arith) e
   alternatives-larger false g f e = let same : g ≡ f = cc in rw (← same) (omega arith, omega arith)
 
   -- what is read of a disjunction has its first alternative within
@@ -64,7 +64,7 @@ module _ (m : Mode) (steps : (t : List ℕ) (k : ℕ) → ReadsBySteps m t k) wh
           → (g : Front) × (o ≡ Some g) × (now.nesting + depth g.tree ≤ now.nesting + depth f.tree) × (g.opened ≤ f.opened)
       first None f e = absurd (cc)
       first (Some g) f e =
-          let (deep, opened) = joined-larger sequence sequence_joins g (alternative_at m g.rest g.opened) f (λ r h. ((steps g.rest g.opened).alternative_forward r h).0) e in
+          let (deep, opened) = joined-larger sequence sequence_joins g (alternative_at m g.rest g.opened) f (λ r h. let counted = ((steps g.rest g.opened).alternative_forward r h).0 in omega arith) e in
           (g, refl, omega arith, opened)
 
   module _ (now there : Place) (p : Pattern) (goes_on : ends_alternative now.text ≡ false) (e : term_at m now.text now.opened ≡ Some (front_to there p)) where

@@ -100,23 +100,20 @@ module _ (m : Mode) (coherent : m.sets ≡ true → m.unicode ≡ true) where
   disjunction-forward : (t : List ℕ) (k : ℕ) → GoesForward t k (disjunction_at m t k)
   disjunction-forward t k f e =
       let d = disjunction_at-sound t k f e in
-      let counted = Disjunction-counts m d in
-      (omega arith, Disjunction-shorter m d)
+      (Disjunction-counts m d, Disjunction-shorter m d)
 
   alternative-forward : (t : List ℕ) (k : ℕ) → GoesForward t k (alternative_at m t k)
   unfolding alternative_at
   alternative-forward t k f e =
       let d = read_alternative-sound m (3 * length t + 2) t k f e in
-      let counted = Alternative-counts m d in
-      (omega arith, Alternative-shorter m d)
+      (Alternative-counts m d, Alternative-shorter m d)
 
   term-forward : (t : List ℕ) (k : ℕ) → GoesForward t k (term_at m t k)
   unfolding term_at
   term-forward t k f e =
       let d = term-sound m (disjunction_at m) disjunction_at-sound t k f (opening m t) (opening-fits m t) e in
-      let counted = Term-counts m d in
       let shorter = Term-shorter m d in
-      (omega arith, omega arith)
+      (Term-counts m d, omega arith)
 
   pub read_by_steps : (t : List ℕ) (k : ℕ) → ReadsBySteps m t k
   read_by_steps t k = record {

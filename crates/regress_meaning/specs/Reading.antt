@@ -4,7 +4,7 @@ use Rattle.std.specs.Prelude.{◌≡◌, ℕ, zero, suc, ◌+◌, ◌*◌, ◌�
 use Rattle.regress_meaning.specs.Text.{◌∈◌, is_at, span}
 use Rattle.regress_meaning.specs.Table.{Table}
 use Rattle.regress_meaning.specs.Class.{Class, may_hold_strings}
-use Rattle.regress_meaning.specs.Pattern.{Pattern, nothing, character, any, class, sequence, choice, capture, grouped, modified, repeated, look, line_start, line_end, word_boundary}
+use Rattle.regress_meaning.specs.Pattern.{Pattern, names_of, nothing, character, any, class, sequence, choice, capture, grouped, modified, repeated, look, line_start, line_end, word_boundary}
 use Rattle.regress_meaning.specs.Flags.{Options, settings_of}
 use Rattle.regress_meaning.specs.Tokens.{Mode, Bounds, bounds_at, name_at, guard, Escape, escape_at}
 use Rattle.regress_meaning.specs.Grammar.{ends_alternative, greedy_at, after_mark, tree_of, is_flag, all_differ, is_pattern_character, names_apart, mode_of}
@@ -188,9 +188,9 @@ whole_tree f = guard (length f.rest == 0 && names_apart f.tree) (Some f.tree)
 unfoldable pub read_pattern : Table → Options → List ℕ → Option Pattern
 read_pattern table o text = option_and_then whole_tree (disjunction_at (mode_of table o text (scanned_names table o text)) text 0)
 
--- what is read is no longer than the text, and opens groups behind those opened before
+-- what is read leaves no more than the text, and opens its groups behind those opened before
 abbrev pub GoesForward : List ℕ → ℕ → Option Front → Type 0
-GoesForward t k o = (f : Front) → o ≡ Some f → (k ≤ f.opened) × (length f.rest ≤ length t)
+GoesForward t k o = (f : Front) → o ≡ Some f → (f.opened ≡ k + length (names_of f.tree)) × (length f.rest ≤ length t)
 
 -- The functions read step by step: a disjunction by its first alternative, an alternative by its first term.
 pub record ReadsBySteps (m : Mode) (t : List ℕ) (k : ℕ) : Type 0 where

@@ -44,6 +44,7 @@ pub(crate) struct Parser<'p> {
     position: usize,
     groups: u16,
     ghost within: { position ≤ length points.now },
+    ghost few: { groups ≤ 65535 },
 }
 
 impl<'p> Parser<'p> {
@@ -76,6 +77,7 @@ impl<'p> Parser<'p> {
         ensures refused { IfErr result (λ e. (table : Table) → (o : Options) → MayRefuse table o self.entry.points.now e) }
     {
         regress_meaning::reading_decides_the_grammar();
+        regress_meaning::reading_goes_by_steps();
         let syntax = self.disjunction(0)?;
         if self.peek().is_some() {
             return Err(Error::Syntax {

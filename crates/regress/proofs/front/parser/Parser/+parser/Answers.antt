@@ -61,12 +61,12 @@ capture-returns-then-self-clause-answer t c = λ m coherent.
     too_many_groups (capture-within m c.args.nesting c.args.self.now.groups (unread c.args.self.now) c.requires.begins c.requires.plain inside refl refl refl) refl
       (omega (arith, c.bump.ensures.kept.1, c.if-self.true))
       (contents-opened (suc c.args.self.now.groups) (disjunction_at m (drop 1 (unread c.args.self.now)) (suc c.args.self.now.groups))
-        (λ f e. ((c.reading_goes_by_steps.ensures m coherent (drop 1 (unread c.args.self.now)) (suc c.args.self.now.groups)).disjunction_forward f e).0))
+        (λ f e. let counted = ((c.reading_goes_by_steps.ensures m coherent (drop 1 (unread c.args.self.now)) (suc c.args.self.now.groups)).disjunction_forward f e).0 in omega arith))
 
 pub capture-returns-in_err-contents-clause-answer : goal.capture-returns-in_err-contents-clause-answer
 capture-returns-in_err-contents-clause-answer t c = λ m coherent.
     let p = err_from_is_err_and c.from_residual.result c.from_residual.ensures.1 in
-    let inside = place (c.args.nesting + 1) (record c.bump.new.self { groups = c.bump.new.self.groups + 1 }) in
+    let inside : Place = record { nesting = c.args.nesting + 1; opened = c.bump.new.self.groups + 1; text = unread c.bump.new.self } in
     rw (p.1, p.2) (refused_within c.in_err-contents.field-0.0
       (capture-within m c.args.nesting c.args.self.now.groups (unread c.args.self.now) c.requires.begins c.requires.plain inside (omega arith) (omega (arith, c.bump.ensures.kept.1)) c.bump.ensures.read)
       (c.in_err-contents.ensures.answer m coherent))
@@ -74,7 +74,7 @@ capture-returns-in_err-contents-clause-answer t c = λ m coherent.
 pub capture-returns-clause-answer : goal.capture-returns-clause-answer
 capture-returns-clause-answer t c = λ m coherent.
     let (read, grows) = c.in_ok-contents.ensures.answer m coherent in
-    let inside = place (c.args.nesting + 1) (record c.bump.new.self { groups = c.bump.new.self.groups + 1 }) in
+    let inside : Place = record { nesting = c.args.nesting + 1; opened = c.bump.new.self.groups + 1; text = unread c.bump.new.self } in
     let made = tree-Capture c.bump.new.self.groups c.in_ok-new.field-0 ∙ (λ i. capture (c.bump.ensures.kept.1 i) None (tree (c.in_ok-new.ensures.ok i))) in
     capture-answer m c.args.nesting c.args.self.now.groups (unread c.args.self.now) c.requires.begins c.requires.plain inside (omega arith) (omega (arith, c.bump.ensures.kept.1)) c.bump.ensures.read
       (place (c.args.nesting + 1) c.contents.new.self) (place c.args.nesting c.contents.new.self) (tree c.in_ok-contents.contents) _ read grows (omega arith) made refl refl refl
