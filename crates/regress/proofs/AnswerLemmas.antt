@@ -1,18 +1,17 @@
 -- How answers for the parts of a text make an answer for the whole.
-use Rattle.std.specs.Prelude.{if◌then◌else◌, count_by}
-use Rattle.std.proofs.lemmas.Bool.{or_parts, and_parts}
+use Rattle.std.specs.Prelude.{count_by}
 use Rattle.std.proofs.lemmas.List.Sums.{sum_by-cons}
-use Rattle.std.proofs.Common.{cond, ◌≡◌, ℕ, suc, ◌+◌, ◌<◌, ◌≤◌, ◌⊎◌, inl, inr, Bool, true, false, not, ◌&&◌, ◌||◌, ◌==◌, nat_le, List, [], ◌∷◌, length, drop, Option, Some, None, option_and_then, option_map, refl, sym, ap, ◌∙◌, subst, eqb-true, codes, arith}
+use Rattle.std.proofs.Common.{cond, ◌≡◌, ℕ, suc, ◌+◌, ◌≤◌, inl, inr, Bool, true, false, ◌&&◌, ◌||◌, ◌==◌, nat_le, List, [], ◌∷◌, drop, Option, Some, None, option_and_then, refl, sym, ap, ◌∙◌, codes, arith}
 use Rattle.regress_meaning.specs.Text.{◌∈◌, is_at}
-use Rattle.regress_meaning.specs.Pattern.{Pattern, names_of, character, capture, grouped}
+use Rattle.regress_meaning.specs.Pattern.{Pattern}
 use Rattle.regress_meaning.specs.Tokens.{Bounds, bounds_at, guard}
-use Rattle.regress_meaning.specs.Limits.{depth, quantifiers, opens_nesting, opens_group, greatest_depth, most_groups}
+use Rattle.regress_meaning.specs.Limits.{depth, opens_nesting, opens_group}
 use Rattle.regress_meaning.specs.Reading.{Front, bounded, quantified, closed, closed_and_quantified}
 use Rattle.regress.specs.declared.front.error.Error.{Error}
 use Rattle.regress.specs.declared.front.error.Error.TheVariants.{Syntax as SyntaxError, TooDeep, TooManyGroups, TooManyLoops, TooLarge, OutOfMemory}
 use Rattle.regress.proofs.MarkLemmas.{each_differs, differ_back}
-use Rattle.regress.specs.Stage.{is_beyond, passed_by, is_beyond_stage}
-use Rattle.regress.specs.Parsing.{Place, Leads, Grows, front_to, IsRefusal, contents_of}
+use Rattle.regress.specs.Stage.{is_beyond, is_beyond_stage}
+use Rattle.regress.specs.Parsing.{Place, Leads, IsRefusal, contents_of}
 
 -- What is read here was read on the way there, and is no smaller.
 pub record Within (here there : Place) (read inner : Option Front) : Type 0 where
@@ -42,7 +41,8 @@ pub Leads_trans : {a b c : Place} → Leads a b → Leads b c → Leads a c
 Leads_trans {a} {b} {c} x y = record {
   nested = (let p = x.nested in let q = y.nested in omega arith);
   grouped = (let p = x.grouped in let q = y.grouped in omega arith);
-  staged = λ h. x.staged (y.staged h) }
+  staged = λ h. x.staged (y.staged h);
+}
 
 -- one more code point counts no less
 count-less : (test : ℕ → Bool) (c : ℕ) (t : List ℕ) → count_by test t ≤ count_by test (c ∷ t)

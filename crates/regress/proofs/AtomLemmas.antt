@@ -1,18 +1,16 @@
 -- What the reading function finds at an atom, and what is refused there.
-use Rattle.std.specs.Prelude.{if◌then◌else◌, count_by}
-use Rattle.std.proofs.Common.{eqb-true, slice_get, ◌≡◌, ℕ, suc, ◌+◌, ◌<◌, ◌≤◌, ◌⊎◌, inl, inr, Bool, true, false, not, ◌==◌, List, [], ◌∷◌, length, drop, Option, Some, None, option_and_then, refl, sym, ap, ◌∙◌, subst, codes, max, arith}
+use Rattle.std.proofs.Common.{eqb-true, slice_get, ◌≡◌, ℕ, suc, ◌+◌, ◌≤◌, true, false, ◌==◌, List, [], ◌∷◌, drop, Option, Some, None, option_and_then, refl, sym, ap, ◌∙◌, subst, codes, arith}
 use Rattle.regress_meaning.specs.Text.{holds, ◌∈◌, is_at}
-use Rattle.regress_meaning.specs.Pattern.{Pattern, names_of, character, capture, grouped}
+use Rattle.regress_meaning.specs.Pattern.{Pattern, character, capture, grouped}
 use Rattle.regress_meaning.specs.Tokens.{Mode}
 use Rattle.regress_meaning.specs.Grammar.{ends_alternative}
-use Rattle.regress_meaning.specs.Limits.{depth, quantifiers, opens_nesting, opens_group, greatest_depth, most_groups}
+use Rattle.regress_meaning.specs.Limits.{depth, greatest_depth, most_groups}
 use Rattle.regress_meaning.specs.Reading.{Front, opening, quantified, closed, closed_and_quantified, read_term, disjunction_at, term_at}
-use Rattle.regress.specs.declared.front.error.Error.{Error}
-use Rattle.regress.specs.declared.front.error.Error.TheVariants.{Syntax as SyntaxError, TooDeep, TooManyGroups}
+use Rattle.regress.specs.declared.front.error.Error.TheVariants.{TooDeep, TooManyGroups}
 use Rattle.regress.specs.Stage.{is_beyond_stage}
 use Rattle.regress.specs.Parsing.{Place, Leads, Grows, front_to, IsRefusal, contents_of}
-use Rattle.regress.proofs.MarkLemmas.{holds_none, holds_each, differ_back, character-opens, escape-opens, group-opens, uncaptured-opens, no_quantifier}
-use Rattle.regress.proofs.AnswerLemmas.{Within, refused_within, Leads_trans, Leads_mark, Leads_group, Leads_uncaptured, Leads_escape, quantified-keeps, quantified-none, closed-contents}
+use Rattle.regress.proofs.MarkLemmas.{holds_none, holds_each, differ_back, character-opens, escape-opens, group-opens, uncaptured-opens}
+use Rattle.regress.proofs.AnswerLemmas.{Within, Leads_mark, Leads_escape, quantified-keeps, closed-contents}
 
 -- a place, by its parts
 abbrev pub at : ℕ → ℕ → List ℕ → Place

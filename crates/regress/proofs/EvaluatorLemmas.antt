@@ -1,24 +1,25 @@
 -- What trees lead to, read forward, in the form in which the evaluator's loops take it.
-use Rattle.std.proofs.Common.{◌≡◌, ◌≢◌, ℕ, zero, suc, ◌+◌, ◌<◌, ◌≤◌, ◌-◌, ◌==◌, ◌&&◌, leb, true, false, List, [], ◌∷◌, ◌++◌, length, map, option_map, take, drop, replicate, get_or, slice_set, min, max, Option, Some, None, Result, Ok, Err, IfOk, Vec, Box, Global, All, IfSome, refl, sym, ap, ◌∙◌, arith}
+use Rattle.std.proofs.Common.{◌≡◌, ◌≢◌, ℕ, zero, suc, ◌+◌, ◌<◌, ◌≤◌, ◌⊎◌, inl, inr, ◌-◌, ◌==◌, ◌&&◌, leb, true, false, List, [], ◌∷◌, ◌++◌, length, map, option_map, take, drop, replicate, get_or, slice_set, min, max, Option, Some, None, Result, Ok, Err, IfOk, Vec, Global, All, IfSome, refl, sym, ap, ◌∙◌, arith}
 use Rattle.std.specs.declared.alloc.AllocError.{AllocError}
+use Rattle.std.specs.Option.{option_map_or}
+use Rattle.std.specs.Prelude.{slice_get}
 use Rattle.std.specs.List.{flat_map, list_all}
 use Rattle.std.proofs.lemmas.List.{append-nil, drop_more, take_more, map_more, map_push, take_more_set, take_all, drop_all, length-drop, drop-set-lt}
 use Rattle.std.proofs.lemmas.List.Concat.{flat_map-append}
 use Rattle.std.proofs.lemmas.List.Elements.{All-head, All-tail, All-weaker, All-same, All-replicate}
-use Rattle.std.proofs.lemmas.Bool.{le-leb, eq-eqb, ne_eqb, leb-true, false_from_ne_true}
+use Rattle.std.proofs.lemmas.Bool.{cases_lt, le-leb, eq-eqb, ne_eqb, leb-true, false_from_ne_true}
 use Rattle.regress_meaning.specs.Pattern.{Pattern, Settings, names_of, nothing, character, sequence, capture, grouped}
 use Rattle.regress_meaning.specs.Meaning.{State, Outcomes, Context, Forward, captured, same, beside, step, outcomes}
 use Rattle.regress_meaning.specs.Table.{Table}
 use Rattle.regress_meaning.specs.Flags.{Options, is_unicode, first_settings}
-use Rattle.regress_meaning.specs.Matches.{Item, item_at, first_from, attempt, first_match}
+use Rattle.regress_meaning.specs.Matches.{Item, item_at, first_from, attempt, first_match, list_from, match_list, next_place}
 use Rattle.regress_meaning.proofs.OutcomeLemmas.{Leads, Goes-outcomes}
 use Rattle.regress.specs.declared.engine.evaluator.State as evaluator
 use Rattle.regress.specs.StateViews.{state_of, forward, AreOutcomes, IsItemInside}
 use Rattle.regress_meaning.specs.Laws.{LiesIn, IsInside}
 use Rattle.regress.specs.Views.{ends}
-use Rattle.regress.specs.Trees.{tree, node_tree, sequence_of, choice_of}
-use Rattle.regress.specs.declared.front.syntax.Syntax.{Syntax, Syntax-F, fold-roll-Syntax}
-use Rattle.regress.specs.declared.front.syntax.Syntax.TheVariants.{Character, Alternative, Disjunction, Capture, Group, rolls-Character, rolls-Alternative, rolls-Disjunction, rolls-Capture, rolls-Group}
+use Rattle.regress.specs.Trees.{tree, sequence_of, choice_of}
+use Rattle.regress.specs.declared.front.syntax.Syntax.{Syntax}
 
 -- a test that fails on a greater number
 lt-leb_false : (a b : ℕ) → b < a → leb a b ≡ false
@@ -208,6 +209,24 @@ module _ (table : Table) (o : Options) (p : Pattern) (text : List ℕ) where
   first_match_past q past =
       let left : length text + 1 - q ≡ 0 = omega arith in
       rw left refl
+
+  -- the first item of the match list is the first match
+  pub match_list-first : (q : ℕ) → slice_get (match_list table o p text q) 0 ≡ first_match table o p text q
+  unfolding match_list list_from
+  match_list-first q = go (cases_lt (length text) q)
+    where
+      item : (found : Option Item) (rest : Item → List Item)
+          → slice_get (option_map_or (λ (i : Item). i ∷ rest i) found []) 0 ≡ found
+      item None rest = refl
+      item (Some i) rest = refl
+
+      go : (length text < q) ⊎ (q ≤ length text) → slice_get (match_list table o p text q) 0 ≡ first_match table o p text q
+      go (inl past) =
+          let left : length text + 1 - q ≡ 0 = omega arith in
+          rw (left, first_match_past q past) refl
+      go (inr within) =
+          let left : length text + 1 - q ≡ suc (length text - q) = omega arith in
+          rw left (item (first_match table o p text q) (λ i. list_from (first_match table o p text) (length text - q) (next_place i)))
 
 -- a table that tells nothing
 no_table : Table

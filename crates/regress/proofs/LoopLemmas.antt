@@ -1,16 +1,11 @@
 -- What a loop of the parser has read so far, and what is still to come.
-use Rattle.std.specs.Prelude.{if◌then◌else◌}
-use Rattle.std.proofs.Common.{◌≡◌, ℕ, suc, ◌+◌, ◌<◌, ◌≤◌, Bool, true, false, ◌==◌, List, [], ◌∷◌, ◌++◌, length, drop, map, max, Option, Some, None, option_and_then, option_map, refl, sym, ap, ◌∙◌, subst, eqb-true, length-append, arith}
-use Rattle.regress_meaning.specs.Text.{◌∈◌, is_at}
+use Rattle.std.proofs.Common.{◌≡◌, ℕ, ◌+◌, ◌≤◌, List, [], ◌∷◌, ◌++◌, length, max, Option, Some, None, option_map, refl, sym, ap, ◌∙◌, subst, length-append, arith}
 use Rattle.regress_meaning.specs.Pattern.{Pattern, names_of, nothing, sequence, choice}
-use Rattle.regress_meaning.specs.Tokens.{Mode}
-use Rattle.regress_meaning.specs.Grammar.{ends_alternative}
-use Rattle.regress_meaning.specs.Limits.{depth, quantifiers, greatest_depth}
-use Rattle.regress_meaning.specs.Reading.{Front, joined_by, alternatives_if, alternatives, terms, disjunction_at, alternative_at, term_at, ReadsBySteps}
-use Rattle.regress.specs.declared.front.error.Error.{Error}
+use Rattle.regress_meaning.specs.Limits.{depth, quantifiers}
+use Rattle.regress_meaning.specs.Reading.{Front, joined_by}
 use Rattle.regress.specs.Trees.{sequence_of, choice_of}
-use Rattle.regress.specs.Parsing.{Place, AreUnnamed, Leads, Grows, front_to, IsRefusal}
-use Rattle.regress.proofs.AnswerLemmas.{Within, refused_within, Leads_refl, Leads_trans, Leads_mark}
+use Rattle.regress.specs.Parsing.{Place, AreUnnamed, Leads, Grows, front_to}
+use Rattle.regress.proofs.AnswerLemmas.{Within, Leads_refl, Leads_trans}
 
 -- some trees, and then one more
 pub before : (Pattern → Pattern → Pattern) → List Pattern → Pattern → Pattern
@@ -69,7 +64,8 @@ grows-joined join joins {a} {b} {c} {d} p q x level same leads y =
       counted = (let first = x.counted in let second = y.counted in omega arith);
       deep = (let first = x.deep in let second = y.deep in omega arith);
       loops = (let first = x.loops in let second = y.loops in omega arith);
-      leads = Leads_trans x.leads (Leads_trans leads y.leads) }
+      leads = Leads_trans x.leads (Leads_trans leads y.leads);
+    }
 
 module _ (join : Pattern → Pattern → Pattern) where
   -- a front behind the trees read so far
@@ -114,7 +110,8 @@ module _ (join : Pattern → Pattern → Pattern) where
       level = level ∙ s.level;
       whole = s.whole ∙ ap (option_map (with_before qs)) e ∙ both (read next.text next.opened);
       grows = λ place p more. rw (before-push join qs q p) (s.grows place (join q p) (grows-joined join joins q p grows level same leads more));
-      leads = Leads_trans s.leads (Leads_trans grows.leads leads) }
+      leads = Leads_trans s.leads (Leads_trans grows.leads leads);
+    }
       where
         both : (o : Option Front) → option_map (with_before qs) (option_map (joined_by join (front_to there q)) o) ≡ option_map (with_before (qs ++ q ∷ [])) o
         both None = refl

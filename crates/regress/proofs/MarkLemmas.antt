@@ -1,12 +1,11 @@
 -- Single code points: what begins with them, and what is counted of them.
 use Rattle.std.specs.Prelude.{if◌then◌else◌}
 use Rattle.std.proofs.lemmas.Bool.{or_parts, or_from, eq-eqb}
-use Rattle.std.proofs.Common.{◌≡◌, ℕ, ◌+◌, ◌≤◌, Bool, true, false, not, ◌&&◌, ◌||◌, ◌==◌, List, [], ◌∷◌, length, Option, Some, None, refl, sym, ap, ◌∙◌, subst, eqb-true, codes, slice_get, arith}
+use Rattle.std.proofs.Common.{◌≡◌, ℕ, Bool, true, false, not, ◌||◌, ◌==◌, List, [], ◌∷◌, None, refl, sym, subst, eqb-true, codes}
 use Rattle.regress_meaning.specs.Text.{holds, ◌∈◌, is_at}
 use Rattle.regress_meaning.specs.Pattern.{character}
-use Rattle.regress_meaning.specs.Tokens.{Mode, point, escape_at, bounds_at}
-use Rattle.regress_meaning.specs.Grammar.{is_pattern_character}
-use Rattle.regress_meaning.specs.Reading.{Opening, single, group, uncaptured, opening, escape_opening, parenthesis_opening, question_opening}
+use Rattle.regress_meaning.specs.Tokens.{Mode, escape_at, bounds_at}
+use Rattle.regress_meaning.specs.Reading.{single, group, uncaptured, opening, escape_opening, parenthesis_opening, question_opening}
 
 -- a fact of each
 abbrev pub Each : (ℕ → Type 0) → List ℕ → Type 0
@@ -58,11 +57,11 @@ module _ (m : Mode) where
       let p = differ_back c 0x28 parenthesis in
       let b = differ_back c 0x5C backslash in
       let all : (c ∈ "^$\\.*+?()[]{}|") ≡ false =
-          holds_none (codes "^$\\.*+?()[]{}|") c (e.0, (e.1.0, (b, (e.1.1.0, (e.1.1.1.0, (e.1.1.1.1.0, (e.1.1.1.1.1.0, (p, (bar.1.0, (e.1.1.1.1.1.1.0, (e.1.1.1.1.1.1.1.0, (e.1.1.1.1.1.1.1.1.0, (e.1.1.1.1.1.1.1.1.1.0, (bar.0, tt)))))))))))))) in
+      holds_none (codes "^$\\.*+?()[]{}|") c (e.0, (e.1.0, (b, (e.1.1.0, (e.1.1.1.0, (e.1.1.1.1.0, (e.1.1.1.1.1.0, (p, (bar.1.0, (e.1.1.1.1.1.1.0, (e.1.1.1.1.1.1.1.0, (e.1.1.1.1.1.1.1.1.0, (e.1.1.1.1.1.1.1.1.1.0, (bar.0, tt)))))))))))))) in
       let fewer : (c ∈ "^$\\.*+?()[|{") ≡ false =
-          holds_none (codes "^$\\.*+?()[|{") c (e.0, (e.1.0, (b, (e.1.1.0, (e.1.1.1.0, (e.1.1.1.1.0, (e.1.1.1.1.1.0, (p, (bar.1.0, (e.1.1.1.1.1.1.0, (bar.0, (e.1.1.1.1.1.1.1.1.0, tt)))))))))))) in
+      holds_none (codes "^$\\.*+?()[|{") c (e.0, (e.1.0, (b, (e.1.1.0, (e.1.1.1.0, (e.1.1.1.1.0, (e.1.1.1.1.1.0, (p, (bar.1.0, (e.1.1.1.1.1.1.0, (bar.0, (e.1.1.1.1.1.1.1.1.0, tt)))))))))))) in
       rw (differ_back 0x5E c e.0, differ_back 0x24 c e.1.0, backslash, differ_back 0x2E c e.1.1.0, differ_back 0x5B c e.1.1.1.1.1.1.0, parenthesis, all, fewer)
-        (rw (both_branches m.unicode true) refl)
+      (rw (both_branches m.unicode true) refl)
 
   -- a backslash before a character of syntax makes it a character
   pub escape-opens : (d : ℕ) (t : List ℕ) → (d ∈ "^$\\.*+?()[]{}|/") ≡ true → opening m (0x5C ∷ d ∷ t) ≡ single (character d) t

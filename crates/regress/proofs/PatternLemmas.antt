@@ -1,20 +1,17 @@
 -- What the parser's answer for a whole text says of what the text spells.
-use Rattle.std.proofs.lemmas.Bool.{and_from, and_parts, eqb-true}
-use Rattle.std.proofs.Common.{◌≡◌, ℕ, suc, ◌+◌, ◌<◌, ◌≤◌, ◌⊎◌, inl, inr, ◌↔◌, Bool, true, false, not, ◌&&◌, ◌||◌, ◌==◌, List, [], ◌∷◌, ◌++◌, length, Option, Some, None, option_and_then, is_some, zero-add, slice_get, suc-ne-zero, refl, sym, ap, ◌∙◌, subst, arith}
-use Rattle.std.specs.List.{list_any}
-use Rattle.std.specs.Prelude.{count_by}
+use Rattle.std.proofs.lemmas.Bool.{eqb-true}
+use Rattle.std.proofs.Common.{◌≡◌, ℕ, suc, inl, inr, ◌↔◌, Bool, true, false, ◌&&◌, ◌||◌, ◌==◌, List, [], ◌∷◌, ◌++◌, length, Option, Some, None, option_and_then, is_some, slice_get, suc-ne-zero, refl, ap, arith}
 use Rattle.regress_meaning.specs.Table.{Table}
-use Rattle.regress_meaning.specs.Class.{among}
-use Rattle.regress_meaning.specs.Pattern.{Pattern, names_of, nothing, character, sequence, choice, capture, grouped, modified, repeated, look}
-use Rattle.regress_meaning.specs.Flags.{Options, is_unicode}
+use Rattle.regress_meaning.specs.Pattern.{Pattern, names_of, sequence, choice, capture, grouped, modified, repeated, look}
+use Rattle.regress_meaning.specs.Flags.{Options}
 use Rattle.regress_meaning.specs.Tokens.{Mode, guard}
-use Rattle.regress_meaning.specs.Grammar.{Spells, mode_of, names_apart, share_a_name, is_name}
-use Rattle.regress_meaning.specs.Limits.{SpellsNone, depth, opens_nesting, opens_group, greatest_depth, most_groups}
+use Rattle.regress_meaning.specs.Grammar.{Spells, mode_of, names_apart, share_a_name}
+use Rattle.regress_meaning.specs.Limits.{SpellsNone, depth}
 use Rattle.regress_meaning.specs.Scan.{scanned_names}
 use Rattle.regress_meaning.specs.Reading.{Front, disjunction_at, whole_tree, read_pattern, ReadsBySteps}
 use Rattle.regress.specs.declared.front.error.Error.{Error}
 use Rattle.regress.specs.declared.front.error.Error.TheVariants.{Syntax as SyntaxError, TooDeep, TooManyGroups, TooManyLoops, TooLarge, OutOfMemory}
-use Rattle.regress.specs.Parsing.{Place, AreUnnamed, IsCoherent, IsRefusal}
+use Rattle.regress.specs.Parsing.{AreUnnamed, IsCoherent, IsRefusal}
 use Rattle.regress.specs.Refusing.{MayRefuse}
 use Rattle.regress.proofs.AtomLemmas.{at}
 
@@ -74,6 +71,7 @@ module _ (table : Table) (o : Options) (text : List ℕ) (steps : (m : Mode) →
       empty : (t : List ℕ) → (length t == 0) ≡ true → t ≡ []
       empty [] h = refl
       empty (c ∷ t) h = absurd (suc-ne-zero (length t) (eqb-true (suc (length t)) 0 h))
+
       ended : (a b : Bool) → (length f.rest == 0) ≡ a → guard (a && b) (Some f.tree) ≡ Some p → (g : Front) × (◌≡◌ {A = Option Front} (Some f) (Some g)) × (g.tree ≡ p) × (g.rest ≡ [])
       ended true true h e = (f, refl, (cc), empty f.rest h)
       ended true false h e = absurd (cc)
@@ -101,10 +99,12 @@ module _ (table : Table) (o : Options) (text : List ℕ) (steps : (m : Mode) →
       later false h = h
   refused TooDeep (fronts, counted) =
       ((λ p s. let (f, read, tree, rest) = front_of p s in let deep = fronts f read in let same : depth f.tree ≡ depth p = ap depth tree in omega arith), (λ none. omega arith))
-  refused TooManyGroups (fronts, counted) =
-      ((λ p s. let (f, read, tree, rest) = front_of p s in let many = fronts f read in
+  refused TooManyGroups (fronts, counted) = (
+    (λ p s. let (f, read, tree, rest) = front_of p s in let many = fronts f read in
         let (opened, shorter) = (steps mode mode_coherent text 0).disjunction_forward f read in
-        let same : length (names_of f.tree) ≡ length (names_of p) = ap (λ q. length (names_of q)) tree in omega arith), (λ none. omega arith))
+        let same : length (names_of f.tree) ≡ length (names_of p) = ap (λ q. length (names_of q)) tree in omega arith),
+    (λ none. omega arith),
+  )
   refused TooManyLoops r = absurd r
   refused TooLarge r = r
   refused OutOfMemory r = r

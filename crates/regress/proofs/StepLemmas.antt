@@ -1,13 +1,13 @@
 -- How a disjunction, an alternative and the contents of parentheses are read from their parts.
 use Rattle.std.specs.Prelude.{if◌then◌else◌}
-use Rattle.std.proofs.Common.{◌≡◌, ℕ, suc, ◌+◌, ◌<◌, ◌≤◌, Bool, true, false, ◌==◌, List, [], ◌∷◌, length, drop, max, Option, Some, None, option_and_then, option_map, slice_get, refl, sym, ap, ◌∙◌, subst, arith}
-use Rattle.regress_meaning.specs.Text.{◌∈◌, is_at}
+use Rattle.std.proofs.Common.{◌≡◌, ℕ, suc, ◌+◌, ◌≤◌, Bool, true, false, ◌==◌, List, [], ◌∷◌, length, drop, Option, Some, None, option_and_then, option_map, slice_get, refl, sym, ap, ◌∙◌, subst, arith}
+use Rattle.regress_meaning.specs.Text.{is_at}
 use Rattle.regress_meaning.specs.Pattern.{Pattern, names_of, nothing, sequence, choice, capture, grouped}
 use Rattle.regress_meaning.specs.Tokens.{Mode, guard}
 use Rattle.regress_meaning.specs.Grammar.{ends_alternative}
 use Rattle.regress_meaning.specs.Limits.{depth, quantifiers, greatest_depth}
 use Rattle.regress_meaning.specs.Reading.{Front, joined_by, alternatives_if, alternatives, terms, closed, quantified, disjunction_at, alternative_at, term_at, ReadsBySteps}
-use Rattle.regress.specs.Parsing.{Place, AreUnnamed, Leads, Grows, front_to, IsRefusal, contents_of}
+use Rattle.regress.specs.Parsing.{Place, AreUnnamed, Leads, Grows, front_to, contents_of}
 use Rattle.regress.proofs.AnswerLemmas.{Within, Leads_refl, Leads_trans, Leads_mark, Leads_group, Leads_uncaptured}
 use Rattle.regress.proofs.LoopLemmas.{Joins, sequence_joins, choice_joins}
 use Rattle.regress.proofs.AtomLemmas.{at, begins, wrapped-within, capture-read, uncaptured-read}
@@ -92,6 +92,7 @@ contents-within here o = record { fronts = λ f e. found o f e; leads = Leads_re
     kept : (b : Bool) (h f : Front) → guard b (Some h) ≡ Some f → h ≡ f
     kept true h f e = cc
     kept false h f e = absurd (cc)
+
     found : (o : Option Front) (f : Front) → contents_of o ≡ Some f → (g : Front) × (o ≡ Some g) × (here.nesting + depth g.tree ≤ here.nesting + depth f.tree) × (g.opened ≤ f.opened)
     found None f e = absurd (cc)
     found (Some g) f e =
@@ -120,11 +121,12 @@ wrapped-answer m n k t wrap inside end there p q found e grows nesting deeper na
     let inner = Leads_trans leads grows.leads in
     let read = found ∙ ap (option_and_then (λ (f : Front). quantified true k (record { tree = wrap f.tree; opened = f.opened; rest = f.rest }))) e in
     let grown : Grows (at n k t) (at n end.opened end.text) (wrap p) = record {
-        unnamed = unnamed grows.unnamed;
-        counted = (let counted = grows.counted in omega arith);
-        deep = (let deeper = grows.deep in omega arith);
-        loops = loops ∙ grows.loops;
-        leads = record { nested = (let nested = inner.nested in omega arith); grouped = inner.grouped; staged = inner.staged } } in
+      unnamed = unnamed grows.unnamed;
+      counted = (let counted = grows.counted in omega arith);
+      deep = (let deeper = grows.deep in omega arith);
+      loops = loops ∙ grows.loops;
+      leads = record { nested = (let nested = inner.nested in omega arith); grouped = inner.grouped; staged = inner.staged };
+    } in
     rw (place, same) (read, grown)
 
 -- a group and what it holds, at places given by their parts

@@ -7,6 +7,9 @@ use Rattle.std.proofs.lemmas.Str.{encodes-append, length-encode, chars_from_enco
 use Rattle.std.specs.Prelude.{encode_utf8, slice_get}
 use Rattle.std.specs.Char.{len_utf8}
 use Rattle.std.specs.Str.{encode_utf8_all, all_scalars, chars, IsUtf8, IsCharBoundary}
+use Rattle.std.specs.Prelude.{All}
+use Rattle.std.proofs.lemmas.List.Elements.{All-nil, All-cons}
+use lib.Utf8.{scalar, scalar_cases}
 use Rattle.regress_meaning.specs.Offsets.{Reading, offset, of_utf8}
 
 -- an element of a list that grows at its end
@@ -101,6 +104,11 @@ second_passes : (a b : Bool) → (a && b) ≡ true → b ≡ true
 second_passes true b e = e
 second_passes false b e = cc
 
+-- and the first
+first_passes : (a b : Bool) → (a && b) ≡ true → a ≡ true
+first_passes true b e = refl
+first_passes false b e = e
+
 -- characters behind a place are characters
 scalars-drop : (cs : List ℕ) (k : ℕ) → all_scalars cs ≡ true → all_scalars (drop k cs) ≡ true
 scalars-drop [] zero e = e
@@ -128,3 +136,18 @@ offset_of_end bytes utf8 =
 -- a place that is no later has no greater offset
 pub offset-le : (r : Reading) (p q : ℕ) → p ≤ q → offset r p ≤ offset r q
 offset-le r p q le = rw take-take at (sum_by-take-le r.width (take q r.points) p)
+
+-- characters are code points
+code_points : (cs : List ℕ) → all_scalars cs ≡ true → All (λ c. c ≤ 0x10_FFFF) cs
+code_points [] e = All-nil (λ c. c ≤ 0x10_FFFF)
+code_points (c ∷ cs) e =
+    All-cons (λ d. d ≤ 0x10_FFFF) c cs (low (scalar_cases c (first_passes (scalar c) (all_scalars cs) e)))
+    (code_points cs (second_passes (scalar c) (all_scalars cs) e))
+  where
+    low : (c < 0xD800) ⊎ ((0xE000 ≤ c) × (c < 0x11_0000)) → c ≤ 0x10_FFFF
+    low (inl below) = omega arith
+    low (inr above) = omega (arith, above.1)
+
+-- the characters of a text are code points
+pub chars-code_points : (bytes : List ℕ) → IsUtf8 bytes → All (λ c. c ≤ 0x10_FFFF) (chars bytes)
+chars-code_points bytes utf8 = code_points (chars bytes) (scalars-chars bytes utf8)

@@ -8,3 +8,4 @@ pub mod TableViews
 pub mod TextViews
 pub mod StateViews
 pub mod Refusing
+pub mod Standing

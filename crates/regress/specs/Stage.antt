@@ -1,5 +1,5 @@
 -- What the parser doesn't read yet.
-use Rattle.std.specs.Prelude.{ℕ, Bool, true, false, not, ◌&&◌, ◌||◌, ◌==◌, List, [], ◌∷◌, if◌then◌else◌}
+use Rattle.std.specs.Prelude.{ℕ, Bool, false, not, ◌&&◌, ◌||◌, ◌==◌, List, [], ◌∷◌, if◌then◌else◌}
 use Rattle.regress_meaning.specs.Text.{◌∈◌, is_at}
 
 -- behind `before`, c with t behind it begins something that is not read: an escape of no syntax character, a group of another

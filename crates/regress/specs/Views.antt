@@ -1,7 +1,7 @@
 -- How the values of the public calls stand to the definitions.
-use Rattle.std.specs.Prelude.{◌≡◌, ℕ, List, Option, map, option_map}
+use Rattle.std.specs.Prelude.{ℕ, map, option_map}
 use Rattle.std.specs.declared.ops.Range.{Range}
-use Rattle.regress_meaning.specs.Flags.{Options, options_of}
+use Rattle.regress_meaning.specs.Flags.{Options}
 use Rattle.regress_meaning.specs.Matches.{Item}
 use Rattle.regress.specs.declared.front.flags.Flags.{Flags}
 use Rattle.regress.specs.declared.engine.found.Match.{Match}

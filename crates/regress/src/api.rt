@@ -1,17 +1,119 @@
 //! The user's calls.
-ghost use Rattle.std.specs.Prelude.{◌≤◌, ◌↔◌, IsTrue, All};
+ghost use Rattle.std.specs.Prelude.{◌≡◌, ◌≤◌, ◌↔◌, ℕ, All, IsTrue, IfOk, IfErr, IfSome, Err, IsOkUnless, IsCharBoundary, chars, length, slice_get, option_map, false};
+ghost use Rattle.regress_meaning.specs.Table.{Table};
+ghost use Rattle.regress_meaning.specs.Pattern.{Pattern, names_of};
+ghost use Rattle.regress_meaning.specs.Flags.{Options};
+ghost use Rattle.regress_meaning.specs.Grammar.{Spells};
+ghost use Rattle.regress_meaning.specs.Limits.{WithinLimits};
+ghost use Rattle.regress_meaning.specs.Matches.{match_list};
+ghost use Rattle.regress_meaning.specs.Offsets.{of_utf8, told};
+ghost use Rattle.regress.specs.Trees.{tree};
+ghost use Rattle.regress.specs.TableViews.{table};
+ghost use Rattle.regress.specs.Views.{options, item_of};
+ghost use Rattle.regress.specs.Refusing.{MayRefuse};
+
+use crate::engine::evaluator::Evaluator;
+use crate::engine::found::Match;
+use crate::engine::text::Text;
+use crate::front::error::Error;
+use crate::front::flags::Flags;
+use crate::front::parser::{NOT_IN_STAGE, Parser};
+use crate::front::syntax::Syntax;
+use crate::front::tables::Tables;
+use std::alloc::Global;
 
 /// Whether all numbers are code points, at most 10FFFF.
 pub fn are_code_points(points: &[u32]) -> bool
-    ensures { IsTrue result ↔ All (λ c. c ≤ 0x10FFFF) points.now }
+    ensures { IsTrue result ↔ All (λ c. c ≤ 0x10_FFFF) points.now }
 {
     points.iter().all(|c| *c <= 0x10_FFFF)
 }
 
-/// A compiled pattern.
+/// A compiled pattern. It borrows the tables that it was compiled with.
 #[derive(Debug, Drop)]
-pub struct Regex {
-    syntax: u32,
+pub struct Regex<'u> {
+    alloc: Global,
+    tables: &'u Tables,
+    flags: Flags,
+    syntax: Syntax,
+    group_count: usize,
+    ghost numbered: { group_count ≡ length (names_of (tree syntax)) },
+    ghost by_case: { flags.icase ≡ false },
+}
+
+impl<'u> Regex<'u> {
+    ghost use Rattle.regress.specs.Standing.{StandsFor, plain};
+
+    /// Compiles a pattern without flags.
+    ///
+    /// Refused as `with_flags` says.
+    pub fn new(alloc: Global, pattern: &str, tables: &'u Tables) -> Result<Regex<'u>, Error>
+        ensures accepted { IfOk result (λ r. (p : Pattern) × Spells (table tables.now) plain (chars pattern.now) p × WithinLimits p × StandsFor r (table tables.now) plain p) }
+        ensures refused { IfErr result (MayRefuse (table tables.now) plain (chars pattern.now)) }
+    {
+        Regex::with_flags(alloc, pattern, Flags::default(), tables)
+    }
+
+    /// Compiles a pattern under flags ("RegExpInitialize").
+    ///
+    /// Answers a `Regex` for the tree that the pattern spells. Refused as `Syntax` where the text spells no tree, under the
+    /// name of a limit that it passes, and as `OutOfMemory`. A pattern or a flag that is not read yet is refused as
+    /// `Syntax` with the text `Not in this stage`.
+    pub fn with_flags(
+        alloc: Global,
+        pattern: &str,
+        flags: Flags,
+        tables: &'u Tables,
+    ) -> Result<Regex<'u>, Error>
+        ensures accepted { IfOk result (λ r. (p : Pattern) × Spells (table tables.now) (options flags) (chars pattern.now) p × WithinLimits p × StandsFor r (table tables.now) (options flags) p) }
+        ensures refused { IfErr result (MayRefuse (table tables.now) (options flags) (chars pattern.now)) }
+    {
+        let text = Text::new(alloc, pattern)?;
+        Regex::from_unicode(alloc, text.points(), flags, tables)
+    }
+
+    /// Compiles a pattern that is given as code points; raw surrogates are never joined.
+    ///
+    /// Asks that all are code points, as `are_code_points` tells. Refused as `with_flags` says.
+    pub fn from_unicode(
+        alloc: Global,
+        points: &[u32],
+        flags: Flags,
+        tables: &'u Tables,
+    ) -> Result<Regex<'u>, Error>
+        requires { All (λ c. c ≤ 0x10_FFFF) points.now }
+        ensures accepted { IfOk result (λ r. (p : Pattern) × Spells (table tables.now) (options flags) points.now p × WithinLimits p × StandsFor r (table tables.now) (options flags) p) }
+        ensures refused { IfErr result (MayRefuse (table tables.now) (options flags) points.now) }
+    {
+        if flags.icase {
+            return Err(NOT_IN_STAGE);
+        }
+        let (syntax, group_count) = Parser::new(alloc, points).parse()?;
+        Ok(Regex {
+            alloc,
+            tables,
+            flags,
+            syntax,
+            group_count,
+        })
+    }
+
+    /// The first match in a text, its ranges told in bytes ("RegExpBuiltinExec").
+    ///
+    /// Answers the first item of the pattern's match list from the beginning of the text. Errs with `OutOfMemory` alone.
+    pub fn find(&self, text: &str) -> Result<Option<Match>, Error>
+        ensures found { (t : Table) → (o : Options) → (p : Pattern) → StandsFor self.now t o p →
+            IfOk result (λ found. option_map item_of found ≡ option_map (told (of_utf8 text.now)) (slice_get (match_list t o p (chars text.now) 0) 0)) }
+        ensures inside { IfOk result (λ found. IfSome found (λ m. (m.range.start ≤ m.range.end) × IsCharBoundary text.now m.range.start × IsCharBoundary text.now m.range.end)) }
+        ensures refused { IsOkUnless result Error.OutOfMemory }
+    {
+        let text = Text::new(self.alloc, text)?;
+        let evaluator = Evaluator::new(self.alloc, text.points());
+        match evaluator.first_match(&self.syntax, self.group_count, 0)? {
+            Some(found) => Ok(Some(text.told(found))),
+            None => Ok(None),
+        }
+    }
 }
 
 #[cfg(test)]

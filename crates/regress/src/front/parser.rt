@@ -105,14 +105,17 @@ impl<'p> Parser<'p> {
     fn is_at_quantifier(&self) -> bool
         ensures { result ≡ is_at (λ c. holds (codes "*+?{") c) (unread self.now) }
     {
-        self.peek().is_some_and(|point| is_one_of(point, QUANTIFIERS))
+        self.peek()
+            .is_some_and(|point| is_one_of(point, QUANTIFIERS))
     }
 
     /// Whether the code point behind the next one is a question mark.
     fn is_special(&self) -> bool
         ensures { result ≡ is_at (λ c. c == 0x3F) (drop 1 (unread self.now)) }
     {
-        self.points.get(self.position..).is_some_and(|rest| rest.get(1) == Some(&u32::from('?')))
+        self.points
+            .get(self.position..)
+            .is_some_and(|rest| rest.get(1) == Some(&u32::from('?')))
     }
 
     /// The code point that begins a term; `None` where the alternative ends.

@@ -1,4 +1,4 @@
-use Rattle.std.proofs.Common.{◌≡◌, ◌+◌, ◌-◌, ◌*◌, ◌<◌, ◌≤◌, ℕ, length, map, List}
+use Rattle.std.proofs.Common.{◌+◌, ◌-◌, ◌*◌, ◌≤◌, length, map}
 use Rattle.regress_meaning.specs.Pattern.{sequence, choice}
 use Rattle.regress_meaning.specs.Tokens.{Mode}
 use Rattle.regress_meaning.specs.Reading.{disjunction_at, alternative_at}
@@ -33,7 +33,8 @@ decreases-uncaptured l = 6 * (256 - l.nesting)
 abbrev pub invariant-alternative-loop-first : goal.invariant-alternative-loop-first
 invariant-alternative-loop-first l = record {
   progress : length (unread l.self) ≤ length (unread l.fn.self);
-  state : (m : Mode) → IsCoherent m → LoopState sequence (alternative_at m) (place l.nesting l.fn.self) (place l.nesting l.self) (map tree l.terms.items) }
+  state : (m : Mode) → IsCoherent m → LoopState sequence (alternative_at m) (place l.nesting l.fn.self) (place l.nesting l.self) (map tree l.terms.items);
+}
 
 abbrev pub decreases-alternative-loop-first : goal.decreases-alternative-loop-first
 decreases-alternative-loop-first l = length (unread l.self)
@@ -42,7 +43,8 @@ decreases-alternative-loop-first l = length (unread l.self)
 abbrev pub invariant-disjunction-loop-arms : goal.invariant-disjunction-loop-arms
 invariant-disjunction-loop-arms l = record {
   progress : length (unread l.self) ≤ length (unread l.fn.self);
-  state : (m : Mode) → IsCoherent m → LoopState choice (disjunction_at m) (place l.nesting l.fn.self) (place l.nesting l.self) (map tree l.arms.items) }
+  state : (m : Mode) → IsCoherent m → LoopState choice (disjunction_at m) (place l.nesting l.fn.self) (place l.nesting l.self) (map tree l.arms.items);
+}
 
 abbrev pub decreases-disjunction-loop-arms : goal.decreases-disjunction-loop-arms
 decreases-disjunction-loop-arms l = length (unread l.self)

@@ -1,5 +1,4 @@
-use Rattle.std.proofs.Common.{◌≡◌, ℕ, drop, inl, inr, refl, sym, ap, ◌∙◌, slice_get, Some, None}
-use Rattle.regress_meaning.specs.Tokens.{Mode}
+use Rattle.std.proofs.Common.{drop, inl, inr, refl, sym, ap, ◌∙◌, slice_get}
 use Rattle.regress.specs.Parsing.{unread, place}
 use Rattle.regress.proofs.TreeLaws.{tree-Character}
 use Rattle.regress.proofs.AtomLemmas.{escape-ends, escape-beyond, escape-answer}
@@ -11,11 +10,14 @@ returns-in_default-clause-answer c = λ nesting shallow m.
 
 pub returns-then-not-is_one_of-clause-answer : goal.returns-then-not-is_one_of-clause-answer
 returns-then-not-is_one_of-clause-answer c = λ nesting shallow m.
-    inr (refl, escape-beyond (unread c.args.self.now) c.in-Some.point c.requires (ap (λ t. slice_get t 0) (sym c.bump.ensures.read) ∙ sym c.peek.ensures ∙ c.in-Some.is)
-      (sym c.is_one_of.ensures ∙ c.if-not-is_one_of.true))
+    inr (
+      refl,
+      escape-beyond (unread c.args.self.now) c.in-Some.point c.requires (ap (λ t. slice_get t 0) (sym c.bump.ensures.read) ∙ sym c.peek.ensures ∙ c.in-Some.is)
+          (sym c.is_one_of.ensures ∙ c.if-not-is_one_of.true),
+    )
 
 pub returns-clause-answer : goal.returns-clause-answer
 returns-clause-answer c = λ nesting shallow m.
     escape-answer m nesting c.args.self.now.groups (unread c.args.self.now) c.in-Some.point _ (place nesting c.bump-2.new.self) shallow c.requires
-      (ap (λ t. slice_get t 0) (sym c.bump.ensures.read) ∙ sym c.peek.ensures ∙ c.in-Some.is) (sym c.is_one_of.ensures ∙ c.if-not-is_one_of.false)
-      (tree-Character c.in-Some.point) refl (c.bump-2.ensures.kept.1 ∙ c.bump.ensures.kept.1) (c.bump-2.ensures.read ∙ ap (drop 1) c.bump.ensures.read)
+    (ap (λ t. slice_get t 0) (sym c.bump.ensures.read) ∙ sym c.peek.ensures ∙ c.in-Some.is) (sym c.is_one_of.ensures ∙ c.if-not-is_one_of.false)
+    (tree-Character c.in-Some.point) refl (c.bump-2.ensures.kept.1 ∙ c.bump.ensures.kept.1) (c.bump-2.ensures.read ∙ ap (drop 1) c.bump.ensures.read)

@@ -1,5 +1,5 @@
 use Rattle.std.proofs.lemmas.Result.{err_from_is_err_and}
-use Rattle.std.proofs.Common.{◌≡◌, ℕ, true, false, List, [], length, drop, refl, sym, ap, ◌∙◌, subst, inl, Some, None, slice_get, zero-add, arith}
+use Rattle.std.proofs.Common.{◌≡◌, false, [], length, drop, sym, ◌∙◌, subst, inl, Some, zero-add, arith}
 use Rattle.regress_meaning.specs.Pattern.{names_of}
 use Rattle.regress_meaning.specs.TableParts.{table_of, small_parts}
 use Rattle.regress_meaning.specs.Tokens.{Mode}
@@ -18,12 +18,12 @@ returns-in_err-syntax-clause-refused c =
     let points = c.args.self.points.now in
     let start : place 0 c.args.self ≡ at 0 0 points = λ i. record { nesting = 0; opened = c.requires.1 i; text = drop (c.requires.0 i) points } in
     rw (p.1, p.2) (λ table o.
-      let steps = c.reading_goes_by_steps.ensures in
-      let decides = c.reading_decides_the_grammar.ensures table o points in
-      let m = mode table o points steps decides in
-      refused table o points steps decides c.in_err-syntax.field-0.0
-        (subst (λ (here : Place). IsRefusal here (disjunction_at m here.text here.opened) c.in_err-syntax.field-0.0) start
-          (c.in_err-syntax.ensures.answer m (mode_coherent table o points steps decides))))
+    let steps = c.reading_goes_by_steps.ensures in
+    let decides = c.reading_decides_the_grammar.ensures table o points in
+    let m = mode table o points steps decides in
+    refused table o points steps decides c.in_err-syntax.field-0.0
+    (subst (λ (here : Place). IsRefusal here (disjunction_at m here.text here.opened) c.in_err-syntax.field-0.0) start
+    (c.in_err-syntax.ensures.answer m (mode_coherent table o points steps decides))))
 
 pub returns-then-is_some-clause-refused : goal.returns-then-is_some-clause-refused
 returns-then-is_some-clause-refused c = λ table o.
@@ -34,7 +34,7 @@ returns-then-is_some-clause-refused c = λ table o.
     let m = mode table o points steps decides in
     let end = place 0 c.disjunction.new.self in
     let (read, grows) = subst (λ (here : Place). (disjunction_at m here.text here.opened ≡ Some (front_to end (tree c.in_ok-syntax.syntax))) × Grows here end (tree c.in_ok-syntax.syntax)) start
-        (c.in_ok-syntax.ensures.answer m (mode_coherent table o points steps decides)) in
+    (c.in_ok-syntax.ensures.answer m (mode_coherent table o points steps decides)) in
     let (point, left) = found-some c.peek.result (sym c.is_some.ensures ∙ c.if-is_some.true) in
     inl (unbalanced table o points steps decides (front_to end (tree c.in_ok-syntax.syntax)) read point (sym c.peek.ensures ∙ left))
 
@@ -55,11 +55,12 @@ returns-clause-accepted c =
     let none = empty-text (unread c.disjunction.new.self) (sym c.peek.ensures ∙ found-none c.peek.result (sym c.is_some.ensures ∙ c.if-is_some.false)) in
     let grows = subst (λ (here : Place). Grows here end p) start (c.in_ok-syntax.ensures.answer any_mode any_mode-coherent).1 in
     let spelled = λ (table : Table) (o : Options).
-        let steps = c.reading_goes_by_steps.ensures in
-        let decides = c.reading_decides_the_grammar.ensures table o points in
-        let m = mode table o points steps decides in
-        let read = subst (λ (here : Place). disjunction_at m here.text here.opened ≡ Some (front_to end p)) start (c.in_ok-syntax.ensures.answer m (mode_coherent table o points steps decides)).0 in
-        accepted table o points steps decides p c.disjunction.new.self.groups (rw none at read) grows.unnamed in
-    (spelled,
-    record { deep = omega (arith, grows.deep); groups = omega (arith, grows.counted, c.disjunction.new.self.few); loops = omega (arith, grows.loops) },
-    c.from.ensures ∙ grows.counted ∙ zero-add (length (names_of p)))
+    let steps = c.reading_goes_by_steps.ensures in
+    let decides = c.reading_decides_the_grammar.ensures table o points in
+    let m = mode table o points steps decides in
+    let read = subst (λ (here : Place). disjunction_at m here.text here.opened ≡ Some (front_to end p)) start (c.in_ok-syntax.ensures.answer m (mode_coherent table o points steps decides)).0 in
+    accepted table o points steps decides p c.disjunction.new.self.groups (rw none at read) grows.unnamed in (
+      spelled,
+      record { deep = omega (arith, grows.deep); groups = omega (arith, grows.counted, c.disjunction.new.self.few); loops = omega (arith, grows.loops) },
+      c.from.ensures ∙ grows.counted ∙ zero-add (length (names_of p)),
+    )
