@@ -36,6 +36,15 @@ fn refusal(alloc: Global, pattern: &str, flags: &str) -> Result<Option<Error>, F
     Ok(Regex::with_flags(alloc, pattern, Flags::from(flags), &tables).err())
 }
 
+/// What a call answers; `None` where it was refused memory, and any other error is a failure.
+fn unless_refused<T: Drop>(outcome: Result<T, Error>) -> Result<Option<T>, Fail> {
+    match outcome {
+        Ok(value) => Ok(Some(value)),
+        Err(Error::OutOfMemory) => Ok(None),
+        Err(other) => Err(other.into()),
+    }
+}
+
 /// The letter `a` inside so many groups that are not counted.
 fn nested(alloc: Global, depth: usize) -> Result<String, AllocError> {
     let mut pattern = "(?:".repeat(alloc, depth)?;
@@ -214,5 +223,28 @@ fn a_lone_surrogate_is_a_character(rt: HostRuntime) -> Result<(), Fail> {
     let regex = Regex::from_unicode(rt.alloc(), points, Flags::default(), &tables)?;
     let ranges = ranges(rt.alloc(), &regex, "𐀀b")?;
     assert_eq!(rt; ranges.as_slice(), [Some(4..5)].as_slice());
+    Ok(())
+}
+
+// A run may refuse one request for memory, each in turn (`rt try --test --fail-alloc N`): then the call that made it tells
+// so, and the same call made again gives the whole answer.
+#[test]
+fn refused_memory_is_told_and_turns_no_answer(rt: HostRuntime) -> Result<(), Fail> {
+    let tables = Tables::small(rt.alloc())?;
+    let compile = || Regex::with_flags(rt.alloc(), "(a|ab)(c|b(?:c)d)", Flags::from("m"), &tables);
+    let regex = match unless_refused(compile())? {
+        Some(regex) => regex,
+        None => compile()?,
+    };
+    let found = match unless_refused(regex.find("é😀abcd"))? {
+        Some(found) => found,
+        None => regex.find("é😀abcd")?,
+    };
+    let found = found.ok_or("no match")?;
+    assert_eq!(rt; found.range(), 6..10);
+    assert_eq!(rt;
+        found.captures.as_slice(),
+        [Some(6..7), Some(7..10)].as_slice()
+    );
     Ok(())
 }
