@@ -6,6 +6,8 @@
 mod api;
 mod engine;
 mod front;
+#[cfg(test)]
+mod rows;
 
 pub use api::{Regex, are_code_points};
 pub use engine::found::{Match, Range};

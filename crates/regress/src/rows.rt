@@ -1,0 +1,250 @@
+//! Patterns and texts whose answers are known from the standard, told as a user would ask for them.
+
+use crate::{Error, Flags, Range, Regex, Tables, are_code_points};
+use std::alloc::{AllocError, Global};
+use std::test::Fail;
+
+const NOT_IN_STAGE: Error = Error::Syntax {
+    text: "Not in this stage",
+};
+
+const UNBALANCED: Error = Error::Syntax {
+    text: "Unbalanced parenthesis",
+};
+
+/// The range of the first match and then those of the groups, in bytes; nothing where there is no match.
+fn ranges(alloc: Global, regex: &Regex<'_>, text: &str) -> Result<Vec<Option<Range>>, Error> {
+    let mut ranges = Vec::new(alloc);
+    if let Some(found) = regex.find(text)? {
+        for number in 0..=found.captures.len() {
+            ranges.push(found.group(number))?;
+        }
+    }
+    Ok(ranges)
+}
+
+/// What `ranges` tells of a pattern without flags.
+fn found(alloc: Global, pattern: &str, text: &str) -> Result<Vec<Option<Range>>, Fail> {
+    let tables = Tables::small(alloc)?;
+    let regex = Regex::new(alloc, pattern, &tables)?;
+    Ok(ranges(alloc, &regex, text)?)
+}
+
+/// Why a pattern is refused under flags; `None` where it is accepted.
+fn refusal(alloc: Global, pattern: &str, flags: &str) -> Result<Option<Error>, Fail> {
+    let tables = Tables::small(alloc)?;
+    Ok(Regex::with_flags(alloc, pattern, Flags::from(flags), &tables).err())
+}
+
+/// What a call answers; `None` where it was refused memory, and any other error is a failure.
+fn unless_refused<T: Drop>(outcome: Result<T, Error>) -> Result<Option<T>, Fail> {
+    match outcome {
+        Ok(value) => Ok(Some(value)),
+        Err(Error::OutOfMemory) => Ok(None),
+        Err(other) => Err(other.into()),
+    }
+}
+
+/// The letter `a` inside so many groups that are not counted.
+fn nested(alloc: Global, depth: usize) -> Result<String, AllocError> {
+    let mut pattern = "(?:".repeat(alloc, depth)?;
+    pattern.push_str("a")?;
+    pattern.push_str(")".repeat(alloc, depth)?.as_str())?;
+    Ok(pattern)
+}
+
+#[test]
+fn goes_back_into_a_group(rt: HostRuntime) -> Result<(), Fail> {
+    let ranges = found(rt.alloc(), "(a|ab)(c|bcd)", "abcd")?;
+    assert_eq!(rt;
+        ranges.as_slice(),
+        [Some(0..4), Some(0..1), Some(1..4)].as_slice()
+    );
+    Ok(())
+}
+
+#[test]
+fn prefers_the_first_arm_at_the_first_place(rt: HostRuntime) -> Result<(), Fail> {
+    let ranges = found(rt.alloc(), "(?:bc|(b))|(a)", "xbca")?;
+    assert_eq!(rt; ranges.as_slice(), [Some(1..3), None, None].as_slice());
+    let ranges = found(rt.alloc(), "b|bc", "abc")?;
+    assert_eq!(rt; ranges.as_slice(), [Some(1..2)].as_slice());
+    assert!(rt; found(rt.alloc(), "ac", "abc")?.is_empty());
+    Ok(())
+}
+
+#[test]
+fn groups_are_numbered_where_they_open(rt: HostRuntime) -> Result<(), Fail> {
+    let ranges = found(rt.alloc(), "((a)(?:b))(c)", "abc")?;
+    assert_eq!(rt;
+        ranges.as_slice(),
+        [Some(0..3), Some(0..2), Some(0..1), Some(2..3)].as_slice()
+    );
+    Ok(())
+}
+
+#[test]
+fn a_group_without_a_part_is_none(rt: HostRuntime) -> Result<(), Fail> {
+    let ranges = found(rt.alloc(), "(a)|b", "b")?;
+    assert_eq!(rt; ranges.as_slice(), [Some(0..1), None].as_slice());
+    Ok(())
+}
+
+#[test]
+fn what_is_empty_matches_at_the_front(rt: HostRuntime) -> Result<(), Fail> {
+    assert_eq!(rt;
+        found(rt.alloc(), "a|", "b")?.as_slice(),
+        [Some(0..0)].as_slice()
+    );
+    assert_eq!(rt;
+        found(rt.alloc(), "", "")?.as_slice(),
+        [Some(0..0)].as_slice()
+    );
+    assert_eq!(rt;
+        found(rt.alloc(), "()", "b")?.as_slice(),
+        [Some(0..0), Some(0..0)].as_slice()
+    );
+    Ok(())
+}
+
+#[test]
+fn a_backslash_takes_the_meaning_of_syntax(rt: HostRuntime) -> Result<(), Fail> {
+    let ranges = found(rt.alloc(), r"\((\\|\/)\)", r"(\)")?;
+    assert_eq!(rt; ranges.as_slice(), [Some(0..3), Some(1..2)].as_slice());
+    let ranges = found(rt.alloc(), r"\^\$\.\*\+\?\[\]\{\}\|", "^$.*+?[]{}|")?;
+    assert_eq!(rt; ranges.as_slice(), [Some(0..11)].as_slice());
+    Ok(())
+}
+
+#[test]
+fn answers_are_told_in_bytes(rt: HostRuntime) -> Result<(), Fail> {
+    let ranges = found(rt.alloc(), "é(漢)(?:(😀)|(b))", "aaé漢😀b")?;
+    assert_eq!(rt;
+        ranges.as_slice(),
+        [Some(2..11), Some(4..7), Some(7..11), None].as_slice()
+    );
+    let tables = Tables::small(rt.alloc())?;
+    let found = Regex::new(rt.alloc(), "漢(😀)", &tables)?.find("aé漢😀b")?;
+    let found = found.ok_or("no match")?;
+    assert_eq!(rt; found.range(), 3..10);
+    assert_eq!(rt; (found.start(), found.end()), (3, 10));
+    assert_eq!(rt; found.group(1), Some(6..10));
+    assert_eq!(rt; found.group(2), None);
+    Ok(())
+}
+
+#[test]
+fn what_is_no_pattern_is_refused(rt: HostRuntime) -> Result<(), Fail> {
+    assert_eq!(rt; refusal(rt.alloc(), "(a", "")?, Some(UNBALANCED));
+    assert_eq!(rt; refusal(rt.alloc(), "(?:a", "")?, Some(UNBALANCED));
+    assert_eq!(rt; refusal(rt.alloc(), "a)", "")?, Some(UNBALANCED));
+    let bare = Error::Syntax {
+        text: "Invalid escape",
+    };
+    assert_eq!(rt; refusal(rt.alloc(), r"\", "")?, Some(bare));
+    Ok(())
+}
+
+#[test]
+fn what_is_not_read_yet_is_refused(rt: HostRuntime) -> Result<(), Fail> {
+    for pattern in ["a*", ".", "[a]", "^", r"\d", "(?=a)"] {
+        assert_eq!(rt;
+            refusal(rt.alloc(), pattern, "")?,
+            Some(NOT_IN_STAGE),
+            "{pattern}"
+        );
+    }
+    assert_eq!(rt; refusal(rt.alloc(), "a", "i")?, Some(NOT_IN_STAGE));
+    Ok(())
+}
+
+#[test]
+fn nesting_ends_at_256(rt: HostRuntime) -> Result<(), Fail> {
+    let pattern = nested(rt.alloc(), 257)?;
+    assert_eq!(rt;
+        refusal(rt.alloc(), pattern.as_str(), "")?,
+        Some(Error::TooDeep)
+    );
+    let pattern = nested(rt.alloc(), 256)?;
+    let ranges = found(rt.alloc(), pattern.as_str(), "ba")?;
+    assert_eq!(rt; ranges.as_slice(), [Some(1..2)].as_slice());
+    Ok(())
+}
+
+#[test]
+fn groups_end_at_65535(rt: HostRuntime) -> Result<(), Fail> {
+    let pattern = "()".repeat(rt.alloc(), 65_536)?;
+    assert_eq!(rt;
+        refusal(rt.alloc(), pattern.as_str(), "")?,
+        Some(Error::TooManyGroups)
+    );
+    let pattern = "()".repeat(rt.alloc(), 65_535)?;
+    assert_eq!(rt; refusal(rt.alloc(), pattern.as_str(), "")?, None);
+    Ok(())
+}
+
+#[test]
+fn long_patterns_are_read_and_matched(rt: HostRuntime) -> Result<(), Fail> {
+    let mut arms = "b|".repeat(rt.alloc(), 99_999)?;
+    arms.push_str("a")?;
+    let ranges = found(rt.alloc(), arms.as_str(), "xa")?;
+    assert_eq!(rt; ranges.as_slice(), [Some(1..2)].as_slice());
+    let sequence = "a".repeat(rt.alloc(), 100_000)?;
+    let ranges = found(rt.alloc(), sequence.as_str(), sequence.as_str())?;
+    assert_eq!(rt; ranges.as_slice(), [Some(0..100_000)].as_slice());
+    Ok(())
+}
+
+#[test]
+fn other_flags_change_nothing(rt: HostRuntime) -> Result<(), Fail> {
+    let tables = Tables::small(rt.alloc())?;
+    let regex = Regex::with_flags(rt.alloc(), "(😀)|b", Flags::from("msuv"), &tables)?;
+    let ranges = ranges(rt.alloc(), &regex, "\na😀")?;
+    assert_eq!(rt; ranges.as_slice(), [Some(2..6), Some(2..6)].as_slice());
+    Ok(())
+}
+
+#[test]
+fn patterns_are_given_as_points(rt: HostRuntime) -> Result<(), Fail> {
+    let tables = Tables::small(rt.alloc())?;
+    let points = [0x28, 0x1_F600, 0x29, 0x7C, 0x62].as_slice();
+    assert!(rt; are_code_points(points));
+    let regex = Regex::from_unicode(rt.alloc(), points, Flags::default(), &tables)?;
+    let ranges = ranges(rt.alloc(), &regex, "é😀b")?;
+    assert_eq!(rt; ranges.as_slice(), [Some(2..6), Some(2..6)].as_slice());
+    Ok(())
+}
+
+#[test]
+fn a_lone_surrogate_is_a_character(rt: HostRuntime) -> Result<(), Fail> {
+    let tables = Tables::small(rt.alloc())?;
+    let points = [0xD800, 0x7C, 0x62].as_slice();
+    assert!(rt; are_code_points(points));
+    let regex = Regex::from_unicode(rt.alloc(), points, Flags::default(), &tables)?;
+    let ranges = ranges(rt.alloc(), &regex, "𐀀b")?;
+    assert_eq!(rt; ranges.as_slice(), [Some(4..5)].as_slice());
+    Ok(())
+}
+
+// A run may refuse one request for memory, each in turn (`rt try --test --fail-alloc N`): then the call that made it tells
+// so, and the same call made again gives the whole answer.
+#[test]
+fn refused_memory_is_told_and_turns_no_answer(rt: HostRuntime) -> Result<(), Fail> {
+    let tables = Tables::small(rt.alloc())?;
+    let compile = || Regex::with_flags(rt.alloc(), "(a|ab)(c|b(?:c)d)", Flags::from("m"), &tables);
+    let regex = match unless_refused(compile())? {
+        Some(regex) => regex,
+        None => compile()?,
+    };
+    let found = match unless_refused(regex.find("é😀abcd"))? {
+        Some(found) => found,
+        None => regex.find("é😀abcd")?,
+    };
+    let found = found.ok_or("no match")?;
+    assert_eq!(rt; found.range(), 6..10);
+    assert_eq!(rt;
+        found.captures.as_slice(),
+        [Some(6..7), Some(7..10)].as_slice()
+    );
+    Ok(())
+}
