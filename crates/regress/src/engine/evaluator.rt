@@ -78,6 +78,7 @@ impl<'s> Evaluator<'s> {
             Syntax::Disjunction(arms) => self.outcomes_of_choice(arms, state),
             Syntax::Capture(group, contents) => self.outcomes_of_capture(*group, contents, state),
             Syntax::Group(contents) => self.outcomes(contents, state),
+            Syntax::Loop { .. } => Err(AllocError),
         }
     }
 
