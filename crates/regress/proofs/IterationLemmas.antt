@@ -2,8 +2,8 @@
 use Rattle.std.proofs.Common.{◌≡◌, ◌≢◌, ℕ, zero, suc, ◌+◌, ◌<◌, ◌≤◌, ◌⊎◌, inl, inr, ◌-◌, ◌==◌, ◌&&◌, leb, ltb, not, if◌then◌else◌, Bool, true, false, List, [], ◌∷◌, ◌++◌, length, map, filter, option_map, slice_set, max, Option, Some, None, refl, sym, ap, ◌∙◌, append_assoc, arith}
 use Rattle.std.specs.Prelude.{reverse}
 use Rattle.std.specs.List.{flat_map, sum_by}
-use Rattle.std.proofs.lemmas.List.{append-nil, map-append, reverse-append}
-use Rattle.std.proofs.lemmas.List.Sums.{sum_by-append, sum_by-cons}
+use Rattle.std.proofs.lemmas.List.{append-nil, map-append, map_push, reverse-append}
+use Rattle.std.proofs.lemmas.List.Sums.{sum_by-append, sum_by-cons, sum_by_push}
 use Rattle.std.proofs.lemmas.Bool.{cases_lt}
 use Rattle.std.proofs.lemmas.Bool.Decides.{nat_tests}
 use Rattle.regress_meaning.specs.Pattern.{Pattern, Settings, repeated}
@@ -124,7 +124,8 @@ module _ (context : Context) where
         ap (λ (ss : List State). ss ++ outcomes_of_task greedy t) (outcomes_of_tasks-append greedy ts us)
         ∙ append_assoc (outcomes_of_tasks greedy us) (outcomes_of_tasks greedy ts) (outcomes_of_task greedy t)
 
-    outcomes_of_tasks-expansions : (greedy : Bool) (left need : ℕ) (next : List evaluator.State)
+    -- states that are gone on from lead where their iterations do
+    pub outcomes_of_tasks-expansions : (greedy : Bool) (left need : ℕ) (next : List evaluator.State)
         → outcomes_of_tasks greedy (expansions next left need) ≡ flat_map (iterations context body greedy left need) (map state_of next)
     outcomes_of_tasks-expansions greedy left need [] = refl
     outcomes_of_tasks-expansions greedy left need (s ∷ next) =
@@ -153,6 +154,34 @@ module _ (context : Context) where
         ∙ ap (λ (ss : List State). state_of s ∷ ss) (past false s next left ran)
     outcomes_of_tasks-tasks_of greedy s next left (suc need) ran =
         outcomes_of_tasks-expansions greedy left need next ∙ ap (flat_map (iterations context body greedy left need)) ran
+
+    -- a state with no more iterations is an outcome
+    pub outcomes_of_task-last : (greedy : Bool) (s : evaluator.State) (left need : ℕ) → left ≡ 0
+        → outcomes_of_task greedy (Expand s left need) ≡ state_of s ∷ []
+    unfolding iterations
+    outcomes_of_task-last greedy s left need none = rw none refl
+
+    -- the topmost task was an outcome
+    pub outcomes_of_tasks-emit : (greedy : Bool) (all : List evaluator.State) (before ts : List Task) (t : Task) (s : evaluator.State)
+        → before ≡ ts ++ t ∷ [] → outcomes_of_task greedy t ≡ state_of s ∷ []
+        → map state_of (all ++ s ∷ []) ++ outcomes_of_tasks greedy ts ≡ map state_of all ++ outcomes_of_tasks greedy before
+    outcomes_of_tasks-emit greedy all before ts t s popped told =
+        rw (popped, map_push state_of all s, outcomes_of_tasks-append greedy ts (t ∷ []), told) (append_assoc (map state_of all) (state_of s ∷ []) (outcomes_of_tasks greedy ts))
+
+    -- the topmost task was gone on from
+    pub outcomes_of_tasks-expand : (greedy : Bool) (before ts after : List Task) (s : evaluator.State) (next : List evaluator.State) (left need : ℕ)
+        → 0 < left → before ≡ ts ++ Expand s left need ∷ [] → after ≡ ts ++ tasks_of greedy s next (left - 1) need
+        → map state_of next ≡ body (state_of s) → outcomes_of_tasks greedy after ≡ outcomes_of_tasks greedy before
+    outcomes_of_tasks-expand greedy before ts after s next left need some popped pushed ran =
+        let more : suc (left - 1) ≡ left = omega arith in
+        rw (
+          popped,
+          pushed,
+          outcomes_of_tasks-append greedy ts (tasks_of greedy s next (left - 1) need),
+          outcomes_of_tasks-append greedy ts (Expand s left need ∷ []),
+          outcomes_of_tasks-tasks_of greedy s next (left - 1) need ran,
+          more,
+        ) refl
 
     -- how many turns of the loop an expansion takes
     unfoldable pub turns : ℕ → ℕ → State → ℕ
@@ -198,12 +227,39 @@ module _ (context : Context) where
     turns_of_tasks-tasks_of greedy s next left (suc need) ran =
         omega (arith, turns_of_tasks-expansions left need next ∙ ap (sum_by (turns left need)) ran)
 
--- what is repeated leads where its iterations do
-pub leads-repeated : (context : Context) (e : Settings) (p : Pattern) (first last least most : ℕ) (greedy : Bool) (s : State)
-    → outcomes context (repeated p first last least most greedy) Forward e s
-    ≡ iterations context (run context e p first last) greedy most least s
+    pub turns-last : (s : evaluator.State) (left need : ℕ) → left ≡ 0 → turns_of_task (Expand s left need) ≡ 1
+    unfolding turns
+    turns-last s left need none = rw none refl
+
+    -- an outcome takes a turn
+    pub turns_of_tasks-emit : (before ts : List Task) (t : Task) → before ≡ ts ++ t ∷ [] → turns_of_task t ≡ 1
+        → turns_of_tasks ts < turns_of_tasks before
+    turns_of_tasks-emit before ts t popped one = rw (popped, sum_by_push turns_of_task ts t, one) (omega arith)
+
+    -- and so does going on
+    pub turns_of_tasks-expand : (greedy : Bool) (before ts after : List Task) (s : evaluator.State) (next : List evaluator.State) (left need : ℕ)
+        → 0 < left → before ≡ ts ++ Expand s left need ∷ [] → after ≡ ts ++ tasks_of greedy s next (left - 1) need
+        → map state_of next ≡ body (state_of s) → turns_of_tasks after < turns_of_tasks before
+    turns_of_tasks-expand greedy before ts after s next left need some popped pushed ran =
+        let more : suc (left - 1) ≡ left = omega arith in
+        let told : turns_of_tasks (tasks_of greedy s next (left - 1) need) + 1 ≡ turns left need (state_of s) =
+        rw more at (turns_of_tasks-tasks_of greedy s next (left - 1) need ran) in
+        rw (popped, pushed, sum_by-append turns_of_task ts (tasks_of greedy s next (left - 1) need), sum_by_push turns_of_task ts (Expand s left need))
+        (omega (arith, told))
+
+-- the first task stands for what the repetition leads to
+pub outcomes_of_tasks-start : (context : Context) (e : Settings) (p : Pattern) (first last least most left : ℕ) (greedy : Bool) (s : State)
+    → (alone : List evaluator.State) (tasks : List Task) → tasks ≡ expansions alone left least → map state_of alone ≡ s ∷ [] → left ≡ most
+    → outcomes_of_tasks context (run context e p first last) greedy tasks
+    ≡ outcomes context (repeated p first last least most greedy) Forward e s
 unfolding outcomes
-leads-repeated context e p first last least most greedy s = refl
+outcomes_of_tasks-start context e p first last least most left greedy s alone tasks pushed one same =
+    let body = run context e p first last in
+    ap (outcomes_of_tasks context body greedy) pushed
+    ∙ outcomes_of_tasks-expansions context body greedy left least alone
+    ∙ ap (flat_map (iterations context body greedy left least)) one
+    ∙ append-nil (iterations context body greedy left least s)
+    ∙ ap (λ (n : ℕ). iterations context body greedy n least s) same
 
 -- where more have to come the state is no outcome
 pub tasks_of-needed : (greedy : Bool) (s : evaluator.State) (next : List evaluator.State) (left need : ℕ) → 0 < need

@@ -2,6 +2,7 @@ use Rattle.std.proofs.Common.{◌≡◌, ◌++◌, Bool, false, map, take, drop}
 use Rattle.std.specs.List.{flat_map}
 use Rattle.regress_meaning.specs.Table.{Table}
 use Rattle.regress_meaning.specs.Pattern.{Settings, repeated}
+use Rattle.regress_meaning.specs.Meaning.{Context}
 use Rattle.regress.specs.Trees.{tree, most, sequence_of}
 use Rattle.regress.specs.StateViews.{state_of, forward, AreOutcomesOfAll}
 use Rattle.regress.proofs.EvaluatorLemmas.{takes, leads_from, no_table, no_settings}
@@ -32,12 +33,12 @@ invariant-outcomes_of_capture-loop-found l =
 -- the outcomes so far, and behind them what the stack stands for, are all
 abbrev pub invariant-outcomes_of_loop-loop-task : goal.invariant-outcomes_of_loop-loop-task
 invariant-outcomes_of_loop-loop-task l = (table : Table) → (unicode : Bool) → (e : Settings) → e.icase ≡ false →
-    let context = record { text = l.self.points.now; table = table; unicode = unicode } in
+    let context : Context = record { text = l.self.points.now; table = table; unicode = unicode } in
     map state_of l.all.items ++ outcomes_of_tasks context (run context e (tree l.loopee) l.enclosed.start l.enclosed.end) l.quant.greedy l.tasks.items
     ≡ forward l.self.points.now (repeated (tree l.loopee) l.enclosed.start l.enclosed.end l.quant.min (most l.quant) l.quant.greedy) table unicode e (state_of l.state)
 
 -- the turns that the stack takes
 abbrev pub decreases-outcomes_of_loop-loop-task : goal.decreases-outcomes_of_loop-loop-task
 decreases-outcomes_of_loop-loop-task l =
-    let context = record { text = l.self.points.now; table = no_table; unicode = false } in
+    let context : Context = record { text = l.self.points.now; table = no_table; unicode = false } in
     turns_of_tasks context (run context no_settings (tree l.loopee) l.enclosed.start l.enclosed.end) l.tasks.items
