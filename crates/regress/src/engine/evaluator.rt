@@ -341,6 +341,40 @@ mod tests {
         Ok(Syntax::Capture(number, Box::new(alloc, contents)?))
     }
 
+    fn repeat(
+        alloc: Global,
+        contents: Syntax,
+        min: usize,
+        max: Option<usize>,
+        greedy: bool,
+        enclosed_groups: std::ops::Range<CaptureGroupID>,
+    ) -> Result<Syntax, AllocError> {
+        Ok(Syntax::Loop {
+            loopee: Box::new(alloc, contents)?,
+            quant: Quantifier { min, max, greedy },
+            enclosed_groups,
+        })
+    }
+
+    /// The outcomes at the start of a text, with this many groups.
+    fn states(
+        alloc: Global,
+        points: &[u32],
+        syntax: &Syntax,
+        group_count: usize,
+    ) -> Result<Vec<State>, AllocError> {
+        let groups = vec![in alloc; None; group_count]?;
+        Evaluator::new(alloc, points).outcomes(syntax, &State { place: 0, groups })
+    }
+
+    fn places(alloc: Global, points: &[u32], syntax: &Syntax) -> Result<Vec<usize>, AllocError> {
+        let mut places = Vec::new(alloc);
+        for state in states(alloc, points, syntax, 0)? {
+            places.push(state.place)?;
+        }
+        Ok(places)
+    }
+
     #[test]
     fn goes_back_to_the_first_group(rt: HostRuntime) -> Result<(), Fail> {
         let alloc = rt.alloc();
@@ -410,6 +444,89 @@ mod tests {
         let states = Evaluator::new(alloc, &points).outcomes(&Syntax::Disjunction(arms), &start)?;
         assert_eq!(rt; states.len(), 1);
         assert_eq!(rt; states[0].place, 100_000);
+        Ok(())
+    }
+
+    #[test]
+    fn repeats_greedily_and_lazily(rt: HostRuntime) -> Result<(), Fail> {
+        let alloc = rt.alloc();
+        let aaab = [0x61, 0x61, 0x61, 0x62];
+        let any = repeat(alloc, letter('a'), 0, None, true, 0..0)?;
+        assert_eq!(rt;
+            places(alloc, &aaab, &any)?.as_slice(),
+            [3, 2, 1, 0].as_slice()
+        );
+        let any_lazy = repeat(alloc, letter('a'), 0, None, false, 0..0)?;
+        assert_eq!(rt;
+            places(alloc, &aaab, &any_lazy)?.as_slice(),
+            [0, 1, 2, 3].as_slice()
+        );
+        let bounded = repeat(alloc, letter('a'), 1, Some(2), true, 0..0)?;
+        assert_eq!(rt;
+            places(alloc, &aaab, &bounded)?.as_slice(),
+            [2, 1].as_slice()
+        );
+        let least_lazy = repeat(alloc, letter('a'), 2, None, false, 0..0)?;
+        assert_eq!(rt;
+            places(alloc, &aaab, &least_lazy)?.as_slice(),
+            [2, 3].as_slice()
+        );
+        Ok(())
+    }
+
+    // The note on empty iterations of "RepeatMatcher": `(a*)*` on `b`.
+    #[test]
+    fn drops_empty_iterations_past_the_least(rt: HostRuntime) -> Result<(), Fail> {
+        let alloc = rt.alloc();
+        let inner = repeat(alloc, letter('a'), 0, None, true, 0..0)?;
+        let any = repeat(alloc, group(alloc, 0, inner)?, 0, None, true, 0..1)?;
+        let mut found = states(alloc, &[0x62], &any, 1)?;
+        let state = found.pop().ok_or("no match")?;
+        assert!(rt; found.is_empty());
+        assert_eq!(rt; state.groups.as_slice(), [None].as_slice());
+        let inner = repeat(alloc, letter('a'), 0, None, true, 0..0)?;
+        let some = repeat(alloc, group(alloc, 0, inner)?, 1, None, true, 0..1)?;
+        let mut found = states(alloc, &[0x62], &some, 1)?;
+        let state = found.pop().ok_or("no match")?;
+        assert!(rt; found.is_empty());
+        assert_eq!(rt; state.groups.as_slice(), [Some(0..0)].as_slice());
+        Ok(())
+    }
+
+    // The note on captures of "RepeatMatcher": `(z)((a+)?(b+)?(c))*` on `zaacbbbcac`.
+    #[test]
+    fn clears_the_groups_inside(rt: HostRuntime) -> Result<(), Fail> {
+        let alloc = rt.alloc();
+        let a = repeat(alloc, letter('a'), 1, None, true, 0..0)?;
+        let a = repeat(alloc, group(alloc, 2, a)?, 0, Some(1), true, 2..3)?;
+        let b = repeat(alloc, letter('b'), 1, None, true, 0..0)?;
+        let b = repeat(alloc, group(alloc, 3, b)?, 0, Some(1), true, 3..4)?;
+        let c = group(alloc, 4, letter('c'))?;
+        let inner = group(alloc, 1, pair(alloc, a, pair(alloc, b, c)?)?)?;
+        let all = pair(
+            alloc,
+            group(alloc, 0, letter('z'))?,
+            repeat(alloc, inner, 0, None, true, 1..5)?,
+        )?;
+        let text = [0x7a, 0x61, 0x61, 0x63, 0x62, 0x62, 0x62, 0x63, 0x61, 0x63];
+        let first = states(alloc, &text, &all, 5)?.into_iter().next();
+        let first = first.ok_or("no match")?;
+        assert_eq!(rt; first.place, 10);
+        assert_eq!(rt;
+            first.groups.as_slice(),
+            [Some(0..1), Some(8..10), Some(8..9), None, Some(9..10)].as_slice()
+        );
+        Ok(())
+    }
+
+    #[test]
+    fn repeats_as_often_as_the_text_is_long(rt: HostRuntime) -> Result<(), Fail> {
+        let alloc = rt.alloc();
+        let points = vec![in alloc; 0x61; 100_000]?;
+        let any = repeat(alloc, letter('a'), 0, None, true, 0..0)?;
+        let found = places(alloc, &points, &any)?;
+        assert_eq!(rt; found.len(), 100_001);
+        assert_eq!(rt; found[0], 100_000);
         Ok(())
     }
 }

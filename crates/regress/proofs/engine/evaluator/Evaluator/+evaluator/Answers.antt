@@ -96,8 +96,8 @@ outcomes_of_loop-loop-task-init t c = λ table unicode e off.
     let body = run context e (tree c.args.loopee.now) c.args.enclosed.now.start c.args.enclosed.now.end in
     let quant = c.args.quant in
     let told = outcomes_of_tasks-start context e (tree c.args.loopee.now) c.args.enclosed.now.start c.args.enclosed.now.end quant.min (most quant)
-      c.unwrap_or-left.result quant.greedy (state_of c.args.state.now) c.in_ok-alone_at.field-0.items c.push_expansions.new.tasks.items
-      (rw c.new-tasks.ensures.items at c.in_ok-push_expansions.ensures) c.in_ok-alone_at.ensures c.unwrap_or-left.ensures in
+    c.unwrap_or-left.result quant.greedy (state_of c.args.state.now) c.in_ok-alone_at.field-0.items c.push_expansions.new.tasks.items
+    (rw c.new-tasks.ensures.items at c.in_ok-push_expansions.ensures) c.in_ok-alone_at.ensures c.unwrap_or-left.ensures in
     rw c.new-all.ensures.items told
 
 pub outcomes_of_loop-loop-task-smaller-in_ok-push-in-Emit : goal.outcomes_of_loop-loop-task-smaller-in_ok-push-in-Emit
