@@ -1,5 +1,5 @@
 -- What a stack of tasks stands for, and how many turns it takes.
-use Rattle.std.proofs.Common.{◌≡◌, ◌≢◌, ℕ, zero, suc, ◌+◌, ◌<◌, ◌≤◌, ◌⊎◌, inl, inr, ◌-◌, ◌==◌, ◌&&◌, leb, ltb, not, if◌then◌else◌, Bool, true, false, List, [], ◌∷◌, ◌++◌, length, map, filter, option_map, slice_set, max, Option, Some, None, refl, sym, ap, ◌∙◌, append_assoc, arith}
+use Rattle.std.proofs.Common.{◌≡◌, ℕ, zero, suc, ◌+◌, ◌<◌, ◌≤◌, ◌⊎◌, inl, inr, ◌-◌, ◌==◌, ◌&&◌, leb, ltb, not, if◌then◌else◌, Bool, true, false, List, [], ◌∷◌, ◌++◌, map, filter, slice_set, max, Option, None, refl, sym, ap, ◌∙◌, append_assoc, arith}
 use Rattle.std.specs.Prelude.{reverse}
 use Rattle.std.specs.List.{flat_map, sum_by}
 use Rattle.std.proofs.lemmas.List.{append-nil, map-append, map_push, reverse-append}
@@ -35,9 +35,11 @@ module _ (context : Context) where
   not_between : (i first last : ℕ) → last ≤ max i first → (leb first i && ltb i last) ≡ false
   not_between i first last empty = grind (arith, nat_tests)
 
+  -- a number is in a range
   between : (i first last : ℕ) → first ≤ i → i < last → (leb first i && ltb i last) ≡ true
   between i first last from within = grind (arith, nat_tests)
 
+  -- a number before two ends
   same_between : (i first last end : ℕ) → i < last → i < end → (leb first i && ltb i last) ≡ (leb first i && ltb i end)
   same_between i first last end within inside = grind (arith, nat_tests)
 
@@ -69,6 +71,7 @@ module _ (context : Context) where
   abbrev pub with_groups : State → List (Option (ℕ × ℕ)) → State
   with_groups s gs = record s { groups = gs }
 
+  -- an empty range clears nothing
   pub cleared-none : (first last : ℕ) (s : State) → last ≤ first → cleared context first last s ≡ s
   cleared-none first last s empty = ap (with_groups s) (clear_from-none 0 first last s.groups (omega arith))
 
@@ -91,6 +94,7 @@ module _ (context : Context) where
           let same : end ≡ last = omega (arith, within some) in
           rw same refl
 
+  -- `==` either way round
   place_comm : (p q : ℕ) → (p == q) ≡ (q == p)
   place_comm p q = grind (arith, nat_tests)
 
@@ -117,6 +121,7 @@ module _ (context : Context) where
     outcomes_of_tasks greedy [] = []
     outcomes_of_tasks greedy (t ∷ ts) = outcomes_of_tasks greedy ts ++ outcomes_of_task greedy t
 
+    -- of two stacks the upper one comes first
     pub outcomes_of_tasks-append : (greedy : Bool) (ts us : List Task)
         → outcomes_of_tasks greedy (ts ++ us) ≡ outcomes_of_tasks greedy us ++ outcomes_of_tasks greedy ts
     outcomes_of_tasks-append greedy [] us = sym (append-nil (outcomes_of_tasks greedy us))
@@ -198,6 +203,7 @@ module _ (context : Context) where
     abbrev pub turns_of_tasks : List Task → ℕ
     turns_of_tasks = sum_by turns_of_task
 
+    -- states that are gone on from take the turns of each
     turns_of_tasks-expansions : (left need : ℕ) (next : List evaluator.State)
         → turns_of_tasks (expansions next left need) ≡ sum_by (turns left need) (map state_of next)
     turns_of_tasks-expansions left need [] = refl
@@ -209,6 +215,7 @@ module _ (context : Context) where
           sum_by-cons (turns left need) (state_of s) (map state_of next),
         ) (omega arith)
 
+    -- past the least number those count that moved
     turns_past : (s : evaluator.State) (next : List evaluator.State) (left : ℕ) → map state_of next ≡ body (state_of s)
         → turns_of_tasks (expansions (filter (moved_on s) next) left 0) ≡ sum_by (turns left 0) (filter (moved context (state_of s)) (body (state_of s)))
     turns_past s next left ran =
@@ -227,6 +234,7 @@ module _ (context : Context) where
     turns_of_tasks-tasks_of greedy s next left (suc need) ran =
         omega (arith, turns_of_tasks-expansions left need next ∙ ap (sum_by (turns left need)) ran)
 
+    -- a state with no more iterations takes one turn
     pub turns-last : (s : evaluator.State) (left need : ℕ) → left ≡ 0 → turns_of_task (Expand s left need) ≡ 1
     unfolding turns
     turns-last s left need none = rw none refl

@@ -1,4 +1,4 @@
-use Rattle.std.proofs.Common.{◌≡◌, ◌+◌, false, List, [], ◌∷◌, ◌++◌, length, map, drop, refl, sym, ap, ◌∙◌, arith, rules}
+use Rattle.std.proofs.Common.{◌≡◌, ◌+◌, false, List, [], ◌∷◌, ◌++◌, length, map, drop, refl, sym, ap, ◌∙◌, arith}
 use Rattle.std.specs.List.{flat_map}
 use Rattle.std.proofs.lemmas.Bool.{eqb-true, eqb-false}
 use Rattle.std.proofs.lemmas.List.{take_all, drop_all, append-nil, map-append, nil_from_length}
@@ -159,7 +159,7 @@ pub outcomes_of_loop-returns : goal.outcomes_of_loop-returns
 outcomes_of_loop-returns t c = λ table unicode e off.
     let context : Context = record { text = c.args.self.now.points.now; table = table; unicode = unicode } in
     let body = run context e (tree c.args.loopee.now) c.args.enclosed.now.start c.args.enclosed.now.end in
-    let none : c.loop-task.tasks.items ≡ [] = search rules in
+    let none : c.loop-task.tasks.items ≡ [] = nil_from_length c.loop-task.tasks.items (omega (arith, c.in_default.ensures.cases, c.loop-task.tasks.ok.0)) in
     sym (append-nil (map state_of c.loop-task.all.items))
     ∙ ap (λ (ts : List Task). map state_of c.loop-task.all.items ++ outcomes_of_tasks context body c.args.quant.greedy ts) (sym none)
     ∙ c.loop-task.invariant table unicode e off
