@@ -227,7 +227,7 @@ module _ (table : Table) (o : Options) (p : Pattern) (text : List ℕ) where
           rw left (item (first_match table o p text q) (λ i. list_from (first_match table o p text) (length text - q) (next_place i)))
 
 -- a table that tells nothing
-no_table : Table
+pub no_table : Table
 no_table = record {
   fold = λ c. c;
   upper = λ c. c;
@@ -238,7 +238,7 @@ no_table = record {
 }
 
 -- settings of which none is on
-no_settings : Settings
+unfoldable pub no_settings : Settings
 no_settings = record { icase = false; multiline = false; dot_all = false }
 
 -- the first outcome from a place in the text, with no group set, is a match inside

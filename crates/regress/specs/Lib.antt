@@ -7,5 +7,6 @@ pub mod ErrorTexts
 pub mod TableViews
 pub mod TextViews
 pub mod StateViews
+pub mod Iterating
 pub mod Refusing
 pub mod Standing

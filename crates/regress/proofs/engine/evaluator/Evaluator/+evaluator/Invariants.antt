@@ -1,10 +1,12 @@
-use Rattle.std.proofs.Common.{◌≡◌, Bool, false, map, take, drop}
+use Rattle.std.proofs.Common.{◌≡◌, ◌++◌, Bool, false, map, take, drop}
 use Rattle.std.specs.List.{flat_map}
 use Rattle.regress_meaning.specs.Table.{Table}
-use Rattle.regress_meaning.specs.Pattern.{Settings}
-use Rattle.regress.specs.Trees.{tree, sequence_of}
+use Rattle.regress_meaning.specs.Pattern.{Settings, repeated}
+use Rattle.regress_meaning.specs.Meaning.{Context}
+use Rattle.regress.specs.Trees.{tree, most, sequence_of}
 use Rattle.regress.specs.StateViews.{state_of, forward, AreOutcomesOfAll}
-use Rattle.regress.proofs.EvaluatorLemmas.{takes, leads_from}
+use Rattle.regress.proofs.EvaluatorLemmas.{takes, leads_from, no_table, no_settings}
+use Rattle.regress.proofs.IterationLemmas.{run, outcomes_of_tasks, turns_of_tasks}
 use Rattle.regress.proofs.engine.evaluator.Evaluator.+evaluator.Given as goal
 
 abbrev pub invariant-outcomes_of_all-loop-state : goal.invariant-outcomes_of_all-loop-state
@@ -27,3 +29,16 @@ abbrev pub invariant-outcomes_of_capture-loop-found : goal.invariant-outcomes_of
 invariant-outcomes_of_capture-loop-found l =
     (map state_of (take l.found-index l.found-items) ≡ map (takes l.group l.state.place) (map state_of (take l.found-index l.initial.found-items)))
     × (drop l.found-index l.found-items ≡ drop l.found-index l.initial.found-items)
+
+-- the outcomes so far, and behind them what the stack stands for, are all
+abbrev pub invariant-outcomes_of_loop-loop-task : goal.invariant-outcomes_of_loop-loop-task
+invariant-outcomes_of_loop-loop-task l = (table : Table) → (unicode : Bool) → (e : Settings) → e.icase ≡ false →
+    let context : Context = record { text = l.self.points.now; table = table; unicode = unicode } in
+    map state_of l.all.items ++ outcomes_of_tasks context (run context e (tree l.loopee) l.enclosed.start l.enclosed.end) l.quant.greedy l.tasks.items
+    ≡ forward l.self.points.now (repeated (tree l.loopee) l.enclosed.start l.enclosed.end l.quant.min (most l.quant) l.quant.greedy) table unicode e (state_of l.state)
+
+-- the turns that the stack takes
+abbrev pub decreases-outcomes_of_loop-loop-task : goal.decreases-outcomes_of_loop-loop-task
+decreases-outcomes_of_loop-loop-task l =
+    let context : Context = record { text = l.self.points.now; table = no_table; unicode = false } in
+    turns_of_tasks context (run context no_settings (tree l.loopee) l.enclosed.start l.enclosed.end) l.tasks.items
