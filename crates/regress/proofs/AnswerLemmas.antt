@@ -1,7 +1,7 @@
 -- How answers for the parts of a text make an answer for the whole.
 use Rattle.std.specs.Prelude.{count_by}
 use Rattle.std.proofs.lemmas.List.Sums.{sum_by-cons}
-use Rattle.std.proofs.Common.{cond, ◌≡◌, ℕ, suc, ◌+◌, ◌≤◌, inl, inr, Bool, true, false, ◌&&◌, ◌||◌, ◌==◌, nat_le, List, [], ◌∷◌, drop, Option, Some, None, option_and_then, refl, sym, ap, ◌∙◌, codes, arith}
+use Rattle.std.proofs.Common.{cond, ◌≡◌, ℕ, suc, ◌+◌, ◌≤◌, inl, inr, Bool, true, false, ◌&&◌, ◌||◌, ◌==◌, nat_le, List, [], ◌∷◌, drop, Option, Some, None, option_and_then, refl, ap, codes, arith}
 use Rattle.regress_meaning.specs.Text.{◌∈◌, is_at}
 use Rattle.regress_meaning.specs.Pattern.{Pattern}
 use Rattle.regress_meaning.specs.Tokens.{Bounds, bounds_at, guard}

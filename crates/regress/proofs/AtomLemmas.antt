@@ -9,7 +9,7 @@ use Rattle.regress_meaning.specs.Reading.{Front, opening, quantified, closed, cl
 use Rattle.regress.specs.declared.front.error.Error.TheVariants.{TooDeep, TooManyGroups}
 use Rattle.regress.specs.Stage.{is_beyond_stage}
 use Rattle.regress.specs.Parsing.{Place, Leads, Grows, front_to, IsRefusal, contents_of}
-use Rattle.regress.proofs.MarkLemmas.{holds_none, holds_each, each_differs, differ_back, character-opens, repeating-opens, escape-opens, group-opens, uncaptured-opens}
+use Rattle.regress.proofs.MarkLemmas.{holds_none, each_differs, differ_back, character-opens, repeating-opens, escape-opens, group-opens, uncaptured-opens}
 use Rattle.regress.proofs.AnswerLemmas.{Within, Leads_mark, Leads_escape, quantified-keeps, closed-contents}
 
 -- a place, by its parts

@@ -1,6 +1,5 @@
 -- What a quantifier of one character says, and what is answered for a term with one.
 use Rattle.std.specs.Prelude.{if◌then◌else◌, count_by}
-use Rattle.std.proofs.lemmas.List.Sums.{sum_by-cons}
 use Rattle.std.proofs.Common.{◌≡◌, ℕ, suc, ◌+◌, ◌<◌, Bool, true, false, ◌==◌, List, [], ◌∷◌, drop, Option, Some, None, option_and_then, Err, slice_get, inr, refl, sym, ap, ◌∙◌, subst, eqb-true, codes, arith}
 use Rattle.regress_meaning.specs.Text.{holds, ◌∈◌, is_at}
 use Rattle.regress_meaning.specs.Pattern.{Pattern, repeated}

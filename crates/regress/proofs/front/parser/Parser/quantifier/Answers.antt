@@ -1,4 +1,4 @@
-use Rattle.std.proofs.Common.{◌≡◌, ◌==◌, ℕ, drop, Some, None, refl, sym, ap, ◌∙◌, slice_get, arith}
+use Rattle.std.proofs.Common.{◌==◌, refl, sym, ap, ◌∙◌, slice_get, arith}
 use Rattle.regress_meaning.specs.Text.{is_at}
 use Rattle.regress.specs.Parsing.{unread, place}
 use Rattle.regress.proofs.QuantifierLemmas.{braced-beyond, lazy-beyond, quantifier-found, quantifier-full, quantifier-answer}
