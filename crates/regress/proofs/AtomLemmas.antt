@@ -139,7 +139,7 @@ character-answer m n k r t c q there shallow e goes_on parenthesis backslash rep
     let a = each_differs (codes "*+?") c repeating in
     let b = each_differs (codes "^$.[]{}") c later in
     let no_syntax : (c ∈ "^$.*+?[]{}") ≡ false =
-        holds_none (codes "^$.*+?[]{}") c (b.0, (b.1.0, (b.1.1.0, (a.0, (a.1.0, (a.1.1.0, (b.1.1.1.0, (b.1.1.1.1.0, (b.1.1.1.1.1.0, (b.1.1.1.1.1.1.0, tt)))))))))) in
+    holds_none (codes "^$.*+?[]{}") c (b.0, (b.1.0, (b.1.1.0, (a.0, (a.1.0, (a.1.1.0, (b.1.1.1.0, (b.1.1.1.1.0, (b.1.1.1.1.1.0, (b.1.1.1.1.1.1.0, tt)))))))))) in
     let read = subst (λ t. term_at m t k ≡ quantified true k (record { tree = character c; opened = k; rest = u })) (sym whole) (character-read m u k c no_end no_parenthesis no_backslash no_syntax) in
     let no_mark : (c ∈ "\\(*+?") ≡ false = holds_none (codes "\\(*+?") c (differ_back c 0x5C no_backslash, (differ_back c 0x28 no_parenthesis, a)) in
     let grows = subst (λ t. Grows (at n k r t) (at n k r u) (character c)) (sym whole) (character-grows n k r c (c ∷ u) u shallow (Leads_mark n k r c u no_mark)) in

@@ -95,14 +95,17 @@ pub term-repeated : {here there next : Place} {read : Option Front} (p s : Patte
     → s ≡ repeated p here.opened next.opened q.min (most q) q.greedy → next.nesting ≡ there.nesting → (read ≡ Some (front_to next s)) × Grows here next s
 term-repeated {here} {there} {next} {read} p s q e grows quant same level =
     let found : read ≡ Some (front_to next (repeated p here.opened next.opened q.min (most q) q.greedy)) =
-        e ∙ quant.repeats here.opened (front_to there p) refl ∙ (λ i. Some (record { tree = repeated p here.opened (sym quant.opened i) q.min (most q) q.greedy; opened = sym quant.opened i; rest = next.text })) in
-    rw same (found, record {
-      unnamed = grows.unnamed;
-      counted = quant.opened ∙ grows.counted;
-      deep = grows.deep;
-      loops = (let counted = quant.counted in let loops = grows.loops in omega arith);
-      leads = Leads_trans grows.leads quant.leads;
-    })
+    e ∙ quant.repeats here.opened (front_to there p) refl ∙ (λ i. Some (record { tree = repeated p here.opened (sym quant.opened i) q.min (most q) q.greedy; opened = sym quant.opened i; rest = next.text })) in
+    rw same (
+      found,
+      record {
+        unnamed = grows.unnamed;
+        counted = quant.opened ∙ grows.counted;
+        deep = grows.deep;
+        loops = (let counted = quant.counted in let loops = grows.loops in omega arith);
+        leads = Leads_trans grows.leads quant.leads;
+      },
+    )
 
 -- the code point that is the quantifier
 pub quantifier-found : (o : Option ℕ) (q : Quantifier) → option_and_then quantifier_of o ≡ Some q → (c : ℕ) × (o ≡ Some c) × (quantifier_of c ≡ Some q)
@@ -112,9 +115,10 @@ quantifier-found (Some c) q e = (c, refl, e)
 -- what is refused at the quantifier is refused for the term
 pub term-refused : {here there : Place} {read : Option Front} (next : Place) (p : Pattern) (e : Error) → read ≡ quantified true here.opened (front_to there p) → Grows here there p → IsQuantifier there next (Err e) → IsRefusal here read e
 term-refused next p (SyntaxError text) found grows (same, beyond) = inr (same, grows.leads.staged beyond)
-term-refused {here} {there} {read} next p TooManyLoops found grows passes =
-    ((λ f e. let more = passes.repeats here.opened (front_to there p) f refl (sym found ∙ e) in let loops = grows.loops in let full = passes.full in omega arith),
-    (let looped = grows.leads.looped in let stands = passes.stands in let full = passes.full in omega arith))
+term-refused {here} {there} {read} next p TooManyLoops found grows passes = (
+  (λ f e. let more = passes.repeats here.opened (front_to there p) f refl (sym found ∙ e) in let loops = grows.loops in let full = passes.full in omega arith),
+  (let looped = grows.leads.looped in let stands = passes.stands in let full = passes.full in omega arith),
+)
 term-refused next p TooDeep found grows r = absurd r
 term-refused next p TooManyGroups found grows r = absurd r
 term-refused next p TooLarge found grows r = absurd r

@@ -362,3 +362,81 @@ impl<'p> Parser<'p> {
         Ok(contents)
     }
 }
+
+#[cfg(test)]
+mod tests {
+    use super::*;
+    use std::test::Fail;
+
+    fn parsed(alloc: Global, points: &[u32]) -> Result<(Syntax, usize), Error> {
+        Parser::new(alloc, points).parse()
+    }
+
+    fn points_of(alloc: Global, pattern: &str) -> Result<Vec<u32>, Error> {
+        let mut points = Vec::new(alloc);
+        for c in pattern.chars() {
+            points.push(u32::from(c))?;
+        }
+        Ok(points)
+    }
+
+    /// What is read, written out, or the error.
+    fn written(alloc: Global, pattern: &str) -> Result<String, Error> {
+        let points = points_of(alloc, pattern)?;
+        let (syntax, group_count) = parsed(alloc, points.as_slice())?;
+        Ok(format!(in alloc; "{group_count} {syntax:?}")?)
+    }
+
+    /// `a*` so many times.
+    fn many_loops(alloc: Global, count: u32) -> Result<Vec<u32>, Error> {
+        let mut points = Vec::new(alloc);
+        for _ in 0..count {
+            points.push(u32::from('a'))?;
+            points.push(u32::from('*'))?;
+        }
+        Ok(points)
+    }
+
+    #[test]
+    fn quantifiers_are_read(rt: HostRuntime) -> Result<(), Fail> {
+        for (pattern, expected) in [
+            (
+                "a*",
+                "0 Disjunction([Alternative([Loop { loopee: Character(97), quant: Quantifier { min: 0, max: None, greedy: true }, enclosed_groups: 0..0 }])])",
+            ),
+            (
+                "(a+)?",
+                "1 Disjunction([Alternative([Loop { loopee: Capture(0, Disjunction([Alternative([Loop { loopee: Character(97), quant: Quantifier { min: 1, max: None, greedy: true }, enclosed_groups: 1..1 }])])), quant: Quantifier { min: 0, max: Some(1), greedy: true }, enclosed_groups: 0..1 }])])",
+            ),
+            (r"\*", "0 Disjunction([Alternative([Character(42)])])"),
+        ] {
+            let text = written(rt.alloc(), pattern)?;
+            assert_eq!(rt; text.as_str(), expected, "at {pattern}");
+        }
+        Ok(())
+    }
+
+    #[test]
+    fn refusals_have_their_text(rt: HostRuntime) {
+        for (pattern, text) in [
+            ("a**", "Nothing to repeat"),
+            ("*a", "Nothing to repeat"),
+            ("a*?", "Not in this stage"),
+            ("a{2}", "Not in this stage"),
+        ] {
+            let refused = written(rt.alloc(), pattern).err();
+            assert_eq!(rt; refused, Some(Error::Syntax { text }), "at {pattern}");
+        }
+    }
+
+    #[test]
+    fn quantifiers_are_at_most_65535(rt: HostRuntime) -> Result<(), Fail> {
+        let most = many_loops(rt.alloc(), 65535)?;
+        let (_, group_count) = parsed(rt.alloc(), most.as_slice())?;
+        assert_eq!(rt; group_count, 0);
+        let more = many_loops(rt.alloc(), 65536)?;
+        let refused = parsed(rt.alloc(), more.as_slice()).err();
+        assert_eq!(rt; refused, Some(Error::TooManyLoops));
+        Ok(())
+    }
+}
