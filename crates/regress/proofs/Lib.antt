@@ -2,6 +2,7 @@ pub mod TreeLaws
 pub mod MarkLemmas
 pub mod AnswerLemmas
 pub mod AtomLemmas
+pub mod QuantifierLemmas
 pub mod LoopLemmas
 pub mod StepLemmas
 pub mod TextLemmas

@@ -54,8 +54,8 @@ AreUnnamed-append [] ys x y = y
 AreUnnamed-append (name ∷ xs) ys x y = (x.0, AreUnnamed-append xs ys x.1 y)
 
 -- one tree read behind another
-grows-joined : (join : Pattern → Pattern → Pattern) → Joins join → {a b c d : Place} (p q : Pattern) → Grows a b p → c.nesting ≡ a.nesting → c.opened ≡ b.opened → Leads b c → Grows c d q → Grows a d (join p q)
-grows-joined join joins {a} {b} {c} {d} p q x level same leads y =
+grows-joined : (join : Pattern → Pattern → Pattern) → Joins join → {a b c d : Place} (p q : Pattern) → Grows a b p → c.nesting ≡ a.nesting → c.opened ≡ b.opened → c.repeated ≡ b.repeated → Leads b c → Grows c d q → Grows a d (join p q)
+grows-joined join joins {a} {b} {c} {d} p q x level same repeated leads y =
     let names = ap length (joins.names p q) ∙ length-append (names_of p) (names_of q) in
     let deep = joins.deep p q in
     let loops = joins.loops p q in
@@ -77,11 +77,12 @@ module _ (join : Pattern → Pattern → Pattern) where
     pub level : now.nesting ≡ here.nesting
     pub whole : read here.text here.opened ≡ option_map (with_before qs) (read now.text now.opened)
     pub grows : (there : Place) (p : Pattern) → Grows now there p → Grows here there (before join qs p)
+    pub loops : (p : Pattern) → now.repeated + quantifiers p ≡ here.repeated + quantifiers (before join qs p)
     pub leads : Leads here now
 
   pub loop_begins : (read : List ℕ → ℕ → Option Front) (here : Place) → LoopState read here here []
   unfolding before
-  loop_begins read here = record { level = refl; whole = same (read here.text here.opened); grows = λ there p g. g; leads = Leads_refl here }
+  loop_begins read here = record { level = refl; whole = same (read here.text here.opened); grows = λ there p g. g; loops = λ p. refl; leads = Leads_refl here }
     where
       same : (o : Option Front) → o ≡ option_map (with_before []) o
       same None = refl
@@ -92,7 +93,7 @@ module _ (join : Pattern → Pattern → Pattern) where
     pub loop-within : (read : List ℕ → ℕ → Option Front) {here now : Place} {qs : List Pattern} → LoopState read here now qs → Within here now (read here.text here.opened) (read now.text now.opened)
     loop-within read {here} {now} {qs} s = record { fronts = λ f e. found (read now.text now.opened) f (sym s.whole ∙ e); leads = s.leads }
       where
-        found : (o : Option Front) (f : Front) → option_map (with_before qs) o ≡ Some f → (g : Front) × (o ≡ Some g) × (now.nesting + depth g.tree ≤ here.nesting + depth f.tree) × (g.opened ≤ f.opened)
+        found : (o : Option Front) (f : Front) → option_map (with_before qs) o ≡ Some f → (g : Front) × (o ≡ Some g) × (now.nesting + depth g.tree ≤ here.nesting + depth f.tree) × (g.opened ≤ f.opened) × (now.repeated + quantifiers g.tree ≤ here.repeated + quantifiers f.tree)
         found None f e = absurd (cc)
         found (Some g) f e =
             let same : with_before qs g ≡ f = cc in
@@ -100,16 +101,19 @@ module _ (join : Pattern → Pattern → Pattern) where
             let opened : g.opened ≡ f.opened = ap (λ x. x.opened) same in
             let level = s.level in
             let deeper = deeper_before join joins qs g.tree in
-            (g, refl, omega arith, omega arith)
+            let loops = s.loops g.tree in
+            let counted : quantifiers (before join qs g.tree) ≡ quantifiers f.tree = ap (λ x. quantifiers x.tree) same in
+            (g, refl, omega arith, omega arith, omega arith)
 
     -- one more tree was read up to there, and the loop goes on behind it
     pub loop_goes_on : (read : List ℕ → ℕ → Option Front) {here now there next : Place} {qs : List Pattern} (q : Pattern) → LoopState read here now qs
         → Grows now there q → read now.text now.opened ≡ option_map (joined_by join (front_to there q)) (read next.text next.opened)
-        → next.nesting ≡ now.nesting → next.opened ≡ there.opened → Leads there next → LoopState read here next (qs ++ q ∷ [])
-    loop_goes_on read {here} {now} {there} {next} {qs} q s grows e level same leads = record {
+        → next.nesting ≡ now.nesting → next.opened ≡ there.opened → next.repeated ≡ there.repeated → Leads there next → LoopState read here next (qs ++ q ∷ [])
+    loop_goes_on read {here} {now} {there} {next} {qs} q s grows e level same repeated leads = record {
       level = level ∙ s.level;
       whole = s.whole ∙ ap (option_map (with_before qs)) e ∙ both (read next.text next.opened);
-      grows = λ place p more. rw (before-push join qs q p) (s.grows place (join q p) (grows-joined join joins q p grows level same leads more));
+      grows = λ place p more. rw (before-push join qs q p) (s.grows place (join q p) (grows-joined join joins q p grows level same repeated leads more));
+      loops = λ p. rw (before-push join qs q p) (let further = s.loops (join q p) in let both = joins.loops q p in let first = grows.loops in omega arith);
       leads = Leads_trans s.leads (Leads_trans grows.leads leads);
     }
       where

@@ -5,7 +5,7 @@ use Rattle.std.proofs.Common.{◌≡◌, ℕ, Bool, true, false, not, ◌||◌, 
 use Rattle.regress_meaning.specs.Text.{holds, ◌∈◌, is_at}
 use Rattle.regress_meaning.specs.Pattern.{character}
 use Rattle.regress_meaning.specs.Tokens.{Mode, escape_at, bounds_at}
-use Rattle.regress_meaning.specs.Reading.{single, group, uncaptured, opening, escape_opening, parenthesis_opening, question_opening}
+use Rattle.regress_meaning.specs.Reading.{single, group, uncaptured, no_term, opening, escape_opening, parenthesis_opening, question_opening}
 
 -- a fact of each
 abbrev pub Each : (ℕ → Type 0) → List ℕ → Type 0
@@ -62,6 +62,12 @@ module _ (m : Mode) where
       holds_none (codes "^$\\.*+?()[|{") c (e.0, (e.1.0, (b, (e.1.1.0, (e.1.1.1.0, (e.1.1.1.1.0, (e.1.1.1.1.1.0, (p, (bar.1.0, (e.1.1.1.1.1.1.0, (bar.0, (e.1.1.1.1.1.1.1.1.0, tt)))))))))))) in
       rw (differ_back 0x5E c e.0, differ_back 0x24 c e.1.0, backslash, differ_back 0x2E c e.1.1.0, differ_back 0x5B c e.1.1.1.1.1.1.0, parenthesis, all, fewer)
       (rw (both_branches m.unicode true) refl)
+
+  -- no term begins with a quantifier
+  pub repeating-opens : (c : ℕ) (t : List ℕ) → (c ∈ "*+?") ≡ true → opening m (c ∷ t) ≡ no_term
+  unfolding opening
+  repeating-opens c t h = holds_each (λ c. opening m (c ∷ t) ≡ no_term) (codes "*+?")
+      (rw (both_branches m.unicode false) refl, (rw (both_branches m.unicode false) refl, (rw (both_branches m.unicode false) refl, tt))) c h
 
   -- a backslash before a character of syntax makes it a character
   pub escape-opens : (d : ℕ) (t : List ℕ) → (d ∈ "^$\\.*+?()[]{}|/") ≡ true → opening m (0x5C ∷ d ∷ t) ≡ single (character d) t

@@ -6,7 +6,7 @@ use Rattle.regress_meaning.specs.Pattern.{Pattern, names_of, sequence, choice, c
 use Rattle.regress_meaning.specs.Flags.{Options}
 use Rattle.regress_meaning.specs.Tokens.{Mode, guard}
 use Rattle.regress_meaning.specs.Grammar.{Spells, mode_of, names_apart, share_a_name}
-use Rattle.regress_meaning.specs.Limits.{SpellsNone, depth}
+use Rattle.regress_meaning.specs.Limits.{SpellsNone, depth, quantifiers}
 use Rattle.regress_meaning.specs.Scan.{scanned_names}
 use Rattle.regress_meaning.specs.Reading.{Front, disjunction_at, whole_tree, read_pattern, ReadsBySteps}
 use Rattle.regress.specs.declared.front.error.Error.{Error}
@@ -90,7 +90,7 @@ module _ (table : Table) (o : Options) (text : List ℕ) (steps : (m : Mode) →
       let some : slice_get g.rest 0 ≡ Some c = rw (← same) left in
       cc
 
-  pub refused : (e : Error) → IsRefusal (at 0 0 text) (disjunction_at mode text 0) e → MayRefuse table o text e
+  pub refused : (e : Error) → IsRefusal (at 0 0 0 text) (disjunction_at mode text 0) e → MayRefuse table o text e
   refused (SyntaxError message) (inl none) = inl (λ p s. let (f, read, tree, rest) = front_of p s in cc)
   refused (SyntaxError message) (inr (same, beyond)) = inr (same, later o.icase beyond)
     where
@@ -105,7 +105,8 @@ module _ (table : Table) (o : Options) (text : List ℕ) (steps : (m : Mode) →
         let same : length (names_of f.tree) ≡ length (names_of p) = ap (λ q. length (names_of q)) tree in omega arith),
     (λ none. omega arith),
   )
-  refused TooManyLoops r = absurd r
+  refused TooManyLoops (fronts, counted) =
+      ((λ p s. let (f, read, tree, rest) = front_of p s in let many = fronts f read in let same : quantifiers f.tree ≡ quantifiers p = ap quantifiers tree in omega arith), (λ none. omega arith))
   refused TooLarge r = r
   refused OutOfMemory r = r
 

@@ -14,7 +14,7 @@ use Rattle.regress.proofs.AtomLemmas.{at, begins, wrapped-within, capture-read, 
 
 -- a front with nothing in it
 pub nothing-grows : (here : Place) → here.nesting ≤ greatest_depth → Grows here here nothing
-nothing-grows here shallow = record { unnamed = tt; counted = omega arith; deep = omega arith; loops = refl; leads = Leads_refl here }
+nothing-grows here shallow = record { unnamed = tt; counted = omega arith; deep = omega arith; loops = omega arith; leads = Leads_refl here }
 
 module _ (m : Mode) (steps : (t : List ℕ) (k : ℕ) → ReadsBySteps m t k) where
   module _ (now there : Place) (p : Pattern) (e : alternative_at m now.text now.opened ≡ Some (front_to there p)) where
@@ -29,21 +29,23 @@ module _ (m : Mode) (steps : (t : List ℕ) (k : ℕ) → ReadsBySteps m t k) wh
 
   -- a front joined with what is read behind it is no smaller than it
   joined-larger : (join : Pattern → Pattern → Pattern) → Joins join → (g : Front) (o : Option Front) (f : Front) → ((r : Front) → o ≡ Some r → g.opened ≤ r.opened)
-      → option_map (joined_by join g) o ≡ Some f → (depth g.tree ≤ depth f.tree) × (g.opened ≤ f.opened)
+      → option_map (joined_by join g) o ≡ Some f → (depth g.tree ≤ depth f.tree) × (g.opened ≤ f.opened) × (quantifiers g.tree ≤ quantifiers f.tree)
   joined-larger join joins g None f forward e = absurd (cc)
   joined-larger join joins g (Some r) f forward e =
       let same : joined_by join g r ≡ f = cc in
       let deep : depth (join g.tree r.tree) ≡ depth f.tree = ap (λ x. depth x.tree) same in
       let both = joins.deep g.tree r.tree in
+      let loops : quantifiers (join g.tree r.tree) ≡ quantifiers f.tree = ap (λ x. quantifiers x.tree) same in
+      let sum = joins.loops g.tree r.tree in
       let opened : r.opened ≡ f.opened = ap (λ x. x.opened) same in
       let further = forward r refl in
-      (omega arith, omega arith)
+      (omega arith, omega arith, omega arith)
 
-  alternatives-larger : (bar : Bool) (g f : Front) → alternatives_if bar (disjunction_at m) g ≡ Some f → (depth g.tree ≤ depth f.tree) × (g.opened ≤ f.opened)
+  alternatives-larger : (bar : Bool) (g f : Front) → alternatives_if bar (disjunction_at m) g ≡ Some f → (depth g.tree ≤ depth f.tree) × (g.opened ≤ f.opened) × (quantifiers g.tree ≤ quantifiers f.tree)
   unfolding alternatives_if
   alternatives-larger true g f e =
       joined-larger choice choice_joins g (disjunction_at m (drop 1 g.rest) g.opened) f (λ r h. let counted = ((steps (drop 1 g.rest) g.opened).disjunction_forward r h).0 in omega arith) e
-  alternatives-larger false g f e = let same : g ≡ f = cc in rw (← same) (omega arith, omega arith)
+  alternatives-larger false g f e = let same : g ≡ f = cc in rw (← same) (omega arith, omega arith, omega arith)
 
   -- what is read of a disjunction has its first alternative within
   pub arm-within : (now : Place) → Within now now (disjunction_at m now.text now.opened) (alternative_at m now.text now.opened)
@@ -51,9 +53,9 @@ module _ (m : Mode) (steps : (t : List ℕ) (k : ℕ) → ReadsBySteps m t k) wh
   arm-within now = record { fronts = λ f e. first (alternative_at m now.text now.opened) f (sym (steps now.text now.opened).disjunction ∙ e); leads = Leads_refl now }
     where
       first : (o : Option Front) (f : Front) → option_and_then (alternatives (disjunction_at m)) o ≡ Some f
-          → (g : Front) × (o ≡ Some g) × (now.nesting + depth g.tree ≤ now.nesting + depth f.tree) × (g.opened ≤ f.opened)
+          → (g : Front) × (o ≡ Some g) × (now.nesting + depth g.tree ≤ now.nesting + depth f.tree) × (g.opened ≤ f.opened) × (now.repeated + quantifiers g.tree ≤ now.repeated + quantifiers f.tree)
       first None f e = absurd (cc)
-      first (Some g) f e = let (deep, opened) = alternatives-larger (is_at (λ c. c == 0x7C) g.rest) g f e in (g, refl, omega arith, opened)
+      first (Some g) f e = let (deep, opened, loops) = alternatives-larger (is_at (λ c. c == 0x7C) g.rest) g f e in (g, refl, omega arith, opened, omega arith)
 
   -- what is read of an alternative that goes on has its first term within
   pub term-within : (now : Place) → ends_alternative now.text ≡ false → Within now now (alternative_at m now.text now.opened) (term_at m now.text now.opened)
@@ -61,11 +63,11 @@ module _ (m : Mode) (steps : (t : List ℕ) (k : ℕ) → ReadsBySteps m t k) wh
   term-within now goes_on = record { fronts = λ f e. first (term_at m now.text now.opened) f (sym ((steps now.text now.opened).alternative ∙ rw goes_on refl) ∙ e); leads = Leads_refl now }
     where
       first : (o : Option Front) (f : Front) → option_and_then (terms (alternative_at m)) o ≡ Some f
-          → (g : Front) × (o ≡ Some g) × (now.nesting + depth g.tree ≤ now.nesting + depth f.tree) × (g.opened ≤ f.opened)
+          → (g : Front) × (o ≡ Some g) × (now.nesting + depth g.tree ≤ now.nesting + depth f.tree) × (g.opened ≤ f.opened) × (now.repeated + quantifiers g.tree ≤ now.repeated + quantifiers f.tree)
       first None f e = absurd (cc)
       first (Some g) f e =
-          let (deep, opened) = joined-larger sequence sequence_joins g (alternative_at m g.rest g.opened) f (λ r h. let counted = ((steps g.rest g.opened).alternative_forward r h).0 in omega arith) e in
-          (g, refl, omega arith, opened)
+          let (deep, opened, loops) = joined-larger sequence sequence_joins g (alternative_at m g.rest g.opened) f (λ r h. let counted = ((steps g.rest g.opened).alternative_forward r h).0 in omega arith) e in
+          (g, refl, omega arith, opened, omega arith)
 
   module _ (now there : Place) (p : Pattern) (goes_on : ends_alternative now.text ≡ false) (e : term_at m now.text now.opened ≡ Some (front_to there p)) where
     pub term-goes_on : alternative_at m now.text now.opened ≡ option_map (joined_by sequence (front_to there p)) (alternative_at m there.text there.opened)
@@ -93,87 +95,88 @@ contents-within here o = record { fronts = λ f e. found o f e; leads = Leads_re
     kept true h f e = cc
     kept false h f e = absurd (cc)
 
-    found : (o : Option Front) (f : Front) → contents_of o ≡ Some f → (g : Front) × (o ≡ Some g) × (here.nesting + depth g.tree ≤ here.nesting + depth f.tree) × (g.opened ≤ f.opened)
+    found : (o : Option Front) (f : Front) → contents_of o ≡ Some f → (g : Front) × (o ≡ Some g) × (here.nesting + depth g.tree ≤ here.nesting + depth f.tree) × (g.opened ≤ f.opened) × (here.repeated + quantifiers g.tree ≤ here.repeated + quantifiers f.tree)
     found None f e = absurd (cc)
     found (Some g) f e =
         let same = kept (is_at (λ c. c == 0x29) g.rest) _ f e in
         let deep : depth g.tree ≡ depth f.tree = ap (λ x. depth x.tree) same in
         let opened : g.opened ≡ f.opened = ap (λ x. x.opened) same in
-        (g, refl, omega arith, omega arith)
+        let loops : quantifiers g.tree ≡ quantifiers f.tree = ap (λ x. quantifiers x.tree) same in
+        (g, refl, omega arith, omega arith, omega arith)
 
 -- behind a closing parenthesis
-pub closed-grows : (here there next : Place) (p : Pattern) → Grows here there p → is_at (λ c. c == 0x29) there.text ≡ true → next.nesting ≡ there.nesting → next.opened ≡ there.opened → next.text ≡ drop 1 there.text → Grows here next p
-closed-grows here there next p grows h nesting opened text =
-    let place : next ≡ at there.nesting there.opened (drop 1 there.text) = λ i. record { nesting = nesting i; opened = opened i; text = text i } in
+pub closed-grows : (here there next : Place) (p : Pattern) → Grows here there p → is_at (λ c. c == 0x29) there.text ≡ true → next.nesting ≡ there.nesting → next.opened ≡ there.opened → next.repeated ≡ there.repeated → next.text ≡ drop 1 there.text → Grows here next p
+closed-grows here there next p grows h nesting opened repeated text =
+    let place : next ≡ at there.nesting there.opened there.repeated (drop 1 there.text) = λ i. record { nesting = nesting i; opened = opened i; repeated = repeated i; text = text i } in
     let whole = begins 0x29 there.text h in
-    let leads = subst (λ t. Leads (at there.nesting there.opened t) (at there.nesting there.opened (drop 1 there.text))) (sym whole) (Leads_mark there.nesting there.opened 0x29 (drop 1 there.text) refl) in
+    let leads = subst (λ t. Leads (at there.nesting there.opened there.repeated t) (at there.nesting there.opened there.repeated (drop 1 there.text))) (sym whole) (Leads_mark there.nesting there.opened there.repeated 0x29 (drop 1 there.text) refl) in
     rw place (record { unnamed = grows.unnamed; counted = grows.counted; deep = grows.deep; loops = grows.loops; leads = Leads_trans grows.leads leads })
 
 -- a tree in parentheses, by its contents
-wrapped-answer : (m : Mode) (n k : ℕ) (t : List ℕ) (wrap : Pattern → Pattern) (inside end there : Place) (p q : Pattern)
+wrapped-answer : (m : Mode) (n k r : ℕ) (t : List ℕ) (wrap : Pattern → Pattern) (inside end there : Place) (p q : Pattern)
     → term_at m t k ≡ option_and_then (λ (f : Front). quantified true k (record { tree = wrap f.tree; opened = f.opened; rest = f.rest })) (contents_of (disjunction_at m inside.text inside.opened))
-    → contents_of (disjunction_at m inside.text inside.opened) ≡ Some (front_to end p) → Grows inside end p → inside.nesting ≡ suc n → end.nesting ≡ suc n
-    → inside.opened + length (names_of p) ≡ k + length (names_of (wrap p)) → depth (wrap p) ≡ depth p + 1 → quantifiers (wrap p) ≡ quantifiers p → (AreUnnamed (names_of p) → AreUnnamed (names_of (wrap p))) → Leads (at n k t) inside
-    → q ≡ wrap p → there.nesting ≡ n → there.opened ≡ end.opened → there.text ≡ end.text
-    → (term_at m t k ≡ quantified true k (front_to there q)) × Grows (at n k t) there q
-wrapped-answer m n k t wrap inside end there p q found e grows nesting deeper names deep loops unnamed leads same level count rest =
-    let place : there ≡ at n end.opened end.text = λ i. record { nesting = level i; opened = count i; text = rest i } in
+    → contents_of (disjunction_at m inside.text inside.opened) ≡ Some (front_to end p) → Grows inside end p → inside.nesting ≡ suc n → end.nesting ≡ suc n → inside.repeated ≡ r
+    → inside.opened + length (names_of p) ≡ k + length (names_of (wrap p)) → depth (wrap p) ≡ depth p + 1 → quantifiers (wrap p) ≡ quantifiers p → (AreUnnamed (names_of p) → AreUnnamed (names_of (wrap p))) → Leads (at n k r t) inside
+    → q ≡ wrap p → there.nesting ≡ n → there.opened ≡ end.opened → there.repeated ≡ end.repeated → there.text ≡ end.text
+    → (term_at m t k ≡ quantified true k (front_to there q)) × Grows (at n k r t) there q
+wrapped-answer m n k r t wrap inside end there p q found e grows nesting deeper before names deep loops unnamed leads same level count repeats rest =
+    let place : there ≡ at n end.opened end.repeated end.text = λ i. record { nesting = level i; opened = count i; repeated = repeats i; text = rest i } in
     let inner = Leads_trans leads grows.leads in
     let read = found ∙ ap (option_and_then (λ (f : Front). quantified true k (record { tree = wrap f.tree; opened = f.opened; rest = f.rest }))) e in
-    let grown : Grows (at n k t) (at n end.opened end.text) (wrap p) = record {
+    let grown : Grows (at n k r t) (at n end.opened end.repeated end.text) (wrap p) = record {
       unnamed = unnamed grows.unnamed;
       counted = (let counted = grows.counted in omega arith);
       deep = (let deeper = grows.deep in omega arith);
-      loops = loops ∙ grows.loops;
-      leads = record { nested = (let nested = inner.nested in omega arith); grouped = inner.grouped; staged = inner.staged };
+      loops = (let looped = grows.loops in omega arith);
+      leads = record { nested = (let nested = inner.nested in omega arith); grouped = inner.grouped; looped = inner.looped; staged = inner.staged };
     } in
     rw (place, same) (read, grown)
 
 -- a group and what it holds, at places given by their parts
-module _ (m : Mode) (n k : ℕ) (t : List ℕ) (h : is_at (λ c. c == 0x28) t ≡ true) where
-  module _ (plain : is_at (λ c. c == 0x3F) (drop 1 t) ≡ false) (inside : Place) (nesting : inside.nesting ≡ suc n) (opened : inside.opened ≡ suc k) (text : inside.text ≡ drop 1 t) where
-    inside_is : inside ≡ at (suc n) (suc k) (drop 1 t)
-    inside_is = λ i. record { nesting = nesting i; opened = opened i; text = text i }
+module _ (m : Mode) (n k r : ℕ) (t : List ℕ) (h : is_at (λ c. c == 0x28) t ≡ true) where
+  module _ (plain : is_at (λ c. c == 0x3F) (drop 1 t) ≡ false) (inside : Place) (nesting : inside.nesting ≡ suc n) (opened : inside.opened ≡ suc k) (repeated : inside.repeated ≡ r) (text : inside.text ≡ drop 1 t) where
+    inside_is : inside ≡ at (suc n) (suc k) r (drop 1 t)
+    inside_is = λ i. record { nesting = nesting i; opened = opened i; repeated = repeated i; text = text i }
 
-    pub capture-leads : Leads (at n k t) inside
-    capture-leads = rw inside_is (subst (λ t'. Leads (at n k t') (at (suc n) (suc k) (drop 1 t))) (sym (begins 0x28 t h)) (Leads_group n k (drop 1 t) plain))
+    pub capture-leads : Leads (at n k r t) inside
+    capture-leads = rw inside_is (subst (λ t'. Leads (at n k r t') (at (suc n) (suc k) r (drop 1 t))) (sym (begins 0x28 t h)) (Leads_group n k r (drop 1 t) plain))
 
     -- what is read of a group has its contents within
-    pub capture-within : Within (at n k t) inside (term_at m t k) (contents_of (disjunction_at m inside.text inside.opened))
-    capture-within = wrapped-within (at n k t) inside k (capture k None) (contents_of (disjunction_at m inside.text inside.opened)) (term_at m t k)
-        (ap (λ t. term_at m t k) (begins 0x28 t h) ∙ capture-read m (drop 1 t) k plain ∙ rw (text, opened) refl) nesting (λ p. refl) capture-leads
+    pub capture-within : Within (at n k r t) inside (term_at m t k) (contents_of (disjunction_at m inside.text inside.opened))
+    capture-within = wrapped-within (at n k r t) inside k (capture k None) (contents_of (disjunction_at m inside.text inside.opened)) (term_at m t k)
+        (ap (λ t. term_at m t k) (begins 0x28 t h) ∙ capture-read m (drop 1 t) k plain ∙ rw (text, opened) refl) nesting (λ p. refl) (λ p. refl) repeated capture-leads
 
     capture-found : term_at m t k ≡ option_and_then (λ (f : Front). quantified true k (record { tree = capture k None f.tree; opened = f.opened; rest = f.rest })) (contents_of (disjunction_at m inside.text inside.opened))
     capture-found = ap (λ t. term_at m t k) (begins 0x28 t h) ∙ capture-read m (drop 1 t) k plain ∙ rw (text, opened) refl
 
     pub capture-answer : (end there : Place) (p q : Pattern) → contents_of (disjunction_at m inside.text inside.opened) ≡ Some (front_to end p) → Grows inside end p → end.nesting ≡ suc n
-        → q ≡ capture k None p → there.nesting ≡ n → there.opened ≡ end.opened → there.text ≡ end.text
-        → (term_at m t k ≡ quantified true k (front_to there q)) × Grows (at n k t) there q
-    capture-answer end there p q e grows deeper same level count rest =
-        wrapped-answer m n k t (capture k None) inside end there p q capture-found e grows nesting deeper (omega arith) refl refl (λ none. (refl, none)) capture-leads same level count rest
+        → q ≡ capture k None p → there.nesting ≡ n → there.opened ≡ end.opened → there.repeated ≡ end.repeated → there.text ≡ end.text
+        → (term_at m t k ≡ quantified true k (front_to there q)) × Grows (at n k r t) there q
+    capture-answer end there p q e grows deeper same level count repeats rest =
+        wrapped-answer m n k r t (capture k None) inside end there p q capture-found e grows nesting deeper repeated (omega arith) refl refl (λ none. (refl, none)) capture-leads same level count repeats rest
 
   module _ (special : is_at (λ c. c == 0x3F) (drop 1 t) ≡ true) (colon : is_at (λ c. c == 0x3A) (drop 1 (drop 1 t)) ≡ true)
-      (inside : Place) (nesting : inside.nesting ≡ suc n) (opened : inside.opened ≡ k) (text : inside.text ≡ drop 1 (drop 1 (drop 1 t))) where
+      (inside : Place) (nesting : inside.nesting ≡ suc n) (opened : inside.opened ≡ k) (repeated : inside.repeated ≡ r) (text : inside.text ≡ drop 1 (drop 1 (drop 1 t))) where
     front_is : t ≡ 0x28 ∷ 0x3F ∷ 0x3A ∷ drop 1 (drop 1 (drop 1 t))
     front_is = begins 0x28 t h ∙ ap (λ u. 0x28 ∷ u) (begins 0x3F (drop 1 t) special) ∙ ap (λ u. 0x28 ∷ 0x3F ∷ u) (begins 0x3A (drop 1 (drop 1 t)) colon)
 
-    inside_uncaptured : inside ≡ at (suc n) k (drop 1 (drop 1 (drop 1 t)))
-    inside_uncaptured = λ i. record { nesting = nesting i; opened = opened i; text = text i }
+    inside_uncaptured : inside ≡ at (suc n) k r (drop 1 (drop 1 (drop 1 t)))
+    inside_uncaptured = λ i. record { nesting = nesting i; opened = opened i; repeated = repeated i; text = text i }
 
-    uncaptured-leads : Leads (at n k t) inside
-    uncaptured-leads = rw inside_uncaptured (subst (λ t'. Leads (at n k t') (at (suc n) k (drop 1 (drop 1 (drop 1 t))))) (sym front_is) (Leads_uncaptured n k (drop 1 (drop 1 (drop 1 t)))))
+    uncaptured-leads : Leads (at n k r t) inside
+    uncaptured-leads = rw inside_uncaptured (subst (λ t'. Leads (at n k r t') (at (suc n) k r (drop 1 (drop 1 (drop 1 t))))) (sym front_is) (Leads_uncaptured n k r (drop 1 (drop 1 (drop 1 t)))))
 
     uncaptured-found : term_at m t k ≡ option_and_then (λ (f : Front). quantified true k (record { tree = grouped f.tree; opened = f.opened; rest = f.rest })) (contents_of (disjunction_at m inside.text inside.opened))
     uncaptured-found = ap (λ t. term_at m t k) front_is ∙ uncaptured-read m (drop 1 (drop 1 (drop 1 t))) k ∙ rw (text, opened) refl
 
-    pub uncaptured-within : Within (at n k t) inside (term_at m t k) (contents_of (disjunction_at m inside.text inside.opened))
-    uncaptured-within = wrapped-within (at n k t) inside k grouped (contents_of (disjunction_at m inside.text inside.opened)) (term_at m t k) uncaptured-found nesting (λ p. refl) uncaptured-leads
+    pub uncaptured-within : Within (at n k r t) inside (term_at m t k) (contents_of (disjunction_at m inside.text inside.opened))
+    uncaptured-within = wrapped-within (at n k r t) inside k grouped (contents_of (disjunction_at m inside.text inside.opened)) (term_at m t k) uncaptured-found nesting (λ p. refl) (λ p. refl) repeated uncaptured-leads
 
     pub uncaptured-answer : (end there : Place) (p q : Pattern) → contents_of (disjunction_at m inside.text inside.opened) ≡ Some (front_to end p) → Grows inside end p → end.nesting ≡ suc n
-        → q ≡ grouped p → there.nesting ≡ n → there.opened ≡ end.opened → there.text ≡ end.text
-        → (term_at m t k ≡ quantified true k (front_to there q)) × Grows (at n k t) there q
-    uncaptured-answer end there p q e grows deeper same level count rest =
-        wrapped-answer m n k t grouped inside end there p q uncaptured-found e grows nesting deeper (omega arith) refl refl (λ none. none) uncaptured-leads same level count rest
+        → q ≡ grouped p → there.nesting ≡ n → there.opened ≡ end.opened → there.repeated ≡ end.repeated → there.text ≡ end.text
+        → (term_at m t k ≡ quantified true k (front_to there q)) × Grows (at n k r t) there q
+    uncaptured-answer end there p q e grows deeper same level count repeats rest =
+        wrapped-answer m n k r t grouped inside end there p q uncaptured-found e grows nesting deeper repeated (omega arith) refl refl (λ none. none) uncaptured-leads same level count repeats rest
 
 -- what is read up to a closing parenthesis opens as many groups
 pub contents-opened : (k : ℕ) (o : Option Front) → ((f : Front) → o ≡ Some f → k ≤ f.opened) → (f : Front) → contents_of o ≡ Some f → k ≤ f.opened
@@ -202,5 +205,5 @@ peek-ends (c ∷ t) e = go (ends_alternative (c ∷ t)) e
     go false e = absurd (cc)
 
 -- behind a bar
-pub bar-leads : (n k : ℕ) (t : List ℕ) → is_at (λ c. c == 0x7C) t ≡ true → Leads (at n k t) (at n k (drop 1 t))
-bar-leads n k t h = subst (λ u. Leads (at n k u) (at n k (drop 1 t))) (sym (begins 0x7C t h)) (Leads_mark n k 0x7C (drop 1 t) refl)
+pub bar-leads : (n k r : ℕ) (t : List ℕ) → is_at (λ c. c == 0x7C) t ≡ true → Leads (at n k r t) (at n k r (drop 1 t))
+bar-leads n k r t h = subst (λ u. Leads (at n k r u) (at n k r (drop 1 t))) (sym (begins 0x7C t h)) (Leads_mark n k r 0x7C (drop 1 t) refl)

@@ -1,5 +1,6 @@
 pub mod Trees
 pub mod Stage
+pub mod Quantifiers
 pub mod Parsing
 pub mod Views
 pub mod FlagWords

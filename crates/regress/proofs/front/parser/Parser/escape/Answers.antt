@@ -18,6 +18,6 @@ returns-then-not-is_one_of-clause-answer c = λ nesting shallow m.
 
 pub returns-clause-answer : goal.returns-clause-answer
 returns-clause-answer c = λ nesting shallow m.
-    escape-answer m nesting c.args.self.now.groups (unread c.args.self.now) c.in-Some.point _ (place nesting c.bump-2.new.self) shallow c.requires
+    escape-answer m nesting c.args.self.now.groups c.args.self.now.loops (unread c.args.self.now) c.in-Some.point _ (place nesting c.bump-2.new.self) shallow c.requires
     (ap (λ t. slice_get t 0) (sym c.bump.ensures.read) ∙ sym c.peek.ensures ∙ c.in-Some.is) (sym c.is_one_of.ensures ∙ c.if-not-is_one_of.false)
-    (tree-Character c.in-Some.point) refl (c.bump-2.ensures.kept.1 ∙ c.bump.ensures.kept.1) (c.bump-2.ensures.read ∙ ap (drop 1) c.bump.ensures.read)
+    (tree-Character c.in-Some.point) refl (c.bump-2.ensures.kept.1 ∙ c.bump.ensures.kept.1) (c.bump-2.ensures.kept.2 ∙ c.bump.ensures.kept.2) (c.bump-2.ensures.read ∙ ap (drop 1) c.bump.ensures.read)

@@ -16,7 +16,7 @@ pub returns-in_err-syntax-clause-refused : goal.returns-in_err-syntax-clause-ref
 returns-in_err-syntax-clause-refused c =
     let p = err_from_is_err_and c.from_residual.result c.from_residual.ensures.1 in
     let points = c.args.self.points.now in
-    let start : place 0 c.args.self ≡ at 0 0 points = λ i. record { nesting = 0; opened = c.requires.1 i; text = drop (c.requires.0 i) points } in
+    let start : place 0 c.args.self ≡ at 0 0 0 points = λ i. record { nesting = 0; opened = c.requires.1 i; repeated = c.requires.2 i; text = drop (c.requires.0 i) points } in
     rw (p.1, p.2) (λ table o.
     let steps = c.reading_goes_by_steps.ensures in
     let decides = c.reading_decides_the_grammar.ensures table o points in
@@ -28,7 +28,7 @@ returns-in_err-syntax-clause-refused c =
 pub returns-then-is_some-clause-refused : goal.returns-then-is_some-clause-refused
 returns-then-is_some-clause-refused c = λ table o.
     let points = c.args.self.points.now in
-    let start : place 0 c.args.self ≡ at 0 0 points = λ i. record { nesting = 0; opened = c.requires.1 i; text = drop (c.requires.0 i) points } in
+    let start : place 0 c.args.self ≡ at 0 0 0 points = λ i. record { nesting = 0; opened = c.requires.1 i; repeated = c.requires.2 i; text = drop (c.requires.0 i) points } in
     let steps = c.reading_goes_by_steps.ensures in
     let decides = c.reading_decides_the_grammar.ensures table o points in
     let m = mode table o points steps decides in
@@ -50,7 +50,7 @@ pub returns-clause-accepted : goal.returns-clause-accepted
 returns-clause-accepted c =
     let p = tree c.in_ok-syntax.syntax in
     let points = c.args.self.points.now in
-    let start : place 0 c.args.self ≡ at 0 0 points = λ i. record { nesting = 0; opened = c.requires.1 i; text = drop (c.requires.0 i) points } in
+    let start : place 0 c.args.self ≡ at 0 0 0 points = λ i. record { nesting = 0; opened = c.requires.1 i; repeated = c.requires.2 i; text = drop (c.requires.0 i) points } in
     let end = place 0 c.disjunction.new.self in
     let none = empty-text (unread c.disjunction.new.self) (sym c.peek.ensures ∙ found-none c.peek.result (sym c.is_some.ensures ∙ c.if-is_some.false)) in
     let grows = subst (λ (here : Place). Grows here end p) start (c.in_ok-syntax.ensures.answer any_mode any_mode-coherent).1 in
@@ -61,6 +61,6 @@ returns-clause-accepted c =
     let read = subst (λ (here : Place). disjunction_at m here.text here.opened ≡ Some (front_to end p)) start (c.in_ok-syntax.ensures.answer m (mode_coherent table o points steps decides)).0 in
     accepted table o points steps decides p c.disjunction.new.self.groups (rw none at read) grows.unnamed in (
       spelled,
-      record { deep = omega (arith, grows.deep); groups = omega (arith, grows.counted, c.disjunction.new.self.few); loops = omega (arith, grows.loops) },
+      record { deep = omega (arith, grows.deep); groups = omega (arith, grows.counted, c.disjunction.new.self.few); loops = omega (arith, grows.loops, c.disjunction.new.self.few_loops) },
       c.from.ensures ∙ grows.counted ∙ zero-add (length (names_of p)),
     )
