@@ -147,7 +147,7 @@ fn what_is_no_pattern_is_refused(rt: HostRuntime) -> Result<(), Fail> {
 
 #[test]
 fn what_is_not_read_yet_is_refused(rt: HostRuntime) -> Result<(), Fail> {
-    for pattern in ["a*", ".", "[a]", "^", r"\d", "(?=a)"] {
+    for pattern in ["a*?", "a{2}", ".", "[a]", "^", r"\d", "(?=a)"] {
         assert_eq!(rt;
             refusal(rt.alloc(), pattern, "")?,
             Some(NOT_IN_STAGE),
