@@ -9,3 +9,6 @@ pub mod TextViews
 pub mod StateViews
 pub mod Refusing
 pub mod Standing
+pub mod Iterating
+pub mod Coming
+pub mod GroupViews
