@@ -1,6 +1,6 @@
 //! The matches of a pattern in a text, one after another.
-ghost use Rattle.std.specs.Prelude.{◌≡◌, ◌<◌, ◌≤◌, ℕ, List, Option, None, length, chars, IfOk, IfSome, OnErr, IsOkUnless};
-ghost use Rattle.std.specs.Str.{IsUtf8};
+ghost use Rattle.std.specs.Prelude.{◌≡◌, ◌<◌, ◌≤◌, ℕ, List, Option, None, true, chars, encode_utf8_all, IfOk, IfSome, OnErr, IsOkUnless};
+ghost use Rattle.std.specs.Str.{all_scalars};
 ghost use Rattle.std.specs.Iterator.{at_most};
 ghost use Rattle.regress_meaning.specs.Matches.{Item, next_place};
 ghost use Rattle.regress.specs.declared.engine.found.Match.{Match};
@@ -82,28 +82,22 @@ impl<P: MatchProducer> Iterator for Successive<P> {
     }
 }
 
-/// Finds matches by the evaluator. A position is a place, counted in code points.
+/// Finds matches in a text by the evaluator. A position is a place, counted in code points.
 #[derive(Drop)]
-pub(crate) struct Search<'r, 't> {
+pub(crate) struct Search<'r> {
     pub(crate) regex: &'r Regex<'r>,
-    pub(crate) source: &'t str,
-    text: Text,
-    ghost read: { text.points.items ≡ chars source.now },
-    ghost spelled: { ∥ IsUtf8 source.now ∥₁ },
+    pub(crate) text: Text,
+    ghost characters: { all_scalars text.points.items ≡ true },
 }
 
-impl<'r, 't> Search<'r, 't> {
+impl<'r> Search<'r> {
     /// The search for a pattern in a text. Fails only where memory is refused.
-    fn new(regex: &'r Regex<'r>, source: &'t str) -> Result<Self, Error>
-        ensures { IfOk result (λ s. (s.regex.now ≡ regex.now) × (s.source.now ≡ source.now)) }
+    fn new(regex: &'r Regex<'r>, source: &str) -> Result<Self, Error>
+        ensures over { IfOk result (λ s. (s.regex.now ≡ regex.now) × (s.text.points.items ≡ chars source.now)) }
         ensures refused { IsOkUnless result Error.OutOfMemory }
     {
         let text = Text::new(regex.alloc, source)?;
-        Ok(Search {
-            regex,
-            source,
-            text,
-        })
+        Ok(Search { regex, text })
     }
 }
 
@@ -124,7 +118,7 @@ fn place_after(found: &Match, last: usize) -> Option<usize>
     None
 }
 
-impl<'r, 't> MatchProducer for Search<'r, 't> {
+impl<'r> MatchProducer for Search<'r> {
     ghost use Rattle.regress.specs.Coming.{items_from, places_behind, StartsAt, LiesBetween};
 
     type Position = usize;
@@ -135,7 +129,7 @@ impl<'r, 't> MatchProducer for Search<'r, 't> {
 
     ghost starts_at = { StartsAt };
 
-    ghost is_inside = { λ s m. LiesBetween s.source.now m };
+    ghost is_inside = { λ s m. LiesBetween (encode_utf8_all s.text.points.items) m };
 
     fn initial_position(&self, offset: usize) -> Option<usize> {
         regress_meaning::offsets_rise();
@@ -161,12 +155,14 @@ impl<'r, 't> MatchProducer for Search<'r, 't> {
 /// `Regex::find_from`.
 #[derive(Drop)]
 pub struct Matches<'r, 't> {
-    pub(crate) inner: Successive<Search<'r, 't>>,
+    pub(crate) inner: Successive<Search<'r>>,
+    pub(crate) source: &'t str,
+    ghost read: { inner.producer.text.points.items ≡ chars source.now },
+    ghost spelled: { encode_utf8_all inner.producer.text.points.items ≡ source.now },
 }
 
 impl<'r, 't> Matches<'r, 't> {
-    ghost use Rattle.regress_meaning.specs.Offsets.{of_utf8, Begins};
-    ghost use Rattle.regress.specs.Coming.{items_from, StartsAt, searched, coming};
+    ghost use Rattle.regress.specs.Coming.{StartsAt, searched};
 
     /// The matches of a pattern in a text, from an offset in bytes on.
     pub(crate) fn new(
@@ -179,9 +175,8 @@ impl<'r, 't> Matches<'r, 't> {
         ensures refused { IsOkUnless result Error.OutOfMemory }
     {
         let search = Search::new(regex, source)?;
-        Ok(Matches {
-            inner: Successive::new(search, start),
-        })
+        let inner = Successive::new(search, start);
+        Ok(Matches { inner, source })
     }
 }
 
