@@ -7,4 +7,5 @@ pub mod StepLemmas
 pub mod TextLemmas
 pub mod ToldLemmas
 pub mod EvaluatorLemmas
+pub mod IterationLemmas
 pub mod PatternLemmas
