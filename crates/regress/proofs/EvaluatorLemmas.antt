@@ -6,14 +6,13 @@ use Rattle.std.specs.Prelude.{slice_get}
 use Rattle.std.specs.List.{flat_map, list_all}
 use Rattle.std.proofs.lemmas.List.{append-nil, drop_more, take_more, map_more, map_push, take_more_set, take_all, drop_all, length-drop, drop-set-lt}
 use Rattle.std.proofs.lemmas.List.Concat.{flat_map-append}
-use Rattle.std.proofs.lemmas.List.Elements.{All-head, All-tail, All-weaker, All-same, All-replicate}
+use Rattle.std.proofs.lemmas.List.Elements.{All-head, All-tail, All-same, All-replicate}
 use Rattle.std.proofs.lemmas.Bool.{cases_lt, le-leb, eq-eqb, ne_eqb, leb-true, false_from_ne_true}
 use Rattle.regress_meaning.specs.Pattern.{Pattern, Settings, names_of, nothing, character, sequence, capture, grouped}
 use Rattle.regress_meaning.specs.Meaning.{State, Outcomes, Context, Forward, captured, same, beside, step, outcomes}
 use Rattle.regress_meaning.specs.Table.{Table}
 use Rattle.regress_meaning.specs.Flags.{Options, is_unicode, first_settings}
 use Rattle.regress_meaning.specs.Matches.{Item, item_at, first_from, attempt, first_match, list_from, match_list, next_place}
-use Rattle.regress_meaning.proofs.OutcomeLemmas.{Leads, Goes-outcomes}
 use Rattle.regress.specs.declared.engine.evaluator.State as evaluator
 use Rattle.regress.specs.StateViews.{state_of, forward, AreOutcomes, IsItemInside}
 use Rattle.regress_meaning.specs.Laws.{LiesIn, IsInside}
@@ -110,11 +109,10 @@ module _ (context : Context) (e : Settings) where
   leads-character_past c s past = rw (beside_past s.place past) refl
 
   -- what a capture leads to: the places never fall, so that its range goes from the first place to the second
-  pub leads-capture : (k : ℕ) (p : Pattern) (s : State) → leads (capture k None p) s ≡ map (takes k s.place) (leads p s)
+  pub leads-capture : (k : ℕ) (p : Pattern) (s : State) → All (λ t. s.place ≤ t.place) (leads p s)
+      → leads (capture k None p) s ≡ map (takes k s.place) (leads p s)
   unfolding outcomes
-  leads-capture k p s =
-      takes_ahead context k s.place (leads p s)
-      (All-weaker (Leads context.text Forward s) (λ t. s.place ≤ t.place) (λ t l. l.ahead) _ (Goes-outcomes context p Forward e s))
+  leads-capture k p s ahead = takes_ahead context k s.place (leads p s) ahead
 
 -- what is answered leads on where it is known
 pub AreOutcomes-from_known : (text : List ℕ) (p : Pattern) (s : State) (r : Result (Vec evaluator.State Global) AllocError) (known : List State)
@@ -246,14 +244,19 @@ no_settings = record { icase = false; multiline = false; dot_all = false }
 -- the first outcome from a place in the text, with no group set, is a match inside
 pub IsItemInside-first : (text : List ℕ) (p : Pattern) (q n : ℕ) (gs : List (Option (ℕ × ℕ))) (t : State) (ts : List State) → q ≤ length text
     → gs ≡ replicate n None → AreOutcomes text p (record { place = q; groups = gs }) (t ∷ ts)
+    → ((context : Context) → (e : Settings) → (s : State) → All (λ u. s.place ≤ u.place) (outcomes context p Forward e s))
+    → ((context : Context) → (e : Settings) → (s : State) → IsInside context.text s
+    → All (λ u. IsInside context.text u × (length u.groups ≡ length s.groups)) (outcomes context p Forward e s))
     → IsItemInside text (record { start = q; end = t.place; groups = t.groups })
 unfolding no_settings
-IsItemInside-first text p q n gs t ts within unset led =
+IsItemInside-first text p q n gs t ts within unset led goes stays =
     let context : Context = record { text = text; table = no_table; unicode = false } in
     let s : State = record { place = q; groups = gs } in
-    let to : State → Type 0 = Leads text Forward s in
-    let first : Leads text Forward s t =
-    All-head to t ts (All-same to (t ∷ ts) (leads context no_settings p s) (led no_table false no_settings refl) (Goes-outcomes context p Forward no_settings s)) in
     let lies : Option (ℕ × ℕ) → Type 0 = λ g. IfSome g (LiesIn (length text)) in
-    let inside : IsInside text t = first.inside (record { place = within; groups = All-same lies gs (replicate n None) unset (All-replicate lies n None tt) }) in
-    record { range = (first.ahead, inside.place); groups = inside.groups }
+    let begins : IsInside text s = record { place = within; groups = All-same lies gs (replicate n None) unset (All-replicate lies n None tt) } in
+    let same : (t ∷ ts) ≡ leads context no_settings p s = led no_table false no_settings refl in
+    let ahead : s.place ≤ t.place =
+    All-head (λ u. s.place ≤ u.place) t ts (All-same (λ u. s.place ≤ u.place) (t ∷ ts) _ same (goes context no_settings s)) in
+    let inside = All-head (λ u. IsInside text u × (length u.groups ≡ length s.groups)) t ts
+    (All-same (λ u. IsInside text u × (length u.groups ≡ length s.groups)) (t ∷ ts) _ same (stays context no_settings s begins)) in
+    record { range = (ahead, inside.0.place); groups = inside.0.groups }

@@ -8,12 +8,7 @@ use Rattle.std.proofs.lemmas.List.Elements.{All-nil, All-cons, All-head, All-tai
 use Rattle.regress_meaning.specs.Class.{Strings, longest}
 use Rattle.regress_meaning.specs.Pattern.{Pattern, Settings, nothing, character, any, class, class_escape, sequence, choice, capture, grouped, modified, repeated, look, reference, line_start, line_end, word_boundary}
 use Rattle.regress_meaning.specs.Meaning.{State, Direction, Forward, Backward, Outcomes, Context, beside, stepped, step, string_steps, class_steps, clear_from, cleared, moved, iterations, looked, captured, repeat_group, references, keep_if, in_order, then_go, outcomes}
-use Rattle.regress_meaning.specs.Laws.{LiesIn, IsInside}
-
--- the second place is the first, or on the side that is read next
-abbrev pub IsAhead : Direction → ℕ → ℕ → Type 0
-IsAhead Forward p q = p ≤ q
-IsAhead Backward p q = q ≤ p
+use Rattle.regress_meaning.specs.Laws.{IsAhead, LiesIn, IsInside}
 
 IsAhead-same : (dir : Direction) (p : ℕ) → IsAhead dir p p
 IsAhead-same Forward p = omega arith
@@ -241,3 +236,7 @@ module _ (context : Context) where
   outcomes_inside p dir e s h =
       All-weaker (To dir s) (λ t. IsInside context.text t × (length t.groups ≡ length s.groups))
       (λ t l. (l.inside h, l.count)) _ (Goes-outcomes p dir e s)
+
+  pub outcomes_ahead : (p : Pattern) (dir : Direction) (e : Settings) (s : State) → All (λ t. IsAhead dir s.place t.place) (outcomes context p dir e s)
+  outcomes_ahead p dir e s =
+      All-weaker (To dir s) (λ t. IsAhead dir s.place t.place) (λ t l. l.ahead) _ (Goes-outcomes p dir e s)

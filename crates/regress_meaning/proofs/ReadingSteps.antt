@@ -121,4 +121,5 @@ module _ (m : Mode) (coherent : m.sets ≡ true → m.unicode ≡ true) where
     alternative = alternative-step t k;
     disjunction_forward = disjunction-forward t k;
     alternative_forward = alternative-forward t k;
-    term_forward = term-forward t k }
+    term_forward = term-forward t k;
+  }

@@ -1,6 +1,6 @@
 -- Words for the laws of these definitions.
 use Rattle.std.specs.Prelude.{ℕ, ◌<◌, ◌≤◌, List, [], ◌∷◌, ◌++◌, length, codes, All, IfSome}
-use Rattle.regress_meaning.specs.Meaning.{State}
+use Rattle.regress_meaning.specs.Meaning.{State, Direction, Forward, Backward}
 use Rattle.regress_meaning.specs.Matches.{Item}
 use Rattle.regress_meaning.specs.Offsets.{Reading, offset}
 
@@ -12,6 +12,11 @@ LiesIn n range = (range.0 ≤ range.1) × (range.1 ≤ n)
 pub record IsInside (text : List ℕ) (s : State) : Type 0 where
   pub place : s.place ≤ length text
   pub groups : All (λ g. IfSome g (LiesIn (length text))) s.groups
+
+-- the second place is the first, or on the side that is read next
+abbrev pub IsAhead : Direction → ℕ → ℕ → Type 0
+IsAhead Forward p q = p ≤ q
+IsAhead Backward p q = q ≤ p
 
 -- Starts strictly increase, and each is at least the end before it.
 abbrev pub ItemsRise : List Item → Type 0

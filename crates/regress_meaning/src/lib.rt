@@ -16,7 +16,7 @@ ghost use Rattle.regress_meaning.specs.Numbering.{IsNumbered};
 ghost use Rattle.regress_meaning.specs.Meaning.{State, Direction, Context, outcomes};
 ghost use Rattle.regress_meaning.specs.Matches.{Item, first_match, match_list, next_place};
 ghost use Rattle.regress_meaning.specs.Offsets.{of_utf8, of_ascii, of_utf16, of_ucs2};
-ghost use Rattle.regress_meaning.specs.Laws.{IsInside, ItemsRise, OffsetsRise, in_group};
+ghost use Rattle.regress_meaning.specs.Laws.{IsInside, IsAhead, ItemsRise, OffsetsRise, in_group};
 
 /// The closure of a closed set is that set, whatever the canon.
 pub fn closure_is_idempotent()
@@ -56,6 +56,11 @@ pub fn spells_one_tree()
 /// From a state inside the text each outcome is inside it, and has as many groups.
 pub fn outcomes_stay_inside()
     ensures { (context : Context) → (p : Pattern) → (dir : Direction) → (e : Settings) → (s : State) → IsInside context.text s → All (λ t. IsInside context.text t × (length t.groups ≡ length s.groups)) (outcomes context p dir e s) }
+{}
+
+/// No outcome lies behind the state that it comes from, in the direction in which the text is read.
+pub fn outcomes_go_ahead()
+    ensures { (context : Context) → (p : Pattern) → (dir : Direction) → (e : Settings) → (s : State) → All (λ t. IsAhead dir s.place t.place) (outcomes context p dir e s) }
 {}
 
 /// In a match list starts strictly increase, and each is at least the end before it.

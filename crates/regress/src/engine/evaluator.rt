@@ -138,6 +138,7 @@ impl<'s> Evaluator<'s> {
         ensures { IfOk result (λ states. AreOutcomes self.now.points.now (capture group None (tree contents.now))
             (state_of state.now) (map state_of states.items)) }
     {
+        regress_meaning::outcomes_go_ahead();
         let mut states = self.outcomes(contents, state)?;
         for found in states.iter_mut() {
             found.capture(group, state.place);
@@ -158,6 +159,8 @@ impl<'s> Evaluator<'s> {
         ensures inside { place ≤ length self.now.points.now →
             IfOk result (λ found. IfSome found (λ m. IsItemInside self.now.points.now (item_of m))) }
     {
+        regress_meaning::outcomes_go_ahead();
+        regress_meaning::outcomes_stay_inside();
         let groups = vec![in self.alloc; None; group_count]?;
         let states = self.outcomes(syntax, &State { place, groups })?;
         let Some(state) = states.into_iter().next() else {

@@ -1,6 +1,5 @@
 use Rattle.regress_meaning.proofs.TableLemmas.{closure-idempotent}
 use Rattle.regress_meaning.proofs.closure_is_idempotent.Goals as goal
 
--- src/lib.rt:19:1
 pub returns : goal.returns
 returns c = closure-idempotent

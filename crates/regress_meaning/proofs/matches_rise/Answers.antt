@@ -1,6 +1,5 @@
 use Rattle.regress_meaning.proofs.MatchLemmas.{matches_rise}
 use Rattle.regress_meaning.proofs.matches_rise.Goals as goal
 
--- src/lib.rt:49:1
 pub returns : goal.returns
 returns c = matches_rise

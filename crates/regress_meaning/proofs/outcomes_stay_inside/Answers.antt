@@ -1,6 +1,5 @@
 use Rattle.regress_meaning.proofs.OutcomeLemmas.{outcomes_inside}
 use Rattle.regress_meaning.proofs.outcomes_stay_inside.Goals as goal
 
--- src/lib.rt:43:1
 pub returns : goal.returns
 returns c = outcomes_inside

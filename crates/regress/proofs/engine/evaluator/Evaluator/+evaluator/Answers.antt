@@ -2,7 +2,7 @@ use Rattle.std.proofs.Common.{◌≡◌, ◌+◌, [], length, map, drop, sym, ap
 use Rattle.std.specs.List.{flat_map}
 use Rattle.std.proofs.lemmas.Bool.{eqb-true, eqb-false}
 use Rattle.std.proofs.lemmas.List.{take_all, drop_all, map-append, nil_from_length}
-use Rattle.regress_meaning.specs.Meaning.{Context, outcomes}
+use Rattle.regress_meaning.specs.Meaning.{Context, Forward, outcomes}
 use Rattle.regress.specs.Trees.{tree, sequence_of, choice_of}
 use Rattle.regress.specs.StateViews.{state_of}
 use Rattle.regress.proofs.EvaluatorLemmas.{leads, takes, leads-nothing, flat_map-nothing, leads-capture, arms_more, arms_all, terms_more, takes_more, takes_all, AreOutcomes-from_known}
@@ -83,4 +83,5 @@ outcomes_of_capture-returns t c = λ table unicode e off.
     (omega arith) (c.loop-found.auto.found-items ∙ ap length c.deref_mut-found-items.ensures.value) c.in_ok-states.states.ok.0
     (rw c.deref_mut-found-items.ensures.value at c.loop-found.invariant.0)
     ∙ ap (map (takes c.args.group c.args.state.now.place)) (c.in_ok-states.ensures table unicode e off)
-    ∙ sym (leads-capture context e c.args.group (tree c.args.contents.now) (state_of c.args.state.now))
+    ∙ sym (leads-capture context e c.args.group (tree c.args.contents.now) (state_of c.args.state.now)
+    (c.outcomes_go_ahead.ensures context (tree c.args.contents.now) Forward e (state_of c.args.state.now)))

@@ -2,6 +2,7 @@ use Rattle.std.proofs.Common.{◌≡◌, ◌<◌, ℕ, [], None, length, map, op
 use Rattle.std.proofs.lemmas.Bool.{false≢true}
 use Rattle.std.proofs.lemmas.List.{nil_from_length}
 use Rattle.regress_meaning.specs.Pattern.{names_of}
+use Rattle.regress_meaning.specs.Meaning.{Forward}
 use Rattle.regress_meaning.specs.Flags.{is_unicode, first_settings}
 use Rattle.regress.specs.Trees.{tree}
 use Rattle.regress.specs.Views.{ends}
@@ -36,3 +37,5 @@ returns-clause-inside c = λ within.
     let first = ap (map state_of) (sym c.in-Some.ensures.items ∙ c.into_iter.ensures.rest) in
     IsItemInside-first c.args.self.now.points.now (tree c.args.syntax.now) c.args.place c.args.group_count _ (state_of c.in-Some.state) _ within unset
     (λ table unicode e off. first ∙ c.in_ok-states.ensures table unicode e off)
+    (λ context e s. c.outcomes_go_ahead.ensures context (tree c.args.syntax.now) Forward e s)
+    (λ context e s. c.outcomes_stay_inside.ensures context (tree c.args.syntax.now) Forward e s)
