@@ -2,7 +2,6 @@
 use Rattle.std.proofs.Common.{◌≡◌, ℕ, zero, suc, ◌+◌, ◌-◌, ◌<◌, ◌≤◌, ◌⊎◌, inl, inr, leb, true, false, List, [], ◌∷◌, ◌++◌, length, map, option_map, take, drop, Option, Some, None, IfSome, Result, Ok, Err, IfOk, sum_by, vec_len, refl, sym, ap, subst, ◌∙◌, arith, add-one}
 use Rattle.std.proofs.lemmas.Bool.{cases_lt, le-leb, leb-true, false_from_ne_true}
 use Rattle.std.proofs.lemmas.List.{length-append, length-take-le, nil_from_length, take-append-drop}
-use Rattle.std.proofs.lemmas.Option.{IfSome_then}
 use Rattle.std.proofs.Math.Seq.{take-append_seam}
 use Rattle.std.proofs.lemmas.Str.{encodes-append, chars_from_encodes, encodes-chars, IsUtf8-take, IsUtf8-drop}
 use Rattle.std.specs.Prelude.{slice_get, IfNone, ◌≢◌}
@@ -14,7 +13,7 @@ use Rattle.regress_meaning.specs.Table.{Table}
 use Rattle.regress_meaning.specs.Pattern.{Pattern}
 use Rattle.regress_meaning.specs.Flags.{Options}
 use Rattle.regress_meaning.specs.Matches.{Item, match_list}
-use Rattle.regress_meaning.specs.Offsets.{Reading, offset, of_utf8, told, Begins}
+use Rattle.regress_meaning.specs.Offsets.{offset, of_utf8, told, Begins}
 use Rattle.regress_meaning.specs.Laws.{OffsetsRise}
 use Rattle.regress.specs.declared.api.Regex.{Regex}
 use Rattle.regress.specs.declared.front.error.Error.{Error}

@@ -154,10 +154,78 @@ impl<'u> Regex<'u> {
 #[cfg(test)]
 mod tests {
     use super::*;
+    use crate::engine::found::Range;
+    use std::test::Fail;
+
+    /// The ranges of all matches.
+    fn ranges(alloc: Global, pattern: &str, text: &str) -> Result<Vec<Range>, Error> {
+        let tables = Tables::small(alloc).ok().ok_or(Error::OutOfMemory)?;
+        let regex = Regex::new(alloc, pattern, &tables)?;
+        let mut ranges = Vec::new(alloc);
+        for found in regex.find_iter(text)? {
+            ranges.push(found?.range())?;
+        }
+        Ok(ranges)
+    }
 
     #[test]
     fn code_points_are_at_most_ten_ffff(rt: HostRuntime) {
         assert!(rt; are_code_points([0x61, 0xD800, 0x10_FFFF].as_slice()));
         assert!(rt; !are_code_points([0x61, 0x11_0000].as_slice()));
+    }
+
+    #[test]
+    fn a_search_begins_between_characters_or_past_the_end(rt: HostRuntime) {
+        assert!(rt; is_start("é", 0));
+        assert!(rt; !is_start("é", 1));
+        assert!(rt; is_start("é", 2));
+        assert!(rt; is_start("é", 3));
+    }
+
+    #[test]
+    fn one_match_after_another(rt: HostRuntime) -> Result<(), Fail> {
+        let alloc = rt.alloc();
+        assert_eq!(rt;
+            ranges(alloc, "(?:)", "é")?.as_slice(),
+            [0..0, 2..2].as_slice()
+        );
+        assert_eq!(rt; ranges(alloc, "a", "")?.as_slice(), [].as_slice());
+        assert_eq!(rt; ranges(alloc, "a|", "")?.as_slice(), [0..0].as_slice());
+        assert_eq!(rt;
+            ranges(alloc, "a|b", "abcab")?.as_slice(),
+            [0..1, 1..2, 3..4, 4..5].as_slice()
+        );
+        assert_eq!(rt;
+            ranges(alloc, "a|", "ba")?.as_slice(),
+            [0..0, 1..2, 2..2].as_slice()
+        );
+        Ok(())
+    }
+
+    #[test]
+    fn matches_from_an_offset(rt: HostRuntime) -> Result<(), Fail> {
+        let tables = Tables::small(rt.alloc())?;
+        let regex = Regex::new(rt.alloc(), "(?:)", &tables)?;
+        assert!(rt; is_start("é", 2));
+        let mut matches = regex.find_from("é", 2)?;
+        assert_eq!(rt; matches.next().ok_or("no match")??.range(), 2..2);
+        assert!(rt; matches.next().is_none());
+        assert!(rt; matches.next().is_none());
+        assert!(rt; is_start("é", 3));
+        assert!(rt; regex.find_from("é", 3)?.next().is_none());
+        Ok(())
+    }
+
+    #[test]
+    fn groups_of_the_first_match(rt: HostRuntime) -> Result<(), Fail> {
+        let tables = Tables::small(rt.alloc())?;
+        let regex = Regex::new(rt.alloc(), "(a)|b", &tables)?;
+        let found = regex.find("ba")?.ok_or("no match")?;
+        let mut groups = found.groups();
+        assert_eq!(rt; groups.len(), 2);
+        assert_eq!(rt; groups.next(), Some(Some(0..1)));
+        assert_eq!(rt; groups.next(), Some(None));
+        assert_eq!(rt; groups.next(), None);
+        Ok(())
     }
 }

@@ -136,7 +136,11 @@ impl<'r> MatchProducer for Search<'r> {
         self.text.place(offset)
     }
 
-    fn next_match(&self, position: usize, next: &mut Option<usize>) -> Result<Option<Match>, Error> {
+    fn next_match(
+        &self,
+        position: usize,
+        next: &mut Option<usize>,
+    ) -> Result<Option<Match>, Error> {
         regress_meaning::matches_go_on();
         *next = None;
         let regex = self.regex;
@@ -165,11 +169,7 @@ impl<'r, 't> Matches<'r, 't> {
     ghost use Rattle.regress.specs.Coming.{StartsAt, searched};
 
     /// The matches of a pattern in a text, from an offset in bytes on.
-    pub(crate) fn new(
-        regex: &'r Regex<'r>,
-        source: &'t str,
-        start: usize,
-    ) -> Result<Self, Error>
+    pub(crate) fn new(regex: &'r Regex<'r>, source: &'t str, start: usize) -> Result<Self, Error>
         ensures over { IfOk result (λ ms. (ms.inner.producer.regex.now ≡ regex.now) × (searched ms ≡ source.now)) }
         ensures begins { IfOk result (λ ms. StartsAt ms.inner.producer start ms.inner.position) }
         ensures refused { IsOkUnless result Error.OutOfMemory }

@@ -1,8 +1,6 @@
-use Rattle.std.proofs.Common.{ap, ◌∙◌}
 use Rattle.std.specs.Prelude.{chars}
 use Rattle.regress_meaning.specs.Matches.{match_list}
 use Rattle.regress_meaning.specs.Offsets.{of_utf8, told}
-use Rattle.regress.specs.Coming.{LiesBetween, coming}
 use Rattle.regress.proofs.IterationLemmas.{first-given}
 use Rattle.regress.proofs.api.Regex.find.Goals as goal
 
