@@ -1,291 +1,162 @@
--- What a stack of tasks stands for, and how many turns it takes.
-use Rattle.std.proofs.Common.{◌≡◌, ℕ, zero, suc, ◌+◌, ◌<◌, ◌≤◌, ◌⊎◌, inl, inr, ◌-◌, ◌==◌, ◌&&◌, leb, ltb, not, if◌then◌else◌, Bool, true, false, List, [], ◌∷◌, ◌++◌, map, filter, slice_set, max, Option, None, refl, sym, ap, ◌∙◌, append_assoc, arith}
-use Rattle.std.specs.Prelude.{reverse}
-use Rattle.std.specs.List.{flat_map, sum_by}
-use Rattle.std.proofs.lemmas.List.{append-nil, map-append, map_push, reverse-append}
-use Rattle.std.proofs.lemmas.List.Sums.{sum_by-append, sum_by-cons, sum_by_push}
-use Rattle.std.proofs.lemmas.Bool.{cases_lt}
-use Rattle.std.proofs.lemmas.Bool.Decides.{nat_tests}
-use Rattle.regress_meaning.specs.Pattern.{Pattern, Settings, repeated}
-use Rattle.regress_meaning.specs.Meaning.{State, Outcomes, Context, Forward, clear_from, cleared, moved, iterations, outcomes}
-use Rattle.regress.specs.declared.engine.evaluator.State as evaluator
-use Rattle.regress.specs.declared.engine.evaluator.Task.{Task}
-use Rattle.regress.specs.declared.engine.evaluator.Task.TheVariants.{Expand, Emit}
-use Rattle.regress.specs.StateViews.{state_of}
-use Rattle.regress.specs.Iterating.{moved_on, expansions, tasks_of}
+-- One match after another: where a search begins, where it goes on, and what is still to come.
+use Rattle.std.proofs.Common.{◌≡◌, ℕ, zero, suc, ◌+◌, ◌-◌, ◌<◌, ◌≤◌, ◌⊎◌, inl, inr, leb, true, false, List, [], ◌∷◌, ◌++◌, length, map, option_map, take, drop, Option, Some, None, IfSome, Result, Ok, Err, IfOk, sum_by, vec_len, refl, sym, ap, subst, ◌∙◌, arith, add-one}
+use Rattle.std.proofs.lemmas.Bool.{cases_lt, le-leb, leb-true, false_from_ne_true}
+use Rattle.std.proofs.lemmas.List.{length-append, length-take-le, nil_from_length, take-append-drop}
+use Rattle.std.proofs.Math.Seq.{take-append_seam}
+use Rattle.std.proofs.lemmas.Str.{encodes-append, chars_from_encodes, encodes-chars, IsUtf8-take, IsUtf8-drop}
+use Rattle.std.specs.Prelude.{slice_get, IfNone, ◌≢◌}
+use Rattle.std.specs.Option.{option_transpose}
+use Rattle.std.specs.Char.{len_utf8}
+use Rattle.std.specs.declared.ops.Range.{Range}
+use Rattle.std.specs.Str.{encode_utf8_all, all_scalars, chars, IsUtf8, IsCharBoundary}
+use Rattle.regress_meaning.specs.Table.{Table}
+use Rattle.regress_meaning.specs.Pattern.{Pattern}
+use Rattle.regress_meaning.specs.Flags.{Options}
+use Rattle.regress_meaning.specs.Matches.{Item, match_list}
+use Rattle.regress_meaning.specs.Offsets.{offset, of_utf8, told, Begins}
+use Rattle.regress_meaning.specs.Laws.{OffsetsRise}
+use Rattle.regress.specs.declared.api.Regex.{Regex}
+use Rattle.regress.specs.declared.front.error.Error.{Error}
+use Rattle.regress.specs.declared.engine.found.Match.{Match}
+use Rattle.regress.specs.declared.engine.matches.Matches.{Matches}
+use Rattle.regress.specs.Trees.{tree}
+use Rattle.regress.specs.TableViews.{table}
+use Rattle.regress.specs.Views.{options, item_of}
+use Rattle.regress.specs.TextViews.{utf8_reading}
+use Rattle.regress.specs.GroupViews.{groups_of}
+use Rattle.regress.specs.Standing.{StandsFor}
+use Rattle.regress.specs.Iterating.{place_within, coming_on, GivesFirst}
+use Rattle.regress.specs.Coming.{items_from, StartsAt, searched, coming}
+use Rattle.regress.proofs.TextLemmas.{length-encodes, offset_is_boundary, offset_of_end, offset-le}
 
--- one state more, below the others
-pub expansions-push : (next : List evaluator.State) (s : evaluator.State) (left need : ℕ)
-    → expansions (next ++ s ∷ []) left need ≡ Expand s left need ∷ expansions next left need
-expansions-push next s left need = ap (map (λ (t : evaluator.State). Expand t left need)) (reverse-append next (s ∷ []))
+-- what is left from an element on
+drop-from_get : {X : Type 0} (xs : List X) (i : ℕ) (x : X) → slice_get xs i ≡ Some x → drop i xs ≡ x ∷ drop (suc i) xs
+drop-from_get [] i x e = cc
+drop-from_get (y ∷ ys) zero x e = let same : y ≡ x = cc in ap (λ z. z ∷ ys) same
+drop-from_get (y ∷ ys) (suc i) x e = drop-from_get ys i x e
 
--- one state more, above the others
-expansions-cons : (s : evaluator.State) (next : List evaluator.State) (left need : ℕ)
-    → expansions (s ∷ next) left need ≡ expansions next left need ++ Expand s left need ∷ []
-expansions-cons s next left need =
-    let e = λ (t : evaluator.State). Expand t left need in
-    ap (map e) (reverse-append (s ∷ []) next) ∙ map-append e (reverse next) (s ∷ [])
+-- the first of the groups that are left
+pub groups-first : (m : Match) (i : ℕ) (r : Option (Range ℕ)) → i ≤ vec_len m.captures → (i ≡ 0 → r ≡ Some m.range)
+    → (0 < i → i ≤ vec_len m.captures → slice_get m.captures.items (i - 1) ≡ Some r) → drop i (groups_of m) ≡ r ∷ drop (i + 1) (groups_of m)
+groups-first m i r within whole capture = rw (add-one i) (drop-from_get (groups_of m) i r (at i within whole capture))
+  where
+    at : (k : ℕ) → k ≤ vec_len m.captures → (k ≡ 0 → r ≡ Some m.range)
+        → (0 < k → k ≤ vec_len m.captures → slice_get m.captures.items (k - 1) ≡ Some r) → slice_get (groups_of m) k ≡ Some r
+    at zero within whole capture = ap Some (sym (whole refl))
+    at (suc k) within whole capture =
+        let before : suc k - 1 ≡ k = omega arith in
+        rw before at (capture (omega arith) within)
 
--- one iteration of what is repeated, the groups inside cleared before
-abbrev pub run : Context → Settings → Pattern → ℕ → ℕ → Outcomes
-run context e p first last s = outcomes context p Forward e (cleared context first last s)
+-- a text may be cut only at the offset of a place
+pub place_of_boundary : (bytes : List ℕ) → IsUtf8 bytes → (at : ℕ) → IsCharBoundary bytes at
+    → (place : ℕ) × (place ≤ length (chars bytes)) × (offset (of_utf8 bytes) place ≡ at)
+place_of_boundary bytes utf8 at cut =
+    let front = chars (take at bytes) in
+    let back = chars (drop at bytes) in
+    let before : encode_utf8_all front ≡ take at bytes = encodes-chars (take at bytes) (IsUtf8-take bytes at utf8 cut) in
+    let after : encode_utf8_all back ≡ drop at bytes = encodes-chars (drop at bytes) (IsUtf8-drop bytes at utf8 cut) in
+    let both : front ++ back ≡ chars bytes =
+    chars_from_encodes (front ++ back) bytes utf8 (encodes-append front back ∙ cc (before, after, take-append-drop at bytes)) in
+    let bound : length front ≤ length (chars bytes) = omega (arith, length-append front back, ap length both) in
+    let here : take (length front) (chars bytes) ≡ front = ap (take (length front)) (sym both) ∙ take-append_seam front back in
+    (length front, bound, ap (sum_by len_utf8) here ∙ sym (length-encodes front) ∙ ap length before ∙ length-take-le at bytes cut.0)
 
-module _ (context : Context) where
-  -- no number is in an empty range
-  not_between : (i first last : ℕ) → last ≤ max i first → (leb first i && ltb i last) ≡ false
-  not_between i first last empty = grind (arith, nat_tests)
+-- where a search begins inside a text, it may be cut
+pub boundary_of_place : (bytes : List ℕ) → IsUtf8 bytes → (at : ℕ) → at ≤ length bytes → (place : ℕ) → Begins (of_utf8 bytes) at place
+    → IsCharBoundary bytes at
+boundary_of_place bytes utf8 at inside place (inl (within, here)) = rw here at (offset_is_boundary bytes utf8 place)
+boundary_of_place bytes utf8 at inside place (inr (end, past)) = absurd (omega (arith, past, offset_of_end bytes utf8))
 
-  -- a number is in a range
-  between : (i first last : ℕ) → first ≤ i → i < last → (leb first i && ltb i last) ≡ true
-  between i first last from within = grind (arith, nat_tests)
+-- the code points of bytes that are made of them
+read_back : (points : List ℕ) → all_scalars points ≡ true → points ≡ chars (encode_utf8_all points)
+read_back points h = chars_from_encodes points (encode_utf8_all points) (points, (h, refl)) refl
 
-  -- a number before two ends
-  same_between : (i first last end : ℕ) → i < last → i < end → (leb first i && ltb i last) ≡ (leb first i && ltb i end)
-  same_between i first last end within inside = grind (arith, nat_tests)
+-- the offset of each place is where the bytes may be cut
+pub offset_is_boundary_of_points : (points : List ℕ) → all_scalars points ≡ true → (place : ℕ)
+    → IsCharBoundary (encode_utf8_all points) (offset (utf8_reading points) place)
+offset_is_boundary_of_points points h place =
+    let bytes = encode_utf8_all points in
+    let P : List ℕ → Type 0 = λ ps. IsCharBoundary bytes (offset (utf8_reading ps) place) in
+    subst P (sym (read_back points h)) (offset_is_boundary bytes (points, (h, refl)) place)
 
-  -- an empty range clears no group
-  clear_from-none : (i first last : ℕ) (gs : List (Option (ℕ × ℕ))) → last ≤ max i first → clear_from context i first last gs ≡ gs
-  clear_from-none i first last [] empty = refl
-  clear_from-none i first last (g ∷ gs) empty =
-      rw (not_between i first last empty, clear_from-none (i + 1) first last gs (omega arith)) refl
+-- a test that fails on a greater number
+lt-leb_false : (a b : ℕ) → b < a → leb a b ≡ false
+lt-leb_false a b h = false_from_ne_true (leb a b) (λ yes. absurd (omega (arith, leb-true a b yes)))
 
-  -- one group more is cleared
-  clear_from-more : (i first j : ℕ) (gs : List (Option (ℕ × ℕ))) → first ≤ i + j
-      → slice_set (clear_from context i first (i + j) gs) j None ≡ clear_from context i first (i + j + 1) gs
-  clear_from-more i first j [] from = refl
-  clear_from-more i first zero (g ∷ gs) from =
-      rw (
-        clear_from-none (i + 1) first (i + 0) gs (omega arith),
-        clear_from-none (i + 1) first (i + 0 + 1) gs (omega arith),
-        between i first (i + 0 + 1) (omega arith) (omega arith),
-      ) refl
-  clear_from-more i first (suc j) (g ∷ gs) from =
-      let next : i + suc j ≡ i + 1 + j = omega arith in
-      rw (
-        next,
-        same_between i first (i + 1 + j) (i + 1 + j + 1) (omega arith) (omega arith),
-        clear_from-more (i + 1) first j gs (omega arith),
-      ) refl
+-- a place of the text is within it
+place_within-le : (n place : ℕ) → place ≤ n → place_within n place ≡ Some place
+place_within-le n place h = rw (le-leb place n h) refl
 
-  -- groups at a state's place
-  abbrev pub with_groups : State → List (Option (ℕ × ℕ)) → State
-  with_groups s gs = record s { groups = gs }
+place_within_past : (n place : ℕ) → n < place → place_within n place ≡ None
+place_within_past n place h = rw (lt-leb_false place n h) refl
 
-  -- an empty range clears nothing
-  pub cleared-none : (first last : ℕ) (s : State) → last ≤ first → cleared context first last s ≡ s
-  cleared-none first last s empty = ap (with_groups s) (clear_from-none 0 first last s.groups (omega arith))
+-- the place found at an offset is the one where a search begins that starts there
+pub starts_at : (points : List ℕ) → all_scalars points ≡ true → ((bytes : List ℕ) → OffsetsRise (of_utf8 bytes)) → (at : ℕ) (n : ℕ) (found : Option ℕ)
+    → n ≡ length points → IfSome found (λ p. (p ≤ n) × (offset (utf8_reading points) p ≡ at))
+    → IfNone found ((p : ℕ) → p ≤ n → offset (utf8_reading points) p ≢ at)
+    → (place : ℕ) → Begins (utf8_reading points) at place → found ≡ place_within (length points) place
+starts_at points h rise at n found all there nowhere place begins = go found there nowhere begins
+  where
+    rises : OffsetsRise (utf8_reading points)
+    rises = let P : List ℕ → Type 0 = λ ps. OffsetsRise (utf8_reading ps) in subst P (sym (read_back points h)) (rise (encode_utf8_all points))
 
-  -- one group more is cleared
-  pub cleared-more : (first group : ℕ) (s t : State) → first ≤ group → t ≡ cleared context first group s
-      → with_groups t (slice_set t.groups group None) ≡ cleared context first (group + 1) s
-  cleared-more first group s t from so_far =
-      let zero : 0 + group ≡ group = omega arith in
-      ap (λ (u : State). with_groups u (slice_set u.groups group None)) so_far
-      ∙ ap (with_groups s) (rw zero at (clear_from-more 0 first group s.groups (omega arith)))
+    same : (p : ℕ) → p ≤ length points → offset (utf8_reading points) p ≡ at → place ≤ length points → offset (utf8_reading points) place ≡ at → p ≡ place
+    same p within here within' here' = order (cases_lt p place) (cases_lt place p)
+      where
+        order : (p < place) ⊎ (place ≤ p) → (place < p) ⊎ (p ≤ place) → p ≡ place
+        order (inl below) b = absurd (omega (arith, rises p place below within'))
+        order (inr a) (inl above) = absurd (omega (arith, rises place p above within))
+        order (inr a) (inr b) = omega arith
 
-  -- from the end of a range on all of it is cleared
-  pub cleared_past : (first last end : ℕ) (s : State) → last ≤ end → (first ≤ last → end ≤ last) → (last ≤ first → end ≡ first)
-      → cleared context first end s ≡ cleared context first last s
-  cleared_past first last end s past within none = go (cases_lt last first)
-    where
-      go : (last < first) ⊎ (first ≤ last) → cleared context first end s ≡ cleared context first last s
-      go (inl empty) = cleared-none first end s (omega (arith, none (omega arith))) ∙ sym (cleared-none first last s (omega arith))
-      go (inr some) =
-          let same : end ≡ last = omega (arith, within some) in
-          rw same refl
+    go : (o : Option ℕ) → IfSome o (λ p. (p ≤ n) × (offset (utf8_reading points) p ≡ at))
+        → IfNone o ((p : ℕ) → p ≤ n → offset (utf8_reading points) p ≢ at)
+        → Begins (utf8_reading points) at place → o ≡ place_within (length points) place
+    go (Some p) there nowhere (inl (within, here)) =
+        ap Some (same p (omega (arith, all, there.0)) there.1 within here) ∙ sym (place_within-le (length points) place within)
+    go (Some p) there nowhere (inr (end, past)) =
+        absurd (omega (arith, there.1, past, offset-le (utf8_reading points) p (length points) (omega (arith, all, there.0))))
+    go None there nowhere (inl (within, here)) = absurd (nowhere place (omega (arith, all, within)) here)
+    go None there nowhere (inr (end, past)) = sym (place_within_past (length points) place (omega arith))
 
-  -- `==` either way round
-  place_comm : (p q : ℕ) → (p == q) ≡ (q == p)
-  place_comm p q = grind (arith, nat_tests)
+-- what comes on from a place, if no item does past the end
+pub coming_on_within : (items : ℕ → List Item) (n place : ℕ) → (n < place → items place ≡ []) → coming_on items (place_within n place) ≡ items place
+coming_on_within items n place past = go (cases_lt n place)
+  where
+    go : (n < place) ⊎ (place ≤ n) → coming_on items (place_within n place) ≡ items place
+    go (inl h) = ap (coming_on items) (place_within_past n place h) ∙ sym (past h)
+    go (inr h) = ap (coming_on items) (place_within-le n place h)
 
-  -- the states at another place
-  map-filter_moved : (s : evaluator.State) (next : List evaluator.State)
-      → map state_of (filter (moved_on s) next) ≡ filter (moved context (state_of s)) (map state_of next)
-  map-filter_moved s [] = refl
-  map-filter_moved s (t ∷ next) = rw (place_comm t.place s.place) (cases (map-filter_moved s next) (not (s.place == t.place)))
-    where
-      cases : map state_of (filter (moved_on s) next) ≡ filter (moved context (state_of s)) (map state_of next) → (b : Bool)
-          → map state_of (if b then t ∷ filter (moved_on s) next else filter (moved_on s) next)
-          ≡ (if b then state_of t ∷ filter (moved context (state_of s)) (map state_of next) else filter (moved context (state_of s)) (map state_of next))
-      cases rest true = ap (λ (ts : List State). state_of t ∷ ts) rest
-      cases rest false = rest
+-- an iterator that was made for a start has that part of the match list still to come
+pub coming-made : (ms : Matches) (bytes : List ℕ) (r : Regex) (t : Table) (o : Options) (p : Pattern) (at place : ℕ)
+    → ((u : Table) → (q : Options) → (s : Pattern) → (text : List ℕ) → (k : ℕ) → length (match_list u q s text k) ≤ length text + 1 - k)
+    → ms.inner.producer.regex.now ≡ r → searched ms ≡ bytes → StartsAt ms.inner.producer at ms.inner.position → StandsFor r t o p
+    → Begins (of_utf8 bytes) at place → coming ms ≡ map (told (of_utf8 bytes)) (match_list t o p (chars bytes) place)
+coming-made ms bytes r t o p at place bounded same over starts stands begins =
+    let search = ms.inner.producer in
+    let points = search.text.points.items in
+    let read : points ≡ chars bytes = ms.read ∙ ap chars over in
+    let begins' : Begins (utf8_reading points) at place = let P : List ℕ → Type 0 = λ ps. Begins (utf8_reading ps) at place in subst P (sym read) begins in
+    let none : length points < place → items_from search place ≡ [] = λ past.
+    ap (map (told (utf8_reading points))) (nil_from_length _ (omega (arith, bounded (table search.regex.now.tables.now) (options search.regex.now.flags) (tree search.regex.now.syntax) points place))) in
+    ap (coming_on (items_from search)) (starts place begins') ∙ coming_on_within (items_from search) (length points) place none
+    ∙ rw (read, same, stands.tables, stands.flags, stands.syntax) refl
 
-  module _ (body : Outcomes) where
-    -- the outcomes that a task stands for
-    abbrev pub outcomes_of_task : Bool → Task → List State
-    outcomes_of_task greedy (Expand s left need) = iterations context body greedy left need (state_of s)
-    outcomes_of_task greedy (Emit s) = state_of s ∷ []
+-- the same, where it may have been refused
+pub coming-made_or_refused : (made : Result Matches Error) (bytes : List ℕ) (r : Regex) (t : Table) (o : Options) (p : Pattern) (at place : ℕ)
+    → ((u : Table) → (q : Options) → (s : Pattern) → (text : List ℕ) → (k : ℕ) → length (match_list u q s text k) ≤ length text + 1 - k)
+    → IfOk made (λ ms. (ms.inner.producer.regex.now ≡ r) × (searched ms ≡ bytes)) → IfOk made (λ ms. StartsAt ms.inner.producer at ms.inner.position)
+    → StandsFor r t o p → Begins (of_utf8 bytes) at place
+    → IfOk made (λ ms. coming ms ≡ map (told (of_utf8 bytes)) (match_list t o p (chars bytes) place))
+coming-made_or_refused (Ok ms) bytes r t o p at place bounded over starts stands begins =
+    coming-made ms bytes r t o p at place bounded over.0 over.1 starts stands begins
+coming-made_or_refused (Err e) bytes r t o p at place bounded over starts stands begins = tt
 
-    -- the outcomes that a stack of tasks stands for, the last one on top
-    abbrev pub outcomes_of_tasks : Bool → List Task → List State
-    outcomes_of_tasks greedy [] = []
-    outcomes_of_tasks greedy (t ∷ ts) = outcomes_of_tasks greedy ts ++ outcomes_of_task greedy t
-
-    -- of two stacks the upper one comes first
-    pub outcomes_of_tasks-append : (greedy : Bool) (ts us : List Task)
-        → outcomes_of_tasks greedy (ts ++ us) ≡ outcomes_of_tasks greedy us ++ outcomes_of_tasks greedy ts
-    outcomes_of_tasks-append greedy [] us = sym (append-nil (outcomes_of_tasks greedy us))
-    outcomes_of_tasks-append greedy (t ∷ ts) us =
-        ap (λ (ss : List State). ss ++ outcomes_of_task greedy t) (outcomes_of_tasks-append greedy ts us)
-        ∙ append_assoc (outcomes_of_tasks greedy us) (outcomes_of_tasks greedy ts) (outcomes_of_task greedy t)
-
-    -- states that are gone on from lead where their iterations do
-    pub outcomes_of_tasks-expansions : (greedy : Bool) (left need : ℕ) (next : List evaluator.State)
-        → outcomes_of_tasks greedy (expansions next left need) ≡ flat_map (iterations context body greedy left need) (map state_of next)
-    outcomes_of_tasks-expansions greedy left need [] = refl
-    outcomes_of_tasks-expansions greedy left need (s ∷ next) =
-        ap (outcomes_of_tasks greedy) (expansions-cons s next left need)
-        ∙ outcomes_of_tasks-append greedy (expansions next left need) (Expand s left need ∷ [])
-        ∙ ap (λ (ss : List State). iterations context body greedy left need (state_of s) ++ ss) (outcomes_of_tasks-expansions greedy left need next)
-
-    -- past the least number those count that moved
-    past : (greedy : Bool) (s : evaluator.State) (next : List evaluator.State) (left : ℕ) → map state_of next ≡ body (state_of s)
-        → outcomes_of_tasks greedy (expansions (filter (moved_on s) next) left 0)
-        ≡ flat_map (iterations context body greedy left 0) (filter (moved context (state_of s)) (body (state_of s)))
-    past greedy s next left ran =
-        outcomes_of_tasks-expansions greedy left 0 (filter (moved_on s) next)
-        ∙ ap (flat_map (iterations context body greedy left 0)) (map-filter_moved s next ∙ ap (filter (moved context (state_of s))) ran)
-
-    -- the tasks that follow a state stand for its iterations
-    pub outcomes_of_tasks-tasks_of : (greedy : Bool) (s : evaluator.State) (next : List evaluator.State) (left need : ℕ)
-        → map state_of next ≡ body (state_of s)
-        → outcomes_of_tasks greedy (tasks_of greedy s next left need) ≡ iterations context body greedy (suc left) need (state_of s)
-    unfolding tasks_of iterations
-    outcomes_of_tasks-tasks_of true s next left zero ran =
-        outcomes_of_tasks-append true (Emit s ∷ []) (expansions (filter (moved_on s) next) left 0)
-        ∙ ap (λ (ss : List State). ss ++ state_of s ∷ []) (past true s next left ran)
-    outcomes_of_tasks-tasks_of false s next left zero ran =
-        outcomes_of_tasks-append false (expansions (filter (moved_on s) next) left 0) (Emit s ∷ [])
-        ∙ ap (λ (ss : List State). state_of s ∷ ss) (past false s next left ran)
-    outcomes_of_tasks-tasks_of greedy s next left (suc need) ran =
-        outcomes_of_tasks-expansions greedy left need next ∙ ap (flat_map (iterations context body greedy left need)) ran
-
-    -- a state with no more iterations is an outcome
-    pub outcomes_of_task-last : (greedy : Bool) (s : evaluator.State) (left need : ℕ) → left ≡ 0
-        → outcomes_of_task greedy (Expand s left need) ≡ state_of s ∷ []
-    unfolding iterations
-    outcomes_of_task-last greedy s left need none = rw none refl
-
-    -- the topmost task was an outcome
-    pub outcomes_of_tasks-emit : (greedy : Bool) (all : List evaluator.State) (before ts : List Task) (t : Task) (s : evaluator.State)
-        → before ≡ ts ++ t ∷ [] → outcomes_of_task greedy t ≡ state_of s ∷ []
-        → map state_of (all ++ s ∷ []) ++ outcomes_of_tasks greedy ts ≡ map state_of all ++ outcomes_of_tasks greedy before
-    outcomes_of_tasks-emit greedy all before ts t s popped told =
-        rw (popped, map_push state_of all s, outcomes_of_tasks-append greedy ts (t ∷ []), told) (append_assoc (map state_of all) (state_of s ∷ []) (outcomes_of_tasks greedy ts))
-
-    -- the topmost task was gone on from
-    pub outcomes_of_tasks-expand : (greedy : Bool) (before ts after : List Task) (s : evaluator.State) (next : List evaluator.State) (left need : ℕ)
-        → 0 < left → before ≡ ts ++ Expand s left need ∷ [] → after ≡ ts ++ tasks_of greedy s next (left - 1) need
-        → map state_of next ≡ body (state_of s) → outcomes_of_tasks greedy after ≡ outcomes_of_tasks greedy before
-    outcomes_of_tasks-expand greedy before ts after s next left need some popped pushed ran =
-        let more : suc (left - 1) ≡ left = omega arith in
-        rw (
-          popped,
-          pushed,
-          outcomes_of_tasks-append greedy ts (tasks_of greedy s next (left - 1) need),
-          outcomes_of_tasks-append greedy ts (Expand s left need ∷ []),
-          outcomes_of_tasks-tasks_of greedy s next (left - 1) need ran,
-          more,
-        ) refl
-
-    -- how many turns of the loop an expansion takes
-    unfoldable pub turns : ℕ → ℕ → State → ℕ
-    turns zero need s = 1
-    turns (suc left) zero s = 2 + sum_by (turns left zero) (filter (moved context s) (body s))
-    turns (suc left) (suc need) s = 1 + sum_by (turns left need) (body s)
-
-    -- how many a task takes
-    abbrev pub turns_of_task : Task → ℕ
-    turns_of_task (Expand s left need) = turns left need (state_of s)
-    turns_of_task (Emit s) = 1
-
-    -- how many all tasks take
-    abbrev pub turns_of_tasks : List Task → ℕ
-    turns_of_tasks = sum_by turns_of_task
-
-    -- states that are gone on from take the turns of each
-    turns_of_tasks-expansions : (left need : ℕ) (next : List evaluator.State)
-        → turns_of_tasks (expansions next left need) ≡ sum_by (turns left need) (map state_of next)
-    turns_of_tasks-expansions left need [] = refl
-    turns_of_tasks-expansions left need (s ∷ next) =
-        rw (
-          expansions-cons s next left need,
-          sum_by-append turns_of_task (expansions next left need) (Expand s left need ∷ []),
-          turns_of_tasks-expansions left need next,
-          sum_by-cons (turns left need) (state_of s) (map state_of next),
-        ) (omega arith)
-
-    -- past the least number those count that moved
-    turns_past : (s : evaluator.State) (next : List evaluator.State) (left : ℕ) → map state_of next ≡ body (state_of s)
-        → turns_of_tasks (expansions (filter (moved_on s) next) left 0) ≡ sum_by (turns left 0) (filter (moved context (state_of s)) (body (state_of s)))
-    turns_past s next left ran =
-        turns_of_tasks-expansions left 0 (filter (moved_on s) next)
-        ∙ ap (sum_by (turns left 0)) (map-filter_moved s next ∙ ap (filter (moved context (state_of s))) ran)
-
-    -- the tasks that follow a state take one turn less
-    pub turns_of_tasks-tasks_of : (greedy : Bool) (s : evaluator.State) (next : List evaluator.State) (left need : ℕ)
-        → map state_of next ≡ body (state_of s)
-        → turns_of_tasks (tasks_of greedy s next left need) + 1 ≡ turns (suc left) need (state_of s)
-    unfolding tasks_of turns
-    turns_of_tasks-tasks_of true s next left zero ran =
-        omega (arith, turns_past s next left ran, sum_by-cons turns_of_task (Emit s) (expansions (filter (moved_on s) next) left 0))
-    turns_of_tasks-tasks_of false s next left zero ran =
-        omega (arith, turns_past s next left ran, sum_by-append turns_of_task (expansions (filter (moved_on s) next) left 0) (Emit s ∷ []))
-    turns_of_tasks-tasks_of greedy s next left (suc need) ran =
-        omega (arith, turns_of_tasks-expansions left need next ∙ ap (sum_by (turns left need)) ran)
-
-    -- a state with no more iterations takes one turn
-    pub turns-last : (s : evaluator.State) (left need : ℕ) → left ≡ 0 → turns_of_task (Expand s left need) ≡ 1
-    unfolding turns
-    turns-last s left need none = rw none refl
-
-    -- an outcome takes a turn
-    pub turns_of_tasks-emit : (before ts : List Task) (t : Task) → before ≡ ts ++ t ∷ [] → turns_of_task t ≡ 1
-        → turns_of_tasks ts < turns_of_tasks before
-    turns_of_tasks-emit before ts t popped one = rw (popped, sum_by_push turns_of_task ts t, one) (omega arith)
-
-    -- and so does going on
-    pub turns_of_tasks-expand : (greedy : Bool) (before ts after : List Task) (s : evaluator.State) (next : List evaluator.State) (left need : ℕ)
-        → 0 < left → before ≡ ts ++ Expand s left need ∷ [] → after ≡ ts ++ tasks_of greedy s next (left - 1) need
-        → map state_of next ≡ body (state_of s) → turns_of_tasks after < turns_of_tasks before
-    turns_of_tasks-expand greedy before ts after s next left need some popped pushed ran =
-        let more : suc (left - 1) ≡ left = omega arith in
-        let told : turns_of_tasks (tasks_of greedy s next (left - 1) need) + 1 ≡ turns left need (state_of s) =
-        rw more at (turns_of_tasks-tasks_of greedy s next (left - 1) need ran) in
-        rw (popped, pushed, sum_by-append turns_of_task ts (tasks_of greedy s next (left - 1) need), sum_by_push turns_of_task ts (Expand s left need))
-        (omega (arith, told))
-
--- the first task stands for what the repetition leads to
-pub outcomes_of_tasks-start : (context : Context) (e : Settings) (p : Pattern) (first last least most left : ℕ) (greedy : Bool) (s : State)
-    → (alone : List evaluator.State) (tasks : List Task) → tasks ≡ expansions alone left least → map state_of alone ≡ s ∷ [] → left ≡ most
-    → outcomes_of_tasks context (run context e p first last) greedy tasks
-    ≡ outcomes context (repeated p first last least most greedy) Forward e s
-unfolding outcomes
-outcomes_of_tasks-start context e p first last least most left greedy s alone tasks pushed one same =
-    let body = run context e p first last in
-    ap (outcomes_of_tasks context body greedy) pushed
-    ∙ outcomes_of_tasks-expansions context body greedy left least alone
-    ∙ ap (flat_map (iterations context body greedy left least)) one
-    ∙ append-nil (iterations context body greedy left least s)
-    ∙ ap (λ (n : ℕ). iterations context body greedy n least s) same
-
--- where more have to come the state is no outcome
-pub tasks_of-needed : (greedy : Bool) (s : evaluator.State) (next : List evaluator.State) (left need : ℕ) → 0 < need
-    → tasks_of greedy s next left need ≡ expansions next left (need - 1)
-unfolding tasks_of
-tasks_of-needed greedy s next left zero some = absurd (omega arith)
-tasks_of-needed greedy s next left (suc need) some =
-    let less : suc need - 1 ≡ need = omega arith in
-    rw less refl
-
--- a greedy one prefers more to less
-pub tasks_of-greedy : (s : evaluator.State) (next kept : List evaluator.State) (left need : ℕ) → need ≡ 0
-    → kept ≡ filter (moved_on s) next → tasks_of true s next left need ≡ Emit s ∷ expansions kept left 0
-unfolding tasks_of
-tasks_of-greedy s next kept left need none same = rw (none, same) refl
-
--- a lazy one prefers less to more
-pub tasks_of-lazy : (s : evaluator.State) (next kept : List evaluator.State) (left need : ℕ) → need ≡ 0
-    → kept ≡ filter (moved_on s) next → tasks_of false s next left need ≡ expansions kept left 0 ++ Emit s ∷ []
-unfolding tasks_of
-tasks_of-lazy s next kept left need none same = rw (none, same) refl
+-- the first item of a list is what a step over it gives
+pub first-given : (IsInside : Match → Type 0) (before after : List Item) (given : Option (Result Match Error)) (tell : Item → Item) (items : List Item)
+    → GivesFirst IsInside before given after → before ≡ map tell items
+    → IfOk (option_transpose given) (λ found. option_map item_of found ≡ option_map tell (slice_get items 0))
+first-given IsInside before after None tell [] first same = refl
+first-given IsInside before after None tell (i ∷ items) first same = absurd (let some = sym same ∙ first.0 in cc)
+first-given IsInside before after (Some (Ok m)) tell [] first same = absurd (let some = sym same ∙ first.0 in cc)
+first-given IsInside before after (Some (Ok m)) tell (i ∷ items) first same = let some = sym same ∙ first.0 in let head : item_of m ≡ tell i = cc in ap Some head
+first-given IsInside before after (Some (Err e)) tell items first same = tt

@@ -9,4 +9,5 @@ pub mod TextLemmas
 pub mod ToldLemmas
 pub mod EvaluatorLemmas
 pub mod IterationLemmas
+pub mod RepetitionLemmas
 pub mod PatternLemmas

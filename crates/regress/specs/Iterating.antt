@@ -1,21 +1,47 @@
--- How the evaluator goes through the iterations of what is repeated, by a stack of tasks.
-use Rattle.std.specs.Prelude.{ℕ, zero, suc, Bool, not, ◌==◌, List, [], ◌∷◌, ◌++◌, map, filter, reverse, if◌then◌else◌}
-use Rattle.regress.specs.declared.engine.evaluator.State.{State}
-use Rattle.regress.specs.declared.engine.evaluator.Task.{Task}
-use Rattle.regress.specs.declared.engine.evaluator.Task.TheVariants.{Expand, Emit}
+-- One match after another: what a search has still to find, and what one step of it gives.
+use Rattle.std.specs.Prelude.{◌≡◌, ℕ, ◌+◌, nat_le, List, [], ◌∷◌, Option, Some, None, Result, Ok, Err, if◌then◌else◌}
+use Rattle.regress_meaning.specs.Matches.{Item}
+use Rattle.regress.specs.declared.front.error.Error.{Error}
+use Rattle.regress.specs.declared.front.error.Error.TheVariants.{OutOfMemory}
+use Rattle.regress.specs.declared.engine.found.Match.{Match}
+use Rattle.regress.specs.Views.{item_of}
 
--- the second state is at another place
-abbrev pub moved_on : State → State → Bool
-moved_on s t = not (t.place == s.place)
+-- a place, or none past place n
+abbrev pub place_within : ℕ → ℕ → Option ℕ
+place_within n place = if nat_le place n then Some place else None
 
--- tasks that go on from these states, of which the first is on top
-abbrev pub expansions : List State → ℕ → ℕ → List Task
-expansions next left need = map (λ t. Expand t left need) (reverse next)
+-- the items from a position on, and none without a position
+abbrev pub coming_on : {P : Type 0} → (P → List Item) → Option P → List Item
+coming_on items None = []
+coming_on items (Some position) = items position
 
--- The tasks, the last one on top, that stand for a state and for what one iteration leads to from it: after that at most
--- `left` more come. The state is an outcome too where no more have to come.
-unfoldable pub tasks_of : Bool → State → List State → ℕ → ℕ → List Task
-tasks_of greedy s next left zero =
-    let more = expansions (filter (moved_on s) next) left 0 in
-    if greedy then Emit s ∷ more else more ++ Emit s ∷ []
-tasks_of greedy s next left (suc need) = expansions next left need
+-- how many steps there may be from a position on, and none without a position
+abbrev pub steps_on : {P : Type 0} → (P → ℕ) → Option P → ℕ
+steps_on left None = 0
+steps_on left (Some position) = left position + 1
+
+-- A search from a position gave this, and goes on at the next position, if any: the first of the items, which lies inside,
+-- before the others; or nothing where there was none.
+abbrev pub Finds : {P : Type 0} → (P → List Item) → (Match → Type 0) → P → Option Match → Option P → Type 0
+Finds items IsInside position None next = (items position ≡ []) × (next ≡ None)
+Finds items IsInside position (Some m) next = (items position ≡ item_of m ∷ coming_on items next) × IsInside m
+
+-- what a step gave, from the items that were coming to those that still are
+abbrev pub GivesFirst : (Match → Type 0) → List Item → Option (Result Match Error) → List Item → Type 0
+GivesFirst IsInside before None after = (before ≡ []) × (after ≡ [])
+GivesFirst IsInside before (Some (Ok m)) after = (before ≡ item_of m ∷ after) × IsInside m
+GivesFirst IsInside before (Some (Err e)) after = (e ≡ OutOfMemory) × (after ≡ [])
+
+-- the fact holds where a step gave no match
+abbrev pub UnlessFound : Option (Result Match Error) → Type 0 → Type 0
+UnlessFound None Q = Q
+UnlessFound (Some (Ok m)) Q = Unit {0}
+UnlessFound (Some (Err e)) Q = Q
+
+-- A step of an iterator over matches. It gives the first of the items that were coming, or a refusal, or nothing where none
+-- was coming. With a refusal and with nothing it has ended, and one that has ended gives nothing.
+pub record GivesMatch {S : Type 0} (coming : S → List Item) (HasEnded : S → Type 0) (IsInside : Match → Type 0)
+    (old : S) (r : Option (Result Match Error)) (new : S) : Type 0 where
+  pub first : GivesFirst IsInside (coming old) r (coming new)
+  pub ends : UnlessFound r (HasEnded new)
+  pub ended : HasEnded old → r ≡ None

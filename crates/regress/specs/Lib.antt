@@ -8,6 +8,9 @@ pub mod ErrorTexts
 pub mod TableViews
 pub mod TextViews
 pub mod StateViews
-pub mod Iterating
+pub mod Repeating
 pub mod Refusing
 pub mod Standing
+pub mod Iterating
+pub mod Coming
+pub mod GroupViews

@@ -2,4 +2,6 @@
 
 pub(crate) mod evaluator;
 pub(crate) mod found;
+pub(crate) mod groups;
+pub(crate) mod matches;
 pub(crate) mod text;

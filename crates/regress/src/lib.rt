@@ -9,8 +9,10 @@ mod front;
 #[cfg(test)]
 mod rows;
 
-pub use api::{Regex, are_code_points};
+pub use api::{Regex, are_code_points, is_start};
 pub use engine::found::{Match, Range};
+pub use engine::groups::Groups;
+pub use engine::matches::Matches;
 pub use front::error::Error;
 pub use front::flags::{Flags, flags_are_read_back};
 pub use front::tables::{TableError, Tables};

@@ -3,7 +3,7 @@
 //! The definitions stand in `specs/`. Nothing here runs: each function below is a law of theirs, stated by its contract.
 #![tactic(auto)]
 
-ghost use Rattle.std.specs.Prelude.{◌≡◌, ◌-◌, ◌+◌, ◌≤◌, ◌↔◌, ℕ, Bool, true, List, length, Some, All};
+ghost use Rattle.std.specs.Prelude.{◌≡◌, ◌-◌, ◌+◌, ◌≤◌, ◌↔◌, ℕ, Bool, true, List, [], ◌∷◌, length, Some, None, All};
 ghost use Rattle.regress_meaning.specs.Table.{Table, closure};
 ghost use Rattle.regress_meaning.specs.TableParts.{IsLawful, small_parts};
 ghost use Rattle.regress_meaning.specs.Pattern.{Pattern, Settings, names_of};
@@ -14,7 +14,7 @@ ghost use Rattle.regress_meaning.specs.Scan.{scanned_names};
 ghost use Rattle.regress_meaning.specs.Reading.{read_pattern, ReadsBySteps};
 ghost use Rattle.regress_meaning.specs.Numbering.{IsNumbered};
 ghost use Rattle.regress_meaning.specs.Meaning.{State, Direction, Context, outcomes};
-ghost use Rattle.regress_meaning.specs.Matches.{match_list};
+ghost use Rattle.regress_meaning.specs.Matches.{Item, first_match, match_list, next_place};
 ghost use Rattle.regress_meaning.specs.Offsets.{of_utf8, of_ascii, of_utf16, of_ucs2};
 ghost use Rattle.regress_meaning.specs.Laws.{IsInside, IsAhead, ItemsRise, OffsetsRise, in_group};
 
@@ -71,6 +71,14 @@ pub fn matches_rise()
 /// From a place on there are at most as many matches as places, the end included.
 pub fn matches_are_bounded()
     ensures { (table : Table) → (o : Options) → (p : Pattern) → (text : List ℕ) → (place : ℕ) → length (match_list table o p text place) ≤ length text + 1 - place }
+{}
+
+/// A match list goes on from where its first match says: it is empty where there is no match from its place on, and else
+/// that match, which starts there or later, stands before the list from the next place.
+pub fn matches_go_on()
+    ensures ends { (table : Table) → (o : Options) → (p : Pattern) → (text : List ℕ) → (place : ℕ) → first_match table o p text place ≡ None → match_list table o p text place ≡ [] }
+    ensures goes { (table : Table) → (o : Options) → (p : Pattern) → (text : List ℕ) → (place : ℕ) → (i : Item) → first_match table o p text place ≡ Some i → match_list table o p text place ≡ i ∷ match_list table o p text (next_place i) }
+    ensures later { (table : Table) → (o : Options) → (p : Pattern) → (text : List ℕ) → (place : ℕ) → (i : Item) → first_match table o p text place ≡ Some i → place ≤ i.start }
 {}
 
 /// A pattern and the same in `(?:..)` have the same matches, groups included.

@@ -8,7 +8,7 @@ ghost use Rattle.regress_meaning.specs.Matches.{attempt, first_match};
 ghost use Rattle.regress.specs.Trees.{tree, most, sequence_of, choice_of};
 ghost use Rattle.regress.specs.Views.{item_of};
 ghost use Rattle.regress.specs.StateViews.{state_of, AreOutcomes, AreOutcomesOfAll, IsItemInside};
-ghost use Rattle.regress.specs.Iterating.{expansions, tasks_of};
+ghost use Rattle.regress.specs.Repeating.{expansions, tasks_of};
 
 use crate::engine::found::{Match, Range};
 use crate::front::syntax::{CaptureGroupID, Quantifier, Syntax};

@@ -2,6 +2,8 @@
 ghost use Rattle.std.specs.Prelude.{◌≡◌, ◌<◌, ◌≤◌, ◌-◌, Some, None, vec_len, slice_get, slice_range};
 ghost use Rattle.std.specs.Str.{IsCharBoundary};
 
+use crate::engine::groups::Groups;
+
 /// A range of offsets.
 pub type Range = std::ops::Range<usize>;
 
@@ -15,6 +17,8 @@ pub struct Match {
 }
 
 impl Match {
+    ghost use Rattle.regress.specs.GroupViews.{groups_of, groups_left};
+
     /// The range of a group, in bytes of the text that was searched: 0 is the whole match, and 1 the first capturing
     /// group. `None` where the group took no part, and past the last one.
     pub fn group(&self, index: usize) -> Option<Range>
@@ -30,6 +34,13 @@ impl Match {
             Some(Some(range)) => Some(range.start..range.end),
             _ => None,
         }
+    }
+
+    /// The range of the whole match and then that of each capturing group, as `group` answers them one after another.
+    pub fn groups(&self) -> Groups<'_>
+        ensures { groups_left result ≡ groups_of self.now }
+    {
+        Groups::new(self)
     }
 
     /// Where the match lies, in bytes of the text that was searched.

@@ -1,5 +1,5 @@
 //! A text as code points, and where each of them stands in its bytes.
-ghost use Rattle.std.specs.Prelude.{◌≡◌, ◌≤◌, ◌+◌, ℕ, chars, slice_get, Some, IfOk, vec_len};
+ghost use Rattle.std.specs.Prelude.{◌≡◌, ◌≢◌, ◌≤◌, ◌+◌, ℕ, chars, slice_get, Some, IfOk, IfSome, IfNone, vec_len};
 ghost use Rattle.regress_meaning.specs.Offsets.{offset, offset_range, told};
 ghost use Rattle.regress.specs.TextViews.{utf8_reading, PlacesWithin};
 ghost use Rattle.regress.specs.Views.{ends, item_of};
@@ -45,6 +45,16 @@ impl Text {
         ensures { result ≡ offset (utf8_reading self.now.points.items) place }
     {
         self.offsets[place]
+    }
+
+    /// The place at an offset in bytes; `None` where no character begins and the text doesn't end there.
+    pub(crate) fn place(&self, at: usize) -> Option<usize>
+        ensures there { IfSome result (λ place. (place ≤ vec_len self.now.points)
+            × (offset (utf8_reading self.now.points.items) place ≡ at)) }
+        ensures nowhere { IfNone result ((place : ℕ) → place ≤ vec_len self.now.points
+            → offset (utf8_reading self.now.points.items) place ≢ at) }
+    {
+        self.offsets.iter().position(|offset| *offset == at)
     }
 
     /// The range in bytes that lies between two places.

@@ -1,5 +1,5 @@
 use Rattle.std.proofs.Common.{◌≡◌, ◌++◌, length}
-use Rattle.regress.specs.Iterating.{expansions}
+use Rattle.regress.specs.Repeating.{expansions}
 use Rattle.regress.proofs.engine.evaluator.push_expansions.Given as goal
 
 -- the stack, and above it the states that are left, is the whole

@@ -1,9 +1,9 @@
 use Rattle.std.proofs.Common.{◌≡◌, List, ◌++◌, [], ◌∷◌, filter, append_assoc, ap, ◌∙◌, arith, rules}
 use Rattle.std.proofs.lemmas.Fn.{filter_same}
-use Rattle.regress.specs.Iterating.{expansions, moved_on}
+use Rattle.regress.specs.Repeating.{expansions, moved_on}
 use Rattle.regress.specs.declared.engine.evaluator.Task.{Task}
 use Rattle.regress.specs.declared.engine.evaluator.Task.TheVariants.{Emit}
-use Rattle.regress.proofs.IterationLemmas.{tasks_of-needed, tasks_of-greedy, tasks_of-lazy}
+use Rattle.regress.proofs.RepetitionLemmas.{tasks_of-needed, tasks_of-greedy, tasks_of-lazy}
 use Rattle.regress.proofs.engine.evaluator.push_tasks.Goals as goal
 
 pub returns-then-need-gt0 : goal.returns-then-need-gt0

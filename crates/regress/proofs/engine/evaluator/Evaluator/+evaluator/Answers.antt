@@ -8,7 +8,7 @@ use Rattle.regress.specs.StateViews.{state_of}
 use Rattle.regress.proofs.EvaluatorLemmas.{no_table, no_settings, leads, takes, leads-nothing, flat_map-nothing, leads-capture, arms_more, arms_all, terms_more, takes_more, takes_all, AreOutcomes-from_known}
 use Rattle.regress.proofs.TreeLaws.{tree-Character, tree-Alternative, tree-Disjunction, tree-Capture, tree-Group, tree-Loop}
 use Rattle.regress.specs.declared.engine.evaluator.Task.{Task}
-use Rattle.regress.proofs.IterationLemmas.{run, outcomes_of_task, outcomes_of_tasks, outcomes_of_tasks-start, outcomes_of_task-last, outcomes_of_tasks-emit, outcomes_of_tasks-expand, turns_of_task, turns-last, turns_of_tasks-emit, turns_of_tasks-expand}
+use Rattle.regress.proofs.RepetitionLemmas.{run, outcomes_of_task, outcomes_of_tasks, outcomes_of_tasks-start, outcomes_of_task-last, outcomes_of_tasks-emit, outcomes_of_tasks-expand, turns_of_task, turns-last, turns_of_tasks-emit, turns_of_tasks-expand}
 use Rattle.regress.proofs.engine.evaluator.Evaluator.+evaluator.Goals as goal
 
 pub outcomes-returns-in-Character : goal.outcomes-returns-in-Character

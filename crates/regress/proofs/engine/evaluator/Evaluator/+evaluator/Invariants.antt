@@ -6,7 +6,7 @@ use Rattle.regress_meaning.specs.Meaning.{Context}
 use Rattle.regress.specs.Trees.{tree, most, sequence_of}
 use Rattle.regress.specs.StateViews.{state_of, forward, AreOutcomesOfAll}
 use Rattle.regress.proofs.EvaluatorLemmas.{takes, leads_from, no_table, no_settings}
-use Rattle.regress.proofs.IterationLemmas.{run, outcomes_of_tasks, turns_of_tasks}
+use Rattle.regress.proofs.RepetitionLemmas.{run, outcomes_of_tasks, turns_of_tasks}
 use Rattle.regress.proofs.engine.evaluator.Evaluator.+evaluator.Given as goal
 
 abbrev pub invariant-outcomes_of_all-loop-state : goal.invariant-outcomes_of_all-loop-state

@@ -2,7 +2,7 @@ use Rattle.std.proofs.Common.{â„•, None, map, option_map, slice_set, sym, ap, â—
 use Rattle.std.proofs.lemmas.List.{map-set, set_past, length-map}
 use Rattle.regress.specs.Views.{ends}
 use Rattle.regress.specs.StateViews.{state_of}
-use Rattle.regress.proofs.IterationLemmas.{with_groups, cleared-none, cleared-more, cleared_past}
+use Rattle.regress.proofs.RepetitionLemmas.{with_groups, cleared-none, cleared-more, cleared_past}
 use Rattle.regress.proofs.engine.evaluator.State.cleared.Goals.{in-Some, in_default}
 use Rattle.regress.proofs.engine.evaluator.State.cleared.Goals as goal
 

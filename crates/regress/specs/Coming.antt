@@ -1,0 +1,48 @@
+-- The matches that an iterator has still to yield.
+use Rattle.std.specs.Prelude.{◌≡◌, ℕ, ◌-◌, ◌≤◌, List, length, map, Option, None, IsCharBoundary}
+use Rattle.regress_meaning.specs.Matches.{Item, match_list}
+use Rattle.regress_meaning.specs.Offsets.{told, Begins}
+use Rattle.regress.specs.declared.engine.found.Match.{Match}
+use Rattle.regress.specs.declared.engine.matches.Search.{Search}
+use Rattle.regress.specs.declared.engine.matches.Matches.{Matches}
+use Rattle.regress.specs.Trees.{tree}
+use Rattle.regress.specs.TableViews.{table}
+use Rattle.regress.specs.Views.{options}
+use Rattle.regress.specs.TextViews.{utf8_reading}
+use Rattle.regress.specs.Iterating.{coming_on, steps_on, place_within}
+
+-- the items from a place on, told in bytes
+abbrev pub items_from : Search → ℕ → List Item
+items_from s place =
+    let points = s.text.points.items in
+    map (told (utf8_reading points)) (match_list (table s.regex.now.tables.now) (options s.regex.now.flags) (tree s.regex.now.syntax) points place)
+
+-- how many places lie behind one
+abbrev pub places_behind : Search → ℕ → ℕ
+places_behind s place = length s.text.points.items - place
+
+-- a search that starts at an offset in bytes begins at the place there, and past the end at none
+abbrev pub StartsAt : Search → ℕ → Option ℕ → Type 0
+StartsAt s at position =
+    let points = s.text.points.items in
+    (place : ℕ) → Begins (utf8_reading points) at place → position ≡ place_within (length points) place
+
+-- a match, told in bytes, lies inside a text between characters
+abbrev pub LiesBetween : List ℕ → Match → Type 0
+LiesBetween bytes m = (m.range.start ≤ m.range.end) × IsCharBoundary bytes m.range.start × IsCharBoundary bytes m.range.end
+
+-- The bytes of the text that is searched.
+abbrev pub searched : Matches → List ℕ
+searched ms = ms.source.now
+
+-- The items that are still to come, told in bytes.
+abbrev pub coming : Matches → List Item
+coming ms = coming_on (items_from ms.inner.producer) ms.inner.position
+
+-- how many steps there may be up to the end
+abbrev pub steps_left : Matches → ℕ
+steps_left ms = steps_on (places_behind ms.inner.producer) ms.inner.position
+
+-- The search is over.
+abbrev pub HasEnded : Matches → Type 0
+HasEnded ms = ms.inner.position ≡ None

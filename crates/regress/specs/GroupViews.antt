@@ -1,0 +1,13 @@
+-- What an iterator over groups has still to yield.
+use Rattle.std.specs.Prelude.{ℕ, List, ◌∷◌, drop, Option, Some}
+use Rattle.std.specs.declared.ops.Range.{Range}
+use Rattle.regress.specs.declared.engine.found.Match.{Match}
+use Rattle.regress.specs.declared.engine.groups.Groups.{Groups}
+
+-- the whole range of a match, then that of each capturing group in order of its number
+abbrev pub groups_of : Match → List (Option (Range ℕ))
+groups_of m = Some m.range ∷ m.captures.items
+
+-- the groups still to come
+abbrev pub groups_left : Groups → List (Option (Range ℕ))
+groups_left g = drop g.index (groups_of g.found.now)

@@ -1,0 +1,85 @@
+//! The groups of a match, one after another.
+ghost use Rattle.std.specs.Prelude.{◌≤◌, ◌+◌, vec_len};
+ghost use Rattle.std.specs.Iterator.{YieldsFirst, item_count};
+
+use crate::engine::found::{Match, Range};
+use std::iter::{ExactSizeIterator, FusedIterator};
+
+/// The groups of a match: the range of the whole match, then that of each capturing group in order of its number, `None`
+/// where the group took no part. Ranges are in bytes of the text that was searched. From `Match::groups`.
+#[derive(Debug, Drop)]
+pub struct Groups<'m> {
+    pub(crate) found: &'m Match,
+    pub(crate) index: usize,
+    ghost in_range: { index ≤ vec_len found.now.captures + 1 },
+}
+
+impl<'m> Groups<'m> {
+    ghost use Rattle.std.specs.Prelude.{◌≡◌};
+    ghost use Rattle.regress.specs.GroupViews.{groups_of, groups_left};
+
+    /// All groups of a match.
+    pub(crate) fn new(found: &'m Match) -> Self
+        ensures { groups_left result ≡ groups_of found.now }
+    {
+        Groups { found, index: 0 }
+    }
+}
+
+impl<'m> Iterator for Groups<'m> {
+    ghost use Rattle.regress.specs.GroupViews.{groups_left};
+
+    type Item = Option<Range>;
+
+    ghost next_gives = { YieldsFirst groups_left };
+
+    ghost remaining = { item_count groups_left };
+
+    /// The next group; `None` after the last one, and ever after.
+    fn next(&mut self) -> Option<Option<Range>> {
+        if self.index > self.found.captures.len() {
+            return None;
+        }
+        let group = self.found.group(self.index);
+        self.index += 1;
+        Some(group)
+    }
+
+    /// How many groups are still to come, as both bounds.
+    fn size_hint(&self) -> (usize, Option<usize>) {
+        let len = self.len();
+        (len, Some(len))
+    }
+}
+
+impl<'m> ExactSizeIterator for Groups<'m> {
+    /// How many groups are still to come.
+    fn len(&self) -> usize {
+        self.found.captures.len() + 1 - self.index
+    }
+}
+
+impl<'m> FusedIterator for Groups<'m> {}
+
+#[cfg(test)]
+mod tests {
+    use super::*;
+    use std::test::Fail;
+
+    #[test]
+    fn the_whole_match_and_then_each_capture(rt: HostRuntime) -> Result<(), Fail> {
+        let found = Match {
+            range: 1..6,
+            captures: vec![in rt.alloc(); Some(1..3), None]?,
+        };
+        let mut groups = found.groups();
+        assert_eq!(rt; groups.len(), 3);
+        assert_eq!(rt; groups.next(), Some(Some(1..6)));
+        assert_eq!(rt; groups.next(), Some(Some(1..3)));
+        assert_eq!(rt; groups.len(), 1);
+        assert_eq!(rt; groups.next(), Some(None));
+        assert_eq!(rt; groups.next(), None);
+        assert_eq!(rt; groups.next(), None);
+        Ok(())
+    }
+}
