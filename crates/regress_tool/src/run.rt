@@ -1,15 +1,95 @@
 //! One run of the program.
-ghost use Rattle.std.specs.Prelude.{◌≡◌, ◌↔◌, ◌⊎◌, ℕ, [], true, false, Some, ⊤, OnOk, OnErr, IfOk, IfErr, IfSome, IsErrOf, is_err, take};
-ghost use Rattle.std.specs.Io.{StartsWith};
-ghost use Rattle.std.specs.Io.KnownBytes.{Appends, Consumes};
+ghost use Rattle.std.specs.Prelude.{◌≡◌, ◌≢◌, ◌↔◌, ◌⊎◌, ℕ, [], true, false, Some, chars, IsUtf8, OnOk, OnErr, IfOk, IfErr, IfSome, IsErrOf, is_err, take};
+ghost use Rattle.std.specs.Io.KnownBytes.{Appends};
+ghost use Rattle.regress_meaning.specs.Table.{Table};
+ghost use Rattle.regress_meaning.specs.Pattern.{Pattern};
+ghost use Rattle.regress_meaning.specs.Flags.{Options, options_of};
+ghost use Rattle.regress.specs.declared.front.error.Error as refusal;
+ghost use Rattle.regress.specs.declared.front.error.Error.TheVariants as refused;
+ghost use Rattle.regress.specs.Standing.{StandsFor};
+ghost use Rattle.regress.specs.Refusing.{MayRefuse};
+ghost use Rattle.regress_tool.specs.Running.{small, output, AppendsFront, Accepted, Searched};
 
 use crate::error::ToolError;
+use crate::lines::line;
 use crate::sink::Sink;
 use crate::source::{Failed, Source};
+use regress::{Flags, Regex, Tables};
 use std::alloc::Global;
 
 /// How many bytes are asked for at a time.
 const CHUNK: usize = 4096;
+
+/// Reads all input, and writes a line for the first match of a pattern in it.
+///
+/// Asks that neither stream has failed. The faults are found in this order: a pattern that is refused, before anything is
+/// read; a read that fails; input that is not UTF-8; then a write that fails. A request for memory may be refused at any
+/// time, and over a source that never ends one is. After a write that fails, a beginning of the output was written.
+pub fn run<R: Source, W: Sink>(
+    alloc: Global,
+    source: &mut R,
+    sink: &mut W,
+    flags: &str,
+    pattern: &str,
+) -> Result<(), ToolError>
+    requires source { R.failed source.old ≡ false }
+    requires sink { W.failed sink.old ≡ false }
+    ensures ok { OnOk result (IfSome (R.left source.old) (λ input.
+        Searched flags.now pattern.now input (R.left source.new) (Appends (W.written sink.old) (W.written sink.new)))) }
+
+    // A refused pattern is found first.
+    ensures pattern { (e : refusal.Error) → IsErrOf result (ToolError.Pattern e)
+        → MayRefuse small (options_of (chars flags.now)) (chars pattern.now) e × (e ≢ refused.OutOfMemory)
+          × (source.new ≡ source.old) × (sink.new ≡ sink.old) }
+
+    // Then a read that fails, and then what is not UTF-8.
+    ensures read { IsErrOf result ToolError.Read ↔ (R.failed source.new ≡ true) }
+    ensures unread { IsErrOf result ToolError.Read → Accepted flags.now pattern.now × (sink.new ≡ sink.old) }
+    ensures not_utf8 { IsErrOf result ToolError.NotUtf8 → Accepted flags.now pattern.now × (sink.new ≡ sink.old)
+        × IfSome (R.left source.old) (λ input. (R.left source.new ≡ Some []) × ¬ IsUtf8 input) }
+
+    // Then a write that fails.
+    ensures write { IsErrOf result ToolError.Write ↔ (W.failed sink.new ≡ true) }
+    ensures unwritten { IsErrOf result ToolError.Write → IfSome (R.left source.old) (λ input.
+        Searched flags.now pattern.now input (R.left source.new) (AppendsFront (W.written sink.old) (W.written sink.new))) }
+
+    ensures out_of_memory { IsErrOf result ToolError.OutOfMemory → (sink.new ≡ sink.old) ⊎ IfSome (R.left source.old) (λ input.
+        Searched flags.now pattern.now input (R.left source.new) (AppendsFront (W.written sink.old) (W.written sink.new))) }
+{
+    let Ok(tables) = Tables::small(alloc) else {
+        return Err(ToolError::OutOfMemory);
+    };
+    let regex = Regex::with_flags(alloc, pattern, Flags::from(flags), &tables)?;
+    let bytes = read_all(alloc, source)?;
+    let Ok(text) = str::from_utf8(bytes.as_slice()) else {
+        return Err(ToolError::NotUtf8);
+    };
+    write_lines(alloc, &regex, text, sink)
+}
+
+/// Writes the lines of the matches in a text.
+fn write_lines<W: Sink>(
+    alloc: Global,
+    regex: &Regex,
+    text: &str,
+    sink: &mut W,
+) -> Result<(), ToolError>
+    requires { W.failed sink.old ≡ false }
+    ensures ok { (t : Table) → (o : Options) → (p : Pattern) → StandsFor regex.now t o p
+        → OnOk result (Appends (W.written sink.old) (W.written sink.new) (output t o p text.now)) }
+    ensures err { (t : Table) → (o : Options) → (p : Pattern) → StandsFor regex.now t o p
+        → OnErr result (AppendsFront (W.written sink.old) (W.written sink.new) (output t o p text.now)) }
+    ensures write { IsErrOf result ToolError.Write ↔ (W.failed sink.new ≡ true) }
+    ensures faults { IfErr result (λ e. (e ≡ ToolError.Write) ⊎ (e ≡ ToolError.OutOfMemory)) }
+{
+    if let Some(found) = regex.find(text)? {
+        let line = line(alloc, &found)?;
+        if put_all(sink, line.as_bytes()).is_err() {
+            return Err(ToolError::Write);
+        }
+    }
+    Ok(())
+}
 
 /// Reads all that is left.
 fn read_all<R: Source>(alloc: Global, source: &mut R) -> Result<Vec<u8>, ToolError>
@@ -33,7 +113,7 @@ fn read_all<R: Source>(alloc: Global, source: &mut R) -> Result<Vec<u8>, ToolErr
 fn put_all<W: Sink>(sink: &mut W, bytes: &[u8]) -> Result<(), Failed>
     requires { W.failed sink.old ≡ false }
     ensures ok { OnOk result (Appends (W.written sink.old) (W.written sink.new) bytes.now) }
-    ensures err { OnErr result ((count : ℕ) × Appends (W.written sink.old) (W.written sink.new) (take count bytes.now)) }
+    ensures err { OnErr result (AppendsFront (W.written sink.old) (W.written sink.new) bytes.now) }
     ensures failure { W.failed sink.new ≡ is_err result }
 {
     let mut done = 0;
