@@ -52,7 +52,7 @@ searched flags pattern text slice bytes (Some input) new Wrote r e u a w =
       read = r.1;
       utf8 = subst IsUtf8 same u.1;
       accepted = a;
-      wrote = subst (λ t. Wrote (output small (options_of (chars flags)) a.tree t)) (u.0 ∙ same) w
+      wrote = subst (λ t. Wrote (output small (options_of (chars flags)) a.tree t)) (u.0 ∙ same) w;
     }
 
 -- a pattern that is compiled is accepted, and the compiled pattern stands for its tree

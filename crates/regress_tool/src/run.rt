@@ -40,7 +40,7 @@ pub fn run<R: Source, W: Sink>(
     // A refused pattern is found first.
     ensures pattern { (e : refusal.Error) → IsErrOf result (ToolError.Pattern e)
         → MayRefuse small (options_of (chars flags.now)) (chars pattern.now) e × (e ≢ refused.OutOfMemory)
-          × (source.new ≡ source.old) × (sink.new ≡ sink.old) }
+        × (source.new ≡ source.old) × (sink.new ≡ sink.old) }
 
     // Then a read that fails, and then what is not UTF-8.
     ensures read { IsErrOf result ToolError.Read ↔ (R.failed source.new ≡ true) }

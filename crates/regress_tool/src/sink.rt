@@ -37,10 +37,12 @@ pub struct StdSink<W: Write> {
 }
 
 impl<W: Write> StdSink<W> {
+    ghost use Rattle.regress_tool.specs.Streams.{writer_of, write_failed};
+
     /// A sink over a writer, none of whose writes has failed.
     pub fn new(writer: W) -> StdSink<W>
-        ensures writer { result.writer ≡ writer }
-        ensures fresh { result.has_failed ≡ false }
+        ensures writer { writer_of result ≡ writer }
+        ensures fresh { write_failed result ≡ false }
     {
         StdSink {
             writer,
@@ -51,9 +53,11 @@ impl<W: Write> StdSink<W> {
 
 /// Any error of the writer is a failure, an interruption too, and so is a write that takes no byte of some.
 impl<W: Write> Sink for StdSink<W> {
-    ghost written = { λ s. W.contents s.writer };
+    ghost use Rattle.regress_tool.specs.Streams.{writer_of, write_failed};
 
-    ghost failed = { λ s. s.has_failed };
+    ghost written = { λ s. W.contents (writer_of s) };
+
+    ghost failed = { write_failed };
 
     fn failed(&self) -> bool {
         self.has_failed

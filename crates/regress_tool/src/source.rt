@@ -39,10 +39,12 @@ pub struct StdSource<R: Read> {
 }
 
 impl<R: Read> StdSource<R> {
+    ghost use Rattle.regress_tool.specs.Streams.{reader_of, read_failed};
+
     /// A source over a reader, none of whose reads has failed.
     pub fn new(reader: R) -> StdSource<R>
-        ensures reader { result.reader ≡ reader }
-        ensures fresh { result.has_failed ≡ false }
+        ensures reader { reader_of result ≡ reader }
+        ensures fresh { read_failed result ≡ false }
     {
         StdSource {
             reader,
@@ -53,9 +55,11 @@ impl<R: Read> StdSource<R> {
 
 /// Any error of the reader is a failure, an interruption too.
 impl<R: Read> Source for StdSource<R> {
-    ghost left = { λ s. R.remaining s.reader };
+    ghost use Rattle.regress_tool.specs.Streams.{reader_of, read_failed};
 
-    ghost failed = { λ s. s.has_failed };
+    ghost left = { λ s. R.remaining (reader_of s) };
+
+    ghost failed = { read_failed };
 
     fn failed(&self) -> bool {
         self.has_failed

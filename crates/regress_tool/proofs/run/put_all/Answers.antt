@@ -6,5 +6,5 @@ pub loop-done-preserved : goal.loop-done-preserved
 loop-done-preserved g c = record {
   inside = grind arith;
   going = c.in_ok-done.ensures.failure;
-  wrote = Appends-put _ _ _ _ _ _ c.in_ok-done.ensures.bound c.loop-done.invariant.wrote c.in_ok-done.ensures.bytes
+  wrote = Appends-put _ _ _ _ _ _ c.in_ok-done.ensures.bound c.loop-done.invariant.wrote c.in_ok-done.ensures.bytes;
 }

@@ -6,7 +6,7 @@ abbrev pub invariant-loop-bytes : goal.invariant-loop-bytes
 invariant-loop-bytes g l = record {
   room : length l.chunk ≡ 4096;
   going : g.R.Source.failed l.source ≡ false;
-  read : Consumes (g.R.Source.left l.fn.source) (g.R.Source.left l.source) l.bytes.items
+  read : Consumes (g.R.Source.left l.fn.source) (g.R.Source.left l.source) l.bytes.items;
 }
 
 -- A buffer holds less than 2 ^ 63 bytes.
