@@ -76,3 +76,28 @@ impl From<AllocError> for ToolError {
         ToolError::OutOfMemory
     }
 }
+
+#[cfg(test)]
+mod tests {
+    use super::*;
+    use std::test::Fail;
+
+    #[test]
+    fn each_fault_has_its_text_and_status(rt: HostRuntime) -> Result<(), Fail> {
+        let refused = Error::Syntax {
+            text: "Unbalanced parenthesis",
+        };
+        for (fault, text, status) in [
+            (ToolError::NotUtf8, "input is not UTF-8", 1),
+            (ToolError::Read, "read failed", 1),
+            (ToolError::Write, "write failed", 1),
+            (ToolError::from(AllocError), "out of memory", 1),
+            (ToolError::from(Error::OutOfMemory), "out of memory", 1),
+            (ToolError::from(refused), "Unbalanced parenthesis", 2),
+        ] {
+            assert_eq!(rt; fault.to_string(rt.alloc())?.as_str(), text);
+            assert_eq!(rt; fault.status(), status);
+        }
+        Ok(())
+    }
+}

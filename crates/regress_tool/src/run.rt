@@ -35,7 +35,8 @@ pub fn run<R: Source, W: Sink>(
     requires source { R.failed source.old ≡ false }
     requires sink { W.failed sink.old ≡ false }
     ensures ok { OnOk result (IfSome (R.left source.old) (λ input.
-        Searched flags.now pattern.now input (R.left source.new) (Appends (W.written sink.old) (W.written sink.new)))) }
+        Searched flags.now pattern.now input (R.left source.new)
+        (Appends (W.written sink.old) (W.written sink.new)))) }
 
     // A refused pattern is found first.
     ensures pattern { (e : refusal.Error) → IsErrOf result (ToolError.Pattern e)
@@ -44,17 +45,21 @@ pub fn run<R: Source, W: Sink>(
 
     // Then a read that fails, and then what is not UTF-8.
     ensures read { IsErrOf result ToolError.Read ↔ (R.failed source.new ≡ true) }
-    ensures unread { IsErrOf result ToolError.Read → Accepted flags.now pattern.now × (sink.new ≡ sink.old) }
+    ensures on_read { IsErrOf result ToolError.Read → Accepted flags.now pattern.now × (sink.new ≡ sink.old) }
     ensures not_utf8 { IsErrOf result ToolError.NotUtf8 → Accepted flags.now pattern.now × (sink.new ≡ sink.old)
         × IfSome (R.left source.old) (λ input. (R.left source.new ≡ Some []) × ¬ IsUtf8 input) }
 
     // Then a write that fails.
     ensures write { IsErrOf result ToolError.Write ↔ (W.failed sink.new ≡ true) }
-    ensures unwritten { IsErrOf result ToolError.Write → IfSome (R.left source.old) (λ input.
-        Searched flags.now pattern.now input (R.left source.new) (AppendsFront (W.written sink.old) (W.written sink.new))) }
+    ensures on_write { IsErrOf result ToolError.Write → IfSome (R.left source.old) (λ input.
+        Searched flags.now pattern.now input (R.left source.new)
+        (AppendsFront (W.written sink.old) (W.written sink.new))) }
 
-    ensures out_of_memory { IsErrOf result ToolError.OutOfMemory → (sink.new ≡ sink.old) ⊎ IfSome (R.left source.old) (λ input.
-        Searched flags.now pattern.now input (R.left source.new) (AppendsFront (W.written sink.old) (W.written sink.new))) }
+    // Memory may be refused before anything is written, or after a beginning of the output.
+    ensures out_of_memory { IsErrOf result ToolError.OutOfMemory
+        → (sink.new ≡ sink.old) ⊎ IfSome (R.left source.old) (λ input.
+        Searched flags.now pattern.now input (R.left source.new)
+        (AppendsFront (W.written sink.old) (W.written sink.new))) }
 {
     let Ok(tables) = Tables::small(alloc) else {
         return Err(ToolError::OutOfMemory);
@@ -67,7 +72,7 @@ pub fn run<R: Source, W: Sink>(
     write_lines(alloc, &regex, text, sink)
 }
 
-/// Writes the lines of the matches in a text.
+/// Writes a line for the first match in a text. On an error, a beginning of it was written.
 fn write_lines<W: Sink>(
     alloc: Global,
     regex: &Regex,
@@ -91,7 +96,7 @@ fn write_lines<W: Sink>(
     Ok(())
 }
 
-/// Reads all that is left.
+/// Reads all that is left. Each read but the last adds to the buffer, so over a source that never ends memory is refused.
 fn read_all<R: Source>(alloc: Global, source: &mut R) -> Result<Vec<u8>, ToolError>
     requires { R.failed source.old ≡ false }
     ensures read { IfOk result (λ bytes. IfSome (R.left source.old) (λ input. (bytes.items ≡ input) × (R.left source.new ≡ Some []))) }
@@ -109,7 +114,7 @@ fn read_all<R: Source>(alloc: Global, source: &mut R) -> Result<Vec<u8>, ToolErr
     }
 }
 
-/// Writes all bytes.
+/// Writes all bytes. On an error, a beginning of them was written.
 fn put_all<W: Sink>(sink: &mut W, bytes: &[u8]) -> Result<(), Failed>
     requires { W.failed sink.old ≡ false }
     ensures ok { OnOk result (Appends (W.written sink.old) (W.written sink.new) bytes.now) }
@@ -121,4 +126,137 @@ fn put_all<W: Sink>(sink: &mut W, bytes: &[u8]) -> Result<(), Failed>
         done += sink.put(&bytes[done..])?;
     }
     Ok(())
+}
+
+#[cfg(test)]
+mod tests {
+    use super::*;
+    use crate::sink::StdSink;
+    use crate::source::StdSource;
+    use std::test::Fail;
+
+    /// Gives a byte a call, and fails after some calls.
+    #[derive(Drop)]
+    struct Drops<'a> {
+        rest: &'a [u8],
+        calls: usize,
+        has_failed: bool,
+    }
+
+    impl<'a> Source for Drops<'a> {
+        ghost use Rattle.std.specs.Prelude.{None};
+
+        ghost left = { λ _. None };
+
+        ghost failed = { λ s. s.has_failed };
+
+        fn failed(&self) -> bool {
+            self.has_failed
+        }
+
+        fn take(&mut self, buffer: &mut [u8]) -> Result<usize, Failed> {
+            if self.calls == 0 {
+                self.has_failed = true;
+                return Err(Failed);
+            }
+            self.calls -= 1;
+            match (self.rest.split_first(), buffer.first_mut()) {
+                (Some((byte, rest)), Some(place)) => {
+                    *place = *byte;
+                    self.rest = rest;
+                    Ok(1)
+                }
+                _ => Ok(0),
+            }
+        }
+    }
+
+    /// Takes a byte a call, and fails after some calls.
+    #[derive(Drop)]
+    struct Strip {
+        text: Vec<u8>,
+        calls: usize,
+        has_failed: bool,
+    }
+
+    impl Sink for Strip {
+        ghost use Rattle.std.specs.Prelude.{None};
+
+        ghost written = { λ _. None };
+
+        ghost failed = { λ s. s.has_failed };
+
+        fn failed(&self) -> bool {
+            self.has_failed
+        }
+
+        fn put(&mut self, bytes: &[u8]) -> Result<usize, Failed> {
+            let Some(byte) = bytes.first() else {
+                return Ok(0);
+            };
+            if self.calls == 0 || self.text.push(*byte).is_err() {
+                self.has_failed = true;
+                return Err(Failed);
+            }
+            self.calls -= 1;
+            Ok(1)
+        }
+    }
+
+    #[test]
+    fn the_first_match_is_written(rt: HostRuntime) -> Result<(), Fail> {
+        for (pattern, input, expected) in [
+            ("(a)|b", "ab", "0..1 0..1\n"),
+            ("(a)|b", "b", "0..1 -\n"),
+            ("(\u{e9})|(b)", "x\u{e9}b", "1..3 1..3 -\n"),
+            ("(a)|b", "", ""),
+            ("(a)|b", "xyz", ""),
+        ] {
+            let mut source = StdSource::new(input.as_bytes());
+            let mut written = Vec::new(rt.alloc());
+            let mut sink = StdSink::new(&mut written);
+            assert_eq!(rt;
+                run(rt.alloc(), &mut source, &mut sink, "", pattern),
+                Ok(())
+            );
+            assert_eq!(rt;
+                written.as_slice(),
+                expected.as_bytes(),
+                "{pattern} on {input}"
+            );
+        }
+        Ok(())
+    }
+
+    #[test]
+    fn streams_of_single_bytes_and_their_faults(rt: HostRuntime) -> Result<(), Fail> {
+        let refused = ToolError::Pattern(regress::Error::Syntax {
+            text: "Unbalanced parenthesis",
+        });
+        for (pattern, input, reads, puts, expected, written) in [
+            ("(a)|b", b"ab".as_slice(), 9, 20, Ok(()), "0..1 0..1\n"),
+            ("(a", b"ab".as_slice(), 9, 20, Err(refused.clone()?), ""),
+            ("(a", b"ab".as_slice(), 0, 0, Err(refused), ""),
+            ("a", b"ab".as_slice(), 1, 20, Err(ToolError::Read), ""),
+            ("a", b"\xff".as_slice(), 9, 20, Err(ToolError::NotUtf8), ""),
+            ("(a)|b", b"ab".as_slice(), 9, 2, Err(ToolError::Write), "0."),
+        ] {
+            let mut source = Drops {
+                rest: input,
+                calls: reads,
+                has_failed: false,
+            };
+            let mut sink = Strip {
+                text: Vec::new(rt.alloc()),
+                calls: puts,
+                has_failed: false,
+            };
+            let result = run(rt.alloc(), &mut source, &mut sink, "", pattern);
+            assert_eq!(rt; source.failed(), result == Err(ToolError::Read));
+            assert_eq!(rt; sink.failed(), result == Err(ToolError::Write));
+            assert_eq!(rt; result, expected);
+            assert_eq!(rt; sink.text.as_slice(), written.as_bytes());
+        }
+        Ok(())
+    }
 }

@@ -73,3 +73,32 @@ impl<W: Write> Sink for StdSink<W> {
         }
     }
 }
+
+#[cfg(test)]
+mod tests {
+    use super::*;
+    use std::io;
+
+    /// Takes no byte.
+    #[derive(Drop)]
+    struct Full;
+
+    impl Write for Full {
+        fn write(&mut self, _bytes: &[u8]) -> io::Result<usize> {
+            Ok(0)
+        }
+
+        fn flush(&mut self) -> io::Result<()> {
+            Ok(())
+        }
+    }
+
+    #[test]
+    fn a_write_of_no_byte_is_a_failure(rt: HostRuntime) {
+        let mut sink = StdSink::new(Full);
+        assert_eq!(rt; sink.put(&[]), Ok(0));
+        assert!(rt; !sink.failed());
+        assert_eq!(rt; sink.put(b"a"), Err(Failed));
+        assert!(rt; sink.failed());
+    }
+}

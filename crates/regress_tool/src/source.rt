@@ -75,3 +75,28 @@ impl<R: Read> Source for StdSource<R> {
         }
     }
 }
+
+#[cfg(test)]
+mod tests {
+    use super::*;
+    use std::io;
+    use std::io::ErrorKind;
+
+    /// Is interrupted at each read.
+    #[derive(Drop)]
+    struct Interrupted;
+
+    impl Read for Interrupted {
+        fn read(&mut self, _buffer: &mut [u8]) -> io::Result<usize> {
+            Err(io::Error::from(ErrorKind::Interrupted))
+        }
+    }
+
+    #[test]
+    fn an_interruption_is_a_failure(rt: HostRuntime) {
+        let mut source = StdSource::new(Interrupted);
+        assert!(rt; !source.failed());
+        assert_eq!(rt; source.take(&mut [0; 2]), Err(Failed));
+        assert!(rt; source.failed());
+    }
+}

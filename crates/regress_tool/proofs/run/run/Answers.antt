@@ -11,8 +11,8 @@ returns-clause-ok g c =
     (λ w. searched _ _ _ _ _ _ _ _ c.in_ok-bytes.ensures.read c.as_slice.ensures.value c.in-Ok-from_utf8.ensures.cases a.0 w)
     (c.write_lines.ensures.ok small _ a.0.tree a.1)
 
-pub returns-clause-unwritten : goal.returns-clause-unwritten
-returns-clause-unwritten g c = λ e.
+pub returns-clause-on_write : goal.returns-clause-on_write
+returns-clause-on_write g c = λ e.
     let a = accepted _ _ _ _ c.from.ensures c.in_ok-regex.ensures.accepted in
     searched _ _ _ _ _ _ _ _ c.in_ok-bytes.ensures.read c.as_slice.ensures.value c.in-Ok-from_utf8.ensures.cases a.0
     (on_err-of _ _ e (c.write_lines.ensures.err small _ a.0.tree a.1))
