@@ -1,5 +1,5 @@
 //! One run of the program.
-ghost use Rattle.std.specs.Prelude.{◌≡◌, ◌≢◌, ◌↔◌, ◌⊎◌, ℕ, [], true, false, Some, chars, IsUtf8, OnOk, OnErr, IfOk, IfErr, IfSome, IsErrOf, is_err, take};
+ghost use Rattle.std.specs.Prelude.{◌≡◌, ◌≢◌, ◌↔◌, ◌⊎◌, [], true, false, Some, chars, IsUtf8, OnOk, OnErr, IfOk, IfErr, IfSome, IsErrOf, is_err};
 ghost use Rattle.std.specs.Io.KnownBytes.{Appends};
 ghost use Rattle.regress_meaning.specs.Table.{Table};
 ghost use Rattle.regress_meaning.specs.Pattern.{Pattern};
