@@ -1,0 +1,41 @@
+//! The lines that are written.
+ghost use Rattle.std.specs.Prelude.{◌≡◌, ◌++◌, OnOk, IfOk, string_bytes, option_map};
+ghost use Rattle.regress_meaning.specs.Output.{line_of, group_text, range_text};
+ghost use Rattle.regress.specs.Views.{ends, item_of};
+
+use regress::{Match, Range};
+use std::alloc::{AllocError, Global};
+
+/// The line of a match with its newline: the range of the match, and for each group in order of its number a space and
+/// its range or `-`. Errs where a request for memory is refused.
+pub fn line(alloc: Global, found: &Match) -> Result<String, AllocError>
+    ensures { IfOk result (λ text. string_bytes text ≡ line_of (item_of found.now)) }
+{
+    let mut text = String::new(alloc);
+    push_range(&mut text, &found.range)?;
+    for group in &found.captures {
+        push_group(&mut text, group)?;
+    }
+    text.push('\n')?;
+    Ok(text)
+}
+
+/// Appends a space, and the range of a group or `-`.
+fn push_group(text: &mut String, group: &Option<Range>) -> Result<(), AllocError>
+    ensures { OnOk result (string_bytes text.new ≡ string_bytes text.old ++ group_text (option_map ends group.now)) }
+{
+    match group {
+        Some(range) => {
+            text.push(' ')?;
+            push_range(text, range)
+        }
+        None => text.push_str(" -"),
+    }
+}
+
+/// Appends `start..end` in decimal.
+fn push_range(text: &mut String, range: &Range) -> Result<(), AllocError>
+    ensures { OnOk result (string_bytes text.new ≡ string_bytes text.old ++ range_text (ends range.now)) }
+{
+    write!(text, "{}..{}", range.start, range.end)
+}
