@@ -15,9 +15,9 @@ use Rattle.regress_meaning.specs.Output.{lines_of}
 abbrev pub small : Table
 small = table_of small_parts
 
--- the output for a tree and a text in UTF-8: the line of the first match, if there is one
+-- the output for a tree and a text in UTF-8: the line of each match
 abbrev pub output : Table → Options → Pattern → List ℕ → List ℕ
-output table o p text = lines_of (map (told (of_utf8 text)) (take 1 (match_list table o p (chars text) 0)))
+output table o p text = lines_of (map (told (of_utf8 text)) (match_list table o p (chars text) 0))
 
 -- written bytes grow by a beginning of these
 abbrev pub AppendsFront : Option (List ℕ) → Option (List ℕ) → List ℕ → Type 0

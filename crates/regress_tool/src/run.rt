@@ -20,7 +20,7 @@ use std::alloc::Global;
 /// How many bytes are asked for at a time.
 const CHUNK: usize = 4096;
 
-/// Reads all input, and writes a line for the first match of a pattern in it.
+/// Reads all input, and writes a line for each match of a pattern in it.
 ///
 /// Asks that neither stream has failed. The faults are found in this order: a pattern that is refused, before anything is
 /// read; a read that fails; input that is not UTF-8; then a write that fails. A request for memory may be refused at any
@@ -72,7 +72,7 @@ pub fn run<R: Source, W: Sink>(
     write_lines(alloc, &regex, text, sink)
 }
 
-/// Writes a line for the first match in a text. On an error, a beginning of it was written.
+/// Writes a line for each match in a text. On an error, a beginning of them was written.
 fn write_lines<W: Sink>(
     alloc: Global,
     regex: &Regex,
@@ -87,8 +87,8 @@ fn write_lines<W: Sink>(
     ensures write { IsErrOf result ToolError.Write ↔ (W.failed sink.new ≡ true) }
     ensures faults { IfErr result (λ e. (e ≡ ToolError.Write) ⊎ (e ≡ ToolError.OutOfMemory)) }
 {
-    if let Some(found) = regex.find(text)? {
-        let line = line(alloc, &found)?;
+    for found in regex.find_iter(text)? {
+        let line = line(alloc, &found?)?;
         if put_all(sink, line.as_bytes()).is_err() {
             return Err(ToolError::Write);
         }
