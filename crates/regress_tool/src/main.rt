@@ -1,7 +1,7 @@
-//! Prints the first match of a pattern in the text on standard input.
+//! Prints the matches of a pattern in the text on standard input.
 //!
-//! `regress_tool FLAGS PATTERN` writes a line: the range of the match in bytes, and for each capturing group a space and
-//! its range or `-`. It writes nothing where there is no match. A fault is told in one line on standard error.
+//! `regress_tool FLAGS PATTERN` writes a line for each match: its range in bytes, and for each capturing group a space and
+//! its range or `-`. A fault is told in one line on standard error.
 #![tactic(auto)]
 
 mod error;

@@ -204,11 +204,12 @@ mod tests {
     }
 
     #[test]
-    fn the_first_match_is_written(rt: HostRuntime) -> Result<(), Fail> {
+    fn a_line_for_each_match(rt: HostRuntime) -> Result<(), Fail> {
         for (pattern, input, expected) in [
-            ("(a)|b", "ab", "0..1 0..1\n"),
+            ("(a)|b", "ab", "0..1 0..1\n1..2 -\n"),
             ("(a)|b", "b", "0..1 -\n"),
-            ("(\u{e9})|(b)", "x\u{e9}b", "1..3 1..3 -\n"),
+            ("(\u{e9})|(b)", "x\u{e9}b", "1..3 1..3 -\n3..4 - 3..4\n"),
+            ("a*", "baa", "0..0\n1..3\n3..3\n"),
             ("(a)|b", "", ""),
             ("(a)|b", "xyz", ""),
         ] {
@@ -234,7 +235,7 @@ mod tests {
             text: "Unbalanced parenthesis",
         });
         for (pattern, input, reads, puts, expected, written) in [
-            ("(a)|b", b"ab".as_slice(), 9, 20, Ok(()), "0..1 0..1\n"),
+            ("(a)|b", b"ab".as_slice(), 9, 20, Ok(()), "0..1 0..1\n1..2 -\n"),
             ("(a", b"ab".as_slice(), 9, 20, Err(refused.clone()?), ""),
             ("(a", b"ab".as_slice(), 0, 0, Err(refused), ""),
             ("a", b"ab".as_slice(), 1, 20, Err(ToolError::Read), ""),

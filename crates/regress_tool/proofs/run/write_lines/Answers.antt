@@ -1,51 +1,61 @@
-use Rattle.std.proofs.Common.{rules, ◌≡◌, ◌≢◌, ◌↔◌, ◌⊎◌, [], true, false, Some, chars, IsUtf8, OnOk, OnErr, IfOk, IfErr, IfSome, IsErrOf, is_err, ℕ, ◌+◌, ◌-◌, ◌*◌, ◌<◌, ◌≤◌, length, ◌/◌, ◌%◌, Bool, nat_eq, nat_lt, List, ◌∷◌, ◌++◌, slice_index_or, slice_set, bit_and, bit_or, Fits, w8, w32, w64, Bor, MutBor}
-use Rattle.std.specs.Io.KnownBytes.{Appends}
-use Rattle.regress_meaning.specs.Table.{Table}
-use Rattle.regress_meaning.specs.Pattern.{Pattern}
-use Rattle.regress_meaning.specs.Flags.{Options, options_of}
-use Rattle.regress.specs.declared.front.error.Error as refusal
-use Rattle.regress.specs.declared.front.error.Error.TheVariants as refused
-use Rattle.regress.specs.Standing.{StandsFor}
-use Rattle.regress.specs.Refusing.{MayRefuse}
-use Rattle.regress_tool.specs.Running.{small, output, AppendsFront, Accepted, Searched}
+use Rattle.std.proofs.Common.{◌≡◌, ◌≢◌, List, [], true, false, Ok, Err, None, Some, sym, ap, ◌∙◌, subst}
+use Rattle.std.proofs.KnownBytes.{Appends-nil}
+use Rattle.std.proofs.lemmas.Result.{err_from_is_err_and}
+use Rattle.regress_meaning.specs.Output.{lines_of}
+use Rattle.regress.specs.Coming.{coming}
+use Rattle.regress.specs.Views.{item_of}
+use Rattle.regress_tool.specs.Running.{output, AppendsFront}
+use Rattle.regress_tool.proofs.RunLemmas.{IsWritten, IsWritten-front, IsWritten-all, IsWritten-more, IsWritten-part, on_ok-at, on_err-at, on_err-always}
+use Rattle.regress_tool.specs.Faults.{fault_of}
 use Rattle.regress_tool.proofs.run.write_lines.Goals as goal
 
--- src/run.rt:90:5
 pub loop-found-init : goal.loop-found-init
-loop-found-init g c = ?
+loop-found-init g c = (c.requires, λ t o p s. record {
+  done = [];
+  appended = Appends-nil _;
+  whole = ap (λ ms. lines_of (coming ms)) c.into_iter-found-iterator.ensures.into_iter_gives ∙ ap lines_of (c.in_ok-found-items.ensures.matches t o p s);
+})
 
--- src/run.rt:91:33
 pub returns-in_err-found-clause-err : goal.returns-in_err-found-clause-err
-returns-in_err-found-clause-err g c = ?
+returns-in_err-found-clause-err g c = λ t o p s.
+    on_err-always c.from_residual-in_err-found.result (IsWritten-front _ _ _ _ (c.loop-found.invariant.1 t o p s))
 
--- src/run.rt:91:33
 pub returns-in_err-found-clause-write : goal.returns-in_err-found-clause-write
-returns-in_err-found-clause-write g c = ?
+returns-in_err-found-clause-write g c =
+    let error = err_from_is_err_and c.from_residual-in_err-found.result c.from_residual-in_err-found.ensures.1 in
+    let refused = (rw c.in_err-found.was at c.in-Some.ensures.steps.1.first).0 in
+    let told = error.2 ∙ ap fault_of refused in
+    (λ h. cc (error.1, told, h), λ h. cc (h, c.loop-found.invariant.0))
 
--- src/run.rt:91:20
 pub returns-in_err-line-clause-err : goal.returns-in_err-line-clause-err
-returns-in_err-line-clause-err g c = ?
+returns-in_err-line-clause-err g c = λ t o p s.
+    on_err-always c.from_residual-in_err-line.result (IsWritten-front _ _ _ _ (c.loop-found.invariant.1 t o p s))
 
--- src/run.rt:91:20
 pub returns-in_err-line-clause-write : goal.returns-in_err-line-clause-write
-returns-in_err-line-clause-write g c = ?
+returns-in_err-line-clause-write g c =
+    let error = err_from_is_err_and c.from_residual-in_err-line.result c.from_residual-in_err-line.ensures.1 in
+    (λ h. cc (error.1, error.2, h), λ h. cc (h, c.loop-found.invariant.0))
 
--- src/run.rt:92:12
 pub put_all-requires : goal.put_all-requires
-put_all-requires g c = ?
+put_all-requires g c = c.loop-found.invariant.0
 
--- src/run.rt:93:13
 pub returns-then-is_err-clause-err : goal.returns-then-is_err-clause-err
-returns-then-is_err-clause-err g c = ?
+returns-then-is_err-clause-err g c = λ t o p s.
+    IsWritten-part _ _ _ _ _ (item_of c.in_ok-found.field-0) _ _ (c.loop-found.invariant.1 t o p s)
+    (rw c.in_ok-found.was at c.in-Some.ensures.steps.1.first).0
+    (c.as_bytes.ensures.value ∙ c.in_ok-line.ensures)
+    (on_err-at _ c.if-is_err.ensures.value c.put_all.ensures.err)
 
--- src/run.rt:90:5
 pub loop-found-preserved : goal.loop-found-preserved
-loop-found-preserved g c = ?
+loop-found-preserved g c = (c.put_all.ensures.failure ∙ sym c.is_err.ensures.value ∙ c.if-is_err.false, λ t o p s.
+    IsWritten-more _ _ _ _ _ (item_of c.in_ok-found.field-0) _ _ (c.loop-found.invariant.1 t o p s)
+    (rw c.in_ok-found.was at c.in-Some.ensures.steps.1.first).0
+    (c.as_bytes.ensures.value ∙ c.in_ok-line.ensures)
+    (on_ok-at _ (sym c.if-is_err.false ∙ c.is_err.ensures.value) c.put_all.ensures.ok))
 
--- src/run.rt:76:1
 pub returns-clause-ok : goal.returns-clause-ok
-returns-clause-ok g c = ?
+returns-clause-ok g c = λ t o p s.
+    IsWritten-all _ _ _ _ (c.loop-found.invariant.1 t o p s) c.in-None.ensures.steps.1.first.0
 
--- src/run.rt:76:1
 pub returns-clause-write : goal.returns-clause-write
-returns-clause-write g c = ?
+returns-clause-write g c = (λ h. cc h, λ h. cc (h, c.loop-found.invariant.0))
