@@ -1,6 +1,6 @@
 //! Patterns and texts whose answers are known from the standard, told as a user would ask for them.
 
-use crate::{Error, Flags, Range, Regex, Tables, are_code_points};
+use crate::{Error, Flags, Range, Regex, Tables, are_code_points, is_start};
 use std::alloc::{AllocError, Global};
 use std::test::Fail;
 
@@ -28,6 +28,19 @@ fn found(alloc: Global, pattern: &str, text: &str) -> Result<Vec<Option<Range>>,
     let tables = Tables::small(alloc)?;
     let regex = Regex::new(alloc, pattern, &tables)?;
     Ok(ranges(alloc, &regex, text)?)
+}
+
+/// What `ranges` tells of all matches, one after another.
+fn all_found(alloc: Global, pattern: &str, text: &str) -> Result<Vec<Option<Range>>, Fail> {
+    let tables = Tables::small(alloc)?;
+    let regex = Regex::new(alloc, pattern, &tables)?;
+    let mut ranges = Vec::new(alloc);
+    for found in regex.find_iter(text)? {
+        for group in found?.groups() {
+            ranges.push(group)?;
+        }
+    }
+    Ok(ranges)
 }
 
 /// Why a pattern is refused under flags; `None` where it is accepted.
@@ -246,5 +259,146 @@ fn refused_memory_is_told_and_turns_no_answer(rt: HostRuntime) -> Result<(), Fai
         found.captures.as_slice(),
         [Some(6..7), Some(7..10)].as_slice()
     );
+    Ok(())
+}
+
+// The examples of "RepeatMatcher", and the notes below it.
+#[test]
+fn repetitions_take_as_much_as_they_can(rt: HostRuntime) -> Result<(), Fail> {
+    let ranges = found(rt.alloc(), "(a|ab)(c|bcd)(d*)", "abcd")?;
+    assert_eq!(rt;
+        ranges.as_slice(),
+        [Some(0..4), Some(0..1), Some(1..4), Some(4..4)].as_slice()
+    );
+    let ranges = found(rt.alloc(), "(z)((a+)?(b+)?(c))*", "zaacbbbcac")?;
+    assert_eq!(rt;
+        ranges.as_slice(),
+        [
+            Some(0..10),
+            Some(0..1),
+            Some(8..10),
+            Some(8..9),
+            None,
+            Some(9..10)
+        ]
+        .as_slice()
+    );
+    Ok(())
+}
+
+#[test]
+fn an_empty_iteration_past_the_least_is_none(rt: HostRuntime) -> Result<(), Fail> {
+    assert_eq!(rt;
+        all_found(rt.alloc(), "(a*)*", "b")?.as_slice(),
+        [Some(0..0), None, Some(1..1), None].as_slice()
+    );
+    assert_eq!(rt;
+        all_found(rt.alloc(), "(a|b*)*", "abb")?.as_slice(),
+        [Some(0..3), Some(1..3), Some(3..3), None].as_slice()
+    );
+    for pattern in ["(?:)*", "(?:(?:)+)+"] {
+        assert_eq!(rt;
+            all_found(rt.alloc(), pattern, "a")?.as_slice(),
+            [Some(0..0), Some(1..1)].as_slice(),
+            "{pattern}"
+        );
+    }
+    Ok(())
+}
+
+#[test]
+fn matches_follow_one_another(rt: HostRuntime) -> Result<(), Fail> {
+    assert_eq!(rt;
+        all_found(rt.alloc(), "a*", "baa")?.as_slice(),
+        [Some(0..0), Some(1..3), Some(3..3)].as_slice()
+    );
+    assert_eq!(rt;
+        all_found(rt.alloc(), "(?:)", "é")?.as_slice(),
+        [Some(0..0), Some(2..2)].as_slice()
+    );
+    assert!(rt; all_found(rt.alloc(), "a", "")?.is_empty());
+    assert_eq!(rt;
+        all_found(rt.alloc(), "a*", "")?.as_slice(),
+        [Some(0..0)].as_slice()
+    );
+    Ok(())
+}
+
+#[test]
+fn a_search_begins_at_an_offset(rt: HostRuntime) -> Result<(), Fail> {
+    let tables = Tables::small(rt.alloc())?;
+    let regex = Regex::new(rt.alloc(), "a*", &tables)?;
+    assert!(rt; is_start("baa", 1));
+    let mut matches = regex.find_from("baa", 1)?;
+    assert_eq!(rt; matches.next().ok_or("no match")??.range(), 1..3);
+    assert_eq!(rt; matches.next().ok_or("no match")??.range(), 3..3);
+    assert!(rt; matches.next().is_none());
+    assert!(rt; matches.next().is_none());
+    assert!(rt; is_start("baa", 4));
+    assert!(rt; regex.find_from("baa", 4)?.next().is_none());
+    Ok(())
+}
+
+#[test]
+fn quantifiers_end_at_65535(rt: HostRuntime) -> Result<(), Fail> {
+    let pattern = "a*".repeat(rt.alloc(), 65_536)?;
+    assert_eq!(rt;
+        refusal(rt.alloc(), pattern.as_str(), "")?,
+        Some(Error::TooManyLoops)
+    );
+    let pattern = "a*".repeat(rt.alloc(), 65_535)?;
+    assert_eq!(rt; refusal(rt.alloc(), pattern.as_str(), "")?, None);
+    Ok(())
+}
+
+#[test]
+fn a_quantifier_needs_an_atom(rt: HostRuntime) -> Result<(), Fail> {
+    for pattern in ["a**", "*a", "(?:+)", "|?"] {
+        let nothing = Error::Syntax {
+            text: "Nothing to repeat",
+        };
+        assert_eq!(rt;
+            refusal(rt.alloc(), pattern, "")?,
+            Some(nothing),
+            "{pattern}"
+        );
+    }
+    Ok(())
+}
+
+// With each request for memory refused in turn, as above: the matches before the refusal are the first of the list, then
+// comes the refusal, then nothing; and a later search gives the whole list.
+#[test]
+fn refused_memory_ends_the_iteration(rt: HostRuntime) -> Result<(), Fail> {
+    let tables = Tables::small(rt.alloc())?;
+    let compile = || Regex::new(rt.alloc(), "(a+)|b*", &tables);
+    let regex = match unless_refused(compile())? {
+        Some(regex) => regex,
+        None => compile()?,
+    };
+    let mut whole = [0..2, 2..4, 4..4].into_iter();
+    let mut is_refused = false;
+    match regex.find_iter("aabb") {
+        Ok(mut matches) => {
+            while let Some(item) = matches.next() {
+                match unless_refused(item)? {
+                    Some(found) => assert_eq!(rt; Some(found.range()), whole.next()),
+                    None => is_refused = true,
+                }
+            }
+        }
+        Err(refusal) => {
+            assert_eq!(rt; refusal, Error::OutOfMemory);
+            is_refused = true;
+        }
+    }
+    assert!(rt; is_refused || whole.next().is_none());
+    if is_refused {
+        let mut whole = [0..2, 2..4, 4..4].into_iter();
+        for found in regex.find_iter("aabb")? {
+            assert_eq!(rt; Some(found?.range()), whole.next());
+        }
+        assert!(rt; whole.next().is_none());
+    }
     Ok(())
 }

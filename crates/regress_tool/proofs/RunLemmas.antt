@@ -1,10 +1,9 @@
 -- From what the parts of a run ensure to what the run does.
-use Rattle.std.proofs.Common.{◌≡◌, ℕ, ◌+◌, ◌-◌, ◌≤◌, true, false, List, [], ◌∷◌, ◌++◌, length, take, drop, map, Option, Some, None, Result, Ok, Err, is_err, IfSome, OnOk, OnErr, chars, IsUtf8, option_map, refl, ◌∙◌, sym, ap, subst, append-nil, length-take, arith}
+use Rattle.std.proofs.Common.{◌≡◌, ℕ, ◌+◌, ◌-◌, ◌≤◌, true, false, List, [], ◌∷◌, ◌++◌, length, take, drop, Option, Some, None, Result, Ok, Err, is_err, IfSome, OnOk, OnErr, chars, IsUtf8, refl, ◌∙◌, sym, ap, subst, append-nil, length-take, arith}
 use Rattle.std.proofs.lemmas.List.{take-take, append_assoc, take-append-drop}
 use Rattle.std.proofs.Math.Seq.{take-add, take-append_seam}
 use Rattle.std.proofs.KnownBytes.{Appends-trans}
 use Rattle.std.specs.Io.KnownBytes.{Appends}
-use Rattle.std.specs.Prelude.{slice_get}
 use Rattle.regress_meaning.specs.Pattern.{Pattern}
 use Rattle.regress_meaning.specs.Flags.{options_of}
 use Rattle.regress_meaning.specs.Grammar.{Spells}

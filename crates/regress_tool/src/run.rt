@@ -235,7 +235,14 @@ mod tests {
             text: "Unbalanced parenthesis",
         });
         for (pattern, input, reads, puts, expected, written) in [
-            ("(a)|b", b"ab".as_slice(), 9, 20, Ok(()), "0..1 0..1\n1..2 -\n"),
+            (
+                "(a)|b",
+                b"ab".as_slice(),
+                9,
+                20,
+                Ok(()),
+                "0..1 0..1\n1..2 -\n",
+            ),
             ("(a", b"ab".as_slice(), 9, 20, Err(refused.clone()?), ""),
             ("(a", b"ab".as_slice(), 0, 0, Err(refused), ""),
             ("a", b"ab".as_slice(), 1, 20, Err(ToolError::Read), ""),

@@ -1,20 +1,22 @@
-use Rattle.std.proofs.Common.{◌≡◌, ◌≢◌, List, [], true, false, Ok, Err, None, Some, sym, ap, ◌∙◌, subst}
+use Rattle.std.proofs.Common.{[], sym, ap, ◌∙◌}
 use Rattle.std.proofs.KnownBytes.{Appends-nil}
 use Rattle.std.proofs.lemmas.Result.{err_from_is_err_and}
 use Rattle.regress_meaning.specs.Output.{lines_of}
 use Rattle.regress.specs.Coming.{coming}
 use Rattle.regress.specs.Views.{item_of}
-use Rattle.regress_tool.specs.Running.{output, AppendsFront}
-use Rattle.regress_tool.proofs.RunLemmas.{IsWritten, IsWritten-front, IsWritten-all, IsWritten-more, IsWritten-part, on_ok-at, on_err-at, on_err-always}
+use Rattle.regress_tool.proofs.RunLemmas.{IsWritten-front, IsWritten-all, IsWritten-more, IsWritten-part, on_ok-at, on_err-at, on_err-always}
 use Rattle.regress_tool.specs.Faults.{fault_of}
 use Rattle.regress_tool.proofs.run.write_lines.Goals as goal
 
 pub loop-found-init : goal.loop-found-init
-loop-found-init g c = (c.requires, λ t o p s. record {
-  done = [];
-  appended = Appends-nil _;
-  whole = ap (λ ms. lines_of (coming ms)) c.into_iter-found-iterator.ensures.into_iter_gives ∙ ap lines_of (c.in_ok-found-items.ensures.matches t o p s);
-})
+loop-found-init g c = (
+  c.requires,
+  λ t o p s. record {
+    done = [];
+    appended = Appends-nil _;
+    whole = ap (λ ms. lines_of (coming ms)) c.into_iter-found-iterator.ensures.into_iter_gives ∙ ap lines_of (c.in_ok-found-items.ensures.matches t o p s);
+  },
+)
 
 pub returns-in_err-found-clause-err : goal.returns-in_err-found-clause-err
 returns-in_err-found-clause-err g c = λ t o p s.
@@ -47,11 +49,14 @@ returns-then-is_err-clause-err g c = λ t o p s.
     (on_err-at _ c.if-is_err.ensures.value c.put_all.ensures.err)
 
 pub loop-found-preserved : goal.loop-found-preserved
-loop-found-preserved g c = (c.put_all.ensures.failure ∙ sym c.is_err.ensures.value ∙ c.if-is_err.false, λ t o p s.
-    IsWritten-more _ _ _ _ _ (item_of c.in_ok-found.field-0) _ _ (c.loop-found.invariant.1 t o p s)
-    (rw c.in_ok-found.was at c.in-Some.ensures.steps.1.first).0
-    (c.as_bytes.ensures.value ∙ c.in_ok-line.ensures)
-    (on_ok-at _ (sym c.if-is_err.false ∙ c.is_err.ensures.value) c.put_all.ensures.ok))
+loop-found-preserved g c = (
+  c.put_all.ensures.failure ∙ sym c.is_err.ensures.value ∙ c.if-is_err.false,
+  λ t o p s.
+      IsWritten-more _ _ _ _ _ (item_of c.in_ok-found.field-0) _ _ (c.loop-found.invariant.1 t o p s)
+      (rw c.in_ok-found.was at c.in-Some.ensures.steps.1.first).0
+      (c.as_bytes.ensures.value ∙ c.in_ok-line.ensures)
+      (on_ok-at _ (sym c.if-is_err.false ∙ c.is_err.ensures.value) c.put_all.ensures.ok),
+)
 
 pub returns-clause-ok : goal.returns-clause-ok
 returns-clause-ok g c = λ t o p s.

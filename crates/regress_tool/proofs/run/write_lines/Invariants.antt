@@ -12,4 +12,4 @@ abbrev pub invariant-loop-found : goal.invariant-loop-found
 invariant-loop-found g l =
     (g.W.Sink.failed l.sink ≡ false)
     × ((t : Table) → (o : Options) → (p : Pattern) → StandsFor l.regex t o p
-      → IsWritten (g.W.Sink.written l.fn.sink) (g.W.Sink.written l.sink) (coming l.found-iterator) (output t o p l.text))
+    → IsWritten (g.W.Sink.written l.fn.sink) (g.W.Sink.written l.sink) (coming l.found-iterator) (output t o p l.text))
