@@ -3,9 +3,6 @@ pub mod Stage
 pub mod Quantifiers
 pub mod Parsing
 pub mod Views
-pub mod FlagWords
-pub mod ErrorTexts
-pub mod TableViews
 pub mod TextViews
 pub mod StateViews
 pub mod Repeating

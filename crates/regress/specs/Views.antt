@@ -1,14 +1,8 @@
 -- How the values of the public calls stand to the definitions.
 use Rattle.std.specs.Prelude.{ℕ, map, option_map}
 use Rattle.std.specs.declared.ops.Range.{Range}
-use Rattle.regress_meaning.specs.Flags.{Options}
 use Rattle.regress_meaning.specs.Matches.{Item}
-use Rattle.regress.specs.declared.front.flags.Flags.{Flags}
 use Rattle.regress.specs.declared.engine.found.Match.{Match}
-
--- what flags switch on
-abbrev pub options : Flags → Options
-options f = record { icase = f.icase; multiline = f.multiline; dot_all = f.dot_all; unicode = f.unicode; sets = f.unicode_sets }
 
 -- the ends of a range
 abbrev pub ends : Range ℕ → ℕ × ℕ

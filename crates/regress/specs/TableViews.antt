@@ -1,8 +1,0 @@
--- The table that a value of tables stands for.
-use Rattle.regress_meaning.specs.Table.{Table}
-use Rattle.regress_meaning.specs.TableParts.{table_of, small_parts}
-use Rattle.regress.specs.declared.front.tables.Tables.{Tables}
-
--- what tables tell of code points
-abbrev pub table : Tables → Table
-table tables = table_of small_parts

@@ -1,0 +1,6 @@
+pub mod FlagWords
+pub mod ErrorTexts
+pub mod TableViews
+pub mod Props
+pub mod Intervals
+pub mod Sets
