@@ -1,0 +1,125 @@
+//! Searches for the first byte of a set.
+ghost use Rattle.std.specs.Prelude.{◌≡◌, ℕ, Bool, List, Option, Some, position};
+ghost use Rattle.regress_front_bytes.specs.ByteSets.{among};
+
+/// What is looked for in bytes, and is found at an index or not at all.
+pub trait ByteSearcher {
+    ghost find_in: { Self → List ℕ → Option ℕ };
+
+    /// The first index in `rhs` at which this is found, or `None` where it is nowhere. Of a set it is the first index of
+    /// a member.
+    fn find_in(&self, rhs: &[u8]) -> Option<usize>
+        ensures { result ≡ find_in self.now rhs.now };
+}
+
+/// A set of bytes.
+pub trait ByteSet {
+    ghost contains: { Self → ℕ → Bool };
+
+    /// Whether the byte `b` is a member.
+    fn contains(&self, b: u8) -> bool
+        ensures { result ≡ contains self.now b };
+}
+
+/// A set of few bytes, held in an array.
+pub trait SmallArraySet: Copy {
+    ghost contains: { Self → ℕ → Bool };
+
+    /// Whether the byte `b` is a member.
+    fn contains(self, b: u8) -> bool
+        ensures { result ≡ contains self b };
+
+    /// The first index in `rhs` of a member, or `None` where there is none.
+    fn find_in(self, rhs: &[u8]) -> Option<usize>
+        ensures { result ≡ position (contains self) rhs.now }
+    {
+        rhs.iter().position(|b| self.contains(*b))
+    }
+}
+
+/// The set of the bytes in an array.
+#[derive(Clone, Copy, Debug)]
+pub struct ByteArraySet<ArraySet: SmallArraySet>(pub ArraySet);
+
+/// The empty string, which is found at once in all bytes.
+pub struct EmptyString;
+
+/// How many characters a set holds that is written out as an array.
+pub const MAX_CHAR_SET_LENGTH: usize = 4;
+
+/// Whether the character `c` is one of `set`.
+pub fn charset_contains(set: &[u32; MAX_CHAR_SET_LENGTH], c: u32) -> bool
+    ensures { result ≡ among set.now c }
+{
+    set.contains(&c)
+}
+
+impl SmallArraySet for [u8; 2] {
+    ghost contains = { among };
+
+    fn contains(self, b: u8) -> bool {
+        self.as_slice().contains(&b)
+    }}
+
+impl SmallArraySet for [u8; 3] {
+    ghost contains = { among };
+
+    fn contains(self, b: u8) -> bool {
+        self.as_slice().contains(&b)
+    }}
+
+impl SmallArraySet for [u8; 4] {
+    ghost contains = { among };
+
+    fn contains(self, b: u8) -> bool {
+        self.as_slice().contains(&b)
+    }}
+
+impl<ArraySet: SmallArraySet> ByteArraySet<ArraySet> {
+    /// Whether the byte `b` is a member.
+    pub fn contains(self, b: u8) -> bool
+        ensures { result ≡ ArraySet.contains self.0 b }
+    {
+        self.0.contains(b)
+    }
+}
+
+impl<ArraySet: SmallArraySet> ByteSearcher for ByteArraySet<ArraySet> {
+    ghost find_in = { λ set. position (ArraySet.contains set.0) };
+
+    fn find_in(&self, rhs: &[u8]) -> Option<usize> {
+        self.0.find_in(rhs)
+    }
+}
+
+impl ByteSearcher for [u8; 1] {
+    ghost find_in = { λ set. position (among set) };
+
+    fn find_in(&self, rhs: &[u8]) -> Option<usize> {
+        rhs.iter().position(|b| self.as_slice().contains(b))
+    }
+}
+
+impl ByteSearcher for [u8; 2] {
+    ghost find_in = { λ set. position (among set) };
+
+    fn find_in(&self, rhs: &[u8]) -> Option<usize> {
+        SmallArraySet::find_in(*self, rhs)
+    }
+}
+
+impl ByteSearcher for [u8; 3] {
+    ghost find_in = { λ set. position (among set) };
+
+    fn find_in(&self, rhs: &[u8]) -> Option<usize> {
+        SmallArraySet::find_in(*self, rhs)
+    }
+}
+
+impl ByteSearcher for EmptyString {
+    ghost find_in = { λ _ _. Some 0 };
+
+    fn find_in(&self, _rhs: &[u8]) -> Option<usize> {
+        Some(0)
+    }
+}
