@@ -1,14 +1,15 @@
 -- Rows of bits: what a write to one row or to each of them does to the bits, and how many bits are on.
 use Rattle.std.proofs.Common.{◌≡◌, ◌≢◌, ℕ, zero, suc, ◌+◌, ◌-◌, ◌*◌, ◌/◌, ◌%◌, ◌^◌, ◌<◌, ◌≤◌, Bool, true, false, cond, not, ◌||◌, eqb, List, [], ◌∷◌, ◌++◌, length, map, get_or, set, count_by, filter, bit_or, replicate, refl, sym, ap, ◌∙◌, inl, inr, add-zero, zero-add, add_assoc, suc-add, one-add, mul-zero, pow-suc, arith}
 use mir.Val.{bits}
-use lib.Count.{ones, ones_step, ones-le}
+use Rattle.std.specs.Int.Count.{ones}
+use lib.Count.{ones_step}
 use Rattle.std.proofs.lemmas.Bool.{cases_eq, cases_lt, ne_eqb}
 use Rattle.std.proofs.lemmas.Bool.Decides.{nat_tests}
 use Rattle.std.proofs.Math.Bool.{or-false}
 use Rattle.std.proofs.Math.Nat.{div-eq_of_lt, mod-eq_of_lt}
 use Rattle.std.proofs.lemmas.List.{get_or-set_same, get_or-set_other, get_or_past}
 use Rattle.std.proofs.lemmas.List.Sums.{length-filter, sum_by-cons, sum_by-append}
-use Rattle.std.proofs.lemmas.Nat.{div-add-mod', same_from_place}
+use Rattle.std.proofs.lemmas.Nat.{div-add-mod', ones-le, same_from_place}
 use Rattle.std.proofs.lemmas.Nat.Bits.{bit_at_or, bit_at_not, bit_at-lt, bit_at-zero, bit_at-pow_same, bit_at-pow_other, bit_at_lowest, bit_at-suc}
 use Rattle.std.specs.Int.{Width, bit_at, bit_not}
 use Rattle.std.specs.List.{range_with_len, sum_by}
@@ -34,21 +35,21 @@ eqb_by_row width a b same = grind (arith, nat_tests, div-add-mod' a width, div-a
 pub has_bit-set : (width : ℕ) (rows : List ℕ) (v row on : ℕ) → row ≡ v / width → on ≡ 2 ^ (v % width) → row < length rows → (b : ℕ) → has_bit width (set rows row (bit_or (get_or rows row 0) on)) b ≡ has_bit width rows b || eqb v b
 unfolding has_bit
 has_bit-set width rows v row on is_row is_on within b = elim (cases_eq (b / width) row) [
-  inl same ↦
-    let here = eqb_by_row width v b (sym (same ∙ is_row)) in rw (same, get_or-set_same, is_on, bit_at_or_on, bit_at-pow_on, here) refl
+  | inl same ↦
+      let here = eqb_by_row width v b (sym (same ∙ is_row)) in rw (same, get_or-set_same, is_on, bit_at_or_on, bit_at-pow_on, here) refl
   | inr other ↦
-    let elsewhere = ne_eqb v b (λ e. other (ap (λ n. n / width) (sym e) ∙ sym is_row)) in rw (get_or-set_other, elsewhere, or-false) refl
+      let elsewhere = ne_eqb v b (λ e. other (ap (λ n. n / width) (sym e) ∙ sym is_row)) in rw (get_or-set_other, elsewhere, or-false) refl
 ]
 
 -- each row takes up the bits of another
 pub has_bit-or : (width : ℕ) (rows others out : List ℕ) (n : ℕ) → length rows ≤ n → length others ≤ n → length out ≤ n → ((k : ℕ) → k < n → get_or out k 0 ≡ bit_or (get_or rows k 0) (get_or others k 0)) → (b : ℕ) → has_bit width out b ≡ has_bit width rows b || has_bit width others b
 unfolding has_bit
 has_bit-or width rows others out n r o u each b = elim (cases_lt (b / width) n) [
-  inl within ↦ rw each (bit_at_or_on (get_or rows (b / width) 0) (get_or others (b / width) 0) (b % width))
+  | inl within ↦ rw each (bit_at_or_on (get_or rows (b / width) 0) (get_or others (b / width) 0) (b % width))
   | inr past ↦
-    let no_row = get_or_past rows (b / width) 0 (omega arith) in
-    let no_other = get_or_past others (b / width) 0 (omega arith) in
-    let none = get_or_past out (b / width) 0 (omega arith) in rw (no_row, no_other, none, bit_at-zero) refl
+      let no_row = get_or_past rows (b / width) 0 (omega arith) in
+      let no_other = get_or_past others (b / width) 0 (omega arith) in
+      let none = get_or_past out (b / width) 0 (omega arith) in rw (no_row, no_other, none, bit_at-zero) refl
 ]
 
 -- each row is turned into its complement
@@ -126,5 +127,5 @@ count_by-has_bit width some (row ∷ rows) small =
     let rest = width * length rows in
     let parts : width * suc (length rows) ≡ width + rest = omega arith in
     let first = count_by_alike all (λ i. eqb (bit_at row i) 1) 0 0 width (λ i h. rw zero-add (has_bit-cons_first width row rows i h)) ∙ count_by-bit_at width row (small 0 (omega arith)) in
-    let others = count_by_alike all (has_bit width rows) (0 + width) 0 rest (λ i h. rw (zero-add, zero-add) (has_bit-cons_others width row rows i some)) ∙ count_by-has_bit width some rows (λ k h. small (suc k) (omega arith)) in
+    let others = count_by_alike all (has_bit width rows) (0 + width) 0 rest (λ i h. simp zero-add (has_bit-cons_others width row rows i some)) ∙ count_by-has_bit width some rows (λ k h. small (suc k) (omega arith)) in
     ap (λ n. count_by all (range_with_len 0 n)) parts ∙ count_by-range-+ all 0 width rest ∙ rw (first, others) (sym (sum_by-cons ones row rows))

@@ -7,7 +7,7 @@ use Rattle.std.proofs.lemmas.List.FromFn.{length-range_with_len, get_or-range_wi
 use Rattle.std.proofs.lemmas.List.{take_all, take_more_set, length-set}
 use Rattle.regress_front_bytes.specs.ByteSets.{all_bytes, members, has_bit}
 use Rattle.regress_front_bytes.proofs.BitRows.{count_by-has_bit}
-use lib.Count.{ones}
+use Rattle.std.specs.Int.Count.{ones}
 
 -- the first `count` places of the array hold the members under n, and the array has a place for each member
 pub record TakesUp (test : ℕ → Bool) (array : List ℕ) (count n : ℕ) : Type 0 where

@@ -114,11 +114,11 @@ impl ByteBitmap {
         ensures { result ≡ members (byte_bitmap_contains self.now) }
     {
         let mut array = [0; N];
-        let mut count = 0;
+        let mut filled = 0;
         for byte in 0..=u8::MAX {
             if self.contains(byte) {
-                array[count] = byte;
-                count += 1;
+                array[filled] = byte;
+                filled += 1;
             }
         }
         array
@@ -130,5 +130,53 @@ impl ByteSearcher for ByteBitmap {
 
     fn find_in(&self, rhs: &[u8]) -> Option<usize> {
         rhs.iter().position(|b| self.contains(*b))
+    }
+}
+
+#[cfg(test)]
+mod tests {
+    use super::*;
+
+    fn holds<S: ByteSet>(set: &S, b: u8) -> bool {
+        set.contains(b)
+    }
+
+    fn first<S: ByteSearcher>(searcher: &S, bytes: &[u8]) -> Option<usize> {
+        searcher.find_in(bytes)
+    }
+
+    #[test]
+    fn ascii_bytes_are_held(rt: HostRuntime) {
+        let mut set = AsciiBitmap::default();
+        assert!(rt; !holds(&set, 0x7F));
+        set.set(0x7F);
+        set.set(b'a');
+        assert!(rt; holds(&set, 0x7F) && holds(&set, b'a'));
+        assert!(rt; !holds(&set, b'b') && !holds(&set, 0xFF));
+    }
+
+    #[test]
+    fn members_come_ascending(rt: HostRuntime) {
+        let mut set = ByteBitmap::new(b"cac");
+        set.set(0xFF);
+        let count = set.count_bits();
+        assert_eq!(rt; count, 3);
+        assert_eq!(rt; set.as_array::<3>(), [b'a', b'c', 0xFF]);
+    }
+
+    #[test]
+    fn sets_are_joined_and_turned(rt: HostRuntime) {
+        let mut set = ByteBitmap::default();
+        set.bitor(&ByteBitmap::new(b"ab"));
+        assert!(rt; set.contains(b'b'));
+        assert_eq!(rt; set.bitnot().count_bits(), 254);
+        assert!(rt; !set.contains(b'b') && set.contains(0xFF));
+    }
+
+    #[test]
+    fn first_member_is_found(rt: HostRuntime) {
+        let set = ByteBitmap::new(&[0x80, b'c']);
+        assert_eq!(rt; first(&set, b"abc"), Some(2));
+        assert_eq!(rt; first(&set, b"ab"), None);
     }
 }

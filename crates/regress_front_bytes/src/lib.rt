@@ -6,5 +6,6 @@ mod byte_search;
 
 pub use bitmaps::{AsciiBitmap, ByteBitmap};
 pub use byte_search::{
-    ByteArraySet, ByteSearcher, ByteSet, EmptyString, MAX_CHAR_SET_LENGTH, SmallArraySet, charset_contains,
+    ByteArraySet, ByteSearcher, ByteSet, EmptyString, MAX_CHAR_SET_LENGTH, SmallArraySet,
+    charset_contains,
 };

@@ -5,4 +5,4 @@ use Rattle.regress_front_bytes.proofs.bitmaps.ByteBitmap.contains.Goals as goal
 
 pub returns : goal.returns
 unfolding byte_bitmap_contains has_bit
-returns c = rw (c.from.ensures, shr_and_one) 
+returns c = rw (c.from.ensures, shr_and_one)
