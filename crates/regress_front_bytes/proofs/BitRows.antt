@@ -1,5 +1,5 @@
 -- Rows of bits: what a write to one row or to each of them does to the bits, and how many bits are on.
-use Rattle.std.proofs.Common.{◌≡◌, ◌≢◌, ℕ, zero, suc, ◌+◌, ◌-◌, ◌*◌, ◌/◌, ◌%◌, ◌^◌, ◌<◌, ◌≤◌, Bool, true, false, cond, not, ◌||◌, eqb, List, [], ◌∷◌, ◌++◌, length, map, get_or, set, count_by, filter, bit_or, replicate, refl, sym, ap, ◌∙◌, inl, inr, add-zero, zero-add, add_assoc, suc-add, one-add, mul-zero, pow-suc, arith}
+use Rattle.std.proofs.Common.{◌≡◌, ℕ, zero, suc, ◌+◌, ◌*◌, ◌/◌, ◌%◌, ◌^◌, ◌<◌, ◌≤◌, Bool, false, cond, not, ◌||◌, eqb, List, [], ◌∷◌, ◌++◌, length, get_or, set, count_by, bit_or, replicate, refl, sym, ap, ◌∙◌, inl, inr, add-zero, zero-add, add_assoc, suc-add, one-add, mul-zero, pow-suc, arith}
 use mir.Val.{bits}
 use Rattle.std.specs.Int.Count.{ones}
 use lib.Count.{ones_step}
@@ -8,7 +8,7 @@ use Rattle.std.proofs.lemmas.Bool.Decides.{nat_tests}
 use Rattle.std.proofs.Math.Bool.{or-false}
 use Rattle.std.proofs.Math.Nat.{div-eq_of_lt, mod-eq_of_lt}
 use Rattle.std.proofs.lemmas.List.{get_or-set_same, get_or-set_other, get_or_past}
-use Rattle.std.proofs.lemmas.List.Sums.{length-filter, sum_by-cons, sum_by-append}
+use Rattle.std.proofs.lemmas.List.Sums.{sum_by-cons, sum_by-append}
 use Rattle.std.proofs.lemmas.Nat.{div-add-mod', ones-le, same_from_place}
 use Rattle.std.proofs.lemmas.Nat.Bits.{bit_at_or, bit_at_not, bit_at-lt, bit_at-zero, bit_at-pow_same, bit_at-pow_other, bit_at_lowest, bit_at-suc}
 use Rattle.std.specs.Int.{Width, bit_at, bit_not}

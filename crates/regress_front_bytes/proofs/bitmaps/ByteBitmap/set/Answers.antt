@@ -1,7 +1,7 @@
 use Rattle.std.proofs.Common.{◌%◌, arith}
 use Rattle.std.proofs.lemmas.Nat.{one_shl}
 use Rattle.regress_front_bytes.specs.Bitmaps.{byte_bitmap_contains}
-use Rattle.regress_front_bytes.proofs.BitRows.{has_bit-set, has_bit-or, has_bit-not, has_bit-zeros}
+use Rattle.regress_front_bytes.proofs.BitRows.{has_bit-set}
 use Rattle.regress_front_bytes.proofs.bitmaps.ByteBitmap.set.Goals as goal
 
 pub returns : goal.returns
