@@ -1,0 +1,3 @@
+pub mod Utf8Forms
+pub mod FoldSteps
+pub mod EqualRange
