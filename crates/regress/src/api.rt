@@ -8,18 +8,17 @@ ghost use Rattle.regress_meaning.specs.Limits.{WithinLimits};
 ghost use Rattle.regress_meaning.specs.Matches.{match_list};
 ghost use Rattle.regress_meaning.specs.Offsets.{of_utf8, told, Begins};
 ghost use Rattle.regress.specs.Trees.{tree};
-ghost use Rattle.regress.specs.TableViews.{table};
-ghost use Rattle.regress.specs.Views.{options, item_of};
+ghost use Rattle.regress_front_sets.specs.TableViews.{table};
+ghost use Rattle.regress.specs.Views.{item_of};
+ghost use Rattle.regress_front_sets.specs.FlagWords.{options};
 ghost use Rattle.regress.specs.Refusing.{MayRefuse};
 
 use crate::engine::found::Match;
 use crate::engine::matches::Matches;
 use crate::engine::text::Text;
-use crate::front::error::Error;
-use crate::front::flags::Flags;
 use crate::front::parser::{NOT_IN_STAGE, Parser};
 use crate::front::syntax::Syntax;
-use crate::front::tables::Tables;
+use regress_front_sets::{Error, Flags, Tables};
 use std::alloc::Global;
 
 /// Whether a search in `text` may begin at `start`, an offset in bytes: at a boundary between characters, or past the end.

@@ -2,8 +2,8 @@
 use Rattle.std.specs.Prelude.{ℕ, List, codes}
 use Rattle.regress_front_sets.specs.declared.error.Error.{Error}
 use Rattle.regress_front_sets.specs.declared.error.Error.TheVariants.{Syntax, TooDeep, TooManyGroups, TooManyLoops, TooLarge, OutOfMemory}
-use Rattle.regress_front_sets.specs.declared.tables.TableError.{TableError}
-use Rattle.regress_front_sets.specs.declared.tables.TableError.TheVariants as table
+use Rattle.regress_front_sets.specs.declared.tables.law.TableError.{TableError}
+use Rattle.regress_front_sets.specs.declared.tables.law.TableError.TheVariants as table
 
 -- why a pattern is refused, or a search ends early
 abbrev pub error_text : Error → List ℕ
@@ -16,4 +16,5 @@ error_text OutOfMemory = codes "out of memory"
 
 -- why no tables were made
 abbrev pub table_error_text : TableError → List ℕ
+table_error_text (table.Broken law c) = codes "the table breaks a law"
 table_error_text table.OutOfMemory = codes "out of memory"

@@ -4,3 +4,5 @@ pub mod TableViews
 pub mod Props
 pub mod Intervals
 pub mod Sets
+pub mod Parts
+pub mod Breaking

@@ -11,4 +11,6 @@ pub use code_point_set::CodePointSet;
 pub use error::Error;
 pub use flags::{Flags, flags_are_read_back};
 pub use interval::{CODE_POINT_MAX, CodePoint, Interval};
-pub use tables::{TableError, Tables};
+pub use tables::Tables;
+pub use tables::law::{TableError, TableLaw};
+pub use tables::parts::TableParts;

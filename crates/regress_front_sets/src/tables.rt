@@ -1,8 +1,11 @@
 //! Case and properties of code points.
-ghost use Rattle.std.specs.Prelude.{◌≡◌, Some};
+ghost use Rattle.std.specs.Prelude.{◌≡◌};
 
-use std::alloc::{AllocError, Global};
-use std::{error, fmt};
+pub(crate) mod law;
+pub(crate) mod parts;
+
+use law::TableError;
+use std::alloc::Global;
 
 /// Case and properties of code points, which patterns are compiled by.
 #[derive(Debug, Drop)]
@@ -22,40 +25,10 @@ impl Tables {
     }
 }
 
-/// Why no tables are made.
-#[derive(Clone, Debug, Drop, PartialEq, Eq, Hash)]
-pub enum TableError {
-    /// A request for memory was refused.
-    OutOfMemory,
-}
-
-impl fmt::Display for TableError {
-    ghost use Rattle.regress_front_sets.specs.ErrorTexts.{table_error_text};
-
-    ghost output = { λ e. Some (table_error_text e) };
-
-    fn fmt<W: fmt::Write>(&self, f: &mut fmt::Formatter<W>) -> fmt::Result {
-        f.write_str(match self {
-            TableError::OutOfMemory => "out of memory",
-        })
-    }
-}
-
-impl error::Error for TableError {}
-
-impl From<AllocError> for TableError {
-    ghost use Rattle.regress_front_sets.specs.declared.tables.TableError.TheVariants.{OutOfMemory};
-
-    ghost from_gives = { λ _ e. e ≡ OutOfMemory };
-
-    fn from(_refused: AllocError) -> TableError {
-        TableError::OutOfMemory
-    }
-}
-
 #[cfg(test)]
 mod tests {
     use super::*;
+    use std::alloc::AllocError;
     use std::test::Fail;
 
     #[test]

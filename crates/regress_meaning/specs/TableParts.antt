@@ -74,26 +74,58 @@ BothMaps parts fact = fact parts.fold × fact parts.upper
 abbrev pub EachSet : TableParts → (List (ℕ × ℕ) → Type 0) → Type 0
 EachSet parts fact = fact parts.id_start × fact parts.id_continue × All (λ e. fact e.1) parts.properties
 
+-- pairs and strings are of code points
+abbrev pub KeepsRange : TableParts → Type 0
+KeepsRange parts = BothMaps parts (All (λ p. is_code_point p.0 × is_code_point p.1)) × All (λ e. All (All is_code_point) e.1) parts.sequences
+
+-- no pair is out of order
+abbrev pub KeepsOrder : TableParts → Type 0
+KeepsOrder parts = BothMaps parts PairsRise
+
+-- on c, the maps are ASCII's
+abbrev pub HasAsciiCase : TableParts → ℕ → Type 0
+HasAsciiCase parts c = (image parts.fold c ≡ ascii_lower c) × (image parts.upper c ≡ ascii_upper c)
+
+-- on c, a map applied twice is the map applied once
+abbrev pub IsIdempotentAt : ℕ → List (ℕ × ℕ) → Type 0
+IsIdempotentAt c pairs = image pairs (image pairs c) ≡ image pairs c
+
+-- at most four code points have the image d
+abbrev pub HasSmallClass : ℕ → List (ℕ × ℕ) → Type 0
+HasSmallClass d pairs = count_below code_points (λ c. image pairs c == d) ≤ 4
+
+-- c is no surrogate's source: unless it is one itself, its image is none
+abbrev pub AvoidsSurrogates : ℕ → List (ℕ × ℕ) → Type 0
+AvoidsSurrogates c pairs = is_surrogate c ≡ false → is_surrogate (image pairs c) ≡ false
+
+-- each list of intervals is in order, with no two that meet
+abbrev pub KeepsCanonical : TableParts → Type 0
+KeepsCanonical parts = EachSet parts IntervalsRise
+
+-- c is no surrogate, and passes where it is below 80
+abbrev pub FitsIdentifier : (ℕ → Bool) → ℕ → Type 0
+FitsIdentifier passes c = (c < 0x80 → passes c ≡ true) × (is_surrogate c ≡ false)
+
+-- where c is in an identifier, it may be: below 80 identifiers begin with letters alone and go on with letters, digits and `_`
+abbrev pub KeepsIdentifierAt : TableParts → ℕ → Type 0
+KeepsIdentifierAt parts c =
+    (in_intervals parts.id_start c ≡ true → FitsIdentifier is_letter c) × (in_intervals parts.id_continue c ≡ true → FitsIdentifier is_ascii_word c)
+
 -- The eight laws of a table's parts. A table is lawful where its parts keep them.
 pub record IsLawful (parts : TableParts) : Type 0 where
-  -- pairs and strings are of code points
-  pub range : BothMaps parts (All (λ p. is_code_point p.0 × is_code_point p.1)) × All (λ e. All (All is_code_point) e.1) parts.sequences
-  -- no pair is out of order
-  pub order : BothMaps parts PairsRise
+  pub range : KeepsRange parts
+  pub order : KeepsOrder parts
   -- below 80 the maps are ASCII's
-  pub ascii_case : (c : ℕ) → c < 0x80 → (image parts.fold c ≡ ascii_lower c) × (image parts.upper c ≡ ascii_upper c)
+  pub ascii_case : (c : ℕ) → c < 0x80 → HasAsciiCase parts c
   -- a map applied twice is the map applied once
-  pub idempotent : BothMaps parts (λ pairs. (c : ℕ) → image pairs (image pairs c) ≡ image pairs c)
+  pub idempotent : BothMaps parts (λ pairs. (c : ℕ) → IsIdempotentAt c pairs)
   -- at most four code points have the same image
-  pub class_size : BothMaps parts (λ pairs. (d : ℕ) → count_below code_points (λ c. image pairs c == d) ≤ 4)
+  pub class_size : BothMaps parts (λ pairs. (d : ℕ) → HasSmallClass d pairs)
   -- what is no surrogate never maps to one
-  pub surrogate : BothMaps parts (λ pairs. (c : ℕ) → is_surrogate c ≡ false → is_surrogate (image pairs c) ≡ false)
-  -- each list of intervals is in order, with no two that meet
-  pub canonical : EachSet parts IntervalsRise
-  -- below 80 identifiers begin with letters alone and go on with letters, digits and `_`, and no surrogate is in one
-  pub identifier : (c : ℕ) →
-      (in_intervals parts.id_start c ≡ true → (c < 0x80 → is_letter c ≡ true) × (is_surrogate c ≡ false))
-      × (in_intervals parts.id_continue c ≡ true → (c < 0x80 → is_ascii_word c ≡ true) × (is_surrogate c ≡ false))
+  pub surrogate : BothMaps parts (λ pairs. (c : ℕ) → AvoidsSurrogates c pairs)
+  pub canonical : KeepsCanonical parts
+  -- identifiers hold no surrogate, and of ASCII what they may
+  pub identifier : (c : ℕ) → KeepsIdentifierAt parts c
 
 -- n pairs from c on, each to what lies as far above it as d lies above c
 abbrev pub shifted : ℕ → ℕ → ℕ → List (ℕ × ℕ)

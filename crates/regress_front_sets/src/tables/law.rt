@@ -1,0 +1,67 @@
+//! The laws of tables, and why no tables are made.
+ghost use Rattle.std.specs.Prelude.{◌≡◌, Some};
+
+use crate::interval::CodePoint;
+use std::alloc::AllocError;
+use std::{error, fmt};
+
+/// What is asked of the parts of tables.
+#[derive(Debug, Clone, Drop, PartialEq, Eq, Hash)]
+pub enum TableLaw {
+    /// All code points in pairs and strings are up to `CODE_POINT_MAX`.
+    Range,
+    /// The first parts of the pairs of a map strictly rise.
+    Order,
+    /// For code points under 80 (hexadecimal) `fold` is ASCII's lower case, and `upper` its upper case.
+    AsciiCase,
+    /// Each map applied twice is the map applied once.
+    Idempotent,
+    /// At most four code points have the same image.
+    ClassSize,
+    /// What is no surrogate is not mapped to one.
+    Surrogate,
+    /// The intervals of each list rise, and between two of them lies a code point of neither.
+    Canonical,
+    /// Of ASCII, identifiers begin with letters alone and go on with letters, digits and `_`. They hold no surrogates.
+    Identifier,
+}
+
+/// Why no tables are made.
+#[derive(Debug, Clone, Drop, PartialEq, Eq, Hash)]
+pub enum TableError {
+    /// A law is broken.
+    Broken {
+        /// The first of the laws that is broken.
+        law: TableLaw,
+        /// The least code point that breaks it. Where entries are out of order: of the first such, the code point that is mapped, or
+        /// the first of the interval. Where a class is too large: the code point that its members are mapped to.
+        code_point: CodePoint,
+    },
+    /// A request for memory was refused.
+    OutOfMemory,
+}
+
+impl fmt::Display for TableError {
+    ghost use Rattle.regress_front_sets.specs.ErrorTexts.{table_error_text};
+
+    ghost output = { λ e. Some (table_error_text e) };
+
+    fn fmt<W: fmt::Write>(&self, f: &mut fmt::Formatter<W>) -> fmt::Result {
+        f.write_str(match self {
+            TableError::Broken { .. } => "the table breaks a law",
+            TableError::OutOfMemory => "out of memory",
+        })
+    }
+}
+
+impl error::Error for TableError {}
+
+impl From<AllocError> for TableError {
+    ghost use Rattle.regress_front_sets.specs.declared.tables.law.TableError.TheVariants.{OutOfMemory};
+
+    ghost from_gives = { λ _ e. e ≡ OutOfMemory };
+
+    fn from(_refused: AllocError) -> TableError {
+        TableError::OutOfMemory
+    }
+}
