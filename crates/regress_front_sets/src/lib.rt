@@ -5,12 +5,20 @@ mod code_point_set;
 mod error;
 mod flags;
 mod interval;
+mod limits;
+mod state;
 mod tables;
 
 pub use code_point_set::CodePointSet;
 pub use error::Error;
 pub use flags::{Flags, flags_are_read_back};
 pub use interval::{CODE_POINT_MAX, CodePoint, Interval};
+pub use limits::{
+    CaptureGroupID, CaptureGroupName, CharacterClassType, DIGITS, IP, LINE_TERMINATOR, LoopID,
+    MAX_CAPTURE_GROUPS, MAX_LOOPS, MAX_NESTING_DEPTH, WHITESPACE, WORD_CHARS, digits,
+    limits_are_those_of_the_definitions, line_terminator, whitespace, word_chars,
+};
+pub use state::{GroupData, LoopData};
 pub use tables::Tables;
 pub use tables::law::{TableError, TableLaw};
 pub use tables::parts::TableParts;
