@@ -1,1 +1,2 @@
 mod LimitLemmas
+pub mod FirstByteLemmas

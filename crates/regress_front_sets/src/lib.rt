@@ -3,6 +3,7 @@
 
 mod code_point_set;
 mod error;
+mod first_bytes;
 mod flags;
 mod interval;
 mod limits;
@@ -11,6 +12,7 @@ mod tables;
 
 pub use code_point_set::CodePointSet;
 pub use error::Error;
+pub use first_bytes::add_utf8_first_bytes_to_bitmap;
 pub use flags::{Flags, flags_are_read_back};
 pub use interval::{CODE_POINT_MAX, CodePoint, Interval};
 pub use limits::{
