@@ -126,7 +126,7 @@ pub const LINE_TERMINATOR: [Interval; 3] = [
     },
 ];
 
-/// `WORD_CHARS`, whose members are told: a clause cannot name a constant of intervals.
+/// `WORD_CHARS`, with a contract that tells its members, since a clause cannot name a constant of intervals.
 pub const fn word_chars() -> [Interval; 4]
     ensures members { (c : ℕ) → in_intervals (ends_of result) c ≡ is_ascii_word c }
     ensures rise { IntervalsRise (ends_of result) }
@@ -134,7 +134,7 @@ pub const fn word_chars() -> [Interval; 4]
     WORD_CHARS
 }
 
-/// `DIGITS`, whose members are told.
+/// `DIGITS`, with a contract that tells its members.
 pub const fn digits() -> [Interval; 1]
     ensures members { (c : ℕ) → in_intervals (ends_of result) c ≡ is_digit c }
     ensures rise { IntervalsRise (ends_of result) }
@@ -142,7 +142,7 @@ pub const fn digits() -> [Interval; 1]
     DIGITS
 }
 
-/// `WHITESPACE`, whose members are told.
+/// `WHITESPACE`, with a contract that tells its members.
 pub const fn whitespace() -> [Interval; 10]
     ensures members { (c : ℕ) → in_intervals (ends_of result) c ≡ is_space c }
     ensures rise { IntervalsRise (ends_of result) }
@@ -150,7 +150,7 @@ pub const fn whitespace() -> [Interval; 10]
     WHITESPACE
 }
 
-/// `LINE_TERMINATOR`, whose members are told.
+/// `LINE_TERMINATOR`, with a contract that tells its members.
 pub const fn line_terminator() -> [Interval; 3]
     ensures members { (c : ℕ) → in_intervals (ends_of result) c ≡ is_line_end c }
     ensures rise { IntervalsRise (ends_of result) }
