@@ -1,0 +1,1 @@
+//! The laws of tables that are about single code points.
