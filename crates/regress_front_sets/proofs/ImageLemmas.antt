@@ -1,14 +1,14 @@
 -- What a map of case gives, whose pairs rise.
-use Rattle.std.proofs.Common.{◌≡◌, ◌≢◌, ℕ, zero, suc, ◌<◌, ◌≤◌, ◌⊎◌, ◌==◌, Bool, true, false, cond, List, [], ◌∷◌, length, get_or, All, Contains, refl, sym, ap, ◌∙◌, inl, inr, arith}
+use Rattle.std.proofs.Common.{◌≡◌, ◌≢◌, ℕ, zero, suc, ◌<◌, ◌≤◌, ◌⊎◌, ◌==◌, not, ◌&&◌, Bool, true, false, cond, List, [], ◌∷◌, length, get_or, All, Contains, refl, sym, ap, ◌∙◌, inl, inr, arith}
 use Rattle.std.specs.List.Sorted.{IsNonDecreasingBy, IsPartitionPoint}
 use Rattle.std.specs.List.{HoldsAt}
 use Rattle.std.specs.Ordering.{nat_cmp, ordering_index}
 use Rattle.std.specs.declared.cmp.Ordering.TheVariants.{Less, Equal, Greater}
-use Rattle.std.proofs.lemmas.Bool.{eqb-true, eqb-false, eq-eqb, ne_eqb, cases_lt}
+use Rattle.std.proofs.lemmas.Bool.{eqb-true, eqb-false, eq-eqb, ne_eqb, cases_lt, not-true, not-false, and_parts, and_cases, both_ways}
 use Rattle.std.proofs.lemmas.Bool.Decides.{nat_tests}
 use Rattle.std.proofs.lemmas.Cmp.{ranked}
 use Rattle.std.proofs.lemmas.List.Elements.{All-nil, All-cons, All-head, All-tail, All-contains}
-use Rattle.regress_meaning.specs.TableParts.{image, PairsRise}
+use Rattle.regress_meaning.specs.TableParts.{image, is_surrogate, PairsRise, IsIdempotentAt, AvoidsSurrogates}
 
 -- ---- pairs that rise
 
@@ -69,6 +69,41 @@ image_cases (p ∷ pairs) c = go (p.0 == c) refl (image_cases pairs c)
     go true e r = inr (0, omega arith, ap (λ x. (x, p.1)) (eqb-true p.0 c e))
     go false e (inl h) = inl (All-cons (λ q. q.0 ≢ c) p pairs (eqb-false p.0 c e) h)
     go false e (inr h) = inr (suc h.0, omega (arith, h.1), h.2)
+
+-- ---- laws of one map, at its pairs
+
+-- whether a map applied twice is the map applied once, is seen at the second part of each pair
+pub idempotent-at_pairs : (pairs : List (ℕ × ℕ)) → PairsRise pairs
+    → All (λ p. (not (image pairs p.1 == p.1) ≡ true → IsIdempotentAt p.0 pairs → ⊥) × (not (image pairs p.1 == p.1) ≡ false → IsIdempotentAt p.0 pairs)) pairs
+idempotent-at_pairs pairs rise k d l =
+    let p = get_or pairs k d in
+    let listed = All-image pairs rise k d l in (
+      λ e own. eqb-false (image pairs p.1) p.1 (not-true _ e) (ap (image pairs) (sym listed) ∙ own ∙ listed),
+      λ e. ap (image pairs) listed ∙ eqb-true (image pairs p.1) p.1 (not-false _ e) ∙ sym listed,
+    )
+
+-- what isn't listed is mapped once and for all
+pub idempotent-unlisted : (pairs : List (ℕ × ℕ)) (c : ℕ) → All (λ p. p.0 ≢ c) pairs → IsIdempotentAt c pairs
+idempotent-unlisted pairs c h = ap (image pairs) (image-unlisted pairs c h)
+
+-- whether a map takes something else to a surrogate, is seen at each pair
+pub surrogates-at_pairs : (pairs : List (ℕ × ℕ)) → PairsRise pairs
+    → All (λ p. ((not (is_surrogate p.0) && is_surrogate p.1) ≡ true → AvoidsSurrogates p.0 pairs → ⊥)
+        × ((not (is_surrogate p.0) && is_surrogate p.1) ≡ false → AvoidsSurrogates p.0 pairs)) pairs
+surrogates-at_pairs pairs rise k d l =
+    let p = get_or pairs k d in
+    let listed = ap is_surrogate (All-image pairs rise k d l) in (
+      λ e avoids. let parts = and_parts (not (is_surrogate p.0)) _ e in
+          both_ways _ (avoids (not-true _ parts.0)) (listed ∙ parts.1),
+      λ e own. elim (and_cases (not (is_surrogate p.0)) _ e) [
+        | inl taken ↦ absurd (both_ways _ own (not-false _ taken))
+        | inr free ↦ listed ∙ free
+      ],
+    )
+
+-- what isn't listed stays what it is
+pub surrogates-unlisted : (pairs : List (ℕ × ℕ)) (c : ℕ) → All (λ p. p.0 ≢ c) pairs → AvoidsSurrogates c pairs
+surrogates-unlisted pairs c h own = ap is_surrogate (image-unlisted pairs c h) ∙ own
 
 -- ---- a map by halving
 
