@@ -11,6 +11,16 @@ use Rattle.regress_front_sets.specs.declared.tables.law.TableLaw.TheVariants.{As
 use Rattle.regress_front_sets.specs.Telling.{TellsLeast, lesser}
 use Rattle.regress_front_sets.proofs.ImageLemmas.{PairsRise-tail, PairsRise-above}
 
+-- where nothing is told, each number keeps the law
+pub kept-from_told : (P : ℕ → Type 0) (told : Option ℕ) → TellsLeast told P → IfNone told ((c : ℕ) → P c)
+kept-from_told P None h = h
+kept-from_told P (Some c) h = tt
+
+-- what is told is the least that breaks the law
+pub least-from_told : (P : ℕ → Type 0) (told : Option ℕ) → TellsLeast told P → IfSome told (IsLeast (λ c. P c → ⊥))
+least-from_told P None h = tt
+least-from_told P (Some c) h = h
+
 -- what is told of a law is told of the same law in other words
 pub TellsLeast-same : (P Q : ℕ → Type 0) → ((c : ℕ) → P c → Q c) → ((c : ℕ) → Q c → P c) → (told : Option ℕ) → TellsLeast told P → TellsLeast told Q
 TellsLeast-same P Q to from None h = λ c. to c (h c)
@@ -37,9 +47,9 @@ TellsLeast-both P Q (Some c) (Some d) h k =
 pub IsLeast-both_maps : (P : ℕ → List (ℕ × ℕ) → Type 0) (parts : TableParts) (a b told : Option ℕ) → told ≡ lesser a b
     → TellsLeast a (λ c. P c parts.fold) → TellsLeast b (λ c. P c parts.upper)
     → IfSome told (IsLeast (λ c. BothMaps parts (P c) → ⊥))
-IsLeast-both_maps P parts a b None same h k = tt
-IsLeast-both_maps P parts a b (Some c) same h k =
-    rw (← same) at (TellsLeast-both (λ d. P d parts.fold) (λ d. P d parts.upper) a b h k)
+IsLeast-both_maps P parts a b told same h k =
+    let both = TellsLeast-both (λ c. P c parts.fold) (λ c. P c parts.upper) a b h k in
+    least-from_told (λ c. BothMaps parts (P c)) told (rw (← same) at both)
 
 -- A law that holds of all that isn't listed, where a test of the pairs finds what breaks it: the first found is the least.
 pub TellsLeast-find : (P : ℕ → Type 0) (test : ℕ × ℕ → Bool) (pairs : List (ℕ × ℕ)) → PairsRise pairs
@@ -80,11 +90,6 @@ pub TellsLeast-below : (P : ℕ → Type 0) (n : ℕ) (told : Option ℕ)
 TellsLeast-below P n None h = λ c l. h c (omega arith) l
 TellsLeast-below P n (Some c) h =
     record { holds = λ own. h.2 (own h.1); least = λ d l broken. broken (λ m. h.3 d (omega arith) l) }
-
--- where nothing is told, each number keeps the law
-pub kept-from_told : (P : ℕ → Type 0) (told : Option ℕ) → TellsLeast told P → IfNone told ((c : ℕ) → P c)
-kept-from_told P None h = h
-kept-from_told P (Some c) h = tt
 
 -- what is told of the maps on ASCII
 pub Tells-ascii_case : (parts : TableParts) (told : Option ℕ) → TellsLeast told (λ c. c < 0x80 → HasAsciiCase parts c) → IfSome told (Tells AsciiCase parts)

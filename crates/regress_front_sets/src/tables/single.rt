@@ -9,7 +9,7 @@ ghost use Rattle.regress_front_sets.specs.declared.tables.law.TableLaw.TheVarian
 
 use super::image::image;
 use super::parts::TableParts;
-use crate::interval::CodePoint;
+use crate::interval::{CodePoint, Interval};
 
 const FIRST_SURROGATE: CodePoint = 0xD800;
 const LAST_SURROGATE: CodePoint = 0xDFFF;
@@ -92,4 +92,45 @@ fn least(a: Option<CodePoint>, b: Option<CodePoint>) -> Option<CodePoint>
         (Some(c), Some(d)) => Some(c.min(d)),
         (c, None) | (None, c) => c,
     }
+}
+
+/// The least surrogate in the intervals.
+fn first_surrogate(intervals: &[Interval]) -> Option<CodePoint>
+    requires { IntervalsRise (ends_of intervals.now) }
+    ensures { TellsLeast result (λ c. in_intervals (ends_of intervals.now) c ≡ true → is_surrogate c ≡ false) }
+{
+    intervals
+        .iter()
+        .find(|interval| FIRST_SURROGATE <= interval.last && interval.first <= LAST_SURROGATE)
+        .map(|interval| interval.first.max(FIRST_SURROGATE))
+}
+
+/// The least code point that identifiers hold and may not.
+pub(crate) fn wrong_identifier(parts: &TableParts) -> Option<CodePoint>
+    requires { KeepsCanonical (parts_of parts.now) }
+    ensures kept { IfNone result ((c : ℕ) → KeepsIdentifierAt (parts_of parts.now) c) }
+    ensures broken { IfSome result (λ c. Tells Identifier (parts_of parts.now) c) }
+{
+    let ascii = (0..0x80).find(|c| !fits_identifiers(parts, *c));
+    let start = first_surrogate(&parts.id_start);
+    let further = first_surrogate(&parts.id_continue);
+    least(ascii, least(start, further))
+}
+
+/// Whether identifiers hold the code point only where they may. It is under 80 (hexadecimal).
+fn fits_identifiers(parts: &TableParts, c: CodePoint) -> bool
+    requires { c < 0x80 }
+    ensures { IsTrue result ↔ KeepsIdentifierAt (parts_of parts.now) c }
+{
+    let letter = c as u8;
+    let may_start = letter.is_ascii_alphabetic();
+    let may_go_on = letter.is_ascii_alphanumeric() || letter == b'_';
+    (may_start || !is_in(&parts.id_start, c)) && (may_go_on || !is_in(&parts.id_continue, c))
+}
+
+/// Whether the code point lies in one of the intervals.
+fn is_in(intervals: &[Interval], c: CodePoint) -> bool
+    ensures { result ≡ in_intervals (ends_of intervals.now) c }
+{
+    intervals.iter().any(|interval| interval.contains(c))
 }
