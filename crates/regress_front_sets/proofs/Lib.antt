@@ -1,3 +1,4 @@
 pub mod ImageLemmas
 pub mod TellingLemmas
 pub mod SurrogateLemmas
+pub mod ClassLemmas

@@ -1,15 +1,21 @@
 //! The laws of tables that are about single code points.
-ghost use Rattle.std.specs.Prelude.{◌≡◌, ◌↔◌, ◌<◌, ℕ, false, true, List, IsTrue, IfSome, IfNone, IfOk, IfErr};
+ghost use Rattle.std.specs.Prelude.{◌≡◌, ◌↔◌, ◌<◌, ◌+◌, ℕ, false, true, List, IsTrue, IfSome, IfNone, IfOk, IfErr, All, unwrap_or};
+ghost use Rattle.std.specs.Ordering.{nat_cmp};
+ghost use Rattle.std.specs.BTreeMap.{get};
 ghost use Rattle.regress_meaning.specs.TableParts.{PairsRise, IntervalsRise, KeepsRange, KeepsOrder, KeepsCanonical, BothMaps, HasAsciiCase, IsIdempotentAt, HasSmallClass, AvoidsSurrogates, KeepsIdentifierAt, in_intervals, is_surrogate, is_code_point};
 ghost use Rattle.regress_front_sets.specs.Intervals.{ends_of};
 ghost use Rattle.regress_front_sets.specs.Parts.{parts_of};
 ghost use Rattle.regress_front_sets.specs.Breaking.{Tells};
-ghost use Rattle.regress_front_sets.specs.Telling.{TellsLeast, lesser};
+ghost use Rattle.regress_front_sets.specs.Telling.{TellsLeast, lesser, others_to};
 ghost use Rattle.regress_front_sets.specs.declared.tables.law.TableLaw.TheVariants.{AsciiCase, Idempotent, ClassSize, Surrogate, Identifier};
+ghost use Rattle.regress_front_sets.specs.declared.tables.law.TableError.TheVariants.{OutOfMemory};
 
 use super::image::image;
+use super::law::TableError;
 use super::parts::TableParts;
 use crate::interval::{CodePoint, Interval};
+use std::alloc::{AllocError, Global};
+use std::collections::BTreeMap;
 
 const FIRST_SURROGATE: CodePoint = 0xD800;
 const LAST_SURROGATE: CodePoint = 0xDFFF;
@@ -52,6 +58,48 @@ fn moved_twice_by(pairs: &[(CodePoint, CodePoint)]) -> Option<CodePoint>
         .iter()
         .find(|pair| image(pairs, pair.1) != pair.1)
         .map(|pair| pair.0)
+}
+
+/// The least image that more than four code points share in a map.
+pub(crate) fn too_large_class(alloc: Global, parts: &TableParts) -> Result<Option<CodePoint>, TableError>
+    requires range { KeepsRange (parts_of parts.now) }
+    requires order { KeepsOrder (parts_of parts.now) }
+    requires idempotent { BothMaps (parts_of parts.now) (λ pairs. (c : ℕ) → IsIdempotentAt c pairs) }
+    ensures kept { IfOk result (λ told. IfNone told
+        (BothMaps (parts_of parts.now) (λ pairs. (d : ℕ) → HasSmallClass d pairs))) }
+    ensures broken { IfOk result (λ told. IfSome told (λ d. Tells ClassSize (parts_of parts.now) d)) }
+    ensures refused { IfErr result (λ e. e ≡ OutOfMemory) }
+{
+    let fold = too_large_class_by(alloc, &parts.fold)?;
+    let upper = too_large_class_by(alloc, &parts.upper)?;
+    Ok(least(fold, upper))
+}
+
+/// The least image that more than four code points share in one map.
+fn too_large_class_by(alloc: Global, pairs: &[(CodePoint, CodePoint)]) -> Result<Option<CodePoint>, AllocError>
+    requires range { All (λ p. is_code_point p.0 × is_code_point p.1) pairs.now }
+    requires order { PairsRise pairs.now }
+    requires idempotent { (c : ℕ) → IsIdempotentAt c pairs.now }
+    ensures { IfOk result (λ told. TellsLeast told (λ d. HasSmallClass d pairs.now)) }
+{
+    let sizes = class_sizes(alloc, pairs)?;
+    Ok(sizes
+        .iter()
+        .find(|entry| *entry.1 > 4)
+        .map(|entry| *entry.0))
+}
+
+/// For each image of another code point how many have it: those, and the image itself.
+fn class_sizes(alloc: Global, pairs: &[(CodePoint, CodePoint)]) -> Result<BTreeMap<CodePoint, usize>, AllocError>
+    ensures { IfOk result (λ sizes. (d : ℕ) → unwrap_or (get nat_cmp sizes d) 1 ≡ 1 + others_to pairs.now d) }
+{
+    let mut sizes = BTreeMap::new(alloc);
+    for (c, image) in pairs {
+        if c != image {
+            *sizes.entry(*image)?.or_insert(1) += 1;
+        }
+    }
+    Ok(sizes)
 }
 
 /// The least code point that is no surrogate and is mapped to one.
