@@ -118,14 +118,18 @@ class_size n d [] rise small = omega (arith, count_below-one n d)
 class_size n d (p ∷ pairs) rise small =
     let more = class_size n d pairs (PairsRise-tail p pairs rise) (All-tail (λ q. q.0 < n) p pairs small) in
     let changed = count_below-changed n p.0 (λ c. cond (p.0 == c) p.1 (image pairs c) == d) (λ c. image pairs c == d)
-        (All-head (λ q. q.0 < n) p pairs small)
-        (λ c other. ap (λ b. cond b p.1 (image pairs c) == d) (ne_eqb p.0 c (λ e. other (sym e)))) in
+    (All-head (λ q. q.0 < n) p pairs small)
+    (λ c other. ap (λ b. cond b p.1 (image pairs c) == d) (ne_eqb p.0 c (λ e. other (sym e)))) in
     let own : image pairs p.0 ≡ p.0 = image-unlisted pairs p.0 (λ k e l same. omega (arith, PairsRise-above p pairs rise k e l)) in
     let here : one_if (image pairs p.0 == d) ≡ one_if (p.0 == d) = ap (λ x. one_if (x == d)) own in
     let there : one_if (cond (p.0 == p.0) p.1 (image pairs p.0) == d) ≡ one_if (p.1 == d) =
-        ap (λ b. one_if (cond b p.1 (image pairs p.0) == d)) (eq-eqb p.0 p.0 refl) in
-    omega (arith, pair_step p.0 p.1 d, count_by-cons (λ q. q.0 == d && not (q.0 == q.1)) p pairs,
-        count_by-cons (λ q. q.1 == d && not (q.0 == q.1)) p pairs)
+    ap (λ b. one_if (cond b p.1 (image pairs p.0) == d)) (eq-eqb p.0 p.0 refl) in
+    omega (
+      arith,
+      pair_step p.0 p.1 d,
+      count_by-cons (λ q. q.0 == d && not (q.0 == q.1)) p pairs,
+      count_by-cons (λ q. q.1 == d && not (q.0 == q.1)) p pairs,
+    )
 
 -- no pair takes d away where d maps to itself
 moves-none : (pairs : List (ℕ × ℕ)) (d : ℕ) → PairsRise pairs → image pairs d ≡ d → moves_of pairs d ≡ 0
@@ -170,7 +174,7 @@ module _ (pairs : List (ℕ × ℕ)) (rise : PairsRise pairs) (range : All (λ p
           let second : p.1 ≡ d = eqb-true p.1 d (and_parts (p.1 == d) _ (found.2 (0, 0))).0 in
           let listed = All-image pairs rise found.0 (0, 0) found.1 in
           let own : image pairs d ≡ d =
-              ap (image pairs) (sym second ∙ sym listed) ∙ idempotent p.0 ∙ listed ∙ second in
+          ap (image pairs) (sym second ∙ sym listed) ∙ idempotent p.0 ∙ listed ∙ second in
           let bounded = (range found.0 (0, 0) found.1).1 in
           let one : one_if (nat_lt d code_points) ≡ 1 = ap one_if (lt-ltb d code_points (omega arith)) in
           omega (arith, class_size_of d, moves-none pairs d rise own)
@@ -201,7 +205,7 @@ TellsLeast-classes pairs rise range idempotent sizes ordered counts =
     unlisted : (c : ℕ) → All (λ e. e.0 ≢ c) sizes.entries → HasSmallClass c pairs
     unlisted c h =
         let absent : tree.get nat_cmp sizes c ≡ None =
-            lookup-none (λ k. is_eq (nat_cmp c k)) sizes.entries (recursion_from_All (λ e. is_eq (nat_cmp c e.0) ≡ false) sizes.entries (λ k e l. is_eq-apart c _ (h k e l))) in
+        lookup-none (λ k. is_eq (nat_cmp c k)) sizes.entries (recursion_from_All (λ e. is_eq (nat_cmp c e.0) ≡ false) sizes.entries (λ k e l. is_eq-apart c _ (h k e l))) in
         let none : 1 ≡ 1 + others_to pairs c = rw absent at (counts c) in
         HasSmallClass-from_few pairs rise range c (omega arith)
 

@@ -115,10 +115,10 @@ TellsLeast-identifier parts ascii start further a s f =
     let Starts : ℕ → Type 0 = IsNoSurrogate parts.id_start.items in
     let GoesOn : ℕ → Type 0 = IsNoSurrogate parts.id_continue.items in
     TellsLeast-same (λ c. Fits c × (Starts c × GoesOn c)) (KeepsIdentifierAt (parts_of parts))
-        (λ c h. (λ held. (λ l. ((h.0 l).0 held).0 l, h.1.0 held), λ held. (λ l. ((h.0 l).1 held).0 l, h.1.1 held)))
-        (λ c h. (λ l. h, (λ held. (h.0 held).1, λ held. (h.1 held).1))) _
-        (TellsLeast-both Fits (λ c. Starts c × GoesOn c) ascii (lesser start further) a
-            (TellsLeast-both Starts GoesOn start further s f))
+    (λ c h. (λ held. (λ l. ((h.0 l).0 held).0 l, h.1.0 held), λ held. (λ l. ((h.0 l).1 held).0 l, h.1.1 held)))
+    (λ c h. (λ l. h, (λ held. (h.0 held).1, λ held. (h.1 held).1))) _
+    (TellsLeast-both Fits (λ c. Starts c × GoesOn c) ascii (lesser start further) a
+    (TellsLeast-both Starts GoesOn start further s f))
 
 -- whether one of the intervals holds it
 pub in_intervals-any : (intervals : List Interval) (c : ℕ) → list_any (λ i. in_interval i c) intervals ≡ in_intervals (ends_of intervals) c

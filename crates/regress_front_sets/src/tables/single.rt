@@ -1,5 +1,5 @@
 //! The laws of tables that are about single code points.
-ghost use Rattle.std.specs.Prelude.{◌≡◌, ◌↔◌, ◌<◌, ◌+◌, ℕ, false, true, List, IsTrue, IfSome, IfNone, IfOk, IfErr, All, unwrap_or};
+ghost use Rattle.std.specs.Prelude.{◌≡◌, ◌↔◌, ◌<◌, ◌+◌, ℕ, false, true, List, [], IsTrue, IfSome, IfNone, IfOk, IfErr, All, unwrap_or};
 ghost use Rattle.std.specs.Ordering.{nat_cmp};
 ghost use Rattle.std.specs.BTreeMap.{get};
 ghost use Rattle.regress_meaning.specs.TableParts.{PairsRise, IntervalsRise, KeepsRange, KeepsOrder, KeepsCanonical, BothMaps, HasAsciiCase, IsIdempotentAt, HasSmallClass, AvoidsSurrogates, KeepsIdentifierAt, in_intervals, is_surrogate, is_code_point};
@@ -18,6 +18,7 @@ use std::alloc::{AllocError, Global};
 use std::collections::BTreeMap;
 
 const FIRST_SURROGATE: CodePoint = 0xD800;
+
 const LAST_SURROGATE: CodePoint = 0xDFFF;
 
 /// The least code point under 80 (hexadecimal) at which a map isn't ASCII's.
@@ -61,7 +62,10 @@ fn moved_twice_by(pairs: &[(CodePoint, CodePoint)]) -> Option<CodePoint>
 }
 
 /// The least image that more than four code points share in a map.
-pub(crate) fn too_large_class(alloc: Global, parts: &TableParts) -> Result<Option<CodePoint>, TableError>
+pub(crate) fn too_large_class(
+    alloc: Global,
+    parts: &TableParts,
+) -> Result<Option<CodePoint>, TableError>
     requires range { KeepsRange (parts_of parts.now) }
     requires order { KeepsOrder (parts_of parts.now) }
     requires idempotent { BothMaps (parts_of parts.now) (λ pairs. (c : ℕ) → IsIdempotentAt c pairs) }
@@ -76,21 +80,29 @@ pub(crate) fn too_large_class(alloc: Global, parts: &TableParts) -> Result<Optio
 }
 
 /// The least image that more than four code points share in one map.
-fn too_large_class_by(alloc: Global, pairs: &[(CodePoint, CodePoint)]) -> Result<Option<CodePoint>, AllocError>
+fn too_large_class_by(
+    alloc: Global,
+    pairs: &[(CodePoint, CodePoint)],
+) -> Result<Option<CodePoint>, AllocError>
     requires range { All (λ p. is_code_point p.0 × is_code_point p.1) pairs.now }
     requires order { PairsRise pairs.now }
     requires idempotent { (c : ℕ) → IsIdempotentAt c pairs.now }
     ensures { IfOk result (λ told. TellsLeast told (λ d. HasSmallClass d pairs.now)) }
 {
     let sizes = class_sizes(alloc, pairs)?;
-    Ok(sizes
-        .iter()
-        .find(|entry| *entry.1 > 4)
-        .map(|entry| *entry.0))
+    Ok(
+        sizes
+            .iter()
+            .find(|entry| *entry.1 > 4)
+            .map(|entry| *entry.0),
+    )
 }
 
 /// For each image of another code point how many have it: those, and the image itself.
-fn class_sizes(alloc: Global, pairs: &[(CodePoint, CodePoint)]) -> Result<BTreeMap<CodePoint, usize>, AllocError>
+fn class_sizes(
+    alloc: Global,
+    pairs: &[(CodePoint, CodePoint)],
+) -> Result<BTreeMap<CodePoint, usize>, AllocError>
     ensures { IfOk result (λ sizes. (d : ℕ) → unwrap_or (get nat_cmp sizes d) 1 ≡ 1 + others_to pairs.now d) }
 {
     let mut sizes = BTreeMap::new(alloc);
@@ -181,4 +193,107 @@ fn is_in(intervals: &[Interval], c: CodePoint) -> bool
     ensures { result ≡ in_intervals (ends_of intervals.now) c }
 {
     intervals.iter().any(|interval| interval.contains(c))
+}
+
+#[cfg(test)]
+mod tests {
+    use super::*;
+    use std::test::Fail;
+
+    type Pair = (CodePoint, CodePoint);
+
+    fn with_maps(alloc: Global, fold: &[Pair], upper: &[Pair]) -> Result<TableParts, AllocError>
+        ensures { IfOk result (λ parts. (parts.fold.items ≡ fold.now)
+            × (parts.upper.items ≡ upper.now) × (parts.sequences.items ≡ [])) }
+    {
+        Ok(TableParts {
+            fold: Vec::from_slice(alloc, fold)?,
+            upper: Vec::from_slice(alloc, upper)?,
+            id_start: Vec::new(alloc),
+            id_continue: Vec::new(alloc),
+            properties: Vec::new(alloc),
+            sequences: Vec::new(alloc),
+        })
+    }
+
+    fn with_identifiers(
+        alloc: Global,
+        id_start: &[Interval],
+        id_continue: &[Interval],
+    ) -> Result<TableParts, AllocError>
+        ensures { IfOk result (λ parts. (parts.id_start.items ≡ id_start.now)
+            × (parts.id_continue.items ≡ id_continue.now) × (parts.properties.items ≡ [])) }
+    {
+        Ok(TableParts {
+            fold: Vec::new(alloc),
+            upper: Vec::new(alloc),
+            id_start: Vec::from_slice(alloc, id_start)?,
+            id_continue: Vec::from_slice(alloc, id_continue)?,
+            properties: Vec::new(alloc),
+            sequences: Vec::new(alloc),
+        })
+    }
+
+    #[test]
+    fn ascii_has_its_case(rt: HostRuntime) -> Result<(), Fail> {
+        let parts = with_maps(rt.alloc(), &[], &[(0x7F, 0x80)])?;
+        assert_eq!(rt; wrong_ascii_case(&parts), Some(0x41));
+        Ok(())
+    }
+
+    #[test]
+    fn maps_are_idempotent(rt: HostRuntime) -> Result<(), Fail> {
+        let kept = with_maps(rt.alloc(), &[(0x41, 0x61), (0x61, 0x61)], &[])?;
+        assert_eq!(rt; moved_twice(&kept), None);
+        let broken = with_maps(
+            rt.alloc(),
+            &[(0x43, 0x44), (0x44, 0x45)],
+            &[(0x41, 0x42), (0x42, 0x43), (0x43, 0x43)],
+        )?;
+        assert_eq!(rt; moved_twice(&broken), Some(0x41));
+        Ok(())
+    }
+
+    #[test]
+    fn classes_are_small(rt: HostRuntime) -> Result<(), Fail> {
+        let kept = with_maps(rt.alloc(), &[(1, 9), (2, 9), (3, 9), (9, 9)], &[])?;
+        assert_eq!(rt; moved_twice(&kept), None);
+        assert_eq!(rt; too_large_class(rt.alloc(), &kept)?, None);
+        let broken = with_maps(rt.alloc(), &[], &[(1, 9), (2, 9), (3, 9), (4, 9)])?;
+        assert_eq!(rt; moved_twice(&broken), None);
+        assert_eq!(rt; too_large_class(rt.alloc(), &broken)?, Some(9));
+        Ok(())
+    }
+
+    #[test]
+    fn surrogates_are_avoided(rt: HostRuntime) -> Result<(), Fail> {
+        let kept = with_maps(rt.alloc(), &[(0xD800, 0xDFFF)], &[(0xDFFF, 0x61)])?;
+        assert_eq!(rt; mapped_to_surrogate(&kept), None);
+        let broken = with_maps(rt.alloc(), &[(0x62, 0xD800)], &[(0x61, 0xDFFF)])?;
+        assert_eq!(rt; mapped_to_surrogate(&broken), Some(0x61));
+        Ok(())
+    }
+
+    #[test]
+    fn identifiers_fit(rt: HostRuntime) -> Result<(), Fail> {
+        let letters = Interval {
+            first: 0x41,
+            last: 0x5A,
+        };
+        let digits = Interval {
+            first: 0x30,
+            last: 0x39,
+        };
+        let others = Interval {
+            first: 0xD700,
+            last: 0x10_FFFF,
+        };
+        let kept = with_identifiers(rt.alloc(), &[letters], &[digits, letters])?;
+        assert_eq!(rt; wrong_identifier(&kept), None);
+        let broken = with_identifiers(rt.alloc(), &[digits], &[letters, others])?;
+        assert_eq!(rt; wrong_identifier(&broken), Some(0x30));
+        let surrogates = with_identifiers(rt.alloc(), &[letters], &[letters, others])?;
+        assert_eq!(rt; wrong_identifier(&surrogates), Some(0xD800));
+        Ok(())
+    }
 }

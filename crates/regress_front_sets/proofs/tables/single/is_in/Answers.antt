@@ -11,4 +11,4 @@ pub returns : goal.returns
 returns c =
     let intervals = c.args.intervals.now in
     any_from_yields_List (λ i. in_interval i c.args.c) _ _ _ c.any.ensures.ran (YieldsList-from_slice intervals cc) (λ x b q k. search (rules, tests))
-        ∙ in_intervals-any intervals c.args.c
+    ∙ in_intervals-any intervals c.args.c
