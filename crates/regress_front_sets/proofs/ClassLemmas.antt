@@ -1,21 +1,21 @@
 -- How many code points have the same image.
-use Rattle.std.proofs.Common.{◌≡◌, ◌≢◌, ℕ, zero, suc, ◌+◌, ◌<◌, ◌≤◌, ◌⊎◌, ◌==◌, ◌&&◌, not, nat_lt, Bool, true, false, cond, List, [], ◌∷◌, length, get_or, All, Option, Some, None, IsSome, unwrap_or, refl, sym, ap, ◌∙◌, subst, inl, inr, arith, le_refl}
+use Rattle.std.proofs.Common.{◌≡◌, ◌≢◌, ℕ, zero, suc, ◌+◌, ◌<◌, ◌≤◌, ◌==◌, ◌&&◌, not, nat_lt, Bool, true, false, cond, List, [], ◌∷◌, length, get_or, All, None, unwrap_or, refl, sym, ap, ◌∙◌, inl, inr, arith, le_refl}
 use Rattle.std.specs.Prelude.{count_by}
-use Rattle.std.specs.List.{find, slice_get, AllByRecursion}
+use Rattle.std.specs.List.{find}
 use Rattle.std.specs.List.Sorted.{IsStrictlySortedBy}
-use Rattle.std.specs.Map.{lookup, keys_of}
+use Rattle.std.specs.Map.{keys_of}
 use Rattle.std.specs.Ordering.{nat_cmp, is_eq}
 use Rattle.std.specs.BTreeMap as tree
 use Rattle.std.specs.Option.{option_map}
-use Rattle.std.proofs.lemmas.Bool.{eqb-true, eqb-false, eq-eqb, ne_eqb, cases_eq, cases_lt, cases_Bool, ltb-true, ltb-false, lt-ltb, le-ltb, and_parts, and_left, and_right, not-true, not-false, not_from_true, not_from_false, false≢true}
+use Rattle.std.proofs.lemmas.Bool.{eqb-true, eq-eqb, ne_eqb, cases_eq, cases_lt, cases_Bool, ltb-true, ltb-false, lt-ltb, le-ltb, and_parts, and_left, and_right, not_from_true}
 use Rattle.std.proofs.lemmas.Bool.Decides.{nat_tests}
 use Rattle.std.proofs.lemmas.Cmp.{ranked, nat_cmp_total}
-use Rattle.std.proofs.lemmas.List.Elements.{All-nil, All-cons, All-head, All-tail, recursion_from_All, All-weaker}
+use Rattle.std.proofs.lemmas.List.Elements.{All-head, All-tail, recursion_from_All}
 use Rattle.std.proofs.lemmas.List.Sums.{sum_by-cons}
 use Rattle.std.proofs.lemmas.Map.{lookup-none}
 use Rattle.std.proofs.lemmas.Map.Entries.{btree_map_get_place}
 use Rattle.std.proofs.lemmas.Option.{slice_get-get_or}
-use Rattle.regress_meaning.specs.Table.{count_below, code_points, last_code_point}
+use Rattle.regress_meaning.specs.Table.{count_below, code_points}
 use Rattle.regress_meaning.specs.TableParts.{image, PairsRise, IsIdempotentAt, HasSmallClass, is_code_point}
 use Rattle.regress_front_sets.specs.Telling.{TellsLeast, others_to}
 use Rattle.regress_front_sets.proofs.ImageLemmas.{PairsRise-tail, PairsRise-above, image-unlisted, All-image}

@@ -21,7 +21,7 @@ const FIRST_SURROGATE: CodePoint = 0xD800;
 
 const LAST_SURROGATE: CodePoint = 0xDFFF;
 
-/// The least code point under 80 (hexadecimal) at which a map isn't ASCII's.
+/// The least code point under 80 (hexadecimal) at which a map isn't ASCII's, if there is one.
 pub(crate) fn wrong_ascii_case(parts: &TableParts) -> Option<CodePoint>
     requires { KeepsOrder (parts_of parts.now) }
     ensures kept { IfNone result ((c : ℕ) → c < 0x80 → HasAsciiCase (parts_of parts.now) c) }
@@ -41,10 +41,11 @@ fn has_ascii_case(parts: &TableParts, c: CodePoint) -> bool
         && image(&parts.upper, c) == u32::from(letter.to_ascii_uppercase())
 }
 
-/// The least code point at which a map applied twice isn't the map applied once.
+/// The least code point at which a map applied twice isn't the map applied once, if there is one.
 pub(crate) fn moved_twice(parts: &TableParts) -> Option<CodePoint>
     requires { KeepsOrder (parts_of parts.now) }
-    ensures kept { IfNone result (BothMaps (parts_of parts.now) (λ pairs. (c : ℕ) → IsIdempotentAt c pairs)) }
+    ensures kept { IfNone result
+        (BothMaps (parts_of parts.now) (λ pairs. (c : ℕ) → IsIdempotentAt c pairs)) }
     ensures broken { IfSome result (λ c. Tells Idempotent (parts_of parts.now) c) }
 {
     least(moved_twice_by(&parts.fold), moved_twice_by(&parts.upper))
@@ -61,7 +62,7 @@ fn moved_twice_by(pairs: &[(CodePoint, CodePoint)]) -> Option<CodePoint>
         .map(|pair| pair.0)
 }
 
-/// The least image that more than four code points share in a map.
+/// The least image that more than four code points share in a map, if there is one. Errs where memory is refused.
 pub(crate) fn too_large_class(
     alloc: Global,
     parts: &TableParts,
@@ -103,7 +104,8 @@ fn class_sizes(
     alloc: Global,
     pairs: &[(CodePoint, CodePoint)],
 ) -> Result<BTreeMap<CodePoint, usize>, AllocError>
-    ensures { IfOk result (λ sizes. (d : ℕ) → unwrap_or (get nat_cmp sizes d) 1 ≡ 1 + others_to pairs.now d) }
+    ensures { IfOk result
+        (λ sizes. (d : ℕ) → unwrap_or (get nat_cmp sizes d) 1 ≡ 1 + others_to pairs.now d) }
 {
     let mut sizes = BTreeMap::new(alloc);
     for (c, image) in pairs {
@@ -114,10 +116,11 @@ fn class_sizes(
     Ok(sizes)
 }
 
-/// The least code point that is no surrogate and is mapped to one.
+/// The least code point that is no surrogate and is mapped to one, if there is one.
 pub(crate) fn mapped_to_surrogate(parts: &TableParts) -> Option<CodePoint>
     requires { KeepsOrder (parts_of parts.now) }
-    ensures kept { IfNone result (BothMaps (parts_of parts.now) (λ pairs. (c : ℕ) → AvoidsSurrogates c pairs)) }
+    ensures kept { IfNone result
+        (BothMaps (parts_of parts.now) (λ pairs. (c : ℕ) → AvoidsSurrogates c pairs)) }
     ensures broken { IfSome result (λ c. Tells Surrogate (parts_of parts.now) c) }
 {
     least(
@@ -157,7 +160,8 @@ fn least(a: Option<CodePoint>, b: Option<CodePoint>) -> Option<CodePoint>
 /// The least surrogate in the intervals.
 fn first_surrogate(intervals: &[Interval]) -> Option<CodePoint>
     requires { IntervalsRise (ends_of intervals.now) }
-    ensures { TellsLeast result (λ c. in_intervals (ends_of intervals.now) c ≡ true → is_surrogate c ≡ false) }
+    ensures { TellsLeast result
+        (λ c. in_intervals (ends_of intervals.now) c ≡ true → is_surrogate c ≡ false) }
 {
     intervals
         .iter()
@@ -165,7 +169,7 @@ fn first_surrogate(intervals: &[Interval]) -> Option<CodePoint>
         .map(|interval| interval.first.max(FIRST_SURROGATE))
 }
 
-/// The least code point that identifiers hold and may not.
+/// The least code point that identifiers hold and may not, if there is one.
 pub(crate) fn wrong_identifier(parts: &TableParts) -> Option<CodePoint>
     requires { KeepsCanonical (parts_of parts.now) }
     ensures kept { IfNone result ((c : ℕ) → KeepsIdentifierAt (parts_of parts.now) c) }

@@ -1,9 +1,8 @@
-use Rattle.std.proofs.Common.{ap, ◌∙◌, sym, rules}
-use Rattle.std.specs.List.{list_any}
+use Rattle.std.proofs.Common.{◌∙◌, rules}
 use Rattle.std.proofs.lemmas.Iterator.{YieldsList-from_slice}
 use Rattle.std.proofs.lemmas.Iterator.Search.{any_from_yields_List}
 use borrow.Author.Tests.{tests}
-use Rattle.regress_front_sets.specs.Intervals.{in_interval, ends_of}
+use Rattle.regress_front_sets.specs.Intervals.{in_interval}
 use Rattle.regress_front_sets.proofs.SurrogateLemmas.{in_intervals-any}
 use Rattle.regress_front_sets.proofs.tables.single.is_in.Goals as goal
 
