@@ -1,2 +1,6 @@
 mod LimitLemmas
 pub mod FirstByteLemmas
+pub mod ImageLemmas
+pub mod TellingLemmas
+pub mod SurrogateLemmas
+pub mod ClassLemmas
