@@ -8,7 +8,7 @@ use Rattle.std.proofs.lemmas.List.Recursion.{or_at, or_is, or_push}
 use Rattle.regress_meaning.specs.Text.{between}
 use Rattle.regress_meaning.specs.Table.{last_code_point, code_points}
 use Rattle.regress_meaning.specs.TableParts.{in_intervals, IntervalsRise}
-use Rattle.regress_front_sets.specs.Intervals.{gap, gaps_from, inverse}
+use Rattle.regress_front_sets.specs.Intervals.{interval_at, IsRun, gap, gaps_from, inverse}
 
 -- ---- tests
 
@@ -36,10 +36,6 @@ pub between-outside : (a b c : ℕ) → (c < a) ⊎ (b < c) → between a b c �
 between-outside a b c h = grind (arith, nat_tests)
 
 -- ---- the numbers that intervals hold
-
--- the interval at a place
-abbrev pub interval_at : List (ℕ × ℕ) → ℕ → ℕ × ℕ
-interval_at xs k = get_or xs k (0, 0)
 
 -- the interval holds c
 abbrev holds_at : ℕ → ℕ × ℕ → Bool
@@ -216,14 +212,6 @@ intervals_from_members (i ∷ xs) (j ∷ ys) h k same =
     ap₂ (λ x l. x ∷ l) (ap₂ (λ a b. (a, b)) first last) rest
 
 -- ---- an interval that is added
-
--- The intervals from s up to e are those that meet the interval or adjoin it.
-pub record IsRun (xs : List (ℕ × ℕ)) (new : ℕ × ℕ) (s e : ℕ) : Type 0 where
-  pub order : s ≤ e
-  pub within : e ≤ length xs
-  pub before : (k : ℕ) → k < s → (interval_at xs k).1 + 1 < new.0
-  pub met : (k : ℕ) → s ≤ k → k < e → (new.0 ≤ (interval_at xs k).1 + 1) × ((interval_at xs k).0 ≤ new.1 + 1)
-  pub after : (k : ℕ) → e ≤ k → k < length xs → new.1 + 1 < (interval_at xs k).0
 
 -- the run with the interval gives one interval
 pub record IsJoined (xs : List (ℕ × ℕ)) (new : ℕ × ℕ) (s e : ℕ) (joined : ℕ × ℕ) : Type 0 where

@@ -1,18 +1,19 @@
 -- Lists of intervals, by their ends.
-use Rattle.std.proofs.Common.{◌≡◌, ℕ, ◌+◌, ◌-◌, ◌<◌, ◌≤◌, Bool, true, false, nat_lt, List, [], ◌∷◌, ◌++◌, Result, Ok, Err, length, take, drop, get_or, refl, sym, ap, ◌∙◌, inl, inr, arith, subst}
+use Rattle.std.proofs.Common.{◌≡◌, ℕ, ◌+◌, ◌-◌, ◌<◌, ◌≤◌, Bool, true, false, ◌||◌, nat_lt, nat_le, min, max, List, [], ◌∷◌, ◌++◌, Result, Ok, Err, length, take, drop, get_or, slice_set, refl, sym, ap, ◌∙◌, inl, inr, arith, add-one}
 use Rattle.std.specs.Result.{is_ok}
 use Rattle.std.specs.List.{HoldsAt, AllWithin}
-use Rattle.std.specs.List.Sorted.{IsBinarySearchResult, IsSearchInRange}
+use Rattle.std.specs.List.Sorted.{IsBinarySearchResult, IsSearchInRange, IsNonDecreasingBy, IsPartitionedBy, IsPartitionPoint}
 use Rattle.std.specs.declared.cmp.Ordering.{Ordering}
 use Rattle.std.specs.declared.cmp.Ordering.TheVariants.{Less, Equal, Greater}
 use Rattle.std.specs.Ordering.{ordering_index}
-use Rattle.std.proofs.lemmas.Bool.{cases_lt, false_from_ne_true}
+use Rattle.std.proofs.lemmas.Bool.{cases_lt, false_from_ne_true, ltb-true, ltb-false, leb-true, leb-false}
 use Rattle.std.proofs.lemmas.Bool.Decides.{nat_tests}
-use Rattle.std.proofs.lemmas.List.{get_or-map, length-map}
+use Rattle.std.proofs.lemmas.List.{get_or-map, length-map, map-append, take-map, drop-map, take_all, drop_all, set_split}
+use Rattle.std.proofs.lemmas.List.Sorted.{IsPartitionedBy-ltb, IsPartitionedBy-leb}
 use Rattle.regress_meaning.specs.TableParts.{in_intervals, IntervalsRise}
-use Rattle.regress_front_sets.specs.Intervals.{ends, ends_of, interval_cmp}
+use Rattle.regress_front_sets.specs.Intervals.{ends, ends_of, in_interval, interval_cmp, interval_at, IsRun}
 use Rattle.regress_front_sets.specs.declared.interval.Interval.{Interval}
-use Rattle.regress_front_sets.proofs.IntervalLemmas.{interval_at, in_intervals-at, in_intervals-place, IntervalsRise-at, IntervalsRise-apart, IntervalsRise-le}
+use Rattle.regress_front_sets.proofs.IntervalLemmas.{in_intervals-at, in_intervals-place, IntervalsRise-apart, IntervalsRise-le, IsJoined, replaced, IntervalsRise-replaced, in_intervals-replaced}
 
 -- an interval, as a default
 abbrev pub first_interval : Interval
@@ -65,3 +66,110 @@ in_intervals-search xs c (Err n) rise l h =
       | inl below ↦ omega (arith, first, last, interval_cmp-less (get_or xs k first_interval) c (point.0 k first_interval (omega arith) below))
       | inr above ↦ omega (arith, first, last, interval_cmp-greater (get_or xs k first_interval) c (point.1 k first_interval above inside))
     ]))
+
+-- ---- an interval that is added
+
+-- intervals that rise begin at rising places, and end there
+firsts_rise : (xs : List Interval) → IntervalsRise (ends_of xs) → IsNonDecreasingBy (λ i. i.first) xs
+firsts_rise xs h i j d l m = (rises xs i j d h l m).0
+
+lasts_rise : (xs : List Interval) → IntervalsRise (ends_of xs) → IsNonDecreasingBy (λ i. i.last + 1) xs
+lasts_rise xs h i j d l m = omega (arith, (rises xs i j d h l m).1)
+
+-- what both searches ask of the intervals
+pub before_is_partitioned : (xs : List Interval) (n : ℕ) → IntervalsRise (ends_of xs) → IsPartitionedBy (λ i. nat_lt (i.last + 1) n) xs
+before_is_partitioned xs n h = IsPartitionedBy-ltb (λ i. i.last + 1) xs n (lasts_rise xs h)
+
+pub not_after_is_partitioned : (xs : List Interval) (n : ℕ) → IntervalsRise (ends_of xs) → IsPartitionedBy (λ i. nat_le i.first n) xs
+not_after_is_partitioned xs n h = IsPartitionedBy-leb (λ i. i.first) xs n (firsts_rise xs h)
+
+-- between the places that both searches find lies the run that meets the interval or adjoins it
+pub IsRun-from_points : (xs : List Interval) (new : Interval) (s e : ℕ) → s ≤ length xs → e ≤ length xs
+    → IsPartitionPoint (λ i. nat_lt (i.last + 1) new.first ≡ true) (λ i. nat_lt (i.last + 1) new.first ≡ false) xs s
+    → IsPartitionPoint (λ i. nat_le i.first (new.last + 1) ≡ true) (λ i. nat_le i.first (new.last + 1) ≡ false) xs e
+    → IsRun (ends_of xs) (ends new) s e
+IsRun-from_points xs new s e ls le starts to = record {
+    order = elim (cases_lt e s) [
+      | inl l ↦
+          let i = get_or xs e first_interval in
+          absurd (omega (arith, ltb-true _ _ (starts.0 e first_interval (omega arith) l), leb-false _ _ (to.1 e first_interval (omega arith) (omega arith)), i.ordered, new.ordered))
+      | inr l ↦ l
+    ];
+    within = omega (arith, length-map xs ends);
+    before = λ k l. rw (at k (omega arith)) (ltb-true _ _ (starts.0 k first_interval (omega arith) l));
+    met = λ k l m. rw (at k (omega arith)) (
+      ltb-false _ _ (starts.1 k first_interval l (omega arith)),
+      leb-true _ _ (to.0 k first_interval (omega arith) m),
+    );
+    after = λ k l m. rw (at k (inside k m)) (leb-false _ _ (to.1 k first_interval l (inside k m)));
+  }
+  where
+    at : (k : ℕ) → k < length xs → interval_at (ends_of xs) k ≡ ends (get_or xs k first_interval)
+    at k l = interval_at-ends_of xs k first_interval l
+
+    inside : (k : ℕ) → k < length (ends_of xs) → k < length xs
+    inside k l = omega (arith, length-map xs ends)
+
+-- an interval that no other meets or adjoins stays as it is
+pub IsJoined-alone : (xs : List (ℕ × ℕ)) (i : ℕ × ℕ) (s : ℕ) → IsJoined xs i s s i
+IsJoined-alone xs i s = record { alone = λ _. refl; first = λ l. absurd (omega arith); last = λ l. absurd (omega arith) }
+
+-- the ends of a list with a run replaced
+ends_of-replaced : (xs : List Interval) (s e : ℕ) (i : Interval) → ends_of (take s xs ++ i ∷ drop e xs) ≡ replaced (ends_of xs) s e (ends i)
+ends_of-replaced xs s e i = simp (map-append, take-map, drop-map)
+
+-- The new intervals still rise, and hold what the old ones and the added one hold.
+pub record Adds (xs : List Interval) (new : Interval) (ys : List Interval) : Type 0 where
+  pub rise : IntervalsRise (ends_of ys)
+  pub members : (c : ℕ) → in_intervals (ends_of ys) c ≡ (in_intervals (ends_of xs) c || in_interval new c)
+
+pub Adds-replaced : (xs ys : List Interval) (new joined : Interval) (s e : ℕ) → IntervalsRise (ends_of xs)
+    → IsRun (ends_of xs) (ends new) s e → IsJoined (ends_of xs) (ends new) s e (ends joined)
+    → ys ≡ take s xs ++ joined ∷ drop e xs → Adds xs new ys
+Adds-replaced xs ys new joined s e rise run join is =
+    let same = ap ends_of is ∙ ends_of-replaced xs s e joined in
+    record {
+      rise = rw same (IntervalsRise-replaced (ends_of xs) (ends new) s e (ends joined) rise new.ordered new.bounded run join);
+      members = λ c. rw same (in_intervals-replaced (ends_of xs) (ends new) s e (ends joined) rise new.ordered new.bounded run join c);
+    }
+
+-- an interval after all the others, with a gap
+pub Adds-push : (xs : List Interval) (new : Interval) → IntervalsRise (ends_of xs)
+    → ((k : ℕ) → k < length xs → (get_or xs k first_interval).last + 1 < new.first) → Adds xs new (xs ++ new ∷ [])
+Adds-push xs new rise below =
+    let n = length xs in
+    Adds-replaced xs (xs ++ new ∷ []) new new n n rise
+    (record {
+      order = omega arith;
+      within = omega (arith, length-map xs ends);
+      before = λ k l. rw (interval_at-ends_of xs k first_interval l) (below k l);
+      met = λ k l m. absurd (omega arith);
+      after = λ k l m. absurd (omega (arith, length-map xs ends));
+    })
+    (IsJoined-alone (ends_of xs) (ends new) n)
+    (simp (take_all n xs (omega arith), drop_all n xs (omega arith)))
+
+-- an interval that begins in the last one or right after it
+pub Adds-joined_last : (xs : List Interval) (new joined : Interval) (n : ℕ) → IntervalsRise (ends_of xs) → length xs ≡ n + 1
+    → (get_or xs n first_interval).first ≤ new.first → new.first ≤ (get_or xs n first_interval).last + 1
+    → joined.first ≡ min (get_or xs n first_interval).first new.first → joined.last ≡ max (get_or xs n first_interval).last new.last
+    → Adds xs new (slice_set xs n joined)
+Adds-joined_last xs new joined n rise len low met first last =
+    let at = interval_at-ends_of xs n first_interval (omega arith) in
+    let only : (k : ℕ) → n ≤ k → k < n + 1 → k ≡ n = λ k l m. omega arith in
+    Adds-replaced xs (slice_set xs n joined) new joined n (n + 1) rise
+    (record {
+      order = omega arith;
+      within = omega (arith, length-map xs ends);
+      before = λ k l.
+          let apart = IntervalsRise-apart (ends_of xs) k n rise l (omega (arith, length-map xs ends)) in
+          omega (arith, rw at at apart);
+      met = λ k l m. rw (only k l m, at) (met, omega (arith, new.ordered));
+      after = λ k l m. absurd (omega (arith, length-map xs ends));
+    })
+    (record {
+      alone = λ e. absurd (omega arith);
+      first = λ l. rw at first;
+      last = λ l. let back : n + 1 - 1 ≡ n = omega arith in rw (back, at) last;
+    })
+    (rw add-one (set_split xs n joined (omega arith)))

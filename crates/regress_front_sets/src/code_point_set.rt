@@ -2,11 +2,12 @@
 ghost use Rattle.std.specs.Prelude.{◌≡◌, ℕ, ◌≤◌, ◌==◌, ◌||◌, ◌&&◌, not, nat_le, [], length, All, IfOk, OnOk, OnErr, IsOkUnless};
 ghost use Rattle.regress_meaning.specs.TableParts.{IntervalsRise};
 ghost use Rattle.regress_front_sets.specs.Props.{IntervalsRise-prop};
-ghost use Rattle.regress_front_sets.specs.Intervals.{ends_of, in_interval, inverse};
+ghost use Rattle.regress_front_sets.specs.Intervals.{ends, ends_of, in_interval, IsRun, inverse};
 
 use crate::error::Error;
 use crate::interval::{CODE_POINT_MAX, CodePoint, Interval};
 use std::alloc::Global;
+use std::ops::Range;
 
 /// A set of code points.
 #[derive(Debug, Drop)]
@@ -57,23 +58,29 @@ impl CodePointSet {
         ensures unchanged { OnErr result (self.new.intervals.items ≡ self.old.intervals.items) }
         ensures refused { IsOkUnless result Error.OutOfMemory }
     {
-        // What lies from `start` up to `end` overlaps the interval or adjoins it.
-        let start = self
-            .intervals
-            .partition_point(|interval| interval.last + 1 < new_iv.first);
-        let end = self
-            .intervals
-            .partition_point(|interval| interval.first <= new_iv.last + 1);
-        if start == end {
-            self.intervals.insert(start, new_iv)?;
+        let run = self.run(new_iv);
+        if run.start == run.end {
+            self.intervals.insert(run.start, new_iv)?;
             return Ok(());
         }
-        let hull = self.intervals[start]
-            .hull(self.intervals[end - 1])
-            .hull(new_iv);
-        self.intervals.drain(start + 1..end);
-        self.intervals[start] = hull;
+        let first = self.intervals[run.start];
+        let last = self.intervals[run.end - 1];
+        self.intervals.drain(run.start + 1..run.end);
+        self.intervals[run.start] = first.hull(last).hull(new_iv);
         Ok(())
+    }
+
+    /// The places of the intervals that an interval overlaps or adjoins.
+    fn run(&self, interval: Interval) -> Range<usize>
+        ensures { IsRun (ends_of self.now.intervals.items) (ends interval) result.start result.end }
+    {
+        let start = self
+            .intervals
+            .partition_point(|i| i.last + 1 < interval.first);
+        let end = self
+            .intervals
+            .partition_point(|i| i.first <= interval.last + 1);
+        start..end
     }
 
     /// Adds a code point. A set that is refused memory stays as it is.
