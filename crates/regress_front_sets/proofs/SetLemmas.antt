@@ -1,14 +1,14 @@
 -- Lists of intervals, by their ends.
-use Rattle.std.proofs.Common.{◌≡◌, ℕ, ◌+◌, ◌-◌, ◌<◌, ◌≤◌, Bool, true, false, ◌||◌, nat_lt, nat_le, min, max, List, [], ◌∷◌, ◌++◌, Result, Ok, Err, length, take, drop, get_or, slice_set, refl, sym, ap, ◌∙◌, inl, inr, arith, add-one}
+use Rattle.std.proofs.Common.{◌≡◌, ℕ, ◌+◌, ◌-◌, ◌<◌, ◌≤◌, Bool, true, false, ◌||◌, nat_lt, nat_le, if◌then◌else◌, min, max, List, [], ◌∷◌, ◌++◌, Result, Ok, Err, length, take, drop, get_or, slice_set, refl, sym, ap, ◌∙◌, inl, inr, arith, add-one}
 use Rattle.std.specs.Result.{is_ok}
-use Rattle.std.specs.List.{HoldsAt, AllWithin}
+use Rattle.std.specs.List.{insert}
 use Rattle.std.specs.List.Sorted.{IsBinarySearchResult, IsSearchInRange, IsNonDecreasingBy, IsPartitionedBy, IsPartitionPoint}
 use Rattle.std.specs.declared.cmp.Ordering.{Ordering}
 use Rattle.std.specs.declared.cmp.Ordering.TheVariants.{Less, Equal, Greater}
 use Rattle.std.specs.Ordering.{ordering_index}
 use Rattle.std.proofs.lemmas.Bool.{cases_lt, false_from_ne_true, ltb-true, ltb-false, leb-true, leb-false}
 use Rattle.std.proofs.lemmas.Bool.Decides.{nat_tests}
-use Rattle.std.proofs.lemmas.List.{get_or-map, length-map, map-append, take-map, drop-map, take_all, drop_all, set_split}
+use Rattle.std.proofs.lemmas.List.{get_or-map, length-map, map-append, take-map, drop-map, take_all, drop_all, set_split, set_at, take_more, append_assoc, length-take-le, get_or_read}
 use Rattle.std.proofs.lemmas.List.Sorted.{IsPartitionedBy-ltb, IsPartitionedBy-leb}
 use Rattle.regress_meaning.specs.TableParts.{in_intervals, IntervalsRise}
 use Rattle.regress_front_sets.specs.Intervals.{ends, ends_of, in_interval, interval_cmp, interval_at, IsRun}
@@ -111,8 +111,30 @@ IsRun-from_points xs new s e ls le starts to = record {
     inside k l = omega (arith, length-map xs ends)
 
 -- an interval that no other meets or adjoins stays as it is
-pub IsJoined-alone : (xs : List (ℕ × ℕ)) (i : ℕ × ℕ) (s : ℕ) → IsJoined xs i s s i
-IsJoined-alone xs i s = record { alone = λ _. refl; first = λ l. absurd (omega arith); last = λ l. absurd (omega arith) }
+IsJoined-alone : (xs : List (ℕ × ℕ)) (i : ℕ × ℕ) (s e : ℕ) → s ≡ e → IsJoined xs i s e i
+IsJoined-alone xs i s e q = record { alone = λ _. refl; first = λ l. absurd (omega arith); last = λ l. absurd (omega arith) }
+
+-- a run that is not empty gives the hull of its first, its last and the interval
+IsJoined-hull : (xs : List Interval) (new first last joined : Interval) (s e : ℕ) → IntervalsRise (ends_of xs) → s < e → e ≤ length xs
+    → first ≡ get_or xs s first → last ≡ get_or xs (e - 1) last
+    → joined.first ≡ min (min first.first last.first) new.first → joined.last ≡ max (max first.last last.last) new.last
+    → IsJoined (ends_of xs) (ends new) s e (ends joined)
+IsJoined-hull xs new first last joined s e rise l within low high from to =
+    let at_first = interval_at-ends_of xs s first_interval (omega arith) ∙ ap ends (sym (get_or_read xs s first (omega arith) low first_interval)) in
+    let at_last = interval_at-ends_of xs (e - 1) first_interval (omega arith) ∙ ap ends (sym (get_or_read xs (e - 1) last (omega arith) high first_interval)) in
+    let le = rw (at_first, at_last) at (IntervalsRise-le (ends_of xs) s (e - 1) rise (omega arith) (omega (arith, length-map xs ends))) in
+    record {
+      alone = λ q. absurd (omega arith);
+      first = λ _. rw at_first (omega (arith, from, le.0));
+      last = λ _. rw at_last (omega (arith, to, le.1));
+    }
+
+-- the last of those kept is overwritten
+set-before_drop : {X : Type 0} (xs : List X) (s e : ℕ) (x d : X) → s < length xs → slice_set (take (s + 1) xs ++ drop e xs) s x ≡ take s xs ++ x ∷ drop e xs
+set-before_drop xs s e x d l =
+    ap (λ ys. slice_set (ys ++ drop e xs) s x) (take_more xs s d l)
+    ∙ ap (λ ys. slice_set ys s x) (append_assoc (take s xs) (get_or xs s d ∷ []) (drop e xs))
+    ∙ set_at (take s xs) (get_or xs s d) (drop e xs) x s (length-take-le s xs (omega arith))
 
 -- the ends of a list with a run replaced
 ends_of-replaced : (xs : List Interval) (s e : ℕ) (i : Interval) → ends_of (take s xs ++ i ∷ drop e xs) ≡ replaced (ends_of xs) s e (ends i)
@@ -133,6 +155,25 @@ Adds-replaced xs ys new joined s e rise run join is =
       members = λ c. rw same (in_intervals-replaced (ends_of xs) (ends new) s e (ends joined) rise new.ordered new.bounded run join c);
     }
 
+-- an interval in the place of an empty run
+pub Adds-insert : (xs : List Interval) (new : Interval) (s e : ℕ) → IntervalsRise (ends_of xs) → IsRun (ends_of xs) (ends new) s e → s ≡ e
+    → Adds xs new (insert xs s new)
+Adds-insert xs new s e rise run q =
+    Adds-replaced xs (insert xs s new) new new s e rise run (IsJoined-alone (ends_of xs) (ends new) s e q)
+    (ap (λ k. take s xs ++ new ∷ drop k xs) q)
+
+-- a run of which the first is overwritten, where the rest was removed
+pub Adds-hull : (xs kept : List Interval) (new first last joined : Interval) (s e : ℕ) → IntervalsRise (ends_of xs) → IsRun (ends_of xs) (ends new) s e → (s ≡ e → ⊥)
+    → first ≡ get_or xs s first → last ≡ get_or xs (e - 1) last
+    → joined.first ≡ min (min first.first last.first) new.first → joined.last ≡ max (max first.last last.last) new.last
+    → kept ≡ take (s + 1) xs ++ drop e xs → Adds xs new (slice_set kept s joined)
+Adds-hull xs kept new first last joined s e rise run ne low high from to is =
+    let l : s < e = omega (arith, run.order) in
+    let within : e ≤ length xs = omega (arith, run.within, length-map xs ends) in
+    Adds-replaced xs (slice_set kept s joined) new joined s e rise run
+    (IsJoined-hull xs new first last joined s e rise l within low high from to)
+    (ap (λ l. slice_set l s joined) is ∙ set-before_drop xs s e joined first (omega arith))
+
 -- an interval after all the others, with a gap
 pub Adds-push : (xs : List Interval) (new : Interval) → IntervalsRise (ends_of xs)
     → ((k : ℕ) → k < length xs → (get_or xs k first_interval).last + 1 < new.first) → Adds xs new (xs ++ new ∷ [])
@@ -146,7 +187,7 @@ Adds-push xs new rise below =
       met = λ k l m. absurd (omega arith);
       after = λ k l m. absurd (omega (arith, length-map xs ends));
     })
-    (IsJoined-alone (ends_of xs) (ends new) n)
+    (IsJoined-alone (ends_of xs) (ends new) n n refl)
     (simp (take_all n xs (omega arith), drop_all n xs (omega arith)))
 
 -- an interval that begins in the last one or right after it
@@ -173,3 +214,8 @@ Adds-joined_last xs new joined n rise len low met first last =
       last = λ l. let back : n + 1 - 1 ≡ n = omega arith in rw (back, at) last;
     })
     (rw add-one (set_split xs n joined (omega arith)))
+
+-- whichever of two lists it is, the intervals rise
+pub rise_either : (b : Bool) (xs ys zs : List Interval) → IntervalsRise (ends_of xs) → IntervalsRise (ends_of ys) → zs ≡ (if b then ys else xs) → IntervalsRise (ends_of zs)
+rise_either true xs ys zs h k is = rw is k
+rise_either false xs ys zs h k is = rw is h
