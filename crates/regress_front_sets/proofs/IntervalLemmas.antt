@@ -1,7 +1,7 @@
 -- Intervals that rise, as pairs of both ends, and the numbers that they hold.
-use Rattle.std.proofs.Common.{◌≡◌, ℕ, zero, suc, ◌+◌, ◌-◌, ◌<◌, ◌≤◌, ◌⊎◌, Bool, true, false, not, ◌&&◌, ◌||◌, nat_le, nat_lt, min, max, List, [], ◌∷◌, ◌++◌, length, take, drop, get_or, refl, sym, ap, ap₂, ◌∙◌, inl, inr, arith, le_of_suc-le-suc}
+use Rattle.std.proofs.Common.{◌≡◌, ℕ, zero, suc, ◌+◌, ◌-◌, ◌<◌, ◌≤◌, ◌⊎◌, Bool, true, false, cond, not, ◌&&◌, ◌||◌, nat_le, nat_lt, min, max, List, [], ◌∷◌, ◌++◌, length, take, drop, get_or, refl, sym, ap, ap₂, ◌∙◌, inl, inr, arith, le_of_suc-le-suc}
 use Rattle.std.specs.List.{list_any}
-use Rattle.std.proofs.lemmas.Bool.{and_parts, or_cases, or_left, or_right, or_from, both_ways, false≢true, cases_eq, cases_lt, cases_order, lt-ltb, le-ltb, true_from_ne_false, false_from_ne_true}
+use Rattle.std.proofs.lemmas.Bool.{and_parts, or_cases, or_left, or_right, or_from, both_ways, false≢true, cases_eq, cases_lt, cases_order, lt-ltb, le-ltb, leb-true}
 use Rattle.std.proofs.lemmas.Bool.Decides.{nat_tests}
 use Rattle.std.proofs.lemmas.List.{take_more, length-append, length-drop, length-take-le, get_or_append_left, get_or-take, get_or_at, get_or-append-add, get_or-drop}
 use Rattle.std.proofs.lemmas.List.Recursion.{or_at, or_is, or_push}
@@ -390,3 +390,114 @@ module _ (xs : List (ℕ × ℕ)) (new : ℕ × ℕ) (s e : ℕ) (m : ℕ × ℕ
   -- the new intervals hold what the old ones and the added one hold
   pub in_intervals-replaced : (c : ℕ) → in_intervals (replaced xs s e m) c ≡ (in_intervals xs c || between new.0 new.1 c)
   in_intervals-replaced c = same_bool _ _ (replaced_then c) (replaced_from c)
+
+-- ---- the gaps between intervals
+
+in_intervals-gap : (a b c : ℕ) → in_intervals (gap a b) c ≡ (nat_le a c && nat_lt c b)
+in_intervals-gap a b c = elim (cases_lt a b) [
+    | inl l ↦ rw (lt-ltb a b l, in_intervals-cons (a, b - 1) [] c, in_intervals-nil c) (grind (arith, nat_tests))
+    | inr l ↦ rw (le-ltb a b l, in_intervals-nil c) (grind (arith, nat_tests))
+    ]
+
+-- each interval begins at a or later
+abbrev pub BeginsFrom : ℕ → List (ℕ × ℕ) → Type 0
+BeginsFrom a xs = (k : ℕ) → k < length xs → a ≤ (interval_at xs k).0
+
+BeginsFrom-rest : (i : ℕ × ℕ) (xs : List (ℕ × ℕ)) → IntervalsRise (i ∷ xs) → BeginsFrom (i.1 + 1) xs
+BeginsFrom-rest i xs h k l = omega (arith, IntervalsRise-above i xs k h l)
+
+-- one more interval before the gaps: later says whether a later interval holds c
+gap_before : (a c : ℕ) (i : ℕ × ℕ) (later : Bool) → a ≤ i.0 → i.0 ≤ i.1 → i.1 ≤ last_code_point → (later ≡ true → i.1 < c)
+    → ((nat_le a c && nat_lt c i.0) || (nat_le (i.1 + 1) c && (nat_le c last_code_point && not later)))
+    ≡ (nat_le a c && (nat_le c last_code_point && not (between i.0 i.1 c || later)))
+gap_before a c i true h k l m = grind (arith, nat_tests, m refl)
+gap_before a c i false h k l m = grind (arith, nat_tests)
+
+-- the gaps from a on hold the code points from a on that no interval holds
+pub in_intervals-gaps_from : (a : ℕ) (xs : List (ℕ × ℕ)) (c : ℕ) → IntervalsRise xs → BeginsFrom a xs
+    → in_intervals (gaps_from a xs) c ≡ (nat_le a c && (nat_le c last_code_point && not (in_intervals xs c)))
+unfolding gaps_from
+in_intervals-gaps_from a [] c h k = rw (in_intervals-gap a code_points c, in_intervals-nil c) (grind (arith, nat_tests))
+in_intervals-gaps_from a (i ∷ xs) c h k =
+    let first = IntervalsRise-first i xs h in
+    let rest = in_intervals-gaps_from (i.1 + 1) xs c (IntervalsRise-rest i xs h) (BeginsFrom-rest i xs h) in
+    in_intervals-append (gap a i.0) (gaps_from (i.1 + 1) xs) c
+    ∙ ap₂ (λ x y. x || y) (in_intervals-gap a i.0 c) rest
+    ∙ gap_before a c i (in_intervals xs c) (k 0 (omega arith)) first.0 first.1 (λ e. above e)
+    ∙ ap (λ b. nat_le a c && (nat_le c last_code_point && not b)) (sym (in_intervals-cons i xs c))
+  where
+    above : in_intervals xs c ≡ true → i.1 < c
+    above e = elim (cases_lt i.1 c) [ inl l ↦ l | inr l ↦ absurd (both_ways _ (in_intervals-after_first i xs c h (omega arith)) e) ]
+
+-- an interval before others, with a gap
+pub IntervalsRise-cons : (i : ℕ × ℕ) (xs : List (ℕ × ℕ)) → i.0 ≤ i.1 → i.1 ≤ last_code_point → BeginsFrom (i.1 + 2) xs → IntervalsRise xs → IntervalsRise (i ∷ xs)
+IntervalsRise-cons i [] ordered bounded above h = (ordered, bounded)
+IntervalsRise-cons i (j ∷ xs) ordered bounded above h = (ordered, omega (arith, above 0 (omega arith)), h)
+
+BeginsFrom-gaps_from : (a : ℕ) (xs : List (ℕ × ℕ)) → IntervalsRise xs → BeginsFrom a xs → IntervalsRise (gaps_from a xs) → BeginsFrom a (gaps_from a xs)
+BeginsFrom-gaps_from a xs h k rise n l =
+    let i = interval_at (gaps_from a xs) n in
+    let own = in_intervals-at (gaps_from a xs) n i.0 l (omega arith) (IntervalsRise-at (gaps_from a xs) n rise l).0 in
+    leb-true a i.0 (and_parts (nat_le a i.0) _ (sym (in_intervals-gaps_from a xs i.0 h k) ∙ own)).0
+
+-- the gaps rise
+pub IntervalsRise-gaps_from : (a : ℕ) (xs : List (ℕ × ℕ)) → IntervalsRise xs → BeginsFrom a xs → IntervalsRise (gaps_from a xs)
+unfolding gaps_from
+IntervalsRise-gaps_from a [] h k = elim (cases_lt a code_points) [
+    | inl l ↦ rw (lt-ltb a code_points l) (omega arith, omega arith)
+    | inr l ↦ rw (le-ltb a code_points l) tt
+    ]
+IntervalsRise-gaps_from a (i ∷ xs) h k =
+    let first = IntervalsRise-first i xs h in
+    let later = IntervalsRise-rest i xs h in
+    let rest = IntervalsRise-gaps_from (i.1 + 1) xs later (BeginsFrom-rest i xs h) in
+    let from = BeginsFrom-gaps_from (i.1 + 1) xs later (BeginsFrom-rest i xs h) rest in
+    elim (cases_lt a i.0) [
+      | inl l ↦ rw (lt-ltb a i.0 l) (IntervalsRise-cons (a, i.0 - 1) (gaps_from (i.1 + 1) xs) (omega arith) (omega arith) (λ n m. omega (arith, from n m)) rest)
+      | inr l ↦ rw (le-ltb a i.0 l) rest
+    ]
+
+pub IntervalsRise-inverse : (xs : List (ℕ × ℕ)) → IntervalsRise xs → IntervalsRise (inverse xs)
+IntervalsRise-inverse xs h = IntervalsRise-gaps_from 0 xs h (λ k l. omega arith)
+
+-- the inverse holds the code points that the intervals do not
+pub in_intervals-inverse : (xs : List (ℕ × ℕ)) (c : ℕ) → IntervalsRise xs → in_intervals (inverse xs) c ≡ (nat_le c last_code_point && not (in_intervals xs c))
+in_intervals-inverse xs c h = in_intervals-gaps_from 0 xs c h (λ k l. omega arith) ∙ grind (arith, nat_tests)
+
+-- what lies within the code points, and not outside the numbers that are held
+not_twice : (c : ℕ) (b : Bool) → (b ≡ true → c ≤ last_code_point) → (nat_le c last_code_point && not (nat_le c last_code_point && not b)) ≡ b
+not_twice c true h = grind (arith, nat_tests, h refl)
+not_twice c false h = grind (arith, nat_tests)
+
+-- the inverse of the inverse
+pub inverse-inverse : (xs : List (ℕ × ℕ)) → IntervalsRise xs → inverse (inverse xs) ≡ xs
+inverse-inverse xs h =
+    let once = IntervalsRise-inverse xs h in
+    intervals_from_members (inverse (inverse xs)) xs (IntervalsRise-inverse (inverse xs) once) h (λ c.
+    in_intervals-inverse (inverse xs) c once
+    ∙ ap (λ b. nat_le c last_code_point && not b) (in_intervals-inverse xs c h)
+    ∙ not_twice c (in_intervals xs c) (in_intervals-bounded xs c h))
+
+length-gap : (a b : ℕ) → length (gap a b) ≡ cond (nat_lt a b) 1 0
+length-gap a b = elim (cases_lt a b) [ inl l ↦ rw (lt-ltb a b l) refl | inr l ↦ rw (le-ltb a b l) refl ]
+
+-- how many gaps there are: one between any two intervals, and perhaps one at each end
+pub length-gaps_from : (a : ℕ) (i : ℕ × ℕ) (xs : List (ℕ × ℕ)) → IntervalsRise (i ∷ xs)
+    → length (gaps_from a (i ∷ xs)) ≡ cond (nat_lt a i.0) 1 0 + length xs + cond (nat_lt (interval_at (i ∷ xs) (length xs)).1 last_code_point) 1 0
+unfolding gaps_from
+length-gaps_from a i [] h =
+    length-append (gap a i.0) (gap (i.1 + 1) code_points)
+    ∙ ap₂ (λ m n. m + n) (length-gap a i.0) (length-gap (i.1 + 1) code_points)
+    ∙ grind (arith, nat_tests)
+length-gaps_from a i (j ∷ xs) h =
+    length-append (gap a i.0) (gaps_from (i.1 + 1) (j ∷ xs))
+    ∙ ap₂ (λ m n. m + n) (length-gap a i.0) (length-gaps_from (i.1 + 1) j xs h.2)
+    ∙ rw (lt-ltb (i.1 + 1) j.0 h.1) (omega arith)
+
+pub gaps_from-nil : (a : ℕ) → gaps_from a [] ≡ gap a code_points
+unfolding gaps_from
+gaps_from-nil a = refl
+
+pub gaps_from-cons : (a : ℕ) (i : ℕ × ℕ) (xs : List (ℕ × ℕ)) → gaps_from a (i ∷ xs) ≡ gap a i.0 ++ gaps_from (i.1 + 1) xs
+unfolding gaps_from
+gaps_from-cons a i xs = refl

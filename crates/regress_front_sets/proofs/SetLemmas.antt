@@ -8,12 +8,13 @@ use Rattle.std.specs.declared.cmp.Ordering.TheVariants.{Less, Equal, Greater}
 use Rattle.std.specs.Ordering.{ordering_index}
 use Rattle.std.proofs.lemmas.Bool.{cases_lt, false_from_ne_true, ltb-true, ltb-false, leb-true, leb-false}
 use Rattle.std.proofs.lemmas.Bool.Decides.{nat_tests}
-use Rattle.std.proofs.lemmas.List.{get_or-map, length-map, map-append, take-map, drop-map, take_all, drop_all, set_split, set_at, take_more, append_assoc, length-take-le, get_or_read}
+use Rattle.std.proofs.lemmas.List.{get_or-map, length-map, map-append, take-map, drop-map, take_all, drop_all, set_split, set_at, take_more, append_assoc, length-take-le, get_or_read, at_drop_more, at_drop_all}
 use Rattle.std.proofs.lemmas.List.Sorted.{IsPartitionedBy-ltb, IsPartitionedBy-leb}
+use Rattle.regress_meaning.specs.Table.{code_points}
 use Rattle.regress_meaning.specs.TableParts.{in_intervals, IntervalsRise}
-use Rattle.regress_front_sets.specs.Intervals.{ends, ends_of, in_interval, interval_cmp, interval_at, IsRun}
+use Rattle.regress_front_sets.specs.Intervals.{ends, ends_of, in_interval, interval_cmp, interval_at, IsRun, gap, gaps_from}
 use Rattle.regress_front_sets.specs.declared.interval.Interval.{Interval}
-use Rattle.regress_front_sets.proofs.IntervalLemmas.{in_intervals-at, in_intervals-place, IntervalsRise-apart, IntervalsRise-le, IsJoined, replaced, IntervalsRise-replaced, in_intervals-replaced}
+use Rattle.regress_front_sets.proofs.IntervalLemmas.{in_intervals-at, in_intervals-place, IntervalsRise-apart, IntervalsRise-le, IsJoined, replaced, IntervalsRise-replaced, in_intervals-replaced, gaps_from-nil, gaps_from-cons}
 
 -- an interval, as a default
 abbrev pub first_interval : Interval
@@ -219,3 +220,23 @@ Adds-joined_last xs new joined n rise len low met first last =
 pub rise_either : (b : Bool) (xs ys zs : List Interval) → IntervalsRise (ends_of xs) → IntervalsRise (ends_of ys) → zs ≡ (if b then ys else xs) → IntervalsRise (ends_of zs)
 rise_either true xs ys zs h k is = rw is k
 rise_either false xs ys zs h k is = rw is h
+
+-- ---- the gaps between intervals
+
+-- the gap before the next interval is done
+pub gaps_from-drop_more : (done now : List (ℕ × ℕ)) (a n : ℕ) (xs : List Interval) (i : Interval) → n < length xs → i ≡ get_or xs n i
+    → now ≡ done ++ gap a i.first → now ++ gaps_from (i.last + 1) (drop (n + 1) (ends_of xs)) ≡ done ++ gaps_from a (drop n (ends_of xs))
+gaps_from-drop_more done now a n xs i l is e =
+    let at : interval_at (ends_of xs) n ≡ ends i = interval_at-ends_of xs n i l ∙ ap ends (sym is) in
+    ap (λ gaps. gaps ++ gaps_from (i.last + 1) (drop (n + 1) (ends_of xs))) e
+    ∙ append_assoc done (gap a i.first) (gaps_from (i.last + 1) (drop (n + 1) (ends_of xs)))
+    ∙ ap (λ rest. done ++ rest)
+        (sym (gaps_from-cons a (ends i) (drop (n + 1) (ends_of xs)))
+        ∙ ap (λ p. gaps_from a (p ∷ drop (n + 1) (ends_of xs))) (sym at)
+        ∙ sym (at_drop_more (gaps_from a) (ends_of xs) n (0, 0) (omega (arith, length-map xs ends))))
+
+-- the gap after the last interval is done
+pub gaps_from-drop_all : (done now : List (ℕ × ℕ)) (a n : ℕ) (xs : List Interval) → length xs ≤ n
+    → now ≡ done ++ gap a code_points → now ≡ done ++ gaps_from a (drop n (ends_of xs))
+gaps_from-drop_all done now a n xs l e =
+    e ∙ ap (λ rest. done ++ rest) (sym (at_drop_all (gaps_from a) (ends_of xs) n (omega (arith, length-map xs ends)) ∙ gaps_from-nil a))

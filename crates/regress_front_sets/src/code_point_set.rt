@@ -1,8 +1,8 @@
 //! Sets of code points.
-ghost use Rattle.std.specs.Prelude.{◌≡◌, ℕ, ◌≤◌, ◌==◌, ◌||◌, ◌&&◌, not, nat_le, [], length, All, IfOk, OnOk, OnErr, IsOkUnless};
+ghost use Rattle.std.specs.Prelude.{◌≡◌, ℕ, ◌+◌, ◌≤◌, ◌++◌, ◌==◌, ◌||◌, ◌&&◌, not, nat_le, [], length, All, IfOk, OnOk, OnErr, IsOkUnless};
 ghost use Rattle.regress_meaning.specs.TableParts.{IntervalsRise};
 ghost use Rattle.regress_front_sets.specs.Props.{IntervalsRise-prop};
-ghost use Rattle.regress_front_sets.specs.Intervals.{ends, ends_of, in_interval, IsRun, inverse};
+ghost use Rattle.regress_front_sets.specs.Intervals.{ends, ends_of, in_interval, IsRun, gap, inverse};
 
 use crate::error::Error;
 use crate::interval::{CODE_POINT_MAX, CodePoint, Interval};
@@ -157,20 +157,10 @@ impl CodePointSet {
         let mut gaps = Vec::new(*self.intervals.allocator());
         let mut next = 0;
         for interval in &self.intervals {
-            if next < interval.first {
-                gaps.push(Interval {
-                    first: next,
-                    last: interval.first - 1,
-                })?;
-            }
+            push_gap(&mut gaps, next, interval.first)?;
             next = interval.last + 1;
         }
-        if next <= CODE_POINT_MAX {
-            gaps.push(Interval {
-                first: next,
-                last: CODE_POINT_MAX,
-            })?;
-        }
+        push_gap(&mut gaps, next, CODE_POINT_MAX + 1)?;
         Ok(CodePointSet { intervals: gaps })
     }
 
@@ -187,4 +177,19 @@ impl CodePointSet {
         let above = usize::from(self.intervals[len - 1].last < CODE_POINT_MAX);
         below + (len - 1) + above
     }
+}
+
+/// Adds the code points from one up to another, without it, as an interval, if there are any.
+fn push_gap(gaps: &mut Vec<Interval>, start: CodePoint, end: u32) -> Result<(), Error>
+    requires { end ≤ CODE_POINT_MAX + 1 }
+    ensures gap { OnOk result (ends_of gaps.new.items ≡ ends_of gaps.old.items ++ gap start end) }
+    ensures refused { IsOkUnless result Error.OutOfMemory }
+{
+    if start < end {
+        gaps.push(Interval {
+            first: start,
+            last: end - 1,
+        })?;
+    }
+    Ok(())
 }
