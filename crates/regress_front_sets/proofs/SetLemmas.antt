@@ -1,7 +1,7 @@
 -- Lists of intervals, by their ends.
-use Rattle.std.proofs.Common.{◌≡◌, ℕ, ◌+◌, ◌-◌, ◌<◌, ◌≤◌, Bool, true, false, ◌||◌, nat_lt, nat_le, if◌then◌else◌, min, max, List, [], ◌∷◌, ◌++◌, Result, Ok, Err, length, take, drop, get_or, slice_set, refl, sym, ap, ◌∙◌, inl, inr, arith, add-one}
+use Rattle.std.proofs.Common.{◌≡◌, ℕ, ◌+◌, ◌-◌, ◌<◌, ◌≤◌, Bool, true, false, cond, ◌||◌, nat_lt, nat_le, if◌then◌else◌, min, max, List, [], ◌∷◌, ◌++◌, Result, Ok, Err, length, take, drop, get_or, slice_set, refl, sym, ap, ap₂, ◌∙◌, inl, inr, arith, add-one}
 use Rattle.std.specs.Result.{is_ok}
-use Rattle.std.specs.List.{insert}
+use Rattle.std.specs.List.{All, insert}
 use Rattle.std.specs.List.Sorted.{IsBinarySearchResult, IsSearchInRange, IsNonDecreasingBy, IsPartitionedBy, IsPartitionPoint}
 use Rattle.std.specs.declared.cmp.Ordering.{Ordering}
 use Rattle.std.specs.declared.cmp.Ordering.TheVariants.{Less, Equal, Greater}
@@ -10,11 +10,11 @@ use Rattle.std.proofs.lemmas.Bool.{cases_lt, false_from_ne_true, ltb-true, ltb-f
 use Rattle.std.proofs.lemmas.Bool.Decides.{nat_tests}
 use Rattle.std.proofs.lemmas.List.{get_or-map, length-map, map-append, take-map, drop-map, take_all, drop_all, set_split, set_at, take_more, append_assoc, length-take-le, get_or_read, at_drop_more, at_drop_all}
 use Rattle.std.proofs.lemmas.List.Sorted.{IsPartitionedBy-ltb, IsPartitionedBy-leb}
-use Rattle.regress_meaning.specs.Table.{code_points}
+use Rattle.regress_meaning.specs.Table.{last_code_point, code_points}
 use Rattle.regress_meaning.specs.TableParts.{in_intervals, IntervalsRise}
-use Rattle.regress_front_sets.specs.Intervals.{ends, ends_of, in_interval, interval_cmp, interval_at, IsRun, gap, gaps_from}
+use Rattle.regress_front_sets.specs.Intervals.{ends, ends_of, in_interval, interval_cmp, interval_at, IsRun, gap, gaps_from, inverse}
 use Rattle.regress_front_sets.specs.declared.interval.Interval.{Interval}
-use Rattle.regress_front_sets.proofs.IntervalLemmas.{in_intervals-at, in_intervals-place, IntervalsRise-apart, IntervalsRise-le, IsJoined, replaced, IntervalsRise-replaced, in_intervals-replaced, gaps_from-nil, gaps_from-cons}
+use Rattle.regress_front_sets.proofs.IntervalLemmas.{in_intervals-at, in_intervals-place, IntervalsRise-apart, IntervalsRise-le, IsJoined, replaced, IntervalsRise-replaced, in_intervals-replaced, gaps_from-nil, gaps_from-cons, length-gaps_from}
 
 -- an interval, as a default
 abbrev pub first_interval : Interval
@@ -176,28 +176,36 @@ Adds-hull xs kept new first last joined s e rise run ne low high from to is =
     (ap (λ l. slice_set l s joined) is ∙ set-before_drop xs s e joined first (omega arith))
 
 -- an interval after all the others, with a gap
-pub Adds-push : (xs : List Interval) (new : Interval) → IntervalsRise (ends_of xs)
-    → ((k : ℕ) → k < length xs → (get_or xs k first_interval).last + 1 < new.first) → Adds xs new (xs ++ new ∷ [])
+pub Adds-push : (xs : List Interval) (new : Interval) → IntervalsRise (ends_of xs) → All (λ i. i.last + 1 < new.first) xs → Adds xs new (xs ++ new ∷ [])
 Adds-push xs new rise below =
     let n = length xs in
     Adds-replaced xs (xs ++ new ∷ []) new new n n rise
     (record {
       order = omega arith;
       within = omega (arith, length-map xs ends);
-      before = λ k l. rw (interval_at-ends_of xs k first_interval l) (below k l);
+      before = λ k l. rw (interval_at-ends_of xs k first_interval l) (below k first_interval l);
       met = λ k l m. absurd (omega arith);
       after = λ k l m. absurd (omega (arith, length-map xs ends));
     })
     (IsJoined-alone (ends_of xs) (ends new) n n refl)
     (simp (take_all n xs (omega arith), drop_all n xs (omega arith)))
 
+-- what lies after the last lies after all
+pub all_below : (xs : List Interval) (last : Interval) (n a : ℕ) → IntervalsRise (ends_of xs) → length xs ≡ n + 1
+    → last ≡ get_or xs n last → last.last + 1 < a → All (λ i. i.last + 1 < a) xs
+all_below xs last n a rise len is l k d m =
+    let at = get_or_read xs n last (omega arith) is d in
+    omega (arith, (rises xs k n d rise (omega arith) (omega arith)).1, ap (λ i. i.last) at)
+
 -- an interval that begins in the last one or right after it
-pub Adds-joined_last : (xs : List Interval) (new joined : Interval) (n : ℕ) → IntervalsRise (ends_of xs) → length xs ≡ n + 1
-    → (get_or xs n first_interval).first ≤ new.first → new.first ≤ (get_or xs n first_interval).last + 1
-    → joined.first ≡ min (get_or xs n first_interval).first new.first → joined.last ≡ max (get_or xs n first_interval).last new.last
+pub Adds-joined_last : (xs : List Interval) (new last joined : Interval) (n : ℕ) → IntervalsRise (ends_of xs) → length xs ≡ n + 1
+    → last ≡ get_or xs n last → All (λ i. i.first ≤ new.first) xs → new.first ≤ last.last + 1
+    → joined.first ≡ min last.first new.first → joined.last ≡ max last.last new.last
     → Adds xs new (slice_set xs n joined)
-Adds-joined_last xs new joined n rise len low met first last =
-    let at = interval_at-ends_of xs n first_interval (omega arith) in
+Adds-joined_last xs new last joined n rise len is low met from to =
+    let at : interval_at (ends_of xs) n ≡ ends last = interval_at-ends_of xs n last (omega arith) ∙ ap ends (sym is) in
+    let before_new = low n last (omega arith) in
+    let begins : last.first ≤ new.first = rw is before_new in
     let only : (k : ℕ) → n ≤ k → k < n + 1 → k ≡ n = λ k l m. omega arith in
     Adds-replaced xs (slice_set xs n joined) new joined n (n + 1) rise
     (record {
@@ -211,8 +219,8 @@ Adds-joined_last xs new joined n rise len low met first last =
     })
     (record {
       alone = λ e. absurd (omega arith);
-      first = λ l. rw at first;
-      last = λ l. let back : n + 1 - 1 ≡ n = omega arith in rw (back, at) last;
+      first = λ l. rw at from;
+      last = λ l. let back : n + 1 - 1 ≡ n = omega arith in rw (back, at) to;
     })
     (rw add-one (set_split xs n joined (omega arith)))
 
@@ -240,3 +248,15 @@ pub gaps_from-drop_all : (done now : List (ℕ × ℕ)) (a n : ℕ) (xs : List I
     → now ≡ done ++ gap a code_points → now ≡ done ++ gaps_from a (drop n (ends_of xs))
 gaps_from-drop_all done now a n xs l e =
     e ∙ ap (λ rest. done ++ rest) (sym (at_drop_all (gaps_from a) (ends_of xs) n (omega (arith, length-map xs ends)) ∙ gaps_from-nil a))
+
+-- how many gaps there are, by the ends of the first interval and the last
+pub length-inverse : (xs : List Interval) (n : ℕ) (first last : Interval) → IntervalsRise (ends_of xs) → length xs ≡ n + 1
+    → first ≡ get_or xs 0 first → last ≡ get_or xs n last
+    → length (inverse (ends_of xs)) ≡ cond (nat_lt 0 first.first) 1 0 + n + cond (nat_lt last.last last_code_point) 1 0
+length-inverse [] n first last rise len low high = absurd (omega arith)
+length-inverse (x ∷ xs) n first last rise len low high =
+    let m : length (ends_of xs) ≡ n = omega (arith, length-map xs ends) in
+    let at : interval_at (ends_of (x ∷ xs)) n ≡ ends last = interval_at-ends_of (x ∷ xs) n last (omega arith) ∙ ap ends (sym high) in
+    length-gaps_from 0 (ends x) (ends_of xs) rise
+    ∙ ap (λ k. cond (nat_lt 0 x.first) 1 0 + k + cond (nat_lt (interval_at (ends_of (x ∷ xs)) k).1 last_code_point) 1 0) m
+    ∙ ap₂ (λ i j. cond (nat_lt 0 i.first) 1 0 + n + cond (nat_lt j.1 last_code_point) 1 0) (sym low) at

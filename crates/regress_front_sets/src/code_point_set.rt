@@ -154,6 +154,15 @@ impl CodePointSet {
         ensures intervals { IfOk result (λ s. ends_of s.intervals.items ≡ inverse (ends_of self.now.intervals.items)) }
         ensures refused { IsOkUnless result Error.OutOfMemory }
     {
+        let intervals = self.gaps()?;
+        Ok(CodePointSet { intervals })
+    }
+
+    /// The intervals of the code points that are no members.
+    fn gaps(&self) -> Result<Vec<Interval>, Error>
+        ensures intervals { IfOk result (λ gaps. ends_of gaps.items ≡ inverse (ends_of self.now.intervals.items)) }
+        ensures refused { IsOkUnless result Error.OutOfMemory }
+    {
         let mut gaps = Vec::new(*self.intervals.allocator());
         let mut next = 0;
         for interval in &self.intervals {
@@ -161,7 +170,7 @@ impl CodePointSet {
             next = interval.last + 1;
         }
         push_gap(&mut gaps, next, CODE_POINT_MAX + 1)?;
-        Ok(CodePointSet { intervals: gaps })
+        Ok(gaps)
     }
 
     /// How many intervals the inverted set has: one between any two of this set's, and one at each end that this set
