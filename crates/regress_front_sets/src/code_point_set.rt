@@ -36,10 +36,10 @@ impl CodePointSet {
     pub fn intervals(&self) -> &[Interval]
         ensures { result.now ≡ self.now.intervals.items }
     {
-        &self.intervals
+        self.intervals.as_slice()
     }
 
-    /// A set of intervals that rise, with a code point of no interval between any two.
+    /// The set of the code points of intervals that rise, with a code point of no interval between any two.
     pub fn from_sorted_disjoint_intervals(intervals: Vec<Interval>) -> CodePointSet
         requires { IntervalsRise (ends_of intervals.items) }
         ensures { result.intervals.items ≡ intervals.items }
@@ -56,7 +56,7 @@ impl CodePointSet {
             .is_ok()
     }
 
-    /// Adds each code point of an interval. A set that is refused memory stays as it is.
+    /// Adds each code point of an interval. Where memory is refused, with `Error::OutOfMemory`, the set stays as it is.
     pub fn add(&mut self, new_iv: Interval) -> Result<(), Error>
         ensures members { OnOk result ((c : ℕ) → in_set self.new c ≡ (in_set self.old c || in_interval new_iv c)) }
         ensures unchanged { OnErr result (self.new.intervals.items ≡ self.old.intervals.items) }
@@ -87,7 +87,7 @@ impl CodePointSet {
         start..end
     }
 
-    /// Adds a code point. A set that is refused memory stays as it is.
+    /// Adds a code point. Where memory is refused, with `Error::OutOfMemory`, the set stays as it is.
     pub fn add_one(&mut self, cp: CodePoint) -> Result<(), Error>
         requires { cp ≤ CODE_POINT_MAX }
         ensures members { OnOk result ((c : ℕ) → in_set self.new c ≡ (in_set self.old c || c == cp)) }
@@ -100,7 +100,7 @@ impl CodePointSet {
         })
     }
 
-    /// Adds each member of another set. A set that is refused memory stays as it is.
+    /// Adds each member of another set. Where memory is refused, with `Error::OutOfMemory`, the set stays as it is.
     pub fn add_set(&mut self, rhs: CodePointSet) -> Result<(), Error>
         ensures members { OnOk result ((c : ℕ) → in_set self.new c ≡ (in_set self.old c || in_set rhs c)) }
         ensures unchanged { OnErr result (self.new.intervals.items ≡ self.old.intervals.items) }
@@ -133,7 +133,7 @@ impl CodePointSet {
         Ok(union)
     }
 
-    /// Adds an interval that begins no earlier than any of the set. A set that is refused memory stays as it is.
+    /// Adds each code point of an interval that begins no earlier than any of the set.
     fn push(&mut self, next: Interval) -> Result<(), Error>
         requires { All (λ i. i.first ≤ next.first) self.old.intervals.items }
         ensures members { OnOk result ((c : ℕ) → in_set self.new c ≡ (in_set self.old c || in_interval next c)) }
@@ -152,14 +152,14 @@ impl CodePointSet {
         Ok(())
     }
 
-    /// The code points that are no members.
+    /// The code points that are no members, as a set of their own. `Error::OutOfMemory` where memory is refused.
     pub fn inverted(&self) -> Result<CodePointSet, Error>
         ensures members { IfOk result (λ s. (c : ℕ) → in_set s c ≡ (nat_le c CODE_POINT_MAX && not (in_set self.now c))) }
         ensures intervals { IfOk result (λ s. ends_of s.intervals.items ≡ inverse (ends_of self.now.intervals.items)) }
         ensures refused { IsOkUnless result Error.OutOfMemory }
     {
-        let intervals = self.gaps()?;
-        Ok(CodePointSet { intervals })
+        let gaps = self.gaps()?;
+        Ok(CodePointSet::from_sorted_disjoint_intervals(gaps))
     }
 
     /// The intervals of the code points that are no members.
@@ -177,8 +177,7 @@ impl CodePointSet {
         Ok(gaps)
     }
 
-    /// How many intervals the inverted set has: one between any two of this set's, and one at each end that this set
-    /// leaves free.
+    /// How many intervals the inverted set has.
     pub fn inverted_interval_count(&self) -> usize
         ensures { result ≡ length (inverse (ends_of self.now.intervals.items)) }
     {
@@ -186,6 +185,7 @@ impl CodePointSet {
         if len == 0 {
             return 1;
         }
+        // A gap lies between any two intervals, and perhaps one at each end.
         let below = usize::from(0 < self.intervals[0].first);
         let above = usize::from(self.intervals[len - 1].last < CODE_POINT_MAX);
         below + (len - 1) + above
