@@ -4,3 +4,5 @@ pub mod ImageLemmas
 pub mod TellingLemmas
 pub mod SurrogateLemmas
 pub mod ClassLemmas
+pub mod IntervalLemmas
+pub mod SetLemmas

@@ -10,7 +10,7 @@ mod limits;
 mod state;
 mod tables;
 
-pub use code_point_set::CodePointSet;
+pub use code_point_set::{CodePointSet, equal_members_equal_intervals, inverted_twice_is_the_same};
 pub use error::Error;
 pub use first_bytes::add_utf8_first_bytes_to_bitmap;
 pub use flags::{Flags, flags_are_read_back};
