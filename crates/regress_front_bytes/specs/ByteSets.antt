@@ -1,11 +1,7 @@
 -- Sets of bytes, as tests.
 use Rattle.std.specs.Prelude.{ℕ, ◌/◌, ◌%◌, Bool, List, ◌==◌, filter, slice_index}
-use Rattle.std.specs.List.{list_any, range_with_len}
+use Rattle.std.specs.List.{range_with_len}
 use Rattle.std.specs.Int.{bit_at}
-
--- n is one of these numbers
-abbrev pub among : List ℕ → ℕ → Bool
-among ns n = list_any (λ m. m == n) ns
 
 -- every byte, ascending
 unfoldable pub all_bytes : List ℕ

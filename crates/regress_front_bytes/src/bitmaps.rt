@@ -1,6 +1,7 @@
 //! Sets of bytes with a bit for each.
 ghost use Rattle.std.specs.Prelude.{◌≡◌, ℕ, ◌<◌, ◌==◌, ◌||◌, not, false, length, position};
-ghost use Rattle.regress_front_bytes.specs.ByteSets.{among, members};
+ghost use Rattle.regress_meaning.specs.Text.{holds};
+ghost use Rattle.regress_front_bytes.specs.ByteSets.{members};
 ghost use Rattle.regress_front_bytes.specs.Bitmaps.{ascii_bitmap_contains, byte_bitmap_contains};
 
 use crate::byte_search::{ByteSearcher, ByteSet};
@@ -51,7 +52,7 @@ impl Default for ByteBitmap {
 impl ByteBitmap {
     /// The set of these bytes.
     pub fn new(bytes: &[u8]) -> ByteBitmap
-        ensures { (b : ℕ) → byte_bitmap_contains result b ≡ among bytes.now b }
+        ensures { (b : ℕ) → byte_bitmap_contains result b ≡ holds bytes.now b }
     {
         let mut bitmap = ByteBitmap::default();
         for byte in bytes {

@@ -1,6 +1,6 @@
 //! Searches for the first byte of a set.
 ghost use Rattle.std.specs.Prelude.{◌≡◌, ℕ, Bool, List, Option, Some, position};
-ghost use Rattle.regress_front_bytes.specs.ByteSets.{among};
+ghost use Rattle.regress_meaning.specs.Text.{holds};
 
 /// What is looked for in bytes. It is found at an index or not at all.
 pub trait ByteSearcher {
@@ -53,13 +53,13 @@ pub const MAX_CHAR_SET_LENGTH: usize = 4;
 
 /// Whether the character `c` is one of `set`.
 pub fn charset_contains(set: &[u32; MAX_CHAR_SET_LENGTH], c: u32) -> bool
-    ensures { result ≡ among set.now c }
+    ensures { result ≡ holds set.now c }
 {
     set.contains(&c)
 }
 
 impl SmallArraySet for [u8; 2] {
-    ghost contains = { among };
+    ghost contains = { holds };
 
     fn contains(self, b: u8) -> bool {
         let [first, second] = self;
@@ -68,7 +68,7 @@ impl SmallArraySet for [u8; 2] {
 }
 
 impl SmallArraySet for [u8; 3] {
-    ghost contains = { among };
+    ghost contains = { holds };
 
     fn contains(self, b: u8) -> bool {
         let [first, second, third] = self;
@@ -77,7 +77,7 @@ impl SmallArraySet for [u8; 3] {
 }
 
 impl SmallArraySet for [u8; 4] {
-    ghost contains = { among };
+    ghost contains = { holds };
 
     fn contains(self, b: u8) -> bool {
         let [first, second, third, fourth] = self;
@@ -103,7 +103,7 @@ impl<ArraySet: SmallArraySet> ByteSearcher for ByteArraySet<ArraySet> {
 }
 
 impl ByteSearcher for [u8; 1] {
-    ghost find_in = { λ set. position (among set) };
+    ghost find_in = { λ set. position (holds set) };
 
     fn find_in(&self, rhs: &[u8]) -> Option<usize> {
         rhs.iter().position(|b| self.as_slice().contains(b))
@@ -111,7 +111,7 @@ impl ByteSearcher for [u8; 1] {
 }
 
 impl ByteSearcher for [u8; 2] {
-    ghost find_in = { λ set. position (among set) };
+    ghost find_in = { λ set. position (holds set) };
 
     fn find_in(&self, rhs: &[u8]) -> Option<usize> {
         <[u8; 2] as SmallArraySet>::find_in(*self, rhs)
@@ -119,7 +119,7 @@ impl ByteSearcher for [u8; 2] {
 }
 
 impl ByteSearcher for [u8; 3] {
-    ghost find_in = { λ set. position (among set) };
+    ghost find_in = { λ set. position (holds set) };
 
     fn find_in(&self, rhs: &[u8]) -> Option<usize> {
         <[u8; 3] as SmallArraySet>::find_in(*self, rhs)
