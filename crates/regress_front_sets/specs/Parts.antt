@@ -1,9 +1,13 @@
 -- The lists that parts of tables hold.
-use Rattle.std.specs.Prelude.{map, chars}
+use Rattle.std.specs.Prelude.{ℕ, List, map, chars, String}
 use Rattle.std.specs.String.{string_bytes}
 use Rattle.regress_meaning.specs.TableParts as meaning
 use Rattle.regress_front_sets.specs.declared.tables.parts.TableParts.{TableParts}
 use Rattle.regress_front_sets.specs.Intervals.{ends_of}
+
+-- a key as its code points, with what is shown of the value under it
+abbrev pub entry_of : {Z A B : Type 0} → (A → B) → String Z × A → List ℕ × B
+entry_of shown e = (chars (string_bytes e.0), shown e.1)
 
 -- the parts as plain lists
 abbrev pub parts_of : TableParts → meaning.TableParts
@@ -12,6 +16,6 @@ parts_of p = record {
   upper = p.upper.items;
   id_start = ends_of p.id_start.items;
   id_continue = ends_of p.id_continue.items;
-  properties = map (λ e. (chars (string_bytes e.0), ends_of e.1.items)) p.properties.items;
-  sequences = map (λ e. (chars (string_bytes e.0), map (λ s. s.items) e.1.items)) p.sequences.items;
+  properties = map (entry_of (λ v. ends_of v.items)) p.properties.items;
+  sequences = map (entry_of (λ v. map (λ s. s.items) v.items)) p.sequences.items;
 }

@@ -2,6 +2,7 @@
 ghost use Rattle.std.specs.Prelude.{◌≡◌};
 
 pub(crate) mod law;
+mod order;
 pub(crate) mod parts;
 
 use law::TableError;
