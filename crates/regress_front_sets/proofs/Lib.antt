@@ -1,1 +1,4 @@
 pub mod OrderLemmas
+pub mod ImageLemmas
+pub mod TellingLemmas
+pub mod SurrogateLemmas

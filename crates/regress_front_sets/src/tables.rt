@@ -1,9 +1,11 @@
 //! Case and properties of code points.
 ghost use Rattle.std.specs.Prelude.{◌≡◌};
 
+pub(crate) mod image;
 pub(crate) mod law;
 mod order;
 pub(crate) mod parts;
+pub(crate) mod single;
 
 use law::TableError;
 use std::alloc::Global;
