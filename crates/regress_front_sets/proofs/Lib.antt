@@ -2,3 +2,4 @@ pub mod OrderLemmas
 pub mod ImageLemmas
 pub mod TellingLemmas
 pub mod SurrogateLemmas
+pub mod RangeLemmas

@@ -1,6 +1,6 @@
 -- Which law of a table's parts is told as broken, and for which code point.
-use Rattle.std.specs.Prelude.{◌≡◌, ℕ, ◌+◌, ◌<◌, ◌⊎◌, false, nat_lt, List, [], ◌∷◌, ◌++◌, Option, Some, None, map, flat_map, if◌then◌else◌}
-use Rattle.std.specs.List.{Contains}
+use Rattle.std.specs.Prelude.{◌≡◌, ℕ, ◌+◌, ◌<◌, ◌⊎◌, false, nat_lt, List, [], ◌∷◌, ◌++◌, Option, Some, None, map, filter, min, if◌then◌else◌}
+use Rattle.std.specs.List.{Contains, flat_map, reduce}
 use Rattle.std.specs.Option.{option_or}
 use Rattle.regress_meaning.specs.Table.{last_code_point}
 use Rattle.regress_meaning.specs.TableParts.{TableParts, BothMaps, HasAsciiCase, IsIdempotentAt, HasSmallClass, AvoidsSurrogates, KeepsIdentifierAt}
@@ -12,11 +12,21 @@ pub record IsLeast (fact : ℕ → Type 0) (c : ℕ) : Type 0 where
   pub holds : fact c
   pub least : (d : ℕ) → d < c → fact d → ⊥
 
--- the code points of pairs and strings
-abbrev pub numbers_of : TableParts → List ℕ
-numbers_of parts =
-    let pairs = parts.fold ++ parts.upper in
-    map (λ p. p.0) pairs ++ map (λ p. p.1) pairs ++ flat_map (λ s. s) (flat_map (λ e. e.1) parts.sequences)
+-- the numbers of the pairs
+abbrev pub numbers_of : List (ℕ × ℕ) → List ℕ
+numbers_of pairs = map (λ p. p.0) pairs ++ map (λ p. p.1) pairs
+
+-- the numbers of the strings
+abbrev pub numbers_in : List (List ℕ × List (List ℕ)) → List ℕ
+numbers_in sequences = flat_map (λ e. flat_map (λ s. s) e.1) sequences
+
+-- the numbers of pairs and strings
+abbrev pub numbers : TableParts → List ℕ
+numbers parts = numbers_of parts.fold ++ numbers_of parts.upper ++ numbers_in parts.sequences
+
+-- the least of the numbers past the last code point
+abbrev pub least_past : List ℕ → Option ℕ
+least_past cs = reduce min (filter (nat_lt last_code_point) cs)
 
 -- the first key that doesn't rise above the key before it
 abbrev pub first_out_of_order : List (ℕ × ℕ) → Option ℕ
@@ -45,7 +55,7 @@ out_of_place parts = first_some (map first_out_of_place (parts.id_start ∷ part
 
 -- c breaks one of the laws that are about single code points
 abbrev pub Breaks : TableLaw → TableParts → ℕ → Type 0
-Breaks Range parts c = (last_code_point < c) × Contains (numbers_of parts) c
+Breaks Range parts c = (last_code_point < c) × Contains (numbers parts) c
 Breaks AsciiCase parts c = (c < 0x80) × (HasAsciiCase parts c → ⊥)
 Breaks Idempotent parts c = BothMaps parts (IsIdempotentAt c) → ⊥
 Breaks ClassSize parts d = BothMaps parts (HasSmallClass d) → ⊥

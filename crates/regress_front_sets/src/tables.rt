@@ -5,6 +5,7 @@ pub(crate) mod image;
 pub(crate) mod law;
 mod order;
 pub(crate) mod parts;
+mod range;
 pub(crate) mod single;
 
 use law::TableError;

@@ -1,25 +1,13 @@
-//! What is out of range or out of order in the parts of tables.
+//! What is out of order in the parts of tables.
 ghost use Rattle.std.specs.Prelude.{◌≡◌, IfNone, IfSome, map};
-ghost use Rattle.regress_meaning.specs.TableParts.{KeepsRange, KeepsOrder, KeepsCanonical};
+ghost use Rattle.regress_meaning.specs.TableParts.{KeepsOrder, KeepsCanonical};
 ghost use Rattle.regress_front_sets.specs.Parts.{parts_of};
 ghost use Rattle.regress_front_sets.specs.Intervals.{ends_of};
 ghost use Rattle.regress_front_sets.specs.declared.tables.law.TableLaw.TheVariants as law;
 ghost use Rattle.regress_front_sets.specs.Breaking.{Tells, first_out_of_order, first_out_of_place, first_some};
 
 use super::parts::TableParts;
-use crate::interval::{CODE_POINT_MAX, CodePoint, Interval};
-
-/// The least number past the last code point, of all pairs and strings.
-pub(crate) fn out_of_range(parts: &TableParts) -> Option<CodePoint>
-    ensures kept { IfNone result (KeepsRange (parts_of parts.now)) }
-    ensures broken { IfSome result (λ c. Tells law.Range (parts_of parts.now) c) }
-{
-    let from = parts.fold.iter().chain(&parts.upper).map(|p| p.0);
-    let to = parts.fold.iter().chain(&parts.upper).map(|p| p.1);
-    let strings = parts.sequences.iter().flat_map(|e| &e.1).flatten();
-    let numbers = from.chain(to).chain(strings.copied());
-    numbers.filter(|c| *c > CODE_POINT_MAX).min()
-}
+use crate::interval::{CodePoint, Interval};
 
 /// The first code point mapped, in `fold` and else in `upper`, that does not rise above the one before it.
 pub(crate) fn out_of_order(parts: &TableParts) -> Option<CodePoint>
