@@ -6,7 +6,8 @@ use Rattle.std.proofs.lemmas.List.Elements.{All-nil, All-cons, All-head, All-tai
 use Rattle.regress_meaning.specs.TableParts as meaning
 use Rattle.regress_meaning.specs.TableParts.{PairsRise, IntervalsRise, KeepsOrder, KeepsCanonical}
 use Rattle.regress_front_sets.specs.declared.tables.parts.TableParts.{TableParts}
-use Rattle.regress_front_sets.specs.Parts.{parts_of, entry_of}
+use Rattle.regress_front_sets.specs.Parts.{parts_of}
+use Rattle.regress_front_sets.specs.Entries.{entry_of}
 use Rattle.regress_front_sets.specs.declared.interval.Interval.{Interval}
 use Rattle.regress_front_sets.specs.Intervals.{ends, ends_of}
 use Rattle.regress_front_sets.specs.Breaking.{first_out_of_order, first_out_of_place, first_some, out_of_order, out_of_place}

@@ -6,7 +6,8 @@ use Rattle.std.proofs.lemmas.List.Elements.{All-nil, All-cons, All-head, All-tai
 use Rattle.regress_meaning.specs.Table.{last_code_point}
 use Rattle.regress_meaning.specs.TableParts.{TableParts, KeepsRange, is_code_point}
 use Rattle.regress_front_sets.specs.declared.tables.parts.TableParts.{TableParts as RawParts}
-use Rattle.regress_front_sets.specs.Parts.{parts_of, entry_of}
+use Rattle.regress_front_sets.specs.Parts.{parts_of}
+use Rattle.regress_front_sets.specs.Entries.{entry_of}
 use Rattle.regress_front_sets.specs.Breaking.{IsLeast, least_past, numbers, numbers_of, numbers_in}
 use Rattle.regress_front_sets.specs.Telling.{lesser}
 

@@ -1,13 +1,9 @@
 -- The lists that parts of tables hold.
-use Rattle.std.specs.Prelude.{ℕ, List, map, chars, String}
-use Rattle.std.specs.String.{string_bytes}
+use Rattle.std.specs.Prelude.{map}
 use Rattle.regress_meaning.specs.TableParts as meaning
 use Rattle.regress_front_sets.specs.declared.tables.parts.TableParts.{TableParts}
 use Rattle.regress_front_sets.specs.Intervals.{ends_of}
-
--- a key as its code points, with what is shown of the value under it
-abbrev pub entry_of : {Z A B : Type 0} → (A → B) → String Z × A → List ℕ × B
-entry_of shown e = (chars (string_bytes e.0), shown e.1)
+use Rattle.regress_front_sets.specs.Entries.{entry_of}
 
 -- the parts as plain lists
 abbrev pub parts_of : TableParts → meaning.TableParts
