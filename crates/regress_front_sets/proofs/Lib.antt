@@ -3,3 +3,5 @@ pub mod ImageLemmas
 pub mod TellingLemmas
 pub mod SurrogateLemmas
 pub mod RangeLemmas
+pub mod IntervalLemmas
+pub mod SetLemmas
