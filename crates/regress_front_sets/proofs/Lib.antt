@@ -5,3 +5,4 @@ pub mod SurrogateLemmas
 pub mod RangeLemmas
 pub mod IntervalLemmas
 pub mod SetLemmas
+pub mod ClassLemmas
