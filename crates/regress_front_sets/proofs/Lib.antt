@@ -7,3 +7,4 @@ pub mod IntervalLemmas
 pub mod SetLemmas
 pub mod ClassLemmas
 pub mod LawLemmas
+pub mod EntryLemmas
