@@ -1,8 +1,14 @@
 mod LimitLemmas
 pub mod FirstByteLemmas
+pub mod OrderLemmas
 pub mod ImageLemmas
 pub mod TellingLemmas
 pub mod SurrogateLemmas
+pub mod RangeLemmas
+pub mod IntervalLemmas
+pub mod SetLemmas
 pub mod ClassLemmas
 pub mod IntervalLemmas
 pub mod SetLemmas
+pub mod LawLemmas
+pub mod EntryLemmas

@@ -148,7 +148,7 @@ fn is_surrogate(c: CodePoint) -> bool
 }
 
 /// The lesser of two code points, of those that are there.
-fn least(a: Option<CodePoint>, b: Option<CodePoint>) -> Option<CodePoint>
+pub(crate) fn least(a: Option<CodePoint>, b: Option<CodePoint>) -> Option<CodePoint>
     ensures { result ≡ lesser a b }
 {
     match (a, b) {
