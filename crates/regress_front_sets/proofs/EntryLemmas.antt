@@ -1,5 +1,5 @@
 -- The first entry with a key, sought by the bytes of the keys.
-use Rattle.std.proofs.Common.{◌≡◌, ℕ, Bool, true, false, cond, List, [], ◌∷◌, map, Option, None, Some, String, string_bytes, nat_eq, refl, sym, ap, ◌∙◌}
+use Rattle.std.proofs.Common.{◌≡◌, ℕ, Bool, true, false, cond, List, [], ◌∷◌, map, Bor, Option, None, Some, option_copied, String, string_bytes, nat_eq, refl, sym, ap, ◌∙◌}
 use Rattle.std.specs.List.{find}
 use Rattle.std.specs.Option.{option_map}
 use Rattle.std.specs.Str.{IsUtf8, chars}
@@ -46,3 +46,13 @@ entry-map shown key (e ∷ entries) = go (same_text key (chars (string_bytes e.0
         → option_map shown (cond b (Some e.1) (entry key (map (entry_of (λ v. v)) entries))) ≡ cond b (Some (shown e.1)) (entry key (map (entry_of shown) entries))
     go true rest = refl
     go false rest = rest
+
+-- what is shown of a value behind a reference
+pub option_map-copied : {A B : Type 0} (shown : A → B) (found : Option (Bor A)) → option_map (λ x. shown x.now) found ≡ option_map shown (option_copied found)
+option_map-copied shown None = refl
+option_map-copied shown (Some x) = refl
+
+-- what is shown of what is shown
+pub option_map-option_map : {A B C : Type 0} (shown : B → C) (of : A → B) (found : Option A) → option_map shown (option_map of found) ≡ option_map (λ x. shown (of x)) found
+option_map-option_map shown of None = refl
+option_map-option_map shown of (Some x) = refl

@@ -1,10 +1,10 @@
 -- Of a law that is kept nothing is told, and what is told of the first that isn't.
-use Rattle.std.proofs.Common.{◌≡◌, ℕ, zero, suc, ◌<◌, ◌≤◌, Option, Result, Ok, Err, None, Some, MatchOption, IfNone, IfSome, IfErr, All, refl, sym, ap, subst, ◌∙◌, inl, inr, arith}
+use Rattle.std.proofs.Common.{◌≡◌, ℕ, zero, suc, ◌<◌, ◌≤◌, Option, Result, Ok, Err, None, Some, MatchOption, IfNone, IfSome, IfErr, IsOkUnless, All, refl, sym, ap, subst, ◌∙◌, inl, inr, arith}
 use Rattle.std.proofs.lemmas.Bool.{cases_eq}
 use Rattle.std.proofs.lemmas.List.Elements.{All-contains}
 use Rattle.regress_meaning.specs.TableParts.{TableParts, IsLawful, BothMaps, HasAsciiCase, IsIdempotentAt, HasSmallClass, AvoidsSurrogates, KeepsIdentifierAt, KeepsRange, KeepsOrder, KeepsCanonical, is_code_point}
 use Rattle.regress_front_sets.specs.declared.tables.law.TableError.{TableError}
-use Rattle.regress_front_sets.specs.declared.tables.law.TableError.TheVariants.{Broken}
+use Rattle.regress_front_sets.specs.declared.tables.law.TableError.TheVariants.{Broken, OutOfMemory}
 use Rattle.regress_front_sets.specs.declared.tables.law.TableLaw.{TableLaw}
 use Rattle.regress_front_sets.specs.declared.tables.law.TableLaw.TheVariants.{Range, Order, AsciiCase, Idempotent, ClassSize, Surrogate, Canonical, Identifier}
 use Rattle.regress_front_sets.specs.Breaking.{Tells, TellsBroken, rank, numbers, IsFirstBroken}
@@ -101,3 +101,10 @@ pub TellsBroken-from_told : (law : TableLaw) (parts : TableParts) (told : Option
     → IfErr result (λ e. TellsBroken e parts)
 TellsBroken-from_told law parts None result says broken first = rw says tt
 TellsBroken-from_told law parts (Some c) result says broken first = rw says (IsFirstBroken-from law parts first c broken)
+
+-- where parts are lawful, nothing but refused memory is told
+pub IsOkUnless-lawful : {T : Type 0} (parts : TableParts) → IsLawful parts → (result : Result T TableError)
+    → IfErr result (λ e. TellsBroken e parts) → IsOkUnless result OutOfMemory
+IsOkUnless-lawful parts lawful (Ok x) told = tt
+IsOkUnless-lawful parts lawful (Err (Broken law c)) told = absurd (tells_nothing law parts (Keeps-lawful law parts lawful) c told.told)
+IsOkUnless-lawful parts lawful (Err OutOfMemory) told = refl

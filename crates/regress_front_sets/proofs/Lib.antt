@@ -4,6 +4,7 @@ pub mod OrderLemmas
 pub mod ImageLemmas
 pub mod TellingLemmas
 pub mod SurrogateLemmas
+pub mod ListLemmas
 pub mod RangeLemmas
 pub mod IntervalLemmas
 pub mod SetLemmas

@@ -10,6 +10,7 @@ use Rattle.regress_front_sets.specs.Parts.{parts_of}
 use Rattle.regress_front_sets.specs.Entries.{entry_of}
 use Rattle.regress_front_sets.specs.Breaking.{IsLeast, least_past, numbers, numbers_of, numbers_in}
 use Rattle.regress_front_sets.specs.Telling.{lesser}
+use Rattle.regress_front_sets.proofs.ListLemmas.{All-parts, All-from_map, All-flat_map, All-from_flat_map, flat_map-map}
 
 -- ---- the least of a list
 
@@ -125,27 +126,6 @@ IsLeast-from_least_past xs (Some c) e = rw (← e) at (least_past-told xs)
 
 -- ---- the law on range
 
-All-parts : {X : Type 0} (P : X → Type 0) (xs ys : List X) → All P (xs ++ ys) → All P xs × All P ys
-All-parts P [] ys all = (All-nil P, all)
-All-parts P (x ∷ xs) ys all =
-    let rest = All-parts P xs ys (All-tail P x (xs ++ ys) all) in
-    (All-cons P x xs (All-head P x (xs ++ ys) all) rest.0, rest.1)
-
-All-from_map : {X Y : Type 0} (P : Y → Type 0) (f : X → Y) (xs : List X) → All P (map f xs) → All (λ x. P (f x)) xs
-All-from_map P f [] all = All-nil (λ x. P (f x))
-All-from_map P f (x ∷ xs) all = All-cons (λ x. P (f x)) x xs (All-head P (f x) (map f xs) all) (All-from_map P f xs (All-tail P (f x) (map f xs) all))
-
-All-flat_map : {X Y : Type 0} (P : Y → Type 0) (f : X → List Y) (xs : List X) → All (λ x. All P (f x)) xs → All P (flat_map f xs)
-All-flat_map P f [] all = All-nil P
-All-flat_map P f (x ∷ xs) all =
-    All-append P (f x) (flat_map f xs) (All-head (λ x. All P (f x)) x xs all) (All-flat_map P f xs (All-tail (λ x. All P (f x)) x xs all))
-
-All-from_flat_map : {X Y : Type 0} (P : Y → Type 0) (f : X → List Y) (xs : List X) → All P (flat_map f xs) → All (λ x. All P (f x)) xs
-All-from_flat_map P f [] all = All-nil (λ x. All P (f x))
-All-from_flat_map P f (x ∷ xs) all =
-    let both = All-parts P (f x) (flat_map f xs) all in
-    All-cons (λ x. All P (f x)) x xs both.0 (All-from_flat_map P f xs both.1)
-
 -- both numbers of a pair are code points
 abbrev IsPair : ℕ × ℕ → Type 0
 IsPair p = is_code_point p.0 × is_code_point p.1
@@ -179,10 +159,6 @@ All-numbers parts kept =
     (All-flat_map is_code_point (λ e. flat_map (λ s. s) e.1) parts.sequences (λ k d l. All-flat_map is_code_point (λ s. s) (get_or parts.sequences k d).1 (kept.1 k d l)))
 
 -- ---- the lists of a value of parts
-
-flat_map-map : {X Y Z : Type 0} (f : Y → List Z) (g : X → Y) (xs : List X) → flat_map f (map g xs) ≡ flat_map (λ x. f (g x)) xs
-flat_map-map f g [] = refl
-flat_map-map f g (x ∷ xs) = ap (λ zs. f (g x) ++ zs) (flat_map-map f g xs)
 
 -- an entry with a key, and strings under it
 abbrev Sequences : Type 0

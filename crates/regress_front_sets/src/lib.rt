@@ -22,5 +22,5 @@ pub use limits::{
 };
 pub use state::{GroupData, LoopData};
 pub use tables::Tables;
-pub use tables::law::{TableError, TableLaw};
+pub use tables::law::{TableError, TableLaw, lawful_parts_break_no_law};
 pub use tables::parts::TableParts;
