@@ -1,0 +1,2 @@
+pub mod IntervalLemmas
+pub mod SetLemmas
