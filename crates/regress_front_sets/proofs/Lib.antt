@@ -1,2 +1,5 @@
 pub mod IntervalLemmas
 pub mod SetLemmas
+pub mod ImageLemmas
+pub mod TellingLemmas
+pub mod SurrogateLemmas

@@ -6,3 +6,4 @@ pub mod Intervals
 pub mod Sets
 pub mod Parts
 pub mod Breaking
+pub mod Telling

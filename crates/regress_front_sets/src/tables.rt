@@ -1,8 +1,10 @@
 //! Case and properties of code points.
 ghost use Rattle.std.specs.Prelude.{◌≡◌};
 
+pub(crate) mod image;
 pub(crate) mod law;
 pub(crate) mod parts;
+pub(crate) mod single;
 
 use law::TableError;
 use std::alloc::Global;
