@@ -3,3 +3,4 @@ pub mod SetLemmas
 pub mod ImageLemmas
 pub mod TellingLemmas
 pub mod SurrogateLemmas
+pub mod FoldingLemmas

@@ -7,3 +7,4 @@ pub mod Sets
 pub mod Parts
 pub mod Breaking
 pub mod Telling
+pub mod Folding

@@ -4,6 +4,7 @@
 mod code_point_set;
 mod error;
 mod flags;
+mod folding;
 mod interval;
 mod tables;
 
