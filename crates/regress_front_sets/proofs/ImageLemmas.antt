@@ -89,7 +89,7 @@ idempotent-unlisted pairs c h = ap (image pairs) (image-unlisted pairs c h)
 -- whether a map takes something else to a surrogate, is seen at each pair
 pub surrogates-at_pairs : (pairs : List (ℕ × ℕ)) → PairsRise pairs
     → All (λ p. ((not (is_surrogate p.0) && is_surrogate p.1) ≡ true → AvoidsSurrogates p.0 pairs → ⊥)
-        × ((not (is_surrogate p.0) && is_surrogate p.1) ≡ false → AvoidsSurrogates p.0 pairs)) pairs
+    × ((not (is_surrogate p.0) && is_surrogate p.1) ≡ false → AvoidsSurrogates p.0 pairs)) pairs
 surrogates-at_pairs pairs rise k d l =
     let p = get_or pairs k d in
     let listed = ap is_surrogate (All-image pairs rise k d l) in (

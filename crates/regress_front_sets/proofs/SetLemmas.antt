@@ -10,11 +10,12 @@ use Rattle.std.proofs.lemmas.Bool.{cases_lt, false_from_ne_true, ltb-true, ltb-f
 use Rattle.std.proofs.lemmas.Bool.Decides.{nat_tests}
 use Rattle.std.proofs.lemmas.List.{get_or-map, length-map, map-append, take-map, drop-map, take_all, drop_all, set_split, set_at, take_more, append_assoc, length-take-le, get_or_read, at_drop_more, at_drop_all}
 use Rattle.std.proofs.lemmas.List.Sorted.{IsPartitionedBy-ltb, IsPartitionedBy-leb}
+use Rattle.regress_meaning.specs.Text.{between}
 use Rattle.regress_meaning.specs.Table.{last_code_point, code_points}
 use Rattle.regress_meaning.specs.TableParts.{in_intervals, IntervalsRise}
 use Rattle.regress_front_sets.specs.Intervals.{ends, ends_of, in_interval, interval_cmp, interval_at, IsRun, gap, gaps_from, inverse}
 use Rattle.regress_front_sets.specs.declared.interval.Interval.{Interval}
-use Rattle.regress_front_sets.proofs.IntervalLemmas.{in_intervals-at, in_intervals-place, IntervalsRise-apart, IntervalsRise-le, IsJoined, replaced, IntervalsRise-replaced, in_intervals-replaced, gaps_from-nil, gaps_from-cons, length-gaps_from}
+use Rattle.regress_front_sets.proofs.IntervalLemmas.{in_intervals-nil, in_intervals-cons, in_intervals-at, in_intervals-place, IntervalsRise-apart, IntervalsRise-le, IsJoined, replaced, IntervalsRise-replaced, in_intervals-replaced, gaps_from-nil, gaps_from-cons, length-gaps_from}
 
 -- an interval, as a default
 abbrev pub first_interval : Interval
@@ -23,6 +24,10 @@ first_interval = record { first = 0; last = 0; ordered = omega arith; bounded = 
 -- the ends of the interval at a place
 pub interval_at-ends_of : (xs : List Interval) (k : ℕ) (d : Interval) → k < length xs → interval_at (ends_of xs) k ≡ ends (get_or xs k d)
 interval_at-ends_of xs k d l = get_or-map ends xs k d (0, 0) l
+
+-- the first number of the interval at a place
+pub first_at : (xs : List Interval) (k : ℕ) (d : Interval) → k < length xs → (interval_at (ends_of xs) k).0 ≡ (get_or xs k d).first
+first_at xs k d l = ap (λ p. p.0) (interval_at-ends_of xs k d l)
 
 -- a later interval of those that rise begins no lower, and ends no lower
 pub rises : (xs : List Interval) (j k : ℕ) (d : Interval) → IntervalsRise (ends_of xs) → j ≤ k → k < length xs
@@ -260,3 +265,88 @@ length-inverse (x ∷ xs) n first last rise len low high =
     length-gaps_from 0 (ends x) (ends_of xs) rise
     ∙ ap (λ k. cond (nat_lt 0 x.first) 1 0 + k + cond (nat_lt (interval_at (ends_of (x ∷ xs)) k).1 last_code_point) 1 0) m
     ∙ ap₂ (λ i j. cond (nat_lt 0 i.first) 1 0 + n + cond (nat_lt j.1 last_code_point) 1 0) (sym low) at
+
+-- ---- two sets that are walked in order
+
+or_regroup : (x y u v : Bool) → ((u || x) || (y || v)) ≡ (u || ((x || y) || v))
+or_regroup true y true v = refl
+or_regroup true y false v = refl
+or_regroup false y true v = refl
+or_regroup false y false v = refl
+
+or_comm : (x y : Bool) → (x || y) ≡ (y || x)
+or_comm true true = refl
+or_comm true false = refl
+or_comm false true = refl
+or_comm false false = refl
+
+-- The union holds what the first i intervals on the left and the first j on the right do, and begins no interval above the next.
+pub record IsMerged (left right union : List Interval) (i j : ℕ) : Type 0 where
+  pub left_in : i ≤ length left
+  pub right_in : j ≤ length right
+  pub left_above : i < length left → All (λ x. x.first ≤ (interval_at (ends_of left) i).0) union
+  pub right_above : j < length right → All (λ x. x.first ≤ (interval_at (ends_of right) j).0) union
+  pub members : (c : ℕ) → (in_intervals (ends_of union) c || (in_intervals (drop i (ends_of left)) c || in_intervals (drop j (ends_of right)) c))
+      ≡ (in_intervals (ends_of left) c || in_intervals (ends_of right) c)
+
+-- the sides are alike
+pub IsMerged-flip : (left right union : List Interval) (i j : ℕ) → IsMerged left right union i j → IsMerged right left union j i
+IsMerged-flip left right union i j h = record {
+  left_in = h.right_in;
+  right_in = h.left_in;
+  left_above = h.right_above;
+  right_above = h.left_above;
+  members = λ c.
+      ap (λ b. in_intervals (ends_of union) c || b) (or_comm (in_intervals (drop j (ends_of right)) c) (in_intervals (drop i (ends_of left)) c))
+      ∙ h.members c ∙ or_comm (in_intervals (ends_of left) c) (in_intervals (ends_of right) c);
+}
+
+pub IsMerged-none : (left right union : List Interval) → union ≡ [] → IsMerged left right union 0 0
+IsMerged-none left right union e = record {
+  left_in = omega arith;
+  right_in = omega arith;
+  left_above = λ _ k d l. absurd (omega (arith, ap length e));
+  right_above = λ _ k d l. absurd (omega (arith, ap length e));
+  members = λ c. rw (e, in_intervals-nil c) refl;
+}
+
+-- the next interval on the left is added
+pub IsMerged-left : (left right old new : List Interval) (i j : ℕ) (item : Interval) → IntervalsRise (ends_of left) → IsMerged left right old i j
+    → i < length left → item ≡ get_or left i item → (j < length right → item.first ≤ (interval_at (ends_of right) j).0)
+    → All (λ x. x.first ≤ item.first) new
+    → ((c : ℕ) → in_intervals (ends_of new) c ≡ (in_intervals (ends_of old) c || in_interval item c))
+    → IsMerged left right new (i + 1) j
+IsMerged-left left right old new i j item rise h l is next low added =
+    let at : interval_at (ends_of left) i ≡ ends item = interval_at-ends_of left i item l ∙ ap ends (sym is) in
+    record {
+      left_in = omega arith;
+      right_in = h.right_in;
+      left_above = λ m k d n.
+          omega (arith, low k d n, ap (λ p. p.0) at, (IntervalsRise-le (ends_of left) i (i + 1) rise (omega arith) (omega (arith, length-map left ends))).0);
+      right_above = λ m k d n. omega (arith, low k d n, next m);
+      members = λ c.
+          let rest = in_intervals (drop (i + 1) (ends_of left)) c in
+          let others = in_intervals (drop j (ends_of right)) c in
+          let taken : in_intervals (drop i (ends_of left)) c ≡ (in_interval item c || rest) =
+              at_drop_more (λ xs. in_intervals xs c) (ends_of left) i (0, 0) (omega (arith, length-map left ends))
+              ∙ in_intervals-cons (interval_at (ends_of left) i) (drop (i + 1) (ends_of left)) c
+              ∙ ap (λ p. between p.0 p.1 c || rest) at in
+          ap (λ b. b || (rest || others)) (added c)
+          ∙ or_regroup (in_interval item c) rest (in_intervals (ends_of old) c) others
+          ∙ ap (λ b. in_intervals (ends_of old) c || (b || others)) (sym taken)
+          ∙ h.members c;
+    }
+
+-- all is taken
+pub IsMerged-all : (left right union : List Interval) (i j : ℕ) → IsMerged left right union i j → length left ≤ i → length right ≤ j
+    → (c : ℕ) → in_intervals (ends_of union) c ≡ (in_intervals (ends_of left) c || in_intervals (ends_of right) c)
+IsMerged-all left right union i j h l m c =
+    let none : (xs : List Interval) (k : ℕ) → length xs ≤ k → in_intervals (drop k (ends_of xs)) c ≡ false =
+        λ xs k n. at_drop_all (λ ys. in_intervals ys c) (ends_of xs) k (omega (arith, length-map xs ends)) ∙ in_intervals-nil c in
+    sym (or-false (in_intervals (ends_of union) c))
+    ∙ ap₂ (λ x y. in_intervals (ends_of union) c || (x || y)) (sym (none left i l)) (sym (none right j m))
+    ∙ h.members c
+  where
+    or-false : (b : Bool) → (b || false) ≡ b
+    or-false true = refl
+    or-false false = refl

@@ -1,9 +1,9 @@
 -- Which surrogates intervals hold, and what of ASCII identifiers may hold.
-use Rattle.std.proofs.Common.{◌≡◌, ℕ, ◌+◌, ◌<◌, ◌≤◌, ◌⊎◌, ◌&&◌, ◌||◌, nat_le, Bool, true, false, cond, List, [], ◌∷◌, Option, Some, None, refl, sym, ap, ◌∙◌, inl, inr, arith}
+use Rattle.std.proofs.Common.{◌≡◌, ℕ, ◌+◌, ◌<◌, ◌≤◌, ◌&&◌, ◌||◌, nat_le, Bool, true, false, cond, List, [], ◌∷◌, Option, Some, refl, ap, inl, inr, arith}
 use Rattle.std.specs.Prelude.{max}
 use Rattle.std.specs.List.{find, list_any}
 use Rattle.std.specs.Option.{option_map}
-use Rattle.std.proofs.lemmas.Bool.{false≢true, or_cases, or_left, or_right, both_ways, and_left, and_right, lt-leb, cases_lt}
+use Rattle.std.proofs.lemmas.Bool.{false≢true, or_cases, or_left, or_right, both_ways, and_left, lt-leb, cases_lt}
 use Rattle.std.proofs.lemmas.Bool.Decides.{nat_tests}
 use Rattle.regress_meaning.specs.Text.{between}
 use Rattle.regress_meaning.specs.TableParts.{in_intervals, is_surrogate, IntervalsRise, KeepsIdentifierAt}
@@ -115,10 +115,10 @@ TellsLeast-identifier parts ascii start further a s f =
     let Starts : ℕ → Type 0 = IsNoSurrogate parts.id_start.items in
     let GoesOn : ℕ → Type 0 = IsNoSurrogate parts.id_continue.items in
     TellsLeast-same (λ c. Fits c × (Starts c × GoesOn c)) (KeepsIdentifierAt (parts_of parts))
-        (λ c h. (λ held. (λ l. ((h.0 l).0 held).0 l, h.1.0 held), λ held. (λ l. ((h.0 l).1 held).0 l, h.1.1 held)))
-        (λ c h. (λ l. h, (λ held. (h.0 held).1, λ held. (h.1 held).1))) _
-        (TellsLeast-both Fits (λ c. Starts c × GoesOn c) ascii (lesser start further) a
-            (TellsLeast-both Starts GoesOn start further s f))
+    (λ c h. (λ held. (λ l. ((h.0 l).0 held).0 l, h.1.0 held), λ held. (λ l. ((h.0 l).1 held).0 l, h.1.1 held)))
+    (λ c h. (λ l. h, (λ held. (h.0 held).1, λ held. (h.1 held).1))) _
+    (TellsLeast-both Fits (λ c. Starts c × GoesOn c) ascii (lesser start further) a
+    (TellsLeast-both Starts GoesOn start further s f))
 
 -- whether one of the intervals holds it
 pub in_intervals-any : (intervals : List Interval) (c : ℕ) → list_any (λ i. in_interval i c) intervals ≡ in_intervals (ends_of intervals) c

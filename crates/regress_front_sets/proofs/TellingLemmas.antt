@@ -1,6 +1,5 @@
 -- What is told of laws that are about single numbers.
-use Rattle.std.proofs.Common.{◌≡◌, ◌≢◌, ℕ, zero, suc, ◌<◌, ◌≤◌, ◌⊎◌, Bool, true, false, cond, List, [], ◌∷◌, length, get_or, All, Option, Some, None, MatchOption, IfSome, IfNone, refl, sym, subst, inl, inr, arith}
-use Rattle.std.specs.Prelude.{min}
+use Rattle.std.proofs.Common.{◌≡◌, ◌≢◌, ℕ, ◌<◌, ◌≤◌, Bool, true, false, cond, List, [], ◌∷◌, All, Option, Some, None, MatchOption, IfSome, IfNone, refl, subst, inl, inr, arith}
 use Rattle.std.specs.List.{find}
 use Rattle.std.specs.Option.{option_map}
 use Rattle.std.proofs.lemmas.Bool.{cases_eq, cases_lt}
@@ -35,7 +34,7 @@ TellsLeast-both P Q (Some c) None h k =
     record { holds = λ both. h.holds both.0; least = λ e l broken. h.least e l (λ p. broken (p, k e)) }
 TellsLeast-both P Q (Some c) (Some d) h k =
     let neither : (e : ℕ) → e < c → e < d → (P e × Q e → ⊥) → ⊥ =
-        λ e l m broken. h.least e l (λ p. k.least e m (λ q. broken (p, q))) in
+    λ e l m broken. h.least e l (λ p. k.least e m (λ q. broken (p, q))) in
     elim (cases_lt c d) [
       | inl l ↦ subst (IsLeast (λ e. P e × Q e → ⊥)) {x = c} (omega arith)
           (record { holds = λ both. h.holds both.0; least = λ e m. neither e m (omega arith) })
@@ -59,8 +58,8 @@ pub TellsLeast-find : (P : ℕ → Type 0) (test : ℕ × ℕ → Bool) (pairs :
 TellsLeast-find P test [] rise unlisted decides = λ c. unlisted c (All-nil (λ p. p.0 ≢ c))
 TellsLeast-find P test (p ∷ pairs) rise unlisted decides =
     go (test p) here.0 here.1
-        (λ own. TellsLeast-find P test pairs (PairsRise-tail p pairs rise) (λ c. others c own)
-            (All-tail (λ q. (test q ≡ true → P q.0 → ⊥) × (test q ≡ false → P q.0)) p pairs decides))
+    (λ own. TellsLeast-find P test pairs (PairsRise-tail p pairs rise) (λ c. others c own)
+    (All-tail (λ q. (test q ≡ true → P q.0 → ⊥) × (test q ≡ false → P q.0)) p pairs decides))
   where
     here : (test p ≡ true → P p.0 → ⊥) × (test p ≡ false → P p.0)
     here = All-head (λ q. (test q ≡ true → P q.0 → ⊥) × (test q ≡ false → P q.0)) p pairs decides
@@ -75,7 +74,7 @@ TellsLeast-find P test (p ∷ pairs) rise unlisted decides =
     below : (c : ℕ) → c < p.0 → P c
     below c l =
         unlisted c (All-cons (λ q. q.0 ≢ c) p pairs (λ same. omega arith)
-            (λ k d m same. omega (arith, PairsRise-above p pairs rise k d m)))
+        (λ k d m same. omega (arith, PairsRise-above p pairs rise k d m)))
 
     go : (b : Bool) → (b ≡ true → P p.0 → ⊥) → (b ≡ false → P p.0)
         → (P p.0 → TellsLeast (option_map (λ q. q.0) (find test pairs)) P)

@@ -4,6 +4,7 @@ pub mod TableViews
 pub mod Props
 pub mod Intervals
 pub mod Sets
+pub mod Entries
 pub mod Parts
 pub mod Breaking
 pub mod Telling

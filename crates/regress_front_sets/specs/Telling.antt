@@ -1,5 +1,5 @@
 -- What is told where a law is about single numbers.
-use Rattle.std.specs.Prelude.{ℕ, Option, Some, None, MatchOption, min}
+use Rattle.std.specs.Prelude.{ℕ, ◌&&◌, ◌==◌, not, List, Option, Some, None, MatchOption, min, count_by}
 use Rattle.regress_front_sets.specs.Breaking.{IsLeast}
 
 -- nothing where each number keeps the law, and else the least that doesn't
@@ -11,3 +11,7 @@ abbrev pub lesser : Option ℕ → Option ℕ → Option ℕ
 lesser None b = b
 lesser (Some c) None = Some c
 lesser (Some c) (Some d) = Some (min c d)
+
+-- how many other code points the pairs take to d
+abbrev pub others_to : List (ℕ × ℕ) → ℕ → ℕ
+others_to pairs d = count_by (λ p. p.1 == d && not (p.0 == p.1)) pairs

@@ -3,7 +3,9 @@ ghost use Rattle.std.specs.Prelude.{◌≡◌};
 
 pub(crate) mod image;
 pub(crate) mod law;
+mod order;
 pub(crate) mod parts;
+mod range;
 pub(crate) mod single;
 
 use law::TableError;

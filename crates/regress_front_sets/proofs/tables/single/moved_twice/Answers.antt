@@ -6,4 +6,4 @@ use Rattle.regress_front_sets.proofs.tables.single.moved_twice.Goals as goal
 pub returns-clause-broken : goal.returns-clause-broken
 returns-clause-broken c =
     IsLeast-both_maps IsIdempotentAt (parts_of c.args.parts.now) _ _ _ c.least.ensures
-        (rw c.deref.ensures.value at c.moved_twice_by.ensures) (rw c.deref-2.ensures.value at c.moved_twice_by-2.ensures)
+    (rw c.deref.ensures.value at c.moved_twice_by.ensures) (rw c.deref-2.ensures.value at c.moved_twice_by-2.ensures)

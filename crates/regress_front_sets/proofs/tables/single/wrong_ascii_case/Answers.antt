@@ -10,7 +10,7 @@ pub returns : goal.returns
 returns c =
     let parts = parts_of c.args.parts.now in
     let found = first_from_Range _ _ _ c.find.result (λ d. HasAsciiCase parts d → ⊥) (HasAsciiCase parts) c.find.ensures.ran
-        (λ x q k. search (rules, tests)) (λ x q k. search (rules, tests)) in
+    (λ x q k. search (rules, tests)) (λ x q k. search (rules, tests)) in
     let told = TellsLeast-below (HasAsciiCase parts) 0x80 _ found in record {
       kept = kept-from_told (λ d. d < 0x80 → HasAsciiCase parts d) _ told;
       broken = Tells-ascii_case parts _ told;

@@ -1,4 +1,4 @@
-use Rattle.std.proofs.Common.{rules, ap, ◌∙◌}
+use Rattle.std.proofs.Common.{rules}
 use Rattle.std.proofs.lemmas.Iterator.{first_from_Range}
 use borrow.Author.Tests.{tests}
 use Rattle.regress_meaning.specs.TableParts.{KeepsIdentifierAt}
@@ -11,7 +11,7 @@ pub returns : goal.returns
 returns c =
     let parts = parts_of c.args.parts.now in
     let found = first_from_Range _ _ _ c.find-ascii.result (λ d. KeepsIdentifierAt parts d → ⊥) (KeepsIdentifierAt parts) c.find-ascii.ensures.ran
-        (λ x q k. search (rules, tests)) (λ x q k. search (rules, tests)) in
+    (λ x q k. search (rules, tests)) (λ x q k. search (rules, tests)) in
     let ascii = TellsLeast-below (KeepsIdentifierAt parts) 0x80 _ found in
     let start = rw c.deref.ensures.value at c.first_surrogate-start.ensures in
     let further = rw c.deref-2.ensures.value at c.first_surrogate-further.ensures in
