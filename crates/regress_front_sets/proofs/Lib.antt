@@ -12,3 +12,4 @@ pub mod RangeLemmas
 pub mod IntervalLemmas
 pub mod SetLemmas
 pub mod ClassLemmas
+pub mod LawLemmas

@@ -4,6 +4,8 @@ use Rattle.std.specs.List.{Contains, flat_map, reduce}
 use Rattle.std.specs.Option.{option_or}
 use Rattle.regress_meaning.specs.Table.{last_code_point}
 use Rattle.regress_meaning.specs.TableParts.{TableParts, BothMaps, HasAsciiCase, IsIdempotentAt, HasSmallClass, AvoidsSurrogates, KeepsIdentifierAt}
+use Rattle.regress_front_sets.specs.declared.tables.law.TableError.{TableError}
+use Rattle.regress_front_sets.specs.declared.tables.law.TableError.TheVariants.{Broken, OutOfMemory}
 use Rattle.regress_front_sets.specs.declared.tables.law.TableLaw.{TableLaw}
 use Rattle.regress_front_sets.specs.declared.tables.law.TableLaw.TheVariants.{Range, Order, AsciiCase, Idempotent, ClassSize, Surrogate, Canonical, Identifier}
 
@@ -84,3 +86,8 @@ rank Identifier = 7
 pub record IsFirstBroken (law : TableLaw) (parts : TableParts) (c : ℕ) : Type 0 where
   pub told : Tells law parts c
   pub first : (earlier : TableLaw) → rank earlier < rank law → (d : ℕ) → Tells earlier parts d → ⊥
+
+-- An error tells the first law that is broken. Where memory is refused nothing is told.
+abbrev pub TellsBroken : TableError → TableParts → Type 0
+TellsBroken (Broken law c) parts = IsFirstBroken law parts c
+TellsBroken OutOfMemory parts = Unit {0}

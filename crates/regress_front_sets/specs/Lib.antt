@@ -6,6 +6,7 @@ pub mod Intervals
 pub mod Sets
 pub mod Entries
 pub mod Parts
+pub mod Listed
 pub mod Breaking
 pub mod Telling
 pub mod Folding
