@@ -13,7 +13,7 @@ use Rattle.std.proofs.lemmas.List.Kept.{AllPairs-filter, AllPairs-from_increasin
 use Rattle.std.proofs.lemmas.List.Sorted.{IsPermutation-insert, list_any-IsPermutation, searched}
 use Rattle.regress_meaning.specs.Text.{holds}
 use Rattle.regress_meaning.specs.Table.{some_below, count_below, closure, code_points, last_code_point}
-use Rattle.regress_meaning.specs.TableParts.{image, PairsRise, is_code_point}
+use Rattle.regress_meaning.specs.TableParts.{TableParts, IsLawful, image, PairsRise, is_code_point}
 use Rattle.regress_front_sets.specs.Folding.{Lists, IsCaseMap, GrowsInside}
 use Rattle.regress_front_sets.proofs.IntervalLemmas.{same_bool}
 use Rattle.regress_front_sets.proofs.ImageLemmas.{PairsRise-at, All-image, image-listed, image-unlisted, image_cases}
@@ -204,6 +204,11 @@ length-Lists test cs h =
 pub Lists-own : (test : ℕ → Bool) (cs : List ℕ) (c : ℕ) → Lists test cs → c ≤ last_code_point → test c ≡ true → holds cs c ≡ true
 Lists-own test cs c h l e = h.members c ∙ and_from _ _ (le-leb c last_code_point l) e
 
+-- a list that holds something is not empty
+pub length-holding : (cs : List ℕ) (c : ℕ) → holds cs c ≡ true → 0 < length cs
+length-holding [] c h = absurd (false≢true h)
+length-holding (x ∷ cs) c h = omega arith
+
 -- what rises still does after an insert between what is lower and what is higher
 IsStrictlyIncreasing-insert : (xs : List ℕ) (i y : ℕ) → IsStrictlyIncreasing xs → i ≤ length xs
     → ((k : ℕ) → k < i → get_or xs k 0 < y) → ((k : ℕ) → i ≤ k → k < length xs → y < get_or xs k 0)
@@ -223,7 +228,7 @@ IsStrictlyIncreasing-insert xs i y rise le low high k l =
               rw (at, get_or-insert_above xs i y 0 k (omega arith) le) (high k (omega arith) (omega (arith, len)))
           | inr past ↦
               let at : get_or (insert xs i y) k 0 ≡ get_or xs (k - 1) 0 =
-                  ap (λ j. get_or (insert xs i y) j 0) (omega arith) ∙ get_or-insert_above xs i y 0 (k - 1) (omega arith) le in
+              ap (λ j. get_or (insert xs i y) j 0) (omega arith) ∙ get_or-insert_above xs i y 0 (k - 1) (omega arith) le in
               let next : get_or xs ((k - 1) + 1) 0 ≡ get_or xs k 0 = ap (λ j. get_or xs j 0) (omega arith) in
               rw (at, get_or-insert_above xs i y 0 k (omega arith) le) (rw next at (rise (k - 1) (omega (arith, len))))
         ]
@@ -266,7 +271,7 @@ listed-source : (pairs : List (ℕ × ℕ)) (d c : ℕ) → Contains pairs (c, d
 listed-source pairs d c listed =
     holds-sources pairs d c
     ∙ list_any_at (λ p. (p.1 == d) && (p.0 == c)) pairs listed.0 (c, d) listed.1
-        (ap (λ p. (p.1 == d) && (p.0 == c)) listed.2 ∙ and_from _ _ (eq-eqb d d refl) (eq-eqb c c refl))
+    (ap (λ p. (p.1 == d) && (p.0 == c)) listed.2 ∙ and_from _ _ (eq-eqb d d refl) (eq-eqb c c refl))
 
 module _ (pairs : List (ℕ × ℕ)) (lawful : IsCaseMap pairs) (a : ℕ) (bound : a ≤ last_code_point) where
   -- the image of a code point is one
@@ -304,7 +309,7 @@ module _ (pairs : List (ℕ × ℕ)) (lawful : IsCaseMap pairs) (a : ℕ) (bound
       → Lists (λ c. image pairs c == image pairs a) (sources (image pairs a) pairs)
   Lists-found i l e =
       let own : holds (sources (image pairs a) pairs) (image pairs a) ≡ true =
-          list_any_at (λ d. d == image pairs a) (sources (image pairs a) pairs) i 0 l (eq-eqb _ _ e) in record {
+      list_any_at (λ d. d == image pairs a) (sources (image pairs a) pairs) i 0 l (eq-eqb _ _ e) in record {
         rises = sources-rise pairs (image pairs a) lawful.order;
         members = λ c. elim (cases_eq (image pairs a) c) [
           | inl same ↦ ap (holds (sources (image pairs a) pairs)) (sym same) ∙ own
@@ -328,16 +333,26 @@ module _ (pairs : List (ℕ × ℕ)) (lawful : IsCaseMap pairs) (a : ℕ) (bound
   pub Lists-searched : (r : Result ℕ ℕ)
       → IsBinarySearchResult (λ d. nat_cmp d (image pairs a)) (sources (image pairs a) pairs) r
       → MatchResult r (λ i. Lists (λ c. image pairs c == image pairs a) (sources (image pairs a) pairs))
-          (λ i. Lists (λ c. image pairs c == image pairs a) (insert (sources (image pairs a) pairs) i (image pairs a)))
+      (λ i. Lists (λ c. image pairs c == image pairs a) (insert (sources (image pairs a) pairs) i (image pairs a)))
   Lists-searched r found = go r (searched _ (image pairs a) r found (λ i j le l. elim (cases_eq i j) [
-      | inl e ↦ omega (arith, ap (λ k. get_or (sources (image pairs a) pairs) k 0) e)
-      | inr ne ↦ omega (arith, AllPairs-from_increasing _ (sources-rise pairs (image pairs a) lawful.order) i j 0 (omega arith) l)
-      ]))
+    | inl e ↦ omega (arith, ap (λ k. get_or (sources (image pairs a) pairs) k 0) e)
+    | inr ne ↦ omega (arith, AllPairs-from_increasing _ (sources-rise pairs (image pairs a) lawful.order) i j 0 (omega arith) l)
+  ]))
     where
       go : (r : Result ℕ ℕ) → MatchResult r (λ i. (i < length (sources (image pairs a) pairs)) × (get_or (sources (image pairs a) pairs) i 0 ≡ image pairs a))
           (λ i. (i ≤ length (sources (image pairs a) pairs)) × ((k : ℕ) → k < i → get_or (sources (image pairs a) pairs) k 0 < image pairs a)
-            × ((k : ℕ) → i ≤ k → k < length (sources (image pairs a) pairs) → image pairs a < get_or (sources (image pairs a) pairs) k 0))
+          × ((k : ℕ) → i ≤ k → k < length (sources (image pairs a) pairs) → image pairs a < get_or (sources (image pairs a) pairs) k 0))
           → MatchResult r (λ i. Lists (λ c. image pairs c == image pairs a) (sources (image pairs a) pairs))
           (λ i. Lists (λ c. image pairs c == image pairs a) (insert (sources (image pairs a) pairs) i (image pairs a)))
       go (Ok i) h = Lists-found i h.0 h.1
       go (Err i) h = Lists-inserted i h.0 h.1 h.2
+
+-- ---- the maps of lawful parts
+
+-- the fold of lawful parts is a map of case
+pub IsCaseMap-fold : (parts : TableParts) → IsLawful parts → IsCaseMap parts.fold
+IsCaseMap-fold parts h = record { range = h.range.0.0; order = h.order.0; idempotent = h.idempotent.0; class_size = h.class_size.0 }
+
+-- and so is the upper case
+pub IsCaseMap-upper : (parts : TableParts) → IsLawful parts → IsCaseMap parts.upper
+IsCaseMap-upper parts h = record { range = h.range.0.1; order = h.order.1; idempotent = h.idempotent.1; class_size = h.class_size.1 }

@@ -11,6 +11,9 @@ mod tables;
 pub use code_point_set::{CodePointSet, equal_members_equal_intervals, inverted_twice_is_the_same};
 pub use error::Error;
 pub use flags::{Flags, flags_are_read_back};
+pub use folding::{
+    add_icase_code_points, closure, expand_code_point, fold, fold_is_idempotent, unfold_char,
+};
 pub use interval::{CODE_POINT_MAX, CodePoint, Interval};
 pub use tables::Tables;
 pub use tables::law::{TableError, TableLaw};
