@@ -13,3 +13,4 @@ pub mod IntervalLemmas
 pub mod SetLemmas
 pub mod ClassLemmas
 pub mod LawLemmas
+pub mod EntryLemmas

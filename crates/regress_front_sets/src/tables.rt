@@ -1,5 +1,5 @@
 //! Case and properties of code points.
-ghost use Rattle.std.specs.Prelude.{◌≡◌, All, map, chars, option_map, option_copied};
+ghost use Rattle.std.specs.Prelude.{◌≡◌, All, IfOk, map, chars, option_map, option_copied};
 ghost use Rattle.regress_meaning.specs.TableParts.{IsLawful, IntervalsRise, entry};
 ghost use Rattle.regress_front_sets.specs.Props.{IsLawful-prop};
 ghost use Rattle.regress_front_sets.specs.Intervals.{ends_of};
@@ -35,7 +35,7 @@ pub struct Tables {
 }
 
 impl Tables {
-    ghost use Rattle.std.specs.Prelude.{IfOk, IfErr, OnOk, IsOkUnless};
+    ghost use Rattle.std.specs.Prelude.{IfErr, OnOk, IsOkUnless};
     ghost use Rattle.regress_meaning.specs.Table.{canon};
     ghost use Rattle.regress_meaning.specs.TableParts.{table_of, small_parts};
     ghost use Rattle.regress_front_sets.specs.Parts.{parts_of};
