@@ -1,10 +1,9 @@
 -- Intervals that rise, as pairs of both ends, and the numbers that they hold.
-use Rattle.std.proofs.Common.{◌≡◌, ℕ, zero, suc, ◌+◌, ◌-◌, ◌<◌, ◌≤◌, ◌⊎◌, Bool, true, false, cond, not, ◌&&◌, ◌||◌, nat_le, nat_lt, min, max, List, [], ◌∷◌, ◌++◌, length, take, drop, get_or, refl, sym, ap, ap₂, ◌∙◌, inl, inr, arith, le_of_suc-le-suc}
-use Rattle.std.specs.List.{list_any}
+use Rattle.std.proofs.Common.{◌≡◌, ℕ, zero, suc, ◌+◌, ◌-◌, ◌<◌, ◌≤◌, ◌⊎◌, Bool, true, false, cond, not, ◌&&◌, ◌||◌, nat_le, nat_lt, min, max, List, [], ◌∷◌, ◌++◌, length, take, drop, refl, sym, ap, ap₂, ◌∙◌, inl, inr, arith, le_of_suc-le-suc}
 use Rattle.std.proofs.lemmas.Bool.{and_parts, or_cases, or_left, or_right, or_from, both_ways, false≢true, cases_eq, cases_lt, cases_order, lt-ltb, le-ltb, leb-true}
 use Rattle.std.proofs.lemmas.Bool.Decides.{nat_tests}
 use Rattle.std.proofs.lemmas.List.{take_more, length-append, length-drop, length-take-le, get_or_append_left, get_or-take, get_or_at, get_or-append-add, get_or-drop}
-use Rattle.std.proofs.lemmas.List.Recursion.{or_at, or_is, or_push}
+use Rattle.std.proofs.lemmas.List.Recursion.{or_at, or_push}
 use Rattle.regress_meaning.specs.Text.{between}
 use Rattle.regress_meaning.specs.Table.{last_code_point, code_points}
 use Rattle.regress_meaning.specs.TableParts.{in_intervals, IntervalsRise}
