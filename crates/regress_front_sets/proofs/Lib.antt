@@ -1,5 +1,11 @@
 mod LimitLemmas
 pub mod FirstByteLemmas
+pub mod IntervalLemmas
+pub mod SetLemmas
+pub mod ImageLemmas
+pub mod TellingLemmas
+pub mod SurrogateLemmas
+pub mod FoldingLemmas
 pub mod OrderLemmas
 pub mod ImageLemmas
 pub mod TellingLemmas

@@ -10,3 +10,4 @@ pub mod Listed
 pub mod Breaking
 pub mod FirstBytes
 pub mod Telling
+pub mod Folding

@@ -5,6 +5,7 @@ mod code_point_set;
 mod error;
 mod first_bytes;
 mod flags;
+mod folding;
 mod interval;
 mod limits;
 mod state;
@@ -14,6 +15,9 @@ pub use code_point_set::{CodePointSet, equal_members_equal_intervals, inverted_t
 pub use error::Error;
 pub use first_bytes::add_utf8_first_bytes_to_bitmap;
 pub use flags::{Flags, flags_are_read_back};
+pub use folding::{
+    add_icase_code_points, closure, expand_code_point, fold, fold_is_idempotent, unfold_char,
+};
 pub use interval::{CODE_POINT_MAX, CodePoint, Interval};
 pub use limits::{
     CaptureGroupID, CaptureGroupName, CharacterClassType, DIGITS, IP, LINE_TERMINATOR, LoopID,
