@@ -47,6 +47,9 @@ mod tests {
             last: 0x1_0000,
         };
         add_utf8_first_bytes_to_bitmap(surrogates, &mut bitmap);
-        assert_eq!(rt; bitmap.as_array::<7>(), [0x7E, 0x7F, 0xC2, 0xED, 0xEE, 0xEF, 0xF0]);
+        assert_eq!(rt;
+            bitmap.as_array::<7>(),
+            [0x7E, 0x7F, 0xC2, 0xED, 0xEE, 0xEF, 0xF0]
+        );
     }
 }
