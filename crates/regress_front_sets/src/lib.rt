@@ -7,7 +7,7 @@ mod flags;
 mod interval;
 mod tables;
 
-pub use code_point_set::CodePointSet;
+pub use code_point_set::{CodePointSet, equal_members_equal_intervals, inverted_twice_is_the_same};
 pub use error::Error;
 pub use flags::{Flags, flags_are_read_back};
 pub use interval::{CODE_POINT_MAX, CodePoint, Interval};
