@@ -6,7 +6,7 @@ use Rattle.regress_meaning.specs.Tokens.{Mode}
 use Rattle.regress_meaning.specs.Grammar.{ends_alternative}
 use Rattle.regress_meaning.specs.Limits.{depth, quantifiers, greatest_depth, most_groups}
 use Rattle.regress_meaning.specs.Reading.{Front, opening, quantified, closed, closed_and_quantified, read_term, disjunction_at, term_at}
-use Rattle.regress.specs.declared.front.error.Error.TheVariants.{TooDeep, TooManyGroups}
+use Rattle.regress_front_sets.specs.declared.error.Error.TheVariants.{TooDeep, TooManyGroups}
 use Rattle.regress.specs.Stage.{is_beyond_stage}
 use Rattle.regress.specs.Parsing.{Place, Leads, Grows, front_to, IsRefusal, contents_of}
 use Rattle.regress.proofs.MarkLemmas.{holds_none, each_differs, differ_back, character-opens, repeating-opens, escape-opens, group-opens, uncaptured-opens}

@@ -9,8 +9,8 @@ use Rattle.regress_meaning.specs.Grammar.{Spells, mode_of, names_apart, share_a_
 use Rattle.regress_meaning.specs.Limits.{SpellsNone, depth, quantifiers}
 use Rattle.regress_meaning.specs.Scan.{scanned_names}
 use Rattle.regress_meaning.specs.Reading.{Front, disjunction_at, whole_tree, read_pattern, ReadsBySteps}
-use Rattle.regress.specs.declared.front.error.Error.{Error}
-use Rattle.regress.specs.declared.front.error.Error.TheVariants.{Syntax as SyntaxError, TooDeep, TooManyGroups, TooManyLoops, TooLarge, OutOfMemory}
+use Rattle.regress_front_sets.specs.declared.error.Error.{Error}
+use Rattle.regress_front_sets.specs.declared.error.Error.TheVariants.{Syntax as SyntaxError, TooDeep, TooManyGroups, TooManyLoops, TooLarge, OutOfMemory}
 use Rattle.regress.specs.Parsing.{AreUnnamed, IsCoherent, IsRefusal}
 use Rattle.regress.specs.Refusing.{MayRefuse}
 use Rattle.regress.proofs.AtomLemmas.{at}

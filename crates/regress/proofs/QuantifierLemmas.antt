@@ -7,8 +7,8 @@ use Rattle.regress_meaning.specs.Tokens.{bounds_at}
 use Rattle.regress_meaning.specs.Grammar.{greedy_at}
 use Rattle.regress_meaning.specs.Limits.{quantifiers, opens_quantifier, most_quantifiers}
 use Rattle.regress_meaning.specs.Reading.{Front, bounded, quantified}
-use Rattle.regress.specs.declared.front.error.Error.{Error}
-use Rattle.regress.specs.declared.front.error.Error.TheVariants.{Syntax as SyntaxError, TooDeep, TooManyGroups, TooManyLoops, TooLarge, OutOfMemory}
+use Rattle.regress_front_sets.specs.declared.error.Error.{Error}
+use Rattle.regress_front_sets.specs.declared.error.Error.TheVariants.{Syntax as SyntaxError, TooDeep, TooManyGroups, TooManyLoops, TooLarge, OutOfMemory}
 use Rattle.regress.specs.declared.front.syntax.Quantifier.{Quantifier}
 use Rattle.regress.specs.Stage.{is_beyond_stage}
 use Rattle.regress.specs.Quantifiers.{star, plus, question, quantifier_of}

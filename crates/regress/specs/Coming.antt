@@ -6,8 +6,8 @@ use Rattle.regress.specs.declared.engine.found.Match.{Match}
 use Rattle.regress.specs.declared.engine.matches.Search.{Search}
 use Rattle.regress.specs.declared.engine.matches.Matches.{Matches}
 use Rattle.regress.specs.Trees.{tree}
-use Rattle.regress.specs.TableViews.{table}
-use Rattle.regress.specs.Views.{options}
+use Rattle.regress_front_sets.specs.TableViews.{table}
+use Rattle.regress_front_sets.specs.FlagWords.{options}
 use Rattle.regress.specs.TextViews.{utf8_reading}
 use Rattle.regress.specs.Iterating.{coming_on, steps_on, place_within}
 

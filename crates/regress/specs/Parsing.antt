@@ -4,8 +4,8 @@ use Rattle.regress_meaning.specs.Pattern.{Pattern, names_of, repeated}
 use Rattle.regress_meaning.specs.Tokens.{Mode}
 use Rattle.regress_meaning.specs.Limits.{depth, quantifiers, opens_nesting, opens_group, opens_quantifier, greatest_depth, most_groups, most_quantifiers}
 use Rattle.regress_meaning.specs.Reading.{Front, quantified, closed}
-use Rattle.regress.specs.declared.front.error.Error.{Error}
-use Rattle.regress.specs.declared.front.error.Error.TheVariants.{Syntax as SyntaxError, TooDeep, TooManyGroups, TooManyLoops, TooLarge, OutOfMemory}
+use Rattle.regress_front_sets.specs.declared.error.Error.{Error}
+use Rattle.regress_front_sets.specs.declared.error.Error.TheVariants.{Syntax as SyntaxError, TooDeep, TooManyGroups, TooManyLoops, TooLarge, OutOfMemory}
 use Rattle.regress.specs.declared.front.syntax.Syntax.{Syntax}
 use Rattle.regress.specs.declared.front.parser.Parser.{Parser}
 use Rattle.regress.specs.declared.front.syntax.Quantifier.{Quantifier}

@@ -5,8 +5,8 @@ use Rattle.regress_meaning.specs.Pattern.{Pattern}
 use Rattle.regress_meaning.specs.Flags.{Options}
 use Rattle.regress.specs.declared.api.Regex.{Regex}
 use Rattle.regress.specs.Trees.{tree}
-use Rattle.regress.specs.TableViews.{table}
-use Rattle.regress.specs.Views.{options}
+use Rattle.regress_front_sets.specs.TableViews.{table}
+use Rattle.regress_front_sets.specs.FlagWords.{options}
 
 -- no flags
 abbrev pub plain : Options

@@ -8,26 +8,18 @@ ghost use Rattle.regress_meaning.specs.Limits.{WithinLimits};
 ghost use Rattle.regress_meaning.specs.Matches.{match_list};
 ghost use Rattle.regress_meaning.specs.Offsets.{of_utf8, told, Begins};
 ghost use Rattle.regress.specs.Trees.{tree};
-ghost use Rattle.regress.specs.TableViews.{table};
-ghost use Rattle.regress.specs.Views.{options, item_of};
+ghost use Rattle.regress_front_sets.specs.TableViews.{table};
+ghost use Rattle.regress.specs.Views.{item_of};
+ghost use Rattle.regress_front_sets.specs.FlagWords.{options};
 ghost use Rattle.regress.specs.Refusing.{MayRefuse};
 
 use crate::engine::found::Match;
 use crate::engine::matches::Matches;
 use crate::engine::text::Text;
-use crate::front::error::Error;
-use crate::front::flags::Flags;
 use crate::front::parser::{NOT_IN_STAGE, Parser};
 use crate::front::syntax::Syntax;
-use crate::front::tables::Tables;
+use regress_front_sets::{Error, Flags, Tables};
 use std::alloc::Global;
-
-/// Whether all numbers are code points, at most 10FFFF.
-pub fn are_code_points(points: &[u32]) -> bool
-    ensures { IsTrue result ↔ All (λ c. c ≤ 0x10_FFFF) points.now }
-{
-    points.iter().all(|c| *c <= 0x10_FFFF)
-}
 
 /// Whether a search in `text` may begin at `start`, an offset in bytes: at a boundary between characters, or past the end.
 pub fn is_start(text: &str, start: usize) -> bool
@@ -166,12 +158,6 @@ mod tests {
             ranges.push(found?.range())?;
         }
         Ok(ranges)
-    }
-
-    #[test]
-    fn code_points_are_at_most_ten_ffff(rt: HostRuntime) {
-        assert!(rt; are_code_points([0x61, 0xD800, 0x10_FFFF].as_slice()));
-        assert!(rt; !are_code_points([0x61, 0x11_0000].as_slice()));
     }
 
     #[test]

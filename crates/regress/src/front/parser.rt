@@ -6,8 +6,8 @@ ghost use Rattle.regress_meaning.specs.Grammar.{ends_alternative};
 ghost use Rattle.regress_meaning.specs.Reading.{disjunction_at, alternative_at, term_at};
 ghost use Rattle.regress.specs.Quantifiers.{quantifier_of};
 
-use crate::front::error::Error;
 use crate::front::syntax::{CaptureGroupID, Quantifier, Syntax};
+use regress_front_sets::Error;
 use std::alloc::Global;
 
 /// How many parentheses may be open at once.

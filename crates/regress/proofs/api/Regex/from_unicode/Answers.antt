@@ -1,8 +1,8 @@
 use Rattle.std.proofs.Common.{refl}
 use Rattle.std.proofs.lemmas.Result.{err_from_is_err_and}
 use Rattle.regress.specs.Trees.{tree}
-use Rattle.regress.specs.TableViews.{table}
-use Rattle.regress.specs.Views.{options}
+use Rattle.regress_front_sets.specs.TableViews.{table}
+use Rattle.regress_front_sets.specs.FlagWords.{options}
 use Rattle.regress.proofs.api.Regex.from_unicode.Goals as goal
 
 pub returns-in_err-syntax-clause-refused : goal.returns-in_err-syntax-clause-refused

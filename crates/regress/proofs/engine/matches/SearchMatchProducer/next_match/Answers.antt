@@ -3,9 +3,10 @@ use Rattle.std.proofs.lemmas.Option.{IfSome_then}
 use Rattle.regress_meaning.specs.Matches.{Item, first_match, match_list, next_place}
 use Rattle.regress_meaning.specs.Offsets.{offset, told}
 use Rattle.regress.specs.Trees.{tree}
-use Rattle.regress.specs.TableViews.{table}
+use Rattle.regress_front_sets.specs.TableViews.{table}
 use Rattle.regress.specs.TextViews.{utf8_reading}
-use Rattle.regress.specs.Views.{options, item_of}
+use Rattle.regress.specs.Views.{item_of}
+use Rattle.regress_front_sets.specs.FlagWords.{options}
 use Rattle.regress.specs.Iterating.{coming_on}
 use Rattle.regress.specs.Coming.{items_from}
 use Rattle.regress.proofs.TextLemmas.{offset-le}

@@ -1,0 +1,7 @@
+-- Where a pattern is read.
+use Rattle.std.specs.Prelude.{ℕ, List, drop}
+use Rattle.regress_front_syntax.specs.declared.cursor.Cursor.{Cursor}
+
+-- what is still to be read
+abbrev pub unread : Cursor → List ℕ
+unread c = drop c.position c.points.now

@@ -1,0 +1,7 @@
+//! From a pattern's text to its syntax tree: the parser, and the values that it makes.
+#![tactic(auto)]
+
+mod cursor;
+mod syntax;
+
+pub use syntax::{Class, Modifiers, Quantifier, Syntax};

@@ -1,0 +1,111 @@
+//! The syntax tree of a pattern, as the parser makes it.
+
+use regress_front_sets::CodePoint;
+use std::ops::Range;
+
+/// How often something is matched one after another ("Quantifier").
+#[derive(Debug, Clone, Copy, Drop)]
+pub struct Quantifier {
+    /// At least so often.
+    pub min: usize,
+    /// At most so often; `None` for any number of times.
+    pub max: Option<usize>,
+    /// Whether more is preferred to less.
+    pub greedy: bool,
+}
+
+/// What modifiers switch on, or off ("RegularExpressionModifiers").
+#[derive(Debug, Clone, Copy, Drop)]
+pub struct Modifiers {
+    /// `i`: case is ignored.
+    pub icase: bool,
+    /// `m`: `^` and `$` also stand at line terminators.
+    pub multiline: bool,
+    /// `s`: `.` is any character, line terminators too.
+    pub dot_all: bool,
+}
+
+/// What stands between the brackets of a class, or for a class escape ("CharacterClass", "ClassSetExpression").
+#[derive(Debug, Drop)]
+pub enum Class {
+    /// The code points from one to another; a single one is a range of one.
+    Range { first: CodePoint, last: CodePoint },
+    /// `\d`
+    Digits,
+    /// `\s`
+    Spaces,
+    /// `\w`
+    Words,
+    /// A property of code points, by its key.
+    Property(Vec<CodePoint>),
+    /// A property of strings, by its key.
+    Sequences(Vec<CodePoint>),
+    /// `\q{..}`
+    Strings(Vec<Vec<CodePoint>>),
+    /// Members side by side.
+    Union(Vec<Class>),
+    /// What stands in both.
+    Intersection(Box<Class>, Box<Class>),
+    /// What stands in the first alone.
+    Difference(Box<Class>, Box<Class>),
+    /// `\D`, `\S`, `\W`, `\P{..}`
+    Complement(Box<Class>),
+    /// `[..]` and `[^..]` inside a class.
+    Nested { negated: bool, contents: Box<Class> },
+}
+
+/// The tree of a pattern ("Patterns").
+#[derive(Debug, Drop)]
+pub enum Syntax {
+    /// One code point.
+    Character(CodePoint),
+    /// `.`
+    Any,
+    /// `[..]` and `[^..]`
+    Class {
+        negated: bool,
+        class: Class,
+    },
+    /// `\d`, `\P{..}` and their like, outside a class.
+    ClassEscape(Class),
+    /// Terms one after another.
+    Alternative(Vec<Syntax>),
+    /// Alternatives, at least one.
+    Disjunction(Vec<Syntax>),
+    /// A capturing group: its number from 0, its name as code points, empty where it has none, and its contents.
+    Capture {
+        id: u16,
+        name: Vec<CodePoint>,
+        contents: Box<Syntax>,
+    },
+    /// `(?:..)`
+    Group(Box<Syntax>),
+    /// `(?i-m:..)`
+    Modified {
+        on: Modifiers,
+        off: Modifiers,
+        contents: Box<Syntax>,
+    },
+    /// What is repeated, how often, and the numbers of the groups inside: from the first up to the one behind the last.
+    Loop {
+        loopee: Box<Syntax>,
+        quant: Quantifier,
+        enclosed_groups: Range<u16>,
+    },
+    /// `(?=..)`, `(?!..)`, `(?<=..)`, `(?<!..)`
+    Look {
+        negated: bool,
+        backward: bool,
+        contents: Box<Syntax>,
+    },
+    /// To groups by their numbers from 0: one, or those of a name.
+    Reference(Vec<u16>),
+    /// `^`
+    LineStart,
+    /// `$`
+    LineEnd,
+    /// `\b` and `\B`
+    WordBoundary {
+        negated: bool,
+    },
+}
