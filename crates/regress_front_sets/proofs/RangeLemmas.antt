@@ -105,7 +105,7 @@ least_past-told (x ∷ xs) =
       | inr q ↦ (q.0, Contains-append_right (x ∷ []) xs c q.1)
     ] in
     let from : (c : ℕ) → IsPast (x ∷ xs) c → P c = λ c past.
-        elim (Contains-append_cases (x ∷ []) xs c past.1) [ inl p ↦ inl (past.0, p) | inr q ↦ inr (past.0, q) ] in
+    elim (Contains-append_cases (x ∷ []) xs c past.1) [ inl p ↦ inl (past.0, p) | inr q ↦ inr (past.0, q) ] in
     rw (least_past-append (x ∷ []) xs)
     (NoneOrLeast-same P (IsPast (x ∷ xs)) to from (lesser (least_past (x ∷ [])) (least_past xs))
     (NoneOrLeast-either _ _ (least_past (x ∷ [])) (least_past xs) (least_past-one x) (least_past-told xs)))

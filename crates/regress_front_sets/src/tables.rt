@@ -125,7 +125,10 @@ impl Tables {
 }
 
 /// The properties, with a set for each list of intervals.
-fn property_sets(alloc: Global, properties: Vec<(String, Vec<Interval>)>) -> Result<Vec<(String, CodePointSet)>, AllocError>
+fn property_sets(
+    alloc: Global,
+    properties: Vec<(String, Vec<Interval>)>,
+) -> Result<Vec<(String, CodePointSet)>, AllocError>
     requires { All (λ e. IntervalsRise (ends_of e.1.items)) properties.items }
     ensures { IfOk result (λ sets. map (entry_of ends_in) sets.items ≡ map (entry_of (λ v. ends_of v.items)) properties.items) }
 {
@@ -139,10 +142,7 @@ fn property_sets(alloc: Global, properties: Vec<(String, Vec<Interval>)>) -> Res
 fn entry<'a, T>(entries: &'a [(String, T)], key: &str) -> Option<&'a T>
     ensures { option_copied result ≡ entry (chars key.now) (map (entry_of (λ v. v)) entries.now) }
 {
-    entries
-        .iter()
-        .find(|e| e.0.as_str() == key)
-        .map(|e| &e.1)
+    entries.iter().find(|e| e.0.as_str() == key).map(|e| &e.1)
 }
 
 #[cfg(test)]
@@ -152,9 +152,15 @@ mod tests {
     use std::test::Fail;
 
     /// Whether exactly this is told of the parts.
-    fn is_told(alloc: Global, parts: TableParts, expected: TableLaw, expected_code_point: CodePoint) -> bool {
+    fn is_told(
+        alloc: Global,
+        parts: TableParts,
+        expected: TableLaw,
+        expected_code_point: CodePoint,
+    ) -> bool {
         match Tables::new(alloc, parts) {
-            Err(TableError::Broken { law, code_point }) => law == expected && code_point == expected_code_point,
+            Err(TableError::Broken { law, code_point }) => law == expected
+                && code_point == expected_code_point,
             _ => false,
         }
     }
@@ -189,7 +195,9 @@ mod tests {
         assert!(rt; digits.contains(0x66));
         assert!(rt; !digits.contains(0x67));
         assert!(rt; tables.property("ASCII_Hex").is_none());
-        let keycaps = tables.sequences("Emoji_Keycap_Sequence").ok_or("no keycaps")?;
+        let keycaps = tables
+            .sequences("Emoji_Keycap_Sequence")
+            .ok_or("no keycaps")?;
         assert_eq!(rt; keycaps.len(), 12);
         let last = keycaps.last().ok_or("no keycap")?;
         assert_eq!(rt; last.as_slice(), [0x39, 0xFE0F, 0x20E3].as_slice());
@@ -223,7 +231,13 @@ mod tests {
         assert!(rt; is_told(rt.alloc(), parts, TableLaw::Canonical, 0x41));
 
         let mut parts = TableParts::small(rt.alloc())?;
-        parts.id_start.insert(0, Interval { first: 0x24, last: 0x24 })?;
+        parts.id_start.insert(
+            0,
+            Interval {
+                first: 0x24,
+                last: 0x24,
+            },
+        )?;
         assert!(rt; is_told(rt.alloc(), parts, TableLaw::Identifier, 0x24));
         Ok(())
     }
@@ -235,12 +249,19 @@ mod tests {
         assert!(rt; is_told(rt.alloc(), parts, TableLaw::AsciiCase, 0x41));
 
         let mut parts = TableParts::small(rt.alloc())?;
-        parts.fold.extend_from_slice(&[(0x100, 0x101), (0x101, 0x102)])?;
+        parts
+            .fold
+            .extend_from_slice(&[(0x100, 0x101), (0x101, 0x102)])?;
         parts.fold.sort_unstable();
         assert!(rt; is_told(rt.alloc(), parts, TableLaw::Idempotent, 0x100));
 
         let mut parts = TableParts::small(rt.alloc())?;
-        parts.fold.extend_from_slice(&[(0x201, 0x200), (0x202, 0x200), (0x203, 0x200), (0x204, 0x200)])?;
+        parts.fold.extend_from_slice(&[
+            (0x201, 0x200),
+            (0x202, 0x200),
+            (0x203, 0x200),
+            (0x204, 0x200),
+        ])?;
         parts.fold.sort_unstable();
         assert!(rt; is_told(rt.alloc(), parts, TableLaw::ClassSize, 0x200));
 

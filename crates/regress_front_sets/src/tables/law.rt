@@ -105,14 +105,62 @@ mod tests {
 
     #[test]
     fn each_law_has_its_text(rt: HostRuntime) -> Result<(), Fail> {
-        assert!(rt; is_written(rt.alloc(), TableLaw::Range, "the table has a number past the last code point")?);
-        assert!(rt; is_written(rt.alloc(), TableLaw::Order, "the table's pairs are out of order")?);
-        assert!(rt; is_written(rt.alloc(), TableLaw::AsciiCase, "the table's case of ASCII is wrong")?);
-        assert!(rt; is_written(rt.alloc(), TableLaw::Idempotent, "the table maps a code point twice")?);
-        assert!(rt; is_written(rt.alloc(), TableLaw::ClassSize, "the table maps too many code points to one")?);
-        assert!(rt; is_written(rt.alloc(), TableLaw::Surrogate, "the table maps a code point to a surrogate")?);
-        assert!(rt; is_written(rt.alloc(), TableLaw::Canonical, "the table's intervals are out of order")?);
-        assert!(rt; is_written(rt.alloc(), TableLaw::Identifier, "the table's identifiers have a wrong code point")?);
+        assert!(rt;
+            is_written(
+                rt.alloc(),
+                TableLaw::Range,
+                "the table has a number past the last code point"
+            )?
+        );
+        assert!(rt;
+            is_written(
+                rt.alloc(),
+                TableLaw::Order,
+                "the table's pairs are out of order"
+            )?
+        );
+        assert!(rt;
+            is_written(
+                rt.alloc(),
+                TableLaw::AsciiCase,
+                "the table's case of ASCII is wrong"
+            )?
+        );
+        assert!(rt;
+            is_written(
+                rt.alloc(),
+                TableLaw::Idempotent,
+                "the table maps a code point twice"
+            )?
+        );
+        assert!(rt;
+            is_written(
+                rt.alloc(),
+                TableLaw::ClassSize,
+                "the table maps too many code points to one"
+            )?
+        );
+        assert!(rt;
+            is_written(
+                rt.alloc(),
+                TableLaw::Surrogate,
+                "the table maps a code point to a surrogate"
+            )?
+        );
+        assert!(rt;
+            is_written(
+                rt.alloc(),
+                TableLaw::Canonical,
+                "the table's intervals are out of order"
+            )?
+        );
+        assert!(rt;
+            is_written(
+                rt.alloc(),
+                TableLaw::Identifier,
+                "the table's identifiers have a wrong code point"
+            )?
+        );
         Ok(())
     }
 
