@@ -1,5 +1,4 @@
-use Rattle.std.proofs.Common.{◌≡◌, ◌⊎◌, ℕ, ◌≤◌, Bool, true, false, ◌||◌, ◌∙◌, Some, slice_get, sym, ap, arith, inl, inr, refl}
-use Rattle.regress_meaning.specs.Text.{between}
+use Rattle.std.proofs.Common.{◌≡◌, ℕ, true, ◌||◌, ◌∙◌, Some, sym, ap, arith}
 use Rattle.regress_front_bytes.specs.Bitmaps.{byte_bitmap_contains}
 use Rattle.regress_front_sets.specs.declared.interval.Interval.{Interval}
 use Rattle.regress_front_sets.specs.FirstBytes.{BeginsSome, begins_between}
