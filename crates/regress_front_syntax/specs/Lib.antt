@@ -1,2 +1,4 @@
 pub mod Cursors
+pub mod Readings
 pub mod Trees
+pub mod Words

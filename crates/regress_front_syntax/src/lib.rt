@@ -2,6 +2,7 @@
 #![tactic(auto)]
 
 mod cursor;
+mod numbers;
 mod syntax;
 
 pub use syntax::{Class, Modifiers, Quantifier, Syntax};
