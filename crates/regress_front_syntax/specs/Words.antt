@@ -1,5 +1,6 @@
 -- The words of a pattern, as the parser's values hold them.
-use Rattle.std.specs.Prelude.{ℕ, Bool, Option, min, unwrap_or, option_map, option_and_then}
+use Rattle.std.specs.Prelude.{ℕ, Bool, List, ◌∷◌, ◌++◌, Option, Some, None, min, unwrap_or, option_map, option_and_then}
+use denote.Ref.{Bor}
 use Rattle.regress_meaning.specs.Tokens.{Reads, Bounds, decimal_at, braced_end, bounds_at, greatest}
 use Rattle.regress_meaning.specs.Grammar.{greedy_at, after_mark}
 use Rattle.regress_front_syntax.specs.declared.syntax.Quantifier.{Quantifier}
@@ -24,3 +25,8 @@ quantifier_at t = option_map (λ (b, r). ((b, greedy_at r), after_mark r)) (boun
 -- the bounds of a quantifier, and whether it is greedy
 abbrev pub quantifier_view : Quantifier → Bounds × Bool
 quantifier_view q = (record { least = q.min; most = most q }, q.greedy)
+
+-- a key of a name and perhaps a value
+abbrev pub key_of : Bor (List ℕ) × Option (Bor (List ℕ)) → List ℕ
+key_of (name, None) = name.now
+key_of (name, Some value) = name.now ++ (0x3D ∷ value.now)
