@@ -16,7 +16,8 @@ pub(crate) fn is_one_of(point: CodePoint, marks: &str) -> bool
 /// How many code points at the front of a text pass the test.
 fn front_length<F: Fn(CodePoint) -> bool>(points: &[CodePoint], test: F) -> usize
     requires { F.IsAlwaysCallable test }
-    ensures { (passes : ℕ → Bool) → Tells (F.post test) passes → result ≡ prefix_len passes points.now }
+    ensures within { result ≤ length points.now }
+    ensures count { (passes : ℕ → Bool) → Tells (F.post test) passes → result ≡ prefix_len passes points.now }
 {
     points
         .iter()

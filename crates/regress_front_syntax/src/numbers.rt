@@ -1,5 +1,6 @@
 //! Numbers and quantifiers of a pattern, and escapes that write a code point by its number.
-ghost use Rattle.std.specs.Prelude.{◌≡◌, ◌≤◌, ◌==◌, true, min};
+ghost use Rattle.std.specs.Prelude.{◌≡◌, ◌≤◌, true, min, if◌then◌else◌};
+ghost use Rattle.regress_meaning.specs.Text.{is_at, between};
 ghost use Rattle.regress_meaning.specs.Class.{is_digit};
 ghost use Rattle.regress_meaning.specs.Tokens.{is_octal, is_hex, is_high, is_low, digit_value, number_of, greatest, bounds_at, hex_at, low_half, pair_at, braces_at, unicode_escape, octal_at};
 ghost use Rattle.regress_front_syntax.specs.Readings.{IsReading};
@@ -215,17 +216,23 @@ impl Cursor<'_> {
         }
     }
 
+    /// How many digits an octal escape has here at most.
+    fn most_octal_digits(&self) -> usize
+        ensures { result ≡ (if is_at (between 0x30 0x33) (unread self.now) then 3 else 2) }
+    {
+        match self.peek().and_then(char::from_u32) {
+            Some('0'..='3') => 3,
+            _ => 2,
+        }
+    }
+
     /// As many octal digits as stand here, at least one: up to three where the first is 0 to 3, and else up to two
     /// ("LegacyOctalEscapeSequence").
     pub(crate) fn octal(&mut self) -> Option<CodePoint>
         ensures read { IsReading (λ c. c) octal_at (unread self.old) result (unread self.new) }
         ensures kept { SameText self.old self.new }
     {
-        let most = match self.peek().and_then(char::from_u32) {
-            Some('0'..='3') => 3,
-            _ => 2,
-        };
-        let digits = self.take_up_to(most, is_octal_digit);
+        let digits = self.take_up_to(self.most_octal_digits(), is_octal_digit);
         if digits.is_empty() {
             return None;
         }
