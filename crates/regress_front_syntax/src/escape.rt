@@ -1,6 +1,6 @@
 //! Escapes of a pattern: what stands behind a backslash.
-ghost use Rattle.std.specs.Prelude.{◌≡◌, ℕ, ◌==◌, Bool, true, All, IfOk, IfErr, option_map, chars};
-ghost use Rattle.std.specs.Char.{IsScalar};
+ghost use Rattle.std.specs.Prelude.{◌≡◌, ℕ, ◌==◌, Bool, true, nat_lt, IfOk, IfErr, option_map, chars};
+ghost use Rattle.std.specs.List.{list_all};
 ghost use Rattle.std.specs.String.{string_bytes};
 ghost use Rattle.regress_meaning.specs.Text.{◌∈◌, is_at};
 ghost use Rattle.regress_meaning.specs.Class.{is_digit, is_letter};
@@ -12,7 +12,6 @@ ghost use Rattle.regress_front_syntax.specs.Trees.{class_view};
 use crate::cursor::{Cursor, is_one_of};
 use crate::mode::{Mode, groups_of_name};
 use crate::names::is_ascii_word;
-use crate::numbers::is_decimal_digit;
 use crate::syntax::Class;
 use regress_front_sets::{CodePoint, Error};
 use std::alloc::Global;
@@ -70,11 +69,16 @@ fn class_letter(alloc: Global, letter: CodePoint) -> Result<Option<Class>, Error
 
 /// The text of a key, for a look-up in tables. `OutOfMemory` is the only error.
 fn key_text(alloc: Global, key: &[CodePoint]) -> Result<String, Error>
-    ensures ok { IfOk result (λ text. All IsScalar key.now → chars (string_bytes text) ≡ key.now) }
+    ensures ok { IfOk result (λ text. list_all (λ c. nat_lt c 0x80) key.now ≡ true → chars (string_bytes text) ≡ key.now) }
     ensures err { IfErr result (λ e. e ≡ Error.OutOfMemory) }
 {
-    let points = key.iter().filter_map(|point| char::from_u32(*point));
-    Ok(points.collect(alloc)?)
+    let mut text = String::new(alloc);
+    for point in key {
+        if let Some(letter) = char::from_u32(*point) {
+            text.push(letter)?;
+        }
+    }
+    Ok(text)
 }
 
 impl Cursor<'_> {
@@ -126,7 +130,7 @@ impl Cursor<'_> {
                 *self = ahead;
                 Ok(Escape::Point(letter))
             }
-            Some('c') if !mode.unicode && ahead.peek().is_some_and(is_ascii_word) => {
+            Some('c') if !mode.unicode && ahead.is_at_word() => {
                 *self = ahead;
                 self.control_letter(is_ascii_word)
                     .map(Escape::Point)
@@ -149,7 +153,12 @@ impl Cursor<'_> {
             → IsReading (λ c. point c) (control_letter passes) (unread self.old) result (unread self.new) }
         ensures kept { SameText self.old self.new }
     {
-        let letter = self.take_up_to(1, test).first()?;
+        let mut ahead = *self;
+        let letter = ahead.next()?;
+        if !test(letter) {
+            return None;
+        }
+        *self = ahead;
         Some(letter % 32)
     }
 
@@ -184,7 +193,7 @@ impl Cursor<'_> {
         if !ahead.eat('0') {
             return self.decimal_escape(alloc, mode);
         }
-        if ahead.peek().is_some_and(is_decimal_digit) {
+        if ahead.is_at_digit() {
             return self.octal_or_digit(mode);
         }
         *self = ahead;
@@ -291,7 +300,12 @@ impl Cursor<'_> {
         ensures kept { SameText self.old self.new }
     {
         let mut ahead = *self;
-        if let Some(number) = ahead.decimal() && number <= mode.names.len() {
+        let Some(number) = ahead.decimal() else {
+            return Err(Error::Syntax {
+                text: INVALID_ESCAPE,
+            });
+        };
+        if number <= mode.names.len() {
             *self = ahead;
             return Ok(Escape::Groups(vec![in alloc; number.saturating_sub(1) as u16]?));
         }
@@ -311,9 +325,12 @@ impl Cursor<'_> {
         if let Some(point) = self.octal() {
             return Ok(Escape::Point(point));
         }
-        self.next().map(Escape::Point).ok_or(Error::Syntax {
-            text: INVALID_ESCAPE,
-        })
+        match self.next() {
+            Some(point) => Ok(Escape::Point(point)),
+            None => Err(Error::Syntax {
+                text: INVALID_ESCAPE,
+            }),
+        }
     }
 
     /// The code point itself; in Unicode mode only a syntax character ("IdentityEscape").

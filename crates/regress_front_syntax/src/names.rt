@@ -1,5 +1,6 @@
 //! Names of groups, and keys of properties.
 ghost use Rattle.std.specs.Prelude.{◌≡◌};
+ghost use Rattle.regress_meaning.specs.Text.{is_at};
 ghost use Rattle.regress_meaning.specs.Tokens.{name_point, name_at, key_at};
 ghost use Rattle.regress_meaning.specs.Class.{is_ascii_word};
 ghost use Rattle.regress_front_sets.specs.TableViews.{table};
@@ -23,6 +24,13 @@ pub(crate) fn is_ascii_word(point: CodePoint) -> bool
 
 impl<'p> Cursor<'p> {
     ghost use Rattle.regress_front_syntax.specs.Cursors.{unread, SameText};
+
+    /// Whether the next code point is an ASCII letter, a digit or `_`.
+    pub(crate) fn is_at_word(&self) -> bool
+        ensures { result ≡ is_at is_ascii_word (unread self.now) }
+    {
+        self.peek().is_some_and(is_ascii_word)
+    }
 
     /// One code point of a group's name, as it stands or as `\u..`.
     fn name_point(&mut self) -> Option<CodePoint>

@@ -11,7 +11,7 @@ use crate::syntax::Quantifier;
 use regress_front_sets::{CODE_POINT_MAX, CodePoint};
 
 /// Whether the code point is a decimal digit.
-pub(crate) fn is_decimal_digit(point: CodePoint) -> bool
+fn is_decimal_digit(point: CodePoint) -> bool
     ensures { result ≡ is_digit point }
 {
     matches!(char::from_u32(point), Some('0'..='9'))
@@ -73,6 +73,13 @@ fn number_of(radix: usize, digits: &[CodePoint]) -> usize
 
 impl Cursor<'_> {
     ghost use Rattle.regress_front_syntax.specs.Cursors.{unread, SameText};
+
+    /// Whether the next code point is a decimal digit.
+    pub(crate) fn is_at_digit(&self) -> bool
+        ensures { result ≡ is_at is_digit (unread self.now) }
+    {
+        self.peek().is_some_and(is_decimal_digit)
+    }
 
     /// Decimal digits, at least one, as a number, which stops at the greatest `usize` ("DecimalDigits").
     pub(crate) fn decimal(&mut self) -> Option<usize>

@@ -1,0 +1,198 @@
+-- What an escape is, by the code points that it begins with.
+use Rattle.std.proofs.Common.{◌≡◌, ℕ, zero, suc, ◌+◌, ◌-◌, ◌%◌, ◌<◌, ◌≤◌, ◌==◌, ◌||◌, ◌&&◌, not, Bool, true, false, nat_lt, nat_le, nat_eq, min, List, [], ◌∷◌, ◌++◌, length, drop, Option, Some, None, Result, Ok, Err, is_some, refl, sym, ap, subst, ◌∙◌, ◌⊎◌, inl, inr, arith, eqb-true, eq-eqb}
+use Rattle.std.specs.Prelude.{if◌then◌else◌, option_map, option_and_then}
+use Rattle.std.specs.Option.{option_or}
+use Rattle.std.specs.List.{list_all}
+use Rattle.std.proofs.lemmas.Bool.{ne_eqb, cond_both, or_cases, and_parts, cases_Bool, lt-ltb}
+use Rattle.std.proofs.lemmas.List.{length-map}
+use Rattle.std.proofs.lemmas.Option.{some_pair_parts}
+use Rattle.std.proofs.lemmas.Bool.Decides.{nat_tests}
+use Rattle.regress_meaning.specs.Text.{◌∈◌, is_at, span, span_up_to, between}
+use Rattle.regress_meaning.specs.Class.{Class, property, complement, is_digit, is_letter, is_ascii_word}
+use Rattle.regress_meaning.specs.Tokens.{Mode, Reads, Escape, point, set, groups, guard, as_point, is_octal, greatest, class_letter, control, control_letter, hex_at, unicode_escape, octal_at, decimal_at, key_at, property_of, property_at, named_reference, octal_or_digit, decimal_escape, identity, escape_at, class_escape_at}
+use Rattle.regress_meaning.proofs.Inversion.{is_at-eq, option-cases}
+use Rattle.regress_meaning.proofs.ScanWords.{differs}
+use Rattle.regress_front_sets.specs.declared.error.Error.{Error}
+use Rattle.regress_front_sets.specs.declared.error.Error.TheVariants.{Syntax, TooDeep, TooManyGroups, TooManyLoops, TooLarge, OutOfMemory}
+use Rattle.regress_front_syntax.specs.Readings.{IsNext, IsReading, IsRead}
+use Rattle.regress_front_syntax.specs.Escapes.{from_first, mode_view}
+use Rattle.regress_front_syntax.specs.declared.mode.Mode as declared
+use Rattle.regress_front_syntax.specs.Words.{count_at}
+
+-- the same is read by a definition that is the same there
+pub IsRead-same : {A B : Type 0} (view : A → B) (reads others : Reads B) (t : List ℕ) (r : Result A Error) (rest : List ℕ) → reads t ≡ others t → IsRead view others t r rest → IsRead view reads t r rest
+IsRead-same view reads others t (Ok x) rest e h = e ∙ h
+IsRead-same view reads others t (Err (Syntax message)) rest e h = e ∙ h
+IsRead-same view reads others t (Err OutOfMemory) rest e h = tt
+IsRead-same view reads others t (Err TooDeep) rest e h = h
+IsRead-same view reads others t (Err TooManyGroups) rest e h = h
+IsRead-same view reads others t (Err TooManyLoops) rest e h = h
+IsRead-same view reads others t (Err TooLarge) rest e h = h
+
+pub reading-some : {A B : Type 0} (view : A → B) (reads : Reads B) (t : List ℕ) {o : Option A} (x : A) (rest : List ℕ) → o ≡ Some x → IsReading view reads t o rest → reads t ≡ Some (view x, rest)
+reading-some view reads t x rest e h = subst (λ o. IsReading view reads t o rest) e h
+
+pub reading-none : {A B : Type 0} (view : A → B) (reads : Reads B) (t : List ℕ) {o : Option A} (rest : List ℕ) → o ≡ None → IsReading view reads t o rest → (reads t ≡ None) × (rest ≡ t)
+reading-none view reads t rest e h = subst (λ o. IsReading view reads t o rest) e h
+
+-- behind the next code point
+pub next-drop : (t : List ℕ) (o : Option ℕ) (rest : List ℕ) → IsNext t o rest → rest ≡ drop 1 t
+next-drop t None rest h = rw (h.0, h.1) refl
+next-drop t (Some c) rest h = rw h refl
+
+-- a digit and a code point that is none
+not_letter : (c d : ℕ) → is_digit c ≡ true → is_digit d ≡ false → (c == d) ≡ false
+not_letter c d h e = (differs is_digit c d (h ∙ ap not (sym e))).0
+
+-- an octal number begins with an octal digit
+front-none : (n : ℕ) (test : ℕ → Bool) (c : ℕ) (t : List ℕ) → test c ≡ false → span_up_to n test (c ∷ t) ≡ ([], c ∷ t)
+unfolding span_up_to
+front-none zero test c t h = refl
+front-none (suc n) test c t h = rw h refl
+
+front-some : (n : ℕ) (test : ℕ → Bool) (c : ℕ) (t : List ℕ) → test c ≡ true → nat_lt 0 (length (span_up_to (suc n) test (c ∷ t)).0) ≡ true
+unfolding span_up_to
+front-some n test c t h = rw h (lt-ltb 0 _ (omega arith))
+
+octal_at-nothing : octal_at [] ≡ None
+unfolding octal_at span_up_to
+octal_at-nothing = refl
+
+octal_at-other : (c : ℕ) (t : List ℕ) → is_octal c ≡ false → octal_at (c ∷ t) ≡ None
+unfolding octal_at
+octal_at-other c t h = rw (front-none _ is_octal c t h) refl
+
+octal_length-some : (b : Bool) (c : ℕ) (t : List ℕ) → is_octal c ≡ true → nat_lt 0 (length (span_up_to (if b then 3 else 2) is_octal (c ∷ t)).0) ≡ true
+octal_length-some true c t h = front-some 2 is_octal c t h
+octal_length-some false c t h = front-some 1 is_octal c t h
+
+octal_at-digit : (c : ℕ) (t : List ℕ) → is_octal c ≡ true → octal_at (c ∷ t) ≡ None → ⊥
+unfolding octal_at
+octal_at-digit c t h e = let clash = rw (octal_length-some (between 0x30 0x33 c) c t h) at e in cc
+
+-- a number that is counted, as it stands there
+counted : (o : Option (ℕ × List ℕ)) {k : ℕ} {r : List ℕ} → option_map {U = ℕ × List ℕ} (λ (n, s). (min n greatest, s)) o ≡ Some (k, r) → (n : ℕ) × (o ≡ Some (n, r)) × (k ≡ min n greatest)
+counted None e = cc
+counted (Some (n, s)) e = let parts = some_pair_parts _ _ _ _ e in (n, ap (λ x. Some (n, x)) parts.1, sym parts.0)
+
+count-some : (t : List ℕ) {k : ℕ} {r : List ℕ} → count_at t ≡ Some (k, r) → (n : ℕ) × (decimal_at t ≡ Some (n, r)) × (k ≡ min n greatest)
+count-some t e = counted (decimal_at t) e
+
+count-small : (t : List ℕ) {k : ℕ} {r : List ℕ} → count_at t ≡ Some (k, r) → k ≤ 65535 → decimal_at t ≡ Some (k, r)
+count-small t {k} {r} e h =
+    let is = count-some t e in
+    let same : is.0 ≡ k = omega (arith, is.2) in
+    subst (λ n. decimal_at t ≡ Some (n, r)) same is.1
+
+count-none : (t : List ℕ) → count_at t ≡ None → decimal_at t ≡ None
+count-none t e = elim (option-cases (decimal_at t)) [ inl none ↦ none | inr some ↦ let clash = rw some.1 at e in cc ]
+
+count-clash : (t : List ℕ) {x : ℕ × List ℕ} → count_at t ≡ Some x → decimal_at t ≡ None → ⊥
+count-clash t e none = let clash = rw none at e in cc
+
+decimal_at-nothing : decimal_at [] ≡ None
+unfolding decimal_at span
+decimal_at-nothing = refl
+
+-- a control letter, by the next code point
+pub control_letter-none : (test : ℕ → Bool) (t : List ℕ) → t ≡ [] → control_letter test t ≡ None
+control_letter-none test t e = rw e refl
+
+pub control_letter-is : (test : ℕ → Bool) (t : List ℕ) (c : ℕ) (r : List ℕ) → t ≡ c ∷ r → control_letter test t ≡ guard (test c) (Some (point (c % 32), r))
+control_letter-is test t c r e = rw e refl
+
+-- each group has a name, which may be empty
+pub length-names : (mode : declared.Mode) → length (mode_view mode).names ≡ length mode.names.items
+length-names mode = length-map _ _
+
+module _ (m : Mode) where
+  pub escape_at-control : (t : List ℕ) → is_at (λ c. c == 0x63) t ≡ true → escape_at m t ≡ option_or (control_letter is_letter (drop 1 t)) (guard (not m.unicode) (Some (point 0x5C, t)))
+  unfolding escape_at
+  escape_at-control t h = let found = is_at-eq 0x63 t h in rw found.1 refl
+
+  pub escape_at-zero : (t : List ℕ) → true ≡ is_at (λ c. c == 0x30) t → escape_at m t ≡ (if is_at is_digit (drop 1 t) then from_first (octal_or_digit m) t else Some (point 0, drop 1 t))
+  unfolding escape_at
+  escape_at-zero t h = let found = is_at-eq 0x30 t (sym h) in rw found.1 refl
+
+  pub escape_at-digit : (t : List ℕ) → is_at is_digit t ≡ true → false ≡ is_at (λ c. c == 0x30) t → escape_at m t ≡ from_first (decimal_escape m) t
+  unfolding escape_at
+  escape_at-digit [] h k = cc
+  escape_at-digit (c ∷ t) h k =
+      rw (not_letter c 0x64 h refl, not_letter c 0x44 h refl, not_letter c 0x73 h refl, not_letter c 0x53 h refl, not_letter c 0x77 h refl, not_letter c 0x57 h refl,
+      not_letter c 0x66 h refl, not_letter c 0x6E h refl, not_letter c 0x72 h refl, not_letter c 0x74 h refl, not_letter c 0x76 h refl, not_letter c 0x63 h refl, ← k, h) refl
+
+  pub escape_at-x : (t : List ℕ) → true ≡ is_at (λ c. c == 0x78) t → escape_at m t ≡ option_or (as_point (hex_at 2 (drop 1 t))) (from_first (identity m) t)
+  unfolding escape_at
+  escape_at-x t h = let found = is_at-eq 0x78 t (sym h) in rw found.1 refl
+
+  pub escape_at-u : (t : List ℕ) → is_at (λ c. c ∈ "xu") t ≡ true → false ≡ is_at (λ c. c == 0x78) t →
+      escape_at m t ≡ option_or (as_point (if m.unicode then unicode_escape (drop 1 t) else hex_at 4 (drop 1 t))) (from_first (identity m) t)
+  unfolding escape_at
+  escape_at-u [] h k = cc
+  escape_at-u (c ∷ t) h k =
+      let letter : 0x75 ≡ c = grind (arith, nat_tests) in
+      rw (← letter) refl
+
+  pub escape_at-k : (t : List ℕ) → true ≡ is_at (λ c. c == 0x6B) t → escape_at m t ≡ (if m.named then named_reference m (drop 1 t) else Some (point 0x6B, drop 1 t))
+  unfolding escape_at
+  escape_at-k t h = let found = is_at-eq 0x6B t (sym h) in rw found.1 refl
+
+  pub escape_at-p : (t : List ℕ) → is_at (λ c. c ∈ "kpP") t ≡ true → false ≡ is_at (λ c. c == 0x6B) t →
+      escape_at m t ≡ (if m.unicode then option_map (λ (s, r). (set s, r)) (from_first (property_at m) t) else from_first (identity m) t)
+  unfolding escape_at
+  escape_at-p [] h k = cc
+  escape_at-p (c ∷ t) h k =
+      let letter : (0x70 ≡ c) ⊎ (0x50 ≡ c) = grind (arith, nat_tests) in
+      elim letter [ inl e ↦ rw (← e) refl | inr e ↦ rw (← e) refl ]
+
+  pub property_at-is : (t : List ℕ) → from_first (property_at m) t ≡ option_and_then (λ (key, r).
+      if is_at (λ c. c == 0x70) t then option_map (λ s. (s, r)) (property_of m key)
+      else guard (is_some (m.table.property key)) (Some (complement (property key), r))) (key_at (drop 1 t))
+  unfolding property_at key_at
+  property_at-is [] = refl
+  property_at-is (c ∷ t) = refl
+
+  pub octal_or_digit-unicode : (t : List ℕ) → m.unicode ≡ true → from_first (octal_or_digit m) t ≡ None
+  unfolding octal_or_digit
+  octal_or_digit-unicode [] h = refl
+  octal_or_digit-unicode (c ∷ t) h = rw h refl
+
+  pub octal_or_digit-octal : (t : List ℕ) {p : ℕ} {r : List ℕ} → m.unicode ≡ false → octal_at t ≡ Some (p, r) → from_first (octal_or_digit m) t ≡ Some (point p, r)
+  unfolding octal_or_digit
+  octal_or_digit-octal [] h e = let none = octal_at-nothing in cc
+  octal_or_digit-octal (c ∷ t) h e = elim (cases_Bool (is_octal c)) [
+    | inl octal ↦ rw (h, octal, e) refl
+    | inr other ↦ let none = octal_at-other c t other in cc
+  ]
+
+  pub octal_or_digit-digit : (t : List ℕ) (c : ℕ) (r : List ℕ) → m.unicode ≡ false → octal_at t ≡ None → t ≡ c ∷ r → from_first (octal_or_digit m) t ≡ Some (point c, r)
+  unfolding octal_or_digit
+  octal_or_digit-digit t c r h none e = elim (cases_Bool (is_octal c)) [
+    | inl octal ↦ absurd (octal_at-digit c r octal (rw e at none))
+    | inr other ↦ rw (e, h, other) refl
+  ]
+
+  -- what is no number, is none that is counted
+  pub decimal_escape-none : (t : List ℕ) → count_at t ≡ None → from_first (decimal_escape m) t ≡ None
+  unfolding decimal_escape
+  decimal_escape-none [] e = refl
+  decimal_escape-none (c ∷ t) e = rw (count-none (c ∷ t) e) refl
+
+  -- the number of a group
+  pub decimal_escape-group : (t : List ℕ) {k : ℕ} {r : List ℕ} → count_at t ≡ Some (k, r) → k ≤ length m.names → length m.names ≤ 65535 → from_first (decimal_escape m) t ≡ Some (groups ((k - 1) ∷ []), r)
+  unfolding decimal_escape
+  decimal_escape-group [] e h few = let none = decimal_at-nothing in absurd (count-clash [] e none)
+  decimal_escape-group (c ∷ t) {k = k} e h few =
+      let is = count-small (c ∷ t) e (omega arith) in
+      let there : nat_le k (length m.names) ≡ true = grind (arith, nat_tests) in
+      rw (is, there) refl
+
+  -- a number greater than that of any group
+  pub decimal_escape-other : (t : List ℕ) {k : ℕ} {r : List ℕ} → count_at t ≡ Some (k, r) → length m.names < k → from_first (decimal_escape m) t ≡ from_first (octal_or_digit m) t
+  unfolding decimal_escape
+  decimal_escape-other [] e h = refl
+  decimal_escape-other (c ∷ t) e h =
+      let is = count-some (c ∷ t) e in
+      let n = is.0 in
+      let past : nat_le n (length m.names) ≡ false = grind (arith, nat_tests) in
+      rw (is.1, past) refl
