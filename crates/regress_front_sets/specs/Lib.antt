@@ -4,5 +4,8 @@ pub mod TableViews
 pub mod Props
 pub mod Intervals
 pub mod Sets
+pub mod Entries
 pub mod Parts
+pub mod Listed
 pub mod Breaking
+pub mod Telling

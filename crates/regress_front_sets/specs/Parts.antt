@@ -1,9 +1,9 @@
 -- The lists that parts of tables hold.
-use Rattle.std.specs.Prelude.{map, chars}
-use Rattle.std.specs.String.{string_bytes}
+use Rattle.std.specs.Prelude.{map}
 use Rattle.regress_meaning.specs.TableParts as meaning
 use Rattle.regress_front_sets.specs.declared.tables.parts.TableParts.{TableParts}
 use Rattle.regress_front_sets.specs.Intervals.{ends_of}
+use Rattle.regress_front_sets.specs.Entries.{entry_of}
 
 -- the parts as plain lists
 abbrev pub parts_of : TableParts → meaning.TableParts
@@ -12,6 +12,6 @@ parts_of p = record {
   upper = p.upper.items;
   id_start = ends_of p.id_start.items;
   id_continue = ends_of p.id_continue.items;
-  properties = map (λ e. (chars (string_bytes e.0), ends_of e.1.items)) p.properties.items;
-  sequences = map (λ e. (chars (string_bytes e.0), map (λ s. s.items) e.1.items)) p.sequences.items;
+  properties = map (entry_of (λ v. ends_of v.items)) p.properties.items;
+  sequences = map (entry_of (λ v. map (λ s. s.items) v.items)) p.sequences.items;
 }

@@ -2,7 +2,7 @@
 use Rattle.std.specs.Prelude.{ℕ, List, [], ◌∷◌}
 use mathlib.Core.HLevel.{Unit-prop}
 use denote.Struct.Props as logic
-use Rattle.regress_meaning.specs.TableParts.{PairsRise, IntervalsRise}
+use Rattle.regress_meaning.specs.TableParts.{TableParts, IsLawful, PairsRise, IntervalsRise}
 
 -- pairs rise in one way
 pub PairsRise-prop : (pairs : List (ℕ × ℕ)) → IsProp (PairsRise pairs)
@@ -15,3 +15,10 @@ pub IntervalsRise-prop : (intervals : List (ℕ × ℕ)) → IsProp (IntervalsRi
 IntervalsRise-prop [] = Unit-prop
 IntervalsRise-prop (i ∷ []) = Prim.hlevel logic.props
 IntervalsRise-prop (i ∷ j ∷ intervals) = let rest = IntervalsRise-prop (j ∷ intervals) in Prim.hlevel (rest, logic.props)
+
+-- parts are lawful in one way
+pub IsLawful-prop : (parts : TableParts) → IsProp (IsLawful parts)
+IsLawful-prop parts =
+    let fold = PairsRise-prop parts.fold in
+    let upper = PairsRise-prop parts.upper in
+    Prim.hlevel (fold, upper, IntervalsRise-prop, logic.props)

@@ -1,10 +1,13 @@
 //! Sets of code points.
-ghost use Rattle.std.specs.Prelude.{◌≡◌};
+ghost use Rattle.std.specs.Prelude.{◌≡◌, ℕ, ◌+◌, ◌≤◌, ◌++◌, ◌==◌, ◌||◌, ◌&&◌, not, nat_le, [], length, All, IfOk, OnOk, OnErr, IsOkUnless};
 ghost use Rattle.regress_meaning.specs.TableParts.{IntervalsRise};
 ghost use Rattle.regress_front_sets.specs.Props.{IntervalsRise-prop};
-ghost use Rattle.regress_front_sets.specs.Intervals.{ends_of};
+ghost use Rattle.regress_front_sets.specs.Intervals.{ends, ends_of, in_interval, IsRun, gap, inverse};
 
-use crate::interval::{CodePoint, Interval};
+use crate::error::Error;
+use crate::interval::{CODE_POINT_MAX, CodePoint, Interval};
+use std::alloc::Global;
+use std::ops::Range;
 
 /// A set of code points.
 #[derive(Debug, Drop)]
@@ -15,6 +18,15 @@ pub struct CodePointSet {
 
 impl CodePointSet {
     ghost use Rattle.regress_front_sets.specs.Sets.{in_set};
+
+    /// The empty set. It takes no memory until something is added.
+    pub fn new(alloc: Global) -> CodePointSet
+        ensures { result.intervals.items ≡ [] }
+    {
+        CodePointSet {
+            intervals: Vec::new(alloc),
+        }
+    }
 
     /// The intervals of the set, from low to high, with a code point of no interval between any two.
     pub fn intervals(&self) -> &[Interval]
@@ -30,4 +42,163 @@ impl CodePointSet {
     {
         CodePointSet { intervals }
     }
+
+    /// Whether the code point is a member.
+    pub fn contains(&self, cp: CodePoint) -> bool
+        ensures { result ≡ in_set self.now cp }
+    {
+        self.intervals
+            .binary_search_by(|interval| interval.compare(cp))
+            .is_ok()
+    }
+
+    /// Adds each code point of an interval. A set that is refused memory stays as it is.
+    pub fn add(&mut self, new_iv: Interval) -> Result<(), Error>
+        ensures members { OnOk result ((c : ℕ) → in_set self.new c ≡ (in_set self.old c || in_interval new_iv c)) }
+        ensures unchanged { OnErr result (self.new.intervals.items ≡ self.old.intervals.items) }
+        ensures refused { IsOkUnless result Error.OutOfMemory }
+    {
+        let run = self.run(new_iv);
+        if run.start == run.end {
+            self.intervals.insert(run.start, new_iv)?;
+            return Ok(());
+        }
+        let first = self.intervals[run.start];
+        let last = self.intervals[run.end - 1];
+        self.intervals.drain(run.start + 1..run.end);
+        self.intervals[run.start] = first.hull(last).hull(new_iv);
+        Ok(())
+    }
+
+    /// The places of the intervals that an interval overlaps or adjoins.
+    fn run(&self, interval: Interval) -> Range<usize>
+        ensures { IsRun (ends_of self.now.intervals.items) (ends interval) result.start result.end }
+    {
+        let start = self
+            .intervals
+            .partition_point(|i| i.last + 1 < interval.first);
+        let end = self
+            .intervals
+            .partition_point(|i| i.first <= interval.last + 1);
+        start..end
+    }
+
+    /// Adds a code point. A set that is refused memory stays as it is.
+    pub fn add_one(&mut self, cp: CodePoint) -> Result<(), Error>
+        requires { cp ≤ CODE_POINT_MAX }
+        ensures members { OnOk result ((c : ℕ) → in_set self.new c ≡ (in_set self.old c || c == cp)) }
+        ensures unchanged { OnErr result (self.new.intervals.items ≡ self.old.intervals.items) }
+        ensures refused { IsOkUnless result Error.OutOfMemory }
+    {
+        self.add(Interval {
+            first: cp,
+            last: cp,
+        })
+    }
+
+    /// Adds each member of another set. A set that is refused memory stays as it is.
+    pub fn add_set(&mut self, rhs: CodePointSet) -> Result<(), Error>
+        ensures members { OnOk result ((c : ℕ) → in_set self.new c ≡ (in_set self.old c || in_set rhs c)) }
+        ensures unchanged { OnErr result (self.new.intervals.items ≡ self.old.intervals.items) }
+        ensures refused { IsOkUnless result Error.OutOfMemory }
+    {
+        let union = self.union(&rhs)?;
+        *self = union;
+        Ok(())
+    }
+
+    /// The members of either set: both are walked in order, and the lower interval of the two is taken each time.
+    fn union(&self, other: &CodePointSet) -> Result<CodePointSet, Error>
+        ensures members { IfOk result (λ s. (c : ℕ) → in_set s c ≡ (in_set self.now c || in_set other.now c)) }
+        ensures refused { IsOkUnless result Error.OutOfMemory }
+    {
+        let left = self.intervals();
+        let right = other.intervals();
+        let mut union = CodePointSet::new(*self.intervals.allocator());
+        let mut i = 0;
+        let mut j = 0;
+        while i < left.len() || j < right.len() {
+            if j == right.len() || (i < left.len() && left[i].first <= right[j].first) {
+                union.push(left[i])?;
+                i += 1;
+            } else {
+                union.push(right[j])?;
+                j += 1;
+            }
+        }
+        Ok(union)
+    }
+
+    /// Adds an interval that begins no earlier than any of the set. A set that is refused memory stays as it is.
+    fn push(&mut self, next: Interval) -> Result<(), Error>
+        requires { All (λ i. i.first ≤ next.first) self.old.intervals.items }
+        ensures members { OnOk result ((c : ℕ) → in_set self.new c ≡ (in_set self.old c || in_interval next c)) }
+        ensures order { OnOk result (All (λ i. i.first ≤ next.first) self.new.intervals.items) }
+        ensures refused { IsOkUnless result Error.OutOfMemory }
+    {
+        let len = self.intervals.len();
+        if len > 0 {
+            let last = self.intervals[len - 1];
+            if next.first <= last.last + 1 {
+                self.intervals[len - 1] = last.hull(next);
+                return Ok(());
+            }
+        }
+        self.intervals.push(next)?;
+        Ok(())
+    }
+
+    /// The code points that are no members.
+    pub fn inverted(&self) -> Result<CodePointSet, Error>
+        ensures members { IfOk result (λ s. (c : ℕ) → in_set s c ≡ (nat_le c CODE_POINT_MAX && not (in_set self.now c))) }
+        ensures intervals { IfOk result (λ s. ends_of s.intervals.items ≡ inverse (ends_of self.now.intervals.items)) }
+        ensures refused { IsOkUnless result Error.OutOfMemory }
+    {
+        let intervals = self.gaps()?;
+        Ok(CodePointSet { intervals })
+    }
+
+    /// The intervals of the code points that are no members.
+    fn gaps(&self) -> Result<Vec<Interval>, Error>
+        ensures intervals { IfOk result (λ gaps. ends_of gaps.items ≡ inverse (ends_of self.now.intervals.items)) }
+        ensures refused { IsOkUnless result Error.OutOfMemory }
+    {
+        let mut gaps = Vec::new(*self.intervals.allocator());
+        let mut next = 0;
+        for interval in &self.intervals {
+            push_gap(&mut gaps, next, interval.first)?;
+            next = interval.last + 1;
+        }
+        push_gap(&mut gaps, next, CODE_POINT_MAX + 1)?;
+        Ok(gaps)
+    }
+
+    /// How many intervals the inverted set has: one between any two of this set's, and one at each end that this set
+    /// leaves free.
+    pub fn inverted_interval_count(&self) -> usize
+        ensures { result ≡ length (inverse (ends_of self.now.intervals.items)) }
+    {
+        let len = self.intervals.len();
+        if len == 0 {
+            return 1;
+        }
+        let below = usize::from(0 < self.intervals[0].first);
+        let above = usize::from(self.intervals[len - 1].last < CODE_POINT_MAX);
+        below + (len - 1) + above
+    }
+}
+
+/// Adds the code points from one up to another, without it, as an interval, if there are any.
+fn push_gap(gaps: &mut Vec<Interval>, start: CodePoint, end: u32) -> Result<(), Error>
+    requires { end ≤ CODE_POINT_MAX + 1 }
+    ensures gap { OnOk result (ends_of gaps.new.items ≡ ends_of gaps.old.items ++ gap start end) }
+    ensures refused { IsOkUnless result Error.OutOfMemory }
+{
+    if start < end {
+        gaps.push(Interval {
+            first: start,
+            last: end - 1,
+        })?;
+    }
+    Ok(())
 }

@@ -1,5 +1,8 @@
 //! Code points, and intervals of them.
-ghost use Rattle.std.specs.Prelude.{◌≡◌, ◌≤◌};
+ghost use Rattle.std.specs.Prelude.{◌≡◌, ℕ, ◌+◌, ◌≤◌, ◌↔◌, IsTrue, min, max};
+
+use std::cmp::Ordering;
+use std::ops::Range;
 
 /// A code point, up to `CODE_POINT_MAX`.
 pub type CodePoint = u32;
@@ -19,12 +22,111 @@ pub struct Interval {
 }
 
 impl Interval {
-    ghost use Rattle.regress_front_sets.specs.Intervals.{in_interval};
+    ghost use Rattle.regress_front_sets.specs.Intervals.{in_interval, interval_cmp};
+
+    /// Where the interval lies, seen from a code point: `Less` where all of it lies before, `Equal` where it holds the
+    /// code point, `Greater` where all of it lies after.
+    pub fn compare(self, cp: CodePoint) -> Ordering
+        ensures { result ≡ interval_cmp self cp }
+    {
+        if self.last < cp {
+            Ordering::Less
+        } else if cp < self.first {
+            Ordering::Greater
+        } else {
+            Ordering::Equal
+        }
+    }
 
     /// Whether the code point lies in the interval.
     pub fn contains(self, cp: CodePoint) -> bool
         ensures { result ≡ in_interval self cp }
     {
         self.first <= cp && cp <= self.last
+    }
+
+    /// Whether some code point lies in both intervals.
+    pub fn overlaps(self, other: Interval) -> bool
+        ensures { IsTrue result ↔ ((c : ℕ) × IsTrue (in_interval self c) × IsTrue (in_interval other c)) }
+    {
+        self.first <= other.last && other.first <= self.last
+    }
+
+    /// The code points of the interval, as a range whose end is not included.
+    pub fn codepoints(self) -> Range<u32>
+        ensures start { result.start ≡ self.first }
+        ensures end { result.end ≡ self.last + 1 }
+    {
+        self.first..self.last + 1
+    }
+
+    /// How many code points lie in the interval.
+    pub fn count_codepoints(self) -> usize
+        ensures { self.first + result ≡ self.last + 1 }
+    {
+        (self.last - self.first) as usize + 1
+    }
+
+    /// The least interval that holds both.
+    pub(crate) fn hull(self, other: Interval) -> Interval
+        ensures first { result.first ≡ min self.first other.first }
+        ensures last { result.last ≡ max self.last other.last }
+    {
+        Interval {
+            first: self.first.min(other.first),
+            last: self.last.max(other.last),
+        }
+    }
+}
+
+#[cfg(test)]
+mod tests {
+    use super::*;
+    use std::test::Fail;
+
+    #[test]
+    fn an_interval_is_compared_with_code_points(rt: HostRuntime) {
+        let letters = Interval {
+            first: 97,
+            last: 122,
+        };
+        assert_eq!(rt; letters.compare(96), Ordering::Greater);
+        assert_eq!(rt; letters.compare(97), Ordering::Equal);
+        assert_eq!(rt; letters.compare(122), Ordering::Equal);
+        assert_eq!(rt; letters.compare(123), Ordering::Less);
+    }
+
+    #[test]
+    fn an_interval_holds_both_its_ends(rt: HostRuntime) {
+        let letters = Interval {
+            first: 97,
+            last: 122,
+        };
+        assert!(rt; !letters.contains(96));
+        assert!(rt; letters.contains(97));
+        assert!(rt; letters.contains(122));
+        assert!(rt; !letters.contains(123));
+    }
+
+    #[test]
+    fn intervals_overlap_where_they_share_a_code_point(rt: HostRuntime) {
+        let low = Interval { first: 1, last: 5 };
+        assert!(rt; low.overlaps(Interval { first: 5, last: 9 }));
+        assert!(rt; Interval { first: 5, last: 9 }.overlaps(low));
+        assert!(rt; !low.overlaps(Interval { first: 6, last: 9 }));
+    }
+
+    #[test]
+    fn code_points_are_listed_and_counted(rt: HostRuntime) -> Result<(), Fail> {
+        let digits = Interval {
+            first: 48,
+            last: 57,
+        };
+        let listed: Vec<u32> = digits.codepoints().collect(rt.alloc())?;
+        assert_eq!(rt; listed.len(), 10);
+        assert_eq!(rt; listed[9], 57);
+        assert_eq!(rt; digits.count_codepoints(), 10);
+        assert_eq!(rt; Interval { first: 7, last: 7 }.count_codepoints(), 1);
+        Ok(())
     }
 }

@@ -12,5 +12,5 @@ pub use error::Error;
 pub use flags::{Flags, flags_are_read_back};
 pub use interval::{CODE_POINT_MAX, CodePoint, Interval};
 pub use tables::Tables;
-pub use tables::law::{TableError, TableLaw};
+pub use tables::law::{TableError, TableLaw, lawful_parts_break_no_law};
 pub use tables::parts::TableParts;

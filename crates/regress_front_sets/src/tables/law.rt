@@ -1,5 +1,8 @@
 //! The laws of tables, and why no tables are made.
-ghost use Rattle.std.specs.Prelude.{◌≡◌, Some};
+ghost use Rattle.std.specs.Prelude.{◌≡◌, ℕ, Some};
+ghost use Rattle.regress_meaning.specs.TableParts.{TableParts, IsLawful};
+ghost use Rattle.regress_front_sets.specs.declared.tables.law.TableLaw.{TableLaw};
+ghost use Rattle.regress_front_sets.specs.Breaking.{Tells};
 
 use crate::interval::CodePoint;
 use std::alloc::AllocError;
@@ -40,6 +43,11 @@ pub enum TableError {
     /// A request for memory was refused.
     OutOfMemory,
 }
+
+/// Of lawful parts nothing is told, so no tables with such parts are refused.
+pub fn lawful_parts_break_no_law()
+    ensures { (parts : TableParts) → IsLawful parts → (law : TableLaw) → (c : ℕ) → Tells law parts c → ⊥ }
+{}
 
 impl fmt::Display for TableError {
     ghost use Rattle.regress_front_sets.specs.ErrorTexts.{table_error_text};
