@@ -21,13 +21,6 @@ use crate::front::syntax::Syntax;
 use regress_front_sets::{Error, Flags, Tables};
 use std::alloc::Global;
 
-/// Whether all numbers are code points, at most 10FFFF.
-pub fn are_code_points(points: &[u32]) -> bool
-    ensures { IsTrue result ↔ All (λ c. c ≤ 0x10_FFFF) points.now }
-{
-    points.iter().all(|c| *c <= 0x10_FFFF)
-}
-
 /// Whether a search in `text` may begin at `start`, an offset in bytes: at a boundary between characters, or past the end.
 pub fn is_start(text: &str, start: usize) -> bool
     ensures { IsTrue result ↔ ((place : ℕ) × Begins (of_utf8 text.now) start place) }
@@ -165,12 +158,6 @@ mod tests {
             ranges.push(found?.range())?;
         }
         Ok(ranges)
-    }
-
-    #[test]
-    fn code_points_are_at_most_ten_ffff(rt: HostRuntime) {
-        assert!(rt; are_code_points([0x61, 0xD800, 0x10_FFFF].as_slice()));
-        assert!(rt; !are_code_points([0x61, 0x11_0000].as_slice()));
     }
 
     #[test]

@@ -9,10 +9,11 @@ mod front;
 #[cfg(test)]
 mod rows;
 
-pub use api::{Regex, are_code_points, is_start};
+pub use api::{Regex, is_start};
 pub use engine::found::{Match, Range};
 pub use engine::groups::Groups;
 pub use engine::matches::Matches;
+pub use regress_front_bytes::are_code_points;
 pub use regress_front_sets::{
     Error, Flags, TableError, TableLaw, TableParts, Tables, flags_are_read_back,
 };

@@ -1,0 +1,4 @@
+pub mod BitRows
+pub mod Members
+pub mod Utf8Lemmas
+pub mod EqualRangeLemmas

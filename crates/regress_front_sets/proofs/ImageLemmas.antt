@@ -1,5 +1,5 @@
 -- What a map of case gives, whose pairs rise.
-use Rattle.std.proofs.Common.{◌≡◌, ◌≢◌, ℕ, zero, suc, ◌<◌, ◌≤◌, ◌⊎◌, ◌==◌, not, ◌&&◌, Bool, true, false, cond, List, [], ◌∷◌, length, get_or, All, Contains, refl, sym, ap, ◌∙◌, inl, inr, arith}
+use Rattle.std.proofs.Common.{◌≡◌, ◌≢◌, ℕ, zero, suc, ◌<◌, ◌≤◌, ◌⊎◌, ◌==◌, not, ◌&&◌, Bool, true, false, cond, List, [], ◌∷◌, length, get_or, All, Contains, refl, sym, ap, subst, ◌∙◌, inl, inr, arith}
 use Rattle.std.specs.List.Sorted.{IsNonDecreasingBy, IsPartitionPoint}
 use Rattle.std.specs.List.{HoldsAt}
 use Rattle.std.specs.Ordering.{nat_cmp, ordering_index}
@@ -69,6 +69,14 @@ image_cases (p ∷ pairs) c = go (p.0 == c) refl (image_cases pairs c)
     go true e r = inr (0, omega arith, ap (λ x. (x, p.1)) (eqb-true p.0 c e))
     go false e (inl h) = inl (All-cons (λ q. q.0 ≢ c) p pairs (eqb-false p.0 c e) h)
     go false e (inr h) = inr (suc h.0, omega (arith, h.1), h.2)
+
+-- what holds of c, and of the second part of each pair, holds of the image of c
+pub image-keeps : (P : ℕ → Type 0) (pairs : List (ℕ × ℕ)) (c : ℕ) → All (λ p. P p.1) pairs → P c → P (image pairs c)
+image-keeps P pairs c seconds own =
+    elim (image_cases pairs c) [
+      | inl unlisted ↦ subst P (sym (image-unlisted pairs c unlisted)) own
+      | inr listed ↦ All-contains (λ p. P p.1) pairs (c, image pairs c) seconds listed
+    ]
 
 -- ---- laws of one map, at its pairs
 

@@ -1,10 +1,9 @@
 -- Intervals that rise, as pairs of both ends, and the numbers that they hold.
-use Rattle.std.proofs.Common.{◌≡◌, ℕ, zero, suc, ◌+◌, ◌-◌, ◌<◌, ◌≤◌, ◌⊎◌, Bool, true, false, cond, not, ◌&&◌, ◌||◌, nat_le, nat_lt, min, max, List, [], ◌∷◌, ◌++◌, length, take, drop, get_or, refl, sym, ap, ap₂, ◌∙◌, inl, inr, arith, le_of_suc-le-suc}
-use Rattle.std.specs.List.{list_any}
+use Rattle.std.proofs.Common.{◌≡◌, ℕ, zero, suc, ◌+◌, ◌-◌, ◌<◌, ◌≤◌, ◌⊎◌, Bool, true, false, cond, not, ◌&&◌, ◌||◌, nat_le, nat_lt, min, max, List, [], ◌∷◌, ◌++◌, length, take, drop, refl, sym, ap, ap₂, ◌∙◌, inl, inr, arith, le_of_suc-le-suc}
 use Rattle.std.proofs.lemmas.Bool.{and_parts, or_cases, or_left, or_right, or_from, both_ways, false≢true, cases_eq, cases_lt, cases_order, lt-ltb, le-ltb, leb-true}
 use Rattle.std.proofs.lemmas.Bool.Decides.{nat_tests}
 use Rattle.std.proofs.lemmas.List.{take_more, length-append, length-drop, length-take-le, get_or_append_left, get_or-take, get_or_at, get_or-append-add, get_or-drop}
-use Rattle.std.proofs.lemmas.List.Recursion.{or_at, or_is, or_push}
+use Rattle.std.proofs.lemmas.List.Recursion.{or_at, or_push}
 use Rattle.regress_meaning.specs.Text.{between}
 use Rattle.regress_meaning.specs.Table.{last_code_point, code_points}
 use Rattle.regress_meaning.specs.TableParts.{in_intervals, IntervalsRise}
@@ -134,9 +133,11 @@ pub IntervalsRise-from_places : (xs : List (ℕ × ℕ))
     → IntervalsRise xs
 IntervalsRise-from_places [] each apart = tt
 IntervalsRise-from_places (i ∷ []) each apart = each 0 (omega arith)
-IntervalsRise-from_places (i ∷ j ∷ xs) each apart =
-    ((each 0 (omega arith)).0, apart 0 (omega arith),
-    IntervalsRise-from_places (j ∷ xs) (λ k l. each (suc k) (omega arith)) (λ k l. apart (suc k) (omega arith)))
+IntervalsRise-from_places (i ∷ j ∷ xs) each apart = (
+  (each 0 (omega arith)).0,
+  apart 0 (omega arith),
+  IntervalsRise-from_places (j ∷ xs) (λ k l. each (suc k) (omega arith)) (λ k l. apart (suc k) (omega arith)),
+)
 
 -- no interval holds what lies below the first
 pub in_intervals-below : (i : ℕ × ℕ) (xs : List (ℕ × ℕ)) (c : ℕ) → IntervalsRise (i ∷ xs) → c < i.0 → in_intervals (i ∷ xs) c ≡ false
@@ -176,7 +177,7 @@ same_last i j xs ys h k same e =
       | inl l ↦
           let other = in_intervals-at (j ∷ ys) 0 (i.1 + 1) (omega arith) (omega (arith, (IntervalsRise-first i xs h).0)) (omega arith) in
           let none = or_from (between i.0 i.1 (i.1 + 1)) _ (between-outside i.0 i.1 (i.1 + 1) (inr (omega arith)))
-              (in_intervals-after_first i xs (i.1 + 1) h (omega arith)) in
+          (in_intervals-after_first i xs (i.1 + 1) h (omega arith)) in
           absurd (both_ways _ (in_intervals-cons i xs (i.1 + 1) ∙ none) (same (i.1 + 1) ∙ other))
       | inr l ↦ l
     ]
@@ -185,9 +186,9 @@ same_last i j xs ys h k same e =
 in_intervals-rest : (i : ℕ × ℕ) (xs : List (ℕ × ℕ)) (c : ℕ) → IntervalsRise (i ∷ xs)
     → in_intervals xs c ≡ (in_intervals (i ∷ xs) c && not (between i.0 i.1 c))
 in_intervals-rest i xs c h = elim (between_cases i.0 i.1 c) [
-    | inl r ↦ rw (in_intervals-cons i xs c, r.0) (in_intervals-after_first i xs c h (omega (arith, r.2)))
-    | inr r ↦ rw (in_intervals-cons i xs c, r.0) (sym (and-true (in_intervals xs c)))
-    ]
+  | inl r ↦ rw (in_intervals-cons i xs c, r.0) (in_intervals-after_first i xs c h (omega (arith, r.2)))
+  | inr r ↦ rw (in_intervals-cons i xs c, r.0) (sym (and-true (in_intervals xs c)))
+]
   where
     and-true : (b : Bool) → (b && true) ≡ b
     and-true true = refl
@@ -395,9 +396,9 @@ module _ (xs : List (ℕ × ℕ)) (new : ℕ × ℕ) (s e : ℕ) (m : ℕ × ℕ
 
 in_intervals-gap : (a b c : ℕ) → in_intervals (gap a b) c ≡ (nat_le a c && nat_lt c b)
 in_intervals-gap a b c = elim (cases_lt a b) [
-    | inl l ↦ rw (lt-ltb a b l, in_intervals-cons (a, b - 1) [] c, in_intervals-nil c) (grind (arith, nat_tests))
-    | inr l ↦ rw (le-ltb a b l, in_intervals-nil c) (grind (arith, nat_tests))
-    ]
+  | inl l ↦ rw (lt-ltb a b l, in_intervals-cons (a, b - 1) [] c, in_intervals-nil c) (grind (arith, nat_tests))
+  | inr l ↦ rw (le-ltb a b l, in_intervals-nil c) (grind (arith, nat_tests))
+]
 
 -- each interval begins at a or later
 abbrev pub BeginsFrom : ℕ → List (ℕ × ℕ) → Type 0
@@ -444,9 +445,9 @@ BeginsFrom-gaps_from a xs h k rise n l =
 pub IntervalsRise-gaps_from : (a : ℕ) (xs : List (ℕ × ℕ)) → IntervalsRise xs → BeginsFrom a xs → IntervalsRise (gaps_from a xs)
 unfolding gaps_from
 IntervalsRise-gaps_from a [] h k = elim (cases_lt a code_points) [
-    | inl l ↦ rw (lt-ltb a code_points l) (omega arith, omega arith)
-    | inr l ↦ rw (le-ltb a code_points l) tt
-    ]
+  | inl l ↦ rw (lt-ltb a code_points l) (omega arith, omega arith)
+  | inr l ↦ rw (le-ltb a code_points l) tt
+]
 IntervalsRise-gaps_from a (i ∷ xs) h k =
     let first = IntervalsRise-first i xs h in
     let later = IntervalsRise-rest i xs h in

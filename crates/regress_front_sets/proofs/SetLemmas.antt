@@ -1,9 +1,10 @@
 -- Lists of intervals, by their ends.
 use Rattle.std.proofs.Common.{◌≡◌, ℕ, ◌+◌, ◌-◌, ◌<◌, ◌≤◌, Bool, true, false, cond, ◌||◌, nat_lt, nat_le, if◌then◌else◌, min, max, List, [], ◌∷◌, ◌++◌, Result, Ok, Err, length, take, drop, get_or, slice_set, refl, sym, ap, ap₂, ◌∙◌, inl, inr, arith, add-one}
+use mathlib.Core.HLevel.{is_prop→PathP}
+use native.Mathlib.Bridge.{le_prop}
 use Rattle.std.specs.Result.{is_ok}
 use Rattle.std.specs.List.{All, insert}
 use Rattle.std.specs.List.Sorted.{IsBinarySearchResult, IsSearchInRange, IsNonDecreasingBy, IsPartitionedBy, IsPartitionPoint}
-use Rattle.std.specs.declared.cmp.Ordering.{Ordering}
 use Rattle.std.specs.declared.cmp.Ordering.TheVariants.{Less, Equal, Greater}
 use Rattle.std.specs.Ordering.{ordering_index}
 use Rattle.std.proofs.lemmas.Bool.{cases_lt, false_from_ne_true, ltb-true, ltb-false, leb-true, leb-false}
@@ -95,20 +96,20 @@ pub IsRun-from_points : (xs : List Interval) (new : Interval) (s e : ℕ) → s 
     → IsPartitionPoint (λ i. nat_le i.first (new.last + 1) ≡ true) (λ i. nat_le i.first (new.last + 1) ≡ false) xs e
     → IsRun (ends_of xs) (ends new) s e
 IsRun-from_points xs new s e ls le starts to = record {
-    order = elim (cases_lt e s) [
-      | inl l ↦
-          let i = get_or xs e first_interval in
-          absurd (omega (arith, ltb-true _ _ (starts.0 e first_interval (omega arith) l), leb-false _ _ (to.1 e first_interval (omega arith) (omega arith)), i.ordered, new.ordered))
-      | inr l ↦ l
-    ];
-    within = omega (arith, length-map xs ends);
-    before = λ k l. rw (at k (omega arith)) (ltb-true _ _ (starts.0 k first_interval (omega arith) l));
-    met = λ k l m. rw (at k (omega arith)) (
-      ltb-false _ _ (starts.1 k first_interval l (omega arith)),
-      leb-true _ _ (to.0 k first_interval (omega arith) m),
-    );
-    after = λ k l m. rw (at k (inside k m)) (leb-false _ _ (to.1 k first_interval l (inside k m)));
-  }
+  order = elim (cases_lt e s) [
+    | inl l ↦
+        let i = get_or xs e first_interval in
+        absurd (omega (arith, ltb-true _ _ (starts.0 e first_interval (omega arith) l), leb-false _ _ (to.1 e first_interval (omega arith) (omega arith)), i.ordered, new.ordered))
+    | inr l ↦ l
+  ];
+  within = omega (arith, length-map xs ends);
+  before = λ k l. rw (at k (omega arith)) (ltb-true _ _ (starts.0 k first_interval (omega arith) l));
+  met = λ k l m. rw (at k (omega arith)) (
+    ltb-false _ _ (starts.1 k first_interval l (omega arith)),
+    leb-true _ _ (to.0 k first_interval (omega arith) m),
+  );
+  after = λ k l m. rw (at k (inside k m)) (leb-false _ _ (to.1 k first_interval l (inside k m)));
+}
   where
     at : (k : ℕ) → k < length xs → interval_at (ends_of xs) k ≡ ends (get_or xs k first_interval)
     at k l = interval_at-ends_of xs k first_interval l
@@ -244,9 +245,9 @@ gaps_from-drop_more done now a n xs i l is e =
     ap (λ gaps. gaps ++ gaps_from (i.last + 1) (drop (n + 1) (ends_of xs))) e
     ∙ append_assoc done (gap a i.first) (gaps_from (i.last + 1) (drop (n + 1) (ends_of xs)))
     ∙ ap (λ rest. done ++ rest)
-        (sym (gaps_from-cons a (ends i) (drop (n + 1) (ends_of xs)))
-        ∙ ap (λ p. gaps_from a (p ∷ drop (n + 1) (ends_of xs))) (sym at)
-        ∙ sym (at_drop_more (gaps_from a) (ends_of xs) n (0, 0) (omega (arith, length-map xs ends))))
+    (sym (gaps_from-cons a (ends i) (drop (n + 1) (ends_of xs)))
+    ∙ ap (λ p. gaps_from a (p ∷ drop (n + 1) (ends_of xs))) (sym at)
+    ∙ sym (at_drop_more (gaps_from a) (ends_of xs) n (0, 0) (omega (arith, length-map xs ends))))
 
 -- the gap after the last interval is done
 pub gaps_from-drop_all : (done now : List (ℕ × ℕ)) (a n : ℕ) (xs : List Interval) → length xs ≤ n
@@ -328,9 +329,9 @@ IsMerged-left left right old new i j item rise h l is next low added =
           let rest = in_intervals (drop (i + 1) (ends_of left)) c in
           let others = in_intervals (drop j (ends_of right)) c in
           let taken : in_intervals (drop i (ends_of left)) c ≡ (in_interval item c || rest) =
-              at_drop_more (λ xs. in_intervals xs c) (ends_of left) i (0, 0) (omega (arith, length-map left ends))
-              ∙ in_intervals-cons (interval_at (ends_of left) i) (drop (i + 1) (ends_of left)) c
-              ∙ ap (λ p. between p.0 p.1 c || rest) at in
+          at_drop_more (λ xs. in_intervals xs c) (ends_of left) i (0, 0) (omega (arith, length-map left ends))
+          ∙ in_intervals-cons (interval_at (ends_of left) i) (drop (i + 1) (ends_of left)) c
+          ∙ ap (λ p. between p.0 p.1 c || rest) at in
           ap (λ b. b || (rest || others)) (added c)
           ∙ or_regroup (in_interval item c) rest (in_intervals (ends_of old) c) others
           ∙ ap (λ b. in_intervals (ends_of old) c || (b || others)) (sym taken)
@@ -342,7 +343,7 @@ pub IsMerged-all : (left right union : List Interval) (i j : ℕ) → IsMerged l
     → (c : ℕ) → in_intervals (ends_of union) c ≡ (in_intervals (ends_of left) c || in_intervals (ends_of right) c)
 IsMerged-all left right union i j h l m c =
     let none : (xs : List Interval) (k : ℕ) → length xs ≤ k → in_intervals (drop k (ends_of xs)) c ≡ false =
-        λ xs k n. at_drop_all (λ ys. in_intervals ys c) (ends_of xs) k (omega (arith, length-map xs ends)) ∙ in_intervals-nil c in
+    λ xs k n. at_drop_all (λ ys. in_intervals ys c) (ends_of xs) k (omega (arith, length-map xs ends)) ∙ in_intervals-nil c in
     sym (or-false (in_intervals (ends_of union) c))
     ∙ ap₂ (λ x y. in_intervals (ends_of union) c || (x || y)) (sym (none left i l)) (sym (none right j m))
     ∙ h.members c
@@ -350,3 +351,27 @@ IsMerged-all left right union i j h l m c =
     or-false : (b : Bool) → (b || false) ≡ b
     or-false true = refl
     or-false false = refl
+
+-- ---- the same ends, the same intervals
+
+-- an interval is its ends
+Interval-from_ends : (i j : Interval) → ends i ≡ ends j → i ≡ j
+Interval-from_ends i j e =
+    let first = ap (λ p. p.0) e in
+    let last = ap (λ p. p.1) e in
+    λ k. record {
+      first = first k;
+      last = last k;
+      ordered = is_prop→PathP (λ m. first m ≤ last m) (λ m. le_prop) i.ordered j.ordered k;
+      bounded = is_prop→PathP (λ m. last m ≤ last_code_point) (λ m. le_prop) i.bounded j.bounded k;
+    }
+
+-- intervals are their ends
+pub intervals_from_ends : (xs ys : List Interval) → ends_of xs ≡ ends_of ys → xs ≡ ys
+intervals_from_ends [] [] e = refl
+intervals_from_ends [] (j ∷ ys) e = cc
+intervals_from_ends (i ∷ xs) [] e = cc
+intervals_from_ends (i ∷ xs) (j ∷ ys) e =
+    let first : ends i ≡ ends j = cc in
+    let rest : ends_of xs ≡ ends_of ys = cc in
+    ap₂ (λ x l. x ∷ l) (Interval-from_ends i j first) (intervals_from_ends xs ys rest)

@@ -8,4 +8,6 @@ pub mod Entries
 pub mod Parts
 pub mod Listed
 pub mod Breaking
+pub mod FirstBytes
 pub mod Telling
+pub mod Folding

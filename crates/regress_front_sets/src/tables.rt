@@ -25,8 +25,8 @@ use std::alloc::{AllocError, Global};
 /// Case and properties of code points, which patterns are compiled by. They keep all laws (`TableLaw`).
 #[derive(Debug, Drop)]
 pub struct Tables {
-    fold: Vec<(CodePoint, CodePoint)>,
-    upper: Vec<(CodePoint, CodePoint)>,
+    pub(crate) fold: Vec<(CodePoint, CodePoint)>,
+    pub(crate) upper: Vec<(CodePoint, CodePoint)>,
     id_start: CodePointSet,
     id_continue: CodePointSet,
     properties: Vec<(String, CodePointSet)>,

@@ -1,5 +1,5 @@
 //! The laws of tables that are about single code points.
-ghost use Rattle.std.specs.Prelude.{◌≡◌, ◌↔◌, ◌<◌, ◌+◌, ℕ, false, true, List, [], IsTrue, IfSome, IfNone, IfOk, IfErr, All, unwrap_or};
+ghost use Rattle.std.specs.Prelude.{◌≡◌, ◌↔◌, ◌<◌, ◌+◌, ℕ, false, true, [], IsTrue, IfSome, IfNone, IfOk, IfErr, All, unwrap_or};
 ghost use Rattle.std.specs.Ordering.{nat_cmp};
 ghost use Rattle.std.specs.BTreeMap.{get};
 ghost use Rattle.regress_meaning.specs.TableParts.{PairsRise, IntervalsRise, KeepsRange, KeepsOrder, KeepsCanonical, BothMaps, HasAsciiCase, IsIdempotentAt, HasSmallClass, AvoidsSurrogates, KeepsIdentifierAt, in_intervals, is_surrogate, is_code_point};

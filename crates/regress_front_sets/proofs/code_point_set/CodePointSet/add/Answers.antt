@@ -21,8 +21,8 @@ invariant_of-self-2 c =
     let set = c.args.self.now in
     let run = c.run-run.result in
     let added = Adds-hull set.intervals.items c.drop-drain.new.self.0.items c.args.new_iv c.index-first.result.now c.index-last.result.now
-        c.hull-2.result run.start run.end set.canonical c.run-run.ensures c.if-run.false c.index-first.ensures c.index-last.ensures
-        (omega arith) (omega arith) (c.drop-drain.ensures.items ∙ c.drain.ensures.kept) in
+    c.hull-2.result run.start run.end set.canonical c.run-run.ensures c.if-run.false c.index-first.ensures c.index-last.ensures
+    (omega arith) (omega arith) (c.drop-drain.ensures.items ∙ c.drain.ensures.kept) in
     record { canonical = added.rise }
 
 pub returns-clause-members : goal.returns-clause-members
@@ -30,6 +30,6 @@ returns-clause-members c =
     let set = c.args.self.now in
     let run = c.run-run.result in
     let added = Adds-hull set.intervals.items c.drop-drain.new.self.0.items c.args.new_iv c.index-first.result.now c.index-last.result.now
-        c.hull-2.result run.start run.end set.canonical c.run-run.ensures c.if-run.false c.index-first.ensures c.index-last.ensures
-        (omega arith) (omega arith) (c.drop-drain.ensures.items ∙ c.drain.ensures.kept) in
+    c.hull-2.result run.start run.end set.canonical c.run-run.ensures c.if-run.false c.index-first.ensures c.index-last.ensures
+    (omega arith) (omega arith) (c.drop-drain.ensures.items ∙ c.drain.ensures.kept) in
     added.members

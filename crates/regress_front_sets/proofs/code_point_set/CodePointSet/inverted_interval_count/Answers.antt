@@ -1,7 +1,7 @@
-use Rattle.std.proofs.Common.{◌-◌, sym, ap, ◌∙◌, arith}
+use Rattle.std.proofs.Common.{◌-◌, arith}
 use Rattle.std.proofs.lemmas.List.{nil_from_length}
 use Rattle.std.proofs.lemmas.Bool.Decides.{nat_tests}
-use Rattle.regress_front_sets.specs.Intervals.{ends_of, inverse, gaps_from}
+use Rattle.regress_front_sets.specs.Intervals.{gaps_from}
 use Rattle.regress_front_sets.proofs.SetLemmas.{length-inverse}
 use Rattle.regress_front_sets.proofs.code_point_set.CodePointSet.inverted_interval_count.Goals as goal
 

@@ -7,14 +7,14 @@ pub invariant_of-self : goal.invariant_of-self
 invariant_of-self c =
     let set = c.args.self.now in
     let added = Adds-joined_last set.intervals.items c.args.next c.index-last.result.now c.hull.result (c.len-len.result - 1) set.canonical
-        (omega (arith, set.intervals.ok.0)) c.index-last.ensures c.requires c.if-next-last.true c.hull.ensures.first c.hull.ensures.last in
+    (omega (arith, set.intervals.ok.0)) c.index-last.ensures c.requires c.if-next-last.true c.hull.ensures.first c.hull.ensures.last in
     record { canonical = added.rise }
 
 pub returns-then-next-last-clause-members : goal.returns-then-next-last-clause-members
 returns-then-next-last-clause-members c =
     let set = c.args.self.now in
     let added = Adds-joined_last set.intervals.items c.args.next c.index-last.result.now c.hull.result (c.len-len.result - 1) set.canonical
-        (omega (arith, set.intervals.ok.0)) c.index-last.ensures c.requires c.if-next-last.true c.hull.ensures.first c.hull.ensures.last in
+    (omega (arith, set.intervals.ok.0)) c.index-last.ensures c.requires c.if-next-last.true c.hull.ensures.first c.hull.ensures.last in
     added.members
 
 pub invariant_of-self-2 : goal.invariant_of-self-2

@@ -1,7 +1,5 @@
-use Rattle.std.proofs.Common.{ℕ, List, ◌+◌, nat_lt, nat_le, true, false, ◌≡◌, subst, ap, length, rules, of_calls, arith}
-use Rattle.std.specs.List.Sorted.{IsPartitionPoint}
+use Rattle.std.proofs.Common.{◌+◌, nat_lt, nat_le, ap, length, rules, of_calls, arith}
 use Rattle.std.proofs.lemmas.List.Sorted.{IsPartitionPoint-from_clause}
-use Rattle.regress_front_sets.specs.Intervals.{ends, ends_of}
 use Rattle.regress_front_sets.proofs.SetLemmas.{IsRun-from_points, before_is_partitioned, not_after_is_partitioned}
 use Rattle.regress_front_sets.proofs.code_point_set.CodePointSet.run.Goals as goal
 

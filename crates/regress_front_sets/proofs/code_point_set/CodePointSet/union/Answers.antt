@@ -15,19 +15,24 @@ loop-i-preserved-then-left-i c =
     let right = c.intervals-right.result.now in
     let item = c.index-left-i-then-left-i.result in
     let inside : c.loop-i.i < length left =
-        elim c.if-j-right-2.branch [
-          | then-j-right-2 w ↦ elim c.if-i-left.branch [ then-i-left v ↦ v.if-i-left.true | else-i-left+then-j-right v ↦ absurd (omega arith) ]
-          | else-j-right-2+then-i-left-2 w ↦ w.if-i-left-2.true
-          | else-j-right-2+else-i-left-2 w ↦ ltb-true _ _ (sym w.value-is ∙ c.if-left-i.true)
-        ] in
+    elim c.if-j-right-2.branch [
+      | then-j-right-2 w ↦ elim c.if-i-left.branch [ then-i-left v ↦ v.if-i-left.true | else-i-left+then-j-right v ↦ absurd (omega arith) ]
+      | else-j-right-2+then-i-left-2 w ↦ w.if-i-left-2.true
+      | else-j-right-2+else-i-left-2 w ↦ ltb-true _ _ (sym w.value-is ∙ c.if-left-i.true)
+    ] in
     let first = first_at left c.loop-i.i item inside ∙ ap (λ i. i.first) (sym c.index-left-i-then-left-i.is) in
     IsMerged-left left right c.loop-i.union.intervals.items c.push.new.self.intervals.items c.loop-i.i c.loop-i.j
     item (rw c.intervals-left.ensures c.args.self.now.canonical) c.loop-i.invariant inside c.index-left-i-then-left-i.is
     (λ l. elim c.if-j-right-2.branch [
       | then-j-right-2 w ↦ absurd (omega arith)
       | else-j-right-2+then-i-left-2 w ↦
-          omega (arith, leb-true _ _ (sym w.value-is ∙ c.if-left-i.true), first_at left c.loop-i.i w.index-left-i.result inside,
-          first_at right c.loop-i.j w.index-right-j.result l, first)
+          omega (
+            arith,
+            leb-true _ _ (sym w.value-is ∙ c.if-left-i.true),
+            first_at left c.loop-i.i w.index-left-i.result inside,
+            first_at right c.loop-i.j w.index-right-j.result l,
+            first,
+          )
       | else-j-right-2+else-i-left-2 w ↦ absurd (omega (arith, w.if-i-left-2.false))
     ])
     c.in_ok-push.ensures.order c.in_ok-push.ensures.members
@@ -38,11 +43,11 @@ loop-i-preserved c =
     let right = c.intervals-right.result.now in
     let item = c.index-right-j-else-left-i.result in
     let inside : c.loop-i.j < length right =
-        elim c.if-j-right-2.branch [
-          | then-j-right-2 w ↦ absurd (true≢false (sym (eq-eqb c.loop-i.j (length right) w.if-j-right-2.true) ∙ sym w.value-is ∙ c.if-left-i.false))
-          | else-j-right-2+then-i-left-2 w ↦ omega (arith, w.if-j-right-2.false)
-          | else-j-right-2+else-i-left-2 w ↦ omega (arith, w.if-j-right-2.false)
-        ] in
+    elim c.if-j-right-2.branch [
+      | then-j-right-2 w ↦ absurd (true≢false (sym (eq-eqb c.loop-i.j (length right) w.if-j-right-2.true) ∙ sym w.value-is ∙ c.if-left-i.false))
+      | else-j-right-2+then-i-left-2 w ↦ omega (arith, w.if-j-right-2.false)
+      | else-j-right-2+else-i-left-2 w ↦ omega (arith, w.if-j-right-2.false)
+    ] in
     let first = first_at right c.loop-i.j item inside ∙ ap (λ i. i.first) (sym c.index-right-j-else-left-i.is) in
     IsMerged-flip right left c.push-else-left-i.new.self.intervals.items (c.loop-i.j + 1) c.loop-i.i
     (IsMerged-left right left c.loop-i.union.intervals.items c.push-else-left-i.new.self.intervals.items c.loop-i.j c.loop-i.i
@@ -51,8 +56,13 @@ loop-i-preserved c =
     (λ l. elim c.if-j-right-2.branch [
       | then-j-right-2 w ↦ absurd (omega arith)
       | else-j-right-2+then-i-left-2 w ↦
-          omega (arith, leb-false _ _ (sym w.value-is ∙ c.if-left-i.false), first_at left c.loop-i.i w.index-left-i.result l,
-          first_at right c.loop-i.j w.index-right-j.result inside, first)
+          omega (
+            arith,
+            leb-false _ _ (sym w.value-is ∙ c.if-left-i.false),
+            first_at left c.loop-i.i w.index-left-i.result l,
+            first_at right c.loop-i.j w.index-right-j.result inside,
+            first,
+          )
       | else-j-right-2+else-i-left-2 w ↦ absurd (omega (arith, w.if-i-left-2.false))
     ])
     c.in_ok-push-2.ensures.order c.in_ok-push-2.ensures.members)

@@ -1,0 +1,183 @@
+//! Sets of bytes with a bit for each.
+ghost use Rattle.std.specs.Prelude.{◌≡◌, ℕ, ◌<◌, ◌==◌, ◌||◌, not, false, length, position};
+ghost use Rattle.regress_meaning.specs.Text.{holds};
+ghost use Rattle.regress_front_bytes.specs.ByteSets.{members};
+ghost use Rattle.regress_front_bytes.specs.Bitmaps.{ascii_bitmap_contains, byte_bitmap_contains};
+
+use crate::byte_search::{ByteSearcher, ByteSet};
+
+/// A set of bytes under 0x80, which is empty by default.
+#[derive(Clone, Copy, Debug)]
+pub struct AsciiBitmap([u8; 16]);
+
+impl Default for AsciiBitmap {
+    ghost is_default = { λ bitmap. (b : ℕ) → ascii_bitmap_contains bitmap b ≡ false };
+
+    fn default() -> Self {
+        AsciiBitmap([0; 16])
+    }
+}
+
+impl AsciiBitmap {
+    /// Adds the byte `val`, which is under 0x80.
+    pub fn set(&mut self, val: u8)
+        requires { val < 128 }
+        ensures { (b : ℕ) → ascii_bitmap_contains self.new b
+            ≡ ascii_bitmap_contains self.old b || val == b }
+    {
+        self.0[usize::from(val / 8)] |= 1 << (val % 8);
+    }
+}
+
+impl ByteSet for AsciiBitmap {
+    ghost contains = { ascii_bitmap_contains };
+
+    fn contains(&self, b: u8) -> bool {
+        b < 0x80 && self.0[usize::from(b / 8)] >> (b % 8) & 1 == 1
+    }
+}
+
+/// A set of bytes, which is empty by default.
+#[derive(Clone, Copy, Debug)]
+pub struct ByteBitmap([u16; 16]);
+
+impl Default for ByteBitmap {
+    ghost is_default = { λ bitmap. (b : ℕ) → byte_bitmap_contains bitmap b ≡ false };
+
+    fn default() -> Self {
+        ByteBitmap([0; 16])
+    }
+}
+
+impl ByteBitmap {
+    /// The set of these bytes.
+    pub fn new(bytes: &[u8]) -> ByteBitmap
+        ensures { (b : ℕ) → byte_bitmap_contains result b ≡ holds bytes.now b }
+    {
+        let mut bitmap = ByteBitmap::default();
+        for byte in bytes {
+            bitmap.set(*byte);
+        }
+        bitmap
+    }
+
+    /// Whether the byte `val` is a member.
+    pub fn contains(&self, val: u8) -> bool
+        ensures { result ≡ byte_bitmap_contains self.now val }
+    {
+        self.0[usize::from(val / 16)] >> (val % 16) & 1 == 1
+    }
+
+    /// Adds the byte `val`.
+    pub fn set(&mut self, val: u8)
+        ensures { (b : ℕ) → byte_bitmap_contains self.new b
+            ≡ byte_bitmap_contains self.old b || val == b }
+    {
+        self.0[usize::from(val / 16)] |= 1 << (val % 16);
+    }
+
+    /// Adds the members of `rhs`.
+    pub fn bitor(&mut self, rhs: &ByteBitmap)
+        ensures { (b : ℕ) → byte_bitmap_contains self.new b
+            ≡ byte_bitmap_contains self.old b || byte_bitmap_contains rhs.now b }
+    {
+        for (i, row) in rhs.0.iter().enumerate() {
+            self.0[i] |= *row;
+        }
+    }
+
+    /// Makes members of all bytes that were none, and of no other. It answers the set itself.
+    pub fn bitnot(&mut self) -> &mut Self
+        ensures same { result.ghost_name ≡ self.entry.ghost_name }
+        ensures complement { (b : ℕ) → b < 256 →
+            byte_bitmap_contains result.now b ≡ not (byte_bitmap_contains self.old b) }
+    {
+        for row in self.0.iter_mut() {
+            *row = !*row;
+        }
+        self
+    }
+
+    /// How many members there are.
+    pub fn count_bits(&self) -> u32
+        ensures { result ≡ length (members (byte_bitmap_contains self.now)) }
+    {
+        let mut count = 0;
+        for row in &self.0 {
+            count += row.count_ones();
+        }
+        count
+    }
+
+    /// The members, ascending. `N` is how many there are.
+    pub fn as_array<const N: usize>(&self) -> [u8; N]
+        requires { N ≡ length (members (byte_bitmap_contains self.now)) }
+        ensures { result ≡ members (byte_bitmap_contains self.now) }
+    {
+        let mut array = [0; N];
+        let mut filled = 0;
+        for byte in 0..=u8::MAX {
+            if self.contains(byte) {
+                array[filled] = byte;
+                filled += 1;
+            }
+        }
+        array
+    }
+}
+
+impl ByteSearcher for ByteBitmap {
+    ghost find_in = { λ bitmap. position (byte_bitmap_contains bitmap) };
+
+    fn find_in(&self, rhs: &[u8]) -> Option<usize> {
+        rhs.iter().position(|b| self.contains(*b))
+    }
+}
+
+#[cfg(test)]
+mod tests {
+    use super::*;
+
+    fn holds<S: ByteSet>(set: &S, b: u8) -> bool {
+        set.contains(b)
+    }
+
+    fn first<S: ByteSearcher>(searcher: &S, bytes: &[u8]) -> Option<usize> {
+        searcher.find_in(bytes)
+    }
+
+    #[test]
+    fn ascii_bytes_are_held(rt: HostRuntime) {
+        let mut set = AsciiBitmap::default();
+        assert!(rt; !holds(&set, 0x7F));
+        set.set(0x7F);
+        set.set(b'a');
+        assert!(rt; holds(&set, 0x7F) && holds(&set, b'a'));
+        assert!(rt; !holds(&set, b'b') && !holds(&set, 0xFF));
+    }
+
+    #[test]
+    fn members_come_ascending(rt: HostRuntime) {
+        let mut set = ByteBitmap::new(b"cac");
+        set.set(0xFF);
+        let count = set.count_bits();
+        assert_eq!(rt; count, 3);
+        assert_eq!(rt; set.as_array::<3>(), [b'a', b'c', 0xFF]);
+    }
+
+    #[test]
+    fn sets_are_joined_and_turned(rt: HostRuntime) {
+        let mut set = ByteBitmap::default();
+        set.bitor(&ByteBitmap::new(b"ab"));
+        assert!(rt; set.contains(b'b'));
+        assert_eq!(rt; set.bitnot().count_bits(), 254);
+        assert!(rt; !set.contains(b'b') && set.contains(0xFF));
+    }
+
+    #[test]
+    fn first_member_is_found(rt: HostRuntime) {
+        let set = ByteBitmap::new(&[0x80, b'c']);
+        assert_eq!(rt; first(&set, b"abc"), Some(2));
+        assert_eq!(rt; first(&set, b"ab"), None);
+    }
+}

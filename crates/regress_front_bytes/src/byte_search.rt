@@ -1,0 +1,180 @@
+//! Searches for the first byte of a set.
+ghost use Rattle.std.specs.Prelude.{◌≡◌, ℕ, Bool, List, Option, Some, position};
+ghost use Rattle.regress_meaning.specs.Text.{holds};
+
+/// What is looked for in bytes. It is found at an index or not at all.
+pub trait ByteSearcher {
+    // the index at which it is found in bytes
+    ghost find_in: { Self → List ℕ → Option ℕ };
+
+    /// The first index in `rhs` at which this is found, or `None` where it is nowhere. Of a set of bytes it is the first
+    /// index of a member.
+    fn find_in(&self, rhs: &[u8]) -> Option<usize>
+        ensures { result ≡ find_in self.now rhs.now };
+}
+
+/// A set of bytes.
+pub trait ByteSet {
+    // a byte is a member
+    ghost contains: { Self → ℕ → Bool };
+
+    /// Whether the byte `b` is a member.
+    fn contains(&self, b: u8) -> bool
+        ensures { result ≡ contains self.now b };
+}
+
+/// A set of few bytes, held in an array.
+pub trait SmallArraySet: Copy {
+    // a byte is a member
+    ghost contains: { Self → ℕ → Bool };
+
+    /// Whether the byte `b` is a member.
+    fn contains(self, b: u8) -> bool
+        ensures { result ≡ contains self b };
+
+    /// The first index in `rhs` of a member, or `None` where there is none.
+    fn find_in(self, rhs: &[u8]) -> Option<usize>
+        ensures { result ≡ position (contains self) rhs.now }
+    {
+        rhs.iter().position(|b| self.contains(*b))
+    }
+}
+
+/// The set of the bytes in an array.
+#[derive(Clone, Copy, Debug)]
+pub struct ByteArraySet<ArraySet: SmallArraySet>(pub ArraySet);
+
+/// The empty string, which is found at index 0 of all bytes, also of none.
+#[derive(Clone, Copy, Debug)]
+pub struct EmptyString;
+
+/// How many characters a set of them has that is held in an array.
+pub const MAX_CHAR_SET_LENGTH: usize = 4;
+
+/// Whether the character `c` is one of `set`.
+pub fn charset_contains(set: &[u32; MAX_CHAR_SET_LENGTH], c: u32) -> bool
+    ensures { result ≡ holds set.now c }
+{
+    set.contains(&c)
+}
+
+impl SmallArraySet for [u8; 2] {
+    ghost contains = { holds };
+
+    fn contains(self, b: u8) -> bool {
+        let [first, second] = self;
+        b == first || b == second
+    }
+}
+
+impl SmallArraySet for [u8; 3] {
+    ghost contains = { holds };
+
+    fn contains(self, b: u8) -> bool {
+        let [first, second, third] = self;
+        b == first || b == second || b == third
+    }
+}
+
+impl SmallArraySet for [u8; 4] {
+    ghost contains = { holds };
+
+    fn contains(self, b: u8) -> bool {
+        let [first, second, third, fourth] = self;
+        b == first || b == second || b == third || b == fourth
+    }
+}
+
+impl<ArraySet: SmallArraySet> ByteArraySet<ArraySet> {
+    /// Whether the byte `b` is a member.
+    pub fn contains(self, b: u8) -> bool
+        ensures { result ≡ ArraySet.contains self.0 b }
+    {
+        self.0.contains(b)
+    }
+}
+
+impl<ArraySet: SmallArraySet> ByteSearcher for ByteArraySet<ArraySet> {
+    ghost find_in = { λ set. position (ArraySet.contains set.0) };
+
+    fn find_in(&self, rhs: &[u8]) -> Option<usize> {
+        self.0.find_in(rhs)
+    }
+}
+
+impl ByteSearcher for [u8; 1] {
+    ghost find_in = { λ set. position (holds set) };
+
+    fn find_in(&self, rhs: &[u8]) -> Option<usize> {
+        rhs.iter().position(|b| self.as_slice().contains(b))
+    }
+}
+
+impl ByteSearcher for [u8; 2] {
+    ghost find_in = { λ set. position (holds set) };
+
+    fn find_in(&self, rhs: &[u8]) -> Option<usize> {
+        <[u8; 2] as SmallArraySet>::find_in(*self, rhs)
+    }
+}
+
+impl ByteSearcher for [u8; 3] {
+    ghost find_in = { λ set. position (holds set) };
+
+    fn find_in(&self, rhs: &[u8]) -> Option<usize> {
+        <[u8; 3] as SmallArraySet>::find_in(*self, rhs)
+    }
+}
+
+impl ByteSearcher for EmptyString {
+    ghost find_in = { λ _ _. Some 0 };
+
+    fn find_in(&self, _rhs: &[u8]) -> Option<usize> {
+        Some(0)
+    }
+}
+
+#[cfg(test)]
+mod tests {
+    use super::*;
+
+    fn first<S: ByteSearcher>(searcher: &S, bytes: &[u8]) -> Option<usize> {
+        searcher.find_in(bytes)
+    }
+
+    #[test]
+    fn first_member_is_found(rt: HostRuntime) {
+        assert_eq!(rt; first(b"c", b"abcabc"), Some(2));
+        assert_eq!(rt; first(b"cb", b"abcabc"), Some(1));
+        assert_eq!(rt; first(b"xyc", b"abcabc"), Some(2));
+        assert_eq!(rt; first(&ByteArraySet(*b"wxyc"), b"aaac"), Some(3));
+    }
+
+    #[test]
+    fn no_member_is_found(rt: HostRuntime) {
+        assert_eq!(rt; first(b"c", b"ab"), None);
+        assert_eq!(rt; first(b"cb", b""), None);
+        assert_eq!(rt; first(&ByteArraySet(*b"xyz"), b"abc"), None);
+    }
+
+    #[test]
+    fn empty_string_is_found_at_once(rt: HostRuntime) {
+        assert_eq!(rt; first(&EmptyString, b"abc"), Some(0));
+        assert_eq!(rt; first(&EmptyString, b""), Some(0));
+    }
+
+    #[test]
+    fn arrays_are_sets(rt: HostRuntime) {
+        assert!(rt; ByteArraySet(*b"ab").contains(b'b'));
+        assert!(rt; ByteArraySet(*b"abc").contains(b'c'));
+        assert!(rt; ByteArraySet(*b"abcd").contains(b'd'));
+        assert!(rt; !ByteArraySet(*b"abcd").contains(b'e'));
+    }
+
+    #[test]
+    fn characters_are_looked_up(rt: HostRuntime) {
+        let set = [0x41, 0x1_F600, 0x41, 0x41];
+        assert!(rt; charset_contains(&set, 0x1_F600));
+        assert!(rt; !charset_contains(&set, 0xF600));
+    }
+}

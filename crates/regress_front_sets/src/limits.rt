@@ -1,0 +1,181 @@
+//! Limits of patterns, names of types, and the code points that class escapes hold.
+ghost use Rattle.std.specs.Prelude.{◌≡◌, ℕ};
+ghost use Rattle.regress_meaning.specs.TableParts.{IntervalsRise, in_intervals};
+ghost use Rattle.regress_meaning.specs.Class.{is_ascii_word, is_digit, is_space};
+ghost use Rattle.regress_meaning.specs.Limits.{greatest_depth, most_groups, most_quantifiers};
+ghost use Rattle.regress_meaning.specs.Meaning.{is_line_end};
+ghost use Rattle.regress_front_sets.specs.Intervals.{ends_of};
+
+use crate::interval::Interval;
+
+/// A capture group's number, from 0 in order of opening.
+pub type CaptureGroupID = u16;
+
+/// A capture group's name.
+pub type CaptureGroupName = String;
+
+/// A loop's number.
+pub type LoopID = u16;
+
+/// The index of an instruction of a program.
+pub type IP = usize;
+
+/// At most this many capture groups stand in a pattern.
+pub const MAX_CAPTURE_GROUPS: usize = 65535;
+
+/// At most this many quantifiers stand in a pattern.
+pub const MAX_LOOPS: usize = 65535;
+
+/// At most this many groups, assertions and classes stand within one another.
+pub const MAX_NESTING_DEPTH: u32 = 256;
+
+/// What a class escape holds, or what it does not hold where its letter is a capital ("CharacterClassEscape").
+#[derive(Debug, Clone, Copy)]
+pub enum CharacterClassType {
+    /// `\d`.
+    Digits,
+    /// `\s`.
+    Spaces,
+    /// `\w`.
+    Words,
+}
+
+/// What `\w` holds where case is not ignored: ASCII letters, digits and `_` ("WordCharacters").
+pub const WORD_CHARS: [Interval; 4] = [
+    Interval {
+        first: 0x30,
+        last: 0x39,
+    },
+    Interval {
+        first: 0x41,
+        last: 0x5A,
+    },
+    Interval {
+        first: 0x5F,
+        last: 0x5F,
+    },
+    Interval {
+        first: 0x61,
+        last: 0x7A,
+    },
+];
+
+/// What `\d` holds: ASCII digits.
+pub const DIGITS: [Interval; 1] = [Interval {
+    first: 0x30,
+    last: 0x39,
+}];
+
+/// What `\s` holds: white space and line terminators ("WhiteSpace", "LineTerminator").
+pub const WHITESPACE: [Interval; 10] = [
+    Interval {
+        first: 0x9,
+        last: 0xD,
+    },
+    Interval {
+        first: 0x20,
+        last: 0x20,
+    },
+    Interval {
+        first: 0xA0,
+        last: 0xA0,
+    },
+    Interval {
+        first: 0x1680,
+        last: 0x1680,
+    },
+    Interval {
+        first: 0x2000,
+        last: 0x200A,
+    },
+    Interval {
+        first: 0x2028,
+        last: 0x2029,
+    },
+    Interval {
+        first: 0x202F,
+        last: 0x202F,
+    },
+    Interval {
+        first: 0x205F,
+        last: 0x205F,
+    },
+    Interval {
+        first: 0x3000,
+        last: 0x3000,
+    },
+    Interval {
+        first: 0xFEFF,
+        last: 0xFEFF,
+    },
+];
+
+/// The line terminators ("LineTerminator").
+pub const LINE_TERMINATOR: [Interval; 3] = [
+    Interval {
+        first: 0xA,
+        last: 0xA,
+    },
+    Interval {
+        first: 0xD,
+        last: 0xD,
+    },
+    Interval {
+        first: 0x2028,
+        last: 0x2029,
+    },
+];
+
+/// `WORD_CHARS`, with a contract that tells its members, since a clause cannot name a constant of intervals.
+pub const fn word_chars() -> [Interval; 4]
+    ensures members { (c : ℕ) → in_intervals (ends_of result) c ≡ is_ascii_word c }
+    ensures rise { IntervalsRise (ends_of result) }
+{
+    WORD_CHARS
+}
+
+/// `DIGITS`, with a contract that tells its members.
+pub const fn digits() -> [Interval; 1]
+    ensures members { (c : ℕ) → in_intervals (ends_of result) c ≡ is_digit c }
+    ensures rise { IntervalsRise (ends_of result) }
+{
+    DIGITS
+}
+
+/// `WHITESPACE`, with a contract that tells its members.
+pub const fn whitespace() -> [Interval; 10]
+    ensures members { (c : ℕ) → in_intervals (ends_of result) c ≡ is_space c }
+    ensures rise { IntervalsRise (ends_of result) }
+{
+    WHITESPACE
+}
+
+/// `LINE_TERMINATOR`, with a contract that tells its members.
+pub const fn line_terminator() -> [Interval; 3]
+    ensures members { (c : ℕ) → in_intervals (ends_of result) c ≡ is_line_end c }
+    ensures rise { IntervalsRise (ends_of result) }
+{
+    LINE_TERMINATOR
+}
+
+/// The limits are those that the definitions know.
+pub fn limits_are_those_of_the_definitions()
+    ensures groups { MAX_CAPTURE_GROUPS ≡ most_groups }
+    ensures loops { MAX_LOOPS ≡ most_quantifiers }
+    ensures depth { MAX_NESTING_DEPTH ≡ greatest_depth }
+{}
+
+#[cfg(test)]
+mod tests {
+    use super::*;
+
+    #[test]
+    fn class_intervals_have_their_ends(rt: HostRuntime) {
+        limits_are_those_of_the_definitions();
+        assert!(rt; word_chars()[2].contains(0x5F));
+        assert!(rt; !word_chars()[3].contains(0x7B));
+        assert!(rt; digits()[0].contains(0x39));
+        assert!(rt; whitespace()[9].contains(0xFEFF));
+        assert!(rt; line_terminator()[2].contains(0x2029));
+    }
+}
