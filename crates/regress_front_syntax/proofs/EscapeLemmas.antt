@@ -4,20 +4,22 @@ use Rattle.std.specs.Prelude.{if◌then◌else◌, option_map, option_and_then}
 use Rattle.std.specs.Option.{option_or}
 use Rattle.std.specs.List.{list_all}
 use Rattle.std.proofs.lemmas.Bool.{ne_eqb, cond_both, or_cases, and_parts, cases_Bool, lt-ltb}
+use Rattle.std.proofs.Math.Bool.{and-false}
 use Rattle.std.proofs.lemmas.List.{length-map}
 use Rattle.std.proofs.lemmas.Option.{some_pair_parts}
 use Rattle.std.proofs.lemmas.Bool.Decides.{nat_tests}
 use Rattle.regress_meaning.specs.Text.{◌∈◌, is_at, span, span_up_to, between}
-use Rattle.regress_meaning.specs.Class.{Class, property, complement, is_digit, is_letter, is_ascii_word}
-use Rattle.regress_meaning.specs.Tokens.{Mode, Reads, Escape, point, set, groups, guard, as_point, is_octal, greatest, class_letter, control, control_letter, hex_at, unicode_escape, octal_at, decimal_at, key_at, property_of, property_at, named_reference, octal_or_digit, decimal_escape, identity, escape_at, class_escape_at}
+use Rattle.regress_meaning.specs.Class.{Class, property, sequences, complement, is_digit, is_letter, is_ascii_word}
+use Rattle.regress_meaning.specs.Tokens.{Mode, Reads, Escape, point, set, groups, guard, as_point, is_octal, greatest, class_letter, control, control_letter, hex_at, unicode_escape, octal_at, decimal_at, key_at, name_at, numbers_from, property_of, property_at, named_reference, octal_or_digit, decimal_escape, identity, escape_at, class_escape_at}
 use Rattle.regress_meaning.proofs.Inversion.{is_at-eq, option-cases}
 use Rattle.regress_meaning.proofs.ScanWords.{differs}
 use Rattle.regress_front_sets.specs.declared.error.Error.{Error}
 use Rattle.regress_front_sets.specs.declared.error.Error.TheVariants.{Syntax, TooDeep, TooManyGroups, TooManyLoops, TooLarge, OutOfMemory}
 use Rattle.regress_front_syntax.specs.Readings.{IsNext, IsReading, IsRead}
-use Rattle.regress_front_syntax.specs.Escapes.{from_first, mode_view}
+use Rattle.regress_front_syntax.specs.Escapes.{from_first, class_control, mode_view}
 use Rattle.regress_front_syntax.specs.declared.mode.Mode as declared
 use Rattle.regress_front_syntax.specs.Words.{count_at}
+use Rattle.regress_front_syntax.proofs.TokenLemmas.{some_length}
 
 -- the same is read by a definition that is the same there
 pub IsRead-same : {A B : Type 0} (view : A → B) (reads others : Reads B) (t : List ℕ) (r : Result A Error) (rest : List ℕ) → reads t ≡ others t → IsRead view others t r rest → IsRead view reads t r rest
@@ -34,6 +36,16 @@ reading-some view reads t x rest e h = subst (λ o. IsReading view reads t o res
 
 pub reading-none : {A B : Type 0} (view : A → B) (reads : Reads B) (t : List ℕ) {o : Option A} (rest : List ℕ) → o ≡ None → IsReading view reads t o rest → (reads t ≡ None) × (rest ≡ t)
 reading-none view reads t rest e h = subst (λ o. IsReading view reads t o rest) e h
+
+-- what fails where something else fails, with the same error
+pub IsRead-fails : {A B C D : Type 0} (view : A → B) (reads : Reads B) (t : List ℕ) (e : Error) (rest : List ℕ) (view' : C → D) (others : Reads D) (u : List ℕ) (rest' : List ℕ) →
+    IsRead view reads t (Err e) rest → (reads t ≡ None → others u ≡ None) → IsRead view' others u (Err e) rest'
+IsRead-fails view reads t (Syntax message) rest view' others u rest' h f = f h
+IsRead-fails view reads t OutOfMemory rest view' others u rest' h f = tt
+IsRead-fails view reads t TooDeep rest view' others u rest' h f = absurd h
+IsRead-fails view reads t TooManyGroups rest view' others u rest' h f = absurd h
+IsRead-fails view reads t TooManyLoops rest view' others u rest' h f = absurd h
+IsRead-fails view reads t TooLarge rest view' others u rest' h f = absurd h
 
 -- behind the next code point
 pub next-drop : (t : List ℕ) (o : Option ℕ) (rest : List ℕ) → IsNext t o rest → rest ≡ drop 1 t
@@ -101,6 +113,37 @@ control_letter-none test t e = rw e refl
 pub control_letter-is : (test : ℕ → Bool) (t : List ℕ) (c : ℕ) (r : List ℕ) → t ≡ c ∷ r → control_letter test t ≡ guard (test c) (Some (point (c % 32), r))
 control_letter-is test t c r e = rw e refl
 
+-- what passes, or something else
+or-passed : {A : Type 0} (b : Bool) (x : A) (o : Option A) → (if b then guard b (Some x) else o) ≡ option_or (guard b (Some x)) o
+or-passed true x o = refl
+or-passed false x o = refl
+
+-- a control letter in a class, or something else
+or-control : (a u : Bool) (t : List ℕ) (o : Option (Escape × List ℕ)) →
+    (if a && not u && is_at is_ascii_word t then control_letter is_ascii_word t else o) ≡ option_or (guard (not u && a) (control_letter is_ascii_word t)) o
+or-control false true t o = refl
+or-control false false t o = refl
+or-control true true t o = refl
+or-control true false [] o = refl
+or-control true false (c ∷ t) o = or-passed (is_ascii_word c) _ o
+
+-- a code point that is known, or something else
+known_k : (c : ℕ) (named : Bool) (t : List ℕ) (o : Option (Escape × List ℕ)) →
+    (if c == 0x6B then guard (not named) (Some (point c, t)) else o) ≡ (if c == 0x6B then guard (not named) (Some (point 0x6B, t)) else o)
+known_k c named t o = elim (cases_Bool (c == 0x6B)) [
+  | inl e ↦ let k = eqb-true c 0x6B e in ap (λ d. if c == 0x6B then guard (not named) (Some (point d, t)) else o) k
+  | inr e ↦ rw e refl
+]
+
+-- whether something is found does not depend on how it is seen
+is_some-map : {A B : Type 0} (f : A → B) (o : Option A) → is_some (option_map f o) ≡ is_some o
+is_some-map f None = refl
+is_some-map f (Some x) = refl
+
+-- what was looked up is there or not
+pub looked_up : {A B : Type 0} (found : List ℕ → Option B) (f : A → B) (o : Option A) {text key : List ℕ} → option_map f o ≡ found text → text ≡ key → is_some o ≡ is_some (found key)
+looked_up found f o e same = sym (is_some-map f o) ∙ ap is_some e ∙ ap (λ k. is_some (found k)) same
+
 -- each group has a name, which may be empty
 pub length-names : (mode : declared.Mode) → length (mode_view mode).names ≡ length mode.names.items
 length-names mode = length-map _ _
@@ -152,6 +195,43 @@ module _ (m : Mode) where
   property_at-is [] = refl
   property_at-is (c ∷ t) = refl
 
+  -- no key, no property
+  pub property-no_key : (t : List ℕ) → key_at (drop 1 t) ≡ None → from_first (property_at m) t ≡ None
+  property-no_key t none = rw (property_at-is, none) refl
+
+  module _ (t key r : List ℕ) (read : key_at (drop 1 t) ≡ Some (key, r)) where
+    pub property-positive : true ≡ is_at (λ c. c == 0x70) t → is_some (m.table.property key) ≡ true → from_first (property_at m) t ≡ Some (property key, r)
+    property-positive p known = rw (property_at-is, read, ← p, known) refl
+
+    pub property-negative : false ≡ is_at (λ c. c == 0x70) t → is_some (m.table.property key) ≡ true → from_first (property_at m) t ≡ Some (complement (property key), r)
+    property-negative p known = rw (property_at-is, read, ← p, known) refl
+
+    pub property-sequences : true ≡ is_at (λ c. c == 0x70) t → is_some (m.table.property key) ≡ false → m.sets ≡ true → is_some (m.table.sequences key) ≡ true → from_first (property_at m) t ≡ Some (sequences key, r)
+    property-sequences p unknown sets known = rw (property_at-is, read, ← p, unknown, sets, known) refl
+
+    pub property-unknown : is_some (m.table.property key) ≡ false → (is_at (λ c. c == 0x70) t && m.sets && is_some (m.table.sequences key)) ≡ false → from_first (property_at m) t ≡ None
+    property-unknown unknown none = elim (cases_Bool (is_at (λ c. c == 0x70) t)) [
+      | inl p ↦ rw (property_at-is, read, p, unknown, rw p at none) refl
+      | inr p ↦ rw (property_at-is, read, p, unknown) refl
+    ]
+
+  -- behind `\\k`: no name, a name that no group has, a name
+  pub named-no_angle : (t : List ℕ) → false ≡ is_at (λ d. d == 0x3C) t → named_reference m t ≡ None
+  unfolding named_reference
+  named-no_angle t e = rw (← e) refl
+
+  pub named-no_name : (t : List ℕ) → true ≡ is_at (λ d. d == 0x3C) t → name_at m.table (drop 1 t) ≡ None → named_reference m t ≡ None
+  unfolding named_reference
+  named-no_name t e none = rw (← e, none) refl
+
+  pub named-no_group : (t name r ks : List ℕ) → true ≡ is_at (λ d. d == 0x3C) t → name_at m.table (drop 1 t) ≡ Some (name, r) → ks ≡ numbers_from 0 name m.names → (length ks == 0) ≡ true → named_reference m t ≡ None
+  unfolding named_reference
+  named-no_group t name r ks e read is none = rw (← e, read, ← is, some_length, none) refl
+
+  pub named-groups : (t name r ks : List ℕ) → true ≡ is_at (λ d. d == 0x3C) t → name_at m.table (drop 1 t) ≡ Some (name, r) → ks ≡ numbers_from 0 name m.names → (length ks == 0) ≡ false → named_reference m t ≡ Some (groups ks, r)
+  unfolding named_reference
+  named-groups t name r ks e read is some = rw (← e, read, ← is, some_length, some) refl
+
   pub octal_or_digit-unicode : (t : List ℕ) → m.unicode ≡ true → from_first (octal_or_digit m) t ≡ None
   unfolding octal_or_digit
   octal_or_digit-unicode [] h = refl
@@ -196,3 +276,41 @@ module _ (m : Mode) where
       let n = is.0 in
       let past : nat_le n (length m.names) ≡ false = grind (arith, nat_tests) in
       rw (is.1, past) refl
+
+  pub escape_at-none : (t : List ℕ) → t ≡ [] → escape_at m t ≡ None
+  unfolding escape_at
+  escape_at-none t e = rw e refl
+
+  pub escape_at-set : (t : List ℕ) (c : ℕ) (r : List ℕ) (s : Class) → t ≡ c ∷ r → class_letter c ≡ Some s → escape_at m t ≡ Some (set s, r)
+  unfolding escape_at
+  escape_at-set t c r s e class = rw (e, class) refl
+
+  pub escape_at-point : (t : List ℕ) (c : ℕ) (r : List ℕ) (d : ℕ) → t ≡ c ∷ r → class_letter c ≡ None → control c ≡ Some d → escape_at m t ≡ Some (point d, r)
+  unfolding escape_at
+  escape_at-point t c r d e class letter = rw (e, class, letter) refl
+
+  identity-cons : (c : ℕ) (r : List ℕ) → class_letter c ≡ None → control c ≡ None → false ≡ (c == 0x63) → false ≡ is_digit c → false ≡ (c ∈ "xu") → false ≡ (c ∈ "kpP") → escape_at m (c ∷ r) ≡ identity m c r
+  unfolding escape_at
+  identity-cons c r class letter not_c not_digit not_xu not_kp =
+      let other = λ (d : ℕ). differs (λ k. k ∈ "xu") c d in
+      let no_name = λ (d : ℕ). differs (λ k. k ∈ "kpP") c d in
+      rw (class, letter, ← not_c, (differs is_digit c 0x30 (sym not_digit)).0, ← not_digit, (other 0x78 (sym not_xu)).0, (other 0x75 (sym not_xu)).0,
+      (no_name 0x6B (sym not_kp)).0, (no_name 0x70 (sym not_kp)).0, (no_name 0x50 (sym not_kp)).0) refl
+
+  -- an escape of no other kind
+  pub escape_at-identity : (t : List ℕ) (c : ℕ) (r : List ℕ) → t ≡ c ∷ r → class_letter c ≡ None → control c ≡ None → false ≡ is_at (λ d. d == 0x63) t → false ≡ is_at is_digit t →
+      false ≡ is_at (λ d. d ∈ "xu") t → false ≡ is_at (λ d. d ∈ "kpP") t → escape_at m t ≡ from_first (identity m) t
+  escape_at-identity t c r e class letter not_c not_digit not_xu not_kp =
+      rw e (identity-cons c r class letter (rw e at not_c) (rw e at not_digit) (rw e at not_xu) (rw e at not_kp))
+
+  -- an escape in a class, by the next code point
+  pub class_escape_at-is : (t : List ℕ) → class_escape_at m t ≡ (
+      if is_at (λ c. c == 0x62) t then Some (point 8, drop 1 t)
+      else if is_at (λ c. c == 0x2D) t then Some (point 0x2D, drop 1 t)
+      else option_or (class_control m t) (
+        if is_at is_digit t && not (is_at (λ c. c == 0x30) t) then from_first (octal_or_digit m) t
+        else if is_at (λ c. c == 0x6B) t then guard (not m.named) (Some (point 0x6B, drop 1 t))
+        else escape_at m t))
+  unfolding class_escape_at
+  class_escape_at-is [] = rw (and-false, escape_at-none [] refl) refl
+  class_escape_at-is (c ∷ t) = rw (or-control, known_k) refl

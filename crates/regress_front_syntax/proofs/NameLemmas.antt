@@ -1,11 +1,17 @@
 -- How a group's name is read, one code point after another, and what a property's key is read from.
-use Rattle.std.proofs.Common.{◌≡◌, ℕ, zero, suc, ◌+◌, ◌-◌, ◌<◌, ◌≤◌, ◌==◌, ◌||◌, ◌&&◌, not, Bool, true, false, nat_lt, nat_eq, List, [], ◌∷◌, ◌++◌, length, drop, Option, Some, None, refl, sym, ap, subst, ◌∙◌, ◌⊎◌, inl, inr, arith, append_assoc, append-nil}
+use Rattle.std.proofs.Common.{◌≡◌, ℕ, zero, suc, ◌+◌, ◌-◌, ◌<◌, ◌≤◌, ◌==◌, ◌||◌, ◌&&◌, not, Bool, true, false, nat_lt, nat_eq, List, [], ◌∷◌, ◌++◌, length, drop, Option, Some, None, refl, sym, ap, subst, ◌∙◌, ◌⊎◌, inl, inr, arith, append_assoc, append-nil, lit<}
 use Rattle.std.specs.Prelude.{if◌then◌else◌, option_map, option_and_then}
-use Rattle.std.proofs.lemmas.Bool.{cond_both}
+use Rattle.std.proofs.lemmas.Bool.{cond_both, and_parts}
 use Rattle.regress_meaning.specs.Text.{is_at, span}
 use Rattle.regress_meaning.specs.Table.{Table}
 use Rattle.regress_meaning.specs.Class.{is_ascii_word}
 use Rattle.regress_meaning.specs.Tokens.{guard, begins_name, continues_name, unicode_escape, name_point, name_rest, name_at, key_at}
+use Rattle.std.specs.List.{list_all}
+use Rattle.std.specs.Str.{IsAscii}
+use Rattle.std.proofs.lemmas.Str.{IsAscii-append}
+use Rattle.std.proofs.lemmas.Bool.Decides.{nat_tests}
+use Rattle.regress_meaning.proofs.Inversion.{Gives, gives-none, gives-some, gives-if, gives-guard}
+use Rattle.regress_front_syntax.proofs.SpanLemmas.{span-passes}
 use Rattle.regress_meaning.proofs.Shorter.{name_point-shorter}
 use Rattle.regress_front_syntax.specs.Readings.{IsNext, IsReading}
 use Rattle.regress_front_syntax.proofs.TokenLemmas.{some_length}
@@ -121,3 +127,27 @@ pub key_at-is : (t : List ℕ) → key_at t ≡ guard (is_at (λ c. c == 0x7B) t
 unfolding key_at
 key_at-is [] = refl
 key_at-is (c ∷ t) = rw (guard_both, some_length, guard_three, some_length) refl
+
+-- words are ASCII
+words-ascii : (ds : List ℕ) → list_all is_ascii_word ds ≡ true → IsAscii ds
+words-ascii [] h i = lit< tt
+words-ascii (d ∷ ds) h zero = let word = (and_parts (is_ascii_word d) (list_all is_ascii_word ds) h).0 in grind (arith, nat_tests)
+words-ascii (d ∷ ds) h (suc i) = words-ascii ds (and_parts (is_ascii_word d) (list_all is_ascii_word ds) h).1 i
+
+cons-ascii : (c : ℕ) (ds : List ℕ) → c < 128 → IsAscii ds → IsAscii (c ∷ ds)
+cons-ascii c ds small h zero = small
+cons-ascii c ds small h (suc i) = h i
+
+-- keys are ASCII
+pub key-ascii : (t : List ℕ) → Gives (λ p. IsAscii p.0) (key_at t)
+unfolding key_at
+key-ascii [] = gives-none
+key-ascii (c ∷ t) =
+    let name = span is_ascii_word t in
+    let value = span is_ascii_word (drop 1 name.1) in
+    let end = λ (d : ℕ). d == 0x7D in
+    let names = words-ascii name.0 (span-passes is_ascii_word t refl) in
+    let values = cons-ascii 0x3D value.0 (lit< tt) (words-ascii value.0 (span-passes is_ascii_word (drop 1 name.1) refl)) in
+    gives-guard (c == 0x7B && nat_lt 0 (length name.0)) (λ _. gives-if (is_at end name.1) (λ _. gives-some names)
+    (λ _. gives-guard (is_at (λ d. d == 0x3D) name.1 && nat_lt 0 (length value.0) && is_at end value.1)
+    (λ _. gives-some (IsAscii-append name.0 (0x3D ∷ value.0) names values))))

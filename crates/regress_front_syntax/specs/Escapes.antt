@@ -1,11 +1,22 @@
 -- What the parser's values of modes and escapes stand for.
-use Rattle.std.specs.Prelude.{◌≤◌, ℕ, List, [], ◌∷◌, Option, None, length, map}
+use Rattle.std.specs.Prelude.{◌≤◌, ℕ, not, ◌&&◌, ◌==◌, List, [], ◌∷◌, Option, None, length, map, drop, option_map, option_to_list}
+use Rattle.std.specs.Global.{Vec}
+use Rattle.regress_meaning.specs.Text.{is_at}
+use Rattle.regress_meaning.specs.Class.{is_ascii_word}
 use Rattle.regress_meaning.specs.Tokens as meaning
 use Rattle.regress_front_sets.specs.TableViews.{table}
 use Rattle.regress_front_syntax.specs.declared.mode.Mode.{Mode}
 use Rattle.regress_front_syntax.specs.declared.escape.Escape.{Escape}
 use Rattle.regress_front_syntax.specs.declared.escape.Escape.TheVariants.{Point, Set, Groups}
 use Rattle.regress_front_syntax.specs.Trees.{class_view}
+
+-- the texts that names hold
+abbrev pub texts : Vec (Vec ℕ) → List (List ℕ)
+texts names = map (λ name. name.items) names.items
+
+-- the name of a group that was opened, if one was
+abbrev pub opened : Option (Vec ℕ) → List (List ℕ)
+opened name = option_to_list (option_map (λ n. n.items) name)
 
 -- what a mode stands for
 abbrev pub mode_view : Mode → meaning.Mode
@@ -14,7 +25,7 @@ mode_view m = record {
   unicode = m.unicode;
   sets = m.sets;
   named = m.named;
-  names = map (λ name. name.items) m.names.items;
+  names = texts m.names;
 }
 
 -- the groups can be numbered by 16 bits
@@ -31,3 +42,7 @@ escape_view (Groups ks) = meaning.groups ks.items
 abbrev pub from_first : {A : Type 0} → (ℕ → meaning.Reads A) → meaning.Reads A
 from_first read [] = None
 from_first read (c ∷ t) = read c t
+
+-- in a class, without Unicode mode: `c` and a letter, a digit or `_`
+abbrev pub class_control : meaning.Mode → meaning.Reads meaning.Escape
+class_control m t = meaning.guard (not m.unicode && is_at (λ c. c == 0x63) t) (meaning.control_letter is_ascii_word (drop 1 t))

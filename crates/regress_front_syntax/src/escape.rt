@@ -1,12 +1,12 @@
 //! Escapes of a pattern: what stands behind a backslash.
-ghost use Rattle.std.specs.Prelude.{◌≡◌, ℕ, ◌==◌, Bool, true, nat_lt, IfOk, IfErr, option_map, chars};
-ghost use Rattle.std.specs.List.{list_all};
+ghost use Rattle.std.specs.Prelude.{◌≡◌, ℕ, ◌==◌, Bool, true, IfOk, IfErr, option_map, chars};
+ghost use Rattle.std.specs.Str.{IsAscii};
 ghost use Rattle.std.specs.String.{string_bytes};
 ghost use Rattle.regress_meaning.specs.Text.{◌∈◌, is_at};
 ghost use Rattle.regress_meaning.specs.Class.{is_digit, is_letter};
 ghost use Rattle.regress_meaning.specs.Tokens.{point, control, class_letter, control_letter, property_at, named_reference, octal_or_digit, decimal_escape, identity, escape_at, class_escape_at};
 ghost use Rattle.regress_front_syntax.specs.Readings.{Tells, IsReading, IsRead};
-ghost use Rattle.regress_front_syntax.specs.Escapes.{mode_view, escape_view, from_first, HasFewGroups};
+ghost use Rattle.regress_front_syntax.specs.Escapes.{class_control, mode_view, escape_view, from_first, HasFewGroups};
 ghost use Rattle.regress_front_syntax.specs.Trees.{class_view};
 
 use crate::cursor::{Cursor, is_one_of};
@@ -69,7 +69,7 @@ fn class_letter(alloc: Global, letter: CodePoint) -> Result<Option<Class>, Error
 
 /// The text of a key, for a look-up in tables. `OutOfMemory` is the only error.
 fn key_text(alloc: Global, key: &[CodePoint]) -> Result<String, Error>
-    ensures ok { IfOk result (λ text. list_all (λ c. nat_lt c 0x80) key.now ≡ true → chars (string_bytes text) ≡ key.now) }
+    ensures ok { IfOk result (λ text. IsAscii key.now → chars (string_bytes text) ≡ key.now) }
     ensures err { IfErr result (λ e. e ≡ Error.OutOfMemory) }
 {
     let mut text = String::new(alloc);
@@ -91,9 +91,11 @@ impl Cursor<'_> {
         ensures kept { SameText self.old self.new }
     {
         let mut ahead = *self;
-        let letter = ahead.next().ok_or(Error::Syntax {
-            text: INVALID_ESCAPE,
-        })?;
+        let Some(letter) = ahead.next() else {
+            return Err(Error::Syntax {
+                text: INVALID_ESCAPE,
+            });
+        };
         if let Some(class) = class_letter(alloc, letter)? {
             *self = ahead;
             return Ok(Escape::Set(class));
@@ -102,13 +104,19 @@ impl Cursor<'_> {
             *self = ahead;
             return Ok(Escape::Point(point));
         }
-        match char::from_u32(letter) {
-            Some('c') => self.control_escape(mode),
-            Some('0'..='9') => self.number_escape(alloc, mode),
-            Some('x' | 'u') => self.hex_escape(mode),
-            Some('k' | 'p' | 'P') => self.name_escape(alloc, mode),
-            _ => self.identity(mode),
+        if self.is_at('c') {
+            return self.control_escape(mode);
         }
+        if self.is_at_digit() {
+            return self.number_escape(alloc, mode);
+        }
+        if self.is_at_any("xu") {
+            return self.hex_escape(mode);
+        }
+        if self.is_at_any("kpP") {
+            return self.name_escape(alloc, mode);
+        }
+        self.identity(mode)
     }
 
     /// Behind the backslash, in a class without `v` ("ClassEscape"). A syntax error where no escape stands here.
@@ -117,33 +125,42 @@ impl Cursor<'_> {
         ensures read { IsRead escape_view (class_escape_at (mode_view mode.now)) (unread self.old) result (unread self.new) }
         ensures kept { SameText self.old self.new }
     {
-        let mut ahead = *self;
-        let letter = ahead.next().ok_or(Error::Syntax {
-            text: INVALID_ESCAPE,
-        })?;
-        match char::from_u32(letter) {
-            Some('b') => {
-                *self = ahead;
-                Ok(Escape::Point(8))
-            }
-            Some('-') => {
-                *self = ahead;
-                Ok(Escape::Point(letter))
-            }
-            Some('c') if !mode.unicode && ahead.is_at_word() => {
-                *self = ahead;
-                self.control_letter(is_ascii_word)
-                    .map(Escape::Point)
-                    .ok_or(Error::Syntax {
-                        text: INVALID_ESCAPE,
-                    })
-            }
-            Some('1'..='9') => self.octal_or_digit(mode),
-            Some('k') if mode.named => Err(Error::Syntax {
-                text: INVALID_ESCAPE,
-            }),
-            _ => self.escape(alloc, mode),
+        if self.eat('b') {
+            return Ok(Escape::Point(8));
         }
+        if self.eat('-') {
+            return Ok(Escape::Point(CodePoint::from('-')));
+        }
+        if let Some(point) = self.class_control(mode) {
+            return Ok(Escape::Point(point));
+        }
+        if self.is_at_digit() && !self.is_at('0') {
+            return self.octal_or_digit(mode);
+        }
+        if !self.is_at('k') {
+            return self.escape(alloc, mode);
+        }
+        if mode.named {
+            return Err(Error::Syntax {
+                text: INVALID_ESCAPE,
+            });
+        }
+        self.bump();
+        Ok(Escape::Point(CodePoint::from('k')))
+    }
+
+    /// In a class, without Unicode mode: `c` and a letter, a digit or `_`.
+    fn class_control(&mut self, mode: &Mode) -> Option<CodePoint>
+        ensures read { IsReading (λ c. point c) (class_control (mode_view mode.now)) (unread self.old) result (unread self.new) }
+        ensures kept { SameText self.old self.new }
+    {
+        let mut ahead = *self;
+        if mode.unicode || !ahead.eat('c') {
+            return None;
+        }
+        let point = ahead.control_letter(is_ascii_word)?;
+        *self = ahead;
+        Some(point)
     }
 
     /// Behind `\c`: a code point that passes, as its value modulo 32.
@@ -278,12 +295,12 @@ impl Cursor<'_> {
         self.next();
         let key = self.key(alloc)?;
         let text = key_text(alloc, &key)?;
-        let is_known = mode.tables.property(text.as_str()).is_some();
-        if is_known && is_positive {
-            return Ok(Class::Property(key));
-        }
-        if is_known {
-            return Ok(Class::Complement(Box::new(alloc, Class::Property(key))?));
+        if mode.tables.property(text.as_str()).is_some() {
+            let property = Class::Property(key);
+            if is_positive {
+                return Ok(property);
+            }
+            return Ok(Class::Complement(Box::new(alloc, property)?));
         }
         if is_positive && mode.sets && mode.tables.sequences(text.as_str()).is_some() {
             return Ok(Class::Sequences(key));

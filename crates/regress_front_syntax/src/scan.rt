@@ -1,16 +1,26 @@
 //! The groups of a pattern, found by a scan of its text before its tree is known.
-ghost use Rattle.std.specs.Prelude.{◌≡◌, ◌++◌, ◌∷◌, [], false, length, map, option_map, option_to_list, OnOk, IfOk, IfErr};
-ghost use Rattle.regress_meaning.specs.Flags.{is_unicode};
+ghost use Rattle.std.specs.Prelude.{◌≡◌, ◌==◌, not, false, OnOk, IfOk, IfErr, if◌then◌else◌};
 ghost use Rattle.regress_meaning.specs.Grammar.{opens_name, holds_a_name, mode_of};
 ghost use Rattle.regress_meaning.specs.Scan.{after_escape, opened_groups, group_names, scanned_names};
 ghost use Rattle.regress_front_sets.specs.FlagWords.{options};
 ghost use Rattle.regress_front_sets.specs.TableViews.{table};
-ghost use Rattle.regress_front_syntax.specs.Escapes.{mode_view};
+ghost use Rattle.regress_front_syntax.specs.Escapes.{mode_view, texts, opened};
 
 use crate::cursor::Cursor;
 use crate::mode::Mode;
 use regress_front_sets::{CodePoint, Error, Flags, Tables};
 use std::alloc::Global;
+
+/// Whether a scan stands in a class behind the code point. Brackets inside a class are not paired.
+fn is_in_class_behind(in_class: bool, point: CodePoint) -> bool
+    ensures { result ≡ (if in_class then not (point == 0x5D) else point == 0x5B) }
+{
+    match char::from_u32(point) {
+        Some('[') => true,
+        Some(']') => false,
+        _ => in_class,
+    }
+}
 
 /// Whether an opening `(?<` that begins no lookbehind stands in the text outside a class. A backslash and what follows it are
 /// passed over ("ParsePattern", where it asks whether there are group names).
@@ -20,15 +30,13 @@ fn holds_a_name(points: &[CodePoint]) -> bool
     let mut cursor = Cursor::new(points);
     let mut in_class = false;
     while in_class || !cursor.opens_name() {
-        match cursor.next().map(char::from_u32) {
-            None => return false,
-            Some(Some('\\')) => {
-                cursor.next();
-            }
-            Some(Some('[')) => in_class = true,
-            Some(Some(']')) => in_class = false,
-            _ => {}
+        let Some(point) = cursor.next() else {
+            return false;
+        };
+        if point == CodePoint::from('\\') {
+            cursor.next();
         }
+        in_class = is_in_class_behind(in_class, point);
     }
     true
 }
@@ -41,28 +49,21 @@ pub(crate) fn group_names(
     tables: &Tables,
     named: bool,
 ) -> Result<Vec<Vec<CodePoint>>, Error>
-    ensures ok { IfOk result (λ names. map (λ name. name.items) names.items
-        ≡ group_names (table tables.now) named false 0 points.now) }
+    ensures ok { IfOk result (λ names. texts names ≡ group_names (table tables.now) named false 0 points.now) }
     ensures err { IfErr result (λ e. e ≡ Error.OutOfMemory) }
 {
     let mut names = Vec::new(alloc);
     let mut cursor = Cursor::new(points);
     let mut in_class = false;
     while let Some(point) = cursor.next() {
-        match char::from_u32(point) {
-            Some('\\') if in_class => {
+        if in_class {
+            if point == CodePoint::from('\\') {
                 cursor.next();
             }
-            Some('\\') => cursor.pass_escape(alloc, tables, named)?,
-            Some('[') => in_class = true,
-            Some(']') => in_class = false,
-            Some('(') if !in_class => {
-                if let Some(name) = cursor.opened_group(alloc, tables)? {
-                    names.push(name)?;
-                }
-            }
-            _ => {}
+        } else if let Some(name) = cursor.opened_group(alloc, tables, named, point)? {
+            names.push(name)?;
         }
+        in_class = is_in_class_behind(in_class, point);
     }
     Ok(names)
 }
@@ -118,9 +119,8 @@ impl Cursor<'_> {
 
     /// Behind `(`: the name of the group that is opened, empty where it has none, and nothing where the parenthesis opens no
     /// capturing group. Goes on behind the name. `OutOfMemory` is the only error.
-    fn opened_group(&mut self, alloc: Global, tables: &Tables) -> Result<Option<Vec<CodePoint>>, Error>
-        ensures ok { IfOk result (λ name. opened_groups (table tables.now) false 0x28 (unread self.old)
-            ≡ (option_to_list (option_map (λ n. n.items) name), unread self.new)) }
+    fn group_name(&mut self, alloc: Global, tables: &Tables) -> Result<Option<Vec<CodePoint>>, Error>
+        ensures ok { IfOk result (λ name. opened_groups (table tables.now) false 0x28 (unread self.old) ≡ (opened name, unread self.new)) }
         ensures err { IfErr result (λ e. e ≡ Error.OutOfMemory) }
     {
         let mut ahead = *self;
@@ -135,5 +135,27 @@ impl Cursor<'_> {
             *self = ahead;
         }
         Ok(name)
+    }
+
+    /// Behind a code point outside a class: the name of the group that it opens, if it opens one. Goes on behind all that is
+    /// passed over with it. `OutOfMemory` is the only error.
+    fn opened_group(
+        &mut self,
+        alloc: Global,
+        tables: &Tables,
+        named: bool,
+        point: CodePoint,
+    ) -> Result<Option<Vec<CodePoint>>, Error>
+        ensures ok { IfOk result (λ name. opened_groups (table tables.now) named point (unread self.old) ≡ (opened name, unread self.new)) }
+        ensures err { IfErr result (λ e. e ≡ Error.OutOfMemory) }
+    {
+        if point == CodePoint::from('\\') {
+            self.pass_escape(alloc, tables, named)?;
+            return Ok(None);
+        }
+        if point != CodePoint::from('(') {
+            return Ok(None);
+        }
+        self.group_name(alloc, tables)
     }
 }
