@@ -21,15 +21,19 @@ use Rattle.regress_front_syntax.specs.declared.mode.Mode as declared
 use Rattle.regress_front_syntax.specs.Words.{count_at}
 use Rattle.regress_front_syntax.proofs.TokenLemmas.{some_length}
 
+-- the same is read by a definition at one text and by another at another text
+pub IsRead-along : {A B : Type 0} (view : A → B) (reads : Reads B) (t : List ℕ) (others : Reads B) (u : List ℕ) (r : Result A Error) (rest : List ℕ) → reads t ≡ others u → IsRead view others u r rest → IsRead view reads t r rest
+IsRead-along view reads t others u (Ok x) rest e h = e ∙ h
+IsRead-along view reads t others u (Err (Syntax message)) rest e h = e ∙ h
+IsRead-along view reads t others u (Err OutOfMemory) rest e h = tt
+IsRead-along view reads t others u (Err TooDeep) rest e h = h
+IsRead-along view reads t others u (Err TooManyGroups) rest e h = h
+IsRead-along view reads t others u (Err TooManyLoops) rest e h = h
+IsRead-along view reads t others u (Err TooLarge) rest e h = h
+
 -- the same is read by a definition that is the same there
 pub IsRead-same : {A B : Type 0} (view : A → B) (reads others : Reads B) (t : List ℕ) (r : Result A Error) (rest : List ℕ) → reads t ≡ others t → IsRead view others t r rest → IsRead view reads t r rest
-IsRead-same view reads others t (Ok x) rest e h = e ∙ h
-IsRead-same view reads others t (Err (Syntax message)) rest e h = e ∙ h
-IsRead-same view reads others t (Err OutOfMemory) rest e h = tt
-IsRead-same view reads others t (Err TooDeep) rest e h = h
-IsRead-same view reads others t (Err TooManyGroups) rest e h = h
-IsRead-same view reads others t (Err TooManyLoops) rest e h = h
-IsRead-same view reads others t (Err TooLarge) rest e h = h
+IsRead-same view reads others t r rest e h = IsRead-along view reads t others t r rest e h
 
 pub reading-some : {A B : Type 0} (view : A → B) (reads : Reads B) (t : List ℕ) {o : Option A} (x : A) (rest : List ℕ) → o ≡ Some x → IsReading view reads t o rest → reads t ≡ Some (view x, rest)
 reading-some view reads t x rest e h = subst (λ o. IsReading view reads t o rest) e h
@@ -176,17 +180,31 @@ module _ (m : Mode) where
       let letter : 0x75 ≡ c = grind (arith, nat_tests) in
       rw (← letter) refl
 
-  pub escape_at-k : (t : List ℕ) → true ≡ is_at (λ c. c == 0x6B) t → escape_at m t ≡ (if m.named then named_reference m (drop 1 t) else Some (point 0x6B, drop 1 t))
-  unfolding escape_at
-  escape_at-k t h = let found = is_at-eq 0x6B t (sym h) in rw found.1 refl
+  -- `\\k` where names are read, and where they are not
+  module _ (t : List ℕ) (k : true ≡ is_at (λ c. c == 0x6B) t) where
+    pub escape_at-named : m.named ≡ true → escape_at m t ≡ named_reference m (drop 1 t)
+    unfolding escape_at
+    escape_at-named named = let found = is_at-eq 0x6B t (sym k) in rw (found.1, named) refl
 
-  pub escape_at-p : (t : List ℕ) → is_at (λ c. c ∈ "kpP") t ≡ true → false ≡ is_at (λ c. c == 0x6B) t →
+    pub escape_at-k : m.named ≡ false → escape_at m t ≡ Some (point 0x6B, drop 1 t)
+    unfolding escape_at
+    escape_at-k plain = let found = is_at-eq 0x6B t (sym k) in rw (found.1, plain) refl
+
+  escape_at-p : (t : List ℕ) → is_at (λ c. c ∈ "kpP") t ≡ true → false ≡ is_at (λ c. c == 0x6B) t →
       escape_at m t ≡ (if m.unicode then option_map (λ (s, r). (set s, r)) (from_first (property_at m) t) else from_first (identity m) t)
   unfolding escape_at
   escape_at-p [] h k = cc
   escape_at-p (c ∷ t) h k =
       let letter : (0x70 ≡ c) ⊎ (0x50 ≡ c) = grind (arith, nat_tests) in
       elim letter [ inl e ↦ rw (← e) refl | inr e ↦ rw (← e) refl ]
+
+  -- `\\p` and `\\P` in Unicode mode and outside it
+  module _ (t : List ℕ) (letter : is_at (λ c. c ∈ "kpP") t ≡ true) (p : false ≡ is_at (λ c. c == 0x6B) t) where
+    pub escape_at-property : m.unicode ≡ true → escape_at m t ≡ option_map (λ (s, r). (set s, r)) (from_first (property_at m) t)
+    escape_at-property unicode = rw (escape_at-p t letter p, unicode) refl
+
+    pub escape_at-letter : m.unicode ≡ false → escape_at m t ≡ from_first (identity m) t
+    escape_at-letter plain = rw (escape_at-p t letter p, plain) refl
 
   pub property_at-is : (t : List ℕ) → from_first (property_at m) t ≡ option_and_then (λ (key, r).
       if is_at (λ c. c == 0x70) t then option_map (λ s. (s, r)) (property_of m key)

@@ -1,3 +1,4 @@
+pub mod ClassViews
 pub mod EscapeLemmas
 pub mod ModeLemmas
 pub mod NameLemmas

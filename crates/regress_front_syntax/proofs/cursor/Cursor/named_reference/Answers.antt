@@ -1,8 +1,9 @@
-use Rattle.std.proofs.Common.{refl}
-use Rattle.regress_meaning.specs.Tokens.{escape_at, name_at, named_reference, identity, property_at}
+use Rattle.std.proofs.Common.{◌≡◌, ℕ, ◌==◌, length, vec_len, sym, ap, ◌∙◌, arith}
+use Rattle.std.specs.Global.{Vec}
+use Rattle.regress_meaning.specs.Tokens.{escape_at, class_escape_at, control_letter, named_reference, octal_or_digit, identity, property_at, name_at, key_at, numbers_from}
 use Rattle.regress_front_syntax.specs.Cursors.{unread}
 use Rattle.regress_front_syntax.specs.Trees.{class_view}
-use Rattle.regress_front_syntax.specs.Escapes.{mode_view, escape_view, from_first}
+use Rattle.regress_front_syntax.specs.Escapes.{mode_view, escape_view, from_first, class_control}
 use Rattle.std.proofs.lemmas.Result.{err_from_is_err_and}
 use Rattle.regress_front_syntax.proofs.EscapeLemmas.{IsRead-fails, named-no_angle, named-no_name, named-no_group, named-groups}
 use Rattle.regress_front_syntax.proofs.cursor.Cursor.named_reference.Goals as goal
@@ -14,12 +15,22 @@ pub returns-in_err-name-clause-read : goal.returns-in_err-name-clause-read
 returns-in_err-name-clause-read c =
     let p = err_from_is_err_and c.from_residual.result c.from_residual.ensures.1 in
     let m = mode_view c.args.mode.now in
-    ?
+    rw (p.1, p.2)
+    (IsRead-fails {A = Vec ℕ} (λ name. name.items) (name_at m.table) (unread c.eat.new.self) c.in_err-name.field-0.0 _ escape_view (named_reference m) _ _ c.in_err-name.ensures.read
+    (λ none. named-no_name m _ c.if-not-eat.ensures.found (rw c.if-not-eat.ensures.read at none)))
 
 pub returns-then-is_empty-clause-read : goal.returns-then-is_empty-clause-read
 returns-then-is_empty-clause-read c =
-    ?
+    let groups = c.in_ok-groups.groups in
+    let count : length groups.items ≡ vec_len groups = omega (arith, groups.ok.0) in
+    let numbers = rw (c.deref.ensures.value, c.deref-2.ensures.value) at c.in_ok-groups.ensures.ok in
+    named-no_group (mode_view c.args.mode.now) _ c.in_ok-name.name.items _ groups.items c.if-not-eat.ensures.found (rw c.if-not-eat.ensures.read at c.in_ok-name.ensures.read) numbers
+    (ap (λ n. n == 0) count ∙ sym c.is_empty.ensures ∙ c.if-is_empty.true)
 
 pub returns-clause-read : goal.returns-clause-read
 returns-clause-read c =
-    ?
+    let groups = c.in_ok-groups.groups in
+    let count : length groups.items ≡ vec_len groups = omega (arith, groups.ok.0) in
+    let numbers = rw (c.deref.ensures.value, c.deref-2.ensures.value) at c.in_ok-groups.ensures.ok in
+    named-groups (mode_view c.args.mode.now) _ c.in_ok-name.name.items _ groups.items c.if-not-eat.ensures.found (rw c.if-not-eat.ensures.read at c.in_ok-name.ensures.read) numbers
+    (ap (λ n. n == 0) count ∙ sym c.is_empty.ensures ∙ c.if-is_empty.false)
