@@ -3,7 +3,7 @@ use Rattle.std.proofs.Common.{◌≡◌, ℕ, zero, suc, ◌+◌, ◌-◌, ◌<�
 use Rattle.std.specs.Prelude.{if◌then◌else◌, option_map, unwrap_or}
 use Rattle.std.specs.List.{starts_with}
 use Rattle.std.specs.Global.{Vec}
-use Rattle.std.proofs.lemmas.List.{map_push}
+use Rattle.std.proofs.lemmas.List.{map_push, drop-drop}
 use Rattle.std.proofs.lemmas.Bool.{cond_both, cases_Bool}
 use Rattle.regress_meaning.specs.Text.{◌∈◌, is_at}
 use Rattle.regress_meaning.specs.Table.{Table}
@@ -14,6 +14,7 @@ use Rattle.regress_meaning.proofs.ScanWords.{Behind, here, past, behind_trans, n
 use Rattle.regress_meaning.proofs.Inversion.{Gives, option-cases}
 use Rattle.regress_front_syntax.specs.Escapes.{texts, opened}
 use Rattle.regress_front_syntax.specs.Readings.{IsReading}
+use Rattle.regress_front_syntax.proofs.TokenLemmas.{same_either_way, starts_with_two}
 
 -- whether a scan stands in a class behind c
 abbrev pub class_behind : Bool → ℕ → Bool
@@ -44,9 +45,27 @@ unfolding holds_a_name
 holds-found [] e = cc
 holds-found (c ∷ t) e = rw e refl
 
+-- three characters side by side and what is asked of the rest, in one order or the other
+one_of_three : (x y z : Bool) → ((x && false) && y) ≡ (x && (false && z))
+one_of_three true y z = refl
+one_of_three false y z = refl
+
+two_of_three : (w x y z : Bool) → ((w && (x && false)) && y) ≡ (w && (x && (false && z)))
+two_of_three true x y z = one_of_three x y z
+two_of_three false x y z = refl
+
+three_of_three : (v w x y : Bool) → ((v && (w && (x && true))) && y) ≡ (v && (w && (x && y)))
+three_of_three true true true y = refl
+three_of_three true true false y = refl
+three_of_three true false x y = refl
+three_of_three false w x y = refl
+
 -- an opening, one character after another
 pub opens_name-is : (t : List ℕ) → opens_name t ≡ (is_at (λ c. c == 0x28) t && (is_at (λ c. c == 0x3F) (drop 1 t) && (is_at (λ c. c == 0x3C) (drop 1 (drop 1 t)) && not (is_at (λ c. c ∈ "=!") (drop 1 (drop 1 (drop 1 t)))))))
-opens_name-is t = ?
+opens_name-is [] = refl
+opens_name-is (c ∷ []) = rw (same_either_way 0x28 c) (one_of_three (c == 0x28) _ _)
+opens_name-is (c ∷ d ∷ []) = rw (same_either_way 0x28 c, same_either_way 0x3F d) (two_of_three (c == 0x28) (d == 0x3F) _ _)
+opens_name-is (c ∷ d ∷ e ∷ t) = rw (same_either_way 0x28 c, same_either_way 0x3F d, same_either_way 0x3C e) (three_of_three (c == 0x28) (d == 0x3F) (e == 0x3C) _)
 
 -- r stands so many code points behind t
 record Dropped (t r : List ℕ) : Type 0 where
@@ -70,16 +89,71 @@ unfolding group_names
 names-end table named b t e = rw e refl
 
 -- one code point in a class
+drop-skipped : (b : Bool) (t : List ℕ) → drop (if b then 1 else 0) t ≡ (if b then drop 1 t else t)
+drop-skipped true t = refl
+drop-skipped false t = refl
+
 pub names-in_class : (table : Table) (named : Bool) (c : ℕ) (t : List ℕ) → group_names table named true 0 (c ∷ t) ≡ group_names table named (class_behind true c) 0 (skipped c t)
 unfolding group_names
-names-in_class table named c t = ?
+names-in_class table named c t =
+    names-passed table named (not (c == 0x5D)) (if c == 0x5C then 1 else 0) t ∙ ap (group_names table named (not (c == 0x5D)) 0) (drop-skipped (c == 0x5C) t)
+
+drop-behind : (n : ℕ) (t : List ℕ) → Behind t (drop n t)
+drop-behind zero t = here
+drop-behind (suc n) [] = here
+drop-behind (suc n) (c ∷ t) = past (drop-behind n t)
+
+-- a name that stands two code points on ends behind t
+name-behind : (table : Table) (t : List ℕ) {x : List ℕ × List ℕ} → name_at table (drop 2 t) ≡ Some x → Behind t x.1
+name-behind table t e = behind_trans (drop-behind 2 t) ((name-ends table (drop 2 t)).holds e)
+
+escape-behind : (b : Bool) (t : List ℕ) (o : Option (List ℕ × List ℕ)) → ((x : List ℕ × List ℕ) → o ≡ Some x → Behind t x.1) → Behind t (unwrap_or (guard b (option_map (λ (name, r). r) o)) (drop 1 t))
+escape-behind true t (Some x) h = h x refl
+escape-behind true t None h = drop-behind 1 t
+escape-behind false t o h = drop-behind 1 t
+
+group-behind : (t : List ℕ) (o : Option (List ℕ × List ℕ)) → ((x : List ℕ × List ℕ) → o ≡ Some x → Behind t x.1) → Behind t (unwrap_or (option_map {U = List (List ℕ) × List ℕ} (λ (name, r). (name ∷ [], r)) o) ([], t)).1
+group-behind t (Some x) h = h x refl
+group-behind t None h = here
+
+-- what c opens leads to an end of the text
+opened-behind : (table : Table) (named : Bool) (c : ℕ) (t : List ℕ) → Behind t (opened_groups table named c t).1
+opened-behind table named c t =
+    let Ends = λ (p : List (List ℕ) × List ℕ). Behind t p.1 in
+    cond_both (c == 0x5C) _ _ Ends (λ _. escape-behind _ t (name_at table (drop 2 t)) (λ x. name-behind table t))
+    (λ _. cond_both (not (c == 0x28)) _ _ Ends (λ _. here)
+    (λ _. cond_both (not (is_at (λ d. d == 0x3F) t)) _ _ Ends (λ _. here)
+    (λ _. cond_both (opens_name (c ∷ t)) _ _ Ends (λ _. group-behind t (name_at table (drop 2 t)) (λ x. name-behind table t)) (λ _. here))))
 
 -- one code point outside, with what it opens
 pub names-outside : (table : Table) (named : Bool) (c : ℕ) (t r : List ℕ) (names : List (List ℕ)) → opened_groups table named c t ≡ (names, r) →
     group_names table named false 0 (c ∷ t) ≡ names ++ group_names table named (class_behind false c) 0 r
 unfolding group_names
-names-outside table named c t r names e = ?
+names-outside table named c t r names e =
+    let behind = dropped-from_behind (subst (Behind t) (ap (λ (p : List (List ℕ) × List ℕ). p.1) e) (opened-behind table named c t)) in
+    let count : length t - length r ≡ behind.count = omega (arith, behind.whole) in
+    rw (e, names-passed, count, behind.rest) refl
 
--- one more name that was found
-pub texts-push : (names : List (Vec ℕ)) (name : Option (Vec ℕ)) (all rest : List (List ℕ)) → all ≡ map (λ n. n.items) names ++ (opened name ++ rest) → ?
-texts-push names name all rest e = ?
+-- behind a backslash: a whole name, or one code point
+pub after_escape-name : (table : Table) (t name r : List ℕ) → true ≡ is_at (λ c. c == 0x6B) t → true ≡ is_at (λ c. c == 0x3C) (drop 1 t) → name_at table (drop 1 (drop 1 t)) ≡ Some (name, r) → after_escape table true t ≡ r
+after_escape-name table t name r k angle read = rw (starts_with_two, ← k, ← angle, ← drop-drop, read) refl
+
+pub after_escape-other : (table : Table) (named : Bool) (t : List ℕ) → (named && (is_at (λ c. c == 0x6B) t && is_at (λ c. c == 0x3C) (drop 1 t))) ≡ false → after_escape table named t ≡ drop 1 t
+after_escape-other table named t other = rw (starts_with_two, other) refl
+
+pub after_escape-no_name : (table : Table) (named : Bool) (t : List ℕ) → name_at table (drop 1 (drop 1 t)) ≡ None → after_escape table named t ≡ drop 1 t
+after_escape-no_name table named t none = ?
+
+-- behind a parenthesis
+pub opened-unnamed : (table : Table) (named : Bool) (t : List ℕ) → false ≡ is_at (λ d. d == 0x3F) t → opened_groups table named 0x28 t ≡ ([] ∷ [], t)
+opened-unnamed table named t e = rw (← e) refl
+
+pub opened-other : (table : Table) (named : Bool) (t : List ℕ) → true ≡ is_at (λ d. d == 0x3F) t → (is_at (λ c. c == 0x3C) (drop 1 t) && not (is_at (λ c. c ∈ "=!") (drop 1 (drop 1 t)))) ≡ false → opened_groups table named 0x28 t ≡ ([], t)
+opened-other table named t question other = rw (opens_name-is, ← question, other) refl
+
+module _ (table : Table) (named : Bool) (t : List ℕ) (question : true ≡ is_at (λ d. d == 0x3F) t) (opens : (is_at (λ c. c == 0x3C) (drop 1 t) && not (is_at (λ c. c ∈ "=!") (drop 1 (drop 1 t)))) ≡ true) where
+  pub opened-no_name : name_at table (drop 1 (drop 1 t)) ≡ None → opened_groups table named 0x28 t ≡ ([], t)
+  opened-no_name none = rw (opens_name-is, ← question, opens, ← drop-drop, none) refl
+
+  pub opened-name : (name r : List ℕ) → name_at table (drop 1 (drop 1 t)) ≡ Some (name, r) → opened_groups table named 0x28 t ≡ (name ∷ [], r)
+  opened-name name r read = rw (opens_name-is, ← question, opens, ← drop-drop, read) refl

@@ -84,7 +84,7 @@ braces_at-is [] = refl
 braces_at-is (c ∷ t) = guard_first (c == 0x7B) _ _ _ _
 
 -- a test for equality, either way round
-same_either_way : (a b : ℕ) → nat_eq a b ≡ (b == a)
+pub same_either_way : (a b : ℕ) → nat_eq a b ≡ (b == a)
 same_either_way a b = grind (arith, nat_tests)
 
 -- two characters, one behind the other
