@@ -4,7 +4,7 @@ use Rattle.std.specs.Prelude.{if◌then◌else◌, option_map, unwrap_or}
 use Rattle.std.specs.List.{starts_with}
 use Rattle.std.specs.Global.{Vec}
 use Rattle.std.proofs.lemmas.List.{map_push, drop-drop}
-use Rattle.std.proofs.lemmas.Bool.{cond_both, cases_Bool}
+use Rattle.std.proofs.lemmas.Bool.{cond_both, cases_Bool, ne_eqb}
 use Rattle.regress_meaning.specs.Text.{◌∈◌, is_at}
 use Rattle.regress_meaning.specs.Table.{Table}
 use Rattle.regress_meaning.specs.Tokens.{guard, name_at}
@@ -63,8 +63,8 @@ three_of_three false w x y = refl
 -- an opening, one character after another
 pub opens_name-is : (t : List ℕ) → opens_name t ≡ (is_at (λ c. c == 0x28) t && (is_at (λ c. c == 0x3F) (drop 1 t) && (is_at (λ c. c == 0x3C) (drop 1 (drop 1 t)) && not (is_at (λ c. c ∈ "=!") (drop 1 (drop 1 (drop 1 t)))))))
 opens_name-is [] = refl
-opens_name-is (c ∷ []) = rw (same_either_way 0x28 c) (one_of_three (c == 0x28) _ _)
-opens_name-is (c ∷ d ∷ []) = rw (same_either_way 0x28 c, same_either_way 0x3F d) (two_of_three (c == 0x28) (d == 0x3F) _ _)
+opens_name-is (c ∷ []) = rw (same_either_way 0x28 c) (one_of_three (c == 0x28) true true)
+opens_name-is (c ∷ d ∷ []) = rw (same_either_way 0x28 c, same_either_way 0x3F d) (two_of_three (c == 0x28) (d == 0x3F) true true)
 opens_name-is (c ∷ d ∷ e ∷ t) = rw (same_either_way 0x28 c, same_either_way 0x3F d, same_either_way 0x3C e) (three_of_three (c == 0x28) (d == 0x3F) (e == 0x3C) _)
 
 -- r stands so many code points behind t
@@ -132,17 +132,23 @@ unfolding group_names
 names-outside table named c t r names e =
     let behind = dropped-from_behind (subst (Behind t) (ap (λ (p : List (List ℕ) × List ℕ). p.1) e) (opened-behind table named c t)) in
     let count : length t - length r ≡ behind.count = omega (arith, behind.whole) in
-    rw (e, names-passed, count, behind.rest) refl
+    let there = names-passed table named (c == 0x5B) (length t - length r) t in
+    let rest : drop (length t - length r) t ≡ r = rw count behind.rest in
+    rw e (ap (λ (found : List (List ℕ)). names ++ found) (there ∙ ap (group_names table named (c == 0x5B) 0) rest))
 
 -- behind a backslash: a whole name, or one code point
 pub after_escape-name : (table : Table) (t name r : List ℕ) → true ≡ is_at (λ c. c == 0x6B) t → true ≡ is_at (λ c. c == 0x3C) (drop 1 t) → name_at table (drop 1 (drop 1 t)) ≡ Some (name, r) → after_escape table true t ≡ r
-after_escape-name table t name r k angle read = rw (starts_with_two, ← k, ← angle, ← drop-drop, read) refl
+after_escape-name table t name r k angle read = rw (starts_with_two, ← k, ← angle, ← (drop-drop 1 1 t), read) refl
 
 pub after_escape-other : (table : Table) (named : Bool) (t : List ℕ) → (named && (is_at (λ c. c == 0x6B) t && is_at (λ c. c == 0x3C) (drop 1 t))) ≡ false → after_escape table named t ≡ drop 1 t
 after_escape-other table named t other = rw (starts_with_two, other) refl
 
+nothing_kept : (b : Bool) (t : List ℕ) → unwrap_or (guard b None) t ≡ t
+nothing_kept true t = refl
+nothing_kept false t = refl
+
 pub after_escape-no_name : (table : Table) (named : Bool) (t : List ℕ) → name_at table (drop 1 (drop 1 t)) ≡ None → after_escape table named t ≡ drop 1 t
-after_escape-no_name table named t none = ?
+after_escape-no_name table named t none = rw (← (drop-drop 1 1 t), none) (nothing_kept _ (drop 1 t))
 
 -- behind a parenthesis
 pub opened-unnamed : (table : Table) (named : Bool) (t : List ℕ) → false ≡ is_at (λ d. d == 0x3F) t → opened_groups table named 0x28 t ≡ ([] ∷ [], t)
@@ -153,7 +159,34 @@ opened-other table named t question other = rw (opens_name-is, ← question, oth
 
 module _ (table : Table) (named : Bool) (t : List ℕ) (question : true ≡ is_at (λ d. d == 0x3F) t) (opens : (is_at (λ c. c == 0x3C) (drop 1 t) && not (is_at (λ c. c ∈ "=!") (drop 1 (drop 1 t)))) ≡ true) where
   pub opened-no_name : name_at table (drop 1 (drop 1 t)) ≡ None → opened_groups table named 0x28 t ≡ ([], t)
-  opened-no_name none = rw (opens_name-is, ← question, opens, ← drop-drop, none) refl
+  opened-no_name none = rw (opens_name-is, ← question, opens, ← (drop-drop 1 1 t), none) refl
 
   pub opened-name : (name r : List ℕ) → name_at table (drop 1 (drop 1 t)) ≡ Some (name, r) → opened_groups table named 0x28 t ≡ (name ∷ [], r)
-  opened-name name r read = rw (opens_name-is, ← question, opens, ← drop-drop, read) refl
+  opened-name name r read = rw (opens_name-is, ← question, opens, ← (drop-drop 1 1 t), read) refl
+
+pub skipped-backslash : (c : ℕ) (t : List ℕ) → c ≡ 0x5C → skipped c t ≡ drop 1 t
+skipped-backslash c t e = rw (eq-eqb c 0x5C e) refl
+
+pub skipped-other : (c : ℕ) (t : List ℕ) → (c ≡ 0x5C → ⊥) → skipped c t ≡ t
+skipped-other c t other = rw (ne_eqb c 0x5C other) refl
+
+-- what is opened leaves no more than the text
+pub opened-shorter : (table : Table) (named : Bool) (c : ℕ) (t r : List ℕ) (names : List (List ℕ)) → opened_groups table named c t ≡ (names, r) → length r ≤ length t
+opened-shorter table named c t r names e =
+    let behind = dropped-from_behind (subst (Behind t) (ap (λ (p : List (List ℕ) × List ℕ). p.1) e) (opened-behind table named c t)) in
+    omega (arith, behind.whole)
+
+-- The names found so far, with those from t on, are all of them.
+module _ (table : Table) (named : Bool) (all : List (List ℕ)) (old : Vec (Vec ℕ)) (c : ℕ) (t r : List ℕ) (next : t ≡ c ∷ r) where
+  pub found-in_class : all ≡ texts old ++ group_names table named true 0 t → all ≡ texts old ++ group_names table named (class_behind true c) 0 (skipped c r)
+  found-in_class h = h ∙ ap (λ (found : List (List ℕ)). texts old ++ found) (ap (group_names table named true 0) next ∙ names-in_class table named c r)
+
+  module _ (u : List ℕ) where
+    pub found-nothing : all ≡ texts old ++ group_names table named false 0 t → opened_groups table named c r ≡ ([], u) → all ≡ texts old ++ group_names table named (class_behind false c) 0 u
+    found-nothing h e = h ∙ ap (λ (found : List (List ℕ)). texts old ++ found) (ap (group_names table named false 0) next ∙ names-outside table named c r u [] e)
+
+    pub found-name : (new : Vec (Vec ℕ)) (name : Vec ℕ) → all ≡ texts old ++ group_names table named false 0 t → opened_groups table named c r ≡ (name.items ∷ [], u) → new.items ≡ old.items ++ (name ∷ []) →
+        all ≡ texts new ++ group_names table named (class_behind false c) 0 u
+    found-name new name h e pushed =
+        h ∙ ap (λ (found : List (List ℕ)). texts old ++ found) (ap (group_names table named false 0) next ∙ names-outside table named c r u (name.items ∷ []) e)
+        ∙ sym (ap (λ (ns : List (Vec ℕ)). map (λ n. n.items) ns ++ group_names table named (class_behind false c) 0 u) pushed ∙ rw (map_push, append_assoc) refl)
