@@ -1,5 +1,5 @@
 -- Of a law that is kept nothing is told, and what is told of the first that isn't.
-use Rattle.std.proofs.Common.{◌≡◌, ℕ, zero, suc, ◌<◌, ◌≤◌, Option, Result, Ok, Err, None, Some, MatchOption, IfNone, IfSome, IfErr, IsOkUnless, All, refl, sym, ap, subst, ◌∙◌, inl, inr, arith}
+use Rattle.std.proofs.Common.{◌≡◌, ℕ, zero, suc, ◌<◌, Option, Result, Ok, Err, None, Some, MatchOption, IfNone, IfSome, IfErr, IsOkUnless, refl, sym, ap, subst, ◌∙◌, inl, inr, arith}
 use Rattle.std.proofs.lemmas.Bool.{cases_eq}
 use Rattle.std.proofs.lemmas.List.Elements.{All-contains}
 use Rattle.regress_meaning.specs.TableParts.{TableParts, IsLawful, BothMaps, HasAsciiCase, IsIdempotentAt, HasSmallClass, AvoidsSurrogates, KeepsIdentifierAt, KeepsRange, KeepsOrder, KeepsCanonical, is_code_point}

@@ -1,5 +1,5 @@
 -- Lists of pairs and of intervals rise exactly where no entry is told as out of order.
-use Rattle.std.proofs.Common.{◌≡◌, ℕ, suc, ◌+◌, ◌<◌, ◌≤◌, Bool, true, false, nat_lt, List, [], ◌∷◌, length, get_or, drop, Option, String, Vec, Global, All, map, ap, ◌∙◌, Option, None, Some, IfNone, IfSome, refl, sym, cond, arith}
+use Rattle.std.proofs.Common.{◌≡◌, ℕ, ◌+◌, ◌<◌, ◌≤◌, Bool, true, false, nat_lt, List, [], ◌∷◌, length, get_or, drop, Option, String, Vec, Global, All, map, ap, ◌∙◌, Option, None, Some, IfNone, IfSome, refl, sym, cond, arith}
 use Rattle.std.specs.Option.{option_or}
 use Rattle.std.proofs.lemmas.Bool.{ltb-true, lt-ltb}
 use Rattle.std.proofs.lemmas.List.Elements.{All-nil, All-cons, All-head, All-tail}
@@ -9,7 +9,7 @@ use Rattle.regress_front_sets.specs.declared.tables.parts.TableParts.{TableParts
 use Rattle.regress_front_sets.specs.Parts.{parts_of}
 use Rattle.regress_front_sets.specs.Entries.{entry_of}
 use Rattle.regress_front_sets.specs.declared.interval.Interval.{Interval}
-use Rattle.regress_front_sets.specs.Intervals.{ends, ends_of}
+use Rattle.regress_front_sets.specs.Intervals.{ends_of}
 use Rattle.regress_front_sets.specs.Breaking.{first_out_of_order, first_out_of_place, first_some, out_of_order, out_of_place}
 
 -- two pairs decide, or what is left after the first

@@ -1,8 +1,8 @@
 -- The least number past the last code point, of lists joined end to end, and the law on range.
-use Rattle.std.proofs.Common.{◌≡◌, ℕ, zero, suc, ◌+◌, ◌<◌, ◌≤◌, ◌⊎◌, Bool, true, false, cond, nat_lt, List, [], ◌∷◌, ◌++◌, length, get_or, map, filter, fold, min, All, Option, String, Vec, Global, Some, None, MatchOption, IfSome, IfNone, refl, sym, ap, subst, ◌∙◌, inl, inr, arith}
+use Rattle.std.proofs.Common.{◌≡◌, ℕ, zero, suc, ◌<◌, ◌⊎◌, Bool, true, false, cond, nat_lt, List, [], ◌∷◌, ◌++◌, get_or, map, fold, min, All, Option, String, Vec, Global, Some, None, MatchOption, IfSome, refl, sym, ap, subst, ◌∙◌, inl, inr, arith}
 use Rattle.std.specs.List.{Contains, flat_map, filter_map, cons_option, reduce}
 use Rattle.std.proofs.lemmas.Bool.{cases_lt, ltb-true, false≢true, lt-ltb}
-use Rattle.std.proofs.lemmas.List.Elements.{All-nil, All-cons, All-head, All-tail, All-append, All-map, All-contains, filter-append, Contains-get_or, Contains-append_left, Contains-append_right, Contains-append_cases}
+use Rattle.std.proofs.lemmas.List.Elements.{All-append, All-map, filter-append, Contains-get_or, Contains-append_left, Contains-append_right, Contains-append_cases}
 use Rattle.regress_meaning.specs.Table.{last_code_point}
 use Rattle.regress_meaning.specs.TableParts.{TableParts, KeepsRange, is_code_point}
 use Rattle.regress_front_sets.specs.declared.tables.parts.TableParts.{TableParts as RawParts}
@@ -105,7 +105,7 @@ least_past-told (x ∷ xs) =
       | inr q ↦ (q.0, Contains-append_right (x ∷ []) xs c q.1)
     ] in
     let from : (c : ℕ) → IsPast (x ∷ xs) c → P c = λ c past.
-        elim (Contains-append_cases (x ∷ []) xs c past.1) [ inl p ↦ inl (past.0, p) | inr q ↦ inr (past.0, q) ] in
+    elim (Contains-append_cases (x ∷ []) xs c past.1) [ inl p ↦ inl (past.0, p) | inr q ↦ inr (past.0, q) ] in
     rw (least_past-append (x ∷ []) xs)
     (NoneOrLeast-same P (IsPast (x ∷ xs)) to from (lesser (least_past (x ∷ [])) (least_past xs))
     (NoneOrLeast-either _ _ (least_past (x ∷ [])) (least_past xs) (least_past-one x) (least_past-told xs)))

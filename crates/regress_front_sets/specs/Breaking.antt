@@ -1,5 +1,5 @@
 -- Which law of a table's parts is told as broken, and for which code point.
-use Rattle.std.specs.Prelude.{◌≡◌, ℕ, ◌+◌, ◌<◌, ◌⊎◌, false, nat_lt, List, [], ◌∷◌, ◌++◌, Option, Some, None, map, filter, min, if◌then◌else◌}
+use Rattle.std.specs.Prelude.{◌≡◌, ℕ, ◌+◌, ◌<◌, nat_lt, List, [], ◌∷◌, ◌++◌, Option, Some, None, map, filter, min, if◌then◌else◌}
 use Rattle.std.specs.List.{Contains, flat_map, reduce}
 use Rattle.std.specs.Option.{option_or}
 use Rattle.regress_meaning.specs.Table.{last_code_point}

@@ -1,4 +1,5 @@
-//! What the front of the engine knows of no pattern: flags, errors, tables of case and properties, sets of code points.
+//! What the front of the engine knows of no pattern: flags, errors, tables of case and properties, sets of code points and
+//! folding. The byte sets and helpers of `regress_front_bytes` are handed on.
 #![tactic(auto)]
 
 mod code_point_set;
@@ -23,6 +24,11 @@ pub use limits::{
     CaptureGroupID, CaptureGroupName, CharacterClassType, DIGITS, IP, LINE_TERMINATOR, LoopID,
     MAX_CAPTURE_GROUPS, MAX_LOOPS, MAX_NESTING_DEPTH, WHITESPACE, WORD_CHARS, digits,
     limits_are_those_of_the_definitions, line_terminator, whitespace, word_chars,
+};
+pub use regress_front_bytes::{
+    AsciiBitmap, ByteArraySet, ByteBitmap, ByteSearcher, ByteSet, CodePointRange, EmptyString,
+    FoldRange, MAX_CHAR_SET_LENGTH, SmallArraySet, are_code_points, charset_contains,
+    equal_range_by, is_utf8_continuation, to_char_sat, utf8_first_byte, utf8_w2, utf8_w3, utf8_w4,
 };
 pub use state::{GroupData, LoopData};
 pub use tables::Tables;

@@ -4,6 +4,7 @@ use Rattle.std.proofs.lemmas.List.{take-take, append_assoc, take-append-drop}
 use Rattle.std.proofs.Math.Seq.{take-add, take-append_seam}
 use Rattle.std.proofs.KnownBytes.{Appends-trans}
 use Rattle.std.specs.Io.KnownBytes.{Appends}
+use Rattle.regress_meaning.specs.Table.{Table}
 use Rattle.regress_meaning.specs.Pattern.{Pattern}
 use Rattle.regress_meaning.specs.Flags.{options_of}
 use Rattle.regress_meaning.specs.Grammar.{Spells}
@@ -55,10 +56,10 @@ searched flags pattern text slice bytes (Some input) new Wrote r e u a w =
     }
 
 -- a pattern that is compiled is accepted, and the compiled pattern stands for its tree
-pub accepted : (flags pattern : List ℕ) (f : Flags) (r : Regex) → f ≡ flags_of (chars flags)
-    → ((p : Pattern) × Spells small (options f) (chars pattern) p × WithinLimits p × StandsFor r small (options f) p)
+pub accepted : (flags pattern : List ℕ) (t : Table) (f : Flags) (r : Regex) → t ≡ small → f ≡ flags_of (chars flags)
+    → ((p : Pattern) × Spells t (options f) (chars pattern) p × WithinLimits p × StandsFor r t (options f) p)
     → (a : Accepted flags pattern) × StandsFor r small (options_of (chars flags)) a.tree
-accepted flags pattern f r e s = let k = rw e at s in (record { tree = k.0; spelled = k.1; within = k.2 }, k.3)
+accepted flags pattern t f r same e s = let k = rw (same, e) at s in (record { tree = k.0; spelled = k.1; within = k.2 }, k.3)
 
 -- Of all that is to be written this much was, and the lines of the items that are still coming are the rest.
 pub record IsWritten (old new : Option (List ℕ)) (coming : List Item) (all : List ℕ) : Type 0 where

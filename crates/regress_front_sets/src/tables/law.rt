@@ -3,6 +3,7 @@ ghost use Rattle.std.specs.Prelude.{◌≡◌, ℕ, Some};
 ghost use Rattle.regress_meaning.specs.TableParts.{TableParts, IsLawful};
 ghost use Rattle.regress_front_sets.specs.declared.tables.law.TableLaw.{TableLaw};
 ghost use Rattle.regress_front_sets.specs.Breaking.{Tells};
+ghost use Rattle.regress_front_sets.specs.ErrorTexts.{law_text};
 
 use crate::interval::CodePoint;
 use std::alloc::AllocError;
@@ -49,6 +50,7 @@ pub fn lawful_parts_break_no_law()
     ensures { (parts : TableParts) → IsLawful parts → (law : TableLaw) → (c : ℕ) → Tells law parts c → ⊥ }
 {}
 
+/// A few words on the law that is broken, without the code point, or `out of memory`.
 impl fmt::Display for TableError {
     ghost use Rattle.regress_front_sets.specs.ErrorTexts.{table_error_text};
 
@@ -56,9 +58,25 @@ impl fmt::Display for TableError {
 
     fn fmt<W: fmt::Write>(&self, f: &mut fmt::Formatter<W>) -> fmt::Result {
         f.write_str(match self {
-            TableError::Broken { .. } => "the table breaks a law",
+            TableError::Broken { law, .. } => law_text(law),
             TableError::OutOfMemory => "out of memory",
         })
+    }
+}
+
+/// What is wrong with a table's parts that break the law.
+fn law_text(law: &TableLaw) -> &'static str
+    ensures { result.now ≡ law_text law.now }
+{
+    match law {
+        TableLaw::Range => "the table has a number past the last code point",
+        TableLaw::Order => "the table's pairs are out of order",
+        TableLaw::AsciiCase => "the table's case of ASCII is wrong",
+        TableLaw::Idempotent => "the table maps a code point twice",
+        TableLaw::ClassSize => "the table maps too many code points to one",
+        TableLaw::Surrogate => "the table maps a code point to a surrogate",
+        TableLaw::Canonical => "the table's intervals are out of order",
+        TableLaw::Identifier => "the table's identifiers have a wrong code point",
     }
 }
 
@@ -71,5 +89,85 @@ impl From<AllocError> for TableError {
 
     fn from(_refused: AllocError) -> TableError {
         TableError::OutOfMemory
+    }
+}
+
+#[cfg(test)]
+mod tests {
+    use super::*;
+    use std::alloc::Global;
+    use std::test::Fail;
+
+    fn is_written(alloc: Global, law: TableLaw, expected: &str) -> Result<bool, AllocError> {
+        let text = TableError::Broken { law, code_point: 0 }.to_string(alloc)?;
+        Ok(text.as_str() == expected)
+    }
+
+    #[test]
+    fn each_law_has_its_text(rt: HostRuntime) -> Result<(), Fail> {
+        assert!(rt;
+            is_written(
+                rt.alloc(),
+                TableLaw::Range,
+                "the table has a number past the last code point"
+            )?
+        );
+        assert!(rt;
+            is_written(
+                rt.alloc(),
+                TableLaw::Order,
+                "the table's pairs are out of order"
+            )?
+        );
+        assert!(rt;
+            is_written(
+                rt.alloc(),
+                TableLaw::AsciiCase,
+                "the table's case of ASCII is wrong"
+            )?
+        );
+        assert!(rt;
+            is_written(
+                rt.alloc(),
+                TableLaw::Idempotent,
+                "the table maps a code point twice"
+            )?
+        );
+        assert!(rt;
+            is_written(
+                rt.alloc(),
+                TableLaw::ClassSize,
+                "the table maps too many code points to one"
+            )?
+        );
+        assert!(rt;
+            is_written(
+                rt.alloc(),
+                TableLaw::Surrogate,
+                "the table maps a code point to a surrogate"
+            )?
+        );
+        assert!(rt;
+            is_written(
+                rt.alloc(),
+                TableLaw::Canonical,
+                "the table's intervals are out of order"
+            )?
+        );
+        assert!(rt;
+            is_written(
+                rt.alloc(),
+                TableLaw::Identifier,
+                "the table's identifiers have a wrong code point"
+            )?
+        );
+        Ok(())
+    }
+
+    #[test]
+    fn refused_memory_has_its_text(rt: HostRuntime) -> Result<(), Fail> {
+        let text = TableError::from(AllocError).to_string(rt.alloc())?;
+        assert_eq!(rt; text.as_str(), "out of memory");
+        Ok(())
     }
 }

@@ -1,7 +1,7 @@
 //! What tables are made of.
-ghost use Rattle.std.specs.Prelude.{◌≡◌, ◌+◌, ◌^◌, ◌<◌, ◌∷◌, [], map, codes, IfOk, IsOkUnless};
+ghost use Rattle.std.specs.Prelude.{◌≡◌, ◌+◌, ◌^◌, ◌<◌, ◌≤◌, ◌∷◌, [], map, codes, IfOk, IsOkUnless};
 ghost use Rattle.regress_meaning.specs.TableParts.{shifted, small_parts};
-ghost use Rattle.regress_front_sets.specs.Intervals.{ends_of};
+ghost use Rattle.regress_front_sets.specs.Intervals.{ends, ends_of};
 ghost use Rattle.regress_front_sets.specs.Entries.{entry_of};
 
 use super::law::TableError;
@@ -45,7 +45,11 @@ impl TableParts {
 }
 
 /// The 26 letters from the first on, each with what lies as far above the image of the first.
-fn letters(alloc: Global, first: CodePoint, image: CodePoint) -> Result<Vec<(CodePoint, CodePoint)>, AllocError>
+fn letters(
+    alloc: Global,
+    first: CodePoint,
+    image: CodePoint,
+) -> Result<Vec<(CodePoint, CodePoint)>, AllocError>
     requires first { first + 26 < 2 ^ 32 }
     requires image { image + 26 < 2 ^ 32 }
     ensures { IfOk result (λ pairs. pairs.items ≡ shifted first image 26) }
@@ -87,46 +91,54 @@ fn small_upper(alloc: Global) -> Result<Vec<(CodePoint, CodePoint)>, AllocError>
 fn small_id_start(alloc: Global) -> Result<Vec<Interval>, AllocError>
     ensures { IfOk result (λ intervals. ends_of intervals.items ≡ small_parts.id_start) }
 {
-    Ok(vec![
-        in alloc;
-        Interval { first: 0x41, last: 0x5A },
-        Interval { first: 0x61, last: 0x7A },
-        Interval { first: 0xC9, last: 0xC9 },
-        Interval { first: 0xE9, last: 0xE9 }
+    Ok(vec![in alloc;
+        interval(0x41, 0x5A),
+        interval(0x61, 0x7A),
+        interval(0xC9, 0xC9),
+        interval(0xE9, 0xE9),
     ]?)
 }
 
 fn small_id_continue(alloc: Global) -> Result<Vec<Interval>, AllocError>
     ensures { IfOk result (λ intervals. ends_of intervals.items ≡ small_parts.id_continue) }
 {
-    Ok(vec![
-        in alloc;
-        Interval { first: 0x30, last: 0x39 },
-        Interval { first: 0x41, last: 0x5A },
-        Interval { first: 0x5F, last: 0x5F },
-        Interval { first: 0x61, last: 0x7A },
-        Interval { first: 0xC9, last: 0xC9 },
-        Interval { first: 0xE9, last: 0xE9 }
+    Ok(vec![in alloc;
+        interval(0x30, 0x39),
+        interval(0x41, 0x5A),
+        interval(0x5F, 0x5F),
+        interval(0x61, 0x7A),
+        interval(0xC9, 0xC9),
+        interval(0xE9, 0xE9),
     ]?)
 }
 
 fn small_properties(alloc: Global) -> Result<Vec<(String, Vec<Interval>)>, AllocError>
     ensures { IfOk result (λ properties. map (entry_of (λ v. ends_of v.items)) properties.items ≡ small_parts.properties) }
 {
-    let all = vec![in alloc; Interval { first: 0, last: CODE_POINT_MAX }]?;
-    let ascii = vec![in alloc; Interval { first: 0, last: 0x7F }]?;
-    let hexadecimal_digits = vec![
-        in alloc;
-        Interval { first: 0x30, last: 0x39 },
-        Interval { first: 0x41, last: 0x46 },
-        Interval { first: 0x61, last: 0x66 }
+    let all = vec![in alloc; interval(0, CODE_POINT_MAX)]?;
+    let ascii = vec![in alloc; interval(0, 0x7F)]?;
+    let hexadecimal_digits = vec![in alloc;
+        interval(0x30, 0x39),
+        interval(0x41, 0x46),
+        interval(0x61, 0x66),
     ]?;
-    Ok(vec![
-        in alloc;
+    Ok(vec![in alloc;
         (String::from_str(alloc, "Any")?, all),
         (String::from_str(alloc, "ASCII")?, ascii),
-        (String::from_str(alloc, "ASCII_Hex_Digit")?, hexadecimal_digits)
+        (
+            String::from_str(alloc, "ASCII_Hex_Digit")?,
+            hexadecimal_digits
+        ),
     ]?)
+}
+
+/// The interval with these ends.
+fn interval(first: CodePoint, last: CodePoint) -> Interval
+    requires ordered { first ≤ last }
+    requires bounded { last ≤ CODE_POINT_MAX }
+    ensures { ends result ≡ (first, last) }
+{
+    Interval { first, last }
 }
 
 fn small_sequences(alloc: Global) -> Result<Vec<(String, Vec<Vec<CodePoint>>)>, AllocError>

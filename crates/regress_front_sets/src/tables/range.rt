@@ -32,7 +32,10 @@ fn past_in_pairs(pairs: &[(CodePoint, CodePoint)]) -> Option<CodePoint>
 fn past_in_sequences(sequences: &[(String, Vec<Vec<CodePoint>>)]) -> Option<CodePoint>
     ensures { result ≡ least_past (flat_map (λ e. flat_map (λ s. s.items) e.1.items) sequences.now) }
 {
-    sequences.iter().filter_map(|entry| past_in_strings(&entry.1)).min()
+    sequences
+        .iter()
+        .filter_map(|entry| past_in_strings(&entry.1))
+        .min()
 }
 
 /// The least number past the last code point, of the strings.

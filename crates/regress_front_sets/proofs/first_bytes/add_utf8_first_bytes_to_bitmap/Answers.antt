@@ -1,5 +1,4 @@
-use Rattle.std.proofs.Common.{◌≡◌, ◌⊎◌, ℕ, ◌≤◌, Bool, true, false, ◌||◌, ◌∙◌, Some, slice_get, sym, ap, arith, inl, inr, refl}
-use Rattle.regress_meaning.specs.Text.{between}
+use Rattle.std.proofs.Common.{◌≡◌, ℕ, true, ◌||◌, ◌∙◌, Some, sym, ap, arith}
 use Rattle.regress_front_bytes.specs.Bitmaps.{byte_bitmap_contains}
 use Rattle.regress_front_sets.specs.declared.interval.Interval.{Interval}
 use Rattle.regress_front_sets.specs.FirstBytes.{BeginsSome, begins_between}
@@ -27,6 +26,7 @@ returns c b =
     let i = c.args.interval in
     let first = lead-unique i.first _ c.utf8_first_byte-first.ensures in
     let last = lead-unique i.last _ c.utf8_first_byte-last.ensures in
-    let there : byte_bitmap_contains c.add_first_bytes.new.bitmap b ≡ (byte_bitmap_contains c.args.bitmap.now b || begins_between (lead i.first) (lead i.last) b) = rw (first, last) (c.add_first_bytes.ensures b) in
-    (λ held. from_either _ _ (sym there ∙ held) (some-begins i b),
-     λ held. there ∙ to_either _ _ (begins-some i b) held)
+    let there : byte_bitmap_contains c.add_first_bytes.new.bitmap b ≡ (byte_bitmap_contains c.args.bitmap.now b || begins_between (lead i.first) (lead i.last) b) = rw (first, last) (c.add_first_bytes.ensures b) in (
+      λ held. from_either _ _ (sym there ∙ held) (some-begins i b),
+      λ held. there ∙ to_either _ _ (begins-some i b) held,
+    )

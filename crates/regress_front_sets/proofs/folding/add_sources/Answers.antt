@@ -1,9 +1,9 @@
-use Rattle.std.proofs.Common.{◌≡◌, sym, ◌∙◌, length, take, arith}
+use Rattle.std.proofs.Common.{◌≡◌, sym, ◌∙◌, take, arith}
 use Rattle.std.proofs.lemmas.List.{take_all}
 use Rattle.regress_front_sets.specs.Intervals.{ends_of}
 use Rattle.regress_front_sets.specs.Sets.{in_set}
 use Rattle.regress_front_sets.proofs.IntervalLemmas.{in_intervals-bounded}
-use Rattle.regress_front_sets.proofs.FoldingLemmas.{Takes, Takes-none, Takes-passed, Takes-taken, All-alike, sources-taken}
+use Rattle.regress_front_sets.proofs.FoldingLemmas.{Takes-none, Takes-passed, Takes-taken, All-alike, sources-taken}
 use Rattle.regress_front_sets.proofs.folding.add_sources.Goals.{then-contains+in_ok-add_one, else-contains}
 use Rattle.regress_front_sets.proofs.folding.add_sources.Goals as goal
 

@@ -12,6 +12,6 @@ returns g c =
     let entries = c.args.entries.now in
     let key = c.args.key.now in
     let found : option_map (λ e. e.now) c.find.result ≡ find (λ e. pointwise nat_eq (string_bytes e.0) key) entries =
-        find_from_yields_List (λ e. pointwise nat_eq (string_bytes e.0) key) _ _ c.find.result c.find.ensures.ran (YieldsList-from_slice entries (cc)) (λ x b q k. search (rules, tests)) in
+    find_from_yields_List (λ e. pointwise nat_eq (string_bytes e.0) key) _ _ c.find.result c.find.ensures.ran (YieldsList-from_slice entries (cc)) (λ x b q k. search (rules, tests)) in
     let value : option_copied c.map.result ≡ option_map (λ e. e.1) (option_map (λ e. e.now) c.find.result) = search rules in
     value ∙ ap (option_map (λ e. e.1)) found ∙ entry-find entries key c.utf8.key

@@ -1,4 +1,4 @@
-use Rattle.std.proofs.Common.{◌≡◌, ℕ, ◌+◌, List, [], ◌∷◌, ◌++◌, map, take, get_or, codes, Vec, Global, ap, ◌∙◌, sym, arith}
+use Rattle.std.proofs.Common.{◌≡◌, ℕ, List, [], ◌∷◌, ◌++◌, map, take, get_or, codes, Vec, Global, ap, ◌∙◌, sym, arith}
 use Rattle.std.proofs.lemmas.List.{map_push, map_more}
 use Rattle.regress_front_sets.proofs.tables.parts.keycaps.Goals as goal
 
