@@ -2,6 +2,11 @@
 #![tactic(auto)]
 
 mod cursor;
+mod escape;
+mod mode;
+mod names;
+mod numbers;
+mod scan;
 mod syntax;
 
 pub use syntax::{Class, Modifiers, Quantifier, Syntax};
