@@ -82,16 +82,22 @@ impl<'p> Cursor<'p> {
             return None;
         }
         let name = ahead.take_while(is_ascii_word);
-        let value = if ahead.eat('=') {
-            Some(ahead.take_while(is_ascii_word))
-        } else {
-            None
-        };
-        if name.is_empty() || value.is_some_and(|value| value.is_empty()) || !ahead.eat('}') {
+        if name.is_empty() {
+            return None;
+        }
+        if ahead.eat('}') {
+            *self = ahead;
+            return Some((name, None));
+        }
+        if !ahead.eat('=') {
+            return None;
+        }
+        let value = ahead.take_while(is_ascii_word);
+        if value.is_empty() || !ahead.eat('}') {
             return None;
         }
         *self = ahead;
-        Some((name, value))
+        Some((name, Some(value)))
     }
 
     /// Behind `\p`: a property's key, the text between braces: a name, or a name, `=` and a value

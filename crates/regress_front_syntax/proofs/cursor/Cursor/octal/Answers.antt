@@ -1,5 +1,6 @@
 use Rattle.std.proofs.Common.{◌≡◌, refl, sym, ◌∙◌, ◌≤◌, length, arith}
 use Rattle.regress_meaning.specs.Tokens.{is_octal, number_of}
+use Rattle.regress_front_syntax.specs.Cursors.{unread}
 use Rattle.regress_front_syntax.proofs.TokenLemmas.{octal_at-none, octal_at-some, octal_length-le}
 use Rattle.regress_front_syntax.proofs.SpanLemmas.{span_up_to-passes, span_up_to-short}
 use Rattle.regress_front_syntax.proofs.NumberLemmas.{number_of-below, octal-below}
@@ -12,7 +13,7 @@ returns-then-is_empty-clause-read c =
 pub overflow_cast-result : goal.overflow_cast-result
 overflow_cast-result c =
     let cut = c.take_up_to-digits.ensures.read is_octal (λ k r e. e) in
-    let most = octal_length-le _ _ c.most_octal_digits.ensures in
+    let most = octal_length-le (unread c.args.self.now) _ c.most_octal_digits.ensures in
     let short : length c.take_up_to-digits.result.now ≤ 3 = omega (arith, span_up_to-short _ is_octal _ cut, most) in
     let below = number_of-below is_octal 7 3 octal-below c.take_up_to-digits.result.now (span_up_to-passes _ is_octal _ cut) short in
     omega (arith, below)
@@ -20,7 +21,7 @@ overflow_cast-result c =
 pub returns-clause-read : goal.returns-clause-read
 returns-clause-read c =
     let cut = c.take_up_to-digits.ensures.read is_octal (λ k r e. e) in
-    let most = octal_length-le _ _ c.most_octal_digits.ensures in
+    let most = octal_length-le (unread c.args.self.now) _ c.most_octal_digits.ensures in
     let short : length c.take_up_to-digits.result.now ≤ 3 = omega (arith, span_up_to-short _ is_octal _ cut, most) in
     let below = number_of-below is_octal 7 3 octal-below c.take_up_to-digits.result.now (span_up_to-passes _ is_octal _ cut) short in
     let is = octal_at-some _ _ (sym c.most_octal_digits.ensures) cut (sym c.is_empty.ensures ∙ c.if-is_empty.false) in
