@@ -1,3 +1,4 @@
+pub mod ClassLemmas
 pub mod NameLemmas
 pub mod NumberLemmas
 pub mod SpanLemmas
