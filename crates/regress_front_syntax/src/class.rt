@@ -139,3 +139,68 @@ impl Cursor<'_> {
         Ok(Class::Union(members))
     }
 }
+
+#[cfg(test)]
+mod tests {
+    use super::*;
+    use regress_front_sets::Tables;
+    use std::test::Fail;
+
+    /// The members of a class, written out, or the error.
+    fn written(
+        alloc: Global,
+        tables: &Tables,
+        unicode: bool,
+        pattern: &str,
+    ) -> Result<String, Error> {
+        let mut points = Vec::new(alloc);
+        for c in pattern.chars() {
+            points.push(CodePoint::from(c))?;
+        }
+        let mode = Mode {
+            tables,
+            unicode,
+            sets: false,
+            named: unicode,
+            names: Vec::new(alloc),
+        };
+        let mut cursor = Cursor::new(&points);
+        let class = cursor.members(alloc, &mode)?;
+        Ok(format!(in alloc; "{class:?}")?)
+    }
+
+    #[test]
+    fn members_are_read(rt: HostRuntime) -> Result<(), Fail> {
+        let tables = Tables::small(rt.alloc())?;
+        for (pattern, expected) in [
+            ("]", "Union([])"),
+            (
+                "a-c-]",
+                "Union([Range { first: 97, last: 99 }, Range { first: 45, last: 45 }])",
+            ),
+            (
+                r"\d-x]",
+                "Union([Digits, Range { first: 45, last: 45 }, Range { first: 120, last: 120 }])",
+            ),
+        ] {
+            let text = written(rt.alloc(), &tables, false, pattern)?;
+            assert_eq!(rt; text.as_str(), expected, "at {pattern}");
+        }
+        Ok(())
+    }
+
+    #[test]
+    fn refused_members_have_their_text(rt: HostRuntime) -> Result<(), Fail> {
+        let tables = Tables::small(rt.alloc())?;
+        for (pattern, text) in [
+            ("c-a]", "Invalid class"),
+            (r"\d-x]", "Invalid class"),
+            ("a", "Unbalanced bracket"),
+            (r"\1]", "Invalid backreference"),
+        ] {
+            let refused = written(rt.alloc(), &tables, true, pattern).err();
+            assert_eq!(rt; refused, Some(Error::Syntax { text }), "at {pattern}");
+        }
+        Ok(())
+    }
+}

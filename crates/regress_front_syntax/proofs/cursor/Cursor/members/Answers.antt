@@ -71,7 +71,7 @@ loop-alloc-preserved-in-Continue-branch-3 c =
       kept = c.member-then-is_before_member.ensures.kept ∙ c.bump.ensures.kept ∙ c.member.ensures.kept ∙ c.eat.ensures.kept ∙ c.loop-alloc.invariant.kept;
       state = c.loop-alloc.invariant.state
           ∙ ap (option_map (before (map class_view c.loop-alloc.members.items)))
-            (members_at-dashed m t u v d e goes_on (ap (read_member m) (sym same) ∙ c.in_ok-first.ensures.read) dash (ap (read_member m) (sym c.bump.ensures.read) ∙ c.in_ok-last.ensures.read))
+          (members_at-dashed m t u v d e goes_on (ap (read_member m) (sym same) ∙ c.in_ok-first.ensures.read) dash (ap (read_member m) (sym c.bump.ensures.read) ∙ c.in_ok-last.ensures.read))
           ∙ before-dashed m d e (map class_view c.loop-alloc.members.items) (map class_view c.push_dashed.new.members.items) (members_at m v) c.in_ok-push_dashed.ensures;
     }
 
