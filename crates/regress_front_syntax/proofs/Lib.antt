@@ -1,6 +1,7 @@
 pub mod ClassViews
 pub mod EscapeLemmas
 pub mod ModeLemmas
+pub mod ClassLemmas
 pub mod NameLemmas
 pub mod NumberLemmas
 pub mod ScanLemmas

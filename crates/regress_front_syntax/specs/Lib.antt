@@ -1,3 +1,4 @@
+pub mod Classes
 pub mod Cursors
 pub mod Escapes
 pub mod Readings

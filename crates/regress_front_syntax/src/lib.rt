@@ -1,6 +1,7 @@
 //! From a pattern's text to its syntax tree: the parser, and the values that it makes.
 #![tactic(auto)]
 
+mod class;
 mod cursor;
 mod escape;
 mod mode;
