@@ -110,13 +110,6 @@ decimal_at-nothing : decimal_at [] ≡ None
 unfolding decimal_at span
 decimal_at-nothing = refl
 
--- a control letter, by the next code point
-pub control_letter-none : (test : ℕ → Bool) (t : List ℕ) → t ≡ [] → control_letter test t ≡ None
-control_letter-none test t e = rw e refl
-
-pub control_letter-is : (test : ℕ → Bool) (t : List ℕ) (c : ℕ) (r : List ℕ) → t ≡ c ∷ r → control_letter test t ≡ guard (test c) (Some (point (c % 32), r))
-control_letter-is test t c r e = rw e refl
-
 -- what passes, or something else
 or-passed : {A : Type 0} (b : Bool) (x : A) (o : Option A) → (if b then guard b (Some x) else o) ≡ option_or (guard b (Some x)) o
 or-passed true x o = refl
@@ -165,8 +158,22 @@ module _ (m : Mode) where
   unfolding escape_at
   escape_at-digit [] h k = cc
   escape_at-digit (c ∷ t) h k =
-      rw (not_letter c 0x64 h refl, not_letter c 0x44 h refl, not_letter c 0x73 h refl, not_letter c 0x53 h refl, not_letter c 0x77 h refl, not_letter c 0x57 h refl,
-      not_letter c 0x66 h refl, not_letter c 0x6E h refl, not_letter c 0x72 h refl, not_letter c 0x74 h refl, not_letter c 0x76 h refl, not_letter c 0x63 h refl, ← k, h) refl
+      rw (
+        not_letter c 0x64 h refl,
+        not_letter c 0x44 h refl,
+        not_letter c 0x73 h refl,
+        not_letter c 0x53 h refl,
+        not_letter c 0x77 h refl,
+        not_letter c 0x57 h refl,
+        not_letter c 0x66 h refl,
+        not_letter c 0x6E h refl,
+        not_letter c 0x72 h refl,
+        not_letter c 0x74 h refl,
+        not_letter c 0x76 h refl,
+        not_letter c 0x63 h refl,
+        ← k,
+        h,
+      ) refl
 
   pub escape_at-x : (t : List ℕ) → true ≡ is_at (λ c. c == 0x78) t → escape_at m t ≡ option_or (as_point (hex_at 2 (drop 1 t))) (from_first (identity m) t)
   unfolding escape_at
@@ -180,7 +187,7 @@ module _ (m : Mode) where
       let letter : 0x75 ≡ c = grind (arith, nat_tests) in
       rw (← letter) refl
 
-  -- `\\k` where names are read, and where they are not
+  -- `\k` where names are read, and where they are not
   module _ (t : List ℕ) (k : true ≡ is_at (λ c. c == 0x6B) t) where
     pub escape_at-named : m.named ≡ true → escape_at m t ≡ named_reference m (drop 1 t)
     unfolding escape_at
@@ -198,7 +205,7 @@ module _ (m : Mode) where
       let letter : (0x70 ≡ c) ⊎ (0x50 ≡ c) = grind (arith, nat_tests) in
       elim letter [ inl e ↦ rw (← e) refl | inr e ↦ rw (← e) refl ]
 
-  -- `\\p` and `\\P` in Unicode mode and outside it
+  -- `\p` and `\P` in Unicode mode and outside it
   module _ (t : List ℕ) (letter : is_at (λ c. c ∈ "kpP") t ≡ true) (p : false ≡ is_at (λ c. c == 0x6B) t) where
     pub escape_at-property : m.unicode ≡ true → escape_at m t ≡ option_map (λ (s, r). (set s, r)) (from_first (property_at m) t)
     escape_at-property unicode = rw (escape_at-p t letter p, unicode) refl
@@ -233,7 +240,7 @@ module _ (m : Mode) where
       | inr p ↦ rw (property_at-is, read, p, unknown) refl
     ]
 
-  -- behind `\\k`: no name, a name that no group has, a name
+  -- behind `\k`: no name, a name that no group has, a name
   pub named-no_angle : (t : List ℕ) → false ≡ is_at (λ d. d == 0x3C) t → named_reference m t ≡ None
   unfolding named_reference
   named-no_angle t e = rw (← e) refl
@@ -312,8 +319,18 @@ module _ (m : Mode) where
   identity-cons c r class letter not_c not_digit not_xu not_kp =
       let other = λ (d : ℕ). differs (λ k. k ∈ "xu") c d in
       let no_name = λ (d : ℕ). differs (λ k. k ∈ "kpP") c d in
-      rw (class, letter, ← not_c, (differs is_digit c 0x30 (sym not_digit)).0, ← not_digit, (other 0x78 (sym not_xu)).0, (other 0x75 (sym not_xu)).0,
-      (no_name 0x6B (sym not_kp)).0, (no_name 0x70 (sym not_kp)).0, (no_name 0x50 (sym not_kp)).0) refl
+      rw (
+        class,
+        letter,
+        ← not_c,
+        (differs is_digit c 0x30 (sym not_digit)).0,
+        ← not_digit,
+        (other 0x78 (sym not_xu)).0,
+        (other 0x75 (sym not_xu)).0,
+        (no_name 0x6B (sym not_kp)).0,
+        (no_name 0x70 (sym not_kp)).0,
+        (no_name 0x50 (sym not_kp)).0,
+      ) refl
 
   -- an escape of no other kind
   pub escape_at-identity : (t : List ℕ) (c : ℕ) (r : List ℕ) → t ≡ c ∷ r → class_letter c ≡ None → control c ≡ None → false ≡ is_at (λ d. d == 0x63) t → false ≡ is_at is_digit t →
@@ -326,9 +343,9 @@ module _ (m : Mode) where
       if is_at (λ c. c == 0x62) t then Some (point 8, drop 1 t)
       else if is_at (λ c. c == 0x2D) t then Some (point 0x2D, drop 1 t)
       else option_or (class_control m t) (
-        if is_at is_digit t && not (is_at (λ c. c == 0x30) t) then from_first (octal_or_digit m) t
-        else if is_at (λ c. c == 0x6B) t then guard (not m.named) (Some (point 0x6B, drop 1 t))
-        else escape_at m t))
+      if is_at is_digit t && not (is_at (λ c. c == 0x30) t) then from_first (octal_or_digit m) t
+      else if is_at (λ c. c == 0x6B) t then guard (not m.named) (Some (point 0x6B, drop 1 t))
+      else escape_at m t))
   unfolding class_escape_at
   class_escape_at-is [] = rw (and-false, escape_at-none [] refl) refl
   class_escape_at-is (c ∷ t) = rw (or-control, known_k) refl

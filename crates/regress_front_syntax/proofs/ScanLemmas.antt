@@ -45,28 +45,6 @@ unfolding holds_a_name
 holds-found [] e = cc
 holds-found (c ∷ t) e = rw e refl
 
--- three characters side by side and what is asked of the rest, in one order or the other
-one_of_three : (x y z : Bool) → ((x && false) && y) ≡ (x && (false && z))
-one_of_three true y z = refl
-one_of_three false y z = refl
-
-two_of_three : (w x y z : Bool) → ((w && (x && false)) && y) ≡ (w && (x && (false && z)))
-two_of_three true x y z = one_of_three x y z
-two_of_three false x y z = refl
-
-three_of_three : (v w x y : Bool) → ((v && (w && (x && true))) && y) ≡ (v && (w && (x && y)))
-three_of_three true true true y = refl
-three_of_three true true false y = refl
-three_of_three true false x y = refl
-three_of_three false w x y = refl
-
--- an opening, one character after another
-pub opens_name-is : (t : List ℕ) → opens_name t ≡ (is_at (λ c. c == 0x28) t && (is_at (λ c. c == 0x3F) (drop 1 t) && (is_at (λ c. c == 0x3C) (drop 1 (drop 1 t)) && not (is_at (λ c. c ∈ "=!") (drop 1 (drop 1 (drop 1 t)))))))
-opens_name-is [] = refl
-opens_name-is (c ∷ []) = rw (same_either_way 0x28 c) (one_of_three (c == 0x28) true true)
-opens_name-is (c ∷ d ∷ []) = rw (same_either_way 0x28 c, same_either_way 0x3F d) (two_of_three (c == 0x28) (d == 0x3F) true true)
-opens_name-is (c ∷ d ∷ e ∷ t) = rw (same_either_way 0x28 c, same_either_way 0x3F d, same_either_way 0x3C e) (three_of_three (c == 0x28) (d == 0x3F) (e == 0x3C) _)
-
 -- r stands so many code points behind t
 record Dropped (t r : List ℕ) : Type 0 where
   count : ℕ
@@ -135,34 +113,6 @@ names-outside table named c t r names e =
     let there = names-passed table named (c == 0x5B) (length t - length r) t in
     let rest : drop (length t - length r) t ≡ r = rw count behind.rest in
     rw e (ap (λ (found : List (List ℕ)). names ++ found) (there ∙ ap (group_names table named (c == 0x5B) 0) rest))
-
--- behind a backslash: a whole name, or one code point
-pub after_escape-name : (table : Table) (t name r : List ℕ) → true ≡ is_at (λ c. c == 0x6B) t → true ≡ is_at (λ c. c == 0x3C) (drop 1 t) → name_at table (drop 1 (drop 1 t)) ≡ Some (name, r) → after_escape table true t ≡ r
-after_escape-name table t name r k angle read = rw (starts_with_two, ← k, ← angle, ← (drop-drop 1 1 t), read) refl
-
-pub after_escape-other : (table : Table) (named : Bool) (t : List ℕ) → (named && (is_at (λ c. c == 0x6B) t && is_at (λ c. c == 0x3C) (drop 1 t))) ≡ false → after_escape table named t ≡ drop 1 t
-after_escape-other table named t other = rw (starts_with_two, other) refl
-
-nothing_kept : (b : Bool) (t : List ℕ) → unwrap_or (guard b None) t ≡ t
-nothing_kept true t = refl
-nothing_kept false t = refl
-
-pub after_escape-no_name : (table : Table) (named : Bool) (t : List ℕ) → name_at table (drop 1 (drop 1 t)) ≡ None → after_escape table named t ≡ drop 1 t
-after_escape-no_name table named t none = rw (← (drop-drop 1 1 t), none) (nothing_kept _ (drop 1 t))
-
--- behind a parenthesis
-pub opened-unnamed : (table : Table) (named : Bool) (t : List ℕ) → false ≡ is_at (λ d. d == 0x3F) t → opened_groups table named 0x28 t ≡ ([] ∷ [], t)
-opened-unnamed table named t e = rw (← e) refl
-
-pub opened-other : (table : Table) (named : Bool) (t : List ℕ) → true ≡ is_at (λ d. d == 0x3F) t → (is_at (λ c. c == 0x3C) (drop 1 t) && not (is_at (λ c. c ∈ "=!") (drop 1 (drop 1 t)))) ≡ false → opened_groups table named 0x28 t ≡ ([], t)
-opened-other table named t question other = rw (opens_name-is, ← question, other) refl
-
-module _ (table : Table) (named : Bool) (t : List ℕ) (question : true ≡ is_at (λ d. d == 0x3F) t) (opens : (is_at (λ c. c == 0x3C) (drop 1 t) && not (is_at (λ c. c ∈ "=!") (drop 1 (drop 1 t)))) ≡ true) where
-  pub opened-no_name : name_at table (drop 1 (drop 1 t)) ≡ None → opened_groups table named 0x28 t ≡ ([], t)
-  opened-no_name none = rw (opens_name-is, ← question, opens, ← (drop-drop 1 1 t), none) refl
-
-  pub opened-name : (name r : List ℕ) → name_at table (drop 1 (drop 1 t)) ≡ Some (name, r) → opened_groups table named 0x28 t ≡ (name ∷ [], r)
-  opened-name name r read = rw (opens_name-is, ← question, opens, ← (drop-drop 1 1 t), read) refl
 
 pub skipped-backslash : (c : ℕ) (t : List ℕ) → c ≡ 0x5C → skipped c t ≡ drop 1 t
 skipped-backslash c t e = rw (eq-eqb c 0x5C e) refl

@@ -365,3 +365,183 @@ impl Cursor<'_> {
         }
     }
 }
+
+#[cfg(test)]
+mod tests {
+    use super::*;
+    use crate::scan::mode;
+    use regress_front_sets::{Flags, Tables};
+    use std::alloc::AllocError;
+    use std::test::Fail;
+
+    /// What an escape means: its code point, the number of its first group, that it is a class, or the error's text.
+    #[derive(Debug, Drop, PartialEq)]
+    enum Meaning {
+        Point(CodePoint),
+        Group(Option<u16>),
+        Class,
+        Error(&'static str),
+    }
+
+    fn points(alloc: Global, text: &str) -> Result<Vec<CodePoint>, AllocError> {
+        text.chars().map(CodePoint::from).collect(alloc)
+    }
+
+    fn told(read: Result<Escape, Error>) -> Result<Meaning, Error> {
+        match read {
+            Ok(Escape::Point(point)) => Ok(Meaning::Point(point)),
+            Ok(Escape::Groups(groups)) => Ok(Meaning::Group(groups.first().copied())),
+            Ok(Escape::Set(_)) => Ok(Meaning::Class),
+            Err(Error::Syntax { text }) => Ok(Meaning::Error(text)),
+            Err(error) => Err(error),
+        }
+    }
+
+    /// The escape at the front of a text, in a pattern with flags.
+    fn escape(alloc: Global, flags: &str, pattern: &str, text: &str) -> Result<Meaning, Error> {
+        let tables = Tables::small(alloc).map_err(|_| Error::OutOfMemory)?;
+        let pattern = points(alloc, pattern)?;
+        let mode = mode(alloc, &pattern, Flags::from(flags), &tables)?;
+        if mode.names.len() > 65535 {
+            return Err(Error::TooManyGroups);
+        }
+        let text = points(alloc, text)?;
+        told(Cursor::new(&text).escape(alloc, &mode))
+    }
+
+    /// The same in a class.
+    fn class_escape(alloc: Global, flags: &str, pattern: &str, text: &str) -> Result<Meaning, Error> {
+        let tables = Tables::small(alloc).map_err(|_| Error::OutOfMemory)?;
+        let pattern = points(alloc, pattern)?;
+        let mode = mode(alloc, &pattern, Flags::from(flags), &tables)?;
+        if mode.names.len() > 65535 {
+            return Err(Error::TooManyGroups);
+        }
+        let text = points(alloc, text)?;
+        told(Cursor::new(&text).class_escape(alloc, &mode))
+    }
+
+    #[test]
+    fn letters_have_their_meanings(rt: HostRuntime) -> Result<(), Fail> {
+        assert_eq!(rt; escape(rt.alloc(), "", "", "n")?, Meaning::Point(0xA));
+        assert_eq!(rt; escape(rt.alloc(), "", "", "W")?, Meaning::Class);
+        assert_eq!(rt; escape(rt.alloc(), "", "", "cj")?, Meaning::Point(0xA));
+        assert_eq!(rt; escape(rt.alloc(), "", "", "c1")?, Meaning::Point(0x5C));
+        assert_eq!(rt;
+            escape(rt.alloc(), "u", "", "c1")?,
+            Meaning::Error("Invalid escape")
+        );
+        assert_eq!(rt; escape(rt.alloc(), "", "", "-")?, Meaning::Point(0x2D));
+        assert_eq!(rt;
+            escape(rt.alloc(), "u", "", "-")?,
+            Meaning::Error("Invalid escape")
+        );
+        assert_eq!(rt; escape(rt.alloc(), "u", "", "/")?, Meaning::Point(0x2F));
+        assert_eq!(rt;
+            escape(rt.alloc(), "", "", "")?,
+            Meaning::Error("Invalid escape")
+        );
+        Ok(())
+    }
+
+    #[test]
+    fn numbers_are_groups_or_octal(rt: HostRuntime) -> Result<(), Fail> {
+        assert_eq!(rt;
+            escape(rt.alloc(), "", "(a)(b)", "2")?,
+            Meaning::Group(Some(1))
+        );
+        assert_eq!(rt; escape(rt.alloc(), "", "(a)(b)", "3")?, Meaning::Point(3));
+        assert_eq!(rt;
+            escape(rt.alloc(), "u", "(a)(b)", "3")?,
+            Meaning::Error("Invalid backreference")
+        );
+        assert_eq!(rt; escape(rt.alloc(), "", "", "0")?, Meaning::Point(0));
+        assert_eq!(rt; escape(rt.alloc(), "", "", "08")?, Meaning::Point(0));
+        assert_eq!(rt;
+            escape(rt.alloc(), "u", "", "08")?,
+            Meaning::Error("Invalid backreference")
+        );
+        assert_eq!(rt; escape(rt.alloc(), "", "", "400")?, Meaning::Point(0o40));
+        assert_eq!(rt; escape(rt.alloc(), "", "", "8")?, Meaning::Point(0x38));
+        assert_eq!(rt;
+            escape(rt.alloc(), "", "(a)", "18446744073709551617")?,
+            Meaning::Point(1)
+        );
+        Ok(())
+    }
+
+    #[test]
+    fn code_points_by_number(rt: HostRuntime) -> Result<(), Fail> {
+        assert_eq!(rt; escape(rt.alloc(), "", "", "x41")?, Meaning::Point(0x41));
+        assert_eq!(rt; escape(rt.alloc(), "", "", "x4")?, Meaning::Point(0x78));
+        assert_eq!(rt;
+            escape(rt.alloc(), "v", "", "x4")?,
+            Meaning::Error("Invalid escape")
+        );
+        assert_eq!(rt;
+            escape(rt.alloc(), "", "", "uD83D\\uDE00")?,
+            Meaning::Point(0xD83D)
+        );
+        assert_eq!(rt;
+            escape(rt.alloc(), "u", "", "uD83D\\uDE00")?,
+            Meaning::Point(0x1_F600)
+        );
+        assert_eq!(rt; escape(rt.alloc(), "", "", "u{41}")?, Meaning::Point(0x75));
+        assert_eq!(rt;
+            escape(rt.alloc(), "u", "", "u{110000}")?,
+            Meaning::Error("Invalid escape")
+        );
+        Ok(())
+    }
+
+    #[test]
+    fn names_and_properties(rt: HostRuntime) -> Result<(), Fail> {
+        assert_eq!(rt; escape(rt.alloc(), "", "(a)", "k<b>")?, Meaning::Point(0x6B));
+        assert_eq!(rt;
+            escape(rt.alloc(), "", "(a)(?<b>c)", "k<b>")?,
+            Meaning::Group(Some(1))
+        );
+        assert_eq!(rt;
+            escape(rt.alloc(), "", "(a)(?<b>c)", "k<a>")?,
+            Meaning::Error("Invalid backreference")
+        );
+        assert_eq!(rt;
+            escape(rt.alloc(), "", "(a)(?<b>c)", "k")?,
+            Meaning::Error("Invalid group name")
+        );
+        assert_eq!(rt; escape(rt.alloc(), "", "", "p{ASCII}")?, Meaning::Point(0x70));
+        assert_eq!(rt;
+            escape(rt.alloc(), "u", "", "P{ASCII_Hex_Digit}")?,
+            Meaning::Class
+        );
+        assert_eq!(rt;
+            escape(rt.alloc(), "u", "", "p{Emoji_Keycap_Sequence}")?,
+            Meaning::Error("Invalid property")
+        );
+        assert_eq!(rt;
+            escape(rt.alloc(), "v", "", "p{Emoji_Keycap_Sequence}")?,
+            Meaning::Class
+        );
+        assert_eq!(rt;
+            escape(rt.alloc(), "v", "", "P{Emoji_Keycap_Sequence}")?,
+            Meaning::Error("Invalid property")
+        );
+        Ok(())
+    }
+
+    #[test]
+    fn classes_have_escapes_of_their_own(rt: HostRuntime) -> Result<(), Fail> {
+        assert_eq!(rt; class_escape(rt.alloc(), "", "", "b")?, Meaning::Point(8));
+        assert_eq!(rt; class_escape(rt.alloc(), "u", "", "-")?, Meaning::Point(0x2D));
+        assert_eq!(rt; class_escape(rt.alloc(), "", "", "c_")?, Meaning::Point(0x1F));
+        assert_eq!(rt; class_escape(rt.alloc(), "", "", "c!")?, Meaning::Point(0x5C));
+        assert_eq!(rt; class_escape(rt.alloc(), "", "(a)", "1")?, Meaning::Point(1));
+        assert_eq!(rt;
+            class_escape(rt.alloc(), "", "(?<a>b)", "k<a>")?,
+            Meaning::Error("Invalid escape")
+        );
+        assert_eq!(rt; class_escape(rt.alloc(), "", "", "k")?, Meaning::Point(0x6B));
+        assert_eq!(rt; class_escape(rt.alloc(), "", "", "S")?, Meaning::Class);
+        Ok(())
+    }
+}

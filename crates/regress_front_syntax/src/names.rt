@@ -50,7 +50,11 @@ impl<'p> Cursor<'p> {
     }
 
     /// Behind `<`: a group's name and `>` ("GroupName"), if they stand here. `OutOfMemory` is the only error.
-    pub(crate) fn try_name(&mut self, alloc: Global, tables: &Tables) -> Result<Option<Vec<CodePoint>>, Error>
+    pub(crate) fn try_name(
+        &mut self,
+        alloc: Global,
+        tables: &Tables,
+    ) -> Result<Option<Vec<CodePoint>>, Error>
         ensures read { IsTried (λ name. name.items) (name_at (table tables.now)) (unread self.old) result (unread self.new) }
         ensures kept { SameText self.old self.new }
     {
@@ -125,5 +129,77 @@ impl<'p> Cursor<'p> {
             key.extend_from_slice(value)?;
         }
         Ok(key)
+    }
+}
+
+#[cfg(test)]
+mod tests {
+    use super::*;
+    use std::alloc::AllocError;
+    use std::test::Fail;
+
+    fn points(alloc: Global, text: &str) -> Result<Vec<CodePoint>, AllocError> {
+        text.chars().map(CodePoint::from).collect(alloc)
+    }
+
+    /// Whether a name stands at the front of a text, and is this one.
+    fn is_name(alloc: Global, text: &str, expected: &str) -> Result<bool, Error> {
+        let tables = Tables::small(alloc).map_err(|_| Error::OutOfMemory)?;
+        let text = points(alloc, text)?;
+        let name = Cursor::new(&text).try_name(alloc, &tables)?;
+        let expected = points(alloc, expected)?;
+        Ok(name.is_some_and(|name| name.as_slice() == expected.as_slice()))
+    }
+
+    /// What is told where a name is asked for.
+    fn refusal(alloc: Global, text: &str) -> Result<Option<Error>, Error> {
+        let tables = Tables::small(alloc).map_err(|_| Error::OutOfMemory)?;
+        let text = points(alloc, text)?;
+        Ok(Cursor::new(&text).name(alloc, &tables).err())
+    }
+
+    /// Whether a key stands at the front of a text, and is this one.
+    fn is_key(alloc: Global, text: &str, expected: &str) -> Result<bool, Error> {
+        let text = points(alloc, text)?;
+        let expected = points(alloc, expected)?;
+        match Cursor::new(&text).key(alloc) {
+            Ok(key) => Ok(key.as_slice() == expected.as_slice()),
+            Err(Error::Syntax { .. }) => Ok(false),
+            Err(error) => Err(error),
+        }
+    }
+
+    #[test]
+    fn names_may_be_escaped(rt: HostRuntime) -> Result<(), Fail> {
+        assert!(rt; is_name(rt.alloc(), "ab1>c", "ab1")?);
+        assert!(rt; is_name(rt.alloc(), "$_>", "$_")?);
+        assert!(rt; is_name(rt.alloc(), "a\\u0062\\u{63}>", "abc")?);
+        assert!(rt; is_name(rt.alloc(), "a\u{200C}>", "a\u{200C}")?);
+        assert!(rt; !is_name(rt.alloc(), ">", "")?);
+        Ok(())
+    }
+
+    #[test]
+    fn other_texts_are_no_names(rt: HostRuntime) -> Result<(), Fail> {
+        let told = Some(Error::Syntax {
+            text: "Invalid group name",
+        });
+        assert!(rt; refusal(rt.alloc(), "1a>")? == told);
+        assert!(rt; refusal(rt.alloc(), "a-b>")? == told);
+        assert!(rt; refusal(rt.alloc(), "ab")? == told);
+        assert!(rt; refusal(rt.alloc(), "a\\x62>")? == told);
+        assert!(rt; refusal(rt.alloc(), "\\u{110000}>")? == told);
+        Ok(())
+    }
+
+    #[test]
+    fn keys_are_the_text_between_braces(rt: HostRuntime) -> Result<(), Fail> {
+        assert!(rt; is_key(rt.alloc(), "{ASCII}", "ASCII")?);
+        assert!(rt; is_key(rt.alloc(), "{Script=Grek}x", "Script=Grek")?);
+        assert!(rt; !is_key(rt.alloc(), "{=Grek}", "=Grek")?);
+        assert!(rt; !is_key(rt.alloc(), "{Script=}", "Script=")?);
+        assert!(rt; !is_key(rt.alloc(), "{ASCII", "ASCII")?);
+        assert!(rt; !is_key(rt.alloc(), "ASCII}", "ASCII")?);
+        Ok(())
     }
 }

@@ -246,3 +246,134 @@ impl Cursor<'_> {
         Some(number_of(8, digits) as CodePoint)
     }
 }
+
+#[cfg(test)]
+mod tests {
+    use super::*;
+    use std::alloc::{AllocError, Global};
+    use std::test::Fail;
+
+    fn points(alloc: Global, text: &str) -> Result<Vec<CodePoint>, AllocError> {
+        text.chars().map(CodePoint::from).collect(alloc)
+    }
+
+    /// The number at the front of a text, and the character behind it.
+    fn decimal(
+        alloc: Global,
+        text: &str,
+    ) -> Result<(Option<usize>, Option<CodePoint>), AllocError> {
+        let text = points(alloc, text)?;
+        let mut cursor = Cursor::new(&text);
+        let number = cursor.decimal();
+        Ok((number, cursor.peek()))
+    }
+
+    /// The least and greatest number of a quantifier, and whether it is greedy.
+    fn quantifier(
+        alloc: Global,
+        text: &str,
+    ) -> Result<Option<(usize, Option<usize>, bool)>, AllocError> {
+        let text = points(alloc, text)?;
+        let read = Cursor::new(&text).quantifier();
+        Ok(read.map(|q| (q.min, q.max, q.greedy)))
+    }
+
+    fn hex(alloc: Global, text: &str) -> Result<Option<CodePoint>, AllocError> {
+        let text = points(alloc, text)?;
+        Ok(Cursor::new(&text).hex(2))
+    }
+
+    fn octal(alloc: Global, text: &str) -> Result<Option<CodePoint>, AllocError> {
+        let text = points(alloc, text)?;
+        Ok(Cursor::new(&text).octal())
+    }
+
+    /// What is read behind `\\u`, and the character behind that.
+    fn unicode_escape(
+        alloc: Global,
+        text: &str,
+    ) -> Result<(Option<CodePoint>, Option<CodePoint>), AllocError> {
+        let text = points(alloc, text)?;
+        let mut cursor = Cursor::new(&text);
+        let point = cursor.unicode_escape();
+        Ok((point, cursor.peek()))
+    }
+
+    #[test]
+    fn counts_stop_at_the_greatest(rt: HostRuntime) -> Result<(), Fail> {
+        assert_eq!(rt; decimal(rt.alloc(), "012x")?, (Some(12), Some(0x78)));
+        assert_eq!(rt; decimal(rt.alloc(), "x")?, (None, Some(0x78)));
+        assert_eq!(rt;
+            decimal(rt.alloc(), "18446744073709551614")?,
+            (Some(18446744073709551614), None)
+        );
+        assert_eq!(rt;
+            decimal(rt.alloc(), "18446744073709551616")?,
+            (Some(usize::MAX), None)
+        );
+        assert_eq!(rt;
+            decimal(rt.alloc(), "99999999999999999999990")?,
+            (Some(usize::MAX), None)
+        );
+        Ok(())
+    }
+
+    #[test]
+    fn quantifiers_have_their_bounds(rt: HostRuntime) -> Result<(), Fail> {
+        assert_eq!(rt; quantifier(rt.alloc(), "*")?, Some((0, None, true)));
+        assert_eq!(rt; quantifier(rt.alloc(), "+?")?, Some((1, None, false)));
+        assert_eq!(rt; quantifier(rt.alloc(), "??")?, Some((0, Some(1), false)));
+        assert_eq!(rt; quantifier(rt.alloc(), "{5,3}")?, Some((5, Some(3), true)));
+        assert_eq!(rt; quantifier(rt.alloc(), "{2}?")?, Some((2, Some(2), false)));
+        assert_eq!(rt; quantifier(rt.alloc(), "{2,}")?, Some((2, None, true)));
+        assert_eq!(rt;
+            quantifier(rt.alloc(), "{99999999999999999999}")?,
+            Some((usize::MAX, Some(usize::MAX), true))
+        );
+        assert_eq!(rt; quantifier(rt.alloc(), "{,3}")?, None);
+        assert_eq!(rt; quantifier(rt.alloc(), "{2,3")?, None);
+        assert_eq!(rt; quantifier(rt.alloc(), "a*")?, None);
+        Ok(())
+    }
+
+    #[test]
+    fn digits_are_counted(rt: HostRuntime) -> Result<(), Fail> {
+        assert_eq!(rt; hex(rt.alloc(), "fFf")?, Some(0xFF));
+        assert_eq!(rt; hex(rt.alloc(), "4g")?, None);
+        assert_eq!(rt; octal(rt.alloc(), "400")?, Some(0o40));
+        assert_eq!(rt; octal(rt.alloc(), "3777")?, Some(0o377));
+        assert_eq!(rt; octal(rt.alloc(), "08")?, Some(0));
+        assert_eq!(rt; octal(rt.alloc(), "8")?, None);
+        Ok(())
+    }
+
+    #[test]
+    fn pairs_are_joined(rt: HostRuntime) -> Result<(), Fail> {
+        assert_eq!(rt;
+            unicode_escape(rt.alloc(), "D83D\\uDE00")?,
+            (Some(0x1_F600), None)
+        );
+        assert_eq!(rt;
+            unicode_escape(rt.alloc(), "D83D\\u0041")?,
+            (Some(0xD83D), Some(0x5C))
+        );
+        assert_eq!(rt;
+            unicode_escape(rt.alloc(), "DE00\\uDE00")?,
+            (Some(0xDE00), Some(0x5C))
+        );
+        assert_eq!(rt; unicode_escape(rt.alloc(), "D83")?, (None, Some(0x44)));
+        Ok(())
+    }
+
+    #[test]
+    fn braces_hold_code_points(rt: HostRuntime) -> Result<(), Fail> {
+        assert_eq!(rt;
+            unicode_escape(rt.alloc(), "{00000000000010FFFF}a")?,
+            (Some(0x10_FFFF), Some(0x61))
+        );
+        assert_eq!(rt; unicode_escape(rt.alloc(), "{110000}")?, (None, Some(0x7B)));
+        assert_eq!(rt; unicode_escape(rt.alloc(), "{}")?, (None, Some(0x7B)));
+        assert_eq!(rt; unicode_escape(rt.alloc(), "{41")?, (None, Some(0x7B)));
+        Ok(())
+    }
+}

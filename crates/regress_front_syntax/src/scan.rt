@@ -119,7 +119,11 @@ impl Cursor<'_> {
 
     /// Behind `(`: the name of the group that is opened, empty where it has none, and nothing where the parenthesis opens no
     /// capturing group. Goes on behind the name. `OutOfMemory` is the only error.
-    fn group_name(&mut self, alloc: Global, tables: &Tables) -> Result<Option<Vec<CodePoint>>, Error>
+    fn group_name(
+        &mut self,
+        alloc: Global,
+        tables: &Tables,
+    ) -> Result<Option<Vec<CodePoint>>, Error>
         ensures ok { IfOk result (λ name. opened_groups (table tables.now) false 0x28 (unread self.old) ≡ (opened name, unread self.new)) }
         ensures err { IfErr result (λ e. e ≡ Error.OutOfMemory) }
     {
@@ -157,5 +161,68 @@ impl Cursor<'_> {
             return Ok(None);
         }
         self.group_name(alloc, tables)
+    }
+}
+
+#[cfg(test)]
+mod tests {
+    use super::*;
+    use std::alloc::AllocError;
+    use std::test::Fail;
+
+    fn points(alloc: Global, text: &str) -> Result<Vec<CodePoint>, AllocError> {
+        text.chars().map(CodePoint::from).collect(alloc)
+    }
+
+    /// The names of a pattern's groups, each behind a slash, and whether names are read in it.
+    fn scanned(alloc: Global, flags: &str, pattern: &str) -> Result<(String, bool), Error> {
+        let tables = Tables::small(alloc).map_err(|_| Error::OutOfMemory)?;
+        let pattern = points(alloc, pattern)?;
+        let mode = mode(alloc, &pattern, Flags::from(flags), &tables)?;
+        let mut text = String::new(alloc);
+        for name in &mode.names {
+            text.push('/')?;
+            for point in name {
+                text.push(char::from_u32(*point).unwrap_or('?'))?;
+            }
+        }
+        Ok((text, mode.named))
+    }
+
+    fn is_scanned(
+        alloc: Global,
+        flags: &str,
+        pattern: &str,
+        names: &str,
+        named: bool,
+    ) -> Result<bool, Error> {
+        let (text, is_named) = scanned(alloc, flags, pattern)?;
+        Ok(text.as_str() == names && is_named == named)
+    }
+
+    #[test]
+    fn groups_are_found(rt: HostRuntime) -> Result<(), Fail> {
+        assert!(rt;
+            is_scanned(
+                rt.alloc(),
+                "",
+                "(a)(?<b>c)(?:d)(?=e)(?<!f)(?<g>h)",
+                "//b/g",
+                true
+            )?
+        );
+        assert!(rt; is_scanned(rt.alloc(), "", "((a)|(b))", "///", false)?);
+        assert!(rt; is_scanned(rt.alloc(), "", "[(](a)[\\](?<b>](c)", "//", false)?);
+        assert!(rt; is_scanned(rt.alloc(), "", "\\((a)\\[(b)]", "//", false)?);
+        assert!(rt; is_scanned(rt.alloc(), "", "(?<a(b)", "/", true)?);
+        assert!(rt; is_scanned(rt.alloc(), "u", "a", "", true)?);
+        Ok(())
+    }
+
+    #[test]
+    fn references_are_passed_over(rt: HostRuntime) -> Result<(), Fail> {
+        assert!(rt; is_scanned(rt.alloc(), "", "(?<a>b)\\k<\\u{61}>(c)", "/a/", true)?);
+        assert!(rt; is_scanned(rt.alloc(), "", "\\k<(a)>", "/", false)?);
+        Ok(())
     }
 }

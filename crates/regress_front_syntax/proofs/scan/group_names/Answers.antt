@@ -14,15 +14,15 @@ loop-point-smaller c =
     let whole : length (unread c.loop-point.cursor) ≡ length r + 1 = ap length c.in-Some.ensures.read ∙ omega arith in
     elim c.if-in_class.branch [
       | then-in_class+then-point-from w ↦
-        let rest = next-drop r w.next-then-point-from.result _ w.next-then-point-from.ensures.read in
-        rw (w.cursor-is, rest, whole) (omega (arith, length-drop 1 r))
+          let rest = next-drop r w.next-then-point-from.result _ w.next-then-point-from.ensures.read in
+          rw (w.cursor-is, rest, whole) (omega (arith, length-drop 1 r))
       | then-in_class+else-point-from w ↦ rw (w.cursor-is, whole) (omega arith)
       | else-in_class+in_ok-name+in-Some-2+in_ok-push w ↦
-        let shorter = opened-shorter (table c.args.tables.now) c.args.named c.in-Some.point r _ _ w.in_ok-name.ensures.ok in
-        rw (w.cursor-is, whole) (omega (arith, shorter))
+          let shorter = opened-shorter (table c.args.tables.now) c.args.named c.in-Some.point r _ _ w.in_ok-name.ensures.ok in
+          rw (w.cursor-is, whole) (omega (arith, shorter))
       | else-in_class+in_ok-name+in_default-2 w ↦
-        let shorter = opened-shorter (table c.args.tables.now) c.args.named c.in-Some.point r _ _ w.in_ok-name.ensures.ok in
-        rw (w.cursor-is, whole) (omega (arith, shorter))
+          let shorter = opened-shorter (table c.args.tables.now) c.args.named c.in-Some.point r _ _ w.in_ok-name.ensures.ok in
+          rw (w.cursor-is, whole) (omega (arith, shorter))
     ]
 
 pub loop-point-preserved : goal.loop-point-preserved
@@ -32,19 +32,19 @@ loop-point-preserved c =
     let r = unread c.next.new.self in
     elim c.if-in_class.branch [
       | then-in_class+then-point-from w ↦
-        let rest = next-drop r w.next-then-point-from.result _ w.next-then-point-from.ensures.read ∙ sym (skipped-backslash point r (w.if-point-from.true ∙ w.from.ensures)) in
-        rw (w.names-is, w.cursor-is, c.is_in_class_behind-in_class.ensures, w.if-in_class.true, rest)
-        (found-in_class _ c.args.named all c.loop-point.names point _ r c.in-Some.ensures.read (rw w.if-in_class.true at c.loop-point.invariant))
+          let rest = next-drop r w.next-then-point-from.result _ w.next-then-point-from.ensures.read ∙ sym (skipped-backslash point r (w.if-point-from.true ∙ w.from.ensures)) in
+          rw (w.names-is, w.cursor-is, c.is_in_class_behind-in_class.ensures, w.if-in_class.true, rest)
+          (found-in_class _ c.args.named all c.loop-point.names point _ r c.in-Some.ensures.read (rw w.if-in_class.true at c.loop-point.invariant))
       | then-in_class+else-point-from w ↦
-        let rest = skipped-other point r (λ e. w.if-point-from.false (e ∙ sym w.from.ensures)) in
-        rw (w.names-is, w.cursor-is, c.is_in_class_behind-in_class.ensures, w.if-in_class.true, ← rest)
-        (found-in_class _ c.args.named all c.loop-point.names point _ r c.in-Some.ensures.read (rw w.if-in_class.true at c.loop-point.invariant))
+          let rest = skipped-other point r (λ e. w.if-point-from.false (e ∙ sym w.from.ensures)) in
+          rw (w.names-is, w.cursor-is, c.is_in_class_behind-in_class.ensures, w.if-in_class.true, ← rest)
+          (found-in_class _ c.args.named all c.loop-point.names point _ r c.in-Some.ensures.read (rw w.if-in_class.true at c.loop-point.invariant))
       | else-in_class+in_ok-name+in-Some-2+in_ok-push w ↦
-        rw (w.names-is, w.cursor-is, c.is_in_class_behind-in_class.ensures, w.if-in_class.false)
-        (found-name _ c.args.named all c.loop-point.names point _ r c.in-Some.ensures.read _ w.push.new.self w.in-Some-2.name (rw w.if-in_class.false at c.loop-point.invariant) (rw w.in-Some-2.is at w.in_ok-name.ensures.ok) w.in_ok-push.ensures.items)
+          rw (w.names-is, w.cursor-is, c.is_in_class_behind-in_class.ensures, w.if-in_class.false)
+          (found-name _ c.args.named all c.loop-point.names point _ r c.in-Some.ensures.read _ w.push.new.self w.in-Some-2.name (rw w.if-in_class.false at c.loop-point.invariant) (rw w.in-Some-2.is at w.in_ok-name.ensures.ok) w.in_ok-push.ensures.items)
       | else-in_class+in_ok-name+in_default-2 w ↦
-        rw (w.names-is, w.cursor-is, c.is_in_class_behind-in_class.ensures, w.if-in_class.false)
-        (found-nothing _ c.args.named all c.loop-point.names point _ r c.in-Some.ensures.read _ (rw w.if-in_class.false at c.loop-point.invariant) (rw w.in_default-2.is at w.in_ok-name.ensures.ok))
+          rw (w.names-is, w.cursor-is, c.is_in_class_behind-in_class.ensures, w.if-in_class.false)
+          (found-nothing _ c.args.named all c.loop-point.names point _ r c.in-Some.ensures.read _ (rw w.if-in_class.false at c.loop-point.invariant) (rw w.in_default-2.is at w.in_ok-name.ensures.ok))
     ]
 
 pub returns-clause-ok : goal.returns-clause-ok

@@ -17,10 +17,10 @@ returns-then-is_empty-clause-read c =
     elim c.then-is_empty.branch [
       | then-is_empty-via-then-is_empty w ↦ (rw (braces_at-is, ← c.if-not-eat.ensures.found, ← c.if-not-eat.ensures.read, cut, some_length, ← c.is_empty.ensures, w.if-is_empty.true) refl, refl)
       | then-is_empty-via-else-is_empty+then-value w ↦
-        let large : nat_le (number_of 16 ds) last_code_point ≡ false = grind (arith, nat_tests) in
-        (rw (braces_at-is, ← c.if-not-eat.ensures.found, ← c.if-not-eat.ensures.read, cut, some_length, ← c.is_empty.ensures, w.if-is_empty.false, large, and-false) refl, refl)
+          let large : nat_le (number_of 16 ds) last_code_point ≡ false = grind (arith, nat_tests) in
+          (rw (braces_at-is, ← c.if-not-eat.ensures.found, ← c.if-not-eat.ensures.read, cut, some_length, ← c.is_empty.ensures, w.if-is_empty.false, large, and-false) refl, refl)
       | then-is_empty-via-else-is_empty+else-value+then-not-eat-2 w ↦
-        (rw (braces_at-is, ← c.if-not-eat.ensures.found, ← c.if-not-eat.ensures.read, cut, some_length, ← c.is_empty.ensures, w.if-is_empty.false, ← w.if-not-eat-2.ensures.found) refl, refl)
+          (rw (braces_at-is, ← c.if-not-eat.ensures.found, ← c.if-not-eat.ensures.read, cut, some_length, ← c.is_empty.ensures, w.if-is_empty.false, ← w.if-not-eat-2.ensures.found) refl, refl)
     ]
 
 pub returns-clause-read : goal.returns-clause-read

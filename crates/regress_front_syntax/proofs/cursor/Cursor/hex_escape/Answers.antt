@@ -11,14 +11,14 @@ returns-in-Some-clause-read c =
     let m = mode_view c.args.mode.now in
     elim c.if-eat.branch [
       | then-eat w ↦
-        let point = reading-some (λ c. c) (hex_at 2) _ c.in-Some.point _ (sym w.point-is ∙ c.in-Some.is) w.hex-point.ensures.read in
-        rw (escape_at-x m _ w.if-eat.ensures.found, ← w.if-eat.ensures.read, point, w.ahead-is) refl
+          let point = reading-some (λ c. c) (hex_at 2) _ c.in-Some.point _ (sym w.point-is ∙ c.in-Some.is) w.hex-point.ensures.read in
+          rw (escape_at-x m _ w.if-eat.ensures.found, ← w.if-eat.ensures.read, point, w.ahead-is) refl
       | else-eat+then-mode w ↦
-        let point = reading-some (λ c. c) unicode_escape _ c.in-Some.point _ (sym w.point-is ∙ c.in-Some.is) w.unicode_escape.ensures.read in
-        rw (escape_at-u m _ c.requires w.if-eat.ensures.found, w.if-mode.true, ← w.if-eat.ensures.read, ← w.bump.ensures.read, point, w.ahead-is) refl
+          let point = reading-some (λ c. c) unicode_escape _ c.in-Some.point _ (sym w.point-is ∙ c.in-Some.is) w.unicode_escape.ensures.read in
+          rw (escape_at-u m _ c.requires w.if-eat.ensures.found, w.if-mode.true, ← w.if-eat.ensures.read, ← w.bump.ensures.read, point, w.ahead-is) refl
       | else-eat+else-mode w ↦
-        let point = reading-some (λ c. c) (hex_at 4) _ c.in-Some.point _ (sym w.point-is ∙ c.in-Some.is) w.hex.ensures.read in
-        rw (escape_at-u m _ c.requires w.if-eat.ensures.found, w.if-mode.false, ← w.if-eat.ensures.read, ← w.bump.ensures.read, point, w.ahead-is) refl
+          let point = reading-some (λ c. c) (hex_at 4) _ c.in-Some.point _ (sym w.point-is ∙ c.in-Some.is) w.hex.ensures.read in
+          rw (escape_at-u m _ c.requires w.if-eat.ensures.found, w.if-mode.false, ← w.if-eat.ensures.read, ← w.bump.ensures.read, point, w.ahead-is) refl
     ]
 
 pub returns-in-None-clause-read : goal.returns-in-None-clause-read
@@ -26,13 +26,13 @@ returns-in-None-clause-read c =
     let m = mode_view c.args.mode.now in
     let same : escape_at m (unread c.args.self.now) ≡ from_first (identity m) (unread c.args.self.now) = elim c.if-eat.branch [
       | then-eat w ↦
-        let point = reading-none (λ c. c) (hex_at 2) _ _ (sym w.point-is ∙ c.in-None.is) w.hex-point.ensures.read in
-        rw (escape_at-x m _ w.if-eat.ensures.found, ← w.if-eat.ensures.read, point.0) refl
+          let point = reading-none (λ c. c) (hex_at 2) _ _ (sym w.point-is ∙ c.in-None.is) w.hex-point.ensures.read in
+          rw (escape_at-x m _ w.if-eat.ensures.found, ← w.if-eat.ensures.read, point.0) refl
       | else-eat+then-mode w ↦
-        let point = reading-none (λ c. c) unicode_escape _ _ (sym w.point-is ∙ c.in-None.is) w.unicode_escape.ensures.read in
-        rw (escape_at-u m _ c.requires w.if-eat.ensures.found, w.if-mode.true, ← w.if-eat.ensures.read, ← w.bump.ensures.read, point.0) refl
+          let point = reading-none (λ c. c) unicode_escape _ _ (sym w.point-is ∙ c.in-None.is) w.unicode_escape.ensures.read in
+          rw (escape_at-u m _ c.requires w.if-eat.ensures.found, w.if-mode.true, ← w.if-eat.ensures.read, ← w.bump.ensures.read, point.0) refl
       | else-eat+else-mode w ↦
-        let point = reading-none (λ c. c) (hex_at 4) _ _ (sym w.point-is ∙ c.in-None.is) w.hex.ensures.read in
-        rw (escape_at-u m _ c.requires w.if-eat.ensures.found, w.if-mode.false, ← w.if-eat.ensures.read, ← w.bump.ensures.read, point.0) refl
+          let point = reading-none (λ c. c) (hex_at 4) _ _ (sym w.point-is ∙ c.in-None.is) w.hex.ensures.read in
+          rw (escape_at-u m _ c.requires w.if-eat.ensures.found, w.if-mode.false, ← w.if-eat.ensures.read, ← w.bump.ensures.read, point.0) refl
     ] in
     IsRead-same escape_view (escape_at m) (from_first (identity m)) _ c.identity.result _ same c.identity.ensures.read

@@ -29,7 +29,7 @@ returns-then-is_empty-2-clause-read c =
     elim c.then-is_empty-2.branch [
       | then-is_empty-2-via-then-is_empty-2 w ↦ (rw (key_at-is, ← c.if-not-eat.ensures.found, ← c.if-not-eat.ensures.read, name, ← c.is_empty.ensures, c.if-is_empty.false, ← c.if-eat.ensures.found, ← c.if-eat.ensures.read, ← c.if-not-eat-2.ensures.found, ← c.if-not-eat-2.ensures.read, value, ← c.is_empty-2.ensures, w.if-is_empty-2.true) refl, refl)
       | then-is_empty-2-via-else-is_empty-2+then-not-eat-3 w ↦
-        (rw (key_at-is, ← c.if-not-eat.ensures.found, ← c.if-not-eat.ensures.read, name, ← c.is_empty.ensures, c.if-is_empty.false, ← c.if-eat.ensures.found, ← c.if-eat.ensures.read, ← c.if-not-eat-2.ensures.found, ← c.if-not-eat-2.ensures.read, value, ← c.is_empty-2.ensures, w.if-is_empty-2.false, ← w.if-not-eat-3.ensures.found) refl, refl)
+          (rw (key_at-is, ← c.if-not-eat.ensures.found, ← c.if-not-eat.ensures.read, name, ← c.is_empty.ensures, c.if-is_empty.false, ← c.if-eat.ensures.found, ← c.if-eat.ensures.read, ← c.if-not-eat-2.ensures.found, ← c.if-not-eat-2.ensures.read, value, ← c.is_empty-2.ensures, w.if-is_empty-2.false, ← w.if-not-eat-3.ensures.found) refl, refl)
     ]
 
 pub returns-clause-read : goal.returns-clause-read

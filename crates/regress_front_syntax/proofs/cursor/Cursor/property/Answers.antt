@@ -72,8 +72,8 @@ returns-clause-read c =
     let unknown = sym found ∙ sym c.is_some.ensures ∙ c.if-is_some.false in
     property-unknown m t _ _ read unknown (elim c.else-is_positive-2.branch [
       | else-is_positive-2-via-then-is_positive-2+then-mode+else-is_some-2 w ↦
-        let more = looked_up m.table.sequences _ w.sequences.result w.sequences.ensures (ap chars w.as_str-then-mode.ensures.value ∙ sym (ap chars c.as_str.ensures.value) ∙ text) in
-        rw (← more, ← w.is_some-then-mode.ensures, w.if-is_some-2.false) (and-false _)
+          let more = looked_up m.table.sequences _ w.sequences.result w.sequences.ensures (ap chars w.as_str-then-mode.ensures.value ∙ sym (ap chars c.as_str.ensures.value) ∙ text) in
+          rw (← more, ← w.is_some-then-mode.ensures, w.if-is_some-2.false) (and-false _)
       | else-is_positive-2-via-then-is_positive-2+else-mode w ↦ rw (w.if-mode.false, and-false) refl
       | else-is_positive-2-via-else-is_positive-2 w ↦ rw (← c.is_at-is_positive.ensures, w.if-is_positive-2.false) refl
     ])

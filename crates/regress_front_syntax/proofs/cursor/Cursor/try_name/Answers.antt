@@ -22,20 +22,24 @@ loop-ahead-smaller c = name_point-shorter _ (rw c.loop-ahead-test.ensures.read a
 pub loop-ahead-preserved : goal.loop-ahead-preserved
 loop-ahead-preserved c = record {
   read =
-    rw c.in_ok-push-in-Some-name_point.ensures.items
-    (c.loop-ahead.invariant.read
-    ∙ behind-point _ _ _ _ _ c.loop-ahead-test.ensures.found (rw c.loop-ahead-test.ensures.read at c.in-Some-name_point.ensures.read) (sym c.continues_name.ensures ∙ c.if-continues_name.true));
+      rw c.in_ok-push-in-Some-name_point.ensures.items
+      (c.loop-ahead.invariant.read
+      ∙ behind-point _ _ _ _ _ c.loop-ahead-test.ensures.found (rw c.loop-ahead-test.ensures.read at c.in-Some-name_point.ensures.read) (sym c.continues_name.ensures ∙ c.if-continues_name.true));
   kept = c.in-Some-name_point.ensures.kept ∙ c.loop-ahead-test.ensures.kept ∙ c.loop-ahead.invariant.kept;
 }
 
 pub returns-in_default-name_point-clause-read : goal.returns-in_default-name_point-clause-read
 returns-in_default-name_point-clause-read c = elim c.in_default-name_point.branch [
-  | in_default-name_point-via-in-Some-name_point+else-continues_name w ↦
-    (c.loop-ahead.invariant.read
-    ∙ behind-other _ _ _ _ _ c.loop-ahead-test.ensures.found (rw c.loop-ahead-test.ensures.read at w.in-Some-name_point.ensures.read) (sym w.continues_name.ensures ∙ w.if-continues_name.false), refl)
-  | in_default-name_point-via-in_default-name_point w ↦
-    (c.loop-ahead.invariant.read
-    ∙ behind-no_point _ _ _ c.loop-ahead-test.ensures.found (rw c.loop-ahead-test.ensures.read at w.in_default-name_point.ensures.read.0), refl)
+  | in_default-name_point-via-in-Some-name_point+else-continues_name w ↦ (
+    c.loop-ahead.invariant.read
+        ∙ behind-other _ _ _ _ _ c.loop-ahead-test.ensures.found (rw c.loop-ahead-test.ensures.read at w.in-Some-name_point.ensures.read) (sym w.continues_name.ensures ∙ w.if-continues_name.false),
+    refl,
+  )
+  | in_default-name_point-via-in_default-name_point w ↦ (
+    c.loop-ahead.invariant.read
+        ∙ behind-no_point _ _ _ c.loop-ahead-test.ensures.found (rw c.loop-ahead-test.ensures.read at w.in_default-name_point.ensures.read.0),
+    refl,
+  )
 ]
 
 pub returns-clause-read : goal.returns-clause-read

@@ -8,7 +8,7 @@ use Rattle.regress_front_syntax.proofs.cursor.Cursor.try_name.Given as goal
 abbrev pub invariant-loop-ahead : goal.invariant-loop-ahead
 invariant-loop-ahead l = record {
   read : name_at (table l.tables) (unread l.fn.self) ≡ behind l.name.items (rest_at (table l.tables) (unread l.ahead));
-  kept : l.ahead.points.now ≡ l.fn.self.points.now
+  kept : l.ahead.points.now ≡ l.fn.self.points.now;
 }
 
 abbrev pub decreases-loop-ahead : goal.decreases-loop-ahead
