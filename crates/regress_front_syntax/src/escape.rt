@@ -410,7 +410,12 @@ mod tests {
     }
 
     /// The same in a class.
-    fn class_escape(alloc: Global, flags: &str, pattern: &str, text: &str) -> Result<Meaning, Error> {
+    fn class_escape(
+        alloc: Global,
+        flags: &str,
+        pattern: &str,
+        text: &str,
+    ) -> Result<Meaning, Error> {
         let tables = Tables::small(alloc).map_err(|_| Error::OutOfMemory)?;
         let pattern = points(alloc, pattern)?;
         let mode = mode(alloc, &pattern, Flags::from(flags), &tables)?;
@@ -496,7 +501,10 @@ mod tests {
 
     #[test]
     fn names_and_properties(rt: HostRuntime) -> Result<(), Fail> {
-        assert_eq!(rt; escape(rt.alloc(), "", "(a)", "k<b>")?, Meaning::Point(0x6B));
+        assert_eq!(rt;
+            escape(rt.alloc(), "", "(a)", "k<b>")?,
+            Meaning::Point(0x6B)
+        );
         assert_eq!(rt;
             escape(rt.alloc(), "", "(a)(?<b>c)", "k<b>")?,
             Meaning::Group(Some(1))
@@ -509,7 +517,10 @@ mod tests {
             escape(rt.alloc(), "", "(a)(?<b>c)", "k")?,
             Meaning::Error("Invalid group name")
         );
-        assert_eq!(rt; escape(rt.alloc(), "", "", "p{ASCII}")?, Meaning::Point(0x70));
+        assert_eq!(rt;
+            escape(rt.alloc(), "", "", "p{ASCII}")?,
+            Meaning::Point(0x70)
+        );
         assert_eq!(rt;
             escape(rt.alloc(), "u", "", "P{ASCII_Hex_Digit}")?,
             Meaning::Class
@@ -532,15 +543,30 @@ mod tests {
     #[test]
     fn classes_have_escapes_of_their_own(rt: HostRuntime) -> Result<(), Fail> {
         assert_eq!(rt; class_escape(rt.alloc(), "", "", "b")?, Meaning::Point(8));
-        assert_eq!(rt; class_escape(rt.alloc(), "u", "", "-")?, Meaning::Point(0x2D));
-        assert_eq!(rt; class_escape(rt.alloc(), "", "", "c_")?, Meaning::Point(0x1F));
-        assert_eq!(rt; class_escape(rt.alloc(), "", "", "c!")?, Meaning::Point(0x5C));
-        assert_eq!(rt; class_escape(rt.alloc(), "", "(a)", "1")?, Meaning::Point(1));
+        assert_eq!(rt;
+            class_escape(rt.alloc(), "u", "", "-")?,
+            Meaning::Point(0x2D)
+        );
+        assert_eq!(rt;
+            class_escape(rt.alloc(), "", "", "c_")?,
+            Meaning::Point(0x1F)
+        );
+        assert_eq!(rt;
+            class_escape(rt.alloc(), "", "", "c!")?,
+            Meaning::Point(0x5C)
+        );
+        assert_eq!(rt;
+            class_escape(rt.alloc(), "", "(a)", "1")?,
+            Meaning::Point(1)
+        );
         assert_eq!(rt;
             class_escape(rt.alloc(), "", "(?<a>b)", "k<a>")?,
             Meaning::Error("Invalid escape")
         );
-        assert_eq!(rt; class_escape(rt.alloc(), "", "", "k")?, Meaning::Point(0x6B));
+        assert_eq!(rt;
+            class_escape(rt.alloc(), "", "", "k")?,
+            Meaning::Point(0x6B)
+        );
         assert_eq!(rt; class_escape(rt.alloc(), "", "", "S")?, Meaning::Class);
         Ok(())
     }
