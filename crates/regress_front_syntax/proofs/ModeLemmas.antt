@@ -1,9 +1,8 @@
 -- The numbers of the groups of a name, one group after another.
-use Rattle.std.proofs.Common.{◌≡◌, ℕ, ◌+◌, Bool, true, false, cond, List, [], ◌∷◌, ◌++◌, length, map, take, get_or, ◌<◌, refl, sym, ap, ◌∙◌, arith}
+use Rattle.std.proofs.Common.{◌≡◌, ℕ, ◌+◌, Bool, true, false, cond, List, [], ◌∷◌, ◌++◌, length, map, take, get_or, ◌<◌, refl, arith}
 use Rattle.std.specs.Prelude.{if◌then◌else◌}
 use Rattle.std.specs.Global.{Vec}
 use Rattle.std.proofs.lemmas.List.{take_more, map_push, length-map, length-take-le}
-use Rattle.std.proofs.lemmas.Bool.{cond_both}
 use Rattle.regress_meaning.specs.Text.{same_text}
 use Rattle.regress_meaning.specs.Tokens.{numbers_from}
 

@@ -1,12 +1,9 @@
 -- Numbers that digits write: how large they are, and where they stop.
-use Rattle.std.proofs.Common.{◌≡◌, ℕ, zero, suc, ◌+◌, ◌-◌, ◌*◌, ◌^◌, ◌<◌, ◌≤◌, ◌==◌, ◌||◌, min, Bool, true, false, nat_lt, nat_le, List, [], ◌∷◌, length, fold, All, refl, sym, ap, subst, ◌∙◌, ◌⊎◌, inl, inr, arith}
-use Rattle.std.specs.Prelude.{if◌then◌else◌}
+use Rattle.std.proofs.Common.{◌≡◌, ℕ, zero, suc, ◌+◌, ◌*◌, ◌^◌, ◌<◌, ◌≤◌, min, Bool, true, List, [], ◌∷◌, length, fold, sym, ap, subst, ◌∙◌, ◌⊎◌, inl, inr, arith}
 use Rattle.std.specs.List.{list_all}
 use Rattle.std.proofs.Math.Nat.{mul-le-mul_right, mul_assoc, pow-zero, pow-succ', pow-le-pow_right, mul-zero, mul-suc}
 use Rattle.std.proofs.lemmas.Bool.{cases_lt, and_parts}
 use Rattle.std.proofs.lemmas.Bool.Decides.{nat_tests}
-use Rattle.regress_meaning.specs.Text.{between}
-use Rattle.regress_meaning.specs.Class.{is_digit}
 use Rattle.regress_meaning.specs.Tokens.{is_octal, is_hex, digit_value, number_of, greatest}
 
 -- one more digit, where a number stops at the greatest

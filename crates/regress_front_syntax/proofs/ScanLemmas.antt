@@ -1,20 +1,16 @@
 -- The scan for groups, one step after another.
-use Rattle.std.proofs.Common.{◌≡◌, ℕ, zero, suc, ◌+◌, ◌-◌, ◌<◌, ◌≤◌, ◌==◌, ◌||◌, ◌&&◌, not, Bool, true, false, cond, nat_eq, List, [], ◌∷◌, ◌++◌, length, drop, map, Option, Some, None, refl, sym, ap, subst, ◌∙◌, ◌⊎◌, inl, inr, arith, codes, append_assoc, append-nil, eqb-true, eq-eqb}
+use Rattle.std.proofs.Common.{◌≡◌, ℕ, zero, suc, ◌+◌, ◌-◌, ◌≤◌, ◌==◌, not, Bool, true, false, List, [], ◌∷◌, ◌++◌, length, drop, map, Option, Some, None, refl, sym, ap, subst, ◌∙◌, arith, append_assoc, eq-eqb}
 use Rattle.std.specs.Prelude.{if◌then◌else◌, option_map, unwrap_or}
-use Rattle.std.specs.List.{starts_with}
 use Rattle.std.specs.Global.{Vec}
-use Rattle.std.proofs.lemmas.List.{map_push, drop-drop}
-use Rattle.std.proofs.lemmas.Bool.{cond_both, cases_Bool, ne_eqb}
-use Rattle.regress_meaning.specs.Text.{◌∈◌, is_at}
+use Rattle.std.proofs.lemmas.List.{map_push}
+use Rattle.std.proofs.lemmas.Bool.{cond_both, ne_eqb}
+use Rattle.regress_meaning.specs.Text.{is_at}
 use Rattle.regress_meaning.specs.Table.{Table}
 use Rattle.regress_meaning.specs.Tokens.{guard, name_at}
 use Rattle.regress_meaning.specs.Grammar.{opens_name, holds_a_name}
-use Rattle.regress_meaning.specs.Scan.{after_escape, opened_groups, group_names}
+use Rattle.regress_meaning.specs.Scan.{opened_groups, group_names}
 use Rattle.regress_meaning.proofs.ScanWords.{Behind, here, past, behind_trans, name-ends}
-use Rattle.regress_meaning.proofs.Inversion.{Gives, option-cases}
-use Rattle.regress_front_syntax.specs.Escapes.{texts, opened}
-use Rattle.regress_front_syntax.specs.Readings.{IsReading}
-use Rattle.regress_front_syntax.proofs.TokenLemmas.{same_either_way, starts_with_two}
+use Rattle.regress_front_syntax.specs.Escapes.{texts}
 
 -- whether a scan stands in a class behind c
 abbrev pub class_behind : Bool → ℕ → Bool

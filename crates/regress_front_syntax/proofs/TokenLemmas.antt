@@ -1,5 +1,5 @@
 -- What the words of a pattern are, where the parts that they are read by are known.
-use Rattle.std.proofs.Common.{◌≡◌, ℕ, zero, suc, ◌+◌, ◌-◌, ◌*◌, ◌^◌, ◌<◌, ◌≤◌, ◌==◌, ◌||◌, ◌&&◌, not, min, Bool, true, false, nat_lt, nat_le, nat_eq, List, [], ◌∷◌, ◌++◌, length, drop, Option, Some, None, refl, sym, ap, subst, ◌∙◌, ◌⊎◌, inl, inr, arith, codes, eqb-true, eq-eqb}
+use Rattle.std.proofs.Common.{◌≡◌, ℕ, suc, ◌≤◌, ◌==◌, ◌&&◌, not, min, Bool, true, false, nat_lt, nat_le, nat_eq, List, [], ◌∷◌, ◌++◌, length, drop, Option, Some, None, refl, sym, ap, ◌∙◌, inl, inr, arith, eqb-true, eq-eqb}
 use Rattle.std.specs.Prelude.{if◌then◌else◌, option_map, option_and_then, unwrap_or}
 use Rattle.std.specs.List.{starts_with}
 use Rattle.std.specs.Option.{option_or}
@@ -10,7 +10,7 @@ use Rattle.std.proofs.lemmas.Bool.Decides.{nat_tests}
 use Rattle.regress_meaning.specs.Text.{span, span_up_to, is_at, between}
 use Rattle.regress_meaning.specs.Class.{is_digit}
 use Rattle.regress_meaning.specs.Table.{last_code_point}
-use Rattle.regress_meaning.specs.Tokens.{guard, is_octal, is_hex, is_high, is_low, joined, digit_value, number_of, greatest, decimal_at, braced_end, bounds, bounds_at, hex_at, low_half, pair_at, braces_at, unicode_escape, octal_at, Bounds}
+use Rattle.regress_meaning.specs.Tokens.{guard, is_octal, is_hex, is_low, joined, number_of, greatest, decimal_at, braced_end, bounds, bounds_at, hex_at, low_half, pair_at, braces_at, unicode_escape, octal_at, Bounds}
 use Rattle.regress_front_syntax.specs.Readings.{IsReading}
 use Rattle.regress_front_syntax.specs.Words.{count_at, braced_at, quantifier_at}
 use Rattle.std.proofs.lemmas.Option.{some_pair_parts}

@@ -1,5 +1,5 @@
 -- What the parser's calls read, against the definitions of what stands at the front of a text.
-use Rattle.std.specs.Prelude.{◌≡◌, ℕ, Bool, true, List, [], ◌∷◌, Option, Some, None, Result, Ok, Err, drop, if◌then◌else◌}
+use Rattle.std.specs.Prelude.{◌≡◌, ℕ, Bool, List, [], ◌∷◌, Option, Some, None, Result, Ok, Err}
 use Rattle.regress_meaning.specs.Tokens.{Reads}
 use Rattle.regress_front_sets.specs.declared.error.Error.{Error}
 use Rattle.regress_front_sets.specs.declared.error.Error.TheVariants.{Syntax, OutOfMemory}

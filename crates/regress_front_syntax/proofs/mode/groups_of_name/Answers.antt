@@ -1,4 +1,4 @@
-use Rattle.std.proofs.Common.{true, false, refl, sym, ◌∙◌, ap, append-nil, arith}
+use Rattle.std.proofs.Common.{refl, ◌∙◌, ap, append-nil, arith}
 use Rattle.regress_meaning.specs.Text.{same_text}
 use Rattle.regress_front_syntax.proofs.ModeLemmas.{numbers_from-step}
 use Rattle.regress_front_syntax.proofs.mode.groups_of_name.Goals as goal

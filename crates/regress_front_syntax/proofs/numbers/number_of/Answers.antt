@@ -2,7 +2,6 @@ use Rattle.std.proofs.Common.{refl, ◌∙◌, rules}
 use Rattle.std.proofs.lemmas.Iterator.{YieldsList-from_slice}
 use Rattle.std.proofs.lemmas.Iterator.Consumers.{fold_from_yields_List}
 use Rattle.regress_front_syntax.proofs.NumberLemmas.{fold-stopping, stopping}
-use Rattle.regress_front_syntax.proofs.SpanLemmas.{span-passes}
 use Rattle.regress_front_syntax.proofs.numbers.number_of.Goals as goal
 
 pub returns : goal.returns

@@ -1,10 +1,10 @@
-use Rattle.std.proofs.Common.{◌≡◌, ◌+◌, ◌<◌, ◌≤◌, true, false, [], ◌∷◌, ◌++◌, length, drop, sym, ap, ◌∙◌, refl, arith, append-nil, length-drop}
-use Rattle.regress_meaning.specs.Scan.{opened_groups, group_names}
+use Rattle.std.proofs.Common.{◌≡◌, ◌+◌, false, ◌++◌, length, sym, ap, ◌∙◌, arith, append-nil, length-drop}
+use Rattle.regress_meaning.specs.Scan.{group_names}
 use Rattle.regress_front_sets.specs.TableViews.{table}
 use Rattle.regress_front_syntax.specs.Cursors.{unread}
-use Rattle.regress_front_syntax.specs.Escapes.{texts, opened}
+use Rattle.regress_front_syntax.specs.Escapes.{texts}
 use Rattle.regress_front_syntax.proofs.EscapeLemmas.{next-drop}
-use Rattle.regress_front_syntax.proofs.ScanLemmas.{skipped, skipped-backslash, skipped-other, names-end, opened-shorter, found-in_class, found-nothing, found-name}
+use Rattle.regress_front_syntax.proofs.ScanLemmas.{skipped-backslash, skipped-other, names-end, opened-shorter, found-in_class, found-nothing, found-name}
 use Rattle.regress_front_syntax.proofs.scan.group_names.Goals as goal
 use Rattle.regress_front_syntax.proofs.scan.group_names.Goals.{then-in_class+then-point-from, then-in_class+else-point-from, else-in_class+in_ok-name+in-Some-2+in_ok-push, else-in_class+in_ok-name+in_default-2}
 

@@ -1,7 +1,5 @@
-use Rattle.std.proofs.Common.{refl, sym, ap, ◌∙◌, rules, arith}
-use Rattle.std.proofs.lemmas.Grind.{common_steps}
+use Rattle.std.proofs.Common.{sym, ◌∙◌}
 use Rattle.regress_meaning.specs.Class.{is_digit}
-use Rattle.regress_meaning.specs.Tokens.{is_hex, is_octal}
 use Rattle.regress_front_syntax.proofs.TokenLemmas.{count_at-some, count_at-none}
 use Rattle.regress_front_syntax.proofs.cursor.Cursor.decimal.Goals as goal
 

@@ -1,6 +1,5 @@
 use Rattle.std.proofs.Common.{arith}
-use Rattle.regress_meaning.specs.Tokens.{escape_at, decimal_escape, octal_or_digit, identity}
-use Rattle.regress_front_syntax.specs.Cursors.{unread}
+use Rattle.regress_meaning.specs.Tokens.{decimal_escape, octal_or_digit}
 use Rattle.regress_front_syntax.specs.Escapes.{mode_view, escape_view, from_first}
 use Rattle.regress_front_syntax.proofs.EscapeLemmas.{IsRead-same, length-names, decimal_escape-none, decimal_escape-group, decimal_escape-other}
 use Rattle.regress_front_syntax.proofs.cursor.Cursor.decimal_escape.Goals as goal

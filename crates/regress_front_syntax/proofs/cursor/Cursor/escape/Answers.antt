@@ -1,9 +1,8 @@
 use Rattle.std.proofs.Common.{sym, ap, ◌∙◌}
 use Rattle.std.specs.Prelude.{option_map}
-use Rattle.regress_meaning.specs.Tokens.{escape_at, class_escape_at, control_letter, named_reference, octal_or_digit, identity, property_at, name_at, key_at, numbers_from}
-use Rattle.regress_front_syntax.specs.Cursors.{unread}
+use Rattle.regress_meaning.specs.Tokens.{escape_at, identity}
 use Rattle.regress_front_syntax.specs.Trees.{class_view}
-use Rattle.regress_front_syntax.specs.Escapes.{mode_view, escape_view, from_first, class_control}
+use Rattle.regress_front_syntax.specs.Escapes.{mode_view, escape_view, from_first}
 use Rattle.regress_front_syntax.proofs.EscapeLemmas.{IsRead-same, escape_at-none, escape_at-set, escape_at-point, escape_at-identity}
 use Rattle.regress_front_syntax.proofs.cursor.Cursor.escape.Goals as goal
 

@@ -1,9 +1,7 @@
-use Rattle.std.proofs.Common.{◌≡◌, refl, sym, ap, ◌∙◌, rules, arith}
-use Rattle.std.proofs.lemmas.Grind.{common_steps}
-use Rattle.regress_meaning.specs.Class.{is_digit}
-use Rattle.regress_meaning.specs.Tokens.{is_hex, is_octal, number_of}
+use Rattle.std.proofs.Common.{◌≡◌, refl, arith}
+use Rattle.regress_meaning.specs.Tokens.{is_hex, number_of}
 use Rattle.regress_front_syntax.proofs.TokenLemmas.{hex_at-none, hex_at-some}
-use Rattle.regress_front_syntax.proofs.SpanLemmas.{span_up_to-passes, span_up_to-short}
+use Rattle.regress_front_syntax.proofs.SpanLemmas.{span_up_to-passes}
 use Rattle.regress_front_syntax.proofs.NumberLemmas.{number_of-below, hex-below}
 use Rattle.regress_front_syntax.proofs.cursor.Cursor.hex.Goals as goal
 

@@ -1,5 +1,5 @@
 use Rattle.std.proofs.Common.{◌≡◌, refl, sym, ◌∙◌}
-use Rattle.regress_meaning.specs.Tokens.{escape_at, decimal_escape, octal_or_digit, identity, hex_at, unicode_escape}
+use Rattle.regress_meaning.specs.Tokens.{escape_at, identity, hex_at, unicode_escape}
 use Rattle.regress_front_syntax.specs.Cursors.{unread}
 use Rattle.regress_front_syntax.specs.Escapes.{mode_view, escape_view, from_first}
 use Rattle.regress_front_syntax.proofs.EscapeLemmas.{IsRead-same, reading-some, reading-none, escape_at-x, escape_at-u}

@@ -1,8 +1,8 @@
 use Rattle.std.proofs.Common.{refl, sym, ◌∙◌, ap}
-use Rattle.regress_meaning.specs.Tokens.{escape_at, class_escape_at, control_letter, named_reference, octal_or_digit, identity, property_at, name_at, key_at, numbers_from}
+use Rattle.regress_meaning.specs.Tokens.{escape_at, named_reference, identity, property_at}
 use Rattle.regress_front_syntax.specs.Cursors.{unread}
 use Rattle.regress_front_syntax.specs.Trees.{class_view}
-use Rattle.regress_front_syntax.specs.Escapes.{mode_view, escape_view, from_first, class_control}
+use Rattle.regress_front_syntax.specs.Escapes.{mode_view, escape_view, from_first}
 use Rattle.std.proofs.lemmas.Result.{err_from_is_err_and}
 use Rattle.regress_front_syntax.proofs.EscapeLemmas.{IsRead-along, IsRead-same, IsRead-fails, escape_at-named, escape_at-k, escape_at-property, escape_at-letter}
 use Rattle.regress_front_syntax.proofs.cursor.Cursor.name_escape.Goals as goal

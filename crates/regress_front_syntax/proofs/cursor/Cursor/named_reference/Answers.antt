@@ -1,9 +1,8 @@
 use Rattle.std.proofs.Common.{◌≡◌, ℕ, ◌==◌, length, vec_len, sym, ap, ◌∙◌, arith}
 use Rattle.std.specs.Global.{Vec}
-use Rattle.regress_meaning.specs.Tokens.{escape_at, class_escape_at, control_letter, named_reference, octal_or_digit, identity, property_at, name_at, key_at, numbers_from}
+use Rattle.regress_meaning.specs.Tokens.{named_reference, name_at}
 use Rattle.regress_front_syntax.specs.Cursors.{unread}
-use Rattle.regress_front_syntax.specs.Trees.{class_view}
-use Rattle.regress_front_syntax.specs.Escapes.{mode_view, escape_view, from_first, class_control}
+use Rattle.regress_front_syntax.specs.Escapes.{mode_view, escape_view}
 use Rattle.std.proofs.lemmas.Result.{err_from_is_err_and}
 use Rattle.regress_front_syntax.proofs.EscapeLemmas.{IsRead-fails, named-no_angle, named-no_name, named-no_group, named-groups}
 use Rattle.regress_front_syntax.proofs.cursor.Cursor.named_reference.Goals as goal

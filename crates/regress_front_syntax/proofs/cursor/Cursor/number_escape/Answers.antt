@@ -1,6 +1,5 @@
 use Rattle.std.proofs.Common.{refl}
-use Rattle.regress_meaning.specs.Tokens.{escape_at, decimal_escape, octal_or_digit, identity}
-use Rattle.regress_front_syntax.specs.Cursors.{unread}
+use Rattle.regress_meaning.specs.Tokens.{escape_at, decimal_escape, octal_or_digit}
 use Rattle.regress_front_syntax.specs.Escapes.{mode_view, escape_view, from_first}
 use Rattle.regress_front_syntax.proofs.EscapeLemmas.{IsRead-same, escape_at-digit, escape_at-zero}
 use Rattle.regress_front_syntax.proofs.cursor.Cursor.number_escape.Goals as goal

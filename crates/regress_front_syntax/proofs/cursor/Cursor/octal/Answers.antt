@@ -1,4 +1,4 @@
-use Rattle.std.proofs.Common.{◌≡◌, refl, sym, ◌∙◌, ◌≤◌, length, arith}
+use Rattle.std.proofs.Common.{◌≡◌, sym, ◌∙◌, ◌≤◌, length, arith}
 use Rattle.regress_meaning.specs.Tokens.{is_octal, number_of}
 use Rattle.regress_front_syntax.specs.Cursors.{unread}
 use Rattle.regress_front_syntax.proofs.TokenLemmas.{octal_at-none, octal_at-some, octal_length-le}

@@ -1,9 +1,9 @@
 use Rattle.std.proofs.Common.{ℕ, refl, sym, ap, subst, ◌∙◌, drop, chars}
 use Rattle.std.specs.Global.{Vec}
-use Rattle.regress_meaning.specs.Tokens.{escape_at, class_escape_at, control_letter, named_reference, octal_or_digit, identity, property_at, name_at, key_at, numbers_from}
+use Rattle.regress_meaning.specs.Tokens.{property_at, key_at}
 use Rattle.regress_front_syntax.specs.Cursors.{unread}
 use Rattle.regress_front_syntax.specs.Trees.{class_view}
-use Rattle.regress_front_syntax.specs.Escapes.{mode_view, escape_view, from_first, class_control}
+use Rattle.regress_front_syntax.specs.Escapes.{mode_view, from_first}
 use Rattle.std.specs.Str.{IsAscii}
 use Rattle.std.proofs.Math.Bool.{and-false}
 use Rattle.std.proofs.lemmas.Result.{err_from_is_err_and}
