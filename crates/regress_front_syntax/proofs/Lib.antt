@@ -1,0 +1,9 @@
+pub mod ClassViews
+pub mod EscapeLemmas
+pub mod ModeLemmas
+pub mod ClassLemmas
+pub mod NameLemmas
+pub mod NumberLemmas
+pub mod ScanLemmas
+pub mod SpanLemmas
+pub mod TokenLemmas

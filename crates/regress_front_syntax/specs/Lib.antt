@@ -1,2 +1,6 @@
+pub mod Classes
 pub mod Cursors
+pub mod Escapes
+pub mod Readings
 pub mod Trees
+pub mod Words

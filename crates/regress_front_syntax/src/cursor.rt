@@ -1,6 +1,8 @@
 //! A place in a pattern, from which it is read.
-ghost use Rattle.std.specs.Prelude.{◌≡◌, ◌≤◌, ◌<◌, ◌==◌, length, drop, slice_get};
-ghost use Rattle.regress_meaning.specs.Text.{is_at, holds};
+ghost use Rattle.std.specs.Prelude.{◌≡◌, ◌≤◌, ◌<◌, ◌==◌, ℕ, Bool, length, drop, slice_get, if◌then◌else◌};
+ghost use Rattle.std.specs.List.{prefix_len};
+ghost use Rattle.regress_meaning.specs.Text.{is_at, holds, span, span_up_to};
+ghost use Rattle.regress_front_syntax.specs.Readings.{IsNext, Tells};
 
 use regress_front_sets::CodePoint;
 
@@ -9,6 +11,18 @@ pub(crate) fn is_one_of(point: CodePoint, marks: &str) -> bool
     ensures { result ≡ holds marks.now point }
 {
     marks.bytes().any(|mark| CodePoint::from(mark) == point)
+}
+
+/// How many code points at the front of a text pass the test.
+fn front_length<F: Fn(CodePoint) -> bool>(points: &[CodePoint], test: F) -> usize
+    requires { F.IsAlwaysCallable test }
+    ensures within { result ≤ length points.now }
+    ensures count { (passes : ℕ → Bool) → Tells (F.post test) passes → result ≡ prefix_len passes points.now }
+{
+    points
+        .iter()
+        .position(|point| !test(*point))
+        .unwrap_or(points.len())
 }
 
 /// The code points of a pattern, and how far they are read.
@@ -20,7 +34,7 @@ pub(crate) struct Cursor<'p> {
 }
 
 impl<'p> Cursor<'p> {
-    ghost use Rattle.regress_front_syntax.specs.Cursors.{unread};
+    ghost use Rattle.regress_front_syntax.specs.Cursors.{unread, SameText};
 
     /// A cursor at the beginning of a text.
     pub(crate) fn new(points: &'p [CodePoint]) -> Self
@@ -70,5 +84,58 @@ impl<'p> Cursor<'p> {
         ensures kept { self.new.points.now ≡ self.old.points.now }
     {
         self.position += 1;
+    }
+
+    /// The next code point, if there is one. Goes on behind it.
+    pub(crate) fn next(&mut self) -> Option<CodePoint>
+        ensures read { IsNext (unread self.old) result (unread self.new) }
+        ensures kept { SameText self.old self.new }
+    {
+        let point = self.peek()?;
+        self.bump();
+        Some(point)
+    }
+
+    /// Whether the next code point is this character. Goes on behind it, if so.
+    pub(crate) fn eat(&mut self, mark: char) -> bool
+        ensures found { result ≡ is_at (λ c. c == mark) (unread self.old) }
+        ensures read { unread self.new ≡ (if result then drop 1 (unread self.old) else unread self.old) }
+        ensures kept { SameText self.old self.new }
+    {
+        let found = self.is_at(mark);
+        if found {
+            self.bump();
+        }
+        found
+    }
+
+    /// As many code points as pass the test. Goes on behind them.
+    pub(crate) fn take_while<F: Fn(CodePoint) -> bool>(&mut self, test: F) -> &'p [CodePoint]
+        requires { F.IsAlwaysCallable test }
+        ensures read { (passes : ℕ → Bool) → Tells (F.post test) passes
+            → span passes (unread self.old) ≡ (result.now, unread self.new) }
+        ensures kept { SameText self.old self.new }
+    {
+        let rest = &self.points[self.position..];
+        let count = front_length(rest, test);
+        self.position += count;
+        &rest[..count]
+    }
+
+    /// As many code points as pass the test, but at most so many. Goes on behind them.
+    pub(crate) fn take_up_to<F: Fn(CodePoint) -> bool>(
+        &mut self,
+        most: usize,
+        test: F,
+    ) -> &'p [CodePoint]
+        requires { F.IsAlwaysCallable test }
+        ensures read { (passes : ℕ → Bool) → Tells (F.post test) passes
+            → span_up_to most passes (unread self.old) ≡ (result.now, unread self.new) }
+        ensures kept { SameText self.old self.new }
+    {
+        let rest = &self.points[self.position..];
+        let count = front_length(&rest[..most.min(rest.len())], test);
+        self.position += count;
+        &rest[..count]
     }
 }

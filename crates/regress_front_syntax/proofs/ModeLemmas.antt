@@ -1,0 +1,28 @@
+-- The numbers of the groups of a name, one group after another.
+use Rattle.std.proofs.Common.{◌≡◌, ℕ, ◌+◌, Bool, true, false, cond, List, [], ◌∷◌, ◌++◌, length, map, take, get_or, ◌<◌, refl, arith}
+use Rattle.std.specs.Prelude.{if◌then◌else◌}
+use Rattle.std.specs.Global.{Vec}
+use Rattle.std.proofs.lemmas.List.{take_more, map_push, length-map, length-take-le}
+use Rattle.regress_meaning.specs.Text.{same_text}
+use Rattle.regress_meaning.specs.Tokens.{numbers_from}
+
+-- a number is put before what follows, or is not
+cons-append : (b : Bool) (k : ℕ) (xs ys : List ℕ) → cond b (k ∷ (xs ++ ys)) (xs ++ ys) ≡ cond b (k ∷ xs) xs ++ ys
+cons-append true k xs ys = refl
+cons-append false k xs ys = refl
+
+-- one more name
+pub numbers_from-push : (k : ℕ) (name : List ℕ) (names : List (List ℕ)) (other : List ℕ) →
+    numbers_from k name (names ++ (other ∷ [])) ≡ numbers_from k name names ++ (if same_text name other then (k + length names) ∷ [] else [])
+numbers_from-push k name [] other = let same : k ≡ k + 0 = omega arith in rw (← same) refl
+numbers_from-push k name (first ∷ names) other =
+    let count : (k + 1) + length names ≡ k + length (first ∷ names) = omega arith in
+    rw (numbers_from-push (k + 1) name names other, count) (cons-append (same_text name first) k _ _)
+
+-- the numbers among one more group
+pub numbers_from-step : (name : List ℕ) (names : List (Vec ℕ)) (i : ℕ) (other : Vec ℕ) (b : Bool) → i < length names → other ≡ get_or names i other → b ≡ same_text name other.items →
+    numbers_from 0 name (map (λ n. n.items) (take (i + 1) names)) ≡ numbers_from 0 name (map (λ n. n.items) (take i names)) ++ (if b then i ∷ [] else [])
+numbers_from-step name names i other b inside is same =
+    let before = take i names in
+    let count : 0 + length (map (λ n. n.items) before) ≡ i = omega (arith, length-map before (λ n. n.items), length-take-le i names (omega arith)) in
+    rw (take_more names i other inside, ← is, map_push, numbers_from-push 0 name (map (λ n. n.items) before) other.items, count, same) refl

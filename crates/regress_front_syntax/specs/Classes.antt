@@ -1,0 +1,30 @@
+-- What the parser's calls read of a class.
+use Rattle.std.specs.Prelude.{◌≡◌, ℕ, suc, List, [], ◌∷◌, length, map, Option, Some, None, option_map, Result, Ok, Err}
+use Rattle.regress_meaning.specs.Class as meaning
+use Rattle.regress_meaning.specs.Tokens.{Mode, Reads, Escape, point}
+use Rattle.regress_meaning.specs.ReadingClass.{dashed, read_members}
+use Rattle.regress_front_sets.specs.declared.error.Error.{Error}
+use Rattle.regress_front_sets.specs.declared.error.Error.TheVariants.{Syntax, OutOfMemory}
+use Rattle.regress_front_syntax.specs.declared.syntax.Class.{Class}
+use Rattle.regress_front_syntax.specs.Trees.{class_view}
+
+-- the code point that an escape stands for, if it is one
+abbrev pub point_of : Escape → Option ℕ
+point_of (point c) = Some c
+point_of _ = None
+
+-- members side by side, before what follows them
+abbrev pub union_before : List meaning.Class → meaning.Class → meaning.Class
+union_before [] s = s
+union_before (c ∷ cs) s = meaning.union c (union_before cs s)
+
+-- behind the opening bracket of a class without `v`: its members, up to the closing one
+abbrev pub members_at : Mode → Reads meaning.Class
+members_at m t = read_members m (suc (length t)) t
+
+-- The members were added that two give with a dash between them, or they may not stand so.
+abbrev pub AddsDashed : {A : Type 0} → Mode → Escape → Escape → (old new : List Class) → Result A Error → Type 0
+AddsDashed m d e old new (Ok _) = (s : meaning.Class) → option_map (union_before (map class_view old)) (dashed m d e s) ≡ Some (union_before (map class_view new) s)
+AddsDashed m d e old new (Err (Syntax message)) = (s : meaning.Class) → dashed m d e s ≡ None
+AddsDashed m d e old new (Err OutOfMemory) = Unit {0}
+AddsDashed m d e old new (Err _) = ⊥

@@ -1,0 +1,205 @@
+//! Names of groups, and keys of properties.
+ghost use Rattle.std.specs.Prelude.{◌≡◌};
+ghost use Rattle.regress_meaning.specs.Text.{is_at};
+ghost use Rattle.regress_meaning.specs.Tokens.{name_point, name_at, key_at};
+ghost use Rattle.regress_meaning.specs.Class.{is_ascii_word};
+ghost use Rattle.regress_front_sets.specs.TableViews.{table};
+ghost use Rattle.regress_front_syntax.specs.Readings.{IsReading, IsRead, IsTried};
+ghost use Rattle.regress_front_syntax.specs.Words.{key_of};
+
+use crate::cursor::Cursor;
+use crate::mode::{begins_name, continues_name};
+use regress_front_sets::{CodePoint, Error, Tables};
+use std::alloc::Global;
+
+/// Whether the code point is an ASCII letter, a digit or `_`.
+pub(crate) fn is_ascii_word(point: CodePoint) -> bool
+    ensures { result ≡ is_ascii_word point }
+{
+    matches!(
+        char::from_u32(point),
+        Some('0'..='9' | 'A'..='Z' | 'a'..='z' | '_')
+    )
+}
+
+impl<'p> Cursor<'p> {
+    ghost use Rattle.regress_front_syntax.specs.Cursors.{unread, SameText};
+
+    /// Whether the next code point is an ASCII letter, a digit or `_`.
+    pub(crate) fn is_at_word(&self) -> bool
+        ensures { result ≡ is_at is_ascii_word (unread self.now) }
+    {
+        self.peek().is_some_and(is_ascii_word)
+    }
+
+    /// One code point of a group's name, as it stands or as `\u..`.
+    fn name_point(&mut self) -> Option<CodePoint>
+        ensures read { IsReading (λ c. c) name_point (unread self.old) result (unread self.new) }
+        ensures kept { SameText self.old self.new }
+    {
+        let mut ahead = *self;
+        if !ahead.eat('\\') {
+            return self.next();
+        }
+        if !ahead.eat('u') {
+            return None;
+        }
+        let point = ahead.unicode_escape()?;
+        *self = ahead;
+        Some(point)
+    }
+
+    /// Behind `<`: a group's name and `>` ("GroupName"), if they stand here. `OutOfMemory` is the only error.
+    pub(crate) fn try_name(
+        &mut self,
+        alloc: Global,
+        tables: &Tables,
+    ) -> Result<Option<Vec<CodePoint>>, Error>
+        ensures read { IsTried (λ name. name.items) (name_at (table tables.now)) (unread self.old) result (unread self.new) }
+        ensures kept { SameText self.old self.new }
+    {
+        let mut ahead = *self;
+        let mut name = Vec::new(alloc);
+        match ahead.name_point() {
+            Some(point) if begins_name(tables, point) => name.push(point)?,
+            _ => return Ok(None),
+        }
+        while !ahead.eat('>') {
+            match ahead.name_point() {
+                Some(point) if continues_name(tables, point) => name.push(point)?,
+                _ => return Ok(None),
+            }
+        }
+        *self = ahead;
+        Ok(Some(name))
+    }
+
+    /// Behind `<`: a group's name and `>` ("GroupName"). A syntax error where they don't stand here.
+    pub(crate) fn name(&mut self, alloc: Global, tables: &Tables) -> Result<Vec<CodePoint>, Error>
+        ensures read { IsRead (λ name. name.items) (name_at (table tables.now)) (unread self.old) result (unread self.new) }
+        ensures kept { SameText self.old self.new }
+    {
+        self.try_name(alloc, tables)?.ok_or(Error::Syntax {
+            text: "Invalid group name",
+        })
+    }
+
+    /// Behind `\p`: the name between braces, and the value behind it if there is a `=`, both of ASCII letters, digits and `_`.
+    fn key_parts(&mut self) -> Option<(&'p [CodePoint], Option<&'p [CodePoint]>)>
+        ensures read { IsReading key_of key_at (unread self.old) result (unread self.new) }
+        ensures kept { SameText self.old self.new }
+    {
+        let mut ahead = *self;
+        if !ahead.eat('{') {
+            return None;
+        }
+        let name = ahead.take_while(is_ascii_word);
+        if name.is_empty() {
+            return None;
+        }
+        if ahead.eat('}') {
+            *self = ahead;
+            return Some((name, None));
+        }
+        if !ahead.eat('=') {
+            return None;
+        }
+        let value = ahead.take_while(is_ascii_word);
+        if value.is_empty() || !ahead.eat('}') {
+            return None;
+        }
+        *self = ahead;
+        Some((name, Some(value)))
+    }
+
+    /// Behind `\p`: a property's key, the text between braces: a name, or a name, `=` and a value
+    /// ("UnicodePropertyValueExpression"). A syntax error where none stands here.
+    pub(crate) fn key(&mut self, alloc: Global) -> Result<Vec<CodePoint>, Error>
+        ensures read { IsRead (λ key. key.items) key_at (unread self.old) result (unread self.new) }
+        ensures kept { SameText self.old self.new }
+    {
+        let Some((name, value)) = self.key_parts() else {
+            return Err(Error::Syntax {
+                text: "Invalid property",
+            });
+        };
+        let mut key = Vec::from_slice(alloc, name)?;
+        if let Some(value) = value {
+            key.push(CodePoint::from('='))?;
+            key.extend_from_slice(value)?;
+        }
+        Ok(key)
+    }
+}
+
+#[cfg(test)]
+mod tests {
+    use super::*;
+    use std::alloc::AllocError;
+    use std::test::Fail;
+
+    fn points(alloc: Global, text: &str) -> Result<Vec<CodePoint>, AllocError> {
+        text.chars().map(CodePoint::from).collect(alloc)
+    }
+
+    /// Whether a name stands at the front of a text, and is this one.
+    fn is_name(alloc: Global, text: &str, expected: &str) -> Result<bool, Error> {
+        let tables = Tables::small(alloc).map_err(|_| Error::OutOfMemory)?;
+        let text = points(alloc, text)?;
+        let name = Cursor::new(&text).try_name(alloc, &tables)?;
+        let expected = points(alloc, expected)?;
+        Ok(name.is_some_and(|name| name.as_slice() == expected.as_slice()))
+    }
+
+    /// What is told where a name is asked for.
+    fn refusal(alloc: Global, text: &str) -> Result<Option<Error>, Error> {
+        let tables = Tables::small(alloc).map_err(|_| Error::OutOfMemory)?;
+        let text = points(alloc, text)?;
+        Ok(Cursor::new(&text).name(alloc, &tables).err())
+    }
+
+    /// Whether a key stands at the front of a text, and is this one.
+    fn is_key(alloc: Global, text: &str, expected: &str) -> Result<bool, Error> {
+        let text = points(alloc, text)?;
+        let expected = points(alloc, expected)?;
+        match Cursor::new(&text).key(alloc) {
+            Ok(key) => Ok(key.as_slice() == expected.as_slice()),
+            Err(Error::Syntax { .. }) => Ok(false),
+            Err(error) => Err(error),
+        }
+    }
+
+    #[test]
+    fn names_may_be_escaped(rt: HostRuntime) -> Result<(), Fail> {
+        assert!(rt; is_name(rt.alloc(), "ab1>c", "ab1")?);
+        assert!(rt; is_name(rt.alloc(), "$_>", "$_")?);
+        assert!(rt; is_name(rt.alloc(), "a\\u0062\\u{63}>", "abc")?);
+        assert!(rt; is_name(rt.alloc(), "a\u{200C}>", "a\u{200C}")?);
+        assert!(rt; !is_name(rt.alloc(), ">", "")?);
+        Ok(())
+    }
+
+    #[test]
+    fn other_texts_are_no_names(rt: HostRuntime) -> Result<(), Fail> {
+        let told = Some(Error::Syntax {
+            text: "Invalid group name",
+        });
+        assert!(rt; refusal(rt.alloc(), "1a>")? == told);
+        assert!(rt; refusal(rt.alloc(), "a-b>")? == told);
+        assert!(rt; refusal(rt.alloc(), "ab")? == told);
+        assert!(rt; refusal(rt.alloc(), "a\\x62>")? == told);
+        assert!(rt; refusal(rt.alloc(), "\\u{110000}>")? == told);
+        Ok(())
+    }
+
+    #[test]
+    fn keys_are_the_text_between_braces(rt: HostRuntime) -> Result<(), Fail> {
+        assert!(rt; is_key(rt.alloc(), "{ASCII}", "ASCII")?);
+        assert!(rt; is_key(rt.alloc(), "{Script=Grek}x", "Script=Grek")?);
+        assert!(rt; !is_key(rt.alloc(), "{=Grek}", "=Grek")?);
+        assert!(rt; !is_key(rt.alloc(), "{Script=}", "Script=")?);
+        assert!(rt; !is_key(rt.alloc(), "{ASCII", "ASCII")?);
+        assert!(rt; !is_key(rt.alloc(), "ASCII}", "ASCII")?);
+        Ok(())
+    }
+}
