@@ -11,7 +11,8 @@ use Rattle.std.specs.declared.ops.Range.{Range}
 use Rattle.std.specs.Str.{encode_utf8_all, all_scalars, chars, IsUtf8, IsCharBoundary}
 use Rattle.regress_meaning.specs.Table.{Table}
 use Rattle.regress_meaning.specs.Pattern.{Pattern}
-use Rattle.regress_meaning.specs.Flags.{Options}
+use Rattle.regress_meaning.specs.Flags.{Options, is_unicode}
+use Rattle.regress_meaning.specs.Meaning.{Context}
 use Rattle.regress_meaning.specs.Matches.{Item, match_list}
 use Rattle.regress_meaning.specs.Offsets.{offset, of_utf8, told, Begins}
 use Rattle.regress_meaning.specs.Laws.{OffsetsRise}
@@ -19,16 +20,17 @@ use Rattle.regress.specs.declared.api.Regex.{Regex}
 use Rattle.regress_front_sets.specs.declared.error.Error.{Error}
 use Rattle.regress.specs.declared.engine.found.Match.{Match}
 use Rattle.regress.specs.declared.engine.matches.Matches.{Matches}
-use Rattle.regress.specs.Trees.{tree}
-use Rattle.regress_front_sets.specs.TableViews.{table}
+use Rattle.regress_front_tree.specs.Trees.{tree}
 use Rattle.regress.specs.Views.{item_of}
-use Rattle.regress_front_sets.specs.FlagWords.{options}
 use Rattle.regress.specs.TextViews.{utf8_reading}
 use Rattle.regress.specs.GroupViews.{groups_of}
 use Rattle.regress.specs.Standing.{StandsFor}
 use Rattle.regress.specs.Iterating.{place_within, coming_on, GivesFirst}
-use Rattle.regress.specs.Coming.{items_from, StartsAt, searched, coming}
-use Rattle.regress.proofs.TextLemmas.{length-encodes, offset_is_boundary, offset_of_end, offset-le}
+use Rattle.regress.specs.Coming.{searching, items_from, StartsAt, searched, coming}
+use Rattle.regress.specs.NodeMatches.{node_match_list}
+use Rattle.regress.proofs.MatchLemmas.{matches_bounded}
+use Rattle.regress.proofs.AlikeLemmas.{match_list-same}
+use Rattle.regress.proofs.TextLemmas.{code_points, length-encodes, offset_is_boundary, offset_of_end, offset-le}
 
 -- what is left from an element on
 drop-from_get : {X : Type 0} (xs : List X) (i : ℕ) (x : X) → slice_get xs i ≡ Some x → drop i xs ≡ x ∷ drop (suc i) xs
@@ -129,28 +131,30 @@ coming_on_within items n place past = go (cases_lt n place)
 
 -- an iterator that was made for a start has that part of the match list still to come
 pub coming-made : (ms : Matches) (bytes : List ℕ) (r : Regex) (t : Table) (o : Options) (p : Pattern) (at place : ℕ)
-    → ((u : Table) → (q : Options) → (s : Pattern) → (text : List ℕ) → (k : ℕ) → length (match_list u q s text k) ≤ length text + 1 - k)
     → ms.inner.producer.regex.now ≡ r → searched ms ≡ bytes → StartsAt ms.inner.producer at ms.inner.position → StandsFor r t o p
     → Begins (of_utf8 bytes) at place → coming ms ≡ map (told (of_utf8 bytes)) (match_list t o p (chars bytes) place)
-coming-made ms bytes r t o p at place bounded same over starts stands begins =
+coming-made ms bytes r t o p at place same over starts stands begins =
     let search = ms.inner.producer in
     let points = search.text.points.items in
     let read : points ≡ chars bytes = ms.read ∙ ap chars over in
     let begins' : Begins (utf8_reading points) at place = let P : List ℕ → Type 0 = λ ps. Begins (utf8_reading ps) at place in subst P (sym read) begins in
     let none : length points < place → items_from search place ≡ [] = λ past.
-    ap (map (told (utf8_reading points))) (nil_from_length _ (omega (arith, bounded (table search.regex.now.tables.now) (options search.regex.now.flags) (tree search.regex.now.syntax) points place))) in
+    ap (map (told (utf8_reading points))) (nil_from_length _ (omega (arith, matches_bounded (searching search.regex.now points) search.regex.now.group_count (tree search.regex.now.node) place))) in
+    let listed : (q : ℕ) → node_match_list (searching search.regex.now points) search.regex.now.group_count (tree search.regex.now.node) q ≡ match_list t o p points q = λ q.
+    ap (λ (u : Regex). node_match_list (searching u points) u.group_count (tree u.node) q) same
+    ∙ ap (λ (context : Context). node_match_list context r.group_count (tree r.node) q) (λ i. record { text = points; table = stands.tables i; unicode = is_unicode (stands.flags i) })
+    ∙ match_list-same t o p points (tree r.node) r.group_count stands.groups stands.alike (code_points points search.characters) q in
     ap (coming_on (items_from search)) (starts place begins') ∙ coming_on_within (items_from search) (length points) place none
-    ∙ rw (read, same, stands.tables, stands.flags, stands.syntax) refl
+    ∙ ap (map (told (utf8_reading points))) (listed place) ∙ rw read refl
 
 -- the same, where it may have been refused
 pub coming-made_or_refused : (made : Result Matches Error) (bytes : List ℕ) (r : Regex) (t : Table) (o : Options) (p : Pattern) (at place : ℕ)
-    → ((u : Table) → (q : Options) → (s : Pattern) → (text : List ℕ) → (k : ℕ) → length (match_list u q s text k) ≤ length text + 1 - k)
     → IfOk made (λ ms. (ms.inner.producer.regex.now ≡ r) × (searched ms ≡ bytes)) → IfOk made (λ ms. StartsAt ms.inner.producer at ms.inner.position)
     → StandsFor r t o p → Begins (of_utf8 bytes) at place
     → IfOk made (λ ms. coming ms ≡ map (told (of_utf8 bytes)) (match_list t o p (chars bytes) place))
-coming-made_or_refused (Ok ms) bytes r t o p at place bounded over starts stands begins =
-    coming-made ms bytes r t o p at place bounded over.0 over.1 starts stands begins
-coming-made_or_refused (Err e) bytes r t o p at place bounded over starts stands begins = tt
+coming-made_or_refused (Ok ms) bytes r t o p at place over starts stands begins =
+    coming-made ms bytes r t o p at place over.0 over.1 starts stands begins
+coming-made_or_refused (Err e) bytes r t o p at place over starts stands begins = tt
 
 -- the first item of a list is what a step over it gives
 pub first-given : (IsInside : Match → Type 0) (before after : List Item) (given : Option (Result Match Error)) (tell : Item → Item) (items : List Item)

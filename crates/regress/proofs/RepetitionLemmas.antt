@@ -6,11 +6,12 @@ use Rattle.std.proofs.lemmas.List.{append-nil, map-append, map_push, reverse-app
 use Rattle.std.proofs.lemmas.List.Sums.{sum_by-append, sum_by-cons, sum_by_push}
 use Rattle.std.proofs.lemmas.Bool.{cases_lt}
 use Rattle.std.proofs.lemmas.Bool.Decides.{nat_tests}
-use Rattle.regress_meaning.specs.Pattern.{Pattern, Settings, repeated}
-use Rattle.regress_meaning.specs.Meaning.{State, Outcomes, Context, Forward, clear_from, cleared, moved, iterations, outcomes}
-use Rattle.regress.specs.declared.engine.evaluator.State as evaluator
-use Rattle.regress.specs.declared.engine.evaluator.Task.{Task}
-use Rattle.regress.specs.declared.engine.evaluator.Task.TheVariants.{Expand, Emit}
+use Rattle.regress_meaning.specs.Meaning.{State, Direction, Outcomes, Context, clear_from, cleared, moved, iterations}
+use Rattle.regress_front_tree.specs.Trees.{Tree, loop, single_loop}
+use Rattle.regress_front_tree.specs.TreeMeaning.{node_outcomes}
+use Rattle.regress.specs.declared.engine.state.State as evaluator
+use Rattle.regress.specs.declared.engine.tasks.Task.{Task}
+use Rattle.regress.specs.declared.engine.tasks.Task.TheVariants.{Expand, Emit}
 use Rattle.regress.specs.StateViews.{state_of}
 use Rattle.regress.specs.Repeating.{moved_on, expansions, tasks_of}
 
@@ -27,8 +28,8 @@ expansions-cons s next left need =
     ap (map e) (reverse-append (s ∷ []) next) ∙ map-append e (reverse next) (s ∷ [])
 
 -- one iteration of what is repeated, the groups inside cleared before
-abbrev pub run : Context → Settings → Pattern → ℕ → ℕ → Outcomes
-run context e p first last s = outcomes context p Forward e (cleared context first last s)
+abbrev pub run : Context → Tree → Direction → ℕ → ℕ → Outcomes
+run context a dir first last s = node_outcomes context a dir (cleared context first last s)
 
 module _ (context : Context) where
   -- no number is in an empty range
@@ -256,18 +257,26 @@ module _ (context : Context) where
         (omega (arith, told))
 
 -- the first task stands for what the repetition leads to
-pub outcomes_of_tasks-start : (context : Context) (e : Settings) (p : Pattern) (first last least most left : ℕ) (greedy : Bool) (s : State)
+pub outcomes_of_tasks-start : (context : Context) (a : Tree) (dir : Direction) (first last least most left : ℕ) (greedy : Bool) (s : State)
     → (alone : List evaluator.State) (tasks : List Task) → tasks ≡ expansions alone left least → map state_of alone ≡ s ∷ [] → left ≡ most
-    → outcomes_of_tasks context (run context e p first last) greedy tasks
-    ≡ outcomes context (repeated p first last least most greedy) Forward e s
-unfolding outcomes
-outcomes_of_tasks-start context e p first last least most left greedy s alone tasks pushed one same =
-    let body = run context e p first last in
+    → outcomes_of_tasks context (run context a dir first last) greedy tasks
+    ≡ node_outcomes context (loop a first last least most greedy) dir s
+unfolding node_outcomes
+outcomes_of_tasks-start context a dir first last least most left greedy s alone tasks pushed one same =
+    let body = run context a dir first last in
     ap (outcomes_of_tasks context body greedy) pushed
     ∙ outcomes_of_tasks-expansions context body greedy left least alone
     ∙ ap (flat_map (iterations context body greedy left least)) one
     ∙ append-nil (iterations context body greedy left least s)
     ∙ ap (λ (n : ℕ). iterations context body greedy n least s) same
+
+-- what matches one character has no groups that could be cleared
+pub single_loop-is_loop : (context : Context) (a : Tree) (dir : Direction) (least most : ℕ) (greedy : Bool) (s : State)
+    → node_outcomes context (loop a 0 0 least most greedy) dir s ≡ node_outcomes context (single_loop a least most greedy) dir s
+unfolding node_outcomes
+single_loop-is_loop context a dir least most greedy s =
+    let same : run context a dir 0 0 ≡ node_outcomes context a dir = λ i t. node_outcomes context a dir (cleared-none context 0 0 t (omega arith) i) in
+    ap (λ (body : Outcomes). iterations context body greedy most least s) same
 
 -- where more have to come the state is no outcome
 pub tasks_of-needed : (greedy : Bool) (s : evaluator.State) (next : List evaluator.State) (left need : ℕ) → 0 < need

@@ -138,7 +138,7 @@ pub offset-le : (r : Reading) (p q : ℕ) → p ≤ q → offset r p ≤ offset 
 offset-le r p q le = rw take-take at (sum_by-take-le r.width (take q r.points) p)
 
 -- characters are code points
-code_points : (cs : List ℕ) → all_scalars cs ≡ true → All (λ c. c ≤ 0x10_FFFF) cs
+pub code_points : (cs : List ℕ) → all_scalars cs ≡ true → All (λ c. c ≤ 0x10_FFFF) cs
 code_points [] e = All-nil (λ c. c ≤ 0x10_FFFF)
 code_points (c ∷ cs) e =
     All-cons (λ d. d ≤ 0x10_FFFF) c cs (low (scalar_cases c (first_passes (scalar c) (all_scalars cs) e)))

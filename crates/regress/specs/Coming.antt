@@ -1,21 +1,30 @@
 -- The matches that an iterator has still to yield.
 use Rattle.std.specs.Prelude.{◌≡◌, ℕ, ◌-◌, ◌≤◌, List, length, map, Option, None, IsCharBoundary}
-use Rattle.regress_meaning.specs.Matches.{Item, match_list}
+use Rattle.regress_meaning.specs.Flags.{is_unicode}
+use Rattle.regress_meaning.specs.Meaning.{Context}
+use Rattle.regress_meaning.specs.Matches.{Item}
 use Rattle.regress_meaning.specs.Offsets.{told, Begins}
+use Rattle.regress.specs.declared.api.Regex.{Regex}
 use Rattle.regress.specs.declared.engine.found.Match.{Match}
 use Rattle.regress.specs.declared.engine.matches.Search.{Search}
 use Rattle.regress.specs.declared.engine.matches.Matches.{Matches}
-use Rattle.regress.specs.Trees.{tree}
+use Rattle.regress_front_tree.specs.Trees.{tree}
 use Rattle.regress_front_sets.specs.TableViews.{table}
 use Rattle.regress_front_sets.specs.FlagWords.{options}
+use Rattle.regress.specs.NodeMatches.{node_match_list}
 use Rattle.regress.specs.TextViews.{utf8_reading}
 use Rattle.regress.specs.Iterating.{coming_on, steps_on, place_within}
+
+-- what a compiled pattern is searched for in a text by
+abbrev pub searching : Regex → List ℕ → Context
+searching r text = record { text = text; table = table r.tables.now; unicode = is_unicode (options r.flags) }
 
 -- the items from a place on, told in bytes
 abbrev pub items_from : Search → ℕ → List Item
 items_from s place =
     let points = s.text.points.items in
-    map (told (utf8_reading points)) (match_list (table s.regex.now.tables.now) (options s.regex.now.flags) (tree s.regex.now.syntax) points place)
+    let r = s.regex.now in
+    map (told (utf8_reading points)) (node_match_list (searching r points) r.group_count (tree r.node) place)
 
 -- how many places lie behind one
 abbrev pub places_behind : Search → ℕ → ℕ

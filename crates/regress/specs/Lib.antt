@@ -1,13 +1,12 @@
-pub mod Trees
-pub mod Stage
-pub mod Quantifiers
-pub mod Parsing
 pub mod Views
 pub mod TextViews
+pub mod Singles
+pub mod NodeMatches
 pub mod StateViews
 pub mod Repeating
-pub mod Refusing
 pub mod Standing
 pub mod Iterating
 pub mod Coming
 pub mod GroupViews
+pub mod GroupNumbers
+pub mod Utf8Reading

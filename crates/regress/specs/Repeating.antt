@@ -1,8 +1,8 @@
 -- How the evaluator goes through the iterations of what is repeated, by a stack of tasks.
 use Rattle.std.specs.Prelude.{ℕ, zero, suc, Bool, not, ◌==◌, List, [], ◌∷◌, ◌++◌, map, filter, reverse, if◌then◌else◌}
-use Rattle.regress.specs.declared.engine.evaluator.State.{State}
-use Rattle.regress.specs.declared.engine.evaluator.Task.{Task}
-use Rattle.regress.specs.declared.engine.evaluator.Task.TheVariants.{Expand, Emit}
+use Rattle.regress.specs.declared.engine.state.State.{State}
+use Rattle.regress.specs.declared.engine.tasks.Task.{Task}
+use Rattle.regress.specs.declared.engine.tasks.Task.TheVariants.{Expand, Emit}
 
 -- the second state is at another place
 abbrev pub moved_on : State → State → Bool

@@ -1,19 +1,23 @@
 -- What a compiled pattern stands for.
-use Rattle.std.specs.Prelude.{◌≡◌, false}
+use Rattle.std.specs.Prelude.{◌≡◌, false, length}
 use Rattle.regress_meaning.specs.Table.{Table}
-use Rattle.regress_meaning.specs.Pattern.{Pattern}
-use Rattle.regress_meaning.specs.Flags.{Options}
-use Rattle.regress.specs.declared.api.Regex.{Regex}
-use Rattle.regress.specs.Trees.{tree}
+use Rattle.regress_meaning.specs.Pattern.{Pattern, names_of}
+use Rattle.regress_meaning.specs.Flags.{Options, is_unicode, first_settings}
+use Rattle.regress_meaning.specs.Meaning.{Forward, outcomes}
 use Rattle.regress_front_sets.specs.TableViews.{table}
 use Rattle.regress_front_sets.specs.FlagWords.{options}
+use Rattle.regress_front_tree.specs.Trees.{tree}
+use Rattle.regress_front_tree.specs.TreeMeaning.{node_outcomes}
+use Rattle.regress_front_tree.specs.Alike.{IsAlike}
+use Rattle.regress.specs.declared.api.Regex.{Regex}
 
 -- no flags
 abbrev pub plain : Options
 plain = record { icase = false; multiline = false; dot_all = false; unicode = false; sets = false }
 
--- The compiled pattern stands for the tree, under this table and these options.
+-- The compiled pattern stands for the tree, under this table and these options: it has as many groups, and is alike it.
 pub record StandsFor (r : Regex) (t : Table) (o : Options) (p : Pattern) : Type 0 where
   pub tables : table r.tables.now ≡ t
   pub flags : options r.flags ≡ o
-  pub syntax : tree r.syntax ≡ p
+  pub groups : r.group_count ≡ length (names_of p)
+  pub alike : IsAlike t (is_unicode o) (λ context. node_outcomes context (tree r.node) Forward) (λ context. outcomes context p Forward (first_settings o))

@@ -1,24 +1,23 @@
 //! The user's calls.
-ghost use Rattle.std.specs.Prelude.{◌≡◌, ◌≤◌, ◌↔◌, ℕ, All, IsTrue, IfOk, IfErr, IfSome, Err, IsOkUnless, IsCharBoundary, chars, length, map, slice_get, option_map, false};
+ghost use Rattle.std.specs.Prelude.{◌≡◌, ◌≤◌, ◌↔◌, ℕ, All, IsTrue, IfOk, IfErr, IfSome, Err, IsOkUnless, IsCharBoundary, chars, length, map, slice_get, option_map};
 ghost use Rattle.regress_meaning.specs.Table.{Table};
-ghost use Rattle.regress_meaning.specs.Pattern.{Pattern, names_of};
+ghost use Rattle.regress_meaning.specs.Pattern.{Pattern};
 ghost use Rattle.regress_meaning.specs.Flags.{Options};
 ghost use Rattle.regress_meaning.specs.Grammar.{Spells};
 ghost use Rattle.regress_meaning.specs.Limits.{WithinLimits};
 ghost use Rattle.regress_meaning.specs.Matches.{match_list};
 ghost use Rattle.regress_meaning.specs.Offsets.{of_utf8, told, Begins};
-ghost use Rattle.regress.specs.Trees.{tree};
 ghost use Rattle.regress_front_sets.specs.TableViews.{table};
 ghost use Rattle.regress.specs.Views.{item_of};
 ghost use Rattle.regress_front_sets.specs.FlagWords.{options};
-ghost use Rattle.regress.specs.Refusing.{MayRefuse};
+ghost use Rattle.regress_front_syntax.specs.Refusals.{MayRefuse};
 
 use crate::engine::found::Match;
 use crate::engine::matches::Matches;
+use crate::engine::numbers::group_bound;
 use crate::engine::text::Text;
-use crate::front::parser::{NOT_IN_STAGE, Parser};
-use crate::front::syntax::Syntax;
 use regress_front_sets::{Error, Flags, Tables};
+use regress_front_tree::{Node, try_parse};
 use std::alloc::Global;
 
 /// Whether a search in `text` may begin at `start`, an offset in bytes: at a boundary between characters, or past the end.
@@ -34,10 +33,8 @@ pub struct Regex<'u> {
     pub(crate) alloc: Global,
     pub(crate) tables: &'u Tables,
     pub(crate) flags: Flags,
-    pub(crate) syntax: Syntax,
+    pub(crate) node: Node,
     pub(crate) group_count: usize,
-    ghost numbered: { group_count ≡ length (names_of (tree syntax)) },
-    ghost by_case: { flags.icase ≡ false },
 }
 
 impl<'u> Regex<'u> {
@@ -57,8 +54,7 @@ impl<'u> Regex<'u> {
     /// Compiles a pattern under flags ("RegExpInitialize").
     ///
     /// Answers a `Regex` for the tree that the pattern spells. Refused as `Syntax` where the text spells no tree, under the
-    /// name of a limit that it passes, and as `OutOfMemory`. A pattern or a flag that is not read yet is refused as
-    /// `Syntax` with the text `Not in this stage`.
+    /// name of a limit that it passes, and as `OutOfMemory`.
     pub fn with_flags(
         alloc: Global,
         pattern: &str,
@@ -85,15 +81,13 @@ impl<'u> Regex<'u> {
         ensures accepted { IfOk result (λ r. (p : Pattern) × Spells (table tables.now) (options flags) points.now p × WithinLimits p × StandsFor r (table tables.now) (options flags) p) }
         ensures refused { IfErr result (MayRefuse (table tables.now) (options flags) points.now) }
     {
-        if flags.icase {
-            return Err(NOT_IN_STAGE);
-        }
-        let (syntax, group_count) = Parser::new(alloc, points).parse()?;
+        let node = try_parse(alloc, points, flags, tables)?.node;
+        let group_count = group_bound(&node);
         Ok(Regex {
             alloc,
             tables,
             flags,
-            syntax,
+            node,
             group_count,
         })
     }
@@ -138,7 +132,6 @@ impl<'u> Regex<'u> {
         ensures over { IfOk result (λ ms. searched ms ≡ text.now) }
         ensures refused { IsOkUnless result Error.OutOfMemory }
     {
-        regress_meaning::matches_are_bounded();
         Matches::new(self, text, start)
     }
 }

@@ -5,9 +5,10 @@
 
 mod api;
 mod engine;
-mod front;
 #[cfg(test)]
 mod rows;
+#[cfg(test)]
+mod table;
 
 pub use api::{Regex, is_start};
 pub use engine::found::{Match, Range};

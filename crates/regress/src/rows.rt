@@ -4,10 +4,6 @@ use crate::{Error, Flags, Range, Regex, Tables, are_code_points, is_start};
 use std::alloc::{AllocError, Global};
 use std::test::Fail;
 
-const NOT_IN_STAGE: Error = Error::Syntax {
-    text: "Not in this stage",
-};
-
 const UNBALANCED: Error = Error::Syntax {
     text: "Unbalanced parenthesis",
 };
@@ -159,19 +155,6 @@ fn what_is_no_pattern_is_refused(rt: HostRuntime) -> Result<(), Fail> {
 }
 
 #[test]
-fn what_is_not_read_yet_is_refused(rt: HostRuntime) -> Result<(), Fail> {
-    for pattern in ["a*?", "a{2}", ".", "[a]", "^", r"\d", "(?=a)"] {
-        assert_eq!(rt;
-            refusal(rt.alloc(), pattern, "")?,
-            Some(NOT_IN_STAGE),
-            "{pattern}"
-        );
-    }
-    assert_eq!(rt; refusal(rt.alloc(), "a", "i")?, Some(NOT_IN_STAGE));
-    Ok(())
-}
-
-#[test]
 fn nesting_ends_at_256(rt: HostRuntime) -> Result<(), Fail> {
     let pattern = nested(rt.alloc(), 257)?;
     assert_eq!(rt;
@@ -209,7 +192,7 @@ fn long_patterns_are_read_and_matched(rt: HostRuntime) -> Result<(), Fail> {
 }
 
 #[test]
-fn other_flags_change_nothing(rt: HostRuntime) -> Result<(), Fail> {
+fn flags_that_nothing_asks_change_nothing(rt: HostRuntime) -> Result<(), Fail> {
     let tables = Tables::small(rt.alloc())?;
     let regex = Regex::with_flags(rt.alloc(), "(😀)|b", Flags::from("msuv"), &tables)?;
     let ranges = ranges(rt.alloc(), &regex, "\na😀")?;

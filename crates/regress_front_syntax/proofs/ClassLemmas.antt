@@ -15,9 +15,10 @@ use Rattle.regress_meaning.proofs.ReadMembers.{read_members-gives, read_members-
 use Rattle.regress_front_sets.specs.declared.error.Error.{Error}
 use Rattle.regress_front_sets.specs.declared.error.Error.TheVariants.{Syntax, TooDeep, TooManyGroups, TooManyLoops, TooLarge, OutOfMemory}
 use Rattle.regress_front_syntax.specs.declared.syntax.Class.{Class as ClassValue, Class-F, fold-roll-Class}
-use Rattle.regress_front_syntax.specs.declared.syntax.Class.TheVariants.{Range, Union, rolls-Range, rolls-Union}
+use Rattle.regress_front_syntax.specs.declared.syntax.Class.TheVariants.{Range, Union, rolls-Range}
 use Rattle.regress_front_syntax.specs.Readings.{IsRead}
 use Rattle.regress_front_syntax.specs.Trees.{class_view, node_class, union_of}
+use Rattle.regress_front_syntax.proofs.ClassViews.{class_view-Union}
 use Rattle.regress_front_syntax.specs.Classes.{point_of, union_before, members_at, AddsDashed}
 
 -- two answers are the same where each gives what the other does
@@ -118,12 +119,9 @@ pub union_before-push : (ks : List Class) (a s : Class) → union_before (ks ++ 
 union_before-push [] a s = refl
 union_before-push (k ∷ ks) a s = ap (union k) (union_before-push ks a s)
 
-union_of-before : (ks : List Class) → union_of ks ≡ union_before ks no_string
+pub union_of-before : (ks : List Class) → union_of ks ≡ union_before ks no_string
 union_of-before [] = refl
 union_of-before (k ∷ ks) = ap (union k) (union_of-before ks)
-
-class_view-Union : (members : Vec ClassValue Global) → class_view (Union members) ≡ union_of (map class_view members.items)
-class_view-Union members = ap class_view (sym (rolls-Union members)) ∙ fold-roll-Class Class node_class (Class-F.Union members)
 
 pub class_view-Range : (first last : ℕ) → class_view (Range first last) ≡ range first last
 class_view-Range first last = ap class_view (sym (rolls-Range first last)) ∙ fold-roll-Class Class node_class (Class-F.Range first last)

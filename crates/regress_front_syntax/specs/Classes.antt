@@ -1,11 +1,17 @@
 -- What the parser's calls read of a class.
 use Rattle.std.specs.Prelude.{◌≡◌, ℕ, suc, List, [], ◌∷◌, length, map, Option, Some, None, option_map, Result, Ok, Err}
+use Rattle.std.specs.Global.{Vec}
+use Rattle.regress_meaning.specs.Text.{holds}
 use Rattle.regress_meaning.specs.Class as meaning
-use Rattle.regress_meaning.specs.Tokens.{Mode, Reads, Escape, point}
-use Rattle.regress_meaning.specs.ReadingClass.{dashed, read_members}
+use Rattle.regress_meaning.specs.Tokens.{Mode, Reads, Escape, point, guard}
+use Rattle.regress_meaning.specs.ReadingClass as meaning_set
+use Rattle.regress_meaning.specs.ReadingClass.{dashed, read_members, item_class}
+use Rattle.regress_meaning.specs.Limits.{class_depth}
 use Rattle.regress_front_sets.specs.declared.error.Error.{Error}
 use Rattle.regress_front_sets.specs.declared.error.Error.TheVariants.{Syntax, OutOfMemory}
 use Rattle.regress_front_syntax.specs.declared.syntax.Class.{Class}
+use Rattle.regress_front_syntax.specs.declared.class_set.SetItem.{SetItem}
+use Rattle.regress_front_syntax.specs.declared.class_set.SetItem.TheVariants.{Point, Set}
 use Rattle.regress_front_syntax.specs.Trees.{class_view}
 
 -- the code point that an escape stands for, if it is one
@@ -28,3 +34,30 @@ AddsDashed m d e old new (Ok _) = (s : meaning.Class) → option_map (union_befo
 AddsDashed m d e old new (Err (Syntax message)) = (s : meaning.Class) → dashed m d e s ≡ None
 AddsDashed m d e old new (Err OutOfMemory) = Unit {0}
 AddsDashed m d e old new (Err _) = ⊥
+
+-- what an item of a class with `v` stands for
+abbrev pub item_view : SetItem → meaning_set.SetItem
+item_view (Point c) = meaning_set.one_point c
+item_view (Set s) = meaning_set.any_class (class_view s)
+
+-- an item, if it is one code point
+abbrev pub only_point : meaning_set.SetItem → Option ℕ
+only_point (meaning_set.one_point c) = Some c
+only_point (meaning_set.any_class s) = None
+
+-- one of these marks
+abbrev pub mark_at : List ℕ → Reads ℕ
+mark_at marks [] = None
+mark_at marks (c ∷ t) = guard (holds marks c) (Some (c, t))
+
+-- how many brackets of an item are open at once
+abbrev pub item_depth : meaning_set.SetItem → ℕ
+item_depth i = class_depth (item_class i)
+
+-- the code points of a string
+abbrev pub string_view : Vec ℕ → List ℕ
+string_view s = s.items
+
+-- those of strings
+abbrev pub strings_view : Vec (Vec ℕ) → List (List ℕ)
+strings_view ss = map string_view ss.items

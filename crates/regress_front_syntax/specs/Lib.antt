@@ -1,6 +1,10 @@
 pub mod Classes
 pub mod Cursors
 pub mod Escapes
+pub mod Openings
+pub mod Names
+pub mod Parsing
 pub mod Readings
+pub mod Refusals
 pub mod Trees
 pub mod Words

@@ -1,5 +1,5 @@
 -- The trees that the values of the parser stand for.
-use Rattle.std.specs.Prelude.{ℕ, List, [], ◌∷◌, None, Some, map}
+use Rattle.std.specs.Prelude.{ℕ, List, [], ◌∷◌, None, Some, map, fold}
 use Rattle.std.specs.Option.{unwrap_or}
 use Rattle.regress_meaning.specs.Class as meaning
 use Rattle.regress_meaning.specs.Pattern.{Pattern, Settings, nothing, character, any, class, class_escape, sequence, choice, capture, grouped, modified, repeated, look, reference, line_start, line_end, word_boundary}
@@ -28,8 +28,8 @@ node_class (Class-F.Property key) = meaning.property key.items
 node_class (Class-F.Sequences key) = meaning.sequences key.items
 node_class (Class-F.Strings strings) = meaning.strings (map (λ s. s.items) strings.items)
 node_class (Class-F.Union members) = union_of members.items
-node_class (Class-F.Intersection a b) = meaning.intersection a.value b.value
-node_class (Class-F.Difference a b) = meaning.difference a.value b.value
+node_class (Class-F.Intersection a others) = fold meaning.intersection a.value others.items
+node_class (Class-F.Difference a others) = fold meaning.difference a.value others.items
 node_class (Class-F.Complement a) = meaning.complement a.value
 node_class (Class-F.Nested negated a) = meaning.nested negated a.value
 

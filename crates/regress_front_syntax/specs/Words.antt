@@ -1,6 +1,7 @@
 -- The words of a pattern, as the parser's values hold them.
-use Rattle.std.specs.Prelude.{ℕ, Bool, List, ◌∷◌, ◌++◌, Option, Some, None, min, unwrap_or, option_map, option_and_then}
+use Rattle.std.specs.Prelude.{ℕ, Bool, false, not, ◌&&◌, ◌||◌, ◌==◌, List, [], ◌∷◌, ◌++◌, Option, Some, None, is_some, min, unwrap_or, option_map, option_and_then, if◌then◌else◌}
 use denote.Ref.{Bor}
+use Rattle.regress_meaning.specs.Text.{◌∈◌}
 use Rattle.regress_meaning.specs.Tokens.{Reads, Bounds, decimal_at, braced_end, bounds_at, greatest}
 use Rattle.regress_meaning.specs.Grammar.{greedy_at, after_mark}
 use Rattle.regress_front_syntax.specs.declared.syntax.Quantifier.{Quantifier}
@@ -30,3 +31,9 @@ quantifier_view q = (record { least = q.min; most = most q }, q.greedy)
 abbrev pub key_of : Bor (List ℕ) × Option (Bor (List ℕ)) → List ℕ
 key_of (name, None) = name.now
 key_of (name, Some value) = name.now ++ (0x3D ∷ value.now)
+
+-- a code point stands here that is a character by itself
+abbrev pub stands_for_itself : (unicode : Bool) → List ℕ → Bool
+stands_for_itself unicode [] = false
+stands_for_itself unicode (c ∷ t) =
+    if unicode then not (c ∈ "^$\\.*+?()[]{}|") else (not (c ∈ "^$\\.*+?()[|{") || (c == 0x7B && not (is_some (bounds_at (c ∷ t)))))

@@ -1,27 +1,29 @@
-//! Classes without `v`, behind their opening bracket.
-ghost use Rattle.std.specs.Prelude.{◌≡◌};
+//! Classes behind their opening bracket, and the members of one without `v`.
+ghost use Rattle.std.specs.Prelude.{◌≡◌, ◌≤◌};
 ghost use Rattle.regress_meaning.specs.Grammar.{class_of, member_class, dash_before_member};
-ghost use Rattle.regress_meaning.specs.ReadingClass.{read_member};
+ghost use Rattle.regress_meaning.specs.ReadingClass.{read_member, read_class};
 ghost use Rattle.regress_front_syntax.specs.Readings.{IsRead};
 ghost use Rattle.regress_front_syntax.specs.Escapes.{mode_view, escape_view, HasFewGroups};
 ghost use Rattle.regress_front_syntax.specs.Trees.{class_view};
 ghost use Rattle.regress_front_syntax.specs.Classes.{point_of, members_at, AddsDashed};
+ghost use Rattle.regress_front_syntax.specs.Parsing.{IsClassAnswer, IsBracketAnswer};
 
+use crate::class_set::may_hold_strings;
 use crate::cursor::Cursor;
 use crate::escape::Escape;
 use crate::mode::Mode;
 use crate::syntax::Class;
-use regress_front_sets::{CodePoint, Error};
+use regress_front_sets::{CodePoint, Error, MAX_NESTING_DEPTH};
 use std::alloc::Global;
 
 /// Why a class is refused that has no closing bracket.
-const UNBALANCED_BRACKET: &str = "Unbalanced bracket";
+pub(crate) const UNBALANCED_BRACKET: &str = "Unbalanced bracket";
 
 /// Why any other class is refused.
-const INVALID_CLASS: &str = "Invalid class";
+pub(crate) const INVALID_CLASS: &str = "Invalid class";
 
 /// The class of one code point.
-fn class_of(point: CodePoint) -> Class
+pub(crate) fn class_of(point: CodePoint) -> Class
     ensures { class_view result ≡ class_of point }
 {
     Class::Range {
@@ -88,6 +90,52 @@ fn push_dashed(
 
 impl Cursor<'_> {
     ghost use Rattle.regress_front_syntax.specs.Cursors.{unread, SameText};
+
+    /// Behind an opening bracket: whether the class is negated, and its class ("CharacterClass"). Goes on behind the closing
+    /// bracket; `nesting` counts the parentheses and brackets that are open around the class. A syntax error where it is
+    /// none; `TooDeep` where too many are open.
+    #[cycle(class_set)]
+    pub(crate) fn bracketed(
+        &mut self,
+        alloc: Global,
+        mode: &Mode,
+        nesting: u32,
+    ) -> Result<(bool, Class), Error>
+        requires few { HasFewGroups mode.now }
+        requires shallow { nesting ≤ 256 }
+        ensures read { IsBracketAnswer nesting (mode_view mode.now) (unread self.old) result (unread self.new) }
+        ensures kept { SameText self.old self.new }
+    {
+        if nesting == MAX_NESTING_DEPTH {
+            return Err(Error::TooDeep);
+        }
+        let negated = self.eat('^');
+        let class = self.class(alloc, mode, nesting + 1)?;
+        if negated && may_hold_strings(&class) {
+            return Err(Error::Syntax {
+                text: INVALID_CLASS,
+            });
+        }
+        Ok((negated, class))
+    }
+
+    /// Behind an opening bracket and its `^`: the class ("ClassContents"). Goes on behind the closing bracket; `nesting`
+    /// counts the class's own bracket too. A syntax error where it is none; `TooDeep` where an inner class nests too deeply.
+    #[cycle(class_set)]
+    pub(crate) fn class(&mut self, alloc: Global, mode: &Mode, nesting: u32) -> Result<Class, Error>
+        requires few { HasFewGroups mode.now }
+        requires shallow { nesting ≤ 256 }
+        ensures read { IsClassAnswer nesting (read_class (mode_view mode.now)) (unread self.old) result (unread self.new) }
+        ensures kept { SameText self.old self.new }
+    {
+        regress_meaning::contents_go_by_steps();
+        if !mode.sets {
+            return self.members(alloc, mode);
+        }
+        let class = self.set_contents(alloc, mode, nesting)?;
+        self.bump();
+        Ok(class)
+    }
 
     /// Whether a dash stands here and behind it one more member.
     fn is_before_member(&self) -> bool

@@ -19,6 +19,9 @@ use std::alloc::Global;
 /// Why an escape is refused.
 const INVALID_ESCAPE: &str = "Invalid escape";
 
+/// Why a reference is refused.
+const INVALID_REFERENCE: &str = "Invalid backreference";
+
 /// What an escape stands for.
 #[derive(Debug, Drop)]
 pub(crate) enum Escape {
@@ -135,7 +138,7 @@ impl Cursor<'_> {
             return Ok(Escape::Point(point));
         }
         if self.is_at_digit() && !self.is_at('0') {
-            return self.octal_or_digit(mode);
+            return self.octal_or_digit(mode, INVALID_REFERENCE);
         }
         if !self.is_at('k') {
             return self.escape(alloc, mode);
@@ -211,7 +214,7 @@ impl Cursor<'_> {
             return self.decimal_escape(alloc, mode);
         }
         if ahead.is_at_digit() {
-            return self.octal_or_digit(mode);
+            return self.octal_or_digit(mode, INVALID_ESCAPE);
         }
         *self = ahead;
         Ok(Escape::Point(0))
@@ -279,7 +282,7 @@ impl Cursor<'_> {
         let groups = groups_of_name(alloc, &mode.names, &name)?;
         if groups.is_empty() {
             return Err(Error::Syntax {
-                text: "Invalid backreference",
+                text: INVALID_REFERENCE,
             });
         }
         Ok(Escape::Groups(groups))
@@ -326,18 +329,16 @@ impl Cursor<'_> {
             *self = ahead;
             return Ok(Escape::Groups(vec![in alloc; number.saturating_sub(1) as u16]?));
         }
-        self.octal_or_digit(mode)
+        self.octal_or_digit(mode, INVALID_REFERENCE)
     }
 
-    /// A decimal escape that is no group: an octal number or the digit itself. In Unicode mode a syntax error.
-    fn octal_or_digit(&mut self, mode: &Mode) -> Result<Escape, Error>
+    /// A decimal escape that is no group: an octal number or the digit itself. In Unicode mode a syntax error, with this text.
+    fn octal_or_digit(&mut self, mode: &Mode, refusal: &'static str) -> Result<Escape, Error>
         ensures read { IsRead escape_view (from_first (octal_or_digit (mode_view mode.now))) (unread self.old) result (unread self.new) }
         ensures kept { SameText self.old self.new }
     {
         if mode.unicode {
-            return Err(Error::Syntax {
-                text: "Invalid backreference",
-            });
+            return Err(Error::Syntax { text: refusal });
         }
         if let Some(point) = self.octal() {
             return Ok(Escape::Point(point));
@@ -464,7 +465,7 @@ mod tests {
         assert_eq!(rt; escape(rt.alloc(), "", "", "08")?, Meaning::Point(0));
         assert_eq!(rt;
             escape(rt.alloc(), "u", "", "08")?,
-            Meaning::Error("Invalid backreference")
+            Meaning::Error("Invalid escape")
         );
         assert_eq!(rt; escape(rt.alloc(), "", "", "400")?, Meaning::Point(0o40));
         assert_eq!(rt; escape(rt.alloc(), "", "", "8")?, Meaning::Point(0x38));

@@ -44,10 +44,10 @@ pub enum Class {
     Strings(Vec<Vec<CodePoint>>),
     /// Members side by side.
     Union(Vec<Class>),
-    /// What stands in both.
-    Intersection(Box<Class>, Box<Class>),
-    /// What stands in the first alone.
-    Difference(Box<Class>, Box<Class>),
+    /// What stands in the first and in each of the others.
+    Intersection(Box<Class>, Vec<Class>),
+    /// What stands in the first and in none of the others.
+    Difference(Box<Class>, Vec<Class>),
     /// `\D`, `\S`, `\W`, `\P{..}`
     Complement(Box<Class>),
     /// `[..]` and `[^..]` inside a class.

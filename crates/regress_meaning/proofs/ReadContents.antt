@@ -37,7 +37,7 @@ read_set_escape-gives m (c ∷ t) = gives-test (c == 0x62)
     (λ _. gives-test (is_set_mark c) (λ h. gives-some (punctuator h))
     (λ _. gives-then _ _ (gives-itself (escape_at m (c ∷ t))) (λ x h. item_of-gives m (c ∷ t) x.0 h)))
 
-read_set_atom-gives : (m : Mode) (t : List ℕ) → Gives (λ x. ItemFits m t x.0 x.1) (read_set_atom m t)
+pub read_set_atom-gives : (m : Mode) (t : List ℕ) → Gives (λ x. ItemFits m t x.0 x.1) (read_set_atom m t)
 unfolding read_set_atom
 read_set_atom-gives m [] = gives-none
 read_set_atom-gives m (c ∷ t) = gives-test (c == 0x5C)
@@ -45,18 +45,18 @@ read_set_atom-gives m (c ∷ t) = gives-test (c == 0x5C)
     (λ _. gives-guard (not (is_set_syntax c) && not (reserved_pair (c ∷ t)))
     (λ h. let parts = and_parts _ _ h in gives-some (bare (not-true _ parts.0) (not-true _ parts.1))))
 
-read_set_character-gives : (m : Mode) (t : List ℕ) → Gives (λ x. SetCharacter m t x.0 x.1) (read_set_character m t)
+pub read_set_character-gives : (m : Mode) (t : List ℕ) → Gives (λ x. SetCharacter m t x.0 x.1) (read_set_character m t)
 unfolding read_set_character
 read_set_character-gives m t = gives-then _ _ (read_set_atom-gives m t) (λ x h. only_character-gives m x.0 x.1 h)
 
-read_set_string-gives : (m : Mode) (n : ℕ) (t : List ℕ) → Gives (λ x. SetString m t x.0 x.1) (read_set_string m n t)
+pub read_set_string-gives : (m : Mode) (n : ℕ) (t : List ℕ) → Gives (λ x. SetString m t x.0 x.1) (read_set_string m n t)
 unfolding read_set_string
 read_set_string-gives m zero t = gives-none
 read_set_string-gives m (suc n) t = gives-test (is_at (λ c. c ∈ "|}") t)
     (λ ends. gives-some (no_more ends))
     (λ _. gives-then _ _ (read_set_character-gives m t) (λ x h. gives-map _ _ (read_set_string-gives m n x.1) (λ y k. and_then h k)))
 
-read_set_strings-gives : (m : Mode) (n : ℕ) (t : List ℕ) → Gives (λ x. SetStrings m t x.0 x.1) (read_set_strings m n t)
+pub read_set_strings-gives : (m : Mode) (n : ℕ) (t : List ℕ) → Gives (λ x. SetStrings m t x.0 x.1) (read_set_strings m n t)
 unfolding read_set_strings
 read_set_strings-gives m zero t = gives-none
 read_set_strings-gives m (suc n) t = gives-then _ _ (read_set_string-gives m n t) (λ x h. gives-test (is_at (λ c. c == 0x7D) x.1)
@@ -95,7 +95,7 @@ union_from-gives : (m : Mode) {t : List ℕ} (i : SetItem) (u : List ℕ) (rest 
     → ((v : List ℕ) → Gives (λ x. Union m v x.0 x.1) (rest v)) → ItemFits m t i u → Gives (λ x. Union m t x.0 x.1) (union_from m rest i u)
 union_from-gives m i u rest g h = gives-then _ _ (read_range-gives m i u h) (λ x k. gives-map _ _ (g x.1) (λ y l. k y.0 y.1 l))
 
-strings_front : (t : List ℕ) → opens_strings t ≡ true → t ≡ 0x5C ∷ 0x71 ∷ 0x7B ∷ drop 3 t
+pub strings_front : (t : List ℕ) → opens_strings t ≡ true → t ≡ 0x5C ∷ 0x71 ∷ 0x7B ∷ drop 3 t
 strings_front [] h = cc
 strings_front (c ∷ t) h =
     let parts = and_parts (c == 0x5C) _ h in
@@ -113,7 +113,7 @@ closing_minus m {a} {b} {t} {r} h closes =
 mutual
   unfolding read_operand
 
-  read_operand-gives : (m : Mode) (n : ℕ) (t : List ℕ) → Gives (λ x. ItemFits m t x.0 x.1) (read_operand m n t)
+  pub read_operand-gives : (m : Mode) (n : ℕ) (t : List ℕ) → Gives (λ x. ItemFits m t x.0 x.1) (read_operand m n t)
   read_operand-gives m zero t = gives-none
   read_operand-gives m (suc n) t = gives-test (is_at (λ c. c == 0x5B) t)
       (λ bracket. gives-test (is_at (λ c. c == 0x5E) (drop 1 t))

@@ -317,7 +317,7 @@ ClassBody-shorter m (of_members n h) = Members-shorter m h
 ClassBody-shorter m (of_contents n h) = omega (arith, Contents-shorter m h)
 
 -- what a span leaves, given by an equation
-span-rest : (test : ℕ → Bool) (t : List ℕ) {front r : List ℕ} → span test t ≡ (front, r) → length r ≤ length t
+pub span-rest : (test : ℕ → Bool) (t : List ℕ) {front r : List ℕ} → span test t ≡ (front, r) → length r ≤ length t
 span-rest test t e = subst (λ p. length p.1 ≤ length t) e (span-shorter test t)
 
 mutual

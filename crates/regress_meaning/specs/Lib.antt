@@ -13,6 +13,8 @@ pub mod Literal
 pub mod Offsets
 pub mod Output
 pub mod Numbering
+pub mod Points
+pub mod Weights
 pub mod Laws
 pub mod ReadingClass
 pub mod Scan

@@ -2,7 +2,7 @@
 use Rattle.std.specs.Prelude.{ℕ, zero, suc, ◌+◌, ◌*◌, Bool, true, false, not, ◌&&◌, ◌==◌, nat_le, List, [], ◌∷◌, length, drop, Option, Some, None, option_and_then, option_map}
 use Rattle.regress_meaning.specs.Text.{◌∈◌, is_at}
 use Rattle.regress_meaning.specs.Class.{Class, no_string, range, strings, union, intersection, difference, nested, may_hold_strings}
-use Rattle.regress_meaning.specs.Tokens.{Mode, Escape, point, set, groups, guard, escape_at, class_escape_at}
+use Rattle.regress_meaning.specs.Tokens.{Mode, Reads, Escape, point, set, groups, guard, escape_at, class_escape_at}
 use Rattle.regress_meaning.specs.Grammar.{class_of, member_class, dash_before_member, reserved_pair}
 
 -- the closing bracket of a class stands here
@@ -196,3 +196,33 @@ read_class m t = elim (m.sets) [
   | true ↦ behind_bracket (read_contents m (2 * length t + 2) t)
   | false ↦ read_members m (suc (length t)) t
 ]
+
+-- The same with numbers that are enough, whatever the text.
+
+-- a string of `\q{..}` at the front of a text, up to `|` or `}`
+unfoldable pub set_string_at : Mode → Reads (List ℕ)
+set_string_at m t = read_set_string m (suc (length t)) t
+
+-- the strings of `\q{..}` at the front of a text, behind the brace
+unfoldable pub set_strings_at : Mode → Reads (List (List ℕ))
+set_strings_at m t = read_set_strings m (length t + 2) t
+
+-- the operand at the front of a text
+unfoldable pub operand_at : Mode → Reads SetItem
+operand_at m t = read_operand m (2 * length t + 1) t
+
+-- the contents of a class at the front of a text, up to the closing bracket
+unfoldable pub contents_at : Mode → Reads Class
+contents_at m t = read_contents m (2 * length t + 2) t
+
+-- the rest of a union at the front of a text
+unfoldable pub union_at : Mode → Reads Class
+union_at m t = read_union m (2 * length t + 2) t
+
+-- the rest of an intersection at the front of a text, behind what is joined so far
+unfoldable pub intersection_at : Mode → Class → Reads Class
+intersection_at m a t = read_intersection m (2 * length t + 2) a t
+
+-- the same of a difference
+unfoldable pub difference_at : Mode → Class → Reads Class
+difference_at m a t = read_difference m (2 * length t + 2) a t

@@ -3,20 +3,24 @@
 //! The definitions stand in `specs/`. Nothing here runs: each function below is a law of theirs, stated by its contract.
 #![tactic(auto)]
 
-ghost use Rattle.std.specs.Prelude.{◌≡◌, ◌-◌, ◌+◌, ◌≤◌, ◌↔◌, ℕ, Bool, true, List, [], ◌∷◌, length, Some, None, All};
-ghost use Rattle.regress_meaning.specs.Table.{Table, closure};
+ghost use Rattle.std.specs.Prelude.{◌≡◌, ◌-◌, ◌+◌, ◌*◌, ◌≤◌, ◌↔◌, ℕ, Bool, true, false, List, [], ◌∷◌, length, Some, None, All};
+ghost use Rattle.regress_meaning.specs.Table.{Table, last_code_point, closure};
 ghost use Rattle.regress_meaning.specs.TableParts.{IsLawful, small_parts};
+ghost use Rattle.regress_meaning.specs.Class.{Class, value_of};
 ghost use Rattle.regress_meaning.specs.Pattern.{Pattern, Settings, names_of};
 ghost use Rattle.regress_meaning.specs.Flags.{Options};
-ghost use Rattle.regress_meaning.specs.Tokens.{Mode};
+ghost use Rattle.regress_meaning.specs.Tokens.{Mode, continues_name};
 ghost use Rattle.regress_meaning.specs.Grammar.{Spells};
 ghost use Rattle.regress_meaning.specs.Scan.{scanned_names};
 ghost use Rattle.regress_meaning.specs.Reading.{read_pattern, ReadsBySteps};
 ghost use Rattle.regress_meaning.specs.Numbering.{IsNumbered};
+ghost use Rattle.regress_meaning.specs.Points.{IsOfPoints, ClassHoldsNoStrings, HoldsNoStrings};
+ghost use Rattle.regress_meaning.specs.Limits.{quantifiers};
+ghost use Rattle.regress_meaning.specs.Weights.{weight};
 ghost use Rattle.regress_meaning.specs.Meaning.{State, Direction, Context, outcomes};
 ghost use Rattle.regress_meaning.specs.Matches.{Item, first_match, match_list, next_place};
 ghost use Rattle.regress_meaning.specs.Offsets.{of_utf8, of_ascii, of_utf16, of_ucs2};
-ghost use Rattle.regress_meaning.specs.Laws.{IsInside, IsAhead, ItemsRise, OffsetsRise, in_group};
+ghost use Rattle.regress_meaning.specs.Laws.{IsInside, IsAhead, ItemsRise, OffsetsRise, in_group, LeavesLess, ContentsBySteps};
 
 /// The closure of a closed set is that set, whatever the canon.
 pub fn closure_is_idempotent()
@@ -33,6 +37,31 @@ pub fn spelled_trees_are_numbered()
     ensures { (table : Table) → (o : Options) → (text : List ℕ) → (p : Pattern) → Spells table o text p → IsNumbered p }
 {}
 
+/// A tree that a text of code points spells holds code points alone, and each of its ranges is in order.
+pub fn spelled_trees_hold_code_points()
+    ensures { (table : Table) → (o : Options) → (text : List ℕ) → (p : Pattern) → All (λ c. c ≤ last_code_point) text → Spells table o text p → IsOfPoints p }
+{}
+
+/// In a tree that a text spells each code point of a group's name may stand in a name, by the table.
+pub fn spelled_names_are_names()
+    ensures { (table : Table) → (o : Options) → (text : List ℕ) → (p : Pattern) → Spells table o text p → All (All (λ c. continues_name table c ≡ true)) (names_of p) }
+{}
+
+/// A tree that a text spells is small: for each code point of the text it takes at most two nodes more than it has groups,
+/// and one node besides; and it has no more groups and no more quantifiers than the text has code points.
+pub fn spelled_trees_are_small()
+    ensures weight { (table : Table) → (o : Options) → (text : List ℕ) → (p : Pattern) → Spells table o text p → weight p ≤ (length (names_of p) + 2) * length text + 1 }
+    ensures groups { (table : Table) → (o : Options) → (text : List ℕ) → (p : Pattern) → Spells table o text p → length (names_of p) ≤ length text }
+    ensures quantifiers { (table : Table) → (o : Options) → (text : List ℕ) → (p : Pattern) → Spells table o text p → quantifiers p ≤ length text }
+{}
+
+/// In a tree that a text spells without `v` no class has strings in it; and the value of such a class has none but those of
+/// one code point.
+pub fn classes_without_sets_hold_no_strings()
+    ensures trees { (table : Table) → (o : Options) → (text : List ℕ) → (p : Pattern) → o.sets ≡ false → Spells table o text p → HoldsNoStrings p }
+    ensures values { (table : Table) → (folded : Bool) → (s : Class) → ClassHoldsNoStrings s → (value_of table folded s).others ≡ [] }
+{}
+
 /// A text spells a tree exactly where the reading function finds it; where it finds none, the text spells none.
 pub fn reading_decides_the_grammar()
     ensures { (table : Table) → (o : Options) → (text : List ℕ) → (p : Pattern) → Spells table o text p ↔ (read_pattern table o text ≡ Some p) }
@@ -41,6 +70,16 @@ pub fn reading_decides_the_grammar()
 /// The reading function goes step by step: a disjunction by its first alternative, an alternative by its first term.
 pub fn reading_goes_by_steps()
     ensures { (m : Mode) → (m.sets ≡ true → m.unicode ≡ true) → (text : List ℕ) → (opened : ℕ) → ReadsBySteps m text opened }
+{}
+
+/// What is read at the front of a text leaves less of it; an escape, whose backslash was read before, no more.
+pub fn reading_leaves_less()
+    ensures { (m : Mode) → (text : List ℕ) → LeavesLess m text }
+{}
+
+/// The functions that read a class with `v` go step by step: its contents by their first operand, what is joined by one more.
+pub fn contents_go_by_steps()
+    ensures { (m : Mode) → (text : List ℕ) → ContentsBySteps m text }
 {}
 
 /// The names of a text's groups that a scan finds are those of the tree that it spells, in order.

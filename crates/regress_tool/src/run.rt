@@ -7,7 +7,7 @@ ghost use Rattle.regress_meaning.specs.Flags.{Options, options_of};
 ghost use Rattle.regress_front_sets.specs.declared.error.Error as refusal;
 ghost use Rattle.regress_front_sets.specs.declared.error.Error.TheVariants as refused;
 ghost use Rattle.regress.specs.Standing.{StandsFor};
-ghost use Rattle.regress.specs.Refusing.{MayRefuse};
+ghost use Rattle.regress_front_syntax.specs.Refusals.{MayRefuse};
 ghost use Rattle.regress_tool.specs.Running.{small, output, AppendsFront, Accepted, Searched};
 
 use crate::error::ToolError;

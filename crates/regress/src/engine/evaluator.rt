@@ -1,213 +1,222 @@
 //! The evaluator: what a tree matches, on lists of states, as the definitions say it.
-ghost use Rattle.std.specs.Prelude.{◌≡◌, ◌≤◌, ◌++◌, false, [], ◌∷◌, length, map, option_map, slice_set, Some, IfOk, IfSome, OnOk};
-ghost use Rattle.regress_meaning.specs.Table.{Table};
-ghost use Rattle.regress_meaning.specs.Pattern.{nothing, character, sequence, choice, capture, repeated, names_of};
-ghost use Rattle.regress_meaning.specs.Meaning.{Context, cleared};
-ghost use Rattle.regress_meaning.specs.Flags.{Options};
-ghost use Rattle.regress_meaning.specs.Matches.{attempt, first_match};
-ghost use Rattle.regress.specs.Trees.{tree, most, sequence_of, choice_of};
+ghost use Rattle.std.specs.Prelude.{◌≡◌, ◌≤◌, length, map, option_map, chars, IfOk, IfSome};
+ghost use Rattle.std.specs.Box.{boxed_slice_items};
+ghost use Rattle.std.specs.List.{flat_map};
+ghost use Rattle.regress_front_tree.specs.Trees.{tree, cat_of, anchor_of, boundary, loop};
+ghost use Rattle.regress_front_tree.specs.TreeMeaning.{node_outcomes, literal_steps, alternatives};
+ghost use Rattle.regress_meaning.specs.Meaning.{Forward, Backward, captured, looked};
+ghost use Rattle.std.specs.Prelude.{if◌then◌else◌};
+ghost use Rattle.regress_front_syntax.specs.Trees.{most};
+ghost use Rattle.regress.specs.NodeMatches.{node_attempt, node_first_match};
 ghost use Rattle.regress.specs.Views.{item_of};
-ghost use Rattle.regress.specs.StateViews.{state_of, AreOutcomes, AreOutcomesOfAll, IsItemInside};
-ghost use Rattle.regress.specs.Repeating.{expansions, tasks_of};
+ghost use Rattle.regress.specs.StateViews.{state_of, context_of, direction_of, IsItemInside};
 
-use crate::engine::found::{Match, Range};
-use crate::front::syntax::{CaptureGroupID, Quantifier, Syntax};
+use crate::engine::found::Match;
+use crate::engine::singles::Single;
+use crate::engine::state::State;
+use crate::engine::steps::Direction;
+use crate::engine::tasks::{Task, push_expansions, push_tasks};
+use crate::engine::utf8::characters;
+use regress_front_sets::{CaptureGroupID, CodePoint, Tables};
+use regress_front_tree::{AnchorType, Node, Quantifier};
 use std::alloc::{AllocError, Global};
+use std::boxed::BoxedSlice;
 
-/// A place in the text, and the range of places that each group took, if any.
-#[derive(Debug, Drop)]
-struct State {
-    place: usize,
-    groups: Vec<Option<Range>>,
-}
-
-impl State {
-    /// These groups at a place.
-    fn at(&self, place: usize) -> Result<State, AllocError>
-        ensures { IfOk result (λ s. state_of s ≡ record (state_of self.now) { place = place }) }
-    {
-        let groups = self.groups.clone()?;
-        Ok(State { place, groups })
-    }
-
-    /// These groups at a place, as the only state.
-    fn alone_at(&self, place: usize) -> Result<Vec<State>, AllocError>
-        ensures { IfOk result
-            (λ states. map state_of states.items ≡ record (state_of self.now) { place = place } ∷ []) }
-    {
-        Ok(vec![in *self.groups.allocator(); self.at(place)?]?)
-    }
-
-    /// The group takes what lies from a place to this one.
-    fn capture(&mut self, group: CaptureGroupID, start: usize)
-        ensures { let old = state_of self.old in
-            state_of self.new ≡ record old { groups = slice_set old.groups group (Some (start, old.place)) } }
-    {
-        if let Some(range) = self.groups.get_mut(usize::from(group)) {
-            *range = Some(start..self.place);
-        }
-    }
-
-    /// This place, with the groups of a range cleared.
-    fn cleared(&self, enclosed: &std::ops::Range<CaptureGroupID>) -> Result<State, AllocError>
-        ensures { IfOk result (λ s. (context : Context) →
-            state_of s ≡ cleared context enclosed.now.start enclosed.now.end (state_of self.now)) }
-    {
-        let mut state = self.at(self.place)?;
-        for group in enclosed.start..enclosed.end {
-            if let Some(range) = state.groups.get_mut(usize::from(group)) {
-                *range = None;
-            }
-        }
-        Ok(state)
-    }
-}
-
-/// A part of what a repetition leads to.
-#[derive(Debug, Drop)]
-enum Task {
-    /// At most `left` more iterations go on from a state, of which `need` have to come.
-    Expand {
-        state: State,
-        left: usize,
-        need: usize,
-    },
-    /// A state is an outcome.
-    Emit(State),
-}
-
-/// Puts more iterations from each state on a stack, the first state on top.
-fn push_expansions(
-    tasks: &mut Vec<Task>,
-    mut next: Vec<State>,
-    left: usize,
-    need: usize,
-) -> Result<(), AllocError>
-    ensures { OnOk result (tasks.new.items ≡ tasks.old.items ++ expansions next.items left need) }
-{
-    while let Some(state) = next.pop() {
-        tasks.push(Task::Expand { state, left, need })?;
-    }
-    Ok(())
-}
-
-/// Puts what follows a state on a stack, the most preferred on top.
-///
-/// `next` is what one iteration leads to from the state. After it at most `left` more come, and `need` counts it.
-fn push_tasks(
-    tasks: &mut Vec<Task>,
-    greedy: bool,
-    state: State,
-    mut next: Vec<State>,
-    left: usize,
-    need: usize,
-) -> Result<(), AllocError>
-    ensures { OnOk result (tasks.new.items ≡ tasks.old.items ++ tasks_of greedy state next.items left need) }
-{
-    if need > 0 {
-        return push_expansions(tasks, next, left, need - 1);
-    }
-    let place = state.place;
-    next.retain(|found| found.place != place);
-    if greedy {
-        tasks.push(Task::Emit(state))?;
-        return push_expansions(tasks, next, left, 0);
-    }
-    push_expansions(tasks, next, left, 0)?;
-    tasks.push(Task::Emit(state))?;
-    Ok(())
-}
-
-/// A text to be searched, as code points; its places are counted from 0 to its length.
+/// A text to be searched, as code points, with the tables and the mode that hold for the whole pattern. The text's places
+/// are counted from 0 to its length.
 #[derive(Drop)]
 pub(crate) struct Evaluator<'s> {
-    alloc: Global,
-    points: &'s [u32],
+    pub(crate) alloc: Global,
+    pub(crate) points: &'s [CodePoint],
+    pub(crate) tables: &'s Tables,
+    pub(crate) unicode: bool,
 }
 
 impl<'s> Evaluator<'s> {
-    /// An evaluator over a text.
-    pub(crate) fn new(alloc: Global, points: &'s [u32]) -> Self
-        ensures { result.points.now ≡ points.now }
-    {
-        Evaluator { alloc, points }
-    }
-
-    /// Steps over one code point.
-    fn step(&self, point: u32, state: &State) -> Result<Vec<State>, AllocError>
-        ensures { IfOk result (λ states. AreOutcomes self.now.points.now (character point)
-            (state_of state.now) (map state_of states.items)) }
-    {
-        if state.place >= self.points.len() || self.points[state.place] != point {
-            return Ok(Vec::new(self.alloc));
-        }
-        state.alone_at(state.place + 1)
-    }
-
     /// The states that a tree leads to from a state, the most preferred first.
     #[cycle(evaluator)]
-    fn outcomes(&self, syntax: &Syntax, state: &State) -> Result<Vec<State>, AllocError>
-        ensures { IfOk result (λ states. AreOutcomes self.now.points.now (tree syntax.now)
-            (state_of state.now) (map state_of states.items)) }
+    fn outcomes(
+        &self,
+        node: &Node,
+        direction: Direction,
+        state: &State,
+    ) -> Result<Vec<State>, AllocError>
+        ensures { IfOk result (λ states. map state_of states.items
+            ≡ node_outcomes (context_of self.now) (tree node.now) (direction_of direction) (state_of state.now)) }
     {
-        match syntax {
-            Syntax::Character(point) => self.step(*point, state),
-            Syntax::Alternative(terms) => self.outcomes_of_sequence(terms, state),
-            Syntax::Disjunction(arms) => self.outcomes_of_choice(arms, state),
-            Syntax::Capture(group, contents) => self.outcomes_of_capture(*group, contents, state),
-            Syntax::Group(contents) => self.outcomes(contents, state),
-            Syntax::Loop {
+        match node {
+            Node::Empty | Node::Goal => state.alone_at(state.place),
+            Node::Char { c } => self.one(&Single::Char(*c), direction, state),
+            Node::ByteSequence(bytes) => self.literal(bytes, direction, state),
+            Node::ByteSet(bytes) => self.one(&Single::ByteSet(bytes), direction, state),
+            Node::CharSet(points) => self.one(&Single::CharSet(points), direction, state),
+            Node::Cat(parts) => self.outcomes_of_parts(parts, direction, state),
+            Node::Alt(first, rest) => {
+                let mut states = self.outcomes(first, direction, state)?;
+                states.append(&mut self.outcomes_of_arms(rest, direction, state)?)?;
+                Ok(states)
+            }
+            Node::MatchAny => self.one(&Single::Any, direction, state),
+            Node::MatchAnyExceptLineTerminator => self.one(&Single::AnyInLine, direction, state),
+            Node::Anchor {
+                anchor_type,
+                multiline,
+            } => self.anchor(*anchor_type, *multiline, direction, state),
+            Node::WordBoundary {
+                invert,
+                unicode_icase,
+            } => self.word_boundary(*invert, *unicode_icase, direction, state),
+            Node::CaptureGroup { id, contents, .. } => self.outcomes_of_capture(
+                *id, contents, direction, state,
+            ),
+            Node::BackRef { group, icase } => self.back_reference(*group, *icase, direction, state),
+            Node::Bracket(contents) => self.one(&Single::Bracket(contents), direction, state),
+            Node::StringSet {
+                alternatives,
+                icase,
+            } => self.strings(alternatives, *icase, direction, state),
+            Node::LookaroundAssertion {
+                negate,
+                backwards,
+                contents,
+                ..
+            } => self.outcomes_of_look(*negate, *backwards, contents, state),
+            Node::Loop {
                 loopee,
                 quant,
                 enclosed_groups,
-            } => self.outcomes_of_loop(loopee, *quant, enclosed_groups, state),
+            } => self.outcomes_of_loop(loopee, *quant, enclosed_groups, direction, state),
+            Node::Loop1CharBody { loopee, quant } => self.outcomes_of_loop(
+                loopee,
+                *quant,
+                &(0..0),
+                direction,
+                state,
+            ),
         }
+    }
+
+    /// Steps over the characters of a byte literal.
+    fn literal(
+        &self,
+        bytes: &[u8],
+        direction: Direction,
+        state: &State,
+    ) -> Result<Vec<State>, AllocError>
+        ensures { IfOk result (λ states. map state_of states.items
+            ≡ literal_steps (context_of self.now) (direction_of direction) (chars bytes.now) (state_of state.now)) }
+    {
+        self.string(&characters(self.alloc, bytes)?, false, direction, state)
+    }
+
+    /// Steps over each of some strings, side by side.
+    fn strings(
+        &self,
+        strings: &[BoxedSlice<CodePoint>],
+        icase: bool,
+        direction: Direction,
+        state: &State,
+    ) -> Result<Vec<State>, AllocError>
+        ensures { IfOk result (λ states. map state_of states.items
+            ≡ alternatives (context_of self.now) (direction_of direction) icase (map boxed_slice_items strings.now) (state_of state.now)) }
+    {
+        let mut all = Vec::new(self.alloc);
+        for string in strings {
+            all.append(&mut self.string(string, icase, direction, state)?)?;
+        }
+        Ok(all)
+    }
+
+    /// The state, where an anchor holds at its place.
+    #[tactic(auto, unfolding(regress_front_tree::specs::TreeMeaning::node_outcomes))]
+    fn anchor(
+        &self,
+        anchor_type: AnchorType,
+        multiline: bool,
+        direction: Direction,
+        state: &State,
+    ) -> Result<Vec<State>, AllocError>
+        ensures { IfOk result (λ states. map state_of states.items
+            ≡ node_outcomes (context_of self.now) (anchor_of anchor_type multiline) (direction_of direction) (state_of state.now)) }
+    {
+        let holds = match anchor_type {
+            AnchorType::StartOfLine => self.is_line_start(multiline, state.place),
+            AnchorType::EndOfLine => self.is_at_line_end(multiline, state.place),
+        };
+        self.keep_if(holds, state)
+    }
+
+    /// The state, where a word starts or ends at its place; inverted, where none does.
+    #[tactic(auto, unfolding(regress_front_tree::specs::TreeMeaning::node_outcomes))]
+    fn word_boundary(
+        &self,
+        invert: bool,
+        folded: bool,
+        direction: Direction,
+        state: &State,
+    ) -> Result<Vec<State>, AllocError>
+        ensures { IfOk result (λ states. map state_of states.items
+            ≡ node_outcomes (context_of self.now) (boundary invert folded) (direction_of direction) (state_of state.now)) }
+    {
+        self.keep_if(self.is_boundary(folded, state.place) != invert, state)
     }
 
     /// What a tree leads to from each state, one after another.
     #[cycle(evaluator)]
-    fn outcomes_of_all(&self, syntax: &Syntax, states: &[State]) -> Result<Vec<State>, AllocError>
-        ensures { IfOk result (λ all. AreOutcomesOfAll self.now.points.now (tree syntax.now)
-            (map state_of states.now) (map state_of all.items)) }
+    fn outcomes_of_all(
+        &self,
+        node: &Node,
+        direction: Direction,
+        states: &[State],
+    ) -> Result<Vec<State>, AllocError>
+        ensures { IfOk result (λ all. map state_of all.items
+            ≡ flat_map (node_outcomes (context_of self.now) (tree node.now) (direction_of direction)) (map state_of states.now)) }
     {
         let mut all = Vec::new(self.alloc);
         for state in states {
-            all.append(&mut self.outcomes(syntax, state)?)?;
+            all.append(&mut self.outcomes(node, direction, state)?)?;
         }
         Ok(all)
     }
 
-    /// What terms lead to one after another.
+    /// What parts lead to one after another.
     #[cycle(evaluator)]
-    fn outcomes_of_sequence(
+    fn outcomes_of_parts(
         &self,
-        terms: &[Syntax],
+        parts: &[Node],
+        direction: Direction,
         state: &State,
     ) -> Result<Vec<State>, AllocError>
-        ensures { IfOk result (λ states. AreOutcomes self.now.points.now (sequence_of (map tree terms.now))
-            (state_of state.now) (map state_of states.items)) }
+        ensures { IfOk result (λ states. map state_of states.items
+            ≡ node_outcomes (context_of self.now) (cat_of (map tree parts.now)) (direction_of direction) (state_of state.now)) }
     {
         let mut states = state.alone_at(state.place)?;
-        for term in terms {
-            states = self.outcomes_of_all(term, &states)?;
+        for part in parts {
+            states = self.outcomes_of_all(part, direction, &states)?;
         }
         Ok(states)
     }
 
-    /// What arms lead to side by side. No arms lead where nothing does.
+    /// What a tree leads to, one arm after another if it is a choice.
     #[cycle(evaluator)]
-    fn outcomes_of_choice(&self, arms: &[Syntax], state: &State) -> Result<Vec<State>, AllocError>
-        ensures { IfOk result (λ states. AreOutcomes self.now.points.now (choice_of (map tree arms.now))
-            (state_of state.now) (map state_of states.items)) }
+    fn outcomes_of_arms(
+        &self,
+        node: &Node,
+        direction: Direction,
+        state: &State,
+    ) -> Result<Vec<State>, AllocError>
+        ensures { IfOk result (λ states. map state_of states.items
+            ≡ node_outcomes (context_of self.now) (tree node.now) (direction_of direction) (state_of state.now)) }
     {
-        if arms.is_empty() {
-            return state.alone_at(state.place);
+        let mut states = Vec::new(self.alloc);
+        // A loop in place of a recursion: a choice may have as many arms as the pattern is long.
+        let mut rest = node;
+        while let Node::Alt(arm, others) = rest {
+            states.append(&mut self.outcomes(arm, direction, state)?)?;
+            rest = others;
         }
-        let mut all = Vec::new(self.alloc);
-        for arm in arms {
-            all.append(&mut self.outcomes(arm, state)?)?;
-        }
-        Ok(all)
+        states.append(&mut self.outcomes(rest, direction, state)?)?;
+        Ok(states)
     }
 
     /// What a group's contents lead to, the group set.
@@ -215,32 +224,65 @@ impl<'s> Evaluator<'s> {
     fn outcomes_of_capture(
         &self,
         group: CaptureGroupID,
-        contents: &Syntax,
+        contents: &Node,
+        direction: Direction,
         state: &State,
     ) -> Result<Vec<State>, AllocError>
-        ensures { IfOk result (λ states. AreOutcomes self.now.points.now (capture group None (tree contents.now))
-            (state_of state.now) (map state_of states.items)) }
+        ensures { IfOk result (λ states. map state_of states.items
+            ≡ map (captured (context_of self.now) group state.now.place)
+            (node_outcomes (context_of self.now) (tree contents.now) (direction_of direction) (state_of state.now))) }
     {
-        regress_meaning::outcomes_go_ahead();
-        let mut states = self.outcomes(contents, state)?;
+        let mut states = self.outcomes(contents, direction, state)?;
         for found in states.iter_mut() {
             found.capture(group, state.place);
         }
         Ok(states)
     }
 
+    /// The state with the groups of what stands ahead, or behind; negated, the state where nothing does
+    /// ("CompileAssertion").
+    #[cycle(evaluator)]
+    fn outcomes_of_look(
+        &self,
+        negate: bool,
+        backwards: bool,
+        contents: &Node,
+        state: &State,
+    ) -> Result<Vec<State>, AllocError>
+        ensures { IfOk result (λ states. map state_of states.items
+            ≡ looked (context_of self.now) negate (state_of state.now)
+            (node_outcomes (context_of self.now) (tree contents.now) (if backwards then Backward else Forward) (state_of state.now))) }
+    {
+        let direction = if backwards {
+            Direction::Backward
+        } else {
+            Direction::Forward
+        };
+        let first = self
+            .outcomes(contents, direction, state)?
+            .into_iter()
+            .next();
+        match first {
+            Some(found) if !negate => found.alone_at(state.place),
+            None if negate => state.alone_at(state.place),
+            _ => Ok(Vec::new(self.alloc)),
+        }
+    }
+
     /// What iterations of a tree lead to, the groups inside cleared before each ("RepeatMatcher").
     #[cycle(evaluator)]
     fn outcomes_of_loop(
         &self,
-        loopee: &Syntax,
+        loopee: &Node,
         quant: Quantifier,
         enclosed: &std::ops::Range<CaptureGroupID>,
+        direction: Direction,
         state: &State,
     ) -> Result<Vec<State>, AllocError>
-        ensures { IfOk result (λ states. AreOutcomes self.now.points.now
-            (repeated (tree loopee.now) enclosed.now.start enclosed.now.end quant.min (most quant) quant.greedy)
-            (state_of state.now) (map state_of states.items)) }
+        ensures { IfOk result (λ states. map state_of states.items
+            ≡ node_outcomes (context_of self.now)
+            (loop (tree loopee.now) enclosed.now.start enclosed.now.end quant.min (most quant) quant.greedy)
+            (direction_of direction) (state_of state.now)) }
     {
         let mut all = Vec::new(self.alloc);
         let left = quant.max.unwrap_or(usize::MAX);
@@ -252,7 +294,7 @@ impl<'s> Evaluator<'s> {
                 Task::Emit(state) => all.push(state)?,
                 Task::Expand { state, left: 0, .. } => all.push(state)?,
                 Task::Expand { state, left, need } => {
-                    let next = self.outcomes(loopee, &state.cleared(enclosed)?)?;
+                    let next = self.outcomes(loopee, direction, &state.cleared(enclosed)?)?;
                     push_tasks(&mut tasks, quant.greedy, state, next, left - 1, need)?;
                 }
             }
@@ -263,20 +305,17 @@ impl<'s> Evaluator<'s> {
     /// The most preferred match that begins at a place.
     fn attempt(
         &self,
-        syntax: &Syntax,
+        node: &Node,
         group_count: usize,
         place: usize,
     ) -> Result<Option<Match>, AllocError>
-        requires { group_count ≡ length (names_of (tree syntax.now)) }
-        ensures value { IfOk result (λ found. (table : Table) → (o : Options) → o.icase ≡ false →
-            option_map item_of found ≡ attempt table o (tree syntax.now) self.now.points.now place) }
+        ensures value { IfOk result (λ found. option_map item_of found
+            ≡ node_attempt (context_of self.now) group_count (tree node.now) place) }
         ensures inside { place ≤ length self.now.points.now →
             IfOk result (λ found. IfSome found (λ m. IsItemInside self.now.points.now (item_of m))) }
     {
-        regress_meaning::outcomes_go_ahead();
-        regress_meaning::outcomes_stay_inside();
         let groups = vec![in self.alloc; None; group_count]?;
-        let states = self.outcomes(syntax, &State { place, groups })?;
+        let states = self.outcomes(node, Direction::Forward, &State { place, groups })?;
         let Some(state) = states.into_iter().next() else {
             return Ok(None);
         };
@@ -292,18 +331,17 @@ impl<'s> Evaluator<'s> {
     /// for memory is refused.
     pub(crate) fn first_match(
         &self,
-        syntax: &Syntax,
+        node: &Node,
         group_count: usize,
         place: usize,
     ) -> Result<Option<Match>, AllocError>
-        requires { group_count ≡ length (names_of (tree syntax.now)) }
-        ensures value { IfOk result (λ found. (table : Table) → (o : Options) → o.icase ≡ false →
-            option_map item_of found ≡ first_match table o (tree syntax.now) self.now.points.now place) }
+        ensures value { IfOk result (λ found. option_map item_of found
+            ≡ node_first_match (context_of self.now) group_count (tree node.now) place) }
         ensures inside { IfOk result
             (λ found. IfSome found (λ m. IsItemInside self.now.points.now (item_of m))) }
     {
         for start in place..=self.points.len() {
-            if let Some(found) = self.attempt(syntax, group_count, start)? {
+            if let Some(found) = self.attempt(node, group_count, start)? {
                 return Ok(Some(found));
             }
         }
@@ -314,81 +352,227 @@ impl<'s> Evaluator<'s> {
 #[cfg(test)]
 mod tests {
     use super::*;
+    use regress_front_sets::{CodePointSet, Interval};
+    use regress_front_tree::BracketContents;
     use std::test::Fail;
 
-    const ABCD: [u32; 4] = [0x61, 0x62, 0x63, 0x64];
+    const ABCD: [CodePoint; 4] = [0x61, 0x62, 0x63, 0x64];
 
-    fn letter(c: char) -> Syntax
-        ensures { tree result ≡ character c }
-    {
-        Syntax::Character(u32::from(c))
+    fn letter(c: char) -> Node {
+        Node::Char { c: u32::from(c) }
     }
 
-    fn pair(alloc: Global, first: Syntax, second: Syntax) -> Result<Syntax, AllocError>
-        ensures { IfOk result (λ s. tree s ≡ sequence (tree first) (sequence (tree second) nothing)) }
-    {
-        let terms = vec![in alloc; first, second]?;
-        Ok(Syntax::Alternative(terms))
+    fn pair(alloc: Global, first: Node, second: Node) -> Result<Node, AllocError> {
+        Ok(Node::Cat(vec![in alloc; first, second]?))
     }
 
-    fn either(alloc: Global, first: Syntax, second: Syntax) -> Result<Syntax, AllocError>
-        ensures { IfOk result (λ s. tree s ≡ choice (tree first) (tree second)) }
-    {
-        let arms = vec![in alloc; first, second]?;
-        Ok(Syntax::Disjunction(arms))
+    fn either(alloc: Global, first: Node, second: Node) -> Result<Node, AllocError> {
+        Ok(Node::Alt(Box::new(alloc, first)?, Box::new(alloc, second)?))
     }
 
-    fn group(alloc: Global, number: CaptureGroupID, contents: Syntax) -> Result<Syntax, AllocError>
-        ensures { IfOk result (λ s. tree s ≡ capture number None (tree contents)) }
-    {
-        Ok(Syntax::Capture(number, Box::new(alloc, contents)?))
+    fn group(alloc: Global, id: CaptureGroupID, contents: Node) -> Result<Node, AllocError> {
+        Ok(Node::CaptureGroup {
+            id,
+            contents: Box::new(alloc, contents)?,
+            name: None,
+        })
     }
 
     fn repeat(
         alloc: Global,
-        contents: Syntax,
+        contents: Node,
         min: usize,
         max: Option<usize>,
         greedy: bool,
         enclosed_groups: std::ops::Range<CaptureGroupID>,
-    ) -> Result<Syntax, AllocError> {
-        Ok(Syntax::Loop {
+    ) -> Result<Node, AllocError> {
+        Ok(Node::Loop {
             loopee: Box::new(alloc, contents)?,
             quant: Quantifier { min, max, greedy },
             enclosed_groups,
         })
     }
 
-    /// The outcomes at the start of a text, with this many groups.
-    fn states(
+    fn look(
         alloc: Global,
-        points: &[u32],
-        syntax: &Syntax,
-        group_count: usize,
-    ) -> Result<Vec<State>, AllocError> {
-        let groups = vec![in alloc; None; group_count]?;
-        Evaluator::new(alloc, points).outcomes(syntax, &State { place: 0, groups })
+        negate: bool,
+        backwards: bool,
+        groups: std::ops::Range<CaptureGroupID>,
+        contents: Node,
+    ) -> Result<Node, AllocError> {
+        Ok(Node::LookaroundAssertion {
+            negate,
+            backwards,
+            start_group: groups.start,
+            end_group: groups.end,
+            contents: Box::new(alloc, contents)?,
+        })
     }
 
-    fn places(alloc: Global, points: &[u32], syntax: &Syntax) -> Result<Vec<usize>, AllocError> {
+    fn evaluator<'s>(alloc: Global, tables: &'s Tables, points: &'s [CodePoint]) -> Evaluator<'s> {
+        Evaluator {
+            alloc,
+            points,
+            tables,
+            unicode: false,
+        }
+    }
+
+    /// The places of the outcomes from a place of a text, in a direction.
+    fn places_from(
+        alloc: Global,
+        points: &[CodePoint],
+        node: &Node,
+        direction: Direction,
+        place: usize,
+    ) -> Result<Vec<usize>, Fail> {
+        let tables = Tables::small(alloc)?;
+        let start = State {
+            place,
+            groups: Vec::new(alloc),
+        };
         let mut places = Vec::new(alloc);
-        for state in states(alloc, points, syntax, 0)? {
+        for state in evaluator(alloc, &tables, points).outcomes(node, direction, &start)? {
             places.push(state.place)?;
         }
         Ok(places)
     }
 
+    /// The same from both ends of a text: forward from its start, and backward from its end.
+    fn both_ways(
+        alloc: Global,
+        points: &[CodePoint],
+        node: &Node,
+    ) -> Result<(Vec<usize>, Vec<usize>), Fail> {
+        Ok((
+            places_from(alloc, points, node, Direction::Forward, 0)?,
+            places_from(alloc, points, node, Direction::Backward, points.len())?,
+        ))
+    }
+
+    /// The first match of a tree in a text.
+    fn first(
+        alloc: Global,
+        points: &[CodePoint],
+        node: &Node,
+        group_count: usize,
+    ) -> Result<Match, Fail> {
+        let tables = Tables::small(alloc)?;
+        let found = evaluator(alloc, &tables, points).first_match(node, group_count, 0)?;
+        Ok(found.ok_or("no match")?)
+    }
+
+    #[test]
+    fn steps_over_one_character(rt: HostRuntime) -> Result<(), Fail> {
+        let alloc = rt.alloc();
+        let mut letters = CodePointSet::new(alloc);
+        letters.add(Interval {
+            first: 0x61,
+            last: 0x63,
+        })?;
+        let nodes = vec![in alloc;
+            letter('b'),
+            Node::ByteSet(vec![in alloc; 0x61, 0x62]?),
+            Node::CharSet(vec![in alloc; 0x62, 0x1_F600]?),
+            Node::MatchAny,
+            Node::MatchAnyExceptLineTerminator,
+            Node::Bracket(BracketContents {
+                invert: false,
+                cps: letters
+            }),
+        ]?;
+        for node in &nodes {
+            let (ahead, behind) = both_ways(alloc, &[0x62], node)?;
+            assert_eq!(rt; ahead.as_slice(), [1].as_slice());
+            assert_eq!(rt; behind.as_slice(), [0].as_slice());
+            assert!(rt; both_ways(alloc, &[], node)?.0.is_empty());
+        }
+        for node in &nodes[..3] {
+            assert!(rt; both_ways(alloc, &[0x2028], node)?.0.is_empty());
+        }
+        assert!(rt; !both_ways(alloc, &[0x2028], &nodes[3])?.1.is_empty());
+        assert!(rt; both_ways(alloc, &[0x2028], &nodes[4])?.1.is_empty());
+        Ok(())
+    }
+
+    #[test]
+    fn a_class_is_inverted_once(rt: HostRuntime) -> Result<(), Fail> {
+        let alloc = rt.alloc();
+        let mut cps = CodePointSet::new(alloc);
+        cps.add(Interval {
+            first: 0x61,
+            last: 0x63,
+        })?;
+        let node = Node::Bracket(BracketContents { invert: true, cps });
+        assert!(rt; both_ways(alloc, &[0x62], &node)?.0.is_empty());
+        assert_eq!(rt;
+            both_ways(alloc, &[0x64], &node)?.0.as_slice(),
+            [1].as_slice()
+        );
+        Ok(())
+    }
+
+    #[test]
+    fn literals_stand_in_the_order_of_the_text(rt: HostRuntime) -> Result<(), Fail> {
+        let alloc = rt.alloc();
+        // `a` and U+00E9
+        let node = Node::ByteSequence(vec![in alloc; 0x61, 0xC3, 0xA9]?);
+        let (ahead, behind) = both_ways(alloc, &[0x61, 0xE9], &node)?;
+        assert_eq!(rt; ahead.as_slice(), [2].as_slice());
+        assert_eq!(rt; behind.as_slice(), [0].as_slice());
+        assert!(rt; both_ways(alloc, &[0xE9, 0x61], &node)?.1.is_empty());
+        Ok(())
+    }
+
+    #[test]
+    fn parts_are_read_in_their_order_in_both_directions(rt: HostRuntime) -> Result<(), Fail> {
+        let alloc = rt.alloc();
+        let (ahead, behind) = both_ways(
+            alloc,
+            &[0x61, 0x62],
+            &pair(alloc, letter('a'), letter('b'))?,
+        )?;
+        assert_eq!(rt; ahead.as_slice(), [2].as_slice());
+        assert!(rt; behind.is_empty());
+        let (ahead, behind) = both_ways(
+            alloc,
+            &[0x61, 0x62],
+            &pair(alloc, letter('b'), letter('a'))?,
+        )?;
+        assert!(rt; ahead.is_empty());
+        assert_eq!(rt; behind.as_slice(), [0].as_slice());
+        Ok(())
+    }
+
+    #[test]
+    fn the_empty_text_and_the_end_take_nothing(rt: HostRuntime) -> Result<(), Fail> {
+        let (ahead, behind) = both_ways(rt.alloc(), &ABCD, &Node::Empty)?;
+        assert_eq!(rt; ahead.as_slice(), [0].as_slice());
+        assert_eq!(rt; behind.as_slice(), [4].as_slice());
+        let (ahead, _) = both_ways(rt.alloc(), &ABCD, &Node::Goal)?;
+        assert_eq!(rt; ahead.as_slice(), [0].as_slice());
+        Ok(())
+    }
+
+    #[test]
+    fn takes_the_first_arm_that_works(rt: HostRuntime) -> Result<(), Fail> {
+        let alloc = rt.alloc();
+        let long = pair(alloc, letter('a'), letter('b'))?;
+        let node = either(alloc, letter('x'), either(alloc, long, letter('a'))?)?;
+        let (ahead, _) = both_ways(alloc, &ABCD, &node)?;
+        assert_eq!(rt; ahead.as_slice(), [2, 1].as_slice());
+        Ok(())
+    }
+
     #[test]
     fn goes_back_to_the_first_group(rt: HostRuntime) -> Result<(), Fail> {
         let alloc = rt.alloc();
-        let first = either(alloc, letter('a'), pair(alloc, letter('a'), letter('b'))?)?;
+        let one = either(alloc, letter('a'), pair(alloc, letter('a'), letter('b'))?)?;
         let tail = pair(alloc, letter('b'), pair(alloc, letter('c'), letter('d'))?)?;
-        let second = either(alloc, letter('c'), tail)?;
-        let both = pair(alloc, group(alloc, 0, first)?, group(alloc, 1, second)?)?;
-        let found = Evaluator::new(alloc, &ABCD).first_match(&both, 2, 0)?;
-        let found = found.ok_or("no match")?;
-        assert_eq!(rt; found.range.start, 0);
-        assert_eq!(rt; found.range.end, 4);
+        let two = either(alloc, letter('c'), tail)?;
+        let both = pair(alloc, group(alloc, 0, one)?, group(alloc, 1, two)?)?;
+        let found = first(alloc, &ABCD, &both, 2)?;
+        assert_eq!(rt; found.range(), 0..4);
         assert_eq!(rt;
             found.captures.as_slice(),
             [Some(0..1), Some(1..4)].as_slice()
@@ -398,55 +582,112 @@ mod tests {
 
     #[test]
     fn searches_from_a_place_on(rt: HostRuntime) -> Result<(), Fail> {
-        let evaluator = Evaluator::new(rt.alloc(), &ABCD);
+        let tables = Tables::small(rt.alloc())?;
+        let evaluator = evaluator(rt.alloc(), &tables, &ABCD);
         let found = evaluator
             .first_match(&letter('c'), 0, 1)?
             .ok_or("no match")?;
-        assert_eq!(rt; found.range.start, 2);
-        assert_eq!(rt; found.range.end, 3);
+        assert_eq!(rt; found.range(), 2..3);
         assert!(rt; evaluator.first_match(&letter('c'), 0, 3)?.is_none());
         assert!(rt; evaluator.first_match(&letter('c'), 0, 9)?.is_none());
         Ok(())
     }
 
     #[test]
-    fn takes_the_first_arm_that_works(rt: HostRuntime) -> Result<(), Fail> {
+    fn lines_start_and_end(rt: HostRuntime) -> Result<(), Fail> {
         let alloc = rt.alloc();
-        let arms = vec![in alloc;
-            letter('x'),
-            pair(alloc, letter('a'), letter('b'))?,
-            letter('a'),
-        ]?;
-        let start = State {
-            place: 0,
-            groups: Vec::new(alloc),
-        };
-        let states = Evaluator::new(alloc, &ABCD).outcomes(&Syntax::Disjunction(arms), &start)?;
-        assert_eq!(rt; states.len(), 2);
-        assert_eq!(rt; states[0].place, 2);
-        assert_eq!(rt; states[1].place, 1);
+        let text = [0x61, 0xA, 0x62];
+        for (anchor_type, multiline, expected) in [
+            (AnchorType::StartOfLine, false, [true, false, false, false]),
+            (AnchorType::StartOfLine, true, [true, false, true, false]),
+            (AnchorType::EndOfLine, false, [false, false, false, true]),
+            (AnchorType::EndOfLine, true, [false, true, false, true]),
+        ] {
+            let node = Node::Anchor {
+                anchor_type,
+                multiline,
+            };
+            for place in 0..4 {
+                let places = places_from(alloc, &text, &node, Direction::Forward, place)?;
+                assert_eq!(rt; !places.is_empty(), expected[place]);
+            }
+        }
         Ok(())
     }
 
     #[test]
-    fn goes_over_long_sequences_and_choices(rt: HostRuntime) -> Result<(), Fail> {
+    fn words_start_and_end(rt: HostRuntime) -> Result<(), Fail> {
         let alloc = rt.alloc();
-        let mut points = Vec::new(alloc);
-        let mut terms = Vec::new(alloc);
-        let mut arms = Vec::new(alloc);
-        for _ in 0..100_000 {
-            points.push(0x61)?;
-            terms.push(letter('a'))?;
-            arms.push(letter('b'))?;
+        // U+017F folds to `s`, so it is of a word where case is ignored in Unicode mode.
+        let text = [0x61, 0x20, 0x17F];
+        for (invert, unicode_icase, expected) in [
+            (false, false, [true, true, false, false]),
+            (true, false, [false, false, true, true]),
+            (false, true, [true, true, true, true]),
+        ] {
+            let node = Node::WordBoundary {
+                invert,
+                unicode_icase,
+            };
+            for place in 0..4 {
+                let places = places_from(alloc, &text, &node, Direction::Forward, place)?;
+                assert_eq!(rt; !places.is_empty(), expected[place]);
+            }
         }
-        arms.push(Syntax::Alternative(terms))?;
-        let start = State {
-            place: 0,
-            groups: Vec::new(alloc),
+        Ok(())
+    }
+
+    #[test]
+    fn a_reference_repeats_what_a_group_took(rt: HostRuntime) -> Result<(), Fail> {
+        let alloc = rt.alloc();
+        for (icase, expected) in [(false, None), (true, Some(0..2))] {
+            let back = Node::BackRef { group: 1, icase };
+            let node = pair(alloc, group(alloc, 0, letter('a'))?, back)?;
+            let tables = Tables::small(alloc)?;
+            let found = evaluator(alloc, &tables, &[0x61, 0x41]).first_match(&node, 1, 0)?;
+            assert_eq!(rt; found.map(|found| found.range()), expected);
+        }
+        let unset = Node::BackRef {
+            group: 1,
+            icase: false,
         };
-        let states = Evaluator::new(alloc, &points).outcomes(&Syntax::Disjunction(arms), &start)?;
-        assert_eq!(rt; states.len(), 1);
-        assert_eq!(rt; states[0].place, 100_000);
+        assert_eq!(rt; first(alloc, &ABCD, &unset, 1)?.range(), 0..0);
+        Ok(())
+    }
+
+    #[test]
+    fn strings_are_tried_in_their_order(rt: HostRuntime) -> Result<(), Fail> {
+        let alloc = rt.alloc();
+        let ab = vec![in alloc; 0x41, 0x42]?.into_boxed_slice();
+        let a = vec![in alloc; 0x61]?.into_boxed_slice();
+        let b = vec![in alloc; 0x62]?.into_boxed_slice();
+        let node = Node::StringSet {
+            alternatives: vec![in alloc; ab, a, b]?,
+            icase: true,
+        };
+        let (ahead, behind) = both_ways(alloc, &[0x61, 0x62], &node)?;
+        assert_eq!(rt; ahead.as_slice(), [2, 1].as_slice());
+        assert_eq!(rt; behind.as_slice(), [0, 1].as_slice());
+        Ok(())
+    }
+
+    #[test]
+    fn lookarounds_stay_at_their_place(rt: HostRuntime) -> Result<(), Fail> {
+        let alloc = rt.alloc();
+        let ahead = look(alloc, false, false, 0..1, group(alloc, 0, letter('b'))?)?;
+        let node = pair(alloc, letter('a'), ahead)?;
+        let found = first(alloc, &ABCD, &node, 1)?;
+        assert_eq!(rt; found.range(), 0..1);
+        assert_eq!(rt; found.captures.as_slice(), [Some(1..2)].as_slice());
+        // Behind `c` stand `b`, then `a`.
+        let before = pair(alloc, letter('b'), letter('a'))?;
+        let node = pair(alloc, look(alloc, false, true, 0..0, before)?, letter('c'))?;
+        assert_eq!(rt; first(alloc, &ABCD, &node, 0)?.range(), 2..3);
+        let not_a = look(alloc, true, true, 0..1, group(alloc, 0, letter('a'))?)?;
+        let node = pair(alloc, not_a, Node::MatchAny)?;
+        let found = first(alloc, &[0x61, 0x62, 0x63], &node, 1)?;
+        assert_eq!(rt; found.range(), 0..1);
+        assert_eq!(rt; found.captures.as_slice(), [None].as_slice());
         Ok(())
     }
 
@@ -454,26 +695,20 @@ mod tests {
     fn repeats_greedily_and_lazily(rt: HostRuntime) -> Result<(), Fail> {
         let alloc = rt.alloc();
         let aaab = [0x61, 0x61, 0x61, 0x62];
-        let any = repeat(alloc, letter('a'), 0, None, true, 0..0)?;
-        assert_eq!(rt;
-            places(alloc, &aaab, &any)?.as_slice(),
-            [3, 2, 1, 0].as_slice()
-        );
-        let any_lazy = repeat(alloc, letter('a'), 0, None, false, 0..0)?;
-        assert_eq!(rt;
-            places(alloc, &aaab, &any_lazy)?.as_slice(),
-            [0, 1, 2, 3].as_slice()
-        );
-        let bounded = repeat(alloc, letter('a'), 1, Some(2), true, 0..0)?;
-        assert_eq!(rt;
-            places(alloc, &aaab, &bounded)?.as_slice(),
-            [2, 1].as_slice()
-        );
-        let least_lazy = repeat(alloc, letter('a'), 2, None, false, 0..0)?;
-        assert_eq!(rt;
-            places(alloc, &aaab, &least_lazy)?.as_slice(),
-            [2, 3].as_slice()
-        );
+        for (min, max, greedy, expected) in [
+            (0, None, true, [3, 2, 1, 0].as_slice()),
+            (0, None, false, [0, 1, 2, 3].as_slice()),
+            (1, Some(2), true, [2, 1].as_slice()),
+            (2, None, false, [2, 3].as_slice()),
+        ] {
+            let node = repeat(alloc, letter('a'), min, max, greedy, 0..0)?;
+            assert_eq!(rt; both_ways(alloc, &aaab, &node)?.0.as_slice(), expected);
+            let single = Node::Loop1CharBody {
+                loopee: Box::new(alloc, letter('a'))?,
+                quant: Quantifier { min, max, greedy },
+            };
+            assert_eq!(rt; both_ways(alloc, &aaab, &single)?.0.as_slice(), expected);
+        }
         Ok(())
     }
 
@@ -483,16 +718,12 @@ mod tests {
         let alloc = rt.alloc();
         let inner = repeat(alloc, letter('a'), 0, None, true, 0..0)?;
         let any = repeat(alloc, group(alloc, 0, inner)?, 0, None, true, 0..1)?;
-        let mut found = states(alloc, &[0x62], &any, 1)?;
-        let state = found.pop().ok_or("no match")?;
-        assert!(rt; found.is_empty());
-        assert_eq!(rt; state.groups.as_slice(), [None].as_slice());
+        let found = first(alloc, &[0x62], &any, 1)?;
+        assert_eq!(rt; found.captures.as_slice(), [None].as_slice());
         let inner = repeat(alloc, letter('a'), 0, None, true, 0..0)?;
         let some = repeat(alloc, group(alloc, 0, inner)?, 1, None, true, 0..1)?;
-        let mut found = states(alloc, &[0x62], &some, 1)?;
-        let state = found.pop().ok_or("no match")?;
-        assert!(rt; found.is_empty());
-        assert_eq!(rt; state.groups.as_slice(), [Some(0..0)].as_slice());
+        let found = first(alloc, &[0x62], &some, 1)?;
+        assert_eq!(rt; found.captures.as_slice(), [Some(0..0)].as_slice());
         Ok(())
     }
 
@@ -511,14 +742,26 @@ mod tests {
             group(alloc, 0, letter('z'))?,
             repeat(alloc, inner, 0, None, true, 1..5)?,
         )?;
-        let text = [0x7a, 0x61, 0x61, 0x63, 0x62, 0x62, 0x62, 0x63, 0x61, 0x63];
-        let first = states(alloc, &text, &all, 5)?.into_iter().next();
-        let first = first.ok_or("no match")?;
-        assert_eq!(rt; first.place, 10);
+        let text = [0x7A, 0x61, 0x61, 0x63, 0x62, 0x62, 0x62, 0x63, 0x61, 0x63];
+        let found = first(alloc, &text, &all, 5)?;
+        assert_eq!(rt; found.range(), 0..10);
         assert_eq!(rt;
-            first.groups.as_slice(),
+            found.captures.as_slice(),
             [Some(0..1), Some(8..10), Some(8..9), None, Some(9..10)].as_slice()
         );
+        Ok(())
+    }
+
+    #[test]
+    fn goes_over_long_lists_of_parts(rt: HostRuntime) -> Result<(), Fail> {
+        let alloc = rt.alloc();
+        let points = vec![in alloc; 0x61; 100_000]?;
+        let mut parts = Vec::new(alloc);
+        for _ in 0..100_000 {
+            parts.push(letter('a'))?;
+        }
+        let (ahead, _) = both_ways(alloc, &points, &Node::Cat(parts))?;
+        assert_eq!(rt; ahead.as_slice(), [100_000].as_slice());
         Ok(())
     }
 
@@ -527,9 +770,9 @@ mod tests {
         let alloc = rt.alloc();
         let points = vec![in alloc; 0x61; 100_000]?;
         let any = repeat(alloc, letter('a'), 0, None, true, 0..0)?;
-        let found = places(alloc, &points, &any)?;
-        assert_eq!(rt; found.len(), 100_001);
-        assert_eq!(rt; found[0], 100_000);
+        let (ahead, _) = both_ways(alloc, &points, &any)?;
+        assert_eq!(rt; ahead.len(), 100_001);
+        assert_eq!(rt; ahead[0], 100_000);
         Ok(())
     }
 }

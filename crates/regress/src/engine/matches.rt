@@ -91,6 +91,9 @@ pub(crate) struct Search<'r> {
 }
 
 impl<'r> Search<'r> {
+    ghost use Rattle.regress.specs.StateViews.{context_of};
+    ghost use Rattle.regress.specs.Coming.{searching};
+
     /// The search for a pattern in a text. Fails only where memory is refused.
     fn new(regex: &'r Regex<'r>, source: &str) -> Result<Self, Error>
         ensures over { IfOk result (λ s. (s.regex.now ≡ regex.now) × (s.text.points.items ≡ chars source.now)) }
@@ -98,6 +101,19 @@ impl<'r> Search<'r> {
     {
         let text = Text::new(regex.alloc, source)?;
         Ok(Search { regex, text })
+    }
+
+    /// What the pattern is evaluated by in the text.
+    fn evaluator(&self) -> Evaluator<'_>
+        ensures context { context_of result ≡ searching self.now.regex.now self.now.text.points.items }
+        ensures text { result.points.now ≡ self.now.text.points.items }
+    {
+        Evaluator {
+            alloc: self.regex.alloc,
+            points: self.text.points(),
+            tables: self.regex.tables,
+            unicode: self.regex.flags.unicode || self.regex.flags.unicode_sets,
+        }
     }
 }
 
@@ -141,12 +157,12 @@ impl<'r> MatchProducer for Search<'r> {
         position: usize,
         next: &mut Option<usize>,
     ) -> Result<Option<Match>, Error> {
-        regress_meaning::matches_go_on();
         *next = None;
         let regex = self.regex;
         let points = self.text.points();
-        let evaluator = Evaluator::new(regex.alloc, points);
-        let found = evaluator.first_match(&regex.syntax, regex.group_count, position)?;
+        let found = self
+            .evaluator()
+            .first_match(&regex.node, regex.group_count, position)?;
         let Some(found) = found else {
             return Ok(None);
         };

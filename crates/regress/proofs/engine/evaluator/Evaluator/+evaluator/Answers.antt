@@ -1,166 +1,224 @@
-use Rattle.std.proofs.Common.{◌≡◌, ◌+◌, false, List, [], ◌∷◌, ◌++◌, length, map, drop, refl, sym, ap, ◌∙◌, arith}
+use Rattle.std.proofs.Common.{◌≡◌, ◌+◌, List, [], ◌∷◌, ◌++◌, ◌⊎◌, inl, inr, IfOk, length, map, drop, append_assoc, refl, sym, ap, ◌∙◌, arith}
 use Rattle.std.specs.List.{flat_map}
-use Rattle.std.proofs.lemmas.Bool.{eqb-true, eqb-false}
 use Rattle.std.proofs.lemmas.List.{take_all, drop_all, append-nil, map-append, nil_from_length}
-use Rattle.regress_meaning.specs.Meaning.{State, Context, Forward, outcomes}
-use Rattle.regress.specs.Trees.{tree, most, sequence_of, choice_of}
-use Rattle.regress.specs.StateViews.{state_of}
-use Rattle.regress.proofs.EvaluatorLemmas.{no_table, no_settings, leads, takes, leads-nothing, flat_map-nothing, leads-capture, arms_more, arms_all, terms_more, takes_more, takes_all, AreOutcomes-from_known}
-use Rattle.regress.proofs.TreeLaws.{tree-Character, tree-Alternative, tree-Disjunction, tree-Capture, tree-Group, tree-Loop}
-use Rattle.regress.specs.declared.engine.evaluator.Task.{Task}
-use Rattle.regress.proofs.RepetitionLemmas.{run, outcomes_of_task, outcomes_of_tasks, outcomes_of_tasks-start, outcomes_of_task-last, outcomes_of_tasks-emit, outcomes_of_tasks-expand, turns_of_task, turns-last, turns_of_tasks-emit, turns_of_tasks-expand}
+use Rattle.regress_meaning.specs.Meaning.{State, captured}
+use Rattle.regress_front_syntax.specs.Trees.{most}
+use Rattle.regress_front_tree.specs.Trees.{cat_of, tree}
+use Rattle.regress_front_tree.specs.TreeMeaning.{node_outcomes}
+use Rattle.regress.specs.StateViews.{state_of, context_of, direction_of}
+use Rattle.regress_front_tree.specs.declared.node.Node.{Node, size-Node}
+use Rattle.regress_front_tree.specs.declared.node.Node.TheViews.{sized-Alt}
+use Rattle.regress_front_tree.specs.declared.node.Node.TheVariants as node
+use Rattle.regress.specs.declared.engine.tasks.Task.{Task}
+use Rattle.regress.proofs.EvaluatorLemmas.{flat_map-no_part, parts_more, changed_more, changed_all}
+use Rattle.regress.proofs.RepetitionLemmas.{run, single_loop-is_loop, outcomes_of_task, outcomes_of_tasks, outcomes_of_tasks-start, outcomes_of_task-last, outcomes_of_tasks-emit, outcomes_of_tasks-expand, turns_of_task, turns-last, turns_of_tasks-emit, turns_of_tasks-expand}
+use Rattle.regress.proofs.TreeLaws.{tree-Empty, tree-Goal, tree-Char, tree-ByteSequence, tree-ByteSet, tree-CharSet, tree-Cat, tree-Alt, tree-MatchAny, tree-MatchAnyExceptLineTerminator, tree-Anchor, tree-WordBoundary, tree-CaptureGroup, tree-BackRef, tree-Bracket, tree-StringSet, tree-LookaroundAssertion, tree-Loop, tree-Loop1CharBody}
 use Rattle.regress.proofs.engine.evaluator.Evaluator.+evaluator.Goals as goal
 
-pub outcomes-returns-in-Character : goal.outcomes-returns-in-Character
-outcomes-returns-in-Character t c = rw (c.in-Character.is, tree-Character) c.step.ensures
+pub outcomes-returns-in-Empty : goal.outcomes-returns-in-Empty
+unfolding node_outcomes
+outcomes-returns-in-Empty t c = go c.in-Empty.is
+  where
+    go : (c.args.node.now ≡ node.Empty) ⊎ (c.args.node.now ≡ node.Goal)
+        → IfOk c.alone_at.result (λ states. map state_of states.items ≡ node_outcomes (context_of c.args.self.now) (tree c.args.node.now) (direction_of c.args.direction) (state_of c.args.state.now))
+    go (inl e) = rw (e, tree-Empty) c.alone_at.ensures
+    go (inr e) = rw (e, tree-Goal) c.alone_at.ensures
 
-pub outcomes-returns-in-Alternative : goal.outcomes-returns-in-Alternative
-outcomes-returns-in-Alternative t c =
-    rw (c.in-Alternative.is, tree-Alternative, ← c.deref.ensures.value) c.outcomes_of_sequence.ensures
+pub outcomes-returns-in-Char : goal.outcomes-returns-in-Char
+unfolding node_outcomes
+outcomes-returns-in-Char t c = rw (c.in-Char.is, tree-Char) c.one.ensures
 
-pub outcomes-returns-in-Disjunction : goal.outcomes-returns-in-Disjunction
-outcomes-returns-in-Disjunction t c =
-    rw (c.in-Disjunction.is, tree-Disjunction, ← c.deref-in-Disjunction.ensures.value) c.outcomes_of_choice.ensures
+pub outcomes-returns-in-ByteSequence : goal.outcomes-returns-in-ByteSequence
+unfolding node_outcomes
+outcomes-returns-in-ByteSequence t c = rw (c.in-ByteSequence.is, tree-ByteSequence, ← c.deref.ensures.value) c.literal.ensures
 
-pub outcomes-returns-in-Capture : goal.outcomes-returns-in-Capture
-outcomes-returns-in-Capture t c =
-    rw (c.in-Capture.is, tree-Capture, ← c.deref-in-Capture.ensures) c.outcomes_of_capture.ensures
+pub outcomes-returns-in-ByteSet : goal.outcomes-returns-in-ByteSet
+unfolding node_outcomes
+outcomes-returns-in-ByteSet t c = rw (c.in-ByteSet.is, tree-ByteSet, ← c.deref-in-ByteSet.ensures.value) c.one-in-ByteSet.ensures
 
-pub outcomes-returns-in-Group : goal.outcomes-returns-in-Group
-unfolding outcomes
-outcomes-returns-in-Group t c = rw (c.in-Group.is, tree-Group, ← c.deref-in-Group.ensures) c.outcomes.ensures
+pub outcomes-returns-in-CharSet : goal.outcomes-returns-in-CharSet
+unfolding node_outcomes
+outcomes-returns-in-CharSet t c = rw (c.in-CharSet.is, tree-CharSet, ← c.deref-in-CharSet.ensures.value) c.one-in-CharSet.ensures
 
-pub outcomes_of_all-returns : goal.outcomes_of_all-returns
-outcomes_of_all-returns t c =
-    rw (take_all c.loop-state.state-index c.args.states.now (omega arith)) at c.loop-state.invariant
+pub outcomes-returns-in-Cat : goal.outcomes-returns-in-Cat
+outcomes-returns-in-Cat t c = rw (c.in-Cat.is, tree-Cat, ← c.deref-in-Cat.ensures.value) c.outcomes_of_parts.ensures
 
-pub outcomes_of_sequence-loop-term-preserved : goal.outcomes_of_sequence-loop-term-preserved
-outcomes_of_sequence-loop-term-preserved t c = λ table unicode e off.
-    let context : Context = record { text = c.args.self.now.points.now; table = table; unicode = unicode } in
-    let terms = c.args.terms.now in
-    let index = c.loop-term.term-index in
-    ap (flat_map (leads context e (sequence_of (map tree (drop (index + 1) terms)))))
-    (rw c.deref.ensures.value at (c.in_ok-states-2.ensures table unicode e off))
-    ∙ terms_more context e (map state_of c.loop-term.states.items) terms index c.term-item.result c.loop-term-test.true c.term-item.is
-    ∙ c.loop-term.invariant table unicode e off
+pub outcomes-returns-in_ok-append-in-Alt : goal.outcomes-returns-in_ok-append-in-Alt
+unfolding node_outcomes
+outcomes-returns-in_ok-append-in-Alt t c =
+    rw (c.in-Alt.is, tree-Alt, c.in_ok-append-in-Alt.ensures.items, map-append state_of c.in_ok-states-in-Alt.states.items c.in_ok-outcomes_of_arms-in-Alt.field-0.items, c.in_ok-states-in-Alt.ensures, c.in_ok-outcomes_of_arms-in-Alt.ensures, c.deref-in-Alt.ensures, c.deref-in-Alt-2.ensures) refl
 
-pub outcomes_of_sequence-returns : goal.outcomes_of_sequence-returns
-outcomes_of_sequence-returns t c = λ table unicode e off.
-    let context : Context = record { text = c.args.self.now.points.now; table = table; unicode = unicode } in
-    sym (flat_map-nothing context e (map state_of c.loop-term.states.items))
-    ∙ rw (drop_all c.loop-term.term-index c.args.terms.now (omega arith)) at (c.loop-term.invariant table unicode e off)
+pub outcomes-returns-in-MatchAny : goal.outcomes-returns-in-MatchAny
+unfolding node_outcomes
+outcomes-returns-in-MatchAny t c = rw (c.in-MatchAny.is, tree-MatchAny) c.one-in-MatchAny.ensures
 
-pub outcomes_of_choice-returns-then-is_empty : goal.outcomes_of_choice-returns-then-is_empty
-outcomes_of_choice-returns-then-is_empty t c =
-    let none : c.args.arms.now ≡ [] = nil_from_length c.args.arms.now (eqb-true (length c.args.arms.now) 0 (sym c.if-is_empty.ensures)) in
-    AreOutcomes-from_known c.args.self.now.points.now (choice_of (map tree c.args.arms.now)) (state_of c.args.state.now) c.alone_at.result _ c.alone_at.ensures
-    (λ table unicode e off.
-    let context : Context = record { text = c.args.self.now.points.now; table = table; unicode = unicode } in
-    rw none (sym (leads-nothing context e (state_of c.args.state.now))))
+pub outcomes-returns-in-MatchAnyExceptLineTerminator : goal.outcomes-returns-in-MatchAnyExceptLineTerminator
+unfolding node_outcomes
+outcomes-returns-in-MatchAnyExceptLineTerminator t c = rw (c.in-MatchAnyExceptLineTerminator.is, tree-MatchAnyExceptLineTerminator) c.one-in-MatchAnyExceptLineTerminator.ensures
 
-pub outcomes_of_choice-loop-arm-preserved : goal.outcomes_of_choice-loop-arm-preserved
-outcomes_of_choice-loop-arm-preserved t c = λ table unicode e off.
-    let context : Context = record { text = c.args.self.now.points.now; table = table; unicode = unicode } in
-    let more = arms_more context e (state_of c.args.state.now) c.args.arms.now c.loop-arm.arm-index c.arm-item.result c.loop-arm-test.true c.arm-item.is in
-    let joined = ap (map state_of) c.in_ok-append.ensures.items ∙ map-append state_of c.loop-arm.all.items c.in_ok-outcomes.field-0.items in
-    cc (more, joined, c.loop-arm.invariant table unicode e off, c.in_ok-outcomes.ensures table unicode e off)
+pub outcomes-returns-in-Anchor : goal.outcomes-returns-in-Anchor
+outcomes-returns-in-Anchor t c = rw (c.in-Anchor.is, tree-Anchor) c.anchor.ensures
 
-pub outcomes_of_choice-returns : goal.outcomes_of_choice-returns
-outcomes_of_choice-returns t c = λ table unicode e off.
-    let context : Context = record { text = c.args.self.now.points.now; table = table; unicode = unicode } in
-    rw (take_all c.loop-arm.arm-index c.args.arms.now (omega arith)) at (c.loop-arm.invariant table unicode e off)
-    ∙ sym (arms_all context e (state_of c.args.state.now) c.args.arms.now (omega (arith, eqb-false (length c.args.arms.now) 0 (sym c.if-is_empty.ensures))))
+pub outcomes-returns-in-WordBoundary : goal.outcomes-returns-in-WordBoundary
+outcomes-returns-in-WordBoundary t c = rw (c.in-WordBoundary.is, tree-WordBoundary) c.word_boundary.ensures
 
-pub outcomes_of_capture-loop-found-preserved : goal.outcomes_of_capture-loop-found-preserved
-outcomes_of_capture-loop-found-preserved t c =
-    takes_more c.args.group c.args.state.now.place c.loop-found.found-items c.deref_mut-found-items.result.now c.loop-found.found-index
-    c.found-item.result c.capture.new.self (omega arith) c.capture.ensures
-    c.loop-found.invariant.0 c.loop-found.invariant.1
+pub outcomes-returns-in-CaptureGroup : goal.outcomes-returns-in-CaptureGroup
+unfolding node_outcomes
+outcomes-returns-in-CaptureGroup t c = rw (c.in-CaptureGroup.is, tree-CaptureGroup, ← c.deref-in-CaptureGroup.ensures) c.outcomes_of_capture.ensures
 
-pub outcomes_of_capture-returns : goal.outcomes_of_capture-returns
-outcomes_of_capture-returns t c = λ table unicode e off.
-    let context : Context = record { text = c.args.self.now.points.now; table = table; unicode = unicode } in
-    let states = c.in_ok-states.states.items in
-    takes_all c.args.group c.args.state.now.place c.loop-found.found-items states c.loop-found.found-index c.in_ok-states.states.len
-    (omega arith) (c.loop-found.auto.found-items ∙ ap length c.deref_mut-found-items.ensures.value) c.in_ok-states.states.ok.0
-    (rw c.deref_mut-found-items.ensures.value at c.loop-found.invariant.0)
-    ∙ ap (map (takes c.args.group c.args.state.now.place)) (c.in_ok-states.ensures table unicode e off)
-    ∙ sym (leads-capture context e c.args.group (tree c.args.contents.now) (state_of c.args.state.now)
-    (c.outcomes_go_ahead.ensures context (tree c.args.contents.now) Forward e (state_of c.args.state.now)))
+pub outcomes-returns-in-BackRef : goal.outcomes-returns-in-BackRef
+unfolding node_outcomes
+outcomes-returns-in-BackRef t c = rw (c.in-BackRef.is, tree-BackRef) c.back_reference.ensures
+
+pub outcomes-returns-in-Bracket : goal.outcomes-returns-in-Bracket
+unfolding node_outcomes
+outcomes-returns-in-Bracket t c = rw (c.in-Bracket.is, tree-Bracket) c.one-in-Bracket.ensures
+
+pub outcomes-returns-in-StringSet : goal.outcomes-returns-in-StringSet
+unfolding node_outcomes
+outcomes-returns-in-StringSet t c = rw (c.in-StringSet.is, tree-StringSet, ← c.deref-in-StringSet.ensures.value) c.strings.ensures
+
+pub outcomes-returns-in-LookaroundAssertion : goal.outcomes-returns-in-LookaroundAssertion
+unfolding node_outcomes
+outcomes-returns-in-LookaroundAssertion t c =
+    rw (c.in-LookaroundAssertion.is, tree-LookaroundAssertion, ← c.deref-in-LookaroundAssertion.ensures) c.outcomes_of_look.ensures
 
 pub outcomes-returns-in-Loop : goal.outcomes-returns-in-Loop
 outcomes-returns-in-Loop t c = rw (c.in-Loop.is, tree-Loop, ← c.deref-in-Loop.ensures) c.outcomes_of_loop.ensures
 
+pub outcomes-returns-in-Loop1CharBody : goal.outcomes-returns-in-Loop1CharBody
+outcomes-returns-in-Loop1CharBody t c =
+    let loopee = c.in-Loop1CharBody.loopee in
+    let quant = c.in-Loop1CharBody.quant in
+    rw (c.in-Loop1CharBody.is, tree-Loop1CharBody, ← single_loop-is_loop (context_of c.args.self.now) (tree loopee.value) (direction_of c.args.direction) quant.min (most quant) quant.greedy (state_of c.args.state.now), ← c.deref-in-Loop1CharBody.ensures)
+    c.outcomes_of_loop-in-Loop1CharBody.ensures
+
+pub outcomes_of_all-returns : goal.outcomes_of_all-returns
+outcomes_of_all-returns t c = rw (take_all c.loop-state.state-index c.args.states.now (omega arith)) at c.loop-state.invariant
+
+pub outcomes_of_parts-loop-part-preserved : goal.outcomes_of_parts-loop-part-preserved
+outcomes_of_parts-loop-part-preserved t c =
+    let context = context_of c.args.self.now in
+    let dir = direction_of c.args.direction in
+    let parts = c.args.parts.now in
+    let index = c.loop-part.part-index in
+    ap (flat_map (node_outcomes context (cat_of (map tree (drop (index + 1) parts))) dir))
+    (rw c.deref.ensures.value at c.in_ok-states-2.ensures)
+    ∙ parts_more context dir (map state_of c.loop-part.states.items) parts index c.part-item.result c.loop-part-test.true c.part-item.is
+    ∙ c.loop-part.invariant
+
+pub outcomes_of_parts-returns : goal.outcomes_of_parts-returns
+outcomes_of_parts-returns t c =
+    sym (flat_map-no_part (context_of c.args.self.now) (direction_of c.args.direction) (map state_of c.loop-part.states.items))
+    ∙ rw (drop_all c.loop-part.part-index c.args.parts.now (omega arith)) at c.loop-part.invariant
+
+pub outcomes_of_capture-loop-found-preserved : goal.outcomes_of_capture-loop-found-preserved
+outcomes_of_capture-loop-found-preserved t c =
+    changed_more (captured (context_of c.args.self.now) c.args.group c.args.state.now.place) c.loop-found.found-items c.deref_mut-found-items.result.now c.loop-found.found-index
+    c.found-item.result c.capture.new.self (omega arith) (c.capture.ensures (context_of c.args.self.now))
+    c.loop-found.invariant.0 c.loop-found.invariant.1
+
+pub outcomes_of_capture-returns : goal.outcomes_of_capture-returns
+outcomes_of_capture-returns t c =
+    let f = captured (context_of c.args.self.now) c.args.group c.args.state.now.place in
+    let states = c.in_ok-states.states.items in
+    changed_all f c.loop-found.found-items states c.loop-found.found-index c.in_ok-states.states.len
+    (omega arith) (c.loop-found.auto.found-items ∙ ap length c.deref_mut-found-items.ensures.value) c.in_ok-states.states.ok.0
+    (rw c.deref_mut-found-items.ensures.value at c.loop-found.invariant.0)
+    ∙ ap (map f) c.in_ok-states.ensures
+
 pub outcomes_of_loop-loop-task-init : goal.outcomes_of_loop-loop-task-init
-outcomes_of_loop-loop-task-init t c = λ table unicode e off.
-    let context : Context = record { text = c.args.self.now.points.now; table = table; unicode = unicode } in
-    let body = run context e (tree c.args.loopee.now) c.args.enclosed.now.start c.args.enclosed.now.end in
+outcomes_of_loop-loop-task-init t c =
     let quant = c.args.quant in
-    let told = outcomes_of_tasks-start context e (tree c.args.loopee.now) c.args.enclosed.now.start c.args.enclosed.now.end quant.min (most quant)
+    let told = outcomes_of_tasks-start (context_of c.args.self.now) (tree c.args.loopee.now) (direction_of c.args.direction) c.args.enclosed.now.start c.args.enclosed.now.end quant.min (most quant)
     c.unwrap_or-left.result quant.greedy (state_of c.args.state.now) c.in_ok-alone_at.field-0.items c.push_expansions.new.tasks.items
     (rw c.new-tasks.ensures.items at c.in_ok-push_expansions.ensures) c.in_ok-alone_at.ensures c.unwrap_or-left.ensures in
     rw c.new-all.ensures.items told
 
 pub outcomes_of_loop-loop-task-smaller-in_ok-push-in-Emit : goal.outcomes_of_loop-loop-task-smaller-in_ok-push-in-Emit
-outcomes_of_loop-loop-task-smaller-in_ok-push-in-Emit t c = let context : Context = record { text = c.args.self.now.points.now; table = no_table; unicode = false } in
-    let body = run context no_settings (tree c.args.loopee.now) c.args.enclosed.now.start c.args.enclosed.now.end in
+outcomes_of_loop-loop-task-smaller-in_ok-push-in-Emit t c =
+    let context = context_of c.args.self.now in
+    let body = run context (tree c.args.loopee.now) (direction_of c.args.direction) c.args.enclosed.now.start c.args.enclosed.now.end in
     turns_of_tasks-emit context body c.loop-task.tasks.items c.pop.new.self.items c.in-Some.task c.in-Some.ensures.items
     (ap (turns_of_task context body) c.in-Emit.is)
 
 pub outcomes_of_loop-loop-task-preserved-in_ok-push-in-Emit : goal.outcomes_of_loop-loop-task-preserved-in_ok-push-in-Emit
-outcomes_of_loop-loop-task-preserved-in_ok-push-in-Emit t c = λ table unicode e off.
-    let context : Context = record { text = c.args.self.now.points.now; table = table; unicode = unicode } in
-    let body = run context e (tree c.args.loopee.now) c.args.enclosed.now.start c.args.enclosed.now.end in
+outcomes_of_loop-loop-task-preserved-in_ok-push-in-Emit t c =
+    let context = context_of c.args.self.now in
+    let body = run context (tree c.args.loopee.now) (direction_of c.args.direction) c.args.enclosed.now.start c.args.enclosed.now.end in
     rw c.in_ok-push-in-Emit.ensures.items
     (outcomes_of_tasks-emit context body c.args.quant.greedy c.loop-task.all.items c.loop-task.tasks.items c.pop.new.self.items c.in-Some.task c.in-Emit.state c.in-Some.ensures.items
     (ap (outcomes_of_task context body c.args.quant.greedy) c.in-Emit.is)
-    ∙ c.loop-task.invariant table unicode e off)
+    ∙ c.loop-task.invariant)
 
 pub outcomes_of_loop-loop-task-smaller-in_ok-push-in-Expand-default-eq0-default : goal.outcomes_of_loop-loop-task-smaller-in_ok-push-in-Expand-default-eq0-default
 outcomes_of_loop-loop-task-smaller-in_ok-push-in-Expand-default-eq0-default t c =
     let last = c.in-Expand-default-eq0-default in
-    let context : Context = record { text = c.args.self.now.points.now; table = no_table; unicode = false } in
-    let body = run context no_settings (tree c.args.loopee.now) c.args.enclosed.now.start c.args.enclosed.now.end in
+    let context = context_of c.args.self.now in
+    let body = run context (tree c.args.loopee.now) (direction_of c.args.direction) c.args.enclosed.now.start c.args.enclosed.now.end in
     turns_of_tasks-emit context body c.loop-task.tasks.items c.pop.new.self.items c.in-Some.task c.in-Some.ensures.items
     (ap (turns_of_task context body) last.is ∙ turns-last context body last.state last.left last.need last.left-test)
 
 pub outcomes_of_loop-loop-task-preserved-in_ok-push-in-Expand-default-eq0-default : goal.outcomes_of_loop-loop-task-preserved-in_ok-push-in-Expand-default-eq0-default
-outcomes_of_loop-loop-task-preserved-in_ok-push-in-Expand-default-eq0-default t c = λ table unicode e off.
+outcomes_of_loop-loop-task-preserved-in_ok-push-in-Expand-default-eq0-default t c =
     let last = c.in-Expand-default-eq0-default in
-    let context : Context = record { text = c.args.self.now.points.now; table = table; unicode = unicode } in
-    let body = run context e (tree c.args.loopee.now) c.args.enclosed.now.start c.args.enclosed.now.end in
+    let context = context_of c.args.self.now in
+    let body = run context (tree c.args.loopee.now) (direction_of c.args.direction) c.args.enclosed.now.start c.args.enclosed.now.end in
     rw c.in_ok-push-in-Expand-default-eq0-default.ensures.items
     (outcomes_of_tasks-emit context body c.args.quant.greedy c.loop-task.all.items c.loop-task.tasks.items c.pop.new.self.items c.in-Some.task last.state c.in-Some.ensures.items
     (ap (outcomes_of_task context body c.args.quant.greedy) last.is ∙ outcomes_of_task-last context body c.args.quant.greedy last.state last.left last.need last.left-test)
-    ∙ c.loop-task.invariant table unicode e off)
+    ∙ c.loop-task.invariant)
 
 pub outcomes_of_loop-loop-task-smaller : goal.outcomes_of_loop-loop-task-smaller
-unfolding no_settings
-outcomes_of_loop-loop-task-smaller t c = let context : Context = record { text = c.args.self.now.points.now; table = no_table; unicode = false } in
-    let body = run context no_settings (tree c.args.loopee.now) c.args.enclosed.now.start c.args.enclosed.now.end in
+outcomes_of_loop-loop-task-smaller t c =
+    let context = context_of c.args.self.now in
+    let dir = direction_of c.args.direction in
+    let body = run context (tree c.args.loopee.now) dir c.args.enclosed.now.start c.args.enclosed.now.end in
     turns_of_tasks-expand context body c.args.quant.greedy c.loop-task.tasks.items c.pop.new.self.items c.push_tasks.new.tasks.items
     c.in-Expand.state c.in_ok-next-in-Expand.next.items c.in-Expand.left c.in-Expand.need (omega (arith, c.in-Expand.left-test.1))
     (c.in-Some.ensures.items ∙ ap (λ (task : Task). c.pop.new.self.items ++ task ∷ []) c.in-Expand.is) c.in_ok-push_tasks-in-Expand.ensures
-    (c.in_ok-next-in-Expand.ensures no_table false no_settings refl
-    ∙ ap (leads context no_settings (tree c.args.loopee.now)) (c.in_ok-cleared-in-Expand.ensures context))
+    (c.in_ok-next-in-Expand.ensures ∙ ap (node_outcomes context (tree c.args.loopee.now) dir) (c.in_ok-cleared-in-Expand.ensures context))
 
 pub outcomes_of_loop-loop-task-preserved : goal.outcomes_of_loop-loop-task-preserved
-outcomes_of_loop-loop-task-preserved t c = λ table unicode e off.
-    let context : Context = record { text = c.args.self.now.points.now; table = table; unicode = unicode } in
-    let body = run context e (tree c.args.loopee.now) c.args.enclosed.now.start c.args.enclosed.now.end in
+outcomes_of_loop-loop-task-preserved t c =
+    let context = context_of c.args.self.now in
+    let dir = direction_of c.args.direction in
+    let body = run context (tree c.args.loopee.now) dir c.args.enclosed.now.start c.args.enclosed.now.end in
     ap (λ (ts : List State). map state_of c.loop-task.all.items ++ ts)
     (outcomes_of_tasks-expand context body c.args.quant.greedy c.loop-task.tasks.items c.pop.new.self.items c.push_tasks.new.tasks.items
     c.in-Expand.state c.in_ok-next-in-Expand.next.items c.in-Expand.left c.in-Expand.need (omega (arith, c.in-Expand.left-test.1))
     (c.in-Some.ensures.items ∙ ap (λ (task : Task). c.pop.new.self.items ++ task ∷ []) c.in-Expand.is) c.in_ok-push_tasks-in-Expand.ensures
-    (c.in_ok-next-in-Expand.ensures table unicode e off
-    ∙ ap (leads context e (tree c.args.loopee.now)) (c.in_ok-cleared-in-Expand.ensures context)))
-    ∙ c.loop-task.invariant table unicode e off
+    (c.in_ok-next-in-Expand.ensures ∙ ap (node_outcomes context (tree c.args.loopee.now) dir) (c.in_ok-cleared-in-Expand.ensures context)))
+    ∙ c.loop-task.invariant
 
 pub outcomes_of_loop-returns : goal.outcomes_of_loop-returns
-outcomes_of_loop-returns t c = λ table unicode e off.
-    let context : Context = record { text = c.args.self.now.points.now; table = table; unicode = unicode } in
-    let body = run context e (tree c.args.loopee.now) c.args.enclosed.now.start c.args.enclosed.now.end in
+outcomes_of_loop-returns t c =
+    let context = context_of c.args.self.now in
+    let body = run context (tree c.args.loopee.now) (direction_of c.args.direction) c.args.enclosed.now.start c.args.enclosed.now.end in
     let none : c.loop-task.tasks.items ≡ [] = nil_from_length c.loop-task.tasks.items (omega (arith, c.in_default.ensures.cases, c.loop-task.tasks.ok.0)) in
     sym (append-nil (map state_of c.loop-task.all.items))
     ∙ ap (λ (ts : List Task). map state_of c.loop-task.all.items ++ outcomes_of_tasks context body c.args.quant.greedy ts) (sym none)
-    ∙ c.loop-task.invariant table unicode e off
+    ∙ c.loop-task.invariant
+
+pub outcomes_of_arms-loop-rest-preserved : goal.outcomes_of_arms-loop-rest-preserved
+unfolding node_outcomes
+outcomes_of_arms-loop-rest-preserved t c =
+    let states = c.loop-rest.states.items in
+    let s = state_of c.args.state.now in
+    let leads = λ (n : Node). node_outcomes (context_of c.args.self.now) (tree n) (direction_of c.args.direction) s in
+    let arm = c.in-Alt.arm.value in
+    let others = c.in-Alt.others.value in
+    let pushed : map state_of c.append.new.self.items ≡ map state_of states ++ leads arm =
+    ap (map state_of) c.in_ok-append.ensures.items ∙ map-append state_of states c.in_ok-outcomes.field-0.items ∙ ap (λ (ts : List State). map state_of states ++ ts) (c.in_ok-outcomes.ensures ∙ ap leads c.deref.ensures) in
+    let split : leads c.loop-rest.rest.now ≡ leads arm ++ leads others = rw (c.in-Alt.is, tree-Alt) refl in
+    let sized = sized-Alt c.in-Alt.arm c.in-Alt.others in (
+      omega (arith, sized, ap size-Node c.in-Alt.is, ap size-Node c.deref-rest.ensures, c.loop-rest.invariant.0),
+      rw (pushed, c.deref-rest.ensures) (append_assoc (map state_of states) (leads arm) (leads others))
+          ∙ ap (λ (ts : List State). map state_of states ++ ts) (sym split) ∙ c.loop-rest.invariant.1,
+    )
+
+pub outcomes_of_arms-returns : goal.outcomes_of_arms-returns
+outcomes_of_arms-returns t c =
+    let states = c.loop-rest.states.items in
+    ap (map state_of) c.in_ok-append-2.ensures.items ∙ map-append state_of states c.in_ok-outcomes-2.field-0.items
+    ∙ ap (λ (ts : List State). map state_of states ++ ts) c.in_ok-outcomes-2.ensures ∙ c.loop-rest.invariant.1

@@ -1,11 +1,10 @@
-use Rattle.std.proofs.Common.{◌≡◌, false}
-use Rattle.regress_meaning.specs.Table.{Table}
-use Rattle.regress_meaning.specs.Flags.{Options}
-use Rattle.regress_meaning.specs.Matches.{first_match}
-use Rattle.regress.specs.Trees.{tree}
+use Rattle.std.proofs.Common.{◌≡◌}
+use Rattle.regress_front_tree.specs.Trees.{tree}
+use Rattle.regress.specs.NodeMatches.{node_first_match}
+use Rattle.regress.specs.StateViews.{context_of}
 use Rattle.regress.proofs.engine.evaluator.Evaluator.first_match.Given as goal
 
 -- no match begins at a place before
 abbrev pub invariant-loop-start : goal.invariant-loop-start
-invariant-loop-start l = (table : Table) → (o : Options) → o.icase ≡ false →
-    first_match table o (tree l.syntax) l.self.points.now l.place ≡ first_match table o (tree l.syntax) l.self.points.now l.start
+invariant-loop-start l =
+    node_first_match (context_of l.self) l.group_count (tree l.node) l.place ≡ node_first_match (context_of l.self) l.group_count (tree l.node) l.start

@@ -1,0 +1,76 @@
+use Rattle.std.proofs.Common.{◌+◌, not, map, drop, refl, ap, sym, ◌∙◌, arith}
+use Rattle.std.proofs.lemmas.List.{drop_all}
+use Rattle.regress_front_syntax.specs.Trees.{tree, sequence_of, choice_of}
+use Rattle.regress_front_syntax.proofs.ApartLemmas.{added-names, put-names, terms-first, terms-split, terms-none, terms-more, terms-last, arms-first, arms-split, arms-none, arms-more, arms-last, capture-taken, capture-added}
+use Rattle.regress_front_syntax.proofs.apart.+naming.Goals as goal
+
+pub names_in_arms-loop-arm-init : goal.names_in_arms-loop-arm-init
+names_in_arms-loop-arm-init t c = arms-first (choice_of (map tree c.args.arms.now)) c.new-names.result c.new-names.ensures.empty
+
+pub names_in_arms-returns-in_default-clause-ok : goal.names_in_arms-returns-in_default-clause-ok
+names_in_arms-returns-in_default-clause-ok t c =
+    let arms = c.args.arms.now in
+    let i = c.loop-arm.arm-index in
+    let arm = c.arm-item.result in
+    arms-none (choice_of (map tree arms)) (choice_of (map tree (drop i arms))) (tree arm) (map tree (drop (i + 1) arms)) c.loop-arm.names
+    (arms-split arms i arm c.loop-arm-test.true c.arm-item.is) c.loop-arm.invariant (rw c.in_default.is at c.in_ok-more.ensures.ok)
+
+pub names_in_arms-loop-arm-preserved : goal.names_in_arms-loop-arm-preserved
+names_in_arms-loop-arm-preserved t c =
+    let arms = c.args.arms.now in
+    let i = c.loop-arm.arm-index in
+    let arm = c.arm-item.result in
+    arms-more (choice_of (map tree arms)) (choice_of (map tree (drop i arms))) (tree arm) (map tree (drop (i + 1) arms)) c.loop-arm.names
+    c.in-Some.more c.in_ok-names.field-0-0 c.in_ok-names.field-0-1 (arms-split arms i arm c.loop-arm-test.true c.arm-item.is)
+    c.loop-arm.invariant (rw c.in-Some.is at c.in_ok-more.ensures.ok) c.in_ok-names.ensures.ok
+
+pub names_in_arms-returns-clause-ok : goal.names_in_arms-returns-clause-ok
+names_in_arms-returns-clause-ok t c =
+    arms-last (choice_of (map tree c.args.arms.now)) c.loop-arm.names (rw (drop_all c.loop-arm.arm-index c.args.arms.now (omega arith)) at c.loop-arm.invariant)
+
+pub names_in_capture-returns-then-not-branch-clause-ok : goal.names_in_capture-returns-then-not-branch-clause-ok
+names_in_capture-returns-then-not-branch-clause-ok t c =
+    capture-taken c.args.name.now (tree c.args.contents.now) c.in-Some.names (ap not (sym c.if-is_empty.ensures)) (rw c.in-Some.is at c.in_ok-names.ensures.ok)
+    (added-names c.in-Some.names c.args.name.now c.in_ok-insert.field-0 c.in_ok-insert.ensures.added ∙ ap not c.if-not-branch.true)
+
+pub names_in_capture-returns-clause-ok : goal.names_in_capture-returns-clause-ok
+names_in_capture-returns-clause-ok t c =
+    capture-added c.args.name.now (tree c.args.contents.now) c.in-Some.names c.insert.new.self (ap not (sym c.if-is_empty.ensures))
+    (rw c.in-Some.is at c.in_ok-names.ensures.ok)
+    (added-names c.in-Some.names c.args.name.now c.in_ok-insert.field-0 c.in_ok-insert.ensures.added ∙ ap not c.if-not-branch.false)
+    (put-names c.in-Some.names c.insert.new.self c.args.name c.in_ok-insert.ensures.updates)
+
+pub names_in_terms-loop-term-init : goal.names_in_terms-loop-term-init
+names_in_terms-loop-term-init t c = terms-first (sequence_of (map tree c.args.terms.now)) c.new-names.result c.new-names.ensures.empty
+
+pub names_in_terms-returns-in_default-clause-ok : goal.names_in_terms-returns-in_default-clause-ok
+names_in_terms-returns-in_default-clause-ok t c =
+    let terms = c.args.terms.now in
+    let i = c.loop-term.term-index in
+    let term = c.term-item.result in
+    terms-none (sequence_of (map tree terms)) (sequence_of (map tree (drop i terms))) (tree term) (sequence_of (map tree (drop (i + 1) terms))) c.loop-term.names
+    (terms-split terms i term c.loop-term-test.true c.term-item.is) c.loop-term.invariant (rw c.in_default.is at c.in_ok-more.ensures.ok)
+
+pub names_in_terms-returns-then-not-apart-clause-ok : goal.names_in_terms-returns-then-not-apart-clause-ok
+names_in_terms-returns-then-not-apart-clause-ok t c =
+    let terms = c.args.terms.now in
+    let i = c.loop-term.term-index in
+    let term = c.term-item.result in
+    let more = terms-more (sequence_of (map tree terms)) (sequence_of (map tree (drop i terms))) (tree term) (sequence_of (map tree (drop (i + 1) terms)))
+    c.loop-term.names c.in-Some.more c.in_ok-all.all c.in_ok-all.apart (terms-split terms i term c.loop-term-test.true c.term-item.is)
+    c.loop-term.invariant (rw c.in-Some.is at c.in_ok-more.ensures.ok) c.in_ok-all.ensures.ok in
+    more.1 ∙ rw c.if-not-apart.true refl
+
+pub names_in_terms-loop-term-preserved : goal.names_in_terms-loop-term-preserved
+names_in_terms-loop-term-preserved t c =
+    let terms = c.args.terms.now in
+    let i = c.loop-term.term-index in
+    let term = c.term-item.result in
+    let more = terms-more (sequence_of (map tree terms)) (sequence_of (map tree (drop i terms))) (tree term) (sequence_of (map tree (drop (i + 1) terms)))
+    c.loop-term.names c.in-Some.more c.in_ok-all.all c.in_ok-all.apart (terms-split terms i term c.loop-term-test.true c.term-item.is)
+    c.loop-term.invariant (rw c.in-Some.is at c.in_ok-more.ensures.ok) c.in_ok-all.ensures.ok in
+    (more.0, rw c.if-not-apart.false at more.1)
+
+pub names_in_terms-returns-clause-ok : goal.names_in_terms-returns-clause-ok
+names_in_terms-returns-clause-ok t c =
+    terms-last (sequence_of (map tree c.args.terms.now)) c.loop-term.names (rw (drop_all c.loop-term.term-index c.args.terms.now (omega arith)) at c.loop-term.invariant)

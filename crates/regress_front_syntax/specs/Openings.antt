@@ -1,0 +1,64 @@
+-- What an opening parenthesis begins.
+use Rattle.std.specs.Prelude.{◌≡◌, ℕ, suc, Bool, true, false, not, ◌&&◌, ◌==◌, List, [], ◌∷◌, drop, if◌then◌else◌, Result, Ok, Err}
+use Rattle.regress_meaning.specs.Pattern.{Pattern, grouped, modified, look}
+use Rattle.regress_meaning.specs.Flags.{settings_of}
+use Rattle.regress_meaning.specs.Text.{is_at, span}
+use Rattle.regress_meaning.specs.Grammar.{is_flag}
+use Rattle.regress_meaning.specs.Reading as meaning
+use Rattle.regress_front_sets.specs.declared.error.Error.{Error}
+use Rattle.regress_front_sets.specs.declared.error.Error.TheVariants.{Syntax, OutOfMemory}
+use Rattle.regress_front_syntax.specs.declared.group.Opening.{Opening}
+use Rattle.regress_front_syntax.specs.declared.group.Opening.TheVariants.{Capture, Group, Modified, Lookahead, Lookbehind}
+use Rattle.regress_front_syntax.specs.Trees.{capture_of}
+
+-- a capturing group, whose name is empty where it has none
+abbrev pub group_of : List ℕ → List ℕ → meaning.Opening
+group_of [] t = meaning.group t
+group_of (c ∷ name) t = meaning.named_group (c ∷ name) t
+
+-- what an opening stands for, with the text of its contents
+abbrev pub opening_view : Opening → List ℕ → meaning.Opening
+opening_view (Capture name) t = group_of name.items t
+opening_view Group t = meaning.uncaptured t
+opening_view (Modified on off) t = meaning.modifiers on.now off.now t
+opening_view (Lookahead negated) t = meaning.lookahead negated t
+opening_view (Lookbehind negated) t = meaning.lookbehind negated t
+
+-- the tree of contents behind an opening; k groups were opened before it
+abbrev pub enclosed : Opening → ℕ → Pattern → Pattern
+enclosed (Capture name) k p = capture_of k name.items p
+enclosed Group k p = grouped p
+enclosed (Modified on off) k p = modified (settings_of on.now) (settings_of off.now) p
+enclosed (Lookahead negated) k p = look negated false p
+enclosed (Lookbehind negated) k p = look negated true p
+
+-- it opens a capturing group
+abbrev pub is_capture : Opening → Bool
+is_capture (Capture name) = true
+is_capture _ = false
+
+-- it opens a lookbehind
+abbrev pub is_lookbehind : Opening → Bool
+is_lookbehind (Lookbehind negated) = true
+is_lookbehind _ = false
+
+-- a quantifier may follow: behind a lookahead only without Unicode mode
+abbrev pub may_repeat : Bool → Opening → Bool
+may_repeat unicode (Lookahead negated) = not unicode
+may_repeat unicode _ = true
+
+-- how many groups are opened with it, where k were opened before
+abbrev pub opened_by : Opening → ℕ → ℕ
+opened_by (Capture name) k = suc k
+opened_by _ k = k
+
+-- The opening was read; or none that could be stands there.
+abbrev pub IsOpening : meaning.Opening → Result Opening Error → List ℕ → Type 0
+IsOpening read (Ok o) rest = read ≡ opening_view o rest
+IsOpening read (Err (Syntax message)) rest = read ≡ meaning.no_term
+IsOpening read (Err OutOfMemory) rest = Unit {0}
+IsOpening read (Err _) rest = ⊥
+
+-- a dash and the letters behind it, where a dash stands, and what follows
+abbrev pub switched_off : List ℕ → List ℕ × List ℕ
+switched_off t = if is_at (λ c. c == 0x2D) t then span is_flag (drop 1 t) else ([], t)

@@ -1,0 +1,225 @@
+//! What an opening parenthesis begins.
+ghost use Rattle.std.specs.Prelude.{◌≡◌, ◌≤◌, ◌++◌, length, OnOk};
+ghost use Rattle.std.specs.List.{list_any};
+ghost use Rattle.regress_meaning.specs.Text.{holds};
+ghost use Rattle.regress_meaning.specs.Flags.{settings_of};
+ghost use Rattle.regress_meaning.specs.Grammar.{is_flag, all_differ};
+ghost use Rattle.regress_front_syntax.specs.Trees.{settings};
+ghost use Rattle.regress_meaning.specs.Reading.{modifiers_at, angle_opening, question_opening, parenthesis_opening};
+
+use crate::cursor::{Cursor, is_one_of};
+use crate::mode::Mode;
+use crate::syntax::{Modifiers, Syntax};
+use regress_front_sets::{CodePoint, Error};
+use std::alloc::Global;
+
+/// What an opening parenthesis begins, up to the contents.
+#[derive(Debug, Drop)]
+pub(crate) enum Opening<'p> {
+    /// A capturing group, with its name as code points, empty where it has none.
+    Capture(Vec<CodePoint>),
+    /// `(?:`
+    Group,
+    /// `(?ims-ims:`, with the letters before the dash and behind it.
+    Modified {
+        on: &'p [CodePoint],
+        off: &'p [CodePoint],
+    },
+    /// `(?=` and `(?!`
+    Lookahead {
+        negated: bool,
+    },
+    /// `(?<=` and `(?<!`
+    Lookbehind {
+        negated: bool,
+    },
+}
+
+/// Whether modifiers may switch the letter.
+fn is_flag(letter: CodePoint) -> bool
+    ensures { result ≡ is_flag letter }
+{
+    is_one_of(letter, "ims")
+}
+
+/// Whether no letter stands twice.
+fn all_differ(letters: &[CodePoint]) -> bool
+    ensures { result ≡ all_differ letters.now }
+{
+    let mut rest = letters;
+    while let Some((first, behind)) = rest.split_first() {
+        if behind.contains(first) {
+            return false;
+        }
+        rest = behind;
+    }
+    true
+}
+
+/// Whether a letter stands in both.
+fn share_a_letter(on: &[CodePoint], off: &[CodePoint]) -> bool
+    ensures { result ≡ list_any (λ letter. holds off.now letter) on.now }
+{
+    on.iter().any(|letter| off.contains(letter))
+}
+
+/// Whether no letter stands twice in both together.
+fn differ(on: &[CodePoint], off: &[CodePoint]) -> bool
+    ensures { result ≡ all_differ (on.now ++ off.now) }
+{
+    all_differ(on) && all_differ(off) && !share_a_letter(on, off)
+}
+
+/// What letters switch.
+fn modifiers_of(letters: &[CodePoint]) -> Modifiers
+    ensures { settings result ≡ settings_of letters.now }
+{
+    Modifiers {
+        icase: letters.contains(&CodePoint::from('i')),
+        multiline: letters.contains(&CodePoint::from('m')),
+        dot_all: letters.contains(&CodePoint::from('s')),
+    }
+}
+
+impl Opening<'_> {
+    ghost use Rattle.regress_front_syntax.specs.Trees.{tree};
+    ghost use Rattle.regress_front_syntax.specs.Openings.{is_capture, may_repeat, is_lookbehind, enclosed};
+
+    /// Whether it opens a capturing group.
+    pub(crate) fn is_capture(&self) -> bool
+        ensures { result ≡ is_capture self.now }
+    {
+        matches!(self, Opening::Capture(_))
+    }
+
+    /// Whether a quantifier may follow: behind a lookahead only without Unicode mode ("QuantifiableAssertion").
+    pub(crate) fn may_repeat(&self, unicode: bool) -> bool
+        ensures { result ≡ may_repeat unicode self.now }
+    {
+        match self {
+            Opening::Lookahead { .. } => !unicode,
+            _ => true,
+        }
+    }
+
+    /// Whether it opens a lookbehind.
+    pub(crate) fn is_lookbehind(&self) -> bool
+        ensures { result ≡ is_lookbehind self.now }
+    {
+        matches!(self, Opening::Lookbehind { .. })
+    }
+
+    /// The tree of contents behind the opening; `id` is the number of the group, if it captures.
+    pub(crate) fn enclose(self, id: u16, contents: Box<Syntax>) -> Syntax
+        ensures { tree result ≡ enclosed self.entry id (tree contents.value) }
+    {
+        match self {
+            Opening::Capture(name) => Syntax::Capture { id, name, contents },
+            Opening::Group => Syntax::Group(contents),
+            Opening::Modified { on, off } => Syntax::Modified {
+                on: modifiers_of(on),
+                off: modifiers_of(off),
+                contents,
+            },
+            Opening::Lookahead { negated } => Syntax::Look {
+                negated,
+                backward: false,
+                contents,
+            },
+            Opening::Lookbehind { negated } => Syntax::Look {
+                negated,
+                backward: true,
+                contents,
+            },
+        }
+    }
+}
+
+impl<'p> Cursor<'p> {
+    ghost use Rattle.regress_front_syntax.specs.Cursors.{unread, SameText};
+    ghost use Rattle.regress_front_syntax.specs.Escapes.{mode_view};
+    ghost use Rattle.regress_front_syntax.specs.Openings.{switched_off, IsOpening};
+
+    /// Behind `(`: what it opens ("Atom", "Assertion"). A syntax error where that is nothing.
+    pub(crate) fn opening(&mut self, alloc: Global, mode: &Mode) -> Result<Opening<'p>, Error>
+        ensures read { IsOpening (parenthesis_opening (mode_view mode.now) (unread self.old)) result (unread self.new) }
+        ensures kept { SameText self.old self.new }
+        ensures progress { OnOk result (length (unread self.new) ≤ length (unread self.old)) }
+    {
+        if self.eat('?') {
+            return self.question_opening(alloc, mode);
+        }
+        Ok(Opening::Capture(Vec::new(alloc)))
+    }
+
+    /// Behind `(?`: what it opens.
+    fn question_opening(&mut self, alloc: Global, mode: &Mode) -> Result<Opening<'p>, Error>
+        ensures read { IsOpening (question_opening (mode_view mode.now) (unread self.old)) result (unread self.new) }
+        ensures kept { SameText self.old self.new }
+        ensures progress { OnOk result (length (unread self.new) ≤ length (unread self.old)) }
+    {
+        if self.is_at_any("=!") {
+            let negated = self.is_at('!');
+            self.bump();
+            return Ok(Opening::Lookahead { negated });
+        }
+        if self.eat(':') {
+            return Ok(Opening::Group);
+        }
+        if self.eat('<') {
+            return self.angle_opening(alloc, mode);
+        }
+        self.modifiers()
+    }
+
+    /// Behind `(?<`: a lookbehind, or a group with a name ("GroupSpecifier").
+    fn angle_opening(&mut self, alloc: Global, mode: &Mode) -> Result<Opening<'p>, Error>
+        ensures read { IsOpening (angle_opening (mode_view mode.now) (unread self.old)) result (unread self.new) }
+        ensures kept { SameText self.old self.new }
+        ensures progress { OnOk result (length (unread self.new) ≤ length (unread self.old)) }
+    {
+        regress_meaning::reading_leaves_less();
+        if self.is_at_any("=!") {
+            let negated = self.is_at('!');
+            self.bump();
+            return Ok(Opening::Lookbehind { negated });
+        }
+        let name = self.name(alloc, mode.tables)?;
+        Ok(Opening::Capture(name))
+    }
+
+    /// Behind `(?`: letters that are switched on, perhaps a dash and letters that are switched off, and `:`. Each letter is one
+    /// of `i`, `m` and `s`, and stands once; there is at least one ("RegularExpressionModifiers").
+    fn modifiers(&mut self) -> Result<Opening<'p>, Error>
+        ensures read { IsOpening (modifiers_at (unread self.old)) result (unread self.new) }
+        ensures kept { SameText self.old self.new }
+        ensures progress { OnOk result (length (unread self.new) ≤ length (unread self.old)) }
+    {
+        if !self.is_at_any("ims-") {
+            return Err(Error::Syntax {
+                text: "Invalid group",
+            });
+        }
+        let on = self.take_while(is_flag);
+        let off = self.switched_off();
+        let is_empty = on.is_empty() && off.is_empty();
+        if is_empty || !differ(on, off) || !self.eat(':') {
+            return Err(Error::Syntax {
+                text: "Invalid modifiers",
+            });
+        }
+        Ok(Opening::Modified { on, off })
+    }
+
+    /// A dash and the letters behind it, if a dash stands here.
+    fn switched_off(&mut self) -> &'p [CodePoint]
+        ensures read { switched_off (unread self.old) ≡ (result.now, unread self.new) }
+        ensures kept { SameText self.old self.new }
+    {
+        if self.eat('-') {
+            self.take_while(is_flag)
+        } else {
+            self.take_up_to(0, is_flag)
+        }
+    }
+}

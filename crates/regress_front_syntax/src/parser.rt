@@ -1,0 +1,614 @@
+//! The parser: a function for each construct of a pattern, which is read from the left with no way back.
+ghost use Rattle.std.specs.Prelude.{◌≡◌, ◌==◌, ◌+◌, ◌<◌, ◌≤◌, ℕ, suc, length, true, false, OnOk, IfOk, IfErr};
+ghost use Rattle.regress_meaning.specs.Text.{is_at};
+ghost use Rattle.regress_front_syntax.specs.Escapes.{escape_view, mode_view, HasFewGroups};
+ghost use Rattle.regress_front_syntax.specs.Trees.{tree};
+ghost use Rattle.regress_meaning.specs.Grammar.{Spells, ends_alternative, mode_of, tree_of};
+ghost use Rattle.regress_meaning.specs.Limits.{WithinLimits};
+ghost use Rattle.regress_meaning.specs.Scan.{scanned_names};
+ghost use Rattle.regress_front_sets.specs.FlagWords.{options};
+ghost use Rattle.regress_front_sets.specs.TableViews.{table};
+ghost use Rattle.regress_front_syntax.specs.Refusals.{MayRefuse};
+ghost use Rattle.regress_meaning.specs.Reading.{disjunction_at, alternative_at, term_at};
+ghost use Rattle.regress_meaning.specs.Reading.{escape_opening, class_opening, parenthesis_opening};
+
+use crate::apart::names_are_apart;
+use crate::cursor::Cursor;
+use crate::escape::Escape;
+use crate::group::Opening;
+use crate::mode::Mode;
+use crate::scan::mode;
+use crate::syntax::{Quantifier, Syntax};
+use regress_front_sets::{
+    CodePoint, Error, Flags, MAX_CAPTURE_GROUPS, MAX_LOOPS, MAX_NESTING_DEPTH, Tables,
+};
+use std::alloc::Global;
+
+/// Why a quantifier is refused.
+const INVALID_QUANTIFIER: &str = "Invalid quantifier";
+
+/// Why a quantifier of one character is refused that has nothing before it.
+const NOTHING_TO_REPEAT: &str = "Nothing to repeat";
+
+/// Why a parenthesis without its partner is refused.
+const UNBALANCED_PARENTHESIS: &str = "Unbalanced parenthesis";
+
+/// Why a character is refused that may not stand where it does.
+const UNEXPECTED_CHARACTER: &str = "Unexpected character";
+
+/// The tree of an escape outside a class.
+fn tree_of(escape: Escape) -> Syntax
+    ensures { tree result ≡ tree_of (escape_view escape) }
+{
+    match escape {
+        Escape::Point(point) => Syntax::Character(point),
+        Escape::Set(class) => Syntax::ClassEscape(class),
+        Escape::Groups(groups) => Syntax::Reference(groups),
+    }
+}
+
+impl Cursor<'_> {
+    ghost use Rattle.regress_front_syntax.specs.Cursors.{unread};
+    ghost use Rattle.regress_front_syntax.specs.Words.{stands_for_itself};
+
+    /// Whether a code point stands here that is a character by itself ("PatternCharacter", "ExtendedPatternCharacter").
+    fn is_at_pattern_character(&self, unicode: bool) -> bool
+        ensures { result ≡ stands_for_itself unicode (unread self.now) }
+    {
+        if self.peek().is_none() {
+            return false;
+        }
+        if unicode {
+            return !self.is_at_any("^$\\.*+?()[]{}|");
+        }
+        if self.is_at('{') {
+            let mut ahead = *self;
+            return ahead.quantifier().is_none();
+        }
+        !self.is_at_any("^$\\.*+?()[|")
+    }
+
+    /// Why no term begins here.
+    fn misplaced(&self) -> &'static str {
+        let mut ahead = *self;
+        if self.is_at_any("*+?") {
+            NOTHING_TO_REPEAT
+        } else if ahead.quantifier().is_some() {
+            INVALID_QUANTIFIER
+        } else {
+            UNEXPECTED_CHARACTER
+        }
+    }
+}
+
+/// The mode of a pattern's text with flags, with few enough groups. `TooManyGroups` where there are too many, and `OutOfMemory`
+/// at any time.
+fn limited_mode<'t>(
+    alloc: Global,
+    points: &[CodePoint],
+    flags: Flags,
+    tables: &'t Tables,
+) -> Result<Mode<'t>, Error>
+    ensures mode { IfOk result (λ mode. mode_view mode
+        ≡ mode_of (table tables.now) (options flags) points.now (scanned_names (table tables.now) (options flags) points.now)) }
+    ensures few { IfOk result HasFewGroups }
+    ensures refused { IfErr result (λ e. MayRefuse (table tables.now) (options flags) points.now e) }
+{
+    regress_meaning::names_are_found_by_a_scan();
+    let mode = mode(alloc, points, flags, tables)?;
+    if mode.names.len() > MAX_CAPTURE_GROUPS {
+        return Err(Error::TooManyGroups);
+    }
+    Ok(mode)
+}
+
+/// Reads a pattern with flags ("ParsePattern"): its tree. `Syntax` where the text is no pattern; `TooDeep`, `TooManyGroups` and
+/// `TooManyLoops` where it passes that limit; `OutOfMemory` at any time.
+pub fn parse(
+    alloc: Global,
+    points: &[CodePoint],
+    flags: Flags,
+    tables: &Tables,
+) -> Result<Syntax, Error>
+    ensures accepted { IfOk result (λ s. Spells (table tables.now) (options flags) points.now (tree s) × WithinLimits (tree s)) }
+    ensures refused { IfErr result (λ e. MayRefuse (table tables.now) (options flags) points.now e) }
+{
+    regress_meaning::reading_decides_the_grammar();
+    let mode = limited_mode(alloc, points, flags, tables)?;
+    Parser::new(alloc, points).pattern(&mode)
+}
+
+/// How far a pattern is read, and how many groups were opened and quantifiers read so far.
+#[derive(Drop)]
+pub(crate) struct Parser<'p> {
+    alloc: Global,
+    cursor: Cursor<'p>,
+    groups: u16,
+    loops: u16,
+    ghost few: { groups ≤ 65535 },
+    ghost few_loops: { loops ≤ 65535 },
+}
+
+impl<'p> Parser<'p> {
+    ghost use Rattle.regress_front_syntax.specs.Cursors.{unread};
+    ghost use Rattle.regress_front_syntax.specs.Openings.{opened_by};
+    ghost use Rattle.regress_front_syntax.specs.Parsing.{place, Answers, AnswersBehind, term_by};
+    ghost use Rattle.regress_front_syntax.specs.Parsing.{IsCoherent, IsQuantifier, IsRepetition, IsWholeAnswer};
+    ghost use Rattle.regress_front_syntax.specs.Parsing.{character_opening, contents_at, whole_at};
+
+    /// A parser at the beginning of a text.
+    fn new(alloc: Global, points: &'p [CodePoint]) -> Self
+        ensures text { unread result.cursor ≡ points.now }
+        ensures beginning { (result.groups ≡ 0) × (result.loops ≡ 0) }
+    {
+        Parser {
+            alloc,
+            cursor: Cursor::new(points),
+            groups: 0,
+            loops: 0,
+        }
+    }
+
+    /// The whole pattern: a disjunction up to the end of the text, whose names stand apart ("Pattern").
+    fn pattern(mut self, mode: &Mode) -> Result<Syntax, Error>
+        requires beginning { (self.groups ≡ 0) × (self.loops ≡ 0) }
+        requires coherent { IsCoherent (mode_view mode.now) }
+        requires few { HasFewGroups mode.now }
+        ensures { IsWholeAnswer (whole_at (mode_view mode.now) (unread self.entry.cursor)) (unread self.entry.cursor) result }
+    {
+        regress_meaning::reading_goes_by_steps();
+        let syntax = self.disjunction(mode, 0)?;
+        if self.cursor.peek().is_some() {
+            return Err(Error::Syntax {
+                text: UNBALANCED_PARENTHESIS,
+            });
+        }
+        if !names_are_apart(self.alloc, &syntax)? {
+            return Err(Error::Syntax {
+                text: "Duplicate capture group name",
+            });
+        }
+        Ok(syntax)
+    }
+
+    /// Alternatives between `|`, inside so many parentheses ("Disjunction").
+    #[cycle(parser)]
+    fn disjunction(&mut self, mode: &Mode, nesting: u32) -> Result<Syntax, Error>
+        requires shallow { nesting ≤ 256 }
+        requires coherent { IsCoherent (mode_view mode.now) }
+        requires few { HasFewGroups mode.now }
+        ensures answer { Answers (disjunction_at (mode_view mode.now)) nesting self.old self.new result }
+        ensures progress { OnOk result (length (unread self.new.cursor) ≤ length (unread self.old.cursor)) }
+    {
+        regress_meaning::reading_goes_by_steps();
+        let mut arms = Vec::new(self.alloc);
+        loop {
+            let arm = self.alternative(mode, nesting)?;
+            arms.push(arm)?;
+            if !self.cursor.eat('|') {
+                break;
+            }
+        }
+        Ok(Syntax::Disjunction(arms))
+    }
+
+    /// Whether an alternative ends here: the text does, or one of `|` and `)` stands here.
+    fn ends_alternative(&self) -> bool
+        ensures { result ≡ ends_alternative (unread self.now.cursor) }
+    {
+        self.cursor.peek().is_none() || self.cursor.is_at_any("|)")
+    }
+
+    /// Terms one after another ("Alternative").
+    #[cycle(parser)]
+    fn alternative(&mut self, mode: &Mode, nesting: u32) -> Result<Syntax, Error>
+        requires shallow { nesting ≤ 256 }
+        requires coherent { IsCoherent (mode_view mode.now) }
+        requires few { HasFewGroups mode.now }
+        ensures answer { Answers (alternative_at (mode_view mode.now)) nesting self.old self.new result }
+        ensures progress { OnOk result (length (unread self.new.cursor) ≤ length (unread self.old.cursor)) }
+    {
+        regress_meaning::reading_goes_by_steps();
+        let mut terms = Vec::new(self.alloc);
+        while !self.ends_alternative() {
+            let term = self.term(mode, nesting)?;
+            terms.push(term)?;
+        }
+        Ok(Syntax::Alternative(terms))
+    }
+
+    /// An assertion, or an atom and the quantifier behind it if there is one ("Term").
+    #[cycle(parser)]
+    fn term(&mut self, mode: &Mode, nesting: u32) -> Result<Syntax, Error>
+        requires shallow { nesting ≤ 256 }
+        requires coherent { IsCoherent (mode_view mode.now) }
+        requires few { HasFewGroups mode.now }
+        ensures answer { Answers (term_at (mode_view mode.now)) nesting self.old self.new result }
+        ensures progress { OnOk result (length (unread self.new.cursor) < length (unread self.old.cursor)) }
+    {
+        if self.cursor.eat('(') {
+            return self.group(mode, nesting);
+        }
+        self.simple_term(mode, nesting)
+    }
+
+    /// A term that is no group: an assertion of one character, or an atom and the quantifier behind it if there is one.
+    fn simple_term(&mut self, mode: &Mode, nesting: u32) -> Result<Syntax, Error>
+        requires shallow { nesting ≤ 256 }
+        requires few { HasFewGroups mode.now }
+        requires no_group { is_at (λ c. c == 0x28) (unread self.old.cursor) ≡ false }
+        ensures answer { Answers (term_at (mode_view mode.now)) nesting self.old self.new result }
+        ensures progress { OnOk result (length (unread self.new.cursor) < length (unread self.old.cursor)) }
+    {
+        if self.cursor.eat('^') {
+            return Ok(Syntax::LineStart);
+        }
+        if self.cursor.eat('$') {
+            return Ok(Syntax::LineEnd);
+        }
+        if self.cursor.eat('\\') {
+            return self.escape(mode);
+        }
+        if self.cursor.eat('.') {
+            return self.repeated(Syntax::Any, self.groups, true);
+        }
+        if self.cursor.eat('[') {
+            return self.class(mode, nesting);
+        }
+        self.character(mode)
+    }
+
+    /// Behind a backslash: `\b` or `\B`, or an escape and the quantifier behind it if there is one ("Assertion", "AtomEscape").
+    fn escape(&mut self, mode: &Mode) -> Result<Syntax, Error>
+        requires { HasFewGroups mode.now }
+        ensures answer { (nesting : ℕ) → nesting ≤ 256
+            → Answers (term_by escape_opening (mode_view mode.now)) nesting self.old self.new result }
+        ensures progress { OnOk result (length (unread self.new.cursor) ≤ length (unread self.old.cursor)) }
+    {
+        regress_meaning::reading_leaves_less();
+        if self.cursor.is_at_any("bB") {
+            let negated = self.cursor.is_at('B');
+            self.cursor.bump();
+            return Ok(Syntax::WordBoundary { negated });
+        }
+        let escape = self.cursor.escape(self.alloc, mode)?;
+        self.repeated(tree_of(escape), self.groups, true)
+    }
+
+    /// Behind `[`: a class, and the quantifier behind it if there is one ("CharacterClass").
+    fn class(&mut self, mode: &Mode, nesting: u32) -> Result<Syntax, Error>
+        requires shallow { nesting ≤ 256 }
+        requires few { HasFewGroups mode.now }
+        ensures answer { AnswersBehind 0x5B (term_by class_opening (mode_view mode.now)) nesting self.old self.new result }
+        ensures progress { OnOk result (length (unread self.new.cursor) ≤ length (unread self.old.cursor)) }
+    {
+        regress_meaning::reading_leaves_less();
+        let (negated, class) = self.cursor.bracketed(self.alloc, mode, nesting)?;
+        self.repeated(Syntax::Class { negated, class }, self.groups, true)
+    }
+
+    /// A code point that stands for itself, and the quantifier behind it if there is one ("PatternCharacter",
+    /// "ExtendedPatternCharacter").
+    fn character(&mut self, mode: &Mode) -> Result<Syntax, Error>
+        ensures answer { (nesting : ℕ) → nesting ≤ 256
+            → Answers (term_by character_opening (mode_view mode.now)) nesting self.old self.new result }
+        ensures progress { OnOk result (length (unread self.new.cursor) < length (unread self.old.cursor)) }
+    {
+        if !self.cursor.is_at_pattern_character(mode.unicode) {
+            return Err(Error::Syntax {
+                text: self.cursor.misplaced(),
+            });
+        }
+        let Some(point) = self.cursor.next() else {
+            return Err(Error::Syntax {
+                text: UNEXPECTED_CHARACTER,
+            });
+        };
+        self.repeated(Syntax::Character(point), self.groups, true)
+    }
+
+    /// Behind `(`: a group or a lookaround, and the quantifier behind it if there is one ("Atom", "Assertion").
+    #[cycle(parser)]
+    fn group(&mut self, mode: &Mode, nesting: u32) -> Result<Syntax, Error>
+        requires shallow { nesting ≤ 256 }
+        requires coherent { IsCoherent (mode_view mode.now) }
+        requires few { HasFewGroups mode.now }
+        ensures answer { AnswersBehind 0x28 (term_by parenthesis_opening (mode_view mode.now)) nesting self.old self.new result }
+        ensures progress { OnOk result (length (unread self.new.cursor) ≤ length (unread self.old.cursor)) }
+    {
+        regress_meaning::reading_goes_by_steps();
+        let opened = self.groups;
+        let opening = self.cursor.opening(self.alloc, mode)?;
+        self.open(&opening)?;
+        let contents = self.contents(mode, nesting)?;
+        let is_lookbehind = opening.is_lookbehind();
+        let may_repeat = opening.may_repeat(mode.unicode);
+        let group = opening.enclose(opened, Box::new(self.alloc, contents)?);
+        if is_lookbehind {
+            return Ok(group);
+        }
+        self.repeated(group, opened, may_repeat)
+    }
+
+    /// Counts the group that is opened, if it captures.
+    fn open(&mut self, opening: &Opening) -> Result<(), Error>
+        ensures opened { OnOk result (self.new.groups ≡ opened_by opening.now self.old.groups) }
+        ensures full { IfErr result (λ e. (e ≡ Error.TooManyGroups)
+            × (opened_by opening.now self.old.groups ≡ suc self.old.groups) × (self.old.groups ≡ 65535)) }
+        ensures kept { (unread self.new.cursor ≡ unread self.old.cursor) × (self.new.loops ≡ self.old.loops) }
+    {
+        if opening.is_capture() {
+            if usize::from(self.groups) == MAX_CAPTURE_GROUPS {
+                return Err(Error::TooManyGroups);
+            }
+            self.groups += 1;
+        }
+        Ok(())
+    }
+
+    /// The contents of parentheses and the closing one, inside so many others.
+    #[cycle(parser)]
+    fn contents(&mut self, mode: &Mode, nesting: u32) -> Result<Syntax, Error>
+        requires shallow { nesting ≤ 256 }
+        requires coherent { IsCoherent (mode_view mode.now) }
+        requires few { HasFewGroups mode.now }
+        ensures answer { Answers (contents_at (mode_view mode.now)) (nesting + 1) self.old self.new result }
+        ensures progress { OnOk result (length (unread self.new.cursor) ≤ length (unread self.old.cursor)) }
+    {
+        if nesting == MAX_NESTING_DEPTH {
+            return Err(Error::TooDeep);
+        }
+        let contents = self.disjunction(mode, nesting + 1)?;
+        if !self.cursor.eat(')') {
+            return Err(Error::Syntax {
+                text: UNBALANCED_PARENTHESIS,
+            });
+        }
+        Ok(contents)
+    }
+
+    /// With the quantifier that stands here, if one does: what was read is matched so often one after another ("Quantifier"). So
+    /// many groups were opened before it. A syntax error where it may have none, and where the bounds are out of order.
+    fn repeated(&mut self, atom: Syntax, opened: u16, allowed: bool) -> Result<Syntax, Error>
+        ensures answer { (nesting : ℕ) → IsRepetition allowed opened (tree atom) (place nesting self.old) (place nesting self.new) result }
+        ensures progress { OnOk result (length (unread self.new.cursor) ≤ length (unread self.old.cursor)) }
+    {
+        let Some(quant) = self.quantifier(allowed)? else {
+            return Ok(atom);
+        };
+        Ok(Syntax::Loop {
+            loopee: Box::new(self.alloc, atom)?,
+            quant,
+            enclosed_groups: opened..self.groups,
+        })
+    }
+
+    /// The quantifier that stands here, if one does ("Quantifier"). A syntax error where none may stand, and where the bounds are
+    /// out of order.
+    fn quantifier(&mut self, allowed: bool) -> Result<Option<Quantifier>, Error>
+        ensures answer { (nesting : ℕ) → IsQuantifier allowed (place nesting self.old) (place nesting self.new) result }
+        ensures progress { OnOk result (length (unread self.new.cursor) ≤ length (unread self.old.cursor)) }
+    {
+        regress_meaning::reading_leaves_less();
+        let Some(quant) = self.cursor.quantifier() else {
+            return Ok(None);
+        };
+        if !allowed {
+            return Err(Error::Syntax {
+                text: NOTHING_TO_REPEAT,
+            });
+        }
+        if quant.min > quant.max.unwrap_or(usize::MAX) {
+            return Err(Error::Syntax {
+                text: INVALID_QUANTIFIER,
+            });
+        }
+        if usize::from(self.loops) == MAX_LOOPS {
+            return Err(Error::TooManyLoops);
+        }
+        self.loops += 1;
+        Ok(Some(quant))
+    }
+}
+
+#[cfg(test)]
+mod tests {
+    use super::*;
+    use std::test::Fail;
+
+    /// A piece of text so many times.
+    fn points(alloc: Global, piece: &str, count: u32) -> Result<Vec<CodePoint>, Error> {
+        let mut points = Vec::new(alloc);
+        for _ in 0..count {
+            for c in piece.chars() {
+                points.push(CodePoint::from(c))?;
+            }
+        }
+        Ok(points)
+    }
+
+    fn parsed(alloc: Global, flags: &str, points: &[CodePoint]) -> Result<Syntax, Error> {
+        let tables = Tables::small(alloc).map_err(|_| Error::OutOfMemory)?;
+        parse(alloc, points, Flags::from(flags), &tables)
+    }
+
+    /// The tree of a pattern, written out.
+    fn written(alloc: Global, flags: &str, pattern: &str) -> Result<String, Error> {
+        let points = points(alloc, pattern, 1)?;
+        let syntax = parsed(alloc, flags, &points)?;
+        Ok(format!(in alloc; "{syntax:?}")?)
+    }
+
+    /// What is told of a pattern that is refused.
+    fn refusal(alloc: Global, flags: &str, points: &[CodePoint]) -> Option<Error> {
+        parsed(alloc, flags, points).err()
+    }
+
+    /// So many groups, each in the one before.
+    fn nested(alloc: Global, count: u32) -> Result<Vec<CodePoint>, Error> {
+        let mut nested = points(alloc, "(", count)?;
+        let closing = points(alloc, ")", count)?;
+        nested.extend_from_slice(&closing)?;
+        Ok(nested)
+    }
+
+    #[test]
+    fn alternatives_are_read(rt: HostRuntime) -> Result<(), Fail> {
+        let text = written(rt.alloc(), "", "ab|")?;
+        assert_eq!(rt;
+            text.as_str(),
+            "Disjunction([Alternative([Character(97), Character(98)]), Alternative([])])"
+        );
+        Ok(())
+    }
+
+    #[test]
+    fn terms_are_read(rt: HostRuntime) -> Result<(), Fail> {
+        for (pattern, terms) in [
+            (
+                r"^$\b\B",
+                "LineStart, LineEnd, WordBoundary { negated: false }, WordBoundary { negated: true }",
+            ),
+            (r".\d\n", "Any, ClassEscape(Digits), Character(10)"),
+            (
+                "[^a]",
+                "Class { negated: true, class: Union([Range { first: 97, last: 97 }]) }",
+            ),
+            (
+                "]}a{",
+                "Character(93), Character(125), Character(97), Character(123)",
+            ),
+            (
+                "a*b{2,3}?",
+                "Loop { loopee: Character(97), quant: Quantifier { min: 0, max: None, greedy: true }, enclosed_groups: 0..0 }, Loop { loopee: Character(98), quant: Quantifier { min: 2, max: Some(3), greedy: false }, enclosed_groups: 0..0 }",
+            ),
+        ] {
+            let text = written(rt.alloc(), "", pattern)?;
+            let expected = format!(in rt.alloc(); "Disjunction([Alternative([{terms}])])")?;
+            assert_eq!(rt; text.as_str(), expected.as_str(), "at {pattern}");
+        }
+        Ok(())
+    }
+
+    #[test]
+    fn groups_are_read(rt: HostRuntime) -> Result<(), Fail> {
+        for (pattern, group) in [
+            ("(a)", "Capture { id: 0, name: [], contents: A }"),
+            ("(?<b>a)", "Capture { id: 0, name: [98], contents: A }"),
+            ("(?:a)", "Group(A)"),
+            (
+                "(?i-ms:a)",
+                "Modified { on: Modifiers { icase: true, multiline: false, dot_all: false }, off: Modifiers { icase: false, multiline: true, dot_all: true }, contents: A }",
+            ),
+            (
+                "(?=a)",
+                "Look { negated: false, backward: false, contents: A }",
+            ),
+            (
+                "(?!a)",
+                "Look { negated: true, backward: false, contents: A }",
+            ),
+            (
+                "(?<=a)",
+                "Look { negated: false, backward: true, contents: A }",
+            ),
+            (
+                "(?<!a)",
+                "Look { negated: true, backward: true, contents: A }",
+            ),
+        ] {
+            let text = written(rt.alloc(), "u", pattern)?;
+            let group = group.replace(
+                rt.alloc(),
+                "A",
+                "Disjunction([Alternative([Character(97)])])",
+            )?;
+            let expected = format!(in rt.alloc(); "Disjunction([Alternative([{group}])])")?;
+            assert_eq!(rt; text.as_str(), expected.as_str(), "at {pattern}");
+        }
+        Ok(())
+    }
+
+    #[test]
+    fn groups_are_numbered(rt: HostRuntime) -> Result<(), Fail> {
+        let text = written(rt.alloc(), "", r"(\2(){1})")?;
+        assert_eq!(rt;
+            text.as_str(),
+            "Disjunction([Alternative([Capture { id: 0, name: [], contents: Disjunction([Alternative([Reference([1]), Loop { loopee: Capture { id: 1, name: [], contents: Disjunction([Alternative([])]) }, quant: Quantifier { min: 1, max: Some(1), greedy: true }, enclosed_groups: 1..2 }])]) }])])"
+        );
+        Ok(())
+    }
+
+    #[test]
+    fn some_odd_patterns_are_accepted(rt: HostRuntime) -> Result<(), Fail> {
+        for pattern in [
+            "",
+            "a{99999999999999999999,88888888888888888888}",
+            "(?i-:a)",
+            "(?=a)*",
+            "(?<a>x)|(?<a>y)",
+            "{a}",
+        ] {
+            let points = points(rt.alloc(), pattern, 1)?;
+            assert!(rt; parsed(rt.alloc(), "", &points).is_ok(), "at {pattern}");
+        }
+        Ok(())
+    }
+
+    #[test]
+    fn refusals_have_their_text(rt: HostRuntime) -> Result<(), Fail> {
+        for (flags, pattern, text) in [
+            ("", "a**", "Nothing to repeat"),
+            ("", "[a", "Unbalanced bracket"),
+            ("", "(?<=a)*", "Nothing to repeat"),
+            ("u", "(?=a)*", "Nothing to repeat"),
+            ("", "{1}", "Invalid quantifier"),
+            ("", "x{5,3}", "Invalid quantifier"),
+            ("", "(a", "Unbalanced parenthesis"),
+            ("", "a)", "Unbalanced parenthesis"),
+            ("", "(?<a>x)(?<a>y)", "Duplicate capture group name"),
+            ("", "(?<1>a)", "Invalid group name"),
+            ("", "(?ii:a)", "Invalid modifiers"),
+            ("", "(?i-i:a)", "Invalid modifiers"),
+            ("", "(?-:a)", "Invalid modifiers"),
+            ("", "(?i", "Invalid modifiers"),
+            ("", "(?x:a)", "Invalid group"),
+            ("", "\\", "Invalid escape"),
+            ("u", r"\1", "Invalid backreference"),
+            ("u", "]", "Unexpected character"),
+            ("u", "a{", "Unexpected character"),
+        ] {
+            let points = points(rt.alloc(), pattern, 1)?;
+            let refused = refusal(rt.alloc(), flags, &points);
+            assert_eq!(rt; refused, Some(Error::Syntax { text }), "at {pattern}");
+        }
+        Ok(())
+    }
+
+    #[test]
+    fn groups_are_at_most_65535(rt: HostRuntime) -> Result<(), Fail> {
+        let most = points(rt.alloc(), "()", 65535)?;
+        assert!(rt; parsed(rt.alloc(), "", &most).is_ok());
+        let more = points(rt.alloc(), "()", 65536)?;
+        assert_eq!(rt; refusal(rt.alloc(), "", &more), Some(Error::TooManyGroups));
+        Ok(())
+    }
+
+    #[test]
+    fn quantifiers_are_at_most_65535(rt: HostRuntime) -> Result<(), Fail> {
+        let most = points(rt.alloc(), "a*", 65535)?;
+        assert!(rt; parsed(rt.alloc(), "", &most).is_ok());
+        let more = points(rt.alloc(), "a*", 65536)?;
+        assert_eq!(rt; refusal(rt.alloc(), "", &more), Some(Error::TooManyLoops));
+        Ok(())
+    }
+
+    #[test]
+    fn parentheses_are_at_most_256(rt: HostRuntime) -> Result<(), Fail> {
+        let deepest = nested(rt.alloc(), 256)?;
+        assert!(rt; parsed(rt.alloc(), "", &deepest).is_ok());
+        let deeper = nested(rt.alloc(), 257)?;
+        assert_eq!(rt; refusal(rt.alloc(), "", &deeper), Some(Error::TooDeep));
+        Ok(())
+    }
+}

@@ -1,0 +1,151 @@
+-- A lowered tree is alike its pattern: the parts that take a character, parts one after another, and alternatives.
+use Rattle.std.proofs.Common.{◌≡◌, ℕ, zero, suc, ◌+◌, ◌-◌, ◌≤◌, Bool, true, false, ◌&&◌, ◌||◌, ◌==◌, not, List, [], ◌∷◌, ◌++◌, length, Option, Some, None, if◌then◌else◌, map, reverse, take, drop, nat_eq, nat_le, nat_lt, slice_get, slice_range, All, refl, sym, ap, ◌∙◌, arith}
+use Rattle.std.specs.List.{flat_map, list_any, list_all}
+use Rattle.std.proofs.lemmas.List.{append_assoc, append-nil, reverse-append}
+use Rattle.std.proofs.lemmas.List.Elements.{All-nil, All-cons, All-head, All-tail, All-take, All-drop}
+use Rattle.std.proofs.lemmas.Grind.{flat_map-append}
+use Rattle.regress_meaning.specs.TableParts.{is_code_point}
+use Rattle.regress_meaning.specs.Pattern as meaning
+use Rattle.regress_meaning.specs.Pattern.{Pattern, Settings}
+use Rattle.regress_meaning.specs.Meaning.{State, Direction, Forward, Backward, Outcomes, Context, beside, stepped, step, is_line_end, class_steps, iterations, looked, captured, cleared, repeat_group, references, keep_if, outcomes}
+use Rattle.regress_front_syntax.specs.Trees.{sequence_of, choice_of}
+use Rattle.regress_front_tree.specs.Trees.{Tree, empty, goal, char, bytes, byte_set, char_set, cat, no_part, alt, any, any_in_line, line_start, line_end, boundary, capture, back, bracket, string_set, look, loop, single_loop, cat_of}
+use Rattle.regress_front_tree.specs.TreeMeaning.{ignoring, one, node_outcomes}
+use Rattle.regress_meaning.specs.Laws.{IsInside}
+use Rattle.regress_front_tree.specs.Alike.{AreAlike, GoAlike, StayInside}
+use Rattle.regress_front_tree.specs.Lowering.{direction, is_character, taken, Takes, cat_made, in_reading_order, HasArms, one_arm, two_halves}
+use Rattle.regress_front_tree.proofs.DistinctLemmas.{joined-alike, followed-alike, each-alike}
+
+-- two tests that agree on code points agree on lists of them
+pub list_all-agree : (p q : ℕ → Bool) → ((c : ℕ) → is_code_point c → p c ≡ q c) → (cs : List ℕ) → All is_code_point cs → list_all p cs ≡ list_all q cs
+list_all-agree p q same [] h = refl
+list_all-agree p q same (c ∷ cs) h = rw (same c (All-head is_code_point c cs h), list_all-agree p q same cs (All-tail is_code_point c cs h)) refl
+
+-- all ways from what all ways lead to
+pub flat_map-again : {X Y Z : Type 0} (f : Y → List Z) (g : X → List Y) (xs : List X) → flat_map f (flat_map g xs) ≡ flat_map (λ x. flat_map f (g x)) xs
+flat_map-again f g [] = refl
+flat_map-again f g (x ∷ xs) = flat_map-append f (g x) (flat_map g xs) ∙ ap (λ ys. flat_map f (g x) ++ ys) (flat_map-again f g xs)
+
+pub flat_map-self : {X : Type 0} (xs : List X) → flat_map (λ x. x ∷ []) xs ≡ xs
+flat_map-self [] = refl
+flat_map-self (x ∷ xs) = ap (λ ys. x ∷ ys) (flat_map-self xs)
+
+module _ (w : Context) (valid : All is_code_point w.text) where
+  -- code points beside a place are the text's
+  pub beside-valid : (dir : Direction) (k p : ℕ) (cs : List ℕ) (q : ℕ) → beside w dir k p ≡ Some (cs, q) → All is_code_point cs
+  unfolding beside
+  beside-valid Forward k p cs q e = by_room (nat_le (p + k) (length w.text)) e
+    where
+      by_room : (b : Bool) → (let found : Option (List ℕ × ℕ) = Some (slice_range w.text p (p + k), p + k) in (if b then found else None) ≡ Some (cs, q)) → All is_code_point cs
+      by_room true h = let pair : ◌≡◌ {A = List ℕ × ℕ} (slice_range w.text p (p + k), p + k) (cs, q) = cc in let same : slice_range w.text p (p + k) ≡ cs = ap (λ (x : List ℕ × ℕ). x.0) pair in
+          rw (← same) (All-take is_code_point (p + k - p) (drop p w.text) (All-drop is_code_point p w.text valid))
+      by_room false h = absurd (cc)
+  beside-valid Backward k p cs q e = by_room (nat_le k p) e
+    where
+      by_room : (b : Bool) → (let found : Option (List ℕ × ℕ) = Some (slice_range w.text (p - k) p, p - k) in (if b then found else None) ≡ Some (cs, q)) → All is_code_point cs
+      by_room true h = let pair : ◌≡◌ {A = List ℕ × ℕ} (slice_range w.text (p - k) p, p - k) (cs, q) = cc in let same : slice_range w.text (p - k) p ≡ cs = ap (λ (x : List ℕ × ℕ). x.0) pair in
+          rw (← same) (All-take is_code_point (p - (p - k)) (drop (p - k) w.text) (All-drop is_code_point (p - k) w.text valid))
+      by_room false h = absurd (cc)
+
+  -- two tests that agree on lists of code points step alike
+  pub step-agree : (dir : Direction) (k : ℕ) (f g : List ℕ → Bool) → ((cs : List ℕ) → All is_code_point cs → f cs ≡ g cs) → (s : State) → step w dir k f s ≡ step w dir k g s
+  unfolding step
+  step-agree dir k f g same s = by_found (beside w dir k s.place) refl
+    where
+      by_found : (o : Option (List ℕ × ℕ)) → beside w dir k s.place ≡ o → stepped w f s o ≡ stepped w g s o
+      by_found None e = refl
+      by_found (Some (cs, p)) e = rw (same cs (beside-valid dir k s.place cs p e)) refl
+
+  -- a tree that takes one character steps over one
+  character-steps : (t : Tree) → is_character t ≡ true → (dir : Direction) (s : State) → node_outcomes w t dir s ≡ one w dir (taken t) s
+  unfolding node_outcomes
+  character-steps (char c) e dir s = refl
+  character-steps (byte_set bs) e dir s = refl
+  character-steps (char_set cs) e dir s = refl
+  character-steps any e dir s = refl
+  character-steps any_in_line e dir s = refl
+  character-steps (bracket inverted intervals) e dir s = refl
+  character-steps _ e dir s = absurd (cc)
+
+  pub takes-steps : (t : Tree) (test : ℕ → Bool) → Takes t test → (dir : Direction) (s : State) → node_outcomes w t dir s ≡ step w dir 1 (list_all test) s
+  takes-steps t test h dir s = character-steps t h.alone dir s ∙ step-agree dir 1 (list_all (taken t)) (list_all test) (list_all-agree (taken t) test h.members) s
+
+  -- parts one after another
+
+  pub made-outcomes : (ts : List Tree) (dir : Direction) (s : State) → node_outcomes w (cat_made ts) dir s ≡ node_outcomes w (cat_of ts) dir s
+  unfolding node_outcomes
+  made-outcomes [] dir s = refl
+  made-outcomes (t ∷ []) dir s = sym (flat_map-self (node_outcomes w t dir s))
+  made-outcomes (t ∷ u ∷ ts) dir s = refl
+
+  cat_of-append : (ts us : List Tree) (dir : Direction) (s : State) → node_outcomes w (cat_of (ts ++ us)) dir s ≡ flat_map (node_outcomes w (cat_of us) dir) (node_outcomes w (cat_of ts) dir s)
+  unfolding node_outcomes
+  cat_of-append [] us dir s = sym (append-nil (node_outcomes w (cat_of us) dir s))
+  cat_of-append (t ∷ ts) us dir s =
+      (λ i. flat_map (λ r. cat_of-append ts us dir r i) (node_outcomes w t dir s))
+      ∙ sym (flat_map-again (node_outcomes w (cat_of us) dir) (node_outcomes w (cat_of ts) dir) (node_outcomes w t dir s))
+
+  -- trees that are alike patterns, one by one; the patterns' outcomes stay in the text
+  abbrev pub AllAlike : Direction → Settings → List Pattern → List Tree → Type 0
+  AllAlike dir e [] [] = Unit {0}
+  AllAlike dir e [] (t ∷ ts) = ⊥
+  AllAlike dir e (p ∷ ps) [] = ⊥
+  AllAlike dir e (p ∷ ps) (t ∷ ts) = GoAlike w (node_outcomes w t dir) (outcomes w p dir e) × AllAlike dir e ps ts
+
+  -- patterns' outcomes stay in the text
+  abbrev pub Stays : Type 0
+  Stays = (p : Pattern) (dir : Direction) (e : Settings) → StayInside w (outcomes w p dir e)
+
+  forward-alike : Stays → (e : Settings) (ps : List Pattern) (ts : List Tree) → AllAlike Forward e ps ts → GoAlike w (node_outcomes w (cat_of ts) Forward) (outcomes w (sequence_of ps) Forward e)
+  unfolding node_outcomes outcomes
+  forward-alike stays e [] [] h s inside = refl
+  forward-alike stays e [] (t ∷ ts) h s inside = absurd h
+  forward-alike stays e (p ∷ ps) [] h s inside = absurd h
+  forward-alike stays e (p ∷ ps) (t ∷ ts) h s inside =
+      followed-alike (IsInside w.text) (node_outcomes w (cat_of ts) Forward) (outcomes w (sequence_of ps) Forward e) (node_outcomes w t Forward s) (outcomes w p Forward e s)
+      (forward-alike stays e ps ts h.1) (stays p Forward e s inside) (h.0 s inside)
+
+  backward-alike : Stays → (e : Settings) (ps : List Pattern) (ts : List Tree) → AllAlike Backward e ps ts → GoAlike w (node_outcomes w (cat_of (reverse ts)) Backward) (outcomes w (sequence_of ps) Backward e)
+  unfolding node_outcomes outcomes
+  backward-alike stays e [] [] h s inside = refl
+  backward-alike stays e [] (t ∷ ts) h s inside = absurd h
+  backward-alike stays e (p ∷ ps) [] h s inside = absurd h
+  backward-alike stays e (p ∷ ps) (t ∷ ts) h s inside =
+      let turned : node_outcomes w (cat_of (reverse (t ∷ ts))) Backward s ≡ flat_map (node_outcomes w t Backward) (node_outcomes w (cat_of (reverse ts)) Backward s) =
+      ap (λ us. node_outcomes w (cat_of us) Backward s) (reverse-append (t ∷ []) ts)
+      ∙ cat_of-append (reverse ts) (t ∷ []) Backward s
+      ∙ (λ i. flat_map (λ r. flat_map-self (node_outcomes w t Backward r) i) (node_outcomes w (cat_of (reverse ts)) Backward s)) in
+      rw turned (followed-alike (IsInside w.text) (node_outcomes w t Backward) (outcomes w p Backward e) (node_outcomes w (cat_of (reverse ts)) Backward s) (outcomes w (sequence_of ps) Backward e s)
+      h.0 (stays (sequence_of ps) Backward e s inside) (backward-alike stays e ps ts h.1 s inside))
+
+  pub terms-alike : Stays → (b : Bool) (e : Settings) (ps : List Pattern) (ts : List Tree) → AllAlike (direction b) e ps ts
+      → GoAlike w (node_outcomes w (cat_made (in_reading_order b ts)) (direction b)) (outcomes w (sequence_of ps) (direction b) e)
+  terms-alike stays false e ps ts h s inside = rw (made-outcomes ts Forward s) (forward-alike stays e ps ts h s inside)
+  terms-alike stays true e ps ts h s inside = rw (made-outcomes (reverse ts) Backward s) (backward-alike stays e ps ts h s inside)
+
+  -- alternatives
+
+  pub arms-outcomes : {ts : List Tree} {t : Tree} → HasArms ts t → (dir : Direction) (s : State) → node_outcomes w t dir s ≡ flat_map (λ u. node_outcomes w u dir s) ts
+  unfolding node_outcomes
+  arms-outcomes {t = t} one_arm dir s = sym (append-nil (node_outcomes w t dir s))
+  arms-outcomes (two_halves {ts} {us} h k) dir s =
+      (λ i. arms-outcomes h dir s i ++ arms-outcomes k dir s i) ∙ sym (flat_map-append (λ u. node_outcomes w u dir s) ts us)
+
+  HasArms-some : {ts : List Tree} {t : Tree} → HasArms ts t → (u : Tree) × (us : List Tree) × (ts ≡ u ∷ us)
+  HasArms-some (one_arm {t}) = (t, [], refl)
+  HasArms-some (two_halves {ts} {us} h k) = let (u, rest, e) = HasArms-some h in (u, rest ++ us, ap (λ v. v ++ us) e)
+
+  choices-alike : (dir : Direction) (e : Settings) (p : Pattern) (ps : List Pattern) (t : Tree) (ts : List Tree) → AllAlike dir e (p ∷ ps) (t ∷ ts) → (s : State) → IsInside w.text s
+      → AreAlike (flat_map (λ u. node_outcomes w u dir s) (t ∷ ts)) (outcomes w (choice_of (p ∷ ps)) dir e s)
+  unfolding outcomes
+  choices-alike dir e p [] t [] h s inside = rw (append-nil (node_outcomes w t dir s)) (h.0 s inside)
+  choices-alike dir e p [] t (u ∷ ts) h s inside = absurd h.1
+  choices-alike dir e p (q ∷ ps) t [] h s inside = absurd h.1
+  choices-alike dir e p (q ∷ ps) t (u ∷ ts) h s inside =
+      joined-alike (node_outcomes w t dir s) (flat_map (λ v. node_outcomes w v dir s) (u ∷ ts)) (outcomes w p dir e s) (outcomes w (choice_of (q ∷ ps)) dir e s) (h.0 s inside) (choices-alike dir e q ps u ts h.1 s inside)
+
+  pub arms-alike : (dir : Direction) (e : Settings) (ps : List Pattern) (ts : List Tree) (t : Tree) → AllAlike dir e ps ts → HasArms ts t → GoAlike w (node_outcomes w t dir) (outcomes w (choice_of ps) dir e)
+  arms-alike dir e [] [] t h k s inside = let (u, us, e) = HasArms-some k in absurd (cc)
+  arms-alike dir e [] (u ∷ ts) t h k s inside = absurd h
+  arms-alike dir e (p ∷ ps) [] t h k s inside = absurd h
+  arms-alike dir e (p ∷ ps) (u ∷ ts) t h k s inside = rw (arms-outcomes k dir s) (choices-alike dir e p ps u ts h s inside)

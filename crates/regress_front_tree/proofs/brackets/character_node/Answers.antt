@@ -1,0 +1,19 @@
+use Rattle.std.proofs.Common.{rules, ◌≡◌, ℕ, length, arith, subst, sym}
+use Rattle.regress_meaning.specs.Table.{Table}
+use Rattle.regress_front_sets.specs.TableViews.{table}
+use Rattle.regress_front_tree.proofs.BracketLemmas.{stored_length, takes-one, takes-some}
+use Rattle.regress_front_tree.proofs.TreeLaws.{tree-Char, tree-CharSet}
+use Rattle.regress_front_tree.proofs.brackets.character_node.Goals as goal
+
+pub returns-then-len-eq1-clause-ok : goal.returns-then-len-eq1-clause-ok
+returns-then-len-eq1-clause-ok c = λ e is.
+    let points = c.in_ok-points.points in
+    let told = c.in_ok-points.ensures in
+    rw tree-Char (takes-one (table c.args.tables.now) c.args.unicode e c.args.icase is points.items c.args.c told.all c.requires told.own (omega (arith, stored_length points)))
+
+pub returns-else-len-eq1-clause-ok : goal.returns-else-len-eq1-clause-ok
+returns-else-len-eq1-clause-ok c = λ e is.
+    let points = c.in_ok-points.points in
+    let told = c.in_ok-points.ensures in
+    rw tree-CharSet (takes-some (table c.args.tables.now) c.args.unicode e c.args.icase is points.items c.args.c told.all told.alone
+    (λ one. c.if-len-eq1.false (omega (arith, stored_length points))) (omega (arith, stored_length points, told.few.1)))

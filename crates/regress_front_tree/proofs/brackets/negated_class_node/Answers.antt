@@ -1,0 +1,23 @@
+use Rattle.std.proofs.Common.{◌≡◌, ℕ, Bool, true, ◌&&◌, not, sym, ap, subst, ◌∙◌}
+use Rattle.regress_meaning.specs.Class.{Strings, value_of}
+use Rattle.regress_front_sets.specs.Sets.{in_set}
+use Rattle.regress_front_sets.specs.TableViews.{table}
+use Rattle.regress_front_syntax.specs.Trees.{class_view}
+use Rattle.regress_front_tree.specs.Trees.{tree}
+use Rattle.regress_front_tree.specs.Lowering.{Takes, in_closed, class_value}
+use Rattle.regress_front_tree.proofs.BracketLemmas.{takes-bracket}
+use Rattle.regress_front_tree.proofs.TreeLaws.{tree-Bracket}
+use Rattle.regress_front_tree.proofs.brackets.negated_class_node.Goals as goal
+use Rattle.regress_front_tree.proofs.brackets.negated_class_node.Goals.{then-unicode, else-unicode}
+
+pub returns-clause-ok : goal.returns-clause-ok
+returns-clause-ok c = λ e is.
+    let tables = table c.args.tables.now in
+    let folded : c.if-unicode.class_value ≡ (c.args.unicode && e.icase) = elim c.if-unicode.branch [
+      | then-unicode w ↦ w.class_value-is ∙ sym is ∙ ap (λ (b : Bool). b && e.icase) (sym w.if-unicode.true)
+      | else-unicode w ↦ w.class_value-is ∙ w.if-unicode.false ∙ ap (λ (b : Bool). b && e.icase) (sym w.if-unicode.false)
+    ] in
+    let value = c.in_ok-value.ensures.ok ∙ ap (λ (b : Bool). value_of tables b (class_view c.args.class.now)) folded in
+    let members : in_set c.in_ok-members.members ≡ in_closed tables c.args.unicode e (class_value tables c.args.unicode e (class_view c.args.class.now)).singles =
+    c.in_ok-members.ensures.ok e is ∙ ap (λ (v : Strings). in_closed tables c.args.unicode e v.singles) value in
+    rw tree-Bracket (takes-bracket true c.in_ok-members.members _ members)

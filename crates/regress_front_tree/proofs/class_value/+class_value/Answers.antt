@@ -1,0 +1,140 @@
+use Rattle.std.proofs.Common.{◌∙◌, sym, ap, ap₂, map, fold, rules, arith}
+use Rattle.std.proofs.Math.Path.{fun_ext}
+use Rattle.std.proofs.lemmas.Result.{IfOk-weaker}
+use denote.Param.Weighed.{at_most}
+use Rattle.regress_front_syntax.proofs.syntax.Class.TheLaws.{the_size}
+use Rattle.regress_front_syntax.specs.declared.syntax.Class.TheViews.{the_lemmas}
+use Rattle.regress_meaning.specs.Class as meaning
+use Rattle.regress_meaning.specs.Points.{ClassIsOfPoints}
+use Rattle.regress_meaning.specs.Class.{Strings, only, complement_of, value_of}
+use Rattle.regress_front_sets.specs.Sets.{in_set}
+use Rattle.regress_front_sets.specs.TableViews.{table}
+use Rattle.regress_front_syntax.specs.declared.syntax.Class.{Class}
+use Rattle.regress_front_syntax.specs.Trees.{class_view}
+use Rattle.regress_front_tree.specs.ClassValues.{united, intersected, subtracted}
+use Rattle.regress_front_tree.proofs.ClassLemmas.{only-none, in_intervals-one}
+use Rattle.regress_front_tree.proofs.ClassValueLemmas.{value_of-more, union_points, fold-more, first_points, other_points, one_points}
+use Rattle.regress_front_tree.proofs.ClassViewLaws.{class_view-Range, class_view-Digits, class_view-Spaces, class_view-Words, class_view-Property, class_view-Sequences, class_view-Strings, class_view-Intersection, class_view-Difference, class_view-Complement, class_view-Nested}
+use Rattle.regress_front_tree.proofs.class_value.+class_value.Goals as goal
+use Rattle.regress_front_tree.proofs.class_value.+class_value.Goals.{class_value-in-Range+in_ok-singles-in-Range, class_value-in-Digits+in_ok-singles-in-Digits, class_value-in-Spaces+in_ok-singles-in-Spaces, class_value-in-Words+in_ok-singles-in-Words, class_value-in-Property+in_ok-singles-in-Property}
+
+pub class_value-returns-in-Sequences-clause-ok : goal.class_value-returns-in-Sequences-clause-ok
+unfolding value_of
+class_value-returns-in-Sequences-clause-ok t c =
+    rw (c.in-Sequences.is, class_view-Sequences, ← c.deref-in-Sequences.ensures.value) c.sequence_value.ensures.ok
+
+pub class_value-returns-in-Strings-clause-ok : goal.class_value-returns-in-Strings-clause-ok
+unfolding value_of
+class_value-returns-in-Strings-clause-ok t c =
+    rw (c.in-Strings.is, class_view-Strings, ← c.deref-in-Strings.ensures.value) c.of_strings.ensures.ok
+
+pub class_value-returns-in-Complement-clause-ok : goal.class_value-returns-in-Complement-clause-ok
+unfolding value_of
+class_value-returns-in-Complement-clause-ok t c =
+    let value : Class → Strings = λ x. value_of (table c.args.tables.now) c.args.folded (class_view x) in
+    let inner = c.in_ok-class_value-in-Complement.ensures.ok ∙ ap value c.deref-in-Complement.ensures in
+    rw (c.in-Complement.is, class_view-Complement) (IfOk-weaker c.complement.result _ _ (λ v e. e ∙ ap complement_of inner) c.complement.ensures.ok)
+
+pub class_value-returns-then-negated-clause-ok : goal.class_value-returns-then-negated-clause-ok
+unfolding value_of
+class_value-returns-then-negated-clause-ok t c =
+    let value : Class → Strings = λ x. value_of (table c.args.tables.now) c.args.folded (class_view x) in
+    let inner = c.in_ok-value-in-Nested.ensures.ok ∙ ap value c.deref-in-Nested.ensures in
+    rw (c.in-Nested.is, class_view-Nested, c.if-negated.true) (IfOk-weaker c.complement-then-negated.result _ _ (λ v e. e ∙ ap complement_of inner) c.complement-then-negated.ensures.ok)
+
+pub class_value-returns-else-negated-clause-ok : goal.class_value-returns-else-negated-clause-ok
+unfolding value_of
+class_value-returns-else-negated-clause-ok t c =
+    let value : Class → Strings = λ x. value_of (table c.args.tables.now) c.args.folded (class_view x) in
+    rw (c.in-Nested.is, class_view-Nested, c.if-negated.false) (c.in_ok-value-in-Nested.ensures.ok ∙ ap value c.deref-in-Nested.ensures)
+
+pub class_value-returns-clause-ok : goal.class_value-returns-clause-ok
+unfolding value_of
+class_value-returns-clause-ok t c =
+    c.of_points.ensures ∙
+    elim c.match-class.branch [
+      | class_value-in-Range+in_ok-singles-in-Range w ↦
+          ap (λ (s : _). only (in_set s)) w.singles-is
+          ∙ rw (w.in-Range.is, class_view-Range) (ap only (w.in_ok-singles-in-Range.ensures.ok ∙ in_intervals-one w.in-Range.first w.in-Range.last))
+      | class_value-in-Digits+in_ok-singles-in-Digits w ↦
+          ap (λ (s : _). only (in_set s)) w.singles-is
+          ∙ rw (w.in-Digits.is, class_view-Digits) (ap only (w.in_ok-singles-in-Digits.ensures.ok ∙ fun_ext w.digits.ensures.members))
+      | class_value-in-Spaces+in_ok-singles-in-Spaces w ↦
+          ap (λ (s : _). only (in_set s)) w.singles-is
+          ∙ rw (w.in-Spaces.is, class_view-Spaces) (ap only (w.in_ok-singles-in-Spaces.ensures.ok ∙ fun_ext w.whitespace.ensures.members))
+      | class_value-in-Words+in_ok-singles-in-Words w ↦
+          ap (λ (s : _). only (in_set s)) w.singles-is
+          ∙ rw (w.in-Words.is, class_view-Words) (ap only w.in_ok-singles-in-Words.ensures.ok)
+      | class_value-in-Property+in_ok-singles-in-Property w ↦
+          ap (λ (s : _). only (in_set s)) w.singles-is
+          ∙ rw (w.in-Property.is, class_view-Property, ← w.deref.ensures.value) (ap only w.in_ok-singles-in-Property.ensures.ok)
+    ]
+
+pub union_value-loop-member-init : goal.union_value-loop-member-init
+unfolding value_of
+union_value-loop-member-init t c = c.of_points-value.ensures ∙ only-none c.new.result c.new.ensures
+
+pub union_value-loop-member-preserved : goal.union_value-loop-member-preserved
+union_value-loop-member-preserved t c =
+    c.in_ok-add.ensures.ok ∙ ap₂ united c.loop-member.invariant c.in_ok-class_value.ensures.ok
+    ∙ sym (value_of-more (table c.args.tables.now) c.args.folded c.args.members.now c.loop-member.member-index c.member-item.result (omega arith) c.member-item.is)
+
+pub union_value-class_value-requires : goal.union_value-class_value-requires
+union_value-class_value-requires t c =
+    let depth = at_most the_size c.args.members.now c.loop-member.member-index c.member-item.result (omega arith) in
+    let own = ap the_size c.member-item.is in
+    (omega (arith, depth, own, c.decreases), union_points c.args.members.now c.loop-member.member-index c.member-item.result c.requires (omega arith) c.member-item.is)
+
+pub class_value-class_value-requires : goal.class_value-class_value-requires
+class_value-class_value-requires t c =
+    let points : ClassIsOfPoints (fold meaning.intersection (class_view c.in-Intersection.first.value) (map class_view c.in-Intersection.others.items)) = rw (c.in-Intersection.is, class_view-Intersection) at c.requires in
+    (search (rules, the_lemmas), rw (c.deref-in-Intersection.ensures) (first_points meaning.intersection (λ x y h. h) (class_view c.in-Intersection.first.value) (map class_view c.in-Intersection.others.items) points))
+
+pub class_value-class_value-requires-in-Difference : goal.class_value-class_value-requires-in-Difference
+class_value-class_value-requires-in-Difference t c =
+    let points : ClassIsOfPoints (fold meaning.difference (class_view c.in-Difference.first.value) (map class_view c.in-Difference.others.items)) = rw (c.in-Difference.is, class_view-Difference) at c.requires in
+    (search (rules, the_lemmas), rw (c.deref-in-Difference.ensures) (first_points meaning.difference (λ x y h. h) (class_view c.in-Difference.first.value) (map class_view c.in-Difference.others.items) points))
+
+pub class_value-intersected_value-requires : goal.class_value-intersected_value-requires
+class_value-intersected_value-requires t c =
+    let points : ClassIsOfPoints (fold meaning.intersection (class_view c.in-Intersection.first.value) (map class_view c.in-Intersection.others.items)) = rw (c.in-Intersection.is, class_view-Intersection) at c.requires in
+    (search (rules, the_lemmas), rw (c.deref-in-Intersection-2.ensures.value) (other_points meaning.intersection (λ x y h. h) (class_view c.in-Intersection.first.value) (map class_view c.in-Intersection.others.items) points))
+
+pub class_value-subtracted_value-requires : goal.class_value-subtracted_value-requires
+class_value-subtracted_value-requires t c =
+    let points : ClassIsOfPoints (fold meaning.difference (class_view c.in-Difference.first.value) (map class_view c.in-Difference.others.items)) = rw (c.in-Difference.is, class_view-Difference) at c.requires in
+    (search (rules, the_lemmas), rw (c.deref-in-Difference-2.ensures.value) (other_points meaning.difference (λ x y h. h) (class_view c.in-Difference.first.value) (map class_view c.in-Difference.others.items) points))
+
+pub class_value-returns-in-Intersection-clause-ok : goal.class_value-returns-in-Intersection-clause-ok
+class_value-returns-in-Intersection-clause-ok t c =
+    rw (c.in-Intersection.is, class_view-Intersection, ← c.deref-in-Intersection-2.ensures.value)
+    (c.intersected_value.ensures.ok (class_view c.in-Intersection.first.value) (rw (← c.deref-in-Intersection.ensures) c.in_ok-first-in-Intersection.ensures.ok))
+
+pub class_value-returns-in-Difference-clause-ok : goal.class_value-returns-in-Difference-clause-ok
+class_value-returns-in-Difference-clause-ok t c =
+    rw (c.in-Difference.is, class_view-Difference, ← c.deref-in-Difference-2.ensures.value)
+    (c.subtracted_value.ensures.ok (class_view c.in-Difference.first.value) (rw (← c.deref-in-Difference.ensures) c.in_ok-first-in-Difference.ensures.ok))
+
+pub intersected_value-class_value-requires : goal.intersected_value-class_value-requires
+intersected_value-class_value-requires t c =
+    let depth = at_most the_size c.args.others.now c.loop-other.other-index c.other-item.result (omega arith) in
+    let own = ap the_size c.other-item.is in
+    (omega (arith, depth, own, c.decreases), one_points c.args.others.now c.loop-other.other-index c.other-item.result c.requires (omega arith) c.other-item.is)
+
+pub subtracted_value-class_value-requires : goal.subtracted_value-class_value-requires
+subtracted_value-class_value-requires t c =
+    let depth = at_most the_size c.args.others.now c.loop-other.other-index c.other-item.result (omega arith) in
+    let own = ap the_size c.other-item.is in
+    (omega (arith, depth, own, c.decreases), one_points c.args.others.now c.loop-other.other-index c.other-item.result c.requires (omega arith) c.other-item.is)
+
+pub intersected_value-loop-other-preserved : goal.intersected_value-loop-other-preserved
+unfolding value_of
+intersected_value-loop-other-preserved t c = λ d first.
+    c.in_ok-value.ensures.ok ∙ ap₂ intersected (c.loop-other.invariant d first) c.in_ok-other.ensures.ok
+    ∙ ap (value_of (table c.args.tables.now) c.args.folded) (sym (fold-more meaning.intersection d c.args.others.now c.loop-other.other-index c.other-item.result (omega arith) c.other-item.is))
+
+pub subtracted_value-loop-other-preserved : goal.subtracted_value-loop-other-preserved
+unfolding value_of
+subtracted_value-loop-other-preserved t c = λ d first.
+    c.in_ok-value.ensures.ok ∙ ap₂ subtracted (c.loop-other.invariant d first) c.in_ok-other.ensures.ok
+    ∙ ap (value_of (table c.args.tables.now) c.args.folded) (sym (fold-more meaning.difference d c.args.others.now c.loop-other.other-index c.other-item.result (omega arith) c.other-item.is))

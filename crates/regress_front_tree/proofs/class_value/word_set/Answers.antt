@@ -1,0 +1,24 @@
+use Rattle.std.proofs.Common.{ℕ, ◌≡◌, ◌∙◌, Bool, sym, ap}
+use Rattle.std.proofs.Math.Path.{fun_ext}
+use Rattle.std.proofs.lemmas.Result.{IfOk-weaker}
+use Rattle.regress_meaning.specs.Table.{closure}
+use Rattle.regress_meaning.specs.Class.{is_ascii_word, is_word}
+use Rattle.regress_front_sets.specs.Sets.{in_set}
+use Rattle.regress_front_sets.specs.TableViews.{table}
+use Rattle.regress_front_tree.proofs.ClassLemmas.{folded-words, plain-words}
+use Rattle.regress_front_tree.proofs.class_value.word_set.Goals as goal
+
+pub returns-then-folded-clause-ok : goal.returns-then-folded-clause-ok
+returns-then-folded-clause-ok c =
+    let tables = c.args.tables.now in
+    let words : in_set c.in_ok-words.words ≡ is_ascii_word = c.in_ok-words.ensures.ok ∙ fun_ext c.word_chars.ensures.members in
+    IfOk-weaker c.add_icase_code_points.result _ _ (λ s members. fun_ext (λ (d : ℕ).
+    members d ∙ ap (λ (test : ℕ → Bool). closure (table tables).fold test d) words ∙ folded-words tables d (c.fold_is_idempotent.ensures.fold tables)
+    ∙ ap (λ (folded : Bool). is_word (table tables) folded d) (sym c.if-folded.true)))
+    c.add_icase_code_points.ensures.members
+
+pub returns-else-folded-clause-ok : goal.returns-else-folded-clause-ok
+returns-else-folded-clause-ok c =
+    let tables = c.args.tables.now in
+    c.in_ok-words.ensures.ok ∙ fun_ext (λ (d : ℕ).
+    c.word_chars.ensures.members d ∙ plain-words tables d ∙ ap (λ (folded : Bool). is_word (table tables) folded d) (sym c.if-folded.false))

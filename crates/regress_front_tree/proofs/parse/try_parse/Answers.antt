@@ -1,0 +1,53 @@
+use Rattle.std.proofs.Common.{◌≡◌, ℕ, false, List, [], ◌∷◌, map, refl, sym, ap, ◌∙◌}
+use Rattle.std.specs.List.{flat_map}
+use Rattle.regress_meaning.specs.Flags.{is_unicode, first_settings}
+use Rattle.regress_meaning.specs.Meaning.{State, Forward, Context}
+use Rattle.regress_front_sets.specs.TableViews.{table, parts}
+use Rattle.regress_front_sets.specs.FlagWords.{options}
+use Rattle.regress_front_syntax.specs.Trees as parsed
+use Rattle.regress_front_tree.specs.declared.node.Node.{Node}
+use Rattle.regress_front_tree.specs.declared.node.Node.TheViews.{Cat}
+use Rattle.regress_front_tree.specs.Trees.{Tree, tree, goal, cat_of}
+use Rattle.regress_front_tree.specs.TreeMeaning.{node_outcomes}
+use Rattle.regress_front_tree.specs.Alike.{distinct}
+use Rattle.regress_front_tree.specs.Lowering.{Lowers}
+use Rattle.regress_front_tree.proofs.AlikeLemmas.{flat_map-self}
+use Rattle.regress_front_tree.proofs.NameTexts.{names-scalars}
+use Rattle.regress_front_tree.proofs.TreeLaws.{tree-Cat, tree-Goal}
+use Rattle.regress_front_tree.proofs.parse.try_parse.Goals as goals
+
+-- the end of the whole changes no outcome
+ended : (w : Context) (t : Tree) (s : State) → node_outcomes w (cat_of (t ∷ goal ∷ [])) Forward s ≡ node_outcomes w t Forward s
+unfolding node_outcomes
+ended w t s = flat_map-self (node_outcomes w t Forward s)
+
+pub lower-requires : goals.lower-requires
+lower-requires c =
+    let spelled = c.in_ok-syntax.ensures.accepted.0 in
+    let p = parsed.tree c.in_ok-syntax.syntax in
+    let points = c.spelled_trees_hold_code_points.ensures (table c.args.tables.now) (options c.args.flags) c.args.pattern.now p c.requires spelled in
+    record {
+      points = points;
+      names = names-scalars (parts c.args.tables.now) c.args.tables.now.lawful p points (c.spelled_names_are_names.ensures (table c.args.tables.now) (options c.args.flags) c.args.pattern.now p spelled);
+    }
+
+pub returns-clause-accepted : goals.returns-clause-accepted
+returns-clause-accepted c =
+    let o = options c.args.flags in
+    let p = parsed.tree c.in_ok-syntax.syntax in
+    let t = tree c.in_ok-node.node in
+    let (spelled, within) = c.in_ok-syntax.ensures.accepted in
+    let lowered : Lowers (table c.args.tables.now) (is_unicode o) false (first_settings o) 0 p t c.lower.new.self.groups =
+    rw (c.first_scope.ensures.backward, c.first_scope.ensures.settings, c.new-lowering.ensures.groups, c.new-lowering.ensures.tables, c.new-lowering.ensures.unicode, c.is_unicode.ensures) at c.in_ok-node.ensures.ok in
+    let whole = c.whole_trees_are_well_formed.ensures (table c.args.tables.now) o c.args.pattern.now p t c.lower.new.self.groups spelled within lowered in
+    let alike = c.lowered_trees_are_alike.ensures (table c.args.tables.now) (is_unicode o) false (first_settings o) 0 p t c.lower.new.self.groups lowered in
+    let same : tree (Cat c.in_ok-vec.field-0) ≡ cat_of (t ∷ goal ∷ []) =
+    tree-Cat c.in_ok-vec.field-0 ∙ ap (λ (ns : List Node). cat_of (map tree ns)) c.in_ok-vec.ensures.items ∙ ap (λ (u : Tree). cat_of (t ∷ u ∷ [])) tree-Goal in (
+      p,
+      rw same (record {
+        spelled = spelled;
+        within = within;
+        alike = λ text valid s inside. ap distinct (ended (record { text = text; table = table c.args.tables.now; unicode = is_unicode o }) t s) ∙ alike text valid s inside;
+        whole = whole;
+      }),
+    )

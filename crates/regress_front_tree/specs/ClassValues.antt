@@ -1,0 +1,26 @@
+-- What the values of classes hold.
+use Rattle.std.specs.Prelude.{ℕ, ◌&&◌, ◌||◌, not, List, ◌++◌, Vec, map, filter}
+use Rattle.std.specs.declared.alloc.Global.{Global}
+use Rattle.regress_meaning.specs.Class.{Strings, among}
+use Rattle.regress_front_sets.specs.Sets.{in_set}
+use Rattle.regress_front_tree.specs.declared.class_value.ClassValue.{ClassValue}
+
+-- the strings of a list, as lists
+abbrev pub lists : List (Vec ℕ Global) → List (List ℕ)
+lists = map (λ s. s.items)
+
+-- the strings that a value holds
+abbrev pub strings_of : ClassValue → Strings
+strings_of v = record { singles = in_set v.singles; others = lists v.strings.items }
+
+-- what is a member of either
+abbrev pub united : Strings → Strings → Strings
+united v w = record { singles = λ c. v.singles c || w.singles c; others = v.others ++ w.others }
+
+-- what is a member of both
+abbrev pub intersected : Strings → Strings → Strings
+intersected v w = record { singles = λ c. v.singles c && w.singles c; others = filter (among w.others) v.others }
+
+-- what is a member of the first alone
+abbrev pub subtracted : Strings → Strings → Strings
+subtracted v w = record { singles = λ c. v.singles c && not (w.singles c); others = filter (λ s. not (among w.others s)) v.others }

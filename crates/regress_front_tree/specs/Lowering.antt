@@ -1,0 +1,140 @@
+-- How the tree of a pattern is lowered to nodes: case closed by the table, classes as sets, parts in the order of reading.
+use Rattle.std.specs.Prelude.{◌≡◌, ℕ, suc, ◌+◌, ◌≤◌, Bool, true, false, not, ◌&&◌, ◌||◌, ◌==◌, List, [], ◌∷◌, ◌++◌, length, Option, if◌then◌else◌, map, min, nat_eq, reverse, All}
+use Rattle.regress_meaning.specs.Table.{Table, canon, closure}
+use Rattle.regress_meaning.specs.TableParts.{is_code_point}
+use Rattle.regress_meaning.specs.Limits.{most_groups}
+use Rattle.regress_meaning.specs.Class.{Class, Strings, value_of, among}
+use Rattle.regress_meaning.specs.Pattern as meaning
+use Rattle.regress_meaning.specs.Pattern.{Pattern, Settings}
+use Rattle.regress_meaning.specs.Meaning.{Context, Direction, Forward, Backward, is_line_end, with}
+use Rattle.regress_front_syntax.specs.Trees.{sequence_of, choice_of}
+use Rattle.regress_front_tree.specs.Trees.{Tree, empty, char, byte_set, char_set, cat, alt, any, any_in_line, line_start, line_end, boundary, capture, back, bracket, string_set, look, loop, cat_of}
+use Rattle.regress_meaning.specs.Text.{holds}
+use Rattle.regress_front_tree.specs.TreeMeaning.{bracket_has}
+use Rattle.regress_front_tree.specs.WellFormed.{AreLawful}
+
+-- which way a part is read
+abbrev pub direction : Bool → Direction
+direction backward = if backward then Backward else Forward
+
+-- by itself the tree takes one character
+abbrev pub is_character : Tree → Bool
+is_character (char c) = true
+is_character (byte_set bs) = true
+is_character (char_set cs) = true
+is_character any = true
+is_character any_in_line = true
+is_character (bracket inverted intervals) = true
+is_character _ = false
+
+-- the characters that it takes
+abbrev pub taken : Tree → ℕ → Bool
+taken (char c) d = nat_eq c d
+taken (byte_set bs) d = holds bs d
+taken (char_set cs) d = holds cs d
+taken any d = true
+taken any_in_line d = not (is_line_end d)
+taken (bracket inverted intervals) d = bracket_has inverted intervals d
+taken _ d = false
+
+-- The tree takes one character, of the code points those that pass.
+pub record Takes (t : Tree) (test : ℕ → Bool) : Type 0 where
+  pub alone : is_character t ≡ true
+  pub members : (c : ℕ) → is_code_point c → taken t c ≡ test c
+  pub lawful : AreLawful 0 t
+
+-- parts one after another: none is the empty text, and one is itself
+abbrev pub cat_made : List Tree → Tree
+cat_made [] = empty
+cat_made (t ∷ []) = t
+cat_made (t ∷ u ∷ ts) = cat_of (t ∷ u ∷ ts)
+
+-- in the order of reading
+abbrev pub in_reading_order : {A : Type 0} → Bool → List A → List A
+in_reading_order backward xs = if backward then reverse xs else xs
+
+-- The tree has these arms, the earlier preferred.
+pub data HasArms : List Tree → Tree → Type 0 where
+  one_arm : {t : Tree} → HasArms (t ∷ []) t
+  two_halves : {ts us : List Tree} {t u : Tree} → HasArms ts t → HasArms us u → HasArms (ts ++ us) (alt t u)
+
+-- no string is longer than one before it
+abbrev pub LengthsFall : List (List ℕ) → Type 0
+LengthsFall [] = Unit {0}
+LengthsFall (s ∷ ss) = All (λ r. length r ≤ length s) ss × LengthsFall ss
+
+-- The strings are those of a set but the empty one, the longer first.
+pub record AreByLength (strings others : List (List ℕ)) : Type 0 where
+  pub members : (s : List ℕ) → among strings s ≡ (not (length s == 0) && among others s)
+  pub order : LengthsFall strings
+  pub points : All (All is_code_point) strings
+
+-- the arms of a class: its longer strings, its single characters, and the empty string as a set of its own
+abbrev pub class_arms : Bool → List (List ℕ) → Tree → Bool → List Tree
+class_arms icase strings characters has_empty =
+    (if length strings == 0 then [] else string_set strings icase ∷ []) ++ (characters ∷ (if has_empty then string_set ([] ∷ []) icase ∷ [] else []))
+
+-- how many groups were opened, with one more
+abbrev pub one_more : ℕ → ℕ
+one_more k = min (suc k) most_groups
+
+module _ (table : Table) (unicode : Bool) where
+  -- two code points are equal, or where case is ignored have equal canons
+  abbrev pub same_point : Settings → ℕ → ℕ → Bool
+  same_point e c d = if e.icase then canon table unicode c == canon table unicode d else c == d
+
+  -- c is a member, or where case is ignored in the closure
+  abbrev pub in_closed : Settings → (ℕ → Bool) → ℕ → Bool
+  in_closed e members c = if e.icase then closure (canon table unicode) members c else members c
+
+  -- the strings that a class stands for
+  abbrev pub class_value : Settings → Class → Strings
+  class_value e c = value_of table (unicode && e.icase) c
+
+  -- the settings inside a modifier
+  abbrev pub switched_by : Settings → Settings → Settings → Settings
+  switched_by on off e = with (record { text = []; table = table; unicode = unicode }) on off e
+
+  -- A class that isn't negated, as its arms.
+  pub record LowersClass (e : Settings) (c : Class) (t : Tree) : Type 0 where
+    pub strings : List (List ℕ)
+    pub characters : Tree
+    pub by_length : AreByLength strings (class_value e c).others
+    pub takes : Takes characters (in_closed e (class_value e c).singles)
+    pub arms : HasArms (class_arms e.icase strings characters (among (class_value e c).others [])) t
+
+  mutual
+    -- A pattern is lowered: the way in which it is read, its settings, the groups opened before it, the pattern, the tree,
+    -- and the groups opened up to its end.
+    pub data Lowers : Bool → Settings → ℕ → Pattern → Tree → ℕ → Type 0 where
+      of_character : {b : Bool} {e : Settings} {k c : ℕ} {t : Tree} → Takes t (same_point e c) → Lowers b e k (meaning.character c) t k
+      of_any : {b : Bool} {e : Settings} {k : ℕ} {t : Tree} → Takes t (λ c. e.dot_all || not (is_line_end c)) → Lowers b e k meaning.any t k
+      of_class : {b : Bool} {e : Settings} {k : ℕ} {c : Class} {t : Tree} → LowersClass e c t → Lowers b e k (meaning.class false c) t k
+      of_negated_class : {b : Bool} {e : Settings} {k : ℕ} {c : Class} {t : Tree} → Takes t (λ d. not (in_closed e (class_value e c).singles d))
+          → Lowers b e k (meaning.class true c) t k
+      of_class_escape : {b : Bool} {e : Settings} {k : ℕ} {c : Class} {t : Tree} → LowersClass e c t → Lowers b e k (meaning.class_escape c) t k
+      of_terms : {b : Bool} {e : Settings} {k l : ℕ} {ps : List Pattern} {ts : List Tree} → LowersAll b e k ps ts l
+          → Lowers b e k (sequence_of ps) (cat_made (in_reading_order b ts)) l
+      of_arms : {b : Bool} {e : Settings} {k l : ℕ} {ps : List Pattern} {ts : List Tree} {t : Tree} → LowersAll b e k ps ts l → HasArms ts t
+          → Lowers b e k (choice_of ps) t l
+      of_capture : {b : Bool} {e : Settings} {k l j : ℕ} {name : Option (List ℕ)} {p : Pattern} {t : Tree} → Lowers b e (one_more k) p t l
+          → Lowers b e k (meaning.capture j name p) (capture j name t) l
+      of_group : {b : Bool} {e : Settings} {k l : ℕ} {p : Pattern} {t : Tree} → Lowers b e k p t l → Lowers b e k (meaning.grouped p) t l
+      of_modified : {b : Bool} {e on off : Settings} {k l : ℕ} {p : Pattern} {t : Tree} → Lowers b (switched_by on off e) k p t l
+          → Lowers b e k (meaning.modified on off p) t l
+      of_repeated : {b : Bool} {e : Settings} {k l first last least most : ℕ} {greedy : Bool} {p : Pattern} {t : Tree} → Lowers b e k p t l
+          → Lowers b e k (meaning.repeated p first last least most greedy) (loop t first last least most greedy) l
+      of_look : {b : Bool} {e : Settings} {k l : ℕ} {negated backward : Bool} {p : Pattern} {t : Tree} → Lowers backward e k p t l
+          → Lowers b e k (meaning.look negated backward p) (look negated backward k l t) l
+      of_reference : {b : Bool} {e : Settings} {k : ℕ} {ks : List ℕ}
+          → Lowers b e k (meaning.reference ks) (cat_made (map (λ j. back (j + 1) e.icase) (in_reading_order b ks))) k
+      of_line_start : {b : Bool} {e : Settings} {k : ℕ} → Lowers b e k meaning.line_start (line_start e.multiline) k
+      of_line_end : {b : Bool} {e : Settings} {k : ℕ} → Lowers b e k meaning.line_end (line_end e.multiline) k
+      of_word_boundary : {b : Bool} {e : Settings} {k : ℕ} {negated : Bool}
+          → Lowers b e k (meaning.word_boundary negated) (boundary negated (unicode && e.icase)) k
+
+    -- Patterns are lowered one by one.
+    pub data LowersAll : Bool → Settings → ℕ → List Pattern → List Tree → ℕ → Type 0 where
+      no_pattern : {b : Bool} {e : Settings} {k : ℕ} → LowersAll b e k [] [] k
+      and_next : {b : Bool} {e : Settings} {k l n : ℕ} {p : Pattern} {ps : List Pattern} {t : Tree} {ts : List Tree} → Lowers b e k p t l
+          → LowersAll b e l ps ts n → LowersAll b e k (p ∷ ps) (t ∷ ts) n

@@ -1,0 +1,37 @@
+-- Where a part of a pattern stands when it is lowered, and what is asked of it.
+use Rattle.std.specs.Prelude.{◌≡◌, ℕ, true, List, [], ◌∷◌, ◌++◌, Option, None, Some, All}
+use Rattle.std.specs.Str.{all_scalars}
+use Rattle.regress_meaning.specs.Pattern.{Pattern, Settings, names_of}
+use Rattle.regress_meaning.specs.Points.{IsOfPoints}
+use Rattle.regress_front_sets.specs.TableViews.{table}
+use Rattle.regress_front_tree.specs.declared.lowering.Lowering.{Lowering}
+use Rattle.regress_front_tree.specs.declared.lowering.Scope.{Scope}
+use Rattle.regress_front_tree.specs.Trees.{Tree}
+use Rattle.regress_front_tree.specs.Lowering.{Lowers, LowersAll}
+
+-- the settings that hold in a scope
+abbrev pub settings_of : Scope → Settings
+settings_of s = record { icase = s.icase; multiline = s.multiline; dot_all = s.dot_all }
+
+-- The tree is of code points, and its names are texts.
+pub record IsLowerable (p : Pattern) : Type 0 where
+  pub points : IsOfPoints p
+  pub names : All (λ name. all_scalars name ≡ true) (names_of p)
+
+-- a group's name, where it has one
+abbrev pub name_told : List ℕ → Option (List ℕ)
+name_told [] = None
+name_told (c ∷ name) = Some (c ∷ name)
+
+-- The pattern is lowered to the tree, and so many groups are counted.
+abbrev pub IsLowered : Lowering → Scope → Pattern → Tree → Lowering → Type 0
+IsLowered old s p t new = Lowers (table old.tables.now) old.unicode s.backward (settings_of s) old.groups p t new.groups
+
+-- Each pattern is lowered to a tree, one after another.
+abbrev pub AreLowered : Lowering → Scope → List Pattern → List Tree → Lowering → Type 0
+AreLowered old s ps ts new = LowersAll (table old.tables.now) old.unicode s.backward (settings_of s) old.groups ps ts new.groups
+
+-- The tables and the mode stay.
+pub record IsSamePattern (old new : Lowering) : Type 0 where
+  pub tables : new.tables.now ≡ old.tables.now
+  pub unicode : new.unicode ≡ old.unicode

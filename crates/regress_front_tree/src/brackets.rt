@@ -1,0 +1,270 @@
+//! Nodes of characters and classes: what matches is closed where case is ignored.
+ghost use Rattle.std.specs.Prelude.{◌≡◌, ℕ, Bool, ◌==◌, not, [], All, map, IfOk, IfErr};
+ghost use Rattle.std.specs.Box.{boxed_slice_items};
+ghost use Rattle.regress_meaning.specs.Table.{Table};
+ghost use Rattle.regress_meaning.specs.TableParts.{is_code_point};
+ghost use Rattle.regress_meaning.specs.Class.{among};
+ghost use Rattle.regress_meaning.specs.Pattern.{Settings};
+ghost use Rattle.regress_meaning.specs.Points.{ClassIsOfPoints};
+ghost use Rattle.regress_front_sets.specs.Sets.{in_set};
+ghost use Rattle.regress_front_sets.specs.TableViews.{table};
+ghost use Rattle.regress_front_syntax.specs.Trees.{class_view};
+ghost use Rattle.regress_front_tree.specs.Trees.{tree};
+ghost use Rattle.regress_front_tree.specs.Lowering.{Takes, AreByLength, LowersClass, same_point, in_closed, class_value, class_arms};
+ghost use Rattle.regress_front_tree.specs.ClassValues.{lists};
+
+use crate::arms::alternatives;
+use crate::class_value::class_value;
+use crate::node::{BracketContents, Node, NodeList};
+use regress_front_sets::{CodePoint, CodePointSet, Error, Tables, closure, expand_code_point};
+use regress_front_syntax::Class;
+use std::alloc::{AllocError, Global};
+use std::boxed::BoxedSlice;
+
+/// What a character matches: itself, and where case is ignored all that are equal to it ("CharacterSetMatcher").
+/// `OutOfMemory` is the only error.
+pub(crate) fn character_node(
+    alloc: Global,
+    tables: &Tables,
+    unicode: bool,
+    icase: bool,
+    c: CodePoint,
+) -> Result<Node, Error>
+    requires { is_code_point c }
+    ensures ok { (e : Settings) → e.icase ≡ icase → IfOk result (λ node. Takes (tree node) (same_point (table tables.now) unicode e c)) }
+    ensures err { IfErr result (λ e. e ≡ Error.OutOfMemory) }
+{
+    let points = expand_code_point(alloc, c, icase, unicode, tables)?;
+    if points.len() == 1 {
+        Ok(Node::Char { c })
+    } else {
+        Ok(Node::CharSet(points))
+    }
+}
+
+/// A set, and where case is ignored all that a member is equal to ("CharacterSetMatcher"). `OutOfMemory` is the only error.
+fn closed(
+    tables: &Tables,
+    unicode: bool,
+    icase: bool,
+    set: CodePointSet,
+) -> Result<CodePointSet, Error>
+    ensures ok { (e : Settings) → e.icase ≡ icase → IfOk result (λ s. in_set s ≡ in_closed (table tables.now) unicode e (in_set set)) }
+    ensures err { IfErr result (λ e. e ≡ Error.OutOfMemory) }
+{
+    if icase {
+        closure(set, unicode, tables)
+    } else {
+        Ok(set)
+    }
+}
+
+/// What a class matches that begins with `^`: one character that is equal to no member ("CharacterClass").
+/// `OutOfMemory` is the only error.
+pub(crate) fn negated_class_node(
+    alloc: Global,
+    tables: &Tables,
+    unicode: bool,
+    icase: bool,
+    class: &Class,
+) -> Result<Node, Error>
+    requires { ClassIsOfPoints (class_view class.now) }
+    ensures ok { (e : Settings) → e.icase ≡ icase → IfOk result (λ node.
+        Takes (tree node) (λ d. not (in_closed (table tables.now) unicode e (class_value (table tables.now) unicode e (class_view class.now)).singles d))) }
+    ensures err { IfErr result (λ e. e ≡ Error.OutOfMemory) }
+{
+    let value = class_value(alloc, tables, unicode && icase, class)?;
+    let members = closed(tables, unicode, icase, value.singles)?;
+    Ok(Node::Bracket(BracketContents {
+        invert: true,
+        cps: members,
+    }))
+}
+
+/// What a class matches that does not begin with `^`: one of its strings, the longest first ("CharacterClass",
+/// "CompileAtom"). `OutOfMemory` is the only error.
+pub(crate) fn class_node(
+    alloc: Global,
+    tables: &Tables,
+    unicode: bool,
+    icase: bool,
+    class: &Class,
+) -> Result<Node, Error>
+    requires { ClassIsOfPoints (class_view class.now) }
+    ensures ok { (e : Settings) → e.icase ≡ icase → IfOk result (λ node. LowersClass (table tables.now) unicode e (class_view class.now) (tree node)) }
+    ensures err { IfErr result (λ e. e ≡ Error.OutOfMemory) }
+{
+    let value = class_value(alloc, tables, unicode && icase, class)?;
+    let cps = closed(tables, unicode, icase, value.singles)?;
+    let characters = Node::Bracket(BracketContents { invert: false, cps });
+    let has_empty = has_empty(&value.strings);
+    let strings = by_length(alloc, value.strings)?;
+    alternatives(
+        alloc,
+        class_arms(alloc, icase, strings, characters, has_empty)?,
+    )
+}
+
+/// Whether the empty string is one of these.
+fn has_empty(strings: &[Vec<CodePoint>]) -> bool
+    ensures { result ≡ among (lists strings.now) [] }
+{
+    strings.iter().any(|string| string.is_empty())
+}
+
+/// The strings but the empty one, the longest first. `OutOfMemory` is the only error.
+fn by_length(
+    alloc: Global,
+    strings: Vec<Vec<CodePoint>>,
+) -> Result<Vec<BoxedSlice<CodePoint>>, Error>
+    requires { All (All is_code_point) (lists strings.items) }
+    ensures ok { IfOk result (λ sorted. AreByLength (map boxed_slice_items sorted.items) (lists strings.items)) }
+    ensures err { IfErr result (λ e. e ≡ Error.OutOfMemory) }
+{
+    let mut longer = strings;
+    longer.retain(|string| !string.is_empty());
+    longer.sort_by(|a, b| b.len().cmp(&a.len()))?;
+    Ok(boxed(alloc, longer)?)
+}
+
+/// The same strings, in slices of their own. `OutOfMemory` is the only error.
+fn boxed(
+    alloc: Global,
+    strings: Vec<Vec<CodePoint>>,
+) -> Result<Vec<BoxedSlice<CodePoint>>, AllocError>
+    ensures { IfOk result (λ boxes. map boxed_slice_items boxes.items ≡ lists strings.items) }
+{
+    strings
+        .into_iter()
+        .map(|string| string.into_boxed_slice())
+        .collect(alloc)
+}
+
+/// The arms of a class: its longer strings, if there are any, its single characters, and the empty string, if it is one of
+/// its strings. `OutOfMemory` is the only error.
+fn class_arms(
+    alloc: Global,
+    icase: bool,
+    strings: Vec<BoxedSlice<CodePoint>>,
+    characters: Node,
+    has_empty: bool,
+) -> Result<NodeList, Error>
+    ensures ok { IfOk result (λ arms. map tree arms.items ≡ class_arms icase (map boxed_slice_items strings.items) (tree characters) has_empty) }
+    ensures err { IfErr result (λ e. e ≡ Error.OutOfMemory) }
+{
+    let mut arms = Vec::new(alloc);
+    if !strings.is_empty() {
+        arms.push(Node::StringSet {
+            alternatives: strings,
+            icase,
+        })?;
+    }
+    arms.push(characters)?;
+    if has_empty {
+        let empty = Vec::new(alloc).into_boxed_slice();
+        arms.push(Node::StringSet {
+            alternatives: vec![in alloc; empty]?,
+            icase,
+        })?;
+    }
+    Ok(arms)
+}
+
+#[cfg(test)]
+mod tests {
+    use super::*;
+    use crate::class_value::tests::{complement, range, strings};
+    use std::test::Fail;
+
+    /// Whether the node takes the character.
+    fn takes(node: &Node, c: CodePoint) -> bool {
+        match node {
+            Node::Char { c: own } => *own == c,
+            Node::CharSet(points) => points.contains(&c),
+            Node::Bracket(contents) => contents.invert != contents.cps.contains(c),
+            _ => false,
+        }
+    }
+
+    #[test]
+    fn characters_stand_with_those_equal_to_them(rt: HostRuntime) -> Result<(), Fail> {
+        let tables = Tables::small(rt.alloc())?;
+        let s = character_node(rt.alloc(), &tables, true, true, 0x73)?;
+        assert!(rt;
+            matches!(&s, Node::CharSet(points) if points.as_slice() == [0x53, 0x73, 0x17F].as_slice())
+        );
+        let digit = character_node(rt.alloc(), &tables, true, true, 0x30)?;
+        assert!(rt; matches!(digit, Node::Char { c: 0x30 }));
+        let alone = character_node(rt.alloc(), &tables, true, false, 0x73)?;
+        assert!(rt; matches!(alone, Node::Char { c: 0x73 }));
+        Ok(())
+    }
+
+    #[test]
+    fn complement_is_taken_before_the_closure(rt: HostRuntime) -> Result<(), Fail> {
+        let tables = Tables::small(rt.alloc())?;
+        let no_word = complement(rt.alloc(), Class::Words)?;
+        let folded = class_node(rt.alloc(), &tables, true, true, &no_word)?;
+        assert!(rt; !takes(&folded, 0x17F));
+        assert!(rt; !takes(&folded, 0x73));
+        assert!(rt; takes(&folded, 0x2D));
+        let plain = class_node(rt.alloc(), &tables, true, false, &no_word)?;
+        assert!(rt; takes(&plain, 0x17F));
+        let no_upper = complement(rt.alloc(), range(0x41, 0x5A))?;
+        let all = class_node(rt.alloc(), &tables, true, true, &no_upper)?;
+        assert!(rt; takes(&all, 0x41));
+        Ok(())
+    }
+
+    #[test]
+    fn outermost_complement_is_taken_after_the_closure(rt: HostRuntime) -> Result<(), Fail> {
+        let tables = Tables::small(rt.alloc())?;
+        let node = negated_class_node(rt.alloc(), &tables, false, true, &range(0x61, 0x61))?;
+        assert!(rt; !takes(&node, 0x61));
+        assert!(rt; !takes(&node, 0x41));
+        assert!(rt; takes(&node, 0x62));
+        Ok(())
+    }
+
+    #[test]
+    fn longest_string_comes_first(rt: HostRuntime) -> Result<(), Fail> {
+        let tables = Tables::small(rt.alloc())?;
+        let class = strings(rt.alloc(), &["de", "abc", "f", ""])?;
+        let node = class_node(rt.alloc(), &tables, true, false, &class)?;
+        let Node::Alt(longer, last) = &node else {
+            return Err("no arms".into());
+        };
+        let Node::Alt(first, single) = &**longer else {
+            return Err("two arms".into());
+        };
+        assert!(rt; is_string_set(first, &[3, 2]));
+        assert!(rt; takes(single, 0x66));
+        assert!(rt; !takes(single, 0x64));
+        assert!(rt; is_string_set(last, &[0]));
+        Ok(())
+    }
+
+    /// Whether the node is of strings of these lengths, in this order.
+    fn is_string_set(node: &Node, lengths: &[usize]) -> bool {
+        match node {
+            Node::StringSet { alternatives, .. } => {
+                alternatives.len() == lengths.len()
+                    && alternatives
+                        .iter()
+                        .zip(lengths)
+                        .all(|(string, length)| string.len() == *length)
+            }
+            _ => false,
+        }
+    }
+
+    #[test]
+    fn class_without_longer_strings_is_one_bracket(rt: HostRuntime) -> Result<(), Fail> {
+        let tables = Tables::small(rt.alloc())?;
+        let class = strings(rt.alloc(), &["f"])?;
+        let node = class_node(rt.alloc(), &tables, true, false, &class)?;
+        assert!(rt; matches!(&node, Node::Bracket(_)));
+        assert!(rt; takes(&node, 0x66));
+        Ok(())
+    }
+}
