@@ -24,6 +24,7 @@ use Rattle.regress_front_tree.specs.Trees.{tree}
 use Rattle.regress.specs.Views.{item_of}
 use Rattle.regress.specs.TextViews.{utf8_reading}
 use Rattle.regress.specs.GroupViews.{groups_of}
+use Rattle.regress.specs.GroupNames.{group_count, shared_names}
 use Rattle.regress.specs.Standing.{StandsFor}
 use Rattle.regress.specs.Iterating.{place_within, coming_on, GivesFirst}
 use Rattle.regress.specs.Coming.{searching, items_from, StartsAt, searched, coming}
@@ -139,11 +140,13 @@ coming-made ms bytes r t o p at place same over starts stands begins =
     let read : points ≡ chars bytes = ms.read ∙ ap chars over in
     let begins' : Begins (utf8_reading points) at place = let P : List ℕ → Type 0 = λ ps. Begins (utf8_reading ps) at place in subst P (sym read) begins in
     let none : length points < place → items_from search place ≡ [] = λ past.
-    ap (map (told (utf8_reading points))) (nil_from_length _ (omega (arith, matches_bounded (searching search.regex.now points) search.regex.now.group_count (tree search.regex.now.node) place))) in
-    let listed : (q : ℕ) → node_match_list (searching search.regex.now points) search.regex.now.group_count (tree search.regex.now.node) q ≡ match_list t o p points q = λ q.
-    ap (λ (u : Regex). node_match_list (searching u points) u.group_count (tree u.node) q) same
-    ∙ ap (λ (context : Context). node_match_list context r.group_count (tree r.node) q) (λ i. record { text = points; table = stands.tables i; unicode = is_unicode (stands.flags i) })
-    ∙ match_list-same t o p points (tree r.node) r.group_count stands.groups stands.alike (code_points points search.characters) q in
+    ap (map (told (utf8_reading points))) (nil_from_length _ (omega (arith, matches_bounded (searching search.regex.now points) (group_count search.regex.now.group_names) (tree search.regex.now.node) place))) in
+    let counted : group_count r.group_names ≡ length (names_of p) =
+    sym (length-map (arc_slice_items r.group_names) string_bytes) ∙ sym (length-map (shared_names r.group_names) chars) ∙ ap length stands.names in
+    let listed : (q : ℕ) → node_match_list (searching search.regex.now points) (group_count search.regex.now.group_names) (tree search.regex.now.node) q ≡ match_list t o p points q = λ q.
+    ap (λ (u : Regex). node_match_list (searching u points) (group_count u.group_names) (tree u.node) q) same
+    ∙ ap (λ (context : Context). node_match_list context (group_count r.group_names) (tree r.node) q) (λ i. record { text = points; table = stands.tables i; unicode = is_unicode (stands.flags i) })
+    ∙ match_list-same t o p points (tree r.node) (group_count r.group_names) counted stands.alike (code_points points search.characters) q in
     ap (coming_on (items_from search)) (starts place begins') ∙ coming_on_within (items_from search) (length points) place none
     ∙ ap (map (told (utf8_reading points))) (listed place) ∙ rw read refl
 

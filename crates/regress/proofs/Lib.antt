@@ -8,4 +8,5 @@ pub mod OutcomeLemmas
 pub mod MatchLemmas
 pub mod AlikeLemmas
 pub mod NumberLemmas
+pub mod NameLemmas
 pub mod IterationLemmas

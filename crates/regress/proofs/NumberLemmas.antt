@@ -8,7 +8,7 @@ use Rattle.std.proofs.lemmas.List.{drop_more}
 use Rattle.regress_front_tree.specs.Trees.{tree, cat_of}
 use Rattle.regress_front_tree.specs.WellFormed.{AreNumbered, group_ids}
 use Rattle.regress_front_tree.specs.declared.node.Node.{Node}
-use Rattle.regress.specs.GroupNumbers.{bound_of}
+use Rattle.regress.specs.GroupNames.{bound_of}
 
 pub bound_of-append : (xs ys : List ℕ) → bound_of (xs ++ ys) ≡ max (bound_of xs) (bound_of ys)
 bound_of-append [] ys = omega arith

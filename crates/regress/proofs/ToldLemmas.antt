@@ -88,7 +88,7 @@ all_told f old new k changed past =
 pub match_told : (points : List ℕ) (found : Match) (r : Range ℕ) (old new : List (Option (Range ℕ))) (k : ℕ)
     → ends r ≡ offset_range (utf8_reading points) (ends found.range) → old ≡ found.captures.items → length old ≡ vec_len found.captures
     → new ≡ map (option_map (told_range points)) (take k old) ++ drop k old → length old ≤ k
-    → item_of (record { range = r; captures = with_items found.captures new }) ≡ told (utf8_reading points) (item_of found)
+    → item_of (record { range = r; captures = with_items found.captures new; group_names = found.group_names }) ≡ told (utf8_reading points) (item_of found)
 match_told points found r old new k whole same count changed past =
     let f : Option (Range ℕ) → Option (Range ℕ) = option_map (told_range points) in
     let all : new ≡ map f old = all_told f old new k changed past in

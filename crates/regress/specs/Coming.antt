@@ -11,7 +11,9 @@ use Rattle.regress.specs.declared.engine.matches.Matches.{Matches}
 use Rattle.regress_front_tree.specs.Trees.{tree}
 use Rattle.regress_front_sets.specs.TableViews.{table}
 use Rattle.regress_front_sets.specs.FlagWords.{options}
+use Rattle.regress.specs.GroupViews.{names_of_match}
 use Rattle.regress.specs.NodeMatches.{node_match_list}
+use Rattle.regress.specs.GroupNames.{group_count, shared_names}
 use Rattle.regress.specs.TextViews.{utf8_reading}
 use Rattle.regress.specs.Iterating.{coming_on, steps_on, place_within}
 
@@ -24,7 +26,7 @@ abbrev pub items_from : Search → ℕ → List Item
 items_from s place =
     let points = s.text.points.items in
     let r = s.regex.now in
-    map (told (utf8_reading points)) (node_match_list (searching r points) r.group_count (tree r.node) place)
+    map (told (utf8_reading points)) (node_match_list (searching r points) (group_count r.group_names) (tree r.node) place)
 
 -- how many places lie behind one
 abbrev pub places_behind : Search → ℕ → ℕ
@@ -40,9 +42,17 @@ StartsAt s at position =
 abbrev pub LiesBetween : List ℕ → Match → Type 0
 LiesBetween bytes m = (m.range.start ≤ m.range.end) × IsCharBoundary bytes m.range.start × IsCharBoundary bytes m.range.end
 
+-- a match, told in bytes, lies inside a text between characters, and its groups have these names
+abbrev pub IsMatchIn : List ℕ → List (List ℕ) → Match → Type 0
+IsMatchIn bytes names m = LiesBetween bytes m × (names_of_match m ≡ names)
+
 -- The bytes of the text that is searched.
 abbrev pub searched : Matches → List ℕ
 searched ms = ms.source.now
+
+-- The names of the groups of the pattern that is sought, as bytes of UTF-8.
+abbrev pub sought_names : Matches → List (List ℕ)
+sought_names ms = shared_names ms.inner.producer.regex.now.group_names
 
 -- The items that are still to come, told in bytes.
 abbrev pub coming : Matches → List Item

@@ -20,17 +20,17 @@ abbrev pub steps_on : {P : Type 0} → (P → ℕ) → Option P → ℕ
 steps_on left None = 0
 steps_on left (Some position) = left position + 1
 
--- A search from a position gave this, and goes on at the next position, if any: the first of the items, which lies inside,
+-- A search from a position gave this, and goes on at the next position, if any: the first of the items, a match of this search,
 -- before the others; or nothing where there was none.
 abbrev pub Finds : {P : Type 0} → (P → List Item) → (Match → Type 0) → P → Option Match → Option P → Type 0
-Finds items IsInside position None next = (items position ≡ []) × (next ≡ None)
-Finds items IsInside position (Some m) next = (items position ≡ item_of m ∷ coming_on items next) × IsInside m
+Finds items IsOfSearch position None next = (items position ≡ []) × (next ≡ None)
+Finds items IsOfSearch position (Some m) next = (items position ≡ item_of m ∷ coming_on items next) × IsOfSearch m
 
 -- what a step gave, from the items that were coming to those that still are
 abbrev pub GivesFirst : (Match → Type 0) → List Item → Option (Result Match Error) → List Item → Type 0
-GivesFirst IsInside before None after = (before ≡ []) × (after ≡ [])
-GivesFirst IsInside before (Some (Ok m)) after = (before ≡ item_of m ∷ after) × IsInside m
-GivesFirst IsInside before (Some (Err e)) after = (e ≡ OutOfMemory) × (after ≡ [])
+GivesFirst IsOfSearch before None after = (before ≡ []) × (after ≡ [])
+GivesFirst IsOfSearch before (Some (Ok m)) after = (before ≡ item_of m ∷ after) × IsOfSearch m
+GivesFirst IsOfSearch before (Some (Err e)) after = (e ≡ OutOfMemory) × (after ≡ [])
 
 -- the fact holds where a step gave no match
 abbrev pub UnlessFound : Option (Result Match Error) → Type 0 → Type 0
@@ -40,8 +40,8 @@ UnlessFound (Some (Err e)) Q = Q
 
 -- A step of an iterator over matches. It gives the first of the items that were coming, or a refusal, or nothing where none
 -- was coming. With a refusal and with nothing it has ended, and one that has ended gives nothing.
-pub record GivesMatch {S : Type 0} (coming : S → List Item) (HasEnded : S → Type 0) (IsInside : Match → Type 0)
+pub record GivesMatch {S : Type 0} (coming : S → List Item) (HasEnded : S → Type 0) (IsOfSearch : Match → Type 0)
     (old : S) (r : Option (Result Match Error)) (new : S) : Type 0 where
-  pub first : GivesFirst IsInside (coming old) r (coming new)
+  pub first : GivesFirst IsOfSearch (coming old) r (coming new)
   pub ends : UnlessFound r (HasEnded new)
   pub ended : HasEnded old → r ≡ None

@@ -8,5 +8,5 @@ pub mod Standing
 pub mod Iterating
 pub mod Coming
 pub mod GroupViews
-pub mod GroupNumbers
+pub mod GroupNames
 pub mod Utf8Reading

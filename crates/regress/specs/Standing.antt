@@ -1,5 +1,5 @@
 -- What a compiled pattern stands for.
-use Rattle.std.specs.Prelude.{◌≡◌, false, length}
+use Rattle.std.specs.Prelude.{◌≡◌, false, map, chars}
 use Rattle.regress_meaning.specs.Table.{Table}
 use Rattle.regress_meaning.specs.Pattern.{Pattern, names_of}
 use Rattle.regress_meaning.specs.Flags.{Options, is_unicode, first_settings}
@@ -10,14 +10,16 @@ use Rattle.regress_front_tree.specs.Trees.{tree}
 use Rattle.regress_front_tree.specs.TreeMeaning.{node_outcomes}
 use Rattle.regress_front_tree.specs.Alike.{IsAlike}
 use Rattle.regress.specs.declared.api.Regex.{Regex}
+use Rattle.regress.specs.GroupNames.{shared_names}
 
 -- no flags
 abbrev pub plain : Options
 plain = record { icase = false; multiline = false; dot_all = false; unicode = false; sets = false }
 
--- The compiled pattern stands for the tree, under this table and these options: it has as many groups, and is alike it.
+-- The compiled pattern stands for the tree, under this table and these options: its groups have the
+-- same names, and it is alike it.
 pub record StandsFor (r : Regex) (t : Table) (o : Options) (p : Pattern) : Type 0 where
   pub tables : table r.tables.now ≡ t
   pub flags : options r.flags ≡ o
-  pub groups : r.group_count ≡ length (names_of p)
+  pub names : map chars (shared_names r.group_names) ≡ names_of p
   pub alike : IsAlike t (is_unicode o) (λ context. node_outcomes context (tree r.node) Forward) (λ context. outcomes context p Forward (first_settings o))

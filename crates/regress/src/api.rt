@@ -14,11 +14,12 @@ ghost use Rattle.regress_front_syntax.specs.Refusals.{MayRefuse};
 
 use crate::engine::found::Match;
 use crate::engine::matches::Matches;
-use crate::engine::numbers::group_bound;
+use crate::engine::numbers::group_names;
 use crate::engine::text::Text;
-use regress_front_sets::{Error, Flags, Tables};
+use regress_front_sets::{CaptureGroupName, Error, Flags, Tables};
 use regress_front_tree::{Node, try_parse};
 use std::alloc::Global;
+use std::sync::ArcSlice;
 
 /// Whether a search in `text` may begin at `start`, an offset in bytes: at a boundary between characters, or past the end.
 pub fn is_start(text: &str, start: usize) -> bool
@@ -34,12 +35,14 @@ pub struct Regex<'u> {
     pub(crate) tables: &'u Tables,
     pub(crate) flags: Flags,
     pub(crate) node: Node,
-    pub(crate) group_count: usize,
+    pub(crate) group_names: ArcSlice<CaptureGroupName>,
 }
 
 impl<'u> Regex<'u> {
     ghost use Rattle.regress.specs.Standing.{StandsFor, plain};
-    ghost use Rattle.regress.specs.Coming.{searched, coming};
+    ghost use Rattle.regress.specs.Coming.{searched, sought_names, coming};
+    ghost use Rattle.regress.specs.GroupNames.{shared_names};
+    ghost use Rattle.regress.specs.GroupViews.{names_of_match};
 
     /// Compiles a pattern without flags.
     ///
@@ -82,13 +85,13 @@ impl<'u> Regex<'u> {
         ensures refused { IfErr result (MayRefuse (table tables.now) (options flags) points.now) }
     {
         let node = try_parse(alloc, points, flags, tables)?.node;
-        let group_count = group_bound(&node);
+        let group_names = ArcSlice::from_vec(group_names(alloc, &node)?)?;
         Ok(Regex {
             alloc,
             tables,
             flags,
             node,
-            group_count,
+            group_names,
         })
     }
 
@@ -99,6 +102,7 @@ impl<'u> Regex<'u> {
         ensures found { (t : Table) → (o : Options) → (p : Pattern) → StandsFor self.now t o p →
             IfOk result (λ found. option_map item_of found ≡ option_map (told (of_utf8 text.now)) (slice_get (match_list t o p (chars text.now) 0) 0)) }
         ensures inside { IfOk result (λ found. IfSome found (λ m. (m.range.start ≤ m.range.end) × IsCharBoundary text.now m.range.start × IsCharBoundary text.now m.range.end)) }
+        ensures named { IfOk result (λ found. IfSome found (λ m. names_of_match m ≡ shared_names self.now.group_names)) }
         ensures refused { IsOkUnless result Error.OutOfMemory }
     {
         self.find_iter(text)?.next().transpose()
@@ -111,6 +115,7 @@ impl<'u> Regex<'u> {
         ensures matches { (t : Table) → (o : Options) → (p : Pattern) → StandsFor self.now t o p →
             IfOk result (λ ms. coming ms ≡ map (told (of_utf8 text.now)) (match_list t o p (chars text.now) 0)) }
         ensures over { IfOk result (λ ms. searched ms ≡ text.now) }
+        ensures named { IfOk result (λ ms. sought_names ms ≡ shared_names self.now.group_names) }
         ensures refused { IsOkUnless result Error.OutOfMemory }
     {
         self.find_from(text, 0)
@@ -130,6 +135,7 @@ impl<'u> Regex<'u> {
             (place : ℕ) → Begins (of_utf8 text.now) start place →
             IfOk result (λ ms. coming ms ≡ map (told (of_utf8 text.now)) (match_list t o p (chars text.now) place)) }
         ensures over { IfOk result (λ ms. searched ms ≡ text.now) }
+        ensures named { IfOk result (λ ms. sought_names ms ≡ shared_names self.now.group_names) }
         ensures refused { IsOkUnless result Error.OutOfMemory }
     {
         Matches::new(self, text, start)

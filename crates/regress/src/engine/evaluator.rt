@@ -9,6 +9,8 @@ ghost use Rattle.std.specs.Prelude.{if◌then◌else◌};
 ghost use Rattle.regress_front_syntax.specs.Trees.{most};
 ghost use Rattle.regress.specs.NodeMatches.{node_attempt, node_first_match};
 ghost use Rattle.regress.specs.Views.{item_of};
+ghost use Rattle.regress.specs.GroupNames.{shared_names, group_count};
+ghost use Rattle.regress.specs.GroupViews.{names_of_match};
 ghost use Rattle.regress.specs.StateViews.{state_of, context_of, direction_of, IsItemInside};
 
 use crate::engine::found::Match;
@@ -17,19 +19,21 @@ use crate::engine::state::State;
 use crate::engine::steps::Direction;
 use crate::engine::tasks::{Task, push_expansions, push_tasks};
 use crate::engine::utf8::characters;
-use regress_front_sets::{CaptureGroupID, CodePoint, Tables};
+use regress_front_sets::{CaptureGroupID, CaptureGroupName, CodePoint, Tables};
 use regress_front_tree::{AnchorType, Node, Quantifier};
 use std::alloc::{AllocError, Global};
 use std::boxed::BoxedSlice;
+use std::sync::ArcSlice;
 
-/// A text to be searched, as code points, with the tables and the mode that hold for the whole pattern. The text's places
-/// are counted from 0 to its length.
+/// A text to be searched, as code points, with the tables, the mode and the names of the groups that hold for the whole
+/// pattern. The text's places are counted from 0 to its length.
 #[derive(Drop)]
 pub(crate) struct Evaluator<'s> {
     pub(crate) alloc: Global,
     pub(crate) points: &'s [CodePoint],
     pub(crate) tables: &'s Tables,
     pub(crate) unicode: bool,
+    pub(crate) group_names: &'s ArcSlice<CaptureGroupName>,
 }
 
 impl<'s> Evaluator<'s> {
@@ -51,9 +55,9 @@ impl<'s> Evaluator<'s> {
             Node::ByteSet(bytes) => self.one(&Single::ByteSet(bytes), direction, state),
             Node::CharSet(points) => self.one(&Single::CharSet(points), direction, state),
             Node::Cat(parts) => self.outcomes_of_parts(parts, direction, state),
-            Node::Alt(first, rest) => {
+            Node::Alt(first, second) => {
                 let mut states = self.outcomes(first, direction, state)?;
-                states.append(&mut self.outcomes_of_arms(rest, direction, state)?)?;
+                states.append(&mut self.outcomes(second, direction, state)?)?;
                 Ok(states)
             }
             Node::MatchAny => self.one(&Single::Any, direction, state),
@@ -197,28 +201,6 @@ impl<'s> Evaluator<'s> {
         Ok(states)
     }
 
-    /// What a tree leads to, one arm after another if it is a choice.
-    #[cycle(evaluator)]
-    fn outcomes_of_arms(
-        &self,
-        node: &Node,
-        direction: Direction,
-        state: &State,
-    ) -> Result<Vec<State>, AllocError>
-        ensures { IfOk result (λ states. map state_of states.items
-            ≡ node_outcomes (context_of self.now) (tree node.now) (direction_of direction) (state_of state.now)) }
-    {
-        let mut states = Vec::new(self.alloc);
-        // A loop in place of a recursion: a choice may have as many arms as the pattern is long.
-        let mut rest = node;
-        while let Node::Alt(arm, others) = rest {
-            states.append(&mut self.outcomes(arm, direction, state)?)?;
-            rest = others;
-        }
-        states.append(&mut self.outcomes(rest, direction, state)?)?;
-        Ok(states)
-    }
-
     /// What a group's contents lead to, the group set.
     #[cycle(evaluator)]
     fn outcomes_of_capture(
@@ -303,18 +285,14 @@ impl<'s> Evaluator<'s> {
     }
 
     /// The most preferred match that begins at a place.
-    fn attempt(
-        &self,
-        node: &Node,
-        group_count: usize,
-        place: usize,
-    ) -> Result<Option<Match>, AllocError>
+    fn attempt(&self, node: &Node, place: usize) -> Result<Option<Match>, AllocError>
         ensures value { IfOk result (λ found. option_map item_of found
-            ≡ node_attempt (context_of self.now) group_count (tree node.now) place) }
+            ≡ node_attempt (context_of self.now) (group_count self.now.group_names.now) (tree node.now) place) }
         ensures inside { place ≤ length self.now.points.now →
             IfOk result (λ found. IfSome found (λ m. IsItemInside self.now.points.now (item_of m))) }
+        ensures named { IfOk result (λ found. IfSome found (λ m. names_of_match m ≡ shared_names self.now.group_names.now)) }
     {
-        let groups = vec![in self.alloc; None; group_count]?;
+        let groups = vec![in self.alloc; None; self.group_names.len()]?;
         let states = self.outcomes(node, Direction::Forward, &State { place, groups })?;
         let Some(state) = states.into_iter().next() else {
             return Ok(None);
@@ -322,26 +300,22 @@ impl<'s> Evaluator<'s> {
         Ok(Some(Match {
             range: place..state.place,
             captures: state.groups,
+            group_names: self.group_names.clone()?,
         }))
     }
 
     /// The match at the least place from `place` on that has one, told in places ("RegExpBuiltinExec").
     ///
-    /// `group_count` is how many groups the tree has. From a place past the end there is none. It errs where a request
-    /// for memory is refused.
-    pub(crate) fn first_match(
-        &self,
-        node: &Node,
-        group_count: usize,
-        place: usize,
-    ) -> Result<Option<Match>, AllocError>
+    /// From a place past the end there is none. It errs where a request for memory is refused.
+    pub(crate) fn first_match(&self, node: &Node, place: usize) -> Result<Option<Match>, AllocError>
         ensures value { IfOk result (λ found. option_map item_of found
-            ≡ node_first_match (context_of self.now) group_count (tree node.now) place) }
+            ≡ node_first_match (context_of self.now) (group_count self.now.group_names.now) (tree node.now) place) }
         ensures inside { IfOk result
             (λ found. IfSome found (λ m. IsItemInside self.now.points.now (item_of m))) }
+        ensures named { IfOk result (λ found. IfSome found (λ m. names_of_match m ≡ shared_names self.now.group_names.now)) }
     {
         for start in place..=self.points.len() {
-            if let Some(found) = self.attempt(node, group_count, start)? {
+            if let Some(found) = self.attempt(node, start)? {
                 return Ok(Some(found));
             }
         }
@@ -409,12 +383,26 @@ mod tests {
         })
     }
 
-    fn evaluator<'s>(alloc: Global, tables: &'s Tables, points: &'s [CodePoint]) -> Evaluator<'s> {
+    /// The empty names of so many groups.
+    fn unnamed(
+        alloc: Global,
+        group_count: usize,
+    ) -> Result<ArcSlice<CaptureGroupName>, AllocError> {
+        ArcSlice::from_vec(vec![in alloc; CaptureGroupName::new(alloc); group_count]?)
+    }
+
+    fn evaluator<'s>(
+        alloc: Global,
+        tables: &'s Tables,
+        points: &'s [CodePoint],
+        group_names: &'s ArcSlice<CaptureGroupName>,
+    ) -> Evaluator<'s> {
         Evaluator {
             alloc,
             points,
             tables,
             unicode: false,
+            group_names,
         }
     }
 
@@ -432,7 +420,9 @@ mod tests {
             groups: Vec::new(alloc),
         };
         let mut places = Vec::new(alloc);
-        for state in evaluator(alloc, &tables, points).outcomes(node, direction, &start)? {
+        let names = unnamed(alloc, 0)?;
+        let states = evaluator(alloc, &tables, points, &names).outcomes(node, direction, &start)?;
+        for state in states {
             places.push(state.place)?;
         }
         Ok(places)
@@ -458,7 +448,8 @@ mod tests {
         group_count: usize,
     ) -> Result<Match, Fail> {
         let tables = Tables::small(alloc)?;
-        let found = evaluator(alloc, &tables, points).first_match(node, group_count, 0)?;
+        let names = unnamed(alloc, group_count)?;
+        let found = evaluator(alloc, &tables, points, &names).first_match(node, 0)?;
         Ok(found.ok_or("no match")?)
     }
 
@@ -583,7 +574,8 @@ mod tests {
     #[test]
     fn searches_from_a_place_on(rt: HostRuntime) -> Result<(), Fail> {
         let tables = Tables::small(rt.alloc())?;
-        let evaluator = evaluator(rt.alloc(), &tables, &ABCD);
+        let names = unnamed(rt.alloc(), 0)?;
+        let evaluator = evaluator(rt.alloc(), &tables, &ABCD, &names);
         let found = evaluator
             .first_match(&letter('c'), 0, 1)?
             .ok_or("no match")?;
@@ -644,7 +636,8 @@ mod tests {
             let back = Node::BackRef { group: 1, icase };
             let node = pair(alloc, group(alloc, 0, letter('a'))?, back)?;
             let tables = Tables::small(alloc)?;
-            let found = evaluator(alloc, &tables, &[0x61, 0x41]).first_match(&node, 1, 0)?;
+            let names = unnamed(alloc, 1)?;
+            let found = evaluator(alloc, &tables, &[0x61, 0x41], &names).first_match(&node, 0)?;
             assert_eq!(rt; found.map(|found| found.range()), expected);
         }
         let unset = Node::BackRef {

@@ -1,8 +1,10 @@
 //! A match, and what is read from it.
-ghost use Rattle.std.specs.Prelude.{◌≡◌, ◌<◌, ◌≤◌, ◌-◌, Some, None, vec_len, slice_get, slice_range};
+ghost use Rattle.std.specs.Prelude.{◌≡◌, ◌≢◌, ◌<◌, ◌≤◌, ◌-◌, ℕ, [], Some, None, unwrap_or, vec_len, slice_get, slice_range};
 ghost use Rattle.std.specs.Str.{IsCharBoundary};
 
 use crate::engine::groups::Groups;
+use regress_front_sets::CaptureGroupName;
+use std::sync::ArcSlice;
 
 /// A range of offsets.
 pub type Range = std::ops::Range<usize>;
@@ -14,10 +16,12 @@ pub struct Match {
     pub range: Range,
     /// The range of each capturing group in order of its number, in bytes too; `None` where the group took no part.
     pub captures: Vec<Option<Range>>,
+    pub(crate) group_names: ArcSlice<CaptureGroupName>,
 }
 
 impl Match {
-    ghost use Rattle.regress.specs.GroupViews.{groups_of, groups_left};
+    ghost use Rattle.regress.specs.GroupViews.{groups_of, groups_left, names_of_match};
+    ghost use Rattle.regress.specs.GroupNames.{IsFirstNamed};
 
     /// The range of a group, in bytes of the text that was searched: 0 is the whole match, and 1 the first capturing
     /// group. `None` where the group took no part, and past the last one.
@@ -34,6 +38,24 @@ impl Match {
             Some(Some(range)) => Some(range.start..range.end),
             _ => None,
         }
+    }
+
+    /// The range of the first capturing group with a name, in bytes of the text that was searched. `None` where that group
+    /// took no part, where no group has the name, and for the empty name.
+    pub fn named_group(&self, name: &str) -> Option<Range>
+        ensures first { (k : ℕ) → IsFirstNamed name.now (names_of_match self.now) k
+            → result ≡ unwrap_or (slice_get self.now.captures.items k) None }
+        ensures nowhere { ((k : ℕ) → slice_get (names_of_match self.now) k ≢ Some name.now) → result ≡ None }
+        ensures empty { name.now ≡ [] → result ≡ None }
+    {
+        if name.is_empty() {
+            return None;
+        }
+        let index = self
+            .group_names
+            .iter()
+            .position(|other| other.as_str() == name)?;
+        self.group(index + 1)
     }
 
     /// The range of the whole match and then that of each capturing group, as `group` answers them one after another.
@@ -86,6 +108,7 @@ mod tests {
         let mut found = Match {
             range: 1..6,
             captures: vec![in rt.alloc(); Some(1..3), None]?,
+            group_names: ArcSlice::from_vec(Vec::new(rt.alloc()))?,
         };
         assert_eq!(rt; found.range(), 1..6);
         assert_eq!(rt; found.start(), 1);
@@ -104,8 +127,29 @@ mod tests {
         let found = Match {
             range: 1..6,
             captures: Vec::new(rt.alloc()),
+            group_names: ArcSlice::from_vec(Vec::new(rt.alloc()))?,
         };
         assert_eq!(rt; found.as_str("aé漢😀"), "é漢");
+        Ok(())
+    }
+
+    #[test]
+    fn the_first_group_of_a_name_is_found(rt: HostRuntime) -> Result<(), Fail> {
+        let mut names = Vec::new(rt.alloc());
+        for name in ["", "year", "day", "year"] {
+            names.push(String::from_str(rt.alloc(), name)?)?;
+        }
+        let mut found = Match {
+            range: 1..6,
+            captures: vec![in rt.alloc(); Some(1..2), None, Some(2..4), Some(4..6)]?,
+            group_names: ArcSlice::from_vec(names)?,
+        };
+        assert_eq!(rt; found.named_group("day"), Some(2..4));
+        assert_eq!(rt; found.named_group("year"), None);
+        assert_eq!(rt; found.named_group("month"), None);
+        assert_eq!(rt; found.named_group(""), None);
+        found.captures.clear();
+        assert_eq!(rt; found.named_group("day"), None);
         Ok(())
     }
 }

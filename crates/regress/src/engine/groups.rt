@@ -64,6 +64,7 @@ impl<'m> FusedIterator for Groups<'m> {}
 #[cfg(test)]
 mod tests {
     use super::*;
+    use std::sync::ArcSlice;
     use std::test::Fail;
 
     #[test]
@@ -71,6 +72,7 @@ mod tests {
         let found = Match {
             range: 1..6,
             captures: vec![in rt.alloc(); Some(1..3), None]?,
+            group_names: ArcSlice::from_vec(Vec::new(rt.alloc()))?,
         };
         let mut groups = found.groups();
         assert_eq!(rt; groups.len(), 3);

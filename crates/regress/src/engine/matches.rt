@@ -28,8 +28,8 @@ pub(crate) trait MatchProducer: Drop {
     // A search that starts at an offset begins at a position, if at any.
     ghost starts_at: { Self → ℕ → Option Self.Position → Type 0 };
 
-    // A match lies in the text.
-    ghost is_inside: { Self → Match → Type 0 };
+    // A match lies in the text, and its groups are named as in the pattern.
+    ghost is_of_search: { Self → Match → Type 0 };
 
     /// The position at an offset; `None` for an offset past the end.
     fn initial_position(&self, offset: usize) -> Option<Self::Position>
@@ -42,7 +42,7 @@ pub(crate) trait MatchProducer: Drop {
         position: Self::Position,
         next: &mut Option<Self::Position>,
     ) -> Result<Option<Match>, Error>
-        ensures found { IfOk result (λ found. Finds (items_from self.now) (is_inside self.now) position found next.new) }
+        ensures found { IfOk result (λ found. Finds (items_from self.now) (is_of_search self.now) position found next.new) }
         ensures nearer { IfSome next.new (λ p. left_behind self.now p < left_behind self.now position) }
         ensures last { OnErr result (next.new ≡ None) }
         ensures refused { IsOkUnless result Error.OutOfMemory };
@@ -70,7 +70,7 @@ impl<P: MatchProducer> Iterator for Successive<P> {
     type Item = Result<Match, Error>;
 
     ghost next_gives = { λ old r new. (new.producer ≡ old.producer)
-        × GivesMatch (λ s. coming_on (P.items_from s.producer) s.position) (λ s. s.position ≡ None) (P.is_inside old.producer) old r new };
+        × GivesMatch (λ s. coming_on (P.items_from s.producer) s.position) (λ s. s.position ≡ None) (P.is_of_search old.producer) old r new };
 
     ghost remaining = { λ s. at_most (steps_on (P.left_behind s.producer) s.position) };
 
@@ -107,12 +107,14 @@ impl<'r> Search<'r> {
     fn evaluator(&self) -> Evaluator<'_>
         ensures context { context_of result ≡ searching self.now.regex.now self.now.text.points.items }
         ensures text { result.points.now ≡ self.now.text.points.items }
+        ensures names { result.group_names.now ≡ self.now.regex.now.group_names }
     {
         Evaluator {
             alloc: self.regex.alloc,
             points: self.text.points(),
             tables: self.regex.tables,
             unicode: self.regex.flags.unicode || self.regex.flags.unicode_sets,
+            group_names: &self.regex.group_names,
         }
     }
 }
@@ -135,7 +137,8 @@ fn place_after(found: &Match, last: usize) -> Option<usize>
 }
 
 impl<'r> MatchProducer for Search<'r> {
-    ghost use Rattle.regress.specs.Coming.{items_from, places_behind, StartsAt, LiesBetween};
+    ghost use Rattle.regress.specs.Coming.{items_from, places_behind, StartsAt, IsMatchIn};
+    ghost use Rattle.regress.specs.GroupNames.{shared_names};
 
     type Position = usize;
 
@@ -145,7 +148,7 @@ impl<'r> MatchProducer for Search<'r> {
 
     ghost starts_at = { StartsAt };
 
-    ghost is_inside = { λ s m. LiesBetween (encode_utf8_all s.text.points.items) m };
+    ghost is_of_search = { λ s m. IsMatchIn (encode_utf8_all s.text.points.items) (shared_names s.regex.now.group_names) m };
 
     fn initial_position(&self, offset: usize) -> Option<usize> {
         regress_meaning::offsets_rise();
@@ -160,9 +163,7 @@ impl<'r> MatchProducer for Search<'r> {
         *next = None;
         let regex = self.regex;
         let points = self.text.points();
-        let found = self
-            .evaluator()
-            .first_match(&regex.node, regex.group_count, position)?;
+        let found = self.evaluator().first_match(&regex.node, position)?;
         let Some(found) = found else {
             return Ok(None);
         };
@@ -197,12 +198,12 @@ impl<'r, 't> Matches<'r, 't> {
 }
 
 impl<'r, 't> Iterator for Matches<'r, 't> {
-    ghost use Rattle.regress.specs.Coming.{searched, coming, steps_left, HasEnded, LiesBetween};
+    ghost use Rattle.regress.specs.Coming.{searched, sought_names, coming, steps_left, HasEnded, IsMatchIn};
 
     type Item = Result<Match, Error>;
 
-    ghost next_gives = { λ old r new. (searched new ≡ searched old)
-        × GivesMatch coming HasEnded (LiesBetween (searched old)) old r new };
+    ghost next_gives = { λ old r new. (searched new ≡ searched old) × (sought_names new ≡ sought_names old)
+        × GivesMatch coming HasEnded (IsMatchIn (searched old) (sought_names old)) old r new };
 
     ghost remaining = { λ ms. at_most (steps_left ms) };
 

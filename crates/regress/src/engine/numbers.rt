@@ -1,15 +1,16 @@
-//! The numbers of a tree's groups.
-ghost use Rattle.std.specs.Prelude.{◌≡◌};
+//! The numbers of a tree's groups, and their names.
+ghost use Rattle.std.specs.Prelude.{◌≡◌, ◌<◌, [], ℕ, length, map, Some, slice_get, option_map, unwrap_or, IfOk, OnOk};
 ghost use Rattle.regress_front_tree.specs.Trees.{tree, cat_of};
 ghost use Rattle.regress_front_tree.specs.WellFormed.{group_ids};
-ghost use Rattle.regress.specs.GroupNumbers.{bound_of};
-ghost use Rattle.std.specs.Prelude.{map};
+ghost use Rattle.regress.specs.GroupNames.{bound_of, characters_of, renamed};
 
+use regress_front_sets::CaptureGroupName;
 use regress_front_tree::Node;
+use std::alloc::{AllocError, Global};
 
 /// One more than the greatest number of a group in a tree; 0 where there is none.
 #[cycle(numbers)]
-pub(crate) fn group_bound(node: &Node) -> usize
+fn group_bound(node: &Node) -> usize
     ensures { result ≡ bound_of (group_ids (tree node.now)) }
 {
     match node {
@@ -27,7 +28,7 @@ pub(crate) fn group_bound(node: &Node) -> usize
         | Node::Bracket(_)
         | Node::StringSet { .. } => 0,
         Node::Cat(parts) => group_bound_of_parts(parts),
-        Node::Alt(first, rest) => group_bound(first).max(group_bound_of_arms(rest)),
+        Node::Alt(first, second) => group_bound(first).max(group_bound(second)),
         Node::CaptureGroup { id, contents, .. } => {
             group_bound(contents).max(usize::from(*id) + 1)
         }
@@ -49,17 +50,78 @@ fn group_bound_of_parts(parts: &[Node]) -> usize
     bound
 }
 
-/// The same for a tree, one arm after another if it is a choice.
-#[cycle(numbers)]
-fn group_bound_of_arms(node: &Node) -> usize
-    ensures { result ≡ bound_of (group_ids (tree node.now)) }
+/// Puts a group's name in the place of another, the empty one where the group has none.
+fn rename(
+    old: &mut CaptureGroupName,
+    name: &Option<CaptureGroupName>,
+) -> Result<(), AllocError>
+    ensures { OnOk result (characters_of old.new ≡ unwrap_or (option_map characters_of name.now) []) }
 {
-    let mut bound = 0;
-    // A loop in place of a recursion: a choice may have as many arms as the pattern is long.
-    let mut rest = node;
-    while let Node::Alt(arm, others) = rest {
-        bound = group_bound(arm).max(bound);
-        rest = others;
+    old.clear();
+    match name {
+        Some(name) => old.push_str(name),
+        None => Ok(()),
     }
-    group_bound(rest).max(bound)
+}
+
+/// Writes the name of each group of a tree at the group's number, the empty one where it has none.
+#[cycle(names)]
+fn write_names(node: &Node, names: &mut [CaptureGroupName]) -> Result<(), AllocError>
+    ensures { OnOk result ((k : ℕ) → slice_get (map characters_of names.new) k
+        ≡ option_map (renamed k (tree node.now)) (slice_get (map characters_of names.old) k)) }
+{
+    match node {
+        Node::Empty
+        | Node::Goal
+        | Node::Char { .. }
+        | Node::ByteSequence(_)
+        | Node::ByteSet(_)
+        | Node::CharSet(_)
+        | Node::MatchAny
+        | Node::MatchAnyExceptLineTerminator
+        | Node::Anchor { .. }
+        | Node::WordBoundary { .. }
+        | Node::BackRef { .. }
+        | Node::Bracket(_)
+        | Node::StringSet { .. } => Ok(()),
+        Node::Cat(parts) => write_names_of_parts(parts, names),
+        Node::Alt(first, second) => {
+            write_names(second, names)?;
+            write_names(first, names)
+        }
+        Node::CaptureGroup { id, contents, name } => {
+            write_names(contents, names)?;
+            let index = usize::from(*id);
+            if index < names.len() {
+                rename(&mut names[index], name)?;
+            }
+            Ok(())
+        }
+        Node::LookaroundAssertion { contents, .. } => write_names(contents, names),
+        Node::Loop { loopee, .. } => write_names(loopee, names),
+        Node::Loop1CharBody { loopee, .. } => write_names(loopee, names),
+    }
+}
+
+/// The same for parts one after another.
+#[cycle(names)]
+fn write_names_of_parts(parts: &[Node], names: &mut [CaptureGroupName]) -> Result<(), AllocError>
+    ensures { OnOk result ((k : ℕ) → slice_get (map characters_of names.new) k
+        ≡ option_map (renamed k (cat_of (map tree parts.now))) (slice_get (map characters_of names.old) k)) }
+{
+    for i in (0..parts.len()).rev() {
+        write_names(&parts[i], names)?;
+    }
+    Ok(())
+}
+
+/// The names of a tree's groups by their numbers, the empty one where a group has none.
+pub(crate) fn group_names(alloc: Global, node: &Node) -> Result<Vec<CaptureGroupName>, AllocError>
+    ensures count { IfOk result (λ names. length names.items ≡ bound_of (group_ids (tree node.now))) }
+    ensures each { IfOk result (λ names. (k : ℕ) → k < length names.items
+        → slice_get (map characters_of names.items) k ≡ Some (renamed k (tree node.now) [])) }
+{
+    let mut names = vec![in alloc; CaptureGroupName::new(alloc); group_bound(node)]?;
+    write_names(node, &mut names)?;
+    Ok(names)
 }

@@ -3,6 +3,7 @@ ghost use Rattle.std.specs.Prelude.{◌≡◌, ◌≢◌, ◌≤◌, ◌+◌, �
 ghost use Rattle.regress_meaning.specs.Offsets.{offset, offset_range, told};
 ghost use Rattle.regress.specs.TextViews.{utf8_reading, PlacesWithin};
 ghost use Rattle.regress.specs.Views.{ends, item_of};
+ghost use Rattle.regress.specs.GroupViews.{names_of_match};
 
 use crate::engine::found::{Match, Range};
 use std::alloc::{AllocError, Global};
@@ -69,11 +70,13 @@ impl Text {
     /// The match `found`, which is told in places of this text, told in bytes. It is written over in place.
     pub(crate) fn told(&self, found: Match) -> Match
         requires { PlacesWithin (vec_len self.now.points) (item_of found) }
-        ensures { item_of result ≡ told (utf8_reading self.now.points.items) (item_of found) }
+        ensures told { item_of result ≡ told (utf8_reading self.now.points.items) (item_of found) }
+        ensures named { names_of_match result ≡ names_of_match found }
     {
         let Match {
             range,
             mut captures,
+            group_names,
         } = found;
         for group in captures.iter_mut() {
             if let Some(places) = group {
@@ -83,6 +86,7 @@ impl Text {
         Match {
             range: self.range(&range),
             captures,
+            group_names,
         }
     }
 }
@@ -90,6 +94,7 @@ impl Text {
 #[cfg(test)]
 mod tests {
     use super::*;
+    use std::sync::ArcSlice;
     use std::test::Fail;
 
     #[test]
@@ -111,6 +116,7 @@ mod tests {
         let found = text.told(Match {
             range: 1..4,
             captures: vec![in rt.alloc(); Some(2..3), None]?,
+            group_names: ArcSlice::from_vec(Vec::new(rt.alloc()))?,
         });
         assert_eq!(rt; found.range(), 1..10);
         assert_eq!(rt; found.group(1), Some(3..6));

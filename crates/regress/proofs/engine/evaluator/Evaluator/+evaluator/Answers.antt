@@ -46,7 +46,7 @@ outcomes-returns-in-Cat t c = rw (c.in-Cat.is, tree-Cat, ← c.deref-in-Cat.ensu
 pub outcomes-returns-in_ok-append-in-Alt : goal.outcomes-returns-in_ok-append-in-Alt
 unfolding node_outcomes
 outcomes-returns-in_ok-append-in-Alt t c =
-    rw (c.in-Alt.is, tree-Alt, c.in_ok-append-in-Alt.ensures.items, map-append state_of c.in_ok-states-in-Alt.states.items c.in_ok-outcomes_of_arms-in-Alt.field-0.items, c.in_ok-states-in-Alt.ensures, c.in_ok-outcomes_of_arms-in-Alt.ensures, c.deref-in-Alt.ensures, c.deref-in-Alt-2.ensures) refl
+    rw (c.in-Alt.is, tree-Alt, c.in_ok-append-in-Alt.ensures.items, map-append state_of c.in_ok-states-in-Alt.states.items c.in_ok-outcomes-in-Alt.field-0.items, c.in_ok-states-in-Alt.ensures, c.in_ok-outcomes-in-Alt.ensures, c.deref-in-Alt.ensures, c.deref-in-Alt-2.ensures) refl
 
 pub outcomes-returns-in-MatchAny : goal.outcomes-returns-in-MatchAny
 unfolding node_outcomes
@@ -199,26 +199,3 @@ outcomes_of_loop-returns t c =
     sym (append-nil (map state_of c.loop-task.all.items))
     ∙ ap (λ (ts : List Task). map state_of c.loop-task.all.items ++ outcomes_of_tasks context body c.args.quant.greedy ts) (sym none)
     ∙ c.loop-task.invariant
-
-pub outcomes_of_arms-loop-rest-preserved : goal.outcomes_of_arms-loop-rest-preserved
-unfolding node_outcomes
-outcomes_of_arms-loop-rest-preserved t c =
-    let states = c.loop-rest.states.items in
-    let s = state_of c.args.state.now in
-    let leads = λ (n : Node). node_outcomes (context_of c.args.self.now) (tree n) (direction_of c.args.direction) s in
-    let arm = c.in-Alt.arm.value in
-    let others = c.in-Alt.others.value in
-    let pushed : map state_of c.append.new.self.items ≡ map state_of states ++ leads arm =
-    ap (map state_of) c.in_ok-append.ensures.items ∙ map-append state_of states c.in_ok-outcomes.field-0.items ∙ ap (λ (ts : List State). map state_of states ++ ts) (c.in_ok-outcomes.ensures ∙ ap leads c.deref.ensures) in
-    let split : leads c.loop-rest.rest.now ≡ leads arm ++ leads others = rw (c.in-Alt.is, tree-Alt) refl in
-    let sized = sized-Alt c.in-Alt.arm c.in-Alt.others in (
-      omega (arith, sized, ap size-Node c.in-Alt.is, ap size-Node c.deref-rest.ensures, c.loop-rest.invariant.0),
-      rw (pushed, c.deref-rest.ensures) (append_assoc (map state_of states) (leads arm) (leads others))
-          ∙ ap (λ (ts : List State). map state_of states ++ ts) (sym split) ∙ c.loop-rest.invariant.1,
-    )
-
-pub outcomes_of_arms-returns : goal.outcomes_of_arms-returns
-outcomes_of_arms-returns t c =
-    let states = c.loop-rest.states.items in
-    ap (map state_of) c.in_ok-append-2.ensures.items ∙ map-append state_of states c.in_ok-outcomes-2.field-0.items
-    ∙ ap (λ (ts : List State). map state_of states ++ ts) c.in_ok-outcomes-2.ensures ∙ c.loop-rest.invariant.1

@@ -20,13 +20,6 @@ invariant-outcomes_of_parts-loop-part l =
     flat_map (node_outcomes (context_of l.self) (cat_of (map tree (drop l.part-index l.parts))) (direction_of l.direction)) (map state_of l.states.items)
     ≡ node_outcomes (context_of l.self) (cat_of (map tree l.parts)) (direction_of l.direction) (state_of l.state)
 
--- what the arms so far lead to, and what the rest does, which is no deeper, are all
-abbrev pub invariant-outcomes_of_arms-loop-rest : goal.invariant-outcomes_of_arms-loop-rest
-invariant-outcomes_of_arms-loop-rest l =
-    (size-Node l.rest ≤ size-Node l.node)
-    × (map state_of l.states.items ++ node_outcomes (context_of l.self) (tree l.rest) (direction_of l.direction) (state_of l.state)
-    ≡ node_outcomes (context_of l.self) (tree l.node) (direction_of l.direction) (state_of l.state))
-
 -- the group is set in the states so far, and the others are as they were
 abbrev pub invariant-outcomes_of_capture-loop-found : goal.invariant-outcomes_of_capture-loop-found
 invariant-outcomes_of_capture-loop-found l =

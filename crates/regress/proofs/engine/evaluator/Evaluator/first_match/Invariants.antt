@@ -1,10 +1,11 @@
 use Rattle.std.proofs.Common.{◌≡◌}
 use Rattle.regress_front_tree.specs.Trees.{tree}
 use Rattle.regress.specs.NodeMatches.{node_first_match}
+use Rattle.regress.specs.GroupNames.{group_count}
 use Rattle.regress.specs.StateViews.{context_of}
 use Rattle.regress.proofs.engine.evaluator.Evaluator.first_match.Given as goal
 
 -- no match begins at a place before
 abbrev pub invariant-loop-start : goal.invariant-loop-start
 invariant-loop-start l =
-    node_first_match (context_of l.self) l.group_count (tree l.node) l.place ≡ node_first_match (context_of l.self) l.group_count (tree l.node) l.start
+    node_first_match (context_of l.self) (group_count l.self.group_names.now) (tree l.node) l.place ≡ node_first_match (context_of l.self) (group_count l.self.group_names.now) (tree l.node) l.start
