@@ -1,16 +1,18 @@
 -- One match after another: where a search begins, where it goes on, and what is still to come.
 use Rattle.std.proofs.Common.{◌≡◌, ℕ, zero, suc, ◌+◌, ◌-◌, ◌<◌, ◌≤◌, ◌⊎◌, inl, inr, leb, true, false, List, [], ◌∷◌, ◌++◌, length, map, option_map, take, drop, Option, Some, None, IfSome, Result, Ok, Err, IfOk, sum_by, vec_len, refl, sym, ap, subst, ◌∙◌, arith, add-one}
 use Rattle.std.proofs.lemmas.Bool.{cases_lt, le-leb, leb-true, false_from_ne_true}
-use Rattle.std.proofs.lemmas.List.{length-append, length-take-le, nil_from_length, take-append-drop}
+use Rattle.std.proofs.lemmas.List.{length-append, length-map, length-take-le, nil_from_length, take-append-drop}
 use Rattle.std.proofs.Math.Seq.{take-append_seam}
 use Rattle.std.proofs.lemmas.Str.{encodes-append, chars_from_encodes, encodes-chars, IsUtf8-take, IsUtf8-drop}
 use Rattle.std.specs.Prelude.{slice_get, IfNone, ◌≢◌}
 use Rattle.std.specs.Option.{option_transpose}
 use Rattle.std.specs.Char.{len_utf8}
+use Rattle.std.specs.Arc.{arc_slice_items}
+use Rattle.std.specs.String.{string_bytes}
 use Rattle.std.specs.declared.ops.Range.{Range}
 use Rattle.std.specs.Str.{encode_utf8_all, all_scalars, chars, IsUtf8, IsCharBoundary}
 use Rattle.regress_meaning.specs.Table.{Table}
-use Rattle.regress_meaning.specs.Pattern.{Pattern}
+use Rattle.regress_meaning.specs.Pattern.{Pattern, names_of}
 use Rattle.regress_meaning.specs.Flags.{Options, is_unicode}
 use Rattle.regress_meaning.specs.Meaning.{Context}
 use Rattle.regress_meaning.specs.Matches.{Item, match_list}

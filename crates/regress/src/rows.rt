@@ -92,6 +92,47 @@ fn groups_are_numbered_where_they_open(rt: HostRuntime) -> Result<(), Fail> {
     Ok(())
 }
 
+/// The range of the first group with a name in the first match.
+fn named(alloc: Global, pattern: &str, text: &str, name: &str) -> Result<Option<Range>, Fail> {
+    let tables = Tables::small(alloc)?;
+    let regex = Regex::new(alloc, pattern, &tables)?;
+    Ok(regex.find(text)?.ok_or("no match")?.named_group(name))
+}
+
+#[test]
+fn groups_are_found_by_their_names(rt: HostRuntime) -> Result<(), Fail> {
+    let alloc = rt.alloc();
+    assert_eq!(rt; named(alloc, r"(?<\u0061>x)", "x", "a")?, Some(0..1));
+    assert_eq!(rt; named(alloc, r"(.)(?<é>.)", "aé", "é")?, Some(1..3));
+    assert_eq!(rt; named(alloc, r"(?<a>x)", "x", "b")?, None);
+    assert_eq!(rt; named(alloc, r"(x)", "x", "")?, None);
+    Ok(())
+}
+
+#[test]
+fn names_go_by_the_order_of_opening(rt: HostRuntime) -> Result<(), Fail> {
+    let alloc = rt.alloc();
+    assert_eq!(rt;
+        named(alloc, r"(?<=(?<a>x)(?<b>y))z", "xyz", "a")?,
+        Some(0..1)
+    );
+    assert_eq!(rt;
+        named(alloc, r"(?<=(?<a>x)(?<b>y))z", "xyz", "b")?,
+        Some(1..2)
+    );
+    assert_eq!(rt; named(alloc, r"(?<a>(?<b>x)y)", "xy", "a")?, Some(0..2));
+    assert_eq!(rt; named(alloc, r"(?<a>(?<b>x)y)", "xy", "b")?, Some(0..1));
+    Ok(())
+}
+
+#[test]
+fn a_name_means_its_first_group(rt: HostRuntime) -> Result<(), Fail> {
+    let alloc = rt.alloc();
+    assert_eq!(rt; named(alloc, r"(?<n>a)|(?<n>b)", "a", "n")?, Some(0..1));
+    assert_eq!(rt; named(alloc, r"(?<n>a)|(?<n>b)", "b", "n")?, None);
+    Ok(())
+}
+
 #[test]
 fn a_group_without_a_part_is_none(rt: HostRuntime) -> Result<(), Fail> {
     let ranges = found(rt.alloc(), "(a)|b", "b")?;

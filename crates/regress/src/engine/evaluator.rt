@@ -576,12 +576,10 @@ mod tests {
         let tables = Tables::small(rt.alloc())?;
         let names = unnamed(rt.alloc(), 0)?;
         let evaluator = evaluator(rt.alloc(), &tables, &ABCD, &names);
-        let found = evaluator
-            .first_match(&letter('c'), 0, 1)?
-            .ok_or("no match")?;
+        let found = evaluator.first_match(&letter('c'), 1)?.ok_or("no match")?;
         assert_eq!(rt; found.range(), 2..3);
-        assert!(rt; evaluator.first_match(&letter('c'), 0, 3)?.is_none());
-        assert!(rt; evaluator.first_match(&letter('c'), 0, 9)?.is_none());
+        assert!(rt; evaluator.first_match(&letter('c'), 3)?.is_none());
+        assert!(rt; evaluator.first_match(&letter('c'), 9)?.is_none());
         Ok(())
     }
 

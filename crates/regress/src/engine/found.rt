@@ -1,6 +1,7 @@
 //! A match, and what is read from it.
-ghost use Rattle.std.specs.Prelude.{◌≡◌, ◌≢◌, ◌<◌, ◌≤◌, ◌-◌, ℕ, [], Some, None, unwrap_or, vec_len, slice_get, slice_range};
+ghost use Rattle.std.specs.Prelude.{◌≡◌, ◌≢◌, ◌<◌, ◌≤◌, ◌-◌, ℕ, [], Some, None, IfSome, IfNone, length, map, unwrap_or, vec_len, slice_get, slice_range};
 ghost use Rattle.std.specs.Str.{IsCharBoundary};
+ghost use Rattle.std.specs.String.{string_bytes};
 
 use crate::engine::groups::Groups;
 use regress_front_sets::CaptureGroupName;
@@ -17,6 +18,15 @@ pub struct Match {
     /// The range of each capturing group in order of its number, in bytes too; `None` where the group took no part.
     pub captures: Vec<Option<Range>>,
     pub(crate) group_names: ArcSlice<CaptureGroupName>,
+}
+
+/// The index of the first of some names that is this one.
+fn first_named(names: &[CaptureGroupName], wanted: &str) -> Option<usize>
+    ensures there { IfSome result (λ i. (i < length names.now) × (slice_get (map string_bytes names.now) i ≡ Some wanted.now)) }
+    ensures first { IfSome result (λ i. (j : ℕ) → j < i → slice_get (map string_bytes names.now) j ≢ Some wanted.now) }
+    ensures nowhere { IfNone result ((j : ℕ) → slice_get (map string_bytes names.now) j ≢ Some wanted.now) }
+{
+    names.iter().position(|name| name.as_str() == wanted)
 }
 
 impl Match {
@@ -51,11 +61,7 @@ impl Match {
         if name.is_empty() {
             return None;
         }
-        let index = self
-            .group_names
-            .iter()
-            .position(|other| other.as_str() == name)?;
-        self.group(index + 1)
+        self.group(first_named(&self.group_names, name)? + 1)
     }
 
     /// The range of the whole match and then that of each capturing group, as `group` answers them one after another.

@@ -51,10 +51,7 @@ fn group_bound_of_parts(parts: &[Node]) -> usize
 }
 
 /// Puts a group's name in the place of another, the empty one where the group has none.
-fn rename(
-    old: &mut CaptureGroupName,
-    name: &Option<CaptureGroupName>,
-) -> Result<(), AllocError>
+fn rename(old: &mut CaptureGroupName, name: &Option<CaptureGroupName>) -> Result<(), AllocError>
     ensures { OnOk result (characters_of old.new ≡ unwrap_or (option_map characters_of name.now) []) }
 {
     old.clear();

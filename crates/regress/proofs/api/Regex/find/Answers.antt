@@ -9,4 +9,4 @@ returns-clause-found c = λ t o p stands.
     let bytes = c.args.text.now in
     let items = match_list t o p (chars bytes) 0 in
     rw c.transpose.ensures
-    (first-given _ _ _ c.next.result (told (of_utf8 bytes)) items c.next.ensures.steps.1.first (c.in_ok-find_iter.ensures.matches t o p stands))
+    (first-given _ _ _ c.next.result (told (of_utf8 bytes)) items c.next.ensures.steps.2.first (c.in_ok-find_iter.ensures.matches t o p stands))

@@ -1,4 +1,4 @@
-use Rattle.std.proofs.Common.{◌≡◌, option_map, arith}
+use Rattle.std.proofs.Common.{option_map, arith}
 use Rattle.regress_front_tree.specs.Trees.{tree}
 use Rattle.regress.specs.GroupNames.{characters_of}
 use Rattle.regress.proofs.NameLemmas.{renamed-capture, renamed-past}

@@ -1,4 +1,4 @@
-use Rattle.std.proofs.Common.{◌≡◌, ◌+◌, List, [], ◌∷◌, ◌++◌, ◌⊎◌, inl, inr, IfOk, length, map, drop, append_assoc, refl, sym, ap, ◌∙◌, arith}
+use Rattle.std.proofs.Common.{◌≡◌, ◌+◌, List, [], ◌∷◌, ◌++◌, ◌⊎◌, inl, inr, IfOk, length, map, drop, refl, sym, ap, ◌∙◌, arith}
 use Rattle.std.specs.List.{flat_map}
 use Rattle.std.proofs.lemmas.List.{take_all, drop_all, append-nil, map-append, nil_from_length}
 use Rattle.regress_meaning.specs.Meaning.{State, captured}
@@ -6,8 +6,6 @@ use Rattle.regress_front_syntax.specs.Trees.{most}
 use Rattle.regress_front_tree.specs.Trees.{cat_of, tree}
 use Rattle.regress_front_tree.specs.TreeMeaning.{node_outcomes}
 use Rattle.regress.specs.StateViews.{state_of, context_of, direction_of}
-use Rattle.regress_front_tree.specs.declared.node.Node.{Node, size-Node}
-use Rattle.regress_front_tree.specs.declared.node.Node.TheViews.{sized-Alt}
 use Rattle.regress_front_tree.specs.declared.node.Node.TheVariants as node
 use Rattle.regress.specs.declared.engine.tasks.Task.{Task}
 use Rattle.regress.proofs.EvaluatorLemmas.{flat_map-no_part, parts_more, changed_more, changed_all}

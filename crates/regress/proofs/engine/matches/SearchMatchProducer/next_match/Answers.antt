@@ -5,7 +5,9 @@ use Rattle.regress_meaning.specs.Matches.{Item, next_place}
 use Rattle.regress_meaning.specs.Offsets.{offset, told}
 use Rattle.regress_front_tree.specs.Trees.{tree}
 use Rattle.regress.specs.NodeMatches.{node_first_match, node_match_list}
-use Rattle.regress.specs.GroupNames.{group_count}
+use Rattle.regress.specs.GroupNames.{group_count, shared_names}
+use Rattle.regress.specs.GroupViews.{names_of_match}
+use Rattle.regress.specs.StateViews.{context_of}
 use Rattle.regress.specs.TextViews.{utf8_reading}
 use Rattle.regress.specs.Views.{item_of}
 use Rattle.regress.specs.Iterating.{coming_on}
@@ -21,6 +23,7 @@ first_is : (c : goal.After-told) → let r = c.args.self.now.regex.now in
 first_is c =
     let r = c.args.self.now.regex.now in
     ap (λ (context : Context). node_first_match context (group_count r.group_names) (tree r.node) c.args.position) (sym c.evaluator.ensures.context)
+    ∙ ap (λ (names : _). node_first_match (context_of c.evaluator.result) (group_count names) (tree r.node) c.args.position) (sym c.evaluator.ensures.names)
     ∙ sym c.in_ok-found.ensures.value ∙ ap (option_map item_of) c.in-Some.is
 
 pub returns-in_default-clause-found : goal.returns-in_default-clause-found
@@ -29,6 +32,7 @@ returns-in_default-clause-found c =
     let r = s.regex.now in
     let points = s.text.points.items in
     let none = ap (λ (context : Context). node_first_match context (group_count r.group_names) (tree r.node) c.args.position) (sym c.evaluator.ensures.context)
+    ∙ ap (λ (names : _). node_first_match (context_of c.evaluator.result) (group_count names) (tree r.node) c.args.position) (sym c.evaluator.ensures.names)
     ∙ sym c.in_ok-found.ensures.value ∙ ap (option_map item_of) c.in_default.is in
     (ap (map (told (utf8_reading points))) (matches_end (searching r points) (group_count r.group_names) (tree r.node) c.args.position none), refl)
 
@@ -46,13 +50,18 @@ returns-clause-found c =
     ap (map (told (utf8_reading points))) (matches_end context (group_count r.group_names) (tree r.node) (next_place i) (first_match_past context (group_count r.group_names) (tree r.node) (next_place i) h)) in
     let behind : coming_on (items_from s) c.place_after.result ≡ items_from s (next_place i) =
     ap (coming_on (items_from s)) (rw c.points-points.ensures at c.place_after.ensures.value) ∙ coming_on_within (items_from s) (length points) (next_place i) past in
-    let start : c.told.result.range.start ≡ offset (utf8_reading points) c.in-Some.found.range.start = ap (λ (j : Item). j.start) c.told.ensures in
-    let end : c.told.result.range.end ≡ offset (utf8_reading points) c.in-Some.found.range.end = ap (λ (j : Item). j.end) c.told.ensures in (
-      ap (map (told (utf8_reading points))) goes ∙ rw (behind, c.told.ensures) refl,
+    let named : names_of_match c.told.result ≡ shared_names r.group_names =
+    c.told.ensures.named ∙ rw c.in-Some.is at c.in_ok-found.ensures.named ∙ ap shared_names c.evaluator.ensures.names in
+    let start : c.told.result.range.start ≡ offset (utf8_reading points) c.in-Some.found.range.start = ap (λ (j : Item). j.start) c.told.ensures.told in
+    let end : c.told.result.range.end ≡ offset (utf8_reading points) c.in-Some.found.range.end = ap (λ (j : Item). j.end) c.told.ensures.told in (
+      ap (map (told (utf8_reading points))) goes ∙ rw (behind, c.told.ensures.told) refl,
       (
-        rw (start, end) (offset-le (utf8_reading points) c.in-Some.found.range.start c.in-Some.found.range.end inside.range.0),
-        rw start (offset_is_boundary_of_points points s.characters c.in-Some.found.range.start),
-        rw end (offset_is_boundary_of_points points s.characters c.in-Some.found.range.end),
+        (
+          rw (start, end) (offset-le (utf8_reading points) c.in-Some.found.range.start c.in-Some.found.range.end inside.range.0),
+          rw start (offset_is_boundary_of_points points s.characters c.in-Some.found.range.start),
+          rw end (offset_is_boundary_of_points points s.characters c.in-Some.found.range.end),
+        ),
+        named,
       ),
     )
 

@@ -24,7 +24,7 @@ loop-group-preserved c =
       | in_default w ↦ group_told f _ _ _ _ _ _ c.loop-group.invariant c.loop-group-test.true w.in_default.is refl (rw (← w.in_default.is) w.group-items-is)
     ]
 
-pub returns : goal.returns
-returns c =
+pub returns-clause-told : goal.returns-clause-told
+returns-clause-told c =
     match_told c.args.self.now.points.items c.args.found c.range-2.result _ _ _ c.range-2.ensures c.deref_mut-group-items.ensures.value c.deref_mut-group-items.ensures.len
     c.loop-group.invariant c.loop-group-test.false
