@@ -3,7 +3,8 @@ ghost use Rattle.std.specs.Prelude.{◌≡◌, false, chars, Some};
 ghost use Rattle.std.specs.Iterator.{IsFinite};
 ghost use Rattle.std.specs.Iterator.Runs.{WholeRun};
 ghost use Rattle.regress_front_sets.specs.declared.flags.Flags.{Flags};
-ghost use Rattle.regress_front_sets.specs.FlagWords.{flags_of, letters_of, letter_if};
+ghost use Rattle.regress_meaning.specs.Flags.{is_unicode};
+ghost use Rattle.regress_front_sets.specs.FlagWords.{options, flags_of, letters_of, letter_if};
 
 use std::fmt;
 
@@ -44,6 +45,13 @@ impl Flags {
             }
         }
         flags
+    }
+
+    /// Whether they set Unicode mode: `u` or `v` ("RegExp Records").
+    pub fn is_unicode(self) -> bool
+        ensures { result ≡ is_unicode (options self) }
+    {
+        self.unicode || self.unicode_sets
     }
 }
 
@@ -106,6 +114,13 @@ mod tests {
         let text = Flags::new([0x76, 0x1_F600, 0x69, 0x69].into_iter()).to_string(rt.alloc())?;
         assert_eq!(rt; text.as_str(), "iv");
         Ok(())
+    }
+
+    #[test]
+    fn two_letters_set_unicode_mode(rt: HostRuntime) {
+        assert!(rt; Flags::from("u").is_unicode());
+        assert!(rt; Flags::from("v").is_unicode());
+        assert!(rt; !Flags::from("ims").is_unicode());
     }
 
     #[test]

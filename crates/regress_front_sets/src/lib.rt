@@ -23,7 +23,7 @@ pub use interval::{CODE_POINT_MAX, CodePoint, Interval};
 pub use limits::{
     CaptureGroupID, CaptureGroupName, CharacterClassType, DIGITS, IP, LINE_TERMINATOR, LoopID,
     MAX_CAPTURE_GROUPS, MAX_LOOPS, MAX_NESTING_DEPTH, WHITESPACE, WORD_CHARS, digits,
-    limits_are_those_of_the_definitions, line_terminator, whitespace, word_chars,
+    is_ascii_word, limits_are_those_of_the_definitions, line_terminator, whitespace, word_chars,
 };
 pub use regress_front_bytes::{
     AsciiBitmap, ByteArraySet, ByteBitmap, ByteSearcher, ByteSet, CodePointRange, EmptyString,

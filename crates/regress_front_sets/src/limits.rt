@@ -6,7 +6,7 @@ ghost use Rattle.regress_meaning.specs.Limits.{greatest_depth, most_groups, most
 ghost use Rattle.regress_meaning.specs.Meaning.{is_line_end};
 ghost use Rattle.regress_front_sets.specs.Intervals.{ends_of};
 
-use crate::interval::Interval;
+use crate::interval::{CodePoint, Interval};
 
 /// A capture group's number, from 0 in order of opening.
 pub type CaptureGroupID = u16;
@@ -165,6 +165,16 @@ pub fn limits_are_those_of_the_definitions()
     ensures depth { MAX_NESTING_DEPTH ≡ greatest_depth }
 {}
 
+/// Whether the code point is an ASCII letter, a digit or `_`: what `\w` holds where case is not ignored ("WordCharacters").
+pub fn is_ascii_word(point: CodePoint) -> bool
+    ensures { result ≡ is_ascii_word point }
+{
+    matches!(
+        char::from_u32(point),
+        Some('0'..='9' | 'A'..='Z' | 'a'..='z' | '_')
+    )
+}
+
 #[cfg(test)]
 mod tests {
     use super::*;
@@ -177,5 +187,15 @@ mod tests {
         assert!(rt; digits()[0].contains(0x39));
         assert!(rt; whitespace()[9].contains(0xFEFF));
         assert!(rt; line_terminator()[2].contains(0x2029));
+    }
+
+    #[test]
+    fn words_are_of_letters_digits_and_the_low_line(rt: HostRuntime) {
+        for point in [0x30, 0x39, 0x41, 0x5A, 0x5F, 0x61, 0x7A] {
+            assert!(rt; is_ascii_word(point));
+        }
+        for point in [0x2F, 0x3A, 0x40, 0x5B, 0x60, 0x7B, 0x17F, 0x110000] {
+            assert!(rt; !is_ascii_word(point));
+        }
     }
 }

@@ -11,9 +11,8 @@ ghost use Rattle.regress_front_syntax.specs.Trees.{class_view};
 
 use crate::cursor::{Cursor, is_one_of};
 use crate::mode::{Mode, groups_of_name};
-use crate::names::is_ascii_word;
 use crate::syntax::Class;
-use regress_front_sets::{CodePoint, Error};
+use regress_front_sets::{CodePoint, Error, is_ascii_word};
 use std::alloc::Global;
 
 /// Why an escape is refused.
@@ -161,7 +160,7 @@ impl Cursor<'_> {
         if mode.unicode || !ahead.eat('c') {
             return None;
         }
-        let point = ahead.control_letter(is_ascii_word)?;
+        let point = ahead.control_letter(|point| is_ascii_word(point))?;
         *self = ahead;
         Some(point)
     }

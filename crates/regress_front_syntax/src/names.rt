@@ -9,18 +9,8 @@ ghost use Rattle.regress_front_syntax.specs.Words.{key_of};
 
 use crate::cursor::Cursor;
 use crate::mode::{begins_name, continues_name};
-use regress_front_sets::{CodePoint, Error, Tables};
+use regress_front_sets::{CodePoint, Error, Tables, is_ascii_word};
 use std::alloc::Global;
-
-/// Whether the code point is an ASCII letter, a digit or `_`.
-pub(crate) fn is_ascii_word(point: CodePoint) -> bool
-    ensures { result ≡ is_ascii_word point }
-{
-    matches!(
-        char::from_u32(point),
-        Some('0'..='9' | 'A'..='Z' | 'a'..='z' | '_')
-    )
-}
 
 impl<'p> Cursor<'p> {
     ghost use Rattle.regress_front_syntax.specs.Cursors.{unread, SameText};
@@ -29,7 +19,7 @@ impl<'p> Cursor<'p> {
     pub(crate) fn is_at_word(&self) -> bool
         ensures { result ≡ is_at is_ascii_word (unread self.now) }
     {
-        self.peek().is_some_and(is_ascii_word)
+        self.peek().is_some_and(|point| is_ascii_word(point))
     }
 
     /// One code point of a group's name, as it stands or as `\u..`.
@@ -93,7 +83,7 @@ impl<'p> Cursor<'p> {
         if !ahead.eat('{') {
             return None;
         }
-        let name = ahead.take_while(is_ascii_word);
+        let name = ahead.take_while(|point| is_ascii_word(point));
         if name.is_empty() {
             return None;
         }
@@ -104,7 +94,7 @@ impl<'p> Cursor<'p> {
         if !ahead.eat('=') {
             return None;
         }
-        let value = ahead.take_while(is_ascii_word);
+        let value = ahead.take_while(|point| is_ascii_word(point));
         if value.is_empty() || !ahead.eat('}') {
             return None;
         }

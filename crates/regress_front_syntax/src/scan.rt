@@ -79,7 +79,7 @@ pub(crate) fn mode<'t>(
         ≡ mode_of (table tables.now) (options flags) points.now (scanned_names (table tables.now) (options flags) points.now)) }
     ensures err { IfErr result (λ e. e ≡ Error.OutOfMemory) }
 {
-    let unicode = flags.unicode || flags.unicode_sets;
+    let unicode = flags.is_unicode();
     let named = unicode || holds_a_name(points);
     let names = group_names(alloc, points, tables, named)?;
     Ok(Mode {

@@ -1,7 +1,7 @@
 //! From a pattern's text to its tree.
 ghost use Rattle.std.specs.Prelude.{◌≡◌, ◌≤◌, false, All, IfOk, IfErr};
 ghost use Rattle.regress_meaning.specs.Pattern.{Pattern};
-ghost use Rattle.regress_meaning.specs.Flags.{is_unicode, first_settings};
+ghost use Rattle.regress_meaning.specs.Flags.{first_settings};
 ghost use Rattle.regress_front_sets.specs.TableViews.{table};
 ghost use Rattle.regress_front_sets.specs.FlagWords.{options};
 ghost use Rattle.regress_front_syntax.specs.Refusals.{MayRefuse};
@@ -17,13 +17,6 @@ use crate::node::Node;
 use regress_front_sets::{CodePoint, Error, Flags, Tables};
 use regress_front_syntax::parse;
 use std::alloc::Global;
-
-/// Whether flags set Unicode mode: `u` or `v` ("RegExp Records").
-fn is_unicode(flags: Flags) -> bool
-    ensures { result ≡ is_unicode (options flags) }
-{
-    flags.unicode || flags.unicode_sets
-}
 
 /// What holds where no modifier has changed it and no lookbehind stands around ("RegExp Records").
 fn first_scope(flags: Flags) -> Scope
@@ -59,7 +52,7 @@ pub fn try_parse<'u>(
     lowered_trees_are_alike();
     whole_trees_are_well_formed();
     let syntax = parse(alloc, pattern, flags, tables)?;
-    let mut lowering = Lowering::new(alloc, tables, is_unicode(flags));
+    let mut lowering = Lowering::new(alloc, tables, flags.is_unicode());
     let node = lowering.lower(&syntax, first_scope(flags))?;
     Ok(Regex {
         node: Node::Cat(vec![in alloc; node, Node::Goal]?),

@@ -8,15 +8,8 @@ ghost use Rattle.regress.specs.StateViews.{state_of, context_of};
 use crate::engine::evaluator::Evaluator;
 use crate::engine::singles::is_line_end;
 use crate::engine::state::State;
-use regress_front_sets::CodePoint;
+use regress_front_sets::{CodePoint, is_ascii_word};
 use std::alloc::AllocError;
-
-/// Whether the code point is an ASCII letter, a digit or `_`.
-fn is_ascii_word(c: CodePoint) -> bool
-    ensures { result ≡ is_ascii_word c }
-{
-    matches!(char::from_u32(c), Some('0'..='9' | 'A'..='Z' | 'a'..='z' | '_'))
-}
 
 impl<'s> Evaluator<'s> {
     /// The code point before a place.

@@ -113,7 +113,7 @@ impl<'r> Search<'r> {
             alloc: self.regex.alloc,
             points: self.text.points(),
             tables: self.regex.tables,
-            unicode: self.regex.flags.unicode || self.regex.flags.unicode_sets,
+            unicode: self.regex.flags.is_unicode(),
             group_names: &self.regex.group_names,
         }
     }
