@@ -54,12 +54,34 @@ fn unless_refused<T: Drop>(outcome: Result<T, Error>) -> Result<Option<T>, Fail>
     }
 }
 
-/// The letter `a` inside so many groups that are not counted.
-fn nested(alloc: Global, depth: usize) -> Result<String, AllocError> {
-    let mut pattern = "(?:".repeat(alloc, depth)?;
-    pattern.push_str("a")?;
-    pattern.push_str(")".repeat(alloc, depth)?.as_str())?;
+/// The small table, asked for once more where memory is refused.
+fn small_tables(alloc: Global) -> Result<Tables, Fail> {
+    Ok(Tables::small(alloc).or_else(|_| Tables::small(alloc))?)
+}
+
+/// A text between so many openings and as many endings.
+fn nested(
+    alloc: Global,
+    opening: &str,
+    inner: &str,
+    ending: &str,
+    depth: usize,
+) -> Result<String, AllocError> {
+    let mut pattern = opening.repeat(alloc, depth)?;
+    pattern.push_str(inner)?;
+    pattern.push_str(ending.repeat(alloc, depth)?.as_str())?;
     Ok(pattern)
+}
+
+/// The letter `a` inside so many classes with `v`, inside so many groups that are not counted.
+fn classes_in_groups(alloc: Global, groups: usize, classes: usize) -> Result<String, AllocError> {
+    let inner = nested(alloc, "[", "a", "]", classes)?;
+    nested(alloc, "(?:", inner.as_str(), ")", groups)
+}
+
+/// 10,000 characters, from U+4E00 to U+750F.
+fn letters(alloc: Global) -> Result<String, AllocError> {
+    (0x4E00..0x7510).filter_map(char::from_u32).collect(alloc)
 }
 
 #[test]
@@ -197,13 +219,28 @@ fn what_is_no_pattern_is_refused(rt: HostRuntime) -> Result<(), Fail> {
 
 #[test]
 fn nesting_ends_at_256(rt: HostRuntime) -> Result<(), Fail> {
-    let pattern = nested(rt.alloc(), 257)?;
+    let pattern = nested(rt.alloc(), "(?:", "a", ")", 257)?;
     assert_eq!(rt;
         refusal(rt.alloc(), pattern.as_str(), "")?,
         Some(Error::TooDeep)
     );
-    let pattern = nested(rt.alloc(), 256)?;
+    let pattern = nested(rt.alloc(), "(?:", "a", ")", 256)?;
     let ranges = found(rt.alloc(), pattern.as_str(), "ba")?;
+    assert_eq!(rt; ranges.as_slice(), [Some(1..2)].as_slice());
+    Ok(())
+}
+
+#[test]
+fn groups_and_classes_nest_to_256_together(rt: HostRuntime) -> Result<(), Fail> {
+    let pattern = classes_in_groups(rt.alloc(), 128, 129)?;
+    assert_eq!(rt;
+        refusal(rt.alloc(), pattern.as_str(), "v")?,
+        Some(Error::TooDeep)
+    );
+    let pattern = classes_in_groups(rt.alloc(), 128, 128)?;
+    let tables = Tables::small(rt.alloc())?;
+    let regex = Regex::with_flags(rt.alloc(), pattern.as_str(), Flags::from("v"), &tables)?;
+    let ranges = ranges(rt.alloc(), &regex, "ba")?;
     assert_eq!(rt; ranges.as_slice(), [Some(1..2)].as_slice());
     Ok(())
 }
@@ -229,6 +266,21 @@ fn long_patterns_are_read_and_matched(rt: HostRuntime) -> Result<(), Fail> {
     let sequence = "a".repeat(rt.alloc(), 100_000)?;
     let ranges = found(rt.alloc(), sequence.as_str(), sequence.as_str())?;
     assert_eq!(rt; ranges.as_slice(), [Some(0..100_000)].as_slice());
+    Ok(())
+}
+
+#[test]
+fn large_classes_are_read_and_matched(rt: HostRuntime) -> Result<(), Fail> {
+    let letters = letters(rt.alloc())?;
+    let class = nested(rt.alloc(), "[", letters.as_str(), "]", 1)?;
+    let ranges = found(
+        rt.alloc(),
+        class.as_str(),
+        "\u{4DFF}\u{7510}\u{750F}\u{4E00}",
+    )?;
+    assert_eq!(rt; ranges.as_slice(), [Some(6..9)].as_slice());
+    let ranges = found(rt.alloc(), class.as_str(), "\u{4E00}")?;
+    assert_eq!(rt; ranges.as_slice(), [Some(0..3)].as_slice());
     Ok(())
 }
 
@@ -267,7 +319,7 @@ fn a_lone_surrogate_is_a_character(rt: HostRuntime) -> Result<(), Fail> {
 // so, and the same call made again gives the whole answer.
 #[test]
 fn refused_memory_is_told_and_turns_no_answer(rt: HostRuntime) -> Result<(), Fail> {
-    let tables = Tables::small(rt.alloc())?;
+    let tables = small_tables(rt.alloc())?;
     let compile = || Regex::with_flags(rt.alloc(), "(a|ab)(c|b(?:c)d)", Flags::from("m"), &tables);
     let regex = match unless_refused(compile())? {
         Some(regex) => regex,
@@ -394,7 +446,7 @@ fn a_quantifier_needs_an_atom(rt: HostRuntime) -> Result<(), Fail> {
 // comes the refusal, then nothing; and a later search gives the whole list.
 #[test]
 fn refused_memory_ends_the_iteration(rt: HostRuntime) -> Result<(), Fail> {
-    let tables = Tables::small(rt.alloc())?;
+    let tables = small_tables(rt.alloc())?;
     let compile = || Regex::new(rt.alloc(), "(a+)|b*", &tables);
     let regex = match unless_refused(compile())? {
         Some(regex) => regex,

@@ -68,32 +68,32 @@ mod tests {
     use std::alloc::AllocError;
     use std::test::Fail;
 
-    /// A pattern of each construct, and its flags.
-    const CONSTRUCTS: [(&str, &str); 24] = [
-        ("abc", ""),
-        ("a|b|c|d|e", ""),
-        ("(a)(?<n>b)(?:c)", ""),
-        ("a*b+?c{2,3}d{4}?", ""),
-        ("^a$", "m"),
-        (r"\b\B", "iu"),
-        ("(?=a)(?!b)", ""),
-        ("(?<=ab|c)(?<!(d)e)", ""),
-        (r"(a)\1", "i"),
-        (r"(?<n>a)|(?<n>b)\k<n>", ""),
-        (".", ""),
-        (".", "s"),
-        (r"[a-z\d-]", ""),
-        ("[^a-z]", "i"),
-        (r"\D\s\w", "iu"),
-        (r"\p{ASCII}\P{ASCII}", "u"),
-        ("(?i-ms:a)", ""),
-        (r"[[a-z]&&[^b]]", "v"),
-        (r"[\w--\d]", "v"),
-        (r"[\q{abc|d|}x]", "iv"),
-        (r"\p{Emoji_Keycap_Sequence}", "v"),
-        (r"\x41\u{42}\cA\0", "u"),
-        ("é", "i"),
-        ("", ""),
+    /// A pattern of each construct, its flags, and how many nodes its tree has, with the goal and the `Cat` above it.
+    const CONSTRUCTS: [(&str, &str, usize); 24] = [
+        ("abc", "", 6),
+        ("a|b|c|d|e", "", 11),
+        ("(a)(?<n>b)(?:c)", "", 8),
+        ("a*b+?c{2,3}d{4}?", "", 11),
+        ("^a$", "m", 6),
+        (r"\b\B", "iu", 5),
+        ("(?=a)(?!b)", "", 7),
+        ("(?<=ab|c)(?<!(d)e)", "", 14),
+        (r"(a)\1", "i", 6),
+        (r"(?<n>a)|(?<n>b)\k<n>", "", 11),
+        (".", "", 3),
+        (".", "s", 3),
+        (r"[a-z\d-]", "", 3),
+        ("[^a-z]", "i", 3),
+        (r"\D\s\w", "iu", 6),
+        (r"\p{ASCII}\P{ASCII}", "u", 5),
+        ("(?i-ms:a)", "", 3),
+        (r"[[a-z]&&[^b]]", "v", 3),
+        (r"[\w--\d]", "v", 3),
+        (r"[\q{abc|d|}x]", "iv", 7),
+        (r"\p{Emoji_Keycap_Sequence}", "v", 5),
+        (r"\x41\u{42}\cA\0", "u", 7),
+        ("é", "i", 3),
+        ("", "", 3),
     ];
 
     fn points(alloc: Global, text: &str) -> Result<Vec<CodePoint>, AllocError> {
@@ -110,6 +110,12 @@ mod tests {
         Ok(try_parse(alloc, &points, Flags::from(flags), &tables).err())
     }
 
+    /// Why a piece of text, so many times, is refused as a pattern; `None` where it is accepted.
+    fn refusal_of_many(alloc: Global, piece: &str, count: usize) -> Result<Option<Error>, Fail> {
+        let pattern = piece.repeat(alloc, count)?;
+        refusal(alloc, pattern.as_str(), "")
+    }
+
     /// A text between so many openings and as many endings.
     fn nested(
         alloc: Global,
@@ -124,11 +130,99 @@ mod tests {
         Ok(pattern)
     }
 
+    /// So many classes with `v`, one inside another, inside so many groups.
+    fn classes_in_groups(
+        alloc: Global,
+        groups: usize,
+        classes: usize,
+    ) -> Result<String, AllocError> {
+        let inner = nested(alloc, "[", "a", "]", classes)?;
+        nested(alloc, "(?:", inner.as_str(), ")", groups)
+    }
+
+    /// 10,000 characters, each the one behind the one before.
+    fn letters(alloc: Global) -> Result<String, AllocError> {
+        (0x4E00..0x7510).filter_map(char::from_u32).collect(alloc)
+    }
+
+    /// How many nodes the tree of a pattern has: it is printed with a line for each.
+    fn node_count(alloc: Global, pattern: &str, flags: &str) -> Result<usize, Error> {
+        let tables = Tables::small(alloc).map_err(|_| Error::OutOfMemory)?;
+        let points = points(alloc, pattern)?;
+        if !are_code_points(&points) {
+            return Err(Error::Syntax {
+                text: "a character is no code point",
+            });
+        }
+        let regex = try_parse(alloc, &points, Flags::from(flags), &tables)?;
+        Ok(regex.to_string(alloc)?.lines().count())
+    }
+
     #[test]
     fn each_construct_is_read(rt: HostRuntime) -> Result<(), Fail> {
-        for (pattern, flags) in CONSTRUCTS {
-            assert_eq!(rt; refusal(rt.alloc(), pattern, flags)?, None, "at {pattern}");
+        for (pattern, flags, nodes) in CONSTRUCTS {
+            assert_eq!(rt;
+                node_count(rt.alloc(), pattern, flags)?,
+                nodes,
+                "at {pattern}"
+            );
         }
+        Ok(())
+    }
+
+    // A run may refuse one request for memory, each in turn (`rt try --test --fail-alloc N`): then the pattern that asked for it
+    // is refused for that alone, and has its whole tree when it is read again.
+    #[test]
+    fn refused_memory_is_told_and_turns_no_tree(rt: HostRuntime) -> Result<(), Fail> {
+        for (pattern, flags, nodes) in CONSTRUCTS {
+            let count = match node_count(rt.alloc(), pattern, flags) {
+                Err(Error::OutOfMemory) => node_count(rt.alloc(), pattern, flags)?,
+                outcome => outcome?,
+            };
+            assert_eq!(rt; count, nodes, "at {pattern}");
+        }
+        Ok(())
+    }
+
+    #[test]
+    fn groups_and_classes_nest_to_256(rt: HostRuntime) -> Result<(), Fail> {
+        for (groups, classes, expected) in [
+            (256, 0, None),
+            (257, 0, Some(Error::TooDeep)),
+            (128, 128, None),
+            (128, 129, Some(Error::TooDeep)),
+        ] {
+            let pattern = classes_in_groups(rt.alloc(), groups, classes)?;
+            let refused = refusal(rt.alloc(), pattern.as_str(), "v")?;
+            assert_eq!(rt; refused, expected, "at {groups} and {classes}");
+        }
+        Ok(())
+    }
+
+    #[test]
+    fn groups_end_at_65535(rt: HostRuntime) -> Result<(), Fail> {
+        assert_eq!(rt; refusal_of_many(rt.alloc(), "()", 65_535)?, None);
+        let refused = refusal_of_many(rt.alloc(), "()", 65_536)?;
+        assert_eq!(rt; refused, Some(Error::TooManyGroups));
+        Ok(())
+    }
+
+    #[test]
+    fn quantifiers_end_at_65535(rt: HostRuntime) -> Result<(), Fail> {
+        assert_eq!(rt; refusal_of_many(rt.alloc(), "a*", 65_535)?, None);
+        let refused = refusal_of_many(rt.alloc(), "a*", 65_536)?;
+        assert_eq!(rt; refused, Some(Error::TooManyLoops));
+        Ok(())
+    }
+
+    #[test]
+    fn large_patterns_are_read(rt: HostRuntime) -> Result<(), Fail> {
+        assert_eq!(rt; refusal_of_many(rt.alloc(), "a", 100_000)?, None);
+        let letters = letters(rt.alloc())?;
+        let class = nested(rt.alloc(), "[", letters.as_str(), "]", 1)?;
+        assert_eq!(rt; node_count(rt.alloc(), class.as_str(), "")?, 3);
+        let bounds = "a{99999999999999999999,88888888888888888888}";
+        assert_eq!(rt; node_count(rt.alloc(), bounds, "")?, 4);
         Ok(())
     }
 }
