@@ -64,7 +64,11 @@ impl ClassValue {
     {
         let mut other = other;
         self.strings.append(&mut other.strings)?;
-        self.singles.add_set(other.singles)
+        // `add_set` would copy this whole set for each member of a class.
+        for interval in other.singles.intervals() {
+            self.singles.add(*interval)?;
+        }
+        Ok(())
     }
 
     /// The members that are also members of another value ("ClassIntersection"). `OutOfMemory` is the only error.
