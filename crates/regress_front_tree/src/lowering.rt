@@ -14,6 +14,7 @@ ghost use Rattle.regress_front_tree.specs.Scopes.{settings_of, name_told, IsLowe
 use crate::arms::alternatives;
 use crate::brackets::{character_node, class_node, negated_class_node};
 use crate::node::{AnchorType, Node, NodeList};
+use crate::text::text_of;
 use regress_front_sets::{CaptureGroupID, CaptureGroupName, CodePoint, Error, Tables};
 use regress_front_syntax::{Class, Modifiers, Quantifier, Syntax};
 use std::alloc::Global;
@@ -79,13 +80,7 @@ fn group_name(alloc: Global, name: &[CodePoint]) -> Result<Option<CaptureGroupNa
     if name.is_empty() {
         return Ok(None);
     }
-    let mut text = CaptureGroupName::new(alloc);
-    for point in name {
-        if let Some(letter) = char::from_u32(*point) {
-            text.push(letter)?;
-        }
-    }
-    Ok(Some(text))
+    text_of(alloc, name)
 }
 
 /// What holds for the whole pattern, and how many groups were opened so far.
