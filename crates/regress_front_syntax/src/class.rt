@@ -173,6 +173,7 @@ impl Cursor<'_> {
         ensures read { IsRead class_view (members_at (mode_view mode.now)) (unread self.old) result (unread self.new) }
         ensures kept { SameText self.old self.new }
     {
+        regress_meaning::reading_leaves_less();
         let mut members = Vec::new(alloc);
         while !self.eat(']') {
             let first = self.member(alloc, mode)?;

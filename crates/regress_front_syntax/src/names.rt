@@ -58,6 +58,7 @@ impl<'p> Cursor<'p> {
         ensures read { IsTried (λ name. name.items) (name_at (table tables.now)) (unread self.old) result (unread self.new) }
         ensures kept { SameText self.old self.new }
     {
+        regress_meaning::reading_leaves_less();
         let mut ahead = *self;
         let mut name = Vec::new(alloc);
         match ahead.name_point() {
