@@ -2,7 +2,7 @@
 use Rattle.std.specs.Prelude.{count_by}
 use Rattle.std.proofs.lemmas.List.Sums.{sum_by-take-drop}
 use Rattle.std.proofs.lemmas.Bool.{or_parts, eq-eqb}
-use Rattle.std.proofs.Common.{cond, ◌≡◌, ℕ, zero, suc, ◌+◌, ◌<◌, ◌≤◌, Bool, true, false, ◌==◌, List, [], ◌∷◌, length, drop, Some, None, refl, sym, eqb-true, codes, length-drop, arith}
+use Rattle.std.proofs.Common.{cond, ◌≡◌, ℕ, zero, suc, ◌<◌, ◌≤◌, Bool, true, false, ◌==◌, List, [], ◌∷◌, length, drop, Some, None, refl, sym, eqb-true, codes, length-drop, arith}
 use Rattle.regress_meaning.specs.Text.{holds, is_at}
 use Rattle.regress_meaning.specs.Tokens.{Bounds, bounds_at}
 use Rattle.regress_meaning.specs.Limits.{opens_nesting, opens_group, opens_quantifier}

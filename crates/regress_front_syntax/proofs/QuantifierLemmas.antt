@@ -14,7 +14,7 @@ use Rattle.regress_front_sets.specs.declared.error.Error.TheVariants.{Syntax as 
 use Rattle.regress_front_syntax.specs.declared.cursor.Cursor.{Cursor}
 use Rattle.regress_front_syntax.specs.declared.syntax.Quantifier.{Quantifier}
 use Rattle.regress_front_syntax.specs.Cursors.{unread, SameText}
-use Rattle.regress_front_syntax.specs.Trees.{tree, most}
+use Rattle.regress_front_syntax.specs.Trees.{most}
 use Rattle.regress_front_syntax.specs.Words.{quantifier_at, quantifier_view}
 use Rattle.regress_front_syntax.specs.Parsing.{Place, Grows, IsRefusal, IsQuantifier, ReadsQuantifier, PassesQuantifiers, with_quantifier, front_to}
 use Rattle.regress_front_syntax.proofs.AnswerLemmas.{at, Leads_refl, Leads_trans, quantified-none}

@@ -1,5 +1,5 @@
 -- Where a part of a pattern stands when it is lowered, and what is asked of it.
-use Rattle.std.specs.Prelude.{◌≡◌, ℕ, true, List, [], ◌∷◌, ◌++◌, Option, None, Some, All}
+use Rattle.std.specs.Prelude.{◌≡◌, ℕ, true, List, [], ◌∷◌, Option, None, Some, All}
 use Rattle.std.specs.Str.{all_scalars}
 use Rattle.regress_meaning.specs.Pattern.{Pattern, Settings, names_of}
 use Rattle.regress_meaning.specs.Points.{IsOfPoints}

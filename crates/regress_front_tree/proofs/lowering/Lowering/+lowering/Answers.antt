@@ -1,4 +1,4 @@
-use Rattle.std.proofs.Common.{◌≡◌, true, false, ◌&&◌, [], length, refl, sym, arith, rules, add-one}
+use Rattle.std.proofs.Common.{◌≡◌, ◌&&◌, [], length, refl, sym, arith, rules, add-one}
 use Rattle.std.proofs.lemmas.Bool.{eqb-true, eqb-false}
 use Rattle.std.proofs.lemmas.List.{take_all, nil_from_length}
 use Rattle.std.proofs.lemmas.Result.{IfOk-weaker}
