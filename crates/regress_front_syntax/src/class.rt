@@ -192,6 +192,7 @@ impl Cursor<'_> {
 #[cfg(test)]
 mod tests {
     use super::*;
+    use crate::cursor::tests::points;
     use regress_front_sets::Tables;
     use std::test::Fail;
 
@@ -202,10 +203,7 @@ mod tests {
         unicode: bool,
         pattern: &str,
     ) -> Result<String, Error> {
-        let mut points = Vec::new(alloc);
-        for c in pattern.chars() {
-            points.push(CodePoint::from(c))?;
-        }
+        let points = points(alloc, pattern)?;
         let mode = Mode {
             tables,
             unicode,

@@ -136,12 +136,8 @@ impl<'p> Cursor<'p> {
 #[cfg(test)]
 mod tests {
     use super::*;
-    use std::alloc::AllocError;
+    use crate::cursor::tests::points;
     use std::test::Fail;
-
-    fn points(alloc: Global, text: &str) -> Result<Vec<CodePoint>, AllocError> {
-        text.chars().map(CodePoint::from).collect(alloc)
-    }
 
     /// Whether a name stands at the front of a text, and is this one.
     fn is_name(alloc: Global, text: &str, expected: &str) -> Result<bool, Error> {
