@@ -10,7 +10,6 @@ use Rattle.regress_meaning.specs.Reading.{Front, bounded, quantified, closed, cl
 use Rattle.regress_front_sets.specs.declared.error.Error.{Error}
 use Rattle.regress_front_sets.specs.declared.error.Error.TheVariants.{Syntax as SyntaxError, TooDeep, TooManyGroups, TooManyLoops, TooLarge, OutOfMemory}
 use Rattle.regress_front_syntax.specs.declared.syntax.Syntax.{Syntax}
-use Rattle.regress_front_syntax.specs.Trees.{tree}
 use Rattle.regress_front_syntax.specs.Parsing.{Place, Leads, Grows, IsRefusal, IsAnswer, contents_of}
 
 -- a place, by its parts

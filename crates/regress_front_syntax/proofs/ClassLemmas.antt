@@ -1,5 +1,5 @@
 -- How a class without `v` is read: member by member, behind those that were read before.
-use Rattle.std.proofs.Common.{◌≡◌, ℕ, suc, ◌<◌, ◌≤◌, ◌==◌, true, false, not, nat_le, List, [], ◌∷◌, ◌++◌, length, map, drop, Option, Some, None, option_map, option_and_then, Result, Ok, Err, refl, sym, ap, ◌∙◌, arith, length-drop, Vec, Global}
+use Rattle.std.proofs.Common.{◌≡◌, ℕ, zero, suc, ◌+◌, ◌<◌, ◌≤◌, ◌==◌, Bool, true, false, not, nat_le, List, [], ◌∷◌, ◌++◌, length, map, drop, Option, Some, None, option_map, option_and_then, Result, Ok, Err, refl, sym, ap, ap₂, ◌∙◌, arith, length-drop, Vec, Global}
 use Rattle.std.specs.Option.{option_zip}
 use Rattle.std.proofs.lemmas.List.{map-append}
 use Rattle.std.proofs.lemmas.Bool.{le-leb}
@@ -8,10 +8,7 @@ use Rattle.regress_meaning.specs.Class.{Class, no_string, range, union}
 use Rattle.regress_meaning.specs.Tokens.{Mode, Reads, Escape, point, set, groups, guard, class_escape_at}
 use Rattle.regress_meaning.specs.Grammar.{class_of, member_class, dash_before_member}
 use Rattle.regress_meaning.specs.ReadingClass.{closes_class, read_member, dashed, read_members}
-use Rattle.regress_meaning.proofs.Inversion.{Gives, gives-none, gives-some, gives-weaker}
-use Rattle.regress_meaning.proofs.Shorter.{class_escape_at-shorter}
-use Rattle.regress_meaning.proofs.ReadSteps.{gives-test, gives-itself, on_true, on_false, on_some}
-use Rattle.regress_meaning.proofs.ReadMembers.{read_members-gives, read_members-complete}
+use Rattle.regress_meaning.specs.Laws.{LeavesLess}
 use Rattle.regress_front_sets.specs.declared.error.Error.{Error}
 use Rattle.regress_front_sets.specs.declared.error.Error.TheVariants.{Syntax, TooDeep, TooManyGroups, TooManyLoops, TooLarge, OutOfMemory}
 use Rattle.regress_front_syntax.specs.declared.syntax.Class.{Class as ClassValue, Class-F, fold-roll-Class}
@@ -21,41 +18,74 @@ use Rattle.regress_front_syntax.specs.Trees.{class_view, node_class, union_of}
 use Rattle.regress_front_syntax.proofs.ClassViews.{class_view-Union}
 use Rattle.regress_front_syntax.specs.Classes.{point_of, union_before, members_at, AddsDashed}
 
--- two answers are the same where each gives what the other does
-two_answers : {A : Type 0} (o p : Option A) → ((x : A) → o ≡ Some x → p ≡ Some x) → ((x : A) → p ≡ Some x → o ≡ Some x) → o ≡ p
-two_answers None None f g = refl
-two_answers None (Some y) f g = g y refl
-two_answers (Some x) p f g = sym (f x refl)
-
-members-more : (m : Mode) (n k : ℕ) (t : List ℕ) → length t < k → (x : Class × List ℕ) → read_members m n t ≡ Some x → read_members m k t ≡ Some x
-members-more m n k t room x e = read_members-complete m k {t = t} {r = x.1} {s = x.0} room ((read_members-gives m n t).holds {x = x} e)
-
--- more fuel changes nothing
-members-steady : (m : Mode) (n k : ℕ) (t : List ℕ) → length t < n → length t < k → read_members m n t ≡ read_members m k t
-members-steady m n k t a b = two_answers (read_members m n t) (read_members m k t) (members-more m n k t b) (members-more m k n t a)
-
-read_member-below : (m : Mode) (t : List ℕ) → Gives (λ (x : Escape × List ℕ). length x.1 < length t) (read_member m t)
-unfolding read_member
-read_member-below m [] = gives-none
-read_member-below m (c ∷ t) = gives-test (c == 0x5C)
-    (λ _. gives-weaker (λ x h. omega (arith, class_escape_at-shorter m t {e = x.0} {r = x.1} h)) (gives-itself (class_escape_at m t)))
-    (λ _. gives-test (c == 0x5D) (λ _. gives-none) (λ _. gives-some (omega arith)))
+-- an escape leaves no more of the text than stands behind its backslash, and another member leaves what follows it
+member_leaves : (escaped closes : Bool) (o : Option (Escape × List ℕ)) (c : ℕ) (t : List ℕ) (e : Escape) (r : List ℕ) → (o ≡ Some (e, r) → length r < length t + 1)
+    → ◌≡◌ {A = Option (Escape × List ℕ)} (elim escaped [ true ↦ o | false ↦ elim closes [ true ↦ None | false ↦ Some (point c, t) ] ]) (Some (e, r)) → length r < length t + 1
+member_leaves true closes o c t e r less h = less h
+member_leaves false true o c t e r less h = cc
+member_leaves false false o c t e r less h =
+    let same : ◌≡◌ {A = Escape × List ℕ} (point c, t) (e, r) = cc in
+    let left : length t ≡ length r = ap (λ (p : Escape × List ℕ). length p.1) same in omega (arith, left)
 
 -- each member takes at least one code point
-pub read_member-shorter : (m : Mode) (t : List ℕ) (e : Escape) (r : List ℕ) → read_member m t ≡ Some (e, r) → length r < length t
-read_member-shorter m t e r h = (read_member-below m t).holds {x = (e, r)} h
+pub read_member-shorter : (m : Mode) → ((u : List ℕ) → LeavesLess m u) → (t : List ℕ) (e : Escape) (r : List ℕ) → read_member m t ≡ Some (e, r) → length r < length t
+unfolding read_member
+read_member-shorter m less [] e r h = cc
+read_member-shorter m less (c ∷ t) e r h = omega (arith, member_leaves (c == 0x5C) (c == 0x5D) (class_escape_at m t) c t e r ((less t).class_escape e r) h)
+
+-- the class of a member before what was read behind it
+abbrev pub with_member : Class → Class × List ℕ → Class × List ℕ
+with_member a x = (union a x.0, x.1)
+
+-- members go on behind a dash
+abbrev dashed_on : Mode → Escape → Option (Escape × List ℕ) → Reads Class → Option (Class × List ℕ)
+dashed_on m d o next = option_and_then (λ (e, v). option_and_then (λ (s, r). option_map (λ k. (k, r)) (dashed m d e s)) (next v)) o
+
+-- members go on behind the first
+abbrev members_on : Mode → Option (Escape × List ℕ) → Reads Class → Option (Class × List ℕ)
+members_on m o next = option_and_then (λ (d, u). elim (dash_before_member u) [
+  | true ↦ dashed_on m d (read_member m (drop 1 u)) next
+  | false ↦ option_map (with_member (member_class d)) (next u)
+]) o
+
+dashed_on-same : (m : Mode) (d : Escape) (o : Option (Escape × List ℕ)) (f g : Reads Class) → ((e : Escape) (v : List ℕ) → o ≡ Some (e, v) → f v ≡ g v) → dashed_on m d o f ≡ dashed_on m d o g
+dashed_on-same m d None f g h = refl
+dashed_on-same m d (Some (e, v)) f g h = rw (h e v refl) refl
+
+-- two ways to go on that are the same from what was read on
+members_on-same : (m : Mode) (o : Option (Escape × List ℕ)) (f g : Reads Class) → ((d : Escape) (u : List ℕ) → o ≡ Some (d, u) → f u ≡ g u)
+    → ((d e : Escape) (u v : List ℕ) → o ≡ Some (d, u) → read_member m (drop 1 u) ≡ Some (e, v) → f v ≡ g v) → members_on m o f ≡ members_on m o g
+members_on-same m None f g h k = refl
+members_on-same m (Some (d, u)) f g h k =
+    ap₂ (λ (a b : Option (Class × List ℕ)). elim (dash_before_member u) [ true ↦ a | false ↦ b ])
+    (dashed_on-same m d (read_member m (drop 1 u)) f g (λ e v. k d e u v refl))
+    (ap (option_map (with_member (member_class d))) (h d u refl))
+
+-- more fuel changes nothing
+members-steady : (m : Mode) → ((u : List ℕ) → LeavesLess m u) → (n k : ℕ) (t : List ℕ) → length t < n → length t < k → read_members m n t ≡ read_members m k t
+unfolding read_members
+members-steady m less zero k t a b = absurd (omega arith)
+members-steady m less (suc n) zero t a b = absurd (omega arith)
+members-steady m less (suc n) (suc k) t a b =
+    let first : (d : Escape) (u : List ℕ) → read_member m t ≡ Some (d, u) → length u < length t = read_member-shorter m less t in
+    ap (λ (o : Option (Class × List ℕ)). elim (closes_class t) [ true ↦ Some (no_string, drop 1 t) | false ↦ o ])
+    (members_on-same m (read_member m t) (read_members m n) (read_members m k)
+    (λ d u read. members-steady m less n k u (omega (arith, first d u read)) (omega (arith, first d u read)))
+    (λ d e u v read next.
+    let second = read_member-shorter m less (drop 1 u) e v next in
+    members-steady m less n k v (omega (arith, first d u read, second, length-drop 1 u)) (omega (arith, first d u read, second, length-drop 1 u))))
 
 -- a member, by what it begins with
 
 pub read_member-escape : (m : Mode) (t : List ℕ) → is_at (λ c. c == 0x5C) t ≡ true → read_member m t ≡ class_escape_at m (drop 1 t)
 unfolding read_member
 read_member-escape m [] h = cc
-read_member-escape m (c ∷ t) h = on_true _ h refl
+read_member-escape m (c ∷ t) h = rw (read_member, h) refl
 
 pub read_member-bracket : (m : Mode) (t : List ℕ) → is_at (λ c. c == 0x5C) t ≡ false → is_at (λ c. c == 0x5D) t ≡ true → read_member m t ≡ None
 unfolding read_member
 read_member-bracket m [] h k = cc
-read_member-bracket m (c ∷ t) h k = on_false _ h (on_true _ k refl)
+read_member-bracket m (c ∷ t) h k = rw (read_member, h, k) refl
 
 pub read_member-end : (m : Mode) (t : List ℕ) → t ≡ [] → read_member m t ≡ None
 unfolding read_member
@@ -66,50 +96,42 @@ unfolding read_member
 read_member-itself m t c r h k e =
     let no_backslash = ap (is_at (λ d. d == 0x5C)) (sym e) ∙ h in
     let no_bracket = ap (is_at (λ d. d == 0x5D)) (sym e) ∙ k in
-    ap (read_member m) e ∙ on_false _ no_backslash (on_false _ no_bracket refl)
-
--- the class of a member before what was read behind it
-abbrev pub with_member : Class → Class × List ℕ → Class × List ℕ
-with_member a x = (union a x.0, x.1)
+    ap (read_member m) e ∙ rw (read_member, no_backslash, no_bracket) refl
 
 -- the class of two members with a dash between them before what was read behind them
 abbrev pub with_dashed : Mode → Escape → Escape → Class × List ℕ → Option (Class × List ℕ)
 with_dashed m d e x = option_map (λ (k : Class). (k, x.1)) (dashed m d e x.0)
 
-on_none : {A B : Type 0} (f : A → Option B) {o : Option A} → o ≡ None → option_and_then f o ≡ None
-on_none f e = ap (option_and_then f) e
-
 -- members, by what stands at their front
 
 pub members_at-closed : (m : Mode) (t : List ℕ) → closes_class t ≡ true → members_at m t ≡ Some (no_string, drop 1 t)
 unfolding read_members
-members_at-closed m t h = on_true _ h refl
+members_at-closed m t h = rw (read_members, h) refl
 
 pub members_at-none : (m : Mode) (t : List ℕ) → closes_class t ≡ false → read_member m t ≡ None → members_at m t ≡ None
 unfolding read_members
-members_at-none m t goes_on none = on_false _ goes_on (on_none _ none)
+members_at-none m t goes_on none = rw (read_members, goes_on, none) refl
 
-pub members_at-alone : (m : Mode) (t u : List ℕ) (d : Escape) → closes_class t ≡ false → read_member m t ≡ Some (d, u) → dash_before_member u ≡ false
+pub members_at-alone : (m : Mode) → ((u : List ℕ) → LeavesLess m u) → (t u : List ℕ) (d : Escape) → closes_class t ≡ false → read_member m t ≡ Some (d, u) → dash_before_member u ≡ false
     → members_at m t ≡ option_map (with_member (member_class d)) (members_at m u)
 unfolding read_members
-members_at-alone m t u d goes_on read alone =
-    let below = read_member-shorter m t d u read in
-    on_false _ goes_on (on_some _ read (on_false _ alone
-    (ap (option_map (with_member (member_class d))) (members-steady m (length t) (suc (length u)) u below (omega arith)))))
+members_at-alone m less t u d goes_on read alone =
+    let below = read_member-shorter m less t d u read in
+    rw (read_members, goes_on, read) (rw (option_and_then, alone) (ap (option_map (with_member (member_class d))) (members-steady m less (length t) (suc (length u)) u below (omega arith))))
 
 pub members_at-no_second : (m : Mode) (t u : List ℕ) (d : Escape) → closes_class t ≡ false → read_member m t ≡ Some (d, u) → dash_before_member u ≡ true
     → read_member m (drop 1 u) ≡ None → members_at m t ≡ None
 unfolding read_members
-members_at-no_second m t u d goes_on read dash none = on_false _ goes_on (on_some _ read (on_true _ dash (on_none _ none)))
+members_at-no_second m t u d goes_on read dash none = rw (read_members, goes_on, read) (rw (option_and_then, dash, none) refl)
 
-pub members_at-dashed : (m : Mode) (t u v : List ℕ) (d e : Escape) → closes_class t ≡ false → read_member m t ≡ Some (d, u) → dash_before_member u ≡ true
+pub members_at-dashed : (m : Mode) → ((u : List ℕ) → LeavesLess m u) → (t u v : List ℕ) (d e : Escape) → closes_class t ≡ false → read_member m t ≡ Some (d, u) → dash_before_member u ≡ true
     → read_member m (drop 1 u) ≡ Some (e, v) → members_at m t ≡ option_and_then (with_dashed m d e) (members_at m v)
 unfolding read_members
-members_at-dashed m t u v d e goes_on read dash next =
-    let first = read_member-shorter m t d u read in
-    let second = read_member-shorter m (drop 1 u) e v next in
-    on_false _ goes_on (on_some _ read (on_true _ dash (on_some _ next
-    (ap (option_and_then (with_dashed m d e)) (members-steady m (length t) (suc (length v)) v (omega (arith, first, second, length-drop 1 u)) (omega arith))))))
+members_at-dashed m less t u v d e goes_on read dash next =
+    let first = read_member-shorter m less t d u read in
+    let second = read_member-shorter m less (drop 1 u) e v next in
+    rw (read_members, goes_on, read) (rw (option_and_then, dash, next)
+    (ap (option_and_then (with_dashed m d e)) (members-steady m less (length t) (suc (length v)) v (omega (arith, first, second, length-drop 1 u)) (omega arith))))
 
 -- the classes that were read so far before what was read behind them
 abbrev pub before : List Class → Class × List ℕ → Class × List ℕ

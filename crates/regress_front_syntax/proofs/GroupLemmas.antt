@@ -1,18 +1,17 @@
 -- What is answered for a tree in parentheses, by what its opening is and by its contents.
-use Rattle.std.proofs.Common.{◌≡◌, ℕ, suc, ◌+◌, ◌≤◌, Bool, true, false, not, List, [], ◌∷◌, length, drop, Option, Some, None, option_and_then, Result, Ok, Err, refl, sym, ap, ◌∙◌, subst, arith}
+use Rattle.std.proofs.Common.{◌≡◌, ℕ, suc, ◌+◌, ◌≤◌, Bool, true, false, not, List, [], ◌∷◌, length, Option, Some, None, option_and_then, Err, refl, sym, ap, ◌∙◌, arith}
 use Rattle.regress_meaning.specs.Pattern.{Pattern, names_of}
 use Rattle.regress_meaning.specs.Tokens.{Mode}
-use Rattle.regress_meaning.specs.Limits.{depth, quantifiers, greatest_depth, most_groups}
-use Rattle.regress_meaning.specs.Reading.{Front, quantified, closed, closed_and_quantified, read_term, disjunction_at, no_term, ReadsBySteps}
+use Rattle.regress_meaning.specs.Limits.{depth, quantifiers, most_groups}
+use Rattle.regress_meaning.specs.Reading.{Front, quantified, read_term, disjunction_at, ReadsBySteps}
 use Rattle.regress_meaning.specs.Reading as meaning
 use Rattle.regress_front_sets.specs.declared.error.Error.{Error}
 use Rattle.regress_front_sets.specs.declared.error.Error.TheVariants.{Syntax as SyntaxError, TooDeep, TooManyGroups, TooManyLoops, TooLarge, OutOfMemory}
 use Rattle.regress_front_syntax.specs.declared.group.Opening.{Opening}
 use Rattle.regress_front_syntax.specs.declared.group.Opening.TheVariants.{Capture, Group, Modified, Lookahead, Lookbehind}
-use Rattle.regress_front_syntax.specs.declared.syntax.Syntax.{Syntax}
-use Rattle.regress_front_syntax.specs.Trees.{tree, capture_of}
+use Rattle.regress_front_syntax.specs.Trees.{capture_of}
 use Rattle.regress_front_syntax.specs.Openings.{group_of, opening_view, enclosed, is_lookbehind, may_repeat, opened_by, IsOpening}
-use Rattle.regress_front_syntax.specs.Parsing.{Place, Leads, Grows, front_to, IsRefusal, IsAnswer, contents_of}
+use Rattle.regress_front_syntax.specs.Parsing.{Place, Leads, Grows, front_to, IsRefusal, contents_of}
 use Rattle.regress_front_syntax.proofs.AnswerLemmas.{at, Within, Keeps, quantified-keeps, Some-keeps, wrapped, quantified-contents, closed-alone, Leads_trans}
 use Rattle.regress_front_syntax.proofs.StepLemmas.{contents-opened}
 

@@ -1,5 +1,5 @@
 -- What a loop of the parser has read so far, and what is still to come.
-use Rattle.std.proofs.Common.{◌≡◌, ℕ, ◌+◌, ◌≤◌, List, [], ◌∷◌, ◌++◌, length, max, Option, Some, None, option_map, refl, sym, ap, ◌∙◌, subst, length-append, arith}
+use Rattle.std.proofs.Common.{◌≡◌, ℕ, ◌+◌, ◌≤◌, List, [], ◌∷◌, ◌++◌, length, max, Option, Some, None, option_map, refl, sym, ap, ◌∙◌, length-append, arith}
 use Rattle.regress_meaning.specs.Pattern.{Pattern, names_of, nothing, sequence, choice}
 use Rattle.regress_meaning.specs.Limits.{depth, quantifiers}
 use Rattle.regress_meaning.specs.Reading.{Front, joined_by}

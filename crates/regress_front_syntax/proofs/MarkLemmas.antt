@@ -1,9 +1,9 @@
 -- Code points that are marks, and what is counted of them in the rear of a text.
 use Rattle.std.specs.Prelude.{count_by}
-use Rattle.std.proofs.lemmas.List.Sums.{sum_by-cons, sum_by-take-drop}
-use Rattle.std.proofs.lemmas.Bool.{or_parts, or_from, eq-eqb}
-use Rattle.std.proofs.Common.{cond, ◌≡◌, ℕ, zero, suc, ◌+◌, ◌<◌, ◌≤◌, Bool, true, false, not, ◌||◌, ◌==◌, List, [], ◌∷◌, length, drop, Option, Some, None, refl, sym, ap, subst, eqb-true, codes, length-drop, arith}
-use Rattle.regress_meaning.specs.Text.{holds, ◌∈◌, is_at}
+use Rattle.std.proofs.lemmas.List.Sums.{sum_by-take-drop}
+use Rattle.std.proofs.lemmas.Bool.{or_parts, eq-eqb}
+use Rattle.std.proofs.Common.{cond, ◌≡◌, ℕ, zero, suc, ◌<◌, ◌≤◌, Bool, true, false, ◌==◌, List, [], ◌∷◌, length, drop, Some, None, refl, sym, eqb-true, codes, length-drop, arith}
+use Rattle.regress_meaning.specs.Text.{holds, is_at}
 use Rattle.regress_meaning.specs.Tokens.{Bounds, bounds_at}
 use Rattle.regress_meaning.specs.Limits.{opens_nesting, opens_group, opens_quantifier}
 use Rattle.regress_front_syntax.specs.declared.cursor.Cursor.{Cursor}

@@ -1,10 +1,15 @@
--- The numbers of the groups of a name, one group after another.
+-- Modes: the numbers of the groups of a name, one group after another, and a mode where any serves.
 use Rattle.std.proofs.Common.{◌≡◌, ℕ, ◌+◌, Bool, true, false, cond, List, [], ◌∷◌, ◌++◌, length, map, take, get_or, ◌<◌, refl, arith}
 use Rattle.std.specs.Prelude.{if◌then◌else◌}
 use Rattle.std.specs.Global.{Vec}
 use Rattle.std.proofs.lemmas.List.{take_more, map_push, length-map, length-take-le}
 use Rattle.regress_meaning.specs.Text.{same_text}
-use Rattle.regress_meaning.specs.Tokens.{numbers_from}
+use Rattle.regress_meaning.specs.TableParts.{table_of, small_parts}
+use Rattle.regress_meaning.specs.Tokens.{Mode, numbers_from}
+
+-- a mode, where any serves
+pub any_mode : Mode
+any_mode = record { table = table_of small_parts; unicode = false; sets = false; named = false; names = [] }
 
 -- a number is put before what follows, or is not
 cons-append : (b : Bool) (k : ℕ) (xs ys : List ℕ) → cond b (k ∷ (xs ++ ys)) (xs ++ ys) ≡ cond b (k ∷ xs) xs ++ ys

@@ -1,18 +1,18 @@
 -- How a group's name is read, one code point after another, and what a property's key is read from.
-use Rattle.std.proofs.Common.{◌≡◌, ℕ, zero, suc, ◌<◌, ◌≤◌, ◌==◌, ◌&&◌, not, Bool, true, false, nat_lt, List, [], ◌∷◌, ◌++◌, length, drop, Option, Some, None, refl, ap, arith, append_assoc, append-nil, lit<}
+use Rattle.std.proofs.Common.{◌≡◌, ℕ, zero, suc, ◌<◌, ◌≤◌, ◌==◌, ◌&&◌, not, Bool, true, false, nat_lt, List, [], ◌∷◌, ◌++◌, length, drop, Option, Some, None, refl, ap, subst, arith, append_assoc, append-nil, lit<}
 use Rattle.std.specs.Prelude.{if◌then◌else◌, option_map, option_and_then}
 use Rattle.std.proofs.lemmas.Bool.{and_parts}
 use Rattle.regress_meaning.specs.Text.{is_at, span}
 use Rattle.regress_meaning.specs.Table.{Table}
 use Rattle.regress_meaning.specs.Class.{is_ascii_word}
-use Rattle.regress_meaning.specs.Tokens.{guard, begins_name, continues_name, unicode_escape, name_point, name_rest, name_at, key_at}
+use Rattle.regress_meaning.specs.Tokens.{Mode, guard, begins_name, continues_name, unicode_escape, name_point, name_rest, name_at, key_at}
 use Rattle.std.specs.List.{list_all}
 use Rattle.std.specs.Str.{IsAscii}
 use Rattle.std.proofs.lemmas.Str.{IsAscii-append}
 use Rattle.std.proofs.lemmas.Bool.Decides.{nat_tests}
-use Rattle.regress_meaning.proofs.Inversion.{Gives, gives-none, gives-some, gives-if, gives-guard}
+use Rattle.regress_front_syntax.proofs.ModeLemmas.{any_mode}
 use Rattle.regress_front_syntax.proofs.SpanLemmas.{span-passes}
-use Rattle.regress_meaning.proofs.Shorter.{name_point-shorter}
+use Rattle.regress_meaning.specs.Laws.{LeavesLess}
 use Rattle.regress_front_syntax.specs.Readings.{IsNext, IsReading}
 use Rattle.regress_front_syntax.proofs.TokenLemmas.{some_length}
 
@@ -47,30 +47,34 @@ nothing_left : name_point [] ≡ None
 unfolding name_point
 nothing_left = refl
 
+-- what is read at the front of a text leaves less of it, whatever the mode
+abbrev pub ReadingLeavesLess : Type 0
+ReadingLeavesLess = (m : Mode) (t : List ℕ) → LeavesLess m t
+
 -- two bounds that the text does not pass are the same
-name_rest-same : (table : Table) (n m : ℕ) (t : List ℕ) → length t ≤ n → length t ≤ m → name_rest table n t ≡ name_rest table m t
+name_rest-same : ReadingLeavesLess → (table : Table) (n m : ℕ) (t : List ℕ) → length t ≤ n → length t ≤ m → name_rest table n t ≡ name_rest table m t
 unfolding name_rest
-name_rest-same table zero zero [] h k = refl
-name_rest-same table zero (suc m) [] h k = rw nothing_left refl
-name_rest-same table (suc n) zero [] h k = rw nothing_left refl
-name_rest-same table (suc n) (suc m) [] h k = rw nothing_left refl
-name_rest-same table zero m (c ∷ t) h k = absurd (omega arith)
-name_rest-same table (suc n) zero (c ∷ t) h k = absurd (omega arith)
-name_rest-same table (suc n) (suc m) (c ∷ t) h k =
+name_rest-same less table zero zero [] h k = refl
+name_rest-same less table zero (suc m) [] h k = rw nothing_left refl
+name_rest-same less table (suc n) zero [] h k = rw nothing_left refl
+name_rest-same less table (suc n) (suc m) [] h k = rw nothing_left refl
+name_rest-same less table zero m (c ∷ t) h k = absurd (omega arith)
+name_rest-same less table (suc n) zero (c ∷ t) h k = absurd (omega arith)
+name_rest-same less table (suc n) (suc m) (c ∷ t) h k =
     ap (λ o. if c == 0x3E then Some ([], t) else o)
     (goes_on-same table (name_point (c ∷ t)) (name_rest table n) (name_rest table m) (λ d r e.
-    let shorter = name_point-shorter (c ∷ t) e in
-    name_rest-same table n m r (omega arith) (omega arith)))
+    let shorter = (less any_mode (c ∷ t)).name_point d r e in
+    name_rest-same less table n m r (omega arith) (omega arith)))
 
 -- what follows is `>`, or one more code point of the name
-pub rest_at-is : (table : Table) (t : List ℕ) → rest_at table t ≡ (if is_at (λ d. d == 0x3E) t then Some ([], drop 1 t) else goes_on table (name_point t) (rest_at table))
+pub rest_at-is : ReadingLeavesLess → (table : Table) (t : List ℕ) → rest_at table t ≡ (if is_at (λ d. d == 0x3E) t then Some ([], drop 1 t) else goes_on table (name_point t) (rest_at table))
 unfolding name_rest
-rest_at-is table [] = rw nothing_left refl
-rest_at-is table (c ∷ t) =
+rest_at-is less table [] = rw nothing_left refl
+rest_at-is less table (c ∷ t) =
     ap (λ o. if c == 0x3E then Some ([], t) else o)
     (goes_on-same table (name_point (c ∷ t)) (name_rest table (length t)) (rest_at table) (λ d r e.
-    let shorter = name_point-shorter (c ∷ t) e in
-    name_rest-same table (length t) (length r) r (omega arith) (omega arith)))
+    let shorter = (less any_mode (c ∷ t)).name_point d r e in
+    name_rest-same less table (length t) (length r) r (omega arith) (omega arith)))
 
 -- a name of which some was read, and the rest of it
 abbrev pub behind : List ℕ → Option (List ℕ × List ℕ) → Option (List ℕ × List ℕ)
@@ -81,18 +85,18 @@ behind-push : (name : List ℕ) (c : ℕ) (o : Option (List ℕ × List ℕ)) �
 behind-push name c None = refl
 behind-push name c (Some (cs, s)) = rw append_assoc refl
 
-pub behind-point : (table : Table) (name t r : List ℕ) (c : ℕ) → false ≡ is_at (λ d. d == 0x3E) t → name_point t ≡ Some (c, r) → continues_name table c ≡ true →
+pub behind-point : ReadingLeavesLess → (table : Table) (name t r : List ℕ) (c : ℕ) → false ≡ is_at (λ d. d == 0x3E) t → name_point t ≡ Some (c, r) → continues_name table c ≡ true →
     behind name (rest_at table t) ≡ behind (name ++ (c ∷ [])) (rest_at table r)
-behind-point table name t r c no_end point goes = rw (rest_at-is, ← no_end, point, goes) (behind-push name c (rest_at table r))
+behind-point less table name t r c no_end point goes = rw (rest_at-is less, ← no_end, point, goes) (behind-push name c (rest_at table r))
 
-pub behind-no_point : (table : Table) (name t : List ℕ) → false ≡ is_at (λ d. d == 0x3E) t → name_point t ≡ None → behind name (rest_at table t) ≡ None
-behind-no_point table name t no_end point = rw (rest_at-is, ← no_end, point) refl
+pub behind-no_point : ReadingLeavesLess → (table : Table) (name t : List ℕ) → false ≡ is_at (λ d. d == 0x3E) t → name_point t ≡ None → behind name (rest_at table t) ≡ None
+behind-no_point less table name t no_end point = rw (rest_at-is less, ← no_end, point) refl
 
-pub behind-other : (table : Table) (name t r : List ℕ) (c : ℕ) → false ≡ is_at (λ d. d == 0x3E) t → name_point t ≡ Some (c, r) → continues_name table c ≡ false → behind name (rest_at table t) ≡ None
-behind-other table name t r c no_end point stops = rw (rest_at-is, ← no_end, point, stops) refl
+pub behind-other : ReadingLeavesLess → (table : Table) (name t r : List ℕ) (c : ℕ) → false ≡ is_at (λ d. d == 0x3E) t → name_point t ≡ Some (c, r) → continues_name table c ≡ false → behind name (rest_at table t) ≡ None
+behind-other less table name t r c no_end point stops = rw (rest_at-is less, ← no_end, point, stops) refl
 
-pub behind-end : (table : Table) (name t : List ℕ) → true ≡ is_at (λ d. d == 0x3E) t → behind name (rest_at table t) ≡ Some (name, drop 1 t)
-behind-end table name t end = rw (rest_at-is, ← end, append-nil) refl
+pub behind-end : ReadingLeavesLess → (table : Table) (name t : List ℕ) → true ≡ is_at (λ d. d == 0x3E) t → behind name (rest_at table t) ≡ Some (name, drop 1 t)
+behind-end less table name t end = rw (rest_at-is less, ← end, append-nil) refl
 
 -- the first code point of a name
 pub name_at-first : (table : Table) (t r : List ℕ) (c : ℕ) → name_point t ≡ Some (c, r) → begins_name table c ≡ true → name_at table t ≡ behind (c ∷ []) (rest_at table r)
@@ -138,16 +142,32 @@ cons-ascii : (c : ℕ) (ds : List ℕ) → c < 128 → IsAscii ds → IsAscii (c
 cons-ascii c ds small h zero = small
 cons-ascii c ds small h (suc i) = h i
 
+-- what is found behind a test
+guarded : {A : Type 0} {x : A} (b : Bool) (o : Option A) → guard b o ≡ Some x → o ≡ Some x
+guarded true o e = e
+guarded false o e = cc
+
+the_ascii : {p : List ℕ × List ℕ} (key r : List ℕ) → IsAscii key → Some (key, r) ≡ Some p → IsAscii p.0
+the_ascii {p = p} key r ascii e = let same : (key, r) ≡ p = cc in subst (λ (q : List ℕ × List ℕ). IsAscii q.0) same ascii
+
 -- keys are ASCII
-pub key-ascii : (t : List ℕ) → Gives (λ p. IsAscii p.0) (key_at t)
+pub key-ascii : (t : List ℕ) {p : List ℕ × List ℕ} → key_at t ≡ Some p → IsAscii p.0
 unfolding key_at
-key-ascii [] = gives-none
-key-ascii (c ∷ t) =
-    let name = span is_ascii_word t in
-    let value = span is_ascii_word (drop 1 name.1) in
-    let end = λ (d : ℕ). d == 0x7D in
-    let names = words-ascii name.0 (span-passes is_ascii_word t refl) in
-    let values = cons-ascii 0x3D value.0 (lit< tt) (words-ascii value.0 (span-passes is_ascii_word (drop 1 name.1) refl)) in
-    gives-guard (c == 0x7B && nat_lt 0 (length name.0)) (λ _. gives-if (is_at end name.1) (λ _. gives-some names)
-    (λ _. gives-guard (is_at (λ d. d == 0x3D) name.1 && nat_lt 0 (length value.0) && is_at end value.1)
-    (λ _. gives-some (IsAscii-append name.0 (0x3D ∷ value.0) names values))))
+key-ascii [] e = cc
+key-ascii (c ∷ t) {p = p} e = by_end (is_at (λ d. d == 0x7D) name.1) (guarded (c == 0x7B && nat_lt 0 (length name.0)) _ e)
+  where
+    name : List ℕ × List ℕ
+    name = span is_ascii_word t
+
+    value : List ℕ × List ℕ
+    value = span is_ascii_word (drop 1 name.1)
+
+    names : IsAscii name.0
+    names = words-ascii name.0 (span-passes is_ascii_word t refl)
+
+    values : IsAscii (0x3D ∷ value.0)
+    values = cons-ascii 0x3D value.0 (lit< tt) (words-ascii value.0 (span-passes is_ascii_word (drop 1 name.1) refl))
+
+    by_end : (b : Bool) → (if b then Some (name.0, drop 1 name.1) else guard (is_at (λ d. d == 0x3D) name.1 && nat_lt 0 (length value.0) && is_at (λ d. d == 0x7D) value.1) (Some (name.0 ++ 0x3D ∷ value.0, drop 1 value.1))) ≡ Some p → IsAscii p.0
+    by_end true h = the_ascii name.0 (drop 1 name.1) names h
+    by_end false h = the_ascii (name.0 ++ 0x3D ∷ value.0) (drop 1 value.1) (IsAscii-append name.0 (0x3D ∷ value.0) names values) (guarded _ _ h)

@@ -1,7 +1,7 @@
 -- What the answer for a whole text says of what the text spells.
 use Rattle.std.specs.Prelude.{count_by, IfOk, IfErr}
 use Rattle.std.proofs.lemmas.Bool.{eqb-true}
-use Rattle.std.proofs.Common.{◌≡◌, ℕ, zero, suc, ◌+◌, ◌-◌, ◌≤◌, ◌<◌, ◌↔◌, Bool, true, false, not, ◌&&◌, ◌||◌, ◌==◌, List, [], ◌∷◌, ◌++◌, length, drop, Option, Some, None, option_and_then, option_map, unwrap_or, Result, Ok, Err, slice_get, is_some, suc-ne-zero, refl, sym, ap, ◌∙◌, subst, length-append, arith}
+use Rattle.std.proofs.Common.{◌≡◌, ℕ, zero, suc, ◌-◌, ◌≤◌, ◌<◌, ◌↔◌, Bool, true, false, not, ◌&&◌, ◌||◌, ◌==◌, List, [], ◌∷◌, ◌++◌, length, drop, Option, Some, None, option_and_then, option_map, unwrap_or, Result, Ok, Err, slice_get, is_some, suc-ne-zero, refl, ap, ◌∙◌, length-append, arith}
 use Rattle.std.specs.Prelude.{if◌then◌else◌}
 use Rattle.regress_meaning.specs.Text.{is_at}
 use Rattle.regress_meaning.specs.Table.{Table}
@@ -9,7 +9,7 @@ use Rattle.regress_meaning.specs.Pattern.{Pattern, names_of}
 use Rattle.regress_meaning.specs.Flags.{Options}
 use Rattle.regress_meaning.specs.Tokens.{Mode, guard, name_at}
 use Rattle.regress_meaning.specs.Grammar.{Spells, mode_of, names_apart, opens_name}
-use Rattle.regress_meaning.specs.Limits.{SpellsNone, PassesGroups, WithinLimits, depth, quantifiers, opens_nesting, opens_group, opens_quantifier, greatest_depth, most_groups, most_quantifiers}
+use Rattle.regress_meaning.specs.Limits.{SpellsNone, PassesGroups, WithinLimits, depth, quantifiers, opens_group, most_groups}
 use Rattle.regress_meaning.specs.Scan.{after_escape, opened_groups, group_names, scanned_names}
 use Rattle.regress_meaning.specs.Reading.{Front, disjunction_at, whole_tree, read_pattern, ReadsBySteps}
 use Rattle.regress_front_sets.specs.declared.error.Error.{Error}
@@ -17,7 +17,7 @@ use Rattle.regress_front_sets.specs.declared.error.Error.TheVariants.{Syntax as 
 use Rattle.regress_front_syntax.specs.declared.syntax.Syntax.{Syntax}
 use Rattle.regress_front_syntax.specs.Trees.{tree}
 use Rattle.regress_front_syntax.specs.Refusals.{MayRefuse}
-use Rattle.regress_front_syntax.specs.Parsing.{IsCoherent, IsRefusal, IsWholeAnswer, PassesLimit, whole_at}
+use Rattle.regress_front_syntax.specs.Parsing.{IsCoherent, IsRefusal, IsWholeAnswer, whole_at}
 use Rattle.regress_front_syntax.proofs.AnswerLemmas.{at, count-less, count-opening}
 
 -- a text with no first code point is empty

@@ -1,8 +1,7 @@
 -- What the quantifier behind a front says, and what is answered for a tree with one.
-use Rattle.std.proofs.lemmas.Bool.{le-leb}
 use Rattle.std.proofs.lemmas.Bool.Decides.{nat_tests}
-use Rattle.std.specs.Prelude.{count_by, if◌then◌else◌}
-use Rattle.std.proofs.Common.{◌≡◌, ℕ, suc, ◌+◌, ◌<◌, ◌≤◌, Bool, true, false, ◌&&◌, ◌==◌, nat_le, List, [], ◌∷◌, length, drop, Option, Some, None, option_map, Result, Ok, Err, refl, sym, ap, ◌∙◌, subst, length-drop, arith}
+use Rattle.std.specs.Prelude.{if◌then◌else◌}
+use Rattle.std.proofs.Common.{◌≡◌, ℕ, suc, ◌<◌, ◌≤◌, Bool, true, false, ◌&&◌, nat_le, List, length, drop, Option, Some, None, option_map, Err, refl, sym, ap, ◌∙◌, length-drop, arith}
 use Rattle.regress_meaning.specs.Text.{is_at}
 use Rattle.regress_meaning.specs.Pattern.{Pattern, repeated}
 use Rattle.regress_meaning.specs.Tokens.{Mode, Bounds, bounds_at, guard}
@@ -14,11 +13,10 @@ use Rattle.regress_front_sets.specs.declared.error.Error.{Error}
 use Rattle.regress_front_sets.specs.declared.error.Error.TheVariants.{Syntax as SyntaxError, TooDeep, TooManyGroups, TooManyLoops, TooLarge, OutOfMemory}
 use Rattle.regress_front_syntax.specs.declared.cursor.Cursor.{Cursor}
 use Rattle.regress_front_syntax.specs.declared.syntax.Quantifier.{Quantifier}
-use Rattle.regress_front_syntax.specs.declared.syntax.Syntax.{Syntax}
 use Rattle.regress_front_syntax.specs.Cursors.{unread, SameText}
-use Rattle.regress_front_syntax.specs.Trees.{tree, most}
+use Rattle.regress_front_syntax.specs.Trees.{most}
 use Rattle.regress_front_syntax.specs.Words.{quantifier_at, quantifier_view}
-use Rattle.regress_front_syntax.specs.Parsing.{Place, Leads, Grows, IsRefusal, IsAnswer, IsQuantifier, ReadsQuantifier, PassesQuantifiers, with_quantifier, front_to}
+use Rattle.regress_front_syntax.specs.Parsing.{Place, Grows, IsRefusal, IsQuantifier, ReadsQuantifier, PassesQuantifiers, with_quantifier, front_to}
 use Rattle.regress_front_syntax.proofs.AnswerLemmas.{at, Leads_refl, Leads_trans, quantified-none}
 use Rattle.regress_front_syntax.proofs.MarkLemmas.{quantifier-mark, count-further, count-beyond}
 

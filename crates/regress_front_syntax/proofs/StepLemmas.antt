@@ -1,13 +1,12 @@
 -- How a disjunction, an alternative and the contents of parentheses are read from their parts.
-use Rattle.std.specs.Prelude.{if◌then◌else◌}
-use Rattle.std.proofs.Common.{◌≡◌, ℕ, suc, ◌+◌, ◌≤◌, Bool, true, false, ◌==◌, List, [], ◌∷◌, length, drop, Option, Some, None, option_and_then, option_map, slice_get, refl, sym, ap, ◌∙◌, subst, arith}
+use Rattle.std.proofs.Common.{◌≡◌, ℕ, ◌+◌, ◌≤◌, Bool, true, false, ◌==◌, List, drop, Option, Some, None, option_and_then, option_map, refl, sym, ap, ◌∙◌, arith}
 use Rattle.regress_meaning.specs.Text.{is_at}
-use Rattle.regress_meaning.specs.Pattern.{Pattern, names_of, nothing, sequence, choice, capture, grouped}
+use Rattle.regress_meaning.specs.Pattern.{Pattern, nothing, sequence, choice}
 use Rattle.regress_meaning.specs.Tokens.{Mode, guard}
 use Rattle.regress_meaning.specs.Grammar.{ends_alternative}
 use Rattle.regress_meaning.specs.Limits.{depth, quantifiers, greatest_depth}
-use Rattle.regress_meaning.specs.Reading.{Front, joined_by, alternatives_if, alternatives, terms, closed, quantified, disjunction_at, alternative_at, term_at, ReadsBySteps}
-use Rattle.regress_front_syntax.specs.Parsing.{Place, Leads, Grows, front_to, contents_of}
+use Rattle.regress_meaning.specs.Reading.{Front, joined_by, alternatives_if, alternatives, terms, closed, disjunction_at, alternative_at, term_at, ReadsBySteps}
+use Rattle.regress_front_syntax.specs.Parsing.{Place, Grows, front_to, contents_of}
 use Rattle.regress_front_syntax.proofs.AnswerLemmas.{at, Within, Leads_refl, Leads_trans, Leads_drop}
 use Rattle.regress_front_syntax.proofs.LoopLemmas.{Joins, sequence_joins, choice_joins}
 

@@ -1,6 +1,6 @@
 -- What is answered for a term, by its first code point.
-use Rattle.std.specs.Prelude.{count_by, OnOk, if◌then◌else◌}
-use Rattle.std.proofs.Common.{◌≡◌, ℕ, suc, ◌+◌, ◌<◌, ◌≤◌, Bool, true, false, ◌&&◌, ◌==◌, List, [], ◌∷◌, length, drop, Option, Some, None, Result, Ok, Err, refl, sym, ap, ◌∙◌, subst, eqb-true, length-drop, arith}
+use Rattle.std.specs.Prelude.{OnOk, if◌then◌else◌}
+use Rattle.std.proofs.Common.{◌≡◌, ℕ, ◌+◌, ◌<◌, ◌≤◌, Bool, true, false, ◌&&◌, ◌==◌, List, [], ◌∷◌, length, drop, Option, Some, None, Result, Ok, Err, refl, sym, ap, ◌∙◌, subst, eqb-true, length-drop, arith}
 use Rattle.regress_meaning.specs.Text.{◌∈◌, is_at}
 use Rattle.regress_meaning.specs.Class as meaning
 use Rattle.regress_meaning.specs.Class.{may_hold_strings}

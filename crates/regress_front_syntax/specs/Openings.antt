@@ -1,5 +1,5 @@
 -- What an opening parenthesis begins.
-use Rattle.std.specs.Prelude.{◌≡◌, ℕ, suc, Bool, true, false, not, ◌&&◌, ◌==◌, List, [], ◌∷◌, drop, if◌then◌else◌, Result, Ok, Err}
+use Rattle.std.specs.Prelude.{◌≡◌, ℕ, suc, Bool, true, false, not, ◌==◌, List, [], ◌∷◌, drop, if◌then◌else◌, Result, Ok, Err}
 use Rattle.regress_meaning.specs.Pattern.{Pattern, grouped, modified, look}
 use Rattle.regress_meaning.specs.Flags.{settings_of}
 use Rattle.regress_meaning.specs.Text.{is_at, span}

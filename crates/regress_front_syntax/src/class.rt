@@ -173,6 +173,7 @@ impl Cursor<'_> {
         ensures read { IsRead class_view (members_at (mode_view mode.now)) (unread self.old) result (unread self.new) }
         ensures kept { SameText self.old self.new }
     {
+        regress_meaning::reading_leaves_less();
         let mut members = Vec::new(alloc);
         while !self.eat(']') {
             let first = self.member(alloc, mode)?;
@@ -191,6 +192,7 @@ impl Cursor<'_> {
 #[cfg(test)]
 mod tests {
     use super::*;
+    use crate::cursor::tests::points;
     use regress_front_sets::Tables;
     use std::test::Fail;
 
@@ -201,10 +203,7 @@ mod tests {
         unicode: bool,
         pattern: &str,
     ) -> Result<String, Error> {
-        let mut points = Vec::new(alloc);
-        for c in pattern.chars() {
-            points.push(CodePoint::from(c))?;
-        }
+        let points = points(alloc, pattern)?;
         let mode = Mode {
             tables,
             unicode,

@@ -436,13 +436,10 @@ impl Cursor<'_> {
 #[cfg(test)]
 mod tests {
     use super::*;
+    use crate::cursor::tests::points;
     use regress_front_sets::Tables;
     use std::alloc::AllocError;
     use std::test::Fail;
-
-    fn points(alloc: Global, text: &str) -> Result<Vec<CodePoint>, AllocError> {
-        text.chars().map(CodePoint::from).collect(alloc)
-    }
 
     /// The class that stands behind an opening bracket, written out, or the error.
     fn written(

@@ -139,3 +139,14 @@ impl<'p> Cursor<'p> {
         &rest[..count]
     }
 }
+
+#[cfg(test)]
+pub(crate) mod tests {
+    use super::*;
+    use std::alloc::{AllocError, Global};
+
+    /// The code points of a text.
+    pub(crate) fn points(alloc: Global, text: &str) -> Result<Vec<CodePoint>, AllocError> {
+        text.chars().map(CodePoint::from).collect(alloc)
+    }
+}

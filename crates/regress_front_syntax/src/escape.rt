@@ -369,9 +369,9 @@ impl Cursor<'_> {
 #[cfg(test)]
 mod tests {
     use super::*;
+    use crate::cursor::tests::points;
     use crate::scan::mode;
     use regress_front_sets::{Flags, Tables};
-    use std::alloc::AllocError;
     use std::test::Fail;
 
     /// What an escape means: its code point, the number of its first group, that it is a class, or the error's text.
@@ -381,10 +381,6 @@ mod tests {
         Group(Option<u16>),
         Class,
         Error(&'static str),
-    }
-
-    fn points(alloc: Global, text: &str) -> Result<Vec<CodePoint>, AllocError> {
-        text.chars().map(CodePoint::from).collect(alloc)
     }
 
     fn told(read: Result<Escape, Error>) -> Result<Meaning, Error> {

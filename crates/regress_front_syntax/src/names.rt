@@ -48,6 +48,7 @@ impl<'p> Cursor<'p> {
         ensures read { IsTried (λ name. name.items) (name_at (table tables.now)) (unread self.old) result (unread self.new) }
         ensures kept { SameText self.old self.new }
     {
+        regress_meaning::reading_leaves_less();
         let mut ahead = *self;
         let mut name = Vec::new(alloc);
         match ahead.name_point() {
@@ -125,12 +126,8 @@ impl<'p> Cursor<'p> {
 #[cfg(test)]
 mod tests {
     use super::*;
-    use std::alloc::AllocError;
+    use crate::cursor::tests::points;
     use std::test::Fail;
-
-    fn points(alloc: Global, text: &str) -> Result<Vec<CodePoint>, AllocError> {
-        text.chars().map(CodePoint::from).collect(alloc)
-    }
 
     /// Whether a name stands at the front of a text, and is this one.
     fn is_name(alloc: Global, text: &str, expected: &str) -> Result<bool, Error> {

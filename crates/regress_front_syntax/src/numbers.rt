@@ -250,12 +250,9 @@ impl Cursor<'_> {
 #[cfg(test)]
 mod tests {
     use super::*;
+    use crate::cursor::tests::points;
     use std::alloc::{AllocError, Global};
     use std::test::Fail;
-
-    fn points(alloc: Global, text: &str) -> Result<Vec<CodePoint>, AllocError> {
-        text.chars().map(CodePoint::from).collect(alloc)
-    }
 
     /// The number at the front of a text, and the character behind it.
     fn decimal(

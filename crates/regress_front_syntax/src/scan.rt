@@ -167,12 +167,8 @@ impl Cursor<'_> {
 #[cfg(test)]
 mod tests {
     use super::*;
-    use std::alloc::AllocError;
+    use crate::cursor::tests::points;
     use std::test::Fail;
-
-    fn points(alloc: Global, text: &str) -> Result<Vec<CodePoint>, AllocError> {
-        text.chars().map(CodePoint::from).collect(alloc)
-    }
 
     /// The names of a pattern's groups, each behind a slash, and whether names are read in it.
     fn scanned(alloc: Global, flags: &str, pattern: &str) -> Result<(String, bool), Error> {

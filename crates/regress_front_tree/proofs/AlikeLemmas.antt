@@ -1,20 +1,19 @@
 -- A lowered tree is alike its pattern: the parts that take a character, parts one after another, and alternatives.
-use Rattle.std.proofs.Common.{◌≡◌, ℕ, zero, suc, ◌+◌, ◌-◌, ◌≤◌, Bool, true, false, ◌&&◌, ◌||◌, ◌==◌, not, List, [], ◌∷◌, ◌++◌, length, Option, Some, None, if◌then◌else◌, map, reverse, take, drop, nat_eq, nat_le, nat_lt, slice_get, slice_range, All, refl, sym, ap, ◌∙◌, arith}
-use Rattle.std.specs.List.{flat_map, list_any, list_all}
-use Rattle.std.proofs.lemmas.List.{append_assoc, append-nil, reverse-append}
-use Rattle.std.proofs.lemmas.List.Elements.{All-nil, All-cons, All-head, All-tail, All-take, All-drop}
+use Rattle.std.proofs.Common.{◌≡◌, ℕ, ◌+◌, ◌-◌, Bool, true, false, List, [], ◌∷◌, ◌++◌, length, Option, Some, None, if◌then◌else◌, reverse, drop, nat_le, slice_range, All, refl, sym, ap, ◌∙◌}
+use Rattle.std.specs.List.{flat_map, list_all}
+use Rattle.std.proofs.lemmas.List.{append-nil, reverse-append}
+use Rattle.std.proofs.lemmas.List.Elements.{All-head, All-tail, All-take, All-drop}
 use Rattle.std.proofs.lemmas.Grind.{flat_map-append}
 use Rattle.regress_meaning.specs.TableParts.{is_code_point}
-use Rattle.regress_meaning.specs.Pattern as meaning
 use Rattle.regress_meaning.specs.Pattern.{Pattern, Settings}
-use Rattle.regress_meaning.specs.Meaning.{State, Direction, Forward, Backward, Outcomes, Context, beside, stepped, step, is_line_end, class_steps, iterations, looked, captured, cleared, repeat_group, references, keep_if, outcomes}
+use Rattle.regress_meaning.specs.Meaning.{State, Direction, Forward, Backward, Context, beside, stepped, step, outcomes}
 use Rattle.regress_front_syntax.specs.Trees.{sequence_of, choice_of}
-use Rattle.regress_front_tree.specs.Trees.{Tree, empty, goal, char, bytes, byte_set, char_set, cat, no_part, alt, any, any_in_line, line_start, line_end, boundary, capture, back, bracket, string_set, look, loop, single_loop, cat_of}
-use Rattle.regress_front_tree.specs.TreeMeaning.{ignoring, one, node_outcomes}
+use Rattle.regress_front_tree.specs.Trees.{Tree, char, byte_set, char_set, any, any_in_line, bracket, cat_of}
+use Rattle.regress_front_tree.specs.TreeMeaning.{one, node_outcomes}
 use Rattle.regress_meaning.specs.Laws.{IsInside}
 use Rattle.regress_front_tree.specs.Alike.{AreAlike, GoAlike, StayInside}
 use Rattle.regress_front_tree.specs.Lowering.{direction, is_character, taken, Takes, cat_made, in_reading_order, HasArms, one_arm, two_halves}
-use Rattle.regress_front_tree.proofs.DistinctLemmas.{joined-alike, followed-alike, each-alike}
+use Rattle.regress_front_tree.proofs.DistinctLemmas.{joined-alike, followed-alike}
 
 -- two tests that agree on code points agree on lists of them
 pub list_all-agree : (p q : ℕ → Bool) → ((c : ℕ) → is_code_point c → p c ≡ q c) → (cs : List ℕ) → All is_code_point cs → list_all p cs ≡ list_all q cs

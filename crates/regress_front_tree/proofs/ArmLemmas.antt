@@ -1,5 +1,5 @@
 -- Trees that have arms, and one round of pairing them.
-use Rattle.std.proofs.Common.{◌≡◌, ◌+◌, ◌*◌, ◌<◌, ◌≤◌, List, [], ◌∷◌, ◌++◌, length, ap, subst, arith, rules, refl, length-append, map, Option, None, Some, IsSome}
+use Rattle.std.proofs.Common.{◌≡◌, ◌+◌, ◌*◌, ◌≤◌, List, [], ◌∷◌, ◌++◌, length, ap, subst, arith, rules, refl, length-append, map, Option, None, Some, IsSome}
 use Rattle.std.specs.Option.{option_to_list, unwrap_or}
 use Rattle.std.proofs.lemmas.List.{append-nil, append_assoc, length-map}
 use Rattle.regress_front_tree.specs.declared.node.Node.{Node}

@@ -13,7 +13,6 @@ pub mod LoweredAlike
 pub mod NameTexts
 pub mod TreeLaws
 pub mod ArmLemmas
-pub mod NameLemmas
 pub mod SequenceLemmas
 pub mod SyntaxLaws
 pub mod LowerableLemmas

@@ -1,9 +1,8 @@
 -- The parts of a tree that can be lowered.
-use Rattle.std.proofs.Common.{◌≡◌, ℕ, zero, suc, ◌<◌, true, List, [], ◌∷◌, ◌++◌, length, get_or, map, None, Some, All, refl, arith}
+use Rattle.std.proofs.Common.{◌≡◌, ℕ, zero, suc, ◌<◌, true, List, [], ◌∷◌, ◌++◌, length, get_or, map, All, refl, arith}
 use Rattle.std.specs.Str.{all_scalars}
 use Rattle.std.proofs.lemmas.List.Elements.{All-nil, All-cons, All-head, All-tail}
 use Rattle.regress_meaning.specs.Pattern.{Pattern, names_of, capture}
-use Rattle.regress_meaning.specs.Points.{IsOfPoints}
 use Rattle.regress_front_syntax.specs.Trees.{tree, sequence_of, choice_of, capture_of}
 use Rattle.regress_front_syntax.specs.declared.syntax.Syntax.{Syntax}
 use Rattle.regress_front_tree.specs.Scopes.{IsLowerable, name_told}

@@ -1,5 +1,5 @@
 -- A lowered tree is alike its pattern.
-use Rattle.std.proofs.Common.{◌≡◌, ℕ, zero, suc, ◌+◌, ◌-◌, ◌≤◌, Bool, true, false, ◌&&◌, ◌||◌, ◌==◌, not, List, [], ◌∷◌, ◌++◌, length, Option, Some, None, if◌then◌else◌, map, filter, reverse, max, nat_le, nat_lt, slice_get, unwrap_or, All, IfSome, refl, sym, ap, ◌∙◌, arith, eqb-true}
+use Rattle.std.proofs.Common.{◌≡◌, ℕ, suc, ◌+◌, ◌-◌, Bool, true, false, ◌&&◌, ◌==◌, not, List, [], ◌∷◌, ◌++◌, length, Option, Some, None, if◌then◌else◌, map, filter, reverse, nat_le, nat_lt, slice_get, unwrap_or, All, IfSome, refl, sym, ap, ◌∙◌, arith}
 use Rattle.std.specs.List.{flat_map, list_any, list_all}
 use Rattle.std.proofs.lemmas.Bool.{cond_both}
 use Rattle.std.proofs.lemmas.Bool.Decides.{nat_tests}
@@ -8,18 +8,17 @@ use Rattle.std.proofs.lemmas.List.Elements.{All-nil, All-cons, All-head, All-tai
 use Rattle.std.proofs.lemmas.Grind.{flat_map-append}
 use Rattle.regress_meaning.specs.Table.{Table}
 use Rattle.regress_meaning.specs.TableParts.{is_code_point}
-use Rattle.regress_meaning.specs.Class.{Class, no_string, range, digits, spaces, words, property, sequences, strings, union, intersection, difference, complement, nested, value_of, among, longest}
+use Rattle.regress_meaning.specs.Class.{Class, no_string, range, digits, spaces, words, property, sequences, strings, union, intersection, difference, complement, nested, value_of, among}
 use Rattle.regress_meaning.specs.Pattern as meaning
 use Rattle.regress_meaning.specs.Pattern.{Pattern, Settings}
 use Rattle.regress_meaning.specs.Laws.{LiesIn, IsInside}
-use Rattle.regress_meaning.specs.Meaning.{State, Direction, Forward, Backward, Outcomes, Context, before, after, step, is_line_end, same_all, closed, class_steps, string_steps, iterations, looked, captured, clear_from, cleared, repeat_group, references, keep_if, outcomes}
-use Rattle.regress_front_syntax.specs.Trees.{sequence_of, choice_of}
-use Rattle.regress_front_tree.specs.Trees.{Tree, empty, back, string_set, cat_of}
+use Rattle.regress_meaning.specs.Meaning.{State, Direction, Forward, Backward, Context, step, same_all, closed, class_steps, captured, clear_from, cleared, repeat_group, references, outcomes}
+use Rattle.regress_front_tree.specs.Trees.{Tree, back, string_set, cat_of}
 use Rattle.regress_front_tree.specs.TreeMeaning.{ignoring, alternatives, node_outcomes}
-use Rattle.regress_front_tree.specs.Alike.{distinct, AreAlike, GoAlike, StayInside}
-use Rattle.regress_front_tree.specs.Lowering.{direction, Takes, cat_made, in_reading_order, HasArms, class_arms, class_value, LowersClass, Lowers, LowersAll, of_character, of_any, of_class, of_negated_class, of_class_escape, of_terms, of_arms, of_capture, of_group, of_modified, of_repeated, of_look, of_reference, of_line_start, of_line_end, of_word_boundary, no_pattern, and_next}
+use Rattle.regress_front_tree.specs.Alike.{distinct, GoAlike}
+use Rattle.regress_front_tree.specs.Lowering.{direction, cat_made, in_reading_order, class_value, LowersClass, Lowers, LowersAll, of_character, of_any, of_class, of_negated_class, of_class_escape, of_terms, of_arms, of_capture, of_group, of_modified, of_repeated, of_look, of_reference, of_line_start, of_line_end, of_word_boundary, no_pattern, and_next}
 use Rattle.regress_front_tree.proofs.DistinctLemmas.{changed-alike, looked-alike, iterated-alike}
-use Rattle.regress_front_tree.proofs.AlikeLemmas.{takes-steps, made-outcomes, AllAlike, Stays, terms-alike, arms-outcomes, arms-alike, flat_map-self}
+use Rattle.regress_front_tree.proofs.AlikeLemmas.{takes-steps, made-outcomes, AllAlike, Stays, terms-alike, arms-outcomes, arms-alike}
 use Rattle.regress_front_tree.proofs.StringLemmas.{among-All, each-string, like, like-sized, empty-agrees, no_empty-agrees, arms-of-class}
 
 -- what passes holds of what a filter keeps

@@ -1,5 +1,7 @@
 -- How patterns are lowered one after another, and what takes one character.
-use Rattle.std.proofs.Common.{◌≡◌, ℕ, suc, ◌+◌, ◌<◌, Bool, true, false, not, ◌||◌, List, [], ◌∷◌, ◌++◌, length, get_or, map, take, refl, sym, ap, ◌∙◌}
+use Rattle.std.proofs.Common.{◌≡◌, ℕ, suc, ◌+◌, ◌<◌, Bool, true, false, not, ◌||◌, ◌==◌, List, [], ◌∷◌, ◌++◌, length, get_or, map, take, Option, None, Some, option_map, MatchOption, String, Global, chars, string_bytes, refl, sym, ap, ◌∙◌}
+use Rattle.std.specs.Str.{all_scalars}
+use Rattle.std.proofs.lemmas.Bool.{false≢true}
 use Rattle.std.proofs.lemmas.List.{take_more, map_push, length-map}
 use Rattle.regress_meaning.specs.Table.{Table}
 use Rattle.regress_meaning.specs.Pattern.{Pattern, Settings, nothing, modified}
@@ -12,7 +14,7 @@ use Rattle.regress_front_tree.specs.declared.lowering.Lowering.{Lowering}
 use Rattle.regress_front_tree.specs.declared.lowering.Scope.{Scope}
 use Rattle.regress_front_tree.specs.Trees.{Tree, tree, empty, any, any_in_line}
 use Rattle.regress_front_tree.specs.Lowering.{Takes, Lowers, LowersAll, no_pattern, and_next, of_terms, of_modified, switched_by}
-use Rattle.regress_front_tree.specs.Scopes.{settings_of, IsLowered, AreLowered, IsSamePattern}
+use Rattle.regress_front_tree.specs.Scopes.{settings_of, name_told, LowersInScope, LowersAllInScope, IsSamePattern}
 
 -- one more pattern at the end
 pub LowersAll-more : (table : Table) (unicode b : Bool) (e : Settings) (k l n : ℕ) (ps : List Pattern) (ts : List Tree) (p : Pattern) (t : Tree)
@@ -26,8 +28,8 @@ LowersAll-more table unicode b e k l n (q ∷ ps) (u ∷ ts) p t (and_next {l = 
 -- one more part
 pub each_more : (old mid new : Lowering) (s : Scope) (parts : List Syntax) (nodes : List Node) (i : ℕ) (part : Syntax) (node : Node)
     → i < length parts → part ≡ get_or parts i part → IsSamePattern old mid
-    → AreLowered old s (map parsed.tree (take i parts)) (map tree nodes) mid → IsLowered mid s (parsed.tree part) (tree node) new
-    → AreLowered old s (map parsed.tree (take (i + 1) parts)) (map tree (nodes ++ node ∷ [])) new
+    → LowersAllInScope old s (map parsed.tree (take i parts)) (map tree nodes) mid → LowersInScope mid s (parsed.tree part) (tree node) new
+    → LowersAllInScope old s (map parsed.tree (take (i + 1) parts)) (map tree (nodes ++ node ∷ [])) new
 each_more old mid new s parts nodes i part node lt is same before h =
     rw (take_more parts i part lt, ← is, map_push, map_push)
     (LowersAll-more _ _ _ _ _ _ _ _ _ _ _ before (rw (same.tables, same.unicode) at h))
@@ -57,12 +59,19 @@ LowersAll-length table unicode b e k l (q ∷ ps) (u ∷ ts) (and_next {l = m} g
 
 -- as many nodes as parts
 pub nodes-length : (old new : Lowering) (s : Scope) (parts : List Syntax) (nodes : List Node)
-    → AreLowered old s (map parsed.tree parts) (map tree nodes) new → length nodes ≡ length parts
+    → LowersAllInScope old s (map parsed.tree parts) (map tree nodes) new → length nodes ≡ length parts
 nodes-length old new s parts nodes h =
     sym (length-map nodes tree) ∙ LowersAll-length _ _ _ _ _ _ (map parsed.tree parts) (map tree nodes) h ∙ length-map parts parsed.tree
 
 -- inside modifiers
-pub IsLowered-modified : (old new : Lowering) (s inside : Scope) (on off : Settings) (p : Pattern) (t : Tree)
+pub LowersInScope-modified : (old new : Lowering) (s inside : Scope) (on off : Settings) (p : Pattern) (t : Tree)
     → ((table : Table) (u : Bool) → settings_of inside ≡ switched_by table u on off (settings_of s)) → inside.backward ≡ s.backward
-    → IsLowered old inside p t new → IsLowered old s (modified on off p) t new
-IsLowered-modified old new s inside on off p t e b h = of_modified (rw (e (table old.tables.now) old.unicode, b) at h)
+    → LowersInScope old inside p t new → LowersInScope old s (modified on off p) t new
+LowersInScope-modified old new s inside on off p t e b h = of_modified (rw (e (table old.tables.now) old.unicode, b) at h)
+
+-- a name that isn't empty, and its text
+pub name_told-text : (name : List ℕ) (text : Option (String Global)) → all_scalars name ≡ true → (length name == 0) ≡ false
+    → MatchOption text (all_scalars name ≡ false) (λ t. chars (string_bytes t) ≡ name) → option_map (λ t. chars (string_bytes t)) text ≡ name_told name
+name_told-text [] text scalars some h = absurd cc
+name_told-text (c ∷ name) None scalars some h = absurd (false≢true (sym h ∙ scalars))
+name_told-text (c ∷ name) (Some t) scalars some h = ap Some h

@@ -1,9 +1,9 @@
 -- Names of groups are texts: what a lawful table lets stand in a name is a scalar value.
-use Rattle.std.proofs.Common.{◌≡◌, ℕ, ◌≤◌, Bool, true, false, ◌||◌, ◌&&◌, ◌==◌, List, [], ◌∷◌, ◌⊎◌, inl, inr, Option, None, Some, All, refl, arith}
+use Rattle.std.proofs.Common.{◌≡◌, ℕ, Bool, true, false, ◌||◌, ◌==◌, List, [], ◌∷◌, ◌⊎◌, inl, inr, None, Some, All, refl, arith}
 use Rattle.std.specs.Str.{all_scalars}
 use Rattle.std.proofs.lemmas.Bool.Decides.{nat_tests}
 use Rattle.std.proofs.lemmas.List.Elements.{All-nil, All-cons, All-head, All-tail, All-append}
-use Rattle.regress_meaning.specs.Text.{holds, ◌∈◌}
+use Rattle.regress_meaning.specs.Text.{◌∈◌}
 use Rattle.regress_meaning.specs.Table.{Table}
 use Rattle.regress_meaning.specs.TableParts.{TableParts, IsLawful, is_surrogate, is_code_point, table_of}
 use Rattle.regress_meaning.specs.Pattern.{Pattern, names_of, sequence, choice, capture, grouped, modified, repeated, look}

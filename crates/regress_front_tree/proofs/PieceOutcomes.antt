@@ -16,7 +16,7 @@ use Rattle.regress_meaning.specs.Pattern.{Settings}
 use Rattle.regress_meaning.specs.Meaning.{State, Forward, Backward, Context, beside, step, same, same_all}
 use Rattle.regress_front_tree.specs.Trees.{Tree, char, bytes, byte_set, char_set, cat_of}
 use Rattle.regress_front_tree.specs.TreeMeaning.{ignoring, one, node_outcomes}
-use Rattle.regress_front_tree.specs.Pieces.{passing_below, expansion, bytes_before, before, pieces_of}
+use Rattle.regress_front_tree.specs.Pieces.{expansion, bytes_before, before, pieces_of}
 use Rattle.regress_front_tree.proofs.AlikeLemmas.{list_all-agree, step-agree, flat_map-again, flat_map-self}
 use Rattle.regress_front_tree.proofs.StringLemmas.{sized-agree}
 use Rattle.regress_front_tree.proofs.PieceLemmas.{held-below, expansion-points, scalar-from}

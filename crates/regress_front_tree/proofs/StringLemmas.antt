@@ -1,10 +1,10 @@
 -- The strings of a class, the longer first, are alike one outcome for each length, falling.
-use Rattle.std.proofs.Common.{◌≡◌, ℕ, zero, suc, ◌+◌, ◌-◌, ◌<◌, ◌≤◌, Bool, true, false, ◌&&◌, ◌||◌, ◌==◌, not, List, [], ◌∷◌, ◌++◌, length, Option, Some, None, if◌then◌else◌, map, filter, take, drop, max, min, nat_eq, nat_le, slice_range, All, refl, sym, ap, subst, ◌∙◌, arith, eqb-true, suc-ne-zero, length-drop}
+use Rattle.std.proofs.Common.{◌≡◌, ℕ, zero, suc, ◌+◌, ◌-◌, ◌<◌, ◌≤◌, Bool, true, false, ◌&&◌, ◌||◌, ◌==◌, not, List, [], ◌∷◌, ◌++◌, length, Option, Some, None, if◌then◌else◌, drop, max, nat_eq, nat_le, slice_range, All, refl, sym, ap, subst, ◌∙◌, arith, eqb-true, suc-ne-zero, length-drop}
 use Rattle.std.specs.List.{flat_map, list_any, list_all}
 use lib.Pointwise.{pointwise}
 use Rattle.std.proofs.lemmas.Bool.{leb-true}
 use Rattle.std.proofs.lemmas.Bool.Decides.{nat_tests}
-use Rattle.std.proofs.lemmas.List.{append_assoc, append-nil, length-take}
+use Rattle.std.proofs.lemmas.List.{append_assoc, length-take}
 use Rattle.std.proofs.lemmas.List.Elements.{All-nil, All-cons, All-head, All-tail}
 use Rattle.regress_meaning.specs.Text.{same_text}
 use Rattle.regress_meaning.specs.Table.{canon}

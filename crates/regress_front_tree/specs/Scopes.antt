@@ -1,5 +1,5 @@
 -- Where a part of a pattern stands when it is lowered, and what is asked of it.
-use Rattle.std.specs.Prelude.{◌≡◌, ℕ, true, List, [], ◌∷◌, ◌++◌, Option, None, Some, All}
+use Rattle.std.specs.Prelude.{◌≡◌, ℕ, true, List, [], ◌∷◌, Option, None, Some, All}
 use Rattle.std.specs.Str.{all_scalars}
 use Rattle.regress_meaning.specs.Pattern.{Pattern, Settings, names_of}
 use Rattle.regress_meaning.specs.Points.{IsOfPoints}
@@ -23,13 +23,13 @@ abbrev pub name_told : List ℕ → Option (List ℕ)
 name_told [] = None
 name_told (c ∷ name) = Some (c ∷ name)
 
--- The pattern is lowered to the tree, and so many groups are counted.
-abbrev pub IsLowered : Lowering → Scope → Pattern → Tree → Lowering → Type 0
-IsLowered old s p t new = Lowers (table old.tables.now) old.unicode s.backward (settings_of s) old.groups p t new.groups
+-- In the scope the pattern is lowered to the tree, and its groups are counted: from the one state to the other.
+abbrev pub LowersInScope : Lowering → Scope → Pattern → Tree → Lowering → Type 0
+LowersInScope old s p t new = Lowers (table old.tables.now) old.unicode s.backward (settings_of s) old.groups p t new.groups
 
--- Each pattern is lowered to a tree, one after another.
-abbrev pub AreLowered : Lowering → Scope → List Pattern → List Tree → Lowering → Type 0
-AreLowered old s ps ts new = LowersAll (table old.tables.now) old.unicode s.backward (settings_of s) old.groups ps ts new.groups
+-- In the scope each pattern is lowered to a tree, one after another: from the one state to the other.
+abbrev pub LowersAllInScope : Lowering → Scope → List Pattern → List Tree → Lowering → Type 0
+LowersAllInScope old s ps ts new = LowersAll (table old.tables.now) old.unicode s.backward (settings_of s) old.groups ps ts new.groups
 
 -- The tables and the mode stay.
 pub record IsSamePattern (old new : Lowering) : Type 0 where

@@ -1,7 +1,5 @@
 //! What a class stands for: a set of code points, and strings of other lengths.
-ghost use Rattle.std.specs.Prelude.{◌≡◌, ◌≤◌, ℕ, false, [], ◌==◌, ◌&&◌, ◌||◌, not, map, fold, chars, All, MatchOption, unwrap_or, IfOk, IfErr, OnOk};
-ghost use Rattle.std.specs.Str.{all_scalars};
-ghost use Rattle.std.specs.String.{string_bytes};
+ghost use Rattle.std.specs.Prelude.{◌≡◌, ◌≤◌, ℕ, false, [], ◌==◌, ◌&&◌, ◌||◌, not, map, fold, All, unwrap_or, IfOk, IfErr, OnOk};
 ghost use Rattle.regress_meaning.specs.TableParts.{is_code_point, in_intervals, IntervalsRise};
 ghost use Rattle.regress_meaning.specs.Class as meaning;
 ghost use Rattle.regress_meaning.specs.Class.{Strings, intersection, difference, only, of_list, among, complement_of, is_word, value_of};
@@ -11,6 +9,7 @@ ghost use Rattle.regress_front_sets.specs.Sets.{in_set};
 ghost use Rattle.regress_front_sets.specs.TableViews.{table};
 ghost use Rattle.regress_front_syntax.specs.Trees.{class_view, union_of};
 
+use crate::text::text_of;
 use regress_front_sets::{
     CodePoint, CodePointSet, Error, Interval, Tables, add_icase_code_points, digits, whitespace,
     word_chars,
@@ -64,7 +63,11 @@ impl ClassValue {
     {
         let mut other = other;
         self.strings.append(&mut other.strings)?;
-        self.singles.add_set(other.singles)
+        // `add_set` would copy this whole set for each member of a class.
+        for interval in other.singles.intervals() {
+            self.singles.add(*interval)?;
+        }
+        Ok(())
     }
 
     /// The members that are also members of another value ("ClassIntersection"). `OutOfMemory` is the only error.
@@ -142,27 +145,12 @@ fn word_set(alloc: Global, tables: &Tables, folded: bool) -> Result<CodePointSet
     }
 }
 
-/// The text of a key, for a look-up in tables; `None` where a code point is no character. `OutOfMemory` is the only error.
-fn key_text(alloc: Global, key: &[CodePoint]) -> Result<Option<String>, Error>
-    ensures ok { IfOk result (λ text. MatchOption text (all_scalars key.now ≡ false) (λ text. chars (string_bytes text) ≡ key.now)) }
-    ensures err { IfErr result (λ e. e ≡ Error.OutOfMemory) }
-{
-    let mut text = String::new(alloc);
-    for point in key {
-        let Some(letter) = char::from_u32(*point) else {
-            return Ok(None);
-        };
-        text.push(letter)?;
-    }
-    Ok(Some(text))
-}
-
 /// The code points with a property; none where no property has that key. `OutOfMemory` is the only error.
 fn property_set(alloc: Global, tables: &Tables, key: &[CodePoint]) -> Result<CodePointSet, Error>
     ensures ok { IfOk result (λ s. in_set s ≡ unwrap_or ((table tables.now).property key.now) (λ c. false)) }
     ensures err { IfErr result (λ e. e ≡ Error.OutOfMemory) }
 {
-    if let Some(text) = key_text(alloc, key)? {
+    if let Some(text) = text_of(alloc, key)? {
         if let Some(set) = tables.property(text.as_str()) {
             return set_of(alloc, set.intervals());
         }
@@ -175,7 +163,7 @@ fn sequence_value(alloc: Global, tables: &Tables, key: &[CodePoint]) -> Result<C
     ensures ok { IfOk result (λ value. strings_of value ≡ of_list (unwrap_or ((table tables.now).sequences key.now) [])) }
     ensures err { IfErr result (λ e. e ≡ Error.OutOfMemory) }
 {
-    if let Some(text) = key_text(alloc, key)? {
+    if let Some(text) = text_of(alloc, key)? {
         if let Some(strings) = tables.sequences(text.as_str()) {
             return ClassValue::of_strings(alloc, strings);
         }
@@ -438,7 +426,6 @@ pub(crate) mod tests {
         let key = points(rt.alloc(), "Emoji_Keycap_Sequence")?;
         let value = sequence_value(rt.alloc(), &tables, &key)?;
         assert_eq!(rt; value.strings.len(), 12);
-        assert!(rt; key_text(rt.alloc(), &[0x61, 0xD800])?.is_none());
         Ok(())
     }
 

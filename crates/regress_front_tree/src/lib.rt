@@ -13,6 +13,7 @@ mod lowering;
 mod node;
 mod parse;
 mod piece;
+mod text;
 mod visit;
 mod walking;
 mod walking_mut;

@@ -9,11 +9,12 @@ ghost use Rattle.regress_front_syntax.specs.Trees as parsed;
 ghost use Rattle.regress_front_syntax.specs.Trees.{settings, class_view, most, choice_of, capture_of};
 ghost use Rattle.regress_front_tree.specs.Trees.{tree, anchor_of};
 ghost use Rattle.regress_front_tree.specs.Lowering.{cat_made, in_reading_order, switched_by};
-ghost use Rattle.regress_front_tree.specs.Scopes.{settings_of, name_told, IsLowerable, IsLowered, AreLowered, IsSamePattern};
+ghost use Rattle.regress_front_tree.specs.Scopes.{settings_of, name_told, IsLowerable, LowersInScope, LowersAllInScope, IsSamePattern};
 
 use crate::arms::alternatives;
 use crate::brackets::{character_node, class_node, negated_class_node};
 use crate::node::{AnchorType, Node, NodeList};
+use crate::text::text_of;
 use regress_front_sets::{CaptureGroupID, CaptureGroupName, CodePoint, Error, Tables};
 use regress_front_syntax::{Class, Modifiers, Quantifier, Syntax};
 use std::alloc::Global;
@@ -79,13 +80,7 @@ fn group_name(alloc: Global, name: &[CodePoint]) -> Result<Option<CaptureGroupNa
     if name.is_empty() {
         return Ok(None);
     }
-    let mut text = CaptureGroupName::new(alloc);
-    for point in name {
-        if let Some(letter) = char::from_u32(*point) {
-            text.push(letter)?;
-        }
-    }
-    Ok(Some(text))
+    text_of(alloc, name)
 }
 
 /// What holds for the whole pattern, and how many groups were opened so far.
@@ -116,7 +111,7 @@ impl<'t> Lowering<'t> {
     #[cycle(lowering)]
     pub(crate) fn lower(&mut self, syntax: &Syntax, scope: Scope) -> Result<Node, Error>
         requires { IsLowerable (parsed.tree syntax.now) }
-        ensures ok { IfOk result (λ node. IsLowered self.old scope (parsed.tree syntax.now) (tree node) self.new) }
+        ensures ok { IfOk result (λ node. LowersInScope self.old scope (parsed.tree syntax.now) (tree node) self.new) }
         ensures kept { IsSamePattern self.old self.new }
         ensures err { IfErr result (λ e. e ≡ Error.OutOfMemory) }
     {
@@ -161,7 +156,7 @@ impl<'t> Lowering<'t> {
     #[cycle(lowering)]
     fn each(&mut self, parts: &[Syntax], scope: Scope) -> Result<NodeList, Error>
         requires { All IsLowerable (map parsed.tree parts.now) }
-        ensures ok { IfOk result (λ nodes. AreLowered self.old scope (map parsed.tree parts.now) (map tree nodes.items) self.new) }
+        ensures ok { IfOk result (λ nodes. LowersAllInScope self.old scope (map parsed.tree parts.now) (map tree nodes.items) self.new) }
         ensures kept { IsSamePattern self.old self.new }
         ensures err { IfErr result (λ e. e ≡ Error.OutOfMemory) }
     {
@@ -176,7 +171,7 @@ impl<'t> Lowering<'t> {
     #[cycle(lowering)]
     fn disjunction(&mut self, arms: &[Syntax], scope: Scope) -> Result<Node, Error>
         requires { All IsLowerable (map parsed.tree arms.now) }
-        ensures ok { IfOk result (λ node. IsLowered self.old scope (choice_of (map parsed.tree arms.now)) (tree node) self.new) }
+        ensures ok { IfOk result (λ node. LowersInScope self.old scope (choice_of (map parsed.tree arms.now)) (tree node) self.new) }
         ensures kept { IsSamePattern self.old self.new }
         ensures err { IfErr result (λ e. e ≡ Error.OutOfMemory) }
     {
@@ -196,7 +191,7 @@ impl<'t> Lowering<'t> {
         scope: Scope,
     ) -> Result<Node, Error>
         requires { IsLowerable (capture_of id name.now (parsed.tree contents.now)) }
-        ensures ok { IfOk result (λ node. IsLowered self.old scope (capture_of id name.now (parsed.tree contents.now)) (tree node) self.new) }
+        ensures ok { IfOk result (λ node. LowersInScope self.old scope (capture_of id name.now (parsed.tree contents.now)) (tree node) self.new) }
         ensures kept { IsSamePattern self.old self.new }
         ensures err { IfErr result (λ e. e ≡ Error.OutOfMemory) }
     {
@@ -216,7 +211,7 @@ impl<'t> Lowering<'t> {
         scope: Scope,
     ) -> Result<Node, Error>
         requires { IsLowerable (parsed.tree loopee.now) }
-        ensures ok { IfOk result (λ node. IsLowered self.old scope
+        ensures ok { IfOk result (λ node. LowersInScope self.old scope
             (meaning.repeated (parsed.tree loopee.now) groups.now.start groups.now.end quant.min (most quant) quant.greedy)
             (tree node) self.new) }
         ensures kept { IsSamePattern self.old self.new }
@@ -240,7 +235,7 @@ impl<'t> Lowering<'t> {
         scope: Scope,
     ) -> Result<Node, Error>
         requires { IsLowerable (parsed.tree contents.now) }
-        ensures ok { IfOk result (λ node. IsLowered self.old scope
+        ensures ok { IfOk result (λ node. LowersInScope self.old scope
             (meaning.look negate backwards (parsed.tree contents.now)) (tree node) self.new) }
         ensures kept { IsSamePattern self.old self.new }
         ensures err { IfErr result (λ e. e ≡ Error.OutOfMemory) }
@@ -263,7 +258,7 @@ impl<'t> Lowering<'t> {
     /// The node of a class in brackets. `OutOfMemory` is the only error.
     fn class(&self, negated: bool, class: &Class, scope: Scope) -> Result<Node, Error>
         requires { ClassIsOfPoints (class_view class.now) }
-        ensures ok { IfOk result (λ node. IsLowered self.now scope (meaning.class negated (class_view class.now)) (tree node) self.now) }
+        ensures ok { IfOk result (λ node. LowersInScope self.now scope (meaning.class negated (class_view class.now)) (tree node) self.now) }
         ensures err { IfErr result (λ e. e ≡ Error.OutOfMemory) }
     {
         if negated {
@@ -275,7 +270,7 @@ impl<'t> Lowering<'t> {
 
     /// The node of a reference: of each group one, the numbers of the nodes from 1. `OutOfMemory` is the only error.
     fn reference(&self, groups: &[u16], scope: Scope) -> Result<Node, Error>
-        ensures ok { IfOk result (λ node. IsLowered self.now scope (meaning.reference groups.now) (tree node) self.now) }
+        ensures ok { IfOk result (λ node. LowersInScope self.now scope (meaning.reference groups.now) (tree node) self.now) }
         ensures err { IfErr result (λ e. e ≡ Error.OutOfMemory) }
     {
         let mut nodes = Vec::new(self.alloc);

@@ -1,4 +1,4 @@
-use Rattle.std.proofs.Common.{◌≡◌, ap, length, map, ◌∙◌, sym, arith}
+use Rattle.std.proofs.Common.{◌≡◌, ap, length, arith}
 use Rattle.std.proofs.lemmas.List.{length-map}
 use Rattle.regress_meaning.specs.Scan.{scanned_names}
 use Rattle.regress_front_sets.specs.FlagWords.{options}

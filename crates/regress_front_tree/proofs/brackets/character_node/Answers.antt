@@ -1,5 +1,4 @@
-use Rattle.std.proofs.Common.{rules, ◌≡◌, ℕ, length, arith, subst, sym}
-use Rattle.regress_meaning.specs.Table.{Table}
+use Rattle.std.proofs.Common.{arith}
 use Rattle.regress_front_sets.specs.TableViews.{table}
 use Rattle.regress_front_tree.proofs.BracketLemmas.{stored_length, takes-one, takes-some}
 use Rattle.regress_front_tree.proofs.TreeLaws.{tree-Char, tree-CharSet}

@@ -1,5 +1,4 @@
-use Rattle.std.proofs.Common.{◌≡◌, ℕ, false, List, [], ◌∷◌, map, refl, sym, ap, ◌∙◌}
-use Rattle.std.specs.List.{flat_map}
+use Rattle.std.proofs.Common.{◌≡◌, false, List, [], ◌∷◌, map, ap, ◌∙◌}
 use Rattle.regress_meaning.specs.Flags.{is_unicode, first_settings}
 use Rattle.regress_meaning.specs.Meaning.{State, Forward, Context}
 use Rattle.regress_front_sets.specs.TableViews.{table, parts}

@@ -52,8 +52,8 @@ loop-alloc-smaller-in-Continue-branch-3 c =
     let t = unread c.loop-alloc.self in
     let u = unread c.member.new.self in
     let same : unread c.eat.new.self ≡ t = c.loop-alloc-test.ensures.read in
-    let first = read_member-shorter m t (escape_view c.in_ok-first.first) u (ap (read_member m) (sym same) ∙ c.in_ok-first.ensures.read) in
-    let last = read_member-shorter m (drop 1 u) (escape_view c.in_ok-last.last) (unread c.member-then-is_before_member.new.self) (ap (read_member m) (sym c.bump.ensures.read) ∙ c.in_ok-last.ensures.read) in
+    let first = read_member-shorter m (c.reading_leaves_less.ensures m) t (escape_view c.in_ok-first.first) u (ap (read_member m) (sym same) ∙ c.in_ok-first.ensures.read) in
+    let last = read_member-shorter m (c.reading_leaves_less.ensures m) (drop 1 u) (escape_view c.in_ok-last.last) (unread c.member-then-is_before_member.new.self) (ap (read_member m) (sym c.bump.ensures.read) ∙ c.in_ok-last.ensures.read) in
     omega (arith, first, last, length-drop 1 u)
 
 pub loop-alloc-preserved-in-Continue-branch-3 : goal.loop-alloc-preserved-in-Continue-branch-3
@@ -71,7 +71,7 @@ loop-alloc-preserved-in-Continue-branch-3 c =
       kept = c.member-then-is_before_member.ensures.kept ∙ c.bump.ensures.kept ∙ c.member.ensures.kept ∙ c.eat.ensures.kept ∙ c.loop-alloc.invariant.kept;
       state = c.loop-alloc.invariant.state
           ∙ ap (option_map (before (map class_view c.loop-alloc.members.items)))
-          (members_at-dashed m t u v d e goes_on (ap (read_member m) (sym same) ∙ c.in_ok-first.ensures.read) dash (ap (read_member m) (sym c.bump.ensures.read) ∙ c.in_ok-last.ensures.read))
+          (members_at-dashed m (c.reading_leaves_less.ensures m) t u v d e goes_on (ap (read_member m) (sym same) ∙ c.in_ok-first.ensures.read) dash (ap (read_member m) (sym c.bump.ensures.read) ∙ c.in_ok-last.ensures.read))
           ∙ before-dashed m d e (map class_view c.loop-alloc.members.items) (map class_view c.push_dashed.new.members.items) (members_at m v) c.in_ok-push_dashed.ensures;
     }
 
@@ -89,7 +89,7 @@ returns-in_err-push_dashed-clause-read c =
     let p = err_from_is_err_and c.from_residual-in_err-push_dashed.result c.from_residual-in_err-push_dashed.ensures.1 in
     rw (p.1, p.2) (AddsDashed-stopped (Unit {0}) m d e c.loop-alloc.members.items c.push_dashed.new.members.items class_view (members_at m) (unread c.args.self.now) v c.in_err-push_dashed.field-0.0
     (λ none. c.loop-alloc.invariant.state ∙ ap (option_map (before (map class_view c.loop-alloc.members.items)))
-    (members_at-dashed m t u v d e goes_on (ap (read_member m) (sym same) ∙ c.in_ok-first.ensures.read) dash (ap (read_member m) (sym c.bump.ensures.read) ∙ c.in_ok-last.ensures.read) ∙ dashed-refused m d e (members_at m v) none))
+    (members_at-dashed m (c.reading_leaves_less.ensures m) t u v d e goes_on (ap (read_member m) (sym same) ∙ c.in_ok-first.ensures.read) dash (ap (read_member m) (sym c.bump.ensures.read) ∙ c.in_ok-last.ensures.read) ∙ dashed-refused m d e (members_at m v) none))
     c.in_err-push_dashed.ensures)
 
 pub returns-in_err-push_dashed-clause-kept : goal.returns-in_err-push_dashed-clause-kept
@@ -100,7 +100,7 @@ loop-alloc-smaller c =
     let m = mode_view c.args.mode.now in
     let t = unread c.loop-alloc.self in
     let same : unread c.eat.new.self ≡ t = c.loop-alloc-test.ensures.read in
-    read_member-shorter m t (escape_view c.in_ok-first.first) (unread c.member.new.self) (ap (read_member m) (sym same) ∙ c.in_ok-first.ensures.read)
+    read_member-shorter m (c.reading_leaves_less.ensures m) t (escape_view c.in_ok-first.first) (unread c.member.new.self) (ap (read_member m) (sym same) ∙ c.in_ok-first.ensures.read)
 
 pub loop-alloc-preserved : goal.loop-alloc-preserved
 loop-alloc-preserved c =
@@ -116,7 +116,7 @@ loop-alloc-preserved c =
       kept = c.member.ensures.kept ∙ c.eat.ensures.kept ∙ c.loop-alloc.invariant.kept;
       state = rw (c.in_ok-push.ensures.items, map-append, c.member_class.ensures)
           (c.loop-alloc.invariant.state
-          ∙ ap (option_map (before ks)) (members_at-alone m t u d goes_on (ap (read_member m) (sym same) ∙ c.in_ok-first.ensures.read) alone)
+          ∙ ap (option_map (before ks)) (members_at-alone m (c.reading_leaves_less.ensures m) t u d goes_on (ap (read_member m) (sym same) ∙ c.in_ok-first.ensures.read) alone)
           ∙ before-alone ks (member_class d) (members_at m u));
     }
 

@@ -1,4 +1,4 @@
-use Rattle.std.proofs.Common.{◌≡◌, ◌++◌, ◌==◌, length, false, drop, sym, ap, ◌∙◌, length-drop, arith}
+use Rattle.std.proofs.Common.{◌≡◌, ◌++◌, ◌==◌, length, false, sym, ap, ◌∙◌, length-drop, arith}
 use Rattle.regress_meaning.specs.Grammar.{is_flag}
 use Rattle.regress_front_syntax.specs.Cursors.{unread}
 use Rattle.regress_front_syntax.proofs.OpeningLemmas.{modifiers-none, modifiers-letters, modifiers-less, letters-read, letters-empty, letters-alike, letters-no_colon, not_empty-front, not_empty-rear}

@@ -1,4 +1,4 @@
-use Rattle.std.proofs.Common.{◌≡◌, ◌==◌, drop, sym, ap, ◌∙◌}
+use Rattle.std.proofs.Common.{◌==◌, drop, sym, ap, ◌∙◌}
 use Rattle.regress_meaning.specs.Text.{is_at}
 use Rattle.regress_meaning.specs.Reading.{modifiers_at, angle_opening}
 use Rattle.regress_front_syntax.specs.Escapes.{mode_view}

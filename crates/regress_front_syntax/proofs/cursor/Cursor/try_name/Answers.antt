@@ -1,6 +1,6 @@
 use Rattle.std.proofs.Common.{refl, sym, ◌∙◌}
 use Rattle.regress_front_syntax.proofs.NameLemmas.{name_at-first, name_at-no_point, name_at-other, behind-point, behind-no_point, behind-other, behind-end}
-use Rattle.regress_meaning.proofs.Shorter.{name_point-shorter}
+use Rattle.regress_front_syntax.proofs.ModeLemmas.{any_mode}
 use Rattle.regress_front_syntax.proofs.cursor.Cursor.try_name.Goals.{in_default-via-in-Some+else-begins_name, in_default-via-in_default, in_default-name_point-via-in-Some-name_point+else-continues_name, in_default-name_point-via-in_default-name_point}
 use Rattle.regress_front_syntax.proofs.cursor.Cursor.try_name.Goals as goal
 
@@ -17,14 +17,14 @@ loop-ahead-init c = record {
 }
 
 pub loop-ahead-smaller : goal.loop-ahead-smaller
-loop-ahead-smaller c = name_point-shorter _ (rw c.loop-ahead-test.ensures.read at c.in-Some-name_point.ensures.read)
+loop-ahead-smaller c = (c.reading_leaves_less.ensures any_mode _).name_point _ _ (rw c.loop-ahead-test.ensures.read at c.in-Some-name_point.ensures.read)
 
 pub loop-ahead-preserved : goal.loop-ahead-preserved
 loop-ahead-preserved c = record {
   read =
       rw c.in_ok-push-in-Some-name_point.ensures.items
       (c.loop-ahead.invariant.read
-      ∙ behind-point _ _ _ _ _ c.loop-ahead-test.ensures.found (rw c.loop-ahead-test.ensures.read at c.in-Some-name_point.ensures.read) (sym c.continues_name.ensures ∙ c.if-continues_name.true));
+      ∙ behind-point c.reading_leaves_less.ensures _ _ _ _ _ c.loop-ahead-test.ensures.found (rw c.loop-ahead-test.ensures.read at c.in-Some-name_point.ensures.read) (sym c.continues_name.ensures ∙ c.if-continues_name.true));
   kept = c.in-Some-name_point.ensures.kept ∙ c.loop-ahead-test.ensures.kept ∙ c.loop-ahead.invariant.kept;
 }
 
@@ -32,16 +32,16 @@ pub returns-in_default-name_point-clause-read : goal.returns-in_default-name_poi
 returns-in_default-name_point-clause-read c = elim c.in_default-name_point.branch [
   | in_default-name_point-via-in-Some-name_point+else-continues_name w ↦ (
     c.loop-ahead.invariant.read
-        ∙ behind-other _ _ _ _ _ c.loop-ahead-test.ensures.found (rw c.loop-ahead-test.ensures.read at w.in-Some-name_point.ensures.read) (sym w.continues_name.ensures ∙ w.if-continues_name.false),
+        ∙ behind-other c.reading_leaves_less.ensures _ _ _ _ _ c.loop-ahead-test.ensures.found (rw c.loop-ahead-test.ensures.read at w.in-Some-name_point.ensures.read) (sym w.continues_name.ensures ∙ w.if-continues_name.false),
     refl,
   )
   | in_default-name_point-via-in_default-name_point w ↦ (
     c.loop-ahead.invariant.read
-        ∙ behind-no_point _ _ _ c.loop-ahead-test.ensures.found (rw c.loop-ahead-test.ensures.read at w.in_default-name_point.ensures.read.0),
+        ∙ behind-no_point c.reading_leaves_less.ensures _ _ _ c.loop-ahead-test.ensures.found (rw c.loop-ahead-test.ensures.read at w.in_default-name_point.ensures.read.0),
     refl,
   )
 ]
 
 pub returns-clause-read : goal.returns-clause-read
 returns-clause-read c =
-    rw c.loop-ahead-test.ensures.read (c.loop-ahead.invariant.read ∙ behind-end _ _ _ c.loop-ahead-test.ensures.found)
+    rw c.loop-ahead-test.ensures.read (c.loop-ahead.invariant.read ∙ behind-end c.reading_leaves_less.ensures _ _ _ c.loop-ahead-test.ensures.found)

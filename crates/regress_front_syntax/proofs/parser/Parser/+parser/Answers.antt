@@ -1,6 +1,6 @@
 use Rattle.std.proofs.lemmas.List.{map-append}
 use Rattle.std.proofs.lemmas.Result.{err_from_is_err_and}
-use Rattle.std.proofs.Common.{◌≡◌, suc, ◌+◌, true, false, ◌==◌, [], ◌∷◌, length, drop, map, Some, refl, sym, ap, subst, ◌∙◌, length-drop, arith}
+use Rattle.std.proofs.Common.{◌≡◌, suc, ◌+◌, true, false, [], ◌∷◌, length, drop, map, Some, refl, sym, ap, subst, ◌∙◌, length-drop, arith}
 use Rattle.regress_meaning.specs.Pattern.{sequence, choice, nothing}
 use Rattle.regress_meaning.specs.Reading.{disjunction_at, alternative_at, quantified, read_term, parenthesis_opening}
 use Rattle.regress_front_syntax.specs.Cursors.{unread}

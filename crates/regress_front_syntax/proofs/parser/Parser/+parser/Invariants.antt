@@ -1,4 +1,4 @@
-use Rattle.std.proofs.Common.{◌≡◌, ◌+◌, ◌-◌, ◌*◌, ◌≤◌, length, map}
+use Rattle.std.proofs.Common.{◌+◌, ◌-◌, ◌*◌, ◌≤◌, length, map}
 use Rattle.regress_meaning.specs.Pattern.{sequence, choice}
 use Rattle.regress_meaning.specs.Reading.{disjunction_at, alternative_at}
 use Rattle.regress_front_syntax.specs.Cursors.{unread}

@@ -1,4 +1,4 @@
-use Rattle.std.proofs.Common.{◌≡◌, ◌∷◌, refl, sym, ap, ◌∙◌, drop, length, arith}
+use Rattle.std.proofs.Common.{refl, sym, ap, length, arith}
 use Rattle.regress_meaning.specs.Pattern.{character}
 use Rattle.regress_front_syntax.specs.Cursors.{unread}
 use Rattle.regress_front_syntax.specs.Escapes.{mode_view}

@@ -1,4 +1,4 @@
-use Rattle.std.proofs.Common.{◌≡◌, ◌==◌, refl, sym, ap, ◌∙◌, drop, arith}
+use Rattle.std.proofs.Common.{◌==◌, refl, sym, ap, ◌∙◌, arith}
 use Rattle.std.proofs.lemmas.Result.{err_from_is_err_and}
 use Rattle.regress_meaning.specs.Text.{is_at}
 use Rattle.regress_meaning.specs.Pattern.{word_boundary}

@@ -1,13 +1,8 @@
-use Rattle.std.proofs.Common.{false, [], arith}
-use Rattle.regress_meaning.specs.Tokens.{Mode}
-use Rattle.regress_meaning.specs.TableParts.{table_of, small_parts}
+use Rattle.std.proofs.Common.{arith}
 use Rattle.regress_front_syntax.specs.Cursors.{unread}
+use Rattle.regress_front_syntax.proofs.ModeLemmas.{any_mode}
 use Rattle.regress_front_syntax.proofs.QuantifierLemmas.{no_quantifier, not_allowed, out_of_order, quantifier-read, quantifier-less, quantifiers-full}
 use Rattle.regress_front_syntax.proofs.parser.Parser.quantifier.Goals as goal
-
--- a mode, where any serves
-any_mode : Mode
-any_mode = record { table = table_of small_parts; unicode = false; sets = false; named = false; names = [] }
 
 pub returns-in_default-clause-answer : goal.returns-in_default-clause-answer
 returns-in_default-clause-answer c = λ nesting.

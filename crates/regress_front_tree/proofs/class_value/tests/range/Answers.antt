@@ -1,5 +1,3 @@
-use Rattle.std.proofs.Common.{sym, subst}
-use Rattle.regress_meaning.specs.Points.{ClassIsOfPoints}
 use Rattle.regress_front_tree.proofs.ClassViewLaws.{class_view-Range}
 use Rattle.regress_front_tree.proofs.class_value.tests.range.Goals as goal
 

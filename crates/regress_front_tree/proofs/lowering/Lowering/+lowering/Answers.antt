@@ -1,17 +1,16 @@
-use Rattle.std.proofs.Common.{◌≡◌, ◌+◌, ◌<◌, Bool, true, false, ◌&&◌, List, [], ◌∷◌, length, map, refl, sym, ap, ◌∙◌, arith, rules, add-one}
+use Rattle.std.proofs.Common.{◌≡◌, ◌&&◌, [], length, refl, sym, arith, rules, add-one}
 use Rattle.std.proofs.lemmas.Bool.{eqb-true, eqb-false}
 use Rattle.std.proofs.lemmas.List.{take_all, nil_from_length}
 use Rattle.std.proofs.lemmas.Result.{IfOk-weaker}
 use Rattle.regress_front_syntax.specs.declared.syntax.Syntax.TheViews.{the_lemmas}
 use Rattle.regress_front_syntax.specs.Trees as parsed
-use Rattle.regress_front_syntax.specs.Trees.{choice_of}
 use Rattle.regress_front_tree.specs.Trees.{tree}
-use Rattle.regress_front_tree.specs.Lowering.{no_pattern, of_character, of_any, of_class_escape, of_terms, of_arms, of_capture, of_group, of_modified, of_repeated, of_look, of_line_start, of_line_end, of_word_boundary}
+use Rattle.regress_front_tree.specs.Lowering.{no_pattern, of_character, of_any, of_class_escape, of_terms, of_arms, of_capture, of_group, of_repeated, of_look, of_line_start, of_line_end, of_word_boundary}
 use Rattle.regress_front_tree.specs.Scopes.{settings_of, IsLowerable}
 use Rattle.regress_front_tree.proofs.SyntaxLaws as law
 use Rattle.regress_front_tree.proofs.TreeLaws.{tree-Empty, tree-MatchAny, tree-MatchAnyExceptLineTerminator, tree-WordBoundary, tree-CaptureGroup, tree-LookaroundAssertion, tree-Loop}
 use Rattle.regress_front_tree.proofs.LowerableLemmas.{IsLowerable-terms, IsLowerable-arms, capture_of-told, contents-IsLowerable, each_is}
-use Rattle.regress_front_tree.proofs.LoweringLemmas.{each_more, nodes-length, Lowers-nothing, IsLowered-modified, IsSamePattern-chain, Takes-any, Takes-any_in_line}
+use Rattle.regress_front_tree.proofs.LoweringLemmas.{each_more, nodes-length, Lowers-nothing, LowersInScope-modified, IsSamePattern-chain, Takes-any, Takes-any_in_line}
 use Rattle.regress_front_tree.proofs.lowering.Lowering.+lowering.Goals as goal
 use Rattle.regress_front_tree.proofs.lowering.Lowering.+lowering.Goals.{lower-then-self, lower-else-self}
 
@@ -53,7 +52,7 @@ pub lower-returns-in-Modified-clause-ok : goal.lower-returns-in-Modified-clause-
 lower-returns-in-Modified-clause-ok t c =
     rw (c.in-Modified.is, law.tree-Modified, ← c.deref-in-Modified.ensures)
     (IfOk-weaker c.lower-in-Modified.result _ _
-    (λ node h. IsLowered-modified c.args.self.now c.lower-in-Modified.new.self c.args.scope c.switched.result _ _ _ (tree node) c.switched.ensures.settings c.switched.ensures.backward h)
+    (λ node h. LowersInScope-modified c.args.self.now c.lower-in-Modified.new.self c.args.scope c.switched.result _ _ _ (tree node) c.switched.ensures.settings c.switched.ensures.backward h)
     c.lower-in-Modified.ensures.ok)
 
 pub lower-returns-in-LineStart-clause-ok : goal.lower-returns-in-LineStart-clause-ok

@@ -1,12 +1,12 @@
 use Rattle.std.proofs.Common.{map, take}
 use Rattle.regress_front_syntax.specs.Trees as parsed
 use Rattle.regress_front_tree.specs.Trees.{tree}
-use Rattle.regress_front_tree.specs.Scopes.{AreLowered, IsSamePattern}
+use Rattle.regress_front_tree.specs.Scopes.{LowersAllInScope, IsSamePattern}
 use Rattle.regress_front_tree.proofs.lowering.Lowering.+lowering.Given as goal
 
 -- the nodes of the parts so far
 abbrev pub invariant-each-loop-part : goal.invariant-each-loop-part
 invariant-each-loop-part l = record {
-  lowered : AreLowered l.fn.self l.scope (map parsed.tree (take l.part-index l.parts)) (map tree l.nodes.items) l.self;
+  lowered : LowersAllInScope l.fn.self l.scope (map parsed.tree (take l.part-index l.parts)) (map tree l.nodes.items) l.self;
   same : IsSamePattern l.fn.self l.self;
 }
