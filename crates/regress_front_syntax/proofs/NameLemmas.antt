@@ -1,12 +1,15 @@
 -- How a group's name is read, one code point after another, and what a property's key is read from.
-use Rattle.std.proofs.Common.{◌≡◌, ℕ, zero, suc, ◌<◌, ◌≤◌, ◌==◌, ◌&&◌, not, Bool, true, false, nat_lt, List, [], ◌∷◌, ◌++◌, length, drop, Option, Some, None, refl, ap, subst, arith, append_assoc, append-nil, lit<}
+use Rattle.std.proofs.Common.{◌≡◌, ℕ, zero, suc, ◌<◌, ◌≤◌, ◌==◌, ◌&&◌, not, Bool, true, false, nat_lt, ◌+◌, cond, List, [], ◌∷◌, ◌++◌, length, take, drop, get_or, Option, Some, None, refl, ap, ◌∙◌, arith, append_assoc, append-nil, lit<, subst}
 use Rattle.std.specs.Prelude.{if◌then◌else◌, option_map, option_and_then}
-use Rattle.std.proofs.lemmas.Bool.{and_parts}
+use Rattle.std.proofs.lemmas.Bool.{and_parts, false_from_ne_true}
+use Rattle.std.proofs.lemmas.List.Elements.{filter_more}
 use Rattle.regress_meaning.specs.Text.{is_at, span}
 use Rattle.regress_meaning.specs.Table.{Table}
 use Rattle.regress_meaning.specs.Class.{is_ascii_word}
 use Rattle.regress_meaning.specs.Tokens.{Mode, guard, begins_name, continues_name, unicode_escape, name_point, name_rest, name_at, key_at}
 use Rattle.std.specs.List.{list_all}
+use lib.Utf8.{scalar, low_scalar}
+use Rattle.std.specs.Char.{IsScalar}
 use Rattle.std.specs.Str.{IsAscii}
 use Rattle.std.proofs.lemmas.Str.{IsAscii-append}
 use Rattle.std.proofs.lemmas.Bool.Decides.{nat_tests}
@@ -14,6 +17,7 @@ use Rattle.regress_front_syntax.proofs.ModeLemmas.{any_mode}
 use Rattle.regress_front_syntax.proofs.SpanLemmas.{span-passes}
 use Rattle.regress_meaning.specs.Laws.{LeavesLess}
 use Rattle.regress_front_syntax.specs.Readings.{IsNext, IsReading}
+use Rattle.regress_front_syntax.specs.Words.{characters_of}
 use Rattle.regress_front_syntax.proofs.TokenLemmas.{some_length}
 
 -- a code point of a name that is written as an escape
@@ -141,6 +145,20 @@ words-ascii (d ∷ ds) h (suc i) = words-ascii ds (and_parts (is_ascii_word d) (
 cons-ascii : (c : ℕ) (ds : List ℕ) → c < 128 → IsAscii ds → IsAscii (c ∷ ds)
 cons-ascii c ds small h zero = small
 cons-ascii c ds small h (suc i) = h i
+
+-- ASCII is of characters alone
+pub characters-ascii : (cs : List ℕ) → IsAscii cs → characters_of cs ≡ cs
+characters-ascii [] h = refl
+characters-ascii (c ∷ cs) h = rw (low_scalar c (omega (arith, h 0))) (ap (λ t. c ∷ t) (characters-ascii cs (λ i. h (suc i))))
+
+-- one code point more, which is a character
+pub characters-more : (cs : List ℕ) (k d : ℕ) → k < length cs → IsScalar (get_or cs k d) → characters_of (take (k + 1) cs) ≡ characters_of (take k cs) ++ get_or cs k d ∷ []
+characters-more cs k d inside h = filter_more scalar cs k d inside ∙ ap (λ b. characters_of (take k cs) ++ cond b (get_or cs k d ∷ []) []) h
+
+-- one code point more, which is none
+pub characters-no_more : (cs : List ℕ) (k d : ℕ) → k < length cs → (IsScalar (get_or cs k d) → ⊥) → characters_of (take (k + 1) cs) ≡ characters_of (take k cs)
+characters-no_more cs k d inside h =
+    filter_more scalar cs k d inside ∙ ap (λ b. characters_of (take k cs) ++ cond b (get_or cs k d ∷ []) []) (false_from_ne_true _ h) ∙ append-nil _
 
 -- what is found behind a test
 guarded : {A : Type 0} {x : A} (b : Bool) (o : Option A) → guard b o ≡ Some x → o ≡ Some x

@@ -1,6 +1,7 @@
 -- The words of a pattern, as the parser's values hold them.
-use Rattle.std.specs.Prelude.{ℕ, Bool, false, not, ◌&&◌, ◌||◌, ◌==◌, List, [], ◌∷◌, ◌++◌, Option, Some, None, is_some, min, unwrap_or, option_map, option_and_then, if◌then◌else◌}
+use Rattle.std.specs.Prelude.{ℕ, Bool, false, not, ◌&&◌, ◌||◌, ◌==◌, List, [], ◌∷◌, ◌++◌, Option, Some, None, is_some, min, unwrap_or, option_map, option_and_then, filter, if◌then◌else◌}
 use denote.Ref.{Bor}
+use lib.Utf8.{scalar}
 use Rattle.regress_meaning.specs.Text.{◌∈◌}
 use Rattle.regress_meaning.specs.Tokens.{Reads, Bounds, decimal_at, braced_end, bounds_at, greatest}
 use Rattle.regress_meaning.specs.Grammar.{greedy_at, after_mark}
@@ -37,3 +38,7 @@ abbrev pub stands_for_itself : (unicode : Bool) → List ℕ → Bool
 stands_for_itself unicode [] = false
 stands_for_itself unicode (c ∷ t) =
     if unicode then not (c ∈ "^$\\.*+?()[]{}|") else (not (c ∈ "^$\\.*+?()[|{") || (c == 0x7B && not (is_some (bounds_at (c ∷ t)))))
+
+-- the characters of a text, without what is none
+abbrev pub characters_of : List ℕ → List ℕ
+characters_of = filter scalar

@@ -1,5 +1,5 @@
 //! Classes with `v`, behind their opening bracket.
-ghost use Rattle.std.specs.Prelude.{◌≡◌, ◌≤◌, ◌+◌, ◌==◌, ℕ, Bool, true, not, length, OnOk, drop, if◌then◌else◌};
+ghost use Rattle.std.specs.Prelude.{◌≡◌, ◌≤◌, ◌+◌, ◌==◌, ℕ, Bool, true, not, length, OnOk, drop, is_some, slice_get, if◌then◌else◌};
 ghost use Rattle.std.specs.List.{list_any, list_all};
 ghost use Rattle.regress_meaning.specs.Text.{◌∈◌, is_at};
 ghost use Rattle.regress_meaning.specs.Class.{may_hold_strings};
@@ -106,7 +106,9 @@ impl Cursor<'_> {
     ghost use Rattle.regress_front_syntax.specs.Cursors.{unread, SameText};
 
     /// Why the class is refused that can't go on here.
-    fn class_fault(&self) -> &'static str {
+    fn class_fault(&self) -> &'static str
+        ensures { result.now ≡ (if is_some (slice_get (unread self.now) 0) then INVALID_CLASS.now else UNBALANCED_BRACKET.now) }
+    {
         if self.peek().is_some() {
             INVALID_CLASS
         } else {

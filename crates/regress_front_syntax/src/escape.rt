@@ -1,6 +1,5 @@
 //! Escapes of a pattern: what stands behind a backslash.
 ghost use Rattle.std.specs.Prelude.{◌≡◌, ℕ, ◌==◌, Bool, true, IfOk, IfErr, option_map, chars};
-ghost use Rattle.std.specs.Str.{IsAscii};
 ghost use Rattle.std.specs.String.{string_bytes};
 ghost use Rattle.regress_meaning.specs.Text.{◌∈◌, is_at};
 ghost use Rattle.regress_meaning.specs.Class.{is_digit, is_letter};
@@ -8,6 +7,7 @@ ghost use Rattle.regress_meaning.specs.Tokens.{point, control, class_letter, con
 ghost use Rattle.regress_front_syntax.specs.Readings.{Tells, IsReading, IsRead};
 ghost use Rattle.regress_front_syntax.specs.Escapes.{class_control, mode_view, escape_view, from_first, HasFewGroups};
 ghost use Rattle.regress_front_syntax.specs.Trees.{class_view};
+ghost use Rattle.regress_front_syntax.specs.Words.{characters_of};
 
 use crate::cursor::{Cursor, is_one_of};
 use crate::mode::{Mode, groups_of_name};
@@ -69,9 +69,9 @@ fn class_letter(alloc: Global, letter: CodePoint) -> Result<Option<Class>, Error
     }))
 }
 
-/// The text of a key, for a look-up in tables. `OutOfMemory` is the only error.
+/// The text of a key, for a look-up in tables, without what is no character. `OutOfMemory` is the only error.
 fn key_text(alloc: Global, key: &[CodePoint]) -> Result<String, Error>
-    ensures ok { IfOk result (λ text. IsAscii key.now → chars (string_bytes text) ≡ key.now) }
+    ensures ok { IfOk result (λ text. chars (string_bytes text) ≡ characters_of key.now) }
     ensures err { IfErr result (λ e. e ≡ Error.OutOfMemory) }
 {
     let mut text = String::new(alloc);

@@ -1,6 +1,7 @@
 //! The parser: a function for each construct of a pattern, which is read from the left with no way back.
-ghost use Rattle.std.specs.Prelude.{◌≡◌, ◌==◌, ◌+◌, ◌<◌, ◌≤◌, ℕ, suc, length, true, false, OnOk, IfOk, IfErr};
-ghost use Rattle.regress_meaning.specs.Text.{is_at};
+ghost use Rattle.std.specs.Prelude.{◌≡◌, ◌==◌, ◌+◌, ◌<◌, ◌≤◌, ℕ, suc, length, true, false, is_some, OnOk, IfOk, IfErr, if◌then◌else◌};
+ghost use Rattle.regress_meaning.specs.Text.{◌∈◌, is_at};
+ghost use Rattle.regress_meaning.specs.Tokens.{bounds_at};
 ghost use Rattle.regress_front_syntax.specs.Escapes.{escape_view, mode_view, HasFewGroups};
 ghost use Rattle.regress_front_syntax.specs.Trees.{tree};
 ghost use Rattle.regress_meaning.specs.Grammar.{Spells, ends_alternative, mode_of, tree_of};
@@ -69,7 +70,10 @@ impl Cursor<'_> {
     }
 
     /// Why no term begins here.
-    fn misplaced(&self) -> &'static str {
+    fn misplaced(&self) -> &'static str
+        ensures { result.now ≡ (if is_at (λ c. c ∈ "*+?") (unread self.now) then NOTHING_TO_REPEAT.now
+            else if is_some (bounds_at (unread self.now)) then INVALID_QUANTIFIER.now else UNEXPECTED_CHARACTER.now) }
+    {
         let mut ahead = *self;
         if self.is_at_any("*+?") {
             NOTHING_TO_REPEAT

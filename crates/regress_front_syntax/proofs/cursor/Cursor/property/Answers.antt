@@ -8,7 +8,7 @@ use Rattle.std.specs.Str.{IsAscii}
 use Rattle.std.proofs.Math.Bool.{and-false}
 use Rattle.std.proofs.lemmas.Result.{err_from_is_err_and}
 use Rattle.regress_front_syntax.proofs.ClassViews.{class_view-Property, class_view-Sequences, class_view-Complement}
-use Rattle.regress_front_syntax.proofs.NameLemmas.{key-ascii}
+use Rattle.regress_front_syntax.proofs.NameLemmas.{characters-ascii, key-ascii}
 use Rattle.regress_front_syntax.proofs.EscapeLemmas.{IsRead-fails, next-drop, looked_up, property-no_key, property-positive, property-negative, property-sequences, property-unknown}
 use Rattle.regress_front_syntax.proofs.cursor.Cursor.property.Goals as goal
 use Rattle.regress_front_syntax.proofs.cursor.Cursor.property.Goals.{else-is_positive-2-via-then-is_positive-2+then-mode+else-is_some-2, else-is_positive-2-via-then-is_positive-2+else-mode, else-is_positive-2-via-else-is_positive-2}
@@ -30,7 +30,7 @@ returns-then-is_positive-clause-read c =
     let next = next-drop t c.next.result _ c.next.ensures.read in
     let read = rw next at c.in_ok-key.ensures.read in
     let ascii = key-ascii (drop 1 t) read in
-    let text = ap chars c.as_str.ensures.value ∙ c.in_ok-text.ensures.ok (subst IsAscii (sym c.deref.ensures.value) ascii) ∙ c.deref.ensures.value in
+    let text = ap chars c.as_str.ensures.value ∙ c.in_ok-text.ensures.ok ∙ characters-ascii _ (subst IsAscii (sym c.deref.ensures.value) ascii) ∙ c.deref.ensures.value in
     let found = looked_up m.table.property _ c.property.result c.property.ensures text in
     rw (class_view-Property c.in_ok-key.key)
     (property-positive m t _ _ read (sym c.if-is_positive.true ∙ c.is_at-is_positive.ensures) (sym found ∙ sym c.is_some.ensures ∙ c.if-is_some.true))
@@ -42,7 +42,7 @@ returns-then-is_some-clause-read c =
     let next = next-drop t c.next.result _ c.next.ensures.read in
     let read = rw next at c.in_ok-key.ensures.read in
     let ascii = key-ascii (drop 1 t) read in
-    let text = ap chars c.as_str.ensures.value ∙ c.in_ok-text.ensures.ok (subst IsAscii (sym c.deref.ensures.value) ascii) ∙ c.deref.ensures.value in
+    let text = ap chars c.as_str.ensures.value ∙ c.in_ok-text.ensures.ok ∙ characters-ascii _ (subst IsAscii (sym c.deref.ensures.value) ascii) ∙ c.deref.ensures.value in
     let found = looked_up m.table.property _ c.property.result c.property.ensures text in
     rw (class_view-Complement c.in_ok-new.field-0, ap class_view c.in_ok-new.ensures.ok, class_view-Property c.in_ok-key.key)
     (property-negative m t _ _ read (sym c.if-is_positive.false ∙ c.is_at-is_positive.ensures) (sym found ∙ sym c.is_some.ensures ∙ c.if-is_some.true))
@@ -54,7 +54,7 @@ returns-then-is_some-2-clause-read c =
     let next = next-drop t c.next.result _ c.next.ensures.read in
     let read = rw next at c.in_ok-key.ensures.read in
     let ascii = key-ascii (drop 1 t) read in
-    let text = ap chars c.as_str.ensures.value ∙ c.in_ok-text.ensures.ok (subst IsAscii (sym c.deref.ensures.value) ascii) ∙ c.deref.ensures.value in
+    let text = ap chars c.as_str.ensures.value ∙ c.in_ok-text.ensures.ok ∙ characters-ascii _ (subst IsAscii (sym c.deref.ensures.value) ascii) ∙ c.deref.ensures.value in
     let found = looked_up m.table.property _ c.property.result c.property.ensures text in
     let more = looked_up m.table.sequences _ c.sequences.result c.sequences.ensures (ap chars c.as_str-then-mode.ensures.value ∙ sym (ap chars c.as_str.ensures.value) ∙ text) in
     rw (class_view-Sequences c.in_ok-key.key)
@@ -67,7 +67,7 @@ returns-clause-read c =
     let next = next-drop t c.next.result _ c.next.ensures.read in
     let read = rw next at c.in_ok-key.ensures.read in
     let ascii = key-ascii (drop 1 t) read in
-    let text = ap chars c.as_str.ensures.value ∙ c.in_ok-text.ensures.ok (subst IsAscii (sym c.deref.ensures.value) ascii) ∙ c.deref.ensures.value in
+    let text = ap chars c.as_str.ensures.value ∙ c.in_ok-text.ensures.ok ∙ characters-ascii _ (subst IsAscii (sym c.deref.ensures.value) ascii) ∙ c.deref.ensures.value in
     let found = looked_up m.table.property _ c.property.result c.property.ensures text in
     let unknown = sym found ∙ sym c.is_some.ensures ∙ c.if-is_some.false in
     property-unknown m t _ _ read unknown (elim c.else-is_positive-2.branch [
