@@ -1,7 +1,6 @@
 -- Sets and strings that classes stand for.
 use Rattle.std.proofs.Common.{◌≡◌, ℕ, zero, suc, ◌+◌, ◌<◌, ◌≤◌, Bool, true, false, not, cond, ◌&&◌, ◌||◌, ◌==◌, List, [], ◌∷◌, ◌++◌, length, take, get_or, map, filter, All, refl, sym, ap, subst, ◌∙◌, inl, inr, arith, Vec, Global, String, Some, None, chars, string_bytes, append-nil}
 use Rattle.std.proofs.Math.Path.{fun_ext}
-use Rattle.std.proofs.Math.Bool.{or_assoc}
 use Rattle.std.specs.List.{list_any}
 use Rattle.std.specs.Str.{all_scalars}
 use Rattle.std.specs.Char.{IsScalar}
@@ -21,7 +20,7 @@ use Rattle.regress_front_sets.specs.declared.tables.Tables.{Tables}
 use Rattle.regress_front_sets.specs.TableViews.{table}
 use Rattle.regress_front_sets.specs.declared.interval.Interval.{Interval}
 use Rattle.regress_front_sets.specs.declared.code_point_set.CodePointSet.{CodePointSet}
-use Rattle.regress_front_sets.specs.Intervals.{ends, ends_of, in_interval}
+use Rattle.regress_front_sets.specs.Intervals.{ends_of}
 use Rattle.regress_front_sets.specs.Sets.{in_set}
 use Rattle.regress_front_tree.specs.ClassValues.{lists}
 
@@ -224,29 +223,3 @@ plain-words tables c = sym (or-false (is_ascii_word c))
 pub in_intervals-one : (first last : ℕ) → in_intervals ((first, last) ∷ []) ≡ between first last
 unfolding in_intervals
 in_intervals-one first last = fun_ext (λ (c : ℕ). or-false (between first last c))
-
--- one interval more
-pub in_intervals-more : (intervals : List Interval) (k : ℕ) (i : Interval) (c : ℕ) → k < length intervals → i ≡ get_or intervals k i
-    → in_intervals (ends_of (take (k + 1) intervals)) c ≡ (in_intervals (ends_of (take k intervals)) c || in_interval i c)
-unfolding in_intervals
-in_intervals-more intervals k i c inside is =
-    let holds : ℕ × ℕ → Bool = λ e. between e.0 e.1 c in
-    let before = ends_of (take k intervals) in
-    ap (λ (taken : List Interval). list_any holds (ends_of taken)) (take_more intervals k i inside ∙ ap (λ (x : Interval). take k intervals ++ x ∷ []) (sym is))
-    ∙ ap (list_any holds) (map-append ends (take k intervals) (i ∷ []))
-    ∙ list_any-append holds before (ends i ∷ [])
-    ∙ ap (λ (b : Bool). list_any holds before || b) (or-false (holds (ends i)))
-
--- what is added to a set one interval after another
-pub union-more : (old now new : ℕ → Bool) (intervals : List Interval) (k : ℕ) (i : Interval) → k < length intervals → i ≡ get_or intervals k i
-    → ((c : ℕ) → new c ≡ (now c || in_interval i c)) → ((c : ℕ) → now c ≡ (old c || in_intervals (ends_of (take k intervals)) c))
-    → (c : ℕ) → new c ≡ (old c || in_intervals (ends_of (take (k + 1) intervals)) c)
-union-more old now new intervals k i inside is added before c =
-    let held = in_intervals (ends_of (take k intervals)) c in
-    added c ∙ ap (λ (b : Bool). b || in_interval i c) (before c) ∙ or_assoc (old c) held (in_interval i c)
-    ∙ ap (λ (b : Bool). old c || b) (sym (in_intervals-more intervals k i c inside is))
-
--- a set that nothing is added to
-pub union-none : (old : ℕ → Bool) (c : ℕ) → old c ≡ (old c || in_intervals [] c)
-unfolding in_intervals
-union-none old c = sym (or-false (old c))

@@ -5,7 +5,7 @@ use Rattle.std.proofs.lemmas.List.Sums.{fold-append}
 use Rattle.std.proofs.lemmas.List.{append_assoc, take_more, map-append}
 use Rattle.regress_meaning.specs.Table.{Table}
 use Rattle.regress_meaning.specs.Class as meaning
-use Rattle.regress_meaning.specs.Class.{Strings, value_of, among}
+use Rattle.regress_meaning.specs.Class.{Strings, only, value_of, among}
 use Rattle.regress_meaning.specs.TableParts.{is_code_point}
 use Rattle.regress_front_sets.specs.declared.tables.Tables.{Tables}
 use Rattle.regress_front_sets.specs.TableViews.{table}
@@ -13,7 +13,8 @@ use Rattle.regress_meaning.specs.Points.{ClassIsOfPoints}
 use Rattle.regress_front_syntax.specs.declared.syntax.Class.{Class}
 use Rattle.regress_front_syntax.specs.Trees.{class_view, union_of}
 use Rattle.std.proofs.lemmas.List.Elements.{All-nil, All-cons, All-head, All-tail, All-append, All-filter}
-use Rattle.regress_front_tree.specs.ClassValues.{united}
+use Rattle.regress_front_tree.specs.ClassValues.{strings_of, united, all_united}
+use Rattle.regress_front_tree.specs.declared.class_value.ClassValue.{ClassValue}
 use Rattle.regress_front_tree.proofs.ClassLemmas.{entry-all}
 
 or-false : (b : Bool) → (b || false) ≡ b
@@ -24,7 +25,7 @@ or_assoc : (x y z : Bool) → ((x || y) || z) ≡ (x || (y || z))
 or_assoc true y z = refl
 or_assoc false y z = refl
 
-united-none : (v : Strings) → united v (record { singles = λ c. false; others = [] }) ≡ v
+pub united-none : (v : Strings) → united v (record { singles = λ c. false; others = [] }) ≡ v
 united-none v =
     let singles : (c : ℕ) → (v.singles c || false) ≡ v.singles c = λ c. or-false (v.singles c) in
     λ i. record { singles = fun_ext singles i; others = append-nil v.others i }
@@ -34,6 +35,19 @@ united-assoc u v w =
     let singles : (c : ℕ) → (u.singles c || (v.singles c || w.singles c)) ≡ ((u.singles c || v.singles c) || w.singles c) = λ c. sym (or_assoc (u.singles c) (v.singles c) (w.singles c)) in
     let others : u.others ++ (v.others ++ w.others) ≡ (u.others ++ v.others) ++ w.others = sym (append_assoc u.others v.others w.others) in
     λ i. record { singles = fun_ext singles i; others = others i }
+
+-- one value more
+pub all_united-push : (values : List ClassValue) (v : ClassValue) → all_united (values ++ v ∷ []) ≡ united (all_united values) (strings_of v)
+all_united-push values v =
+    let none = only (λ (c : ℕ). false) in
+    ap (fold united none) (map-append strings_of values (v ∷ [])) ∙ fold-append united none (map strings_of values) (strings_of v ∷ [])
+
+-- the last value is joined to another
+pub all_united-joined : (values rest : List ClassValue) (last value all : ClassValue) → values ≡ rest ++ last ∷ [] → strings_of all ≡ united (strings_of last) (strings_of value)
+    → united (all_united rest) (strings_of all) ≡ united (all_united values) (strings_of value)
+all_united-joined values rest last value all is joined =
+    ap (united (all_united rest)) joined ∙ united-assoc (all_united rest) (strings_of last) (strings_of value)
+    ∙ ap (λ (v : Strings). united v (strings_of value)) (sym (ap all_united is ∙ all_united-push rest last))
 
 -- one class more beside others
 pub value_of-push : (table : Table) (folded : Bool) (cs : List meaning.Class) (c : meaning.Class)

@@ -1,7 +1,7 @@
 -- What the values of classes hold.
-use Rattle.std.specs.Prelude.{ℕ, ◌&&◌, ◌||◌, not, List, ◌++◌, Vec, map, filter}
+use Rattle.std.specs.Prelude.{ℕ, false, ◌&&◌, ◌||◌, not, List, ◌++◌, Vec, map, filter, fold}
 use Rattle.std.specs.declared.alloc.Global.{Global}
-use Rattle.regress_meaning.specs.Class.{Strings, among}
+use Rattle.regress_meaning.specs.Class.{Strings, only, among}
 use Rattle.regress_front_sets.specs.Sets.{in_set}
 use Rattle.regress_front_tree.specs.declared.class_value.ClassValue.{ClassValue}
 
@@ -24,3 +24,7 @@ intersected v w = record { singles = λ c. v.singles c && w.singles c; others = 
 -- what is a member of the first alone
 abbrev pub subtracted : Strings → Strings → Strings
 subtracted v w = record { singles = λ c. v.singles c && not (w.singles c); others = filter (λ s. not (among w.others s)) v.others }
+
+-- what is a member of any of the values, the strings in their order
+abbrev pub all_united : List ClassValue → Strings
+all_united vs = fold united (only (λ c. false)) (map strings_of vs)

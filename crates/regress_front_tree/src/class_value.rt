@@ -1,5 +1,5 @@
 //! What a class stands for: a set of code points, and strings of other lengths.
-ghost use Rattle.std.specs.Prelude.{◌≡◌, ◌≤◌, ℕ, false, [], ◌==◌, ◌&&◌, ◌||◌, not, map, fold, All, unwrap_or, IfOk, IfErr, OnOk};
+ghost use Rattle.std.specs.Prelude.{◌≡◌, ◌≤◌, ℕ, false, [], ◌==◌, ◌&&◌, ◌||◌, not, length, map, fold, All, unwrap_or, IfOk, IfErr, OnOk};
 ghost use Rattle.regress_meaning.specs.TableParts.{is_code_point, in_intervals, IntervalsRise};
 ghost use Rattle.regress_meaning.specs.Class as meaning;
 ghost use Rattle.regress_meaning.specs.Class.{Strings, intersection, difference, only, of_list, among, complement_of, is_word, value_of};
@@ -56,6 +56,13 @@ impl ClassValue {
         Ok(value)
     }
 
+    /// How many intervals the code points take.
+    fn interval_count(&self) -> usize
+        ensures { result ≡ length self.now.singles.intervals.items }
+    {
+        self.singles.intervals().len()
+    }
+
     /// Adds the members of another value. `OutOfMemory` is the only error.
     fn add(&mut self, other: ClassValue) -> Result<(), Error>
         ensures ok { OnOk result (strings_of self.new ≡ united (strings_of self.old) (strings_of other)) }
@@ -63,11 +70,7 @@ impl ClassValue {
     {
         let mut other = other;
         self.strings.append(&mut other.strings)?;
-        // `add_set` would copy this whole set for each member of a class.
-        for interval in other.singles.intervals() {
-            self.singles.add(*interval)?;
-        }
-        Ok(())
+        self.singles.add_set(other.singles)
     }
 
     /// The members that are also members of another value ("ClassIntersection"). `OutOfMemory` is the only error.
@@ -101,7 +104,7 @@ impl ClassValue {
     }
 }
 
-ghost use Rattle.regress_front_tree.specs.ClassValues.{lists, strings_of};
+ghost use Rattle.regress_front_tree.specs.ClassValues.{lists, strings_of, united, all_united};
 
 /// Whether the string is one of these.
 fn is_among(strings: &[Vec<CodePoint>], string: &[CodePoint]) -> bool
@@ -278,9 +281,43 @@ fn union_value(
     ensures ok { IfOk result (λ value. strings_of value ≡ value_of (table tables.now) folded (union_of (map class_view members.now))) }
     ensures err { IfErr result (λ e. e ≡ Error.OutOfMemory) }
 {
-    let mut value = ClassValue::of_points(alloc, CodePointSet::new(alloc));
+    let mut values = Vec::new(alloc);
     for member in members {
-        value.add(class_value(alloc, tables, folded, member)?)?;
+        let value = class_value(alloc, tables, folded, member)?;
+        push_joined(&mut values, value)?;
+    }
+    joined(alloc, values)
+}
+
+/// Adds a value behind others, joined with those before it that are not much larger: each has then more than twice as many
+/// intervals as the next. So a class of many members does not copy its whole union for each. `OutOfMemory` is the only error.
+fn push_joined(values: &mut Vec<ClassValue>, value: ClassValue) -> Result<(), Error>
+    ensures ok { OnOk result (all_united values.new.items ≡ united (all_united values.old.items) (strings_of value)) }
+    ensures err { IfErr result (λ e. e ≡ Error.OutOfMemory) }
+{
+    let mut value = value;
+    while let Some(mut last) = values.pop() {
+        if last.interval_count() / 2 > value.interval_count() {
+            values.push(last)?;
+            break;
+        }
+        last.add(value)?;
+        value = last;
+    }
+    values.push(value)?;
+    Ok(())
+}
+
+/// The members of all values. `OutOfMemory` is the only error.
+fn joined(alloc: Global, values: Vec<ClassValue>) -> Result<ClassValue, Error>
+    ensures ok { IfOk result (λ value. strings_of value ≡ all_united values.items) }
+    ensures err { IfErr result (λ e. e ≡ Error.OutOfMemory) }
+{
+    let mut values = values;
+    let mut value = ClassValue::of_points(alloc, CodePointSet::new(alloc));
+    while let Some(mut last) = values.pop() {
+        last.add(value)?;
+        value = last;
     }
     Ok(value)
 }

@@ -11,8 +11,8 @@ use Rattle.regress_front_sets.specs.Sets.{in_set}
 use Rattle.regress_front_sets.specs.TableViews.{table}
 use Rattle.regress_front_syntax.specs.declared.syntax.Class.{Class}
 use Rattle.regress_front_syntax.specs.Trees.{class_view}
-use Rattle.regress_front_tree.specs.ClassValues.{united, intersected, subtracted}
-use Rattle.regress_front_tree.proofs.ClassLemmas.{only-none, in_intervals-one}
+use Rattle.regress_front_tree.specs.ClassValues.{united, all_united, intersected, subtracted}
+use Rattle.regress_front_tree.proofs.ClassLemmas.{in_intervals-one}
 use Rattle.regress_front_tree.proofs.ClassValueLemmas.{value_of-more, union_points, fold-more, first_points, other_points, one_points}
 use Rattle.regress_front_tree.proofs.ClassViewLaws.{class_view-Range, class_view-Digits, class_view-Spaces, class_view-Words, class_view-Property, class_view-Sequences, class_view-Strings, class_view-Intersection, class_view-Difference, class_view-Complement, class_view-Nested}
 use Rattle.regress_front_tree.proofs.class_value.+class_value.Goals as goal
@@ -72,11 +72,11 @@ class_value-returns-clause-ok t c =
 
 pub union_value-loop-member-init : goal.union_value-loop-member-init
 unfolding value_of
-union_value-loop-member-init t c = c.of_points-value.ensures ∙ only-none c.new.result c.new.ensures
+union_value-loop-member-init t c = ap all_united c.new-values.ensures.items
 
 pub union_value-loop-member-preserved : goal.union_value-loop-member-preserved
 union_value-loop-member-preserved t c =
-    c.in_ok-add.ensures.ok ∙ ap₂ united c.loop-member.invariant c.in_ok-class_value.ensures.ok
+    c.in_ok-push_joined.ensures.ok ∙ ap₂ united c.loop-member.invariant c.in_ok-value.ensures.ok
     ∙ sym (value_of-more (table c.args.tables.now) c.args.folded c.args.members.now c.loop-member.member-index c.member-item.result (omega arith) c.member-item.is)
 
 pub union_value-class_value-requires : goal.union_value-class_value-requires

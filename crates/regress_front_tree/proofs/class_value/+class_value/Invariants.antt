@@ -3,11 +3,11 @@ use Rattle.regress_meaning.specs.Class as meaning
 use Rattle.regress_meaning.specs.Class.{value_of}
 use Rattle.regress_front_sets.specs.TableViews.{table}
 use Rattle.regress_front_syntax.specs.Trees.{class_view, union_of}
-use Rattle.regress_front_tree.specs.ClassValues.{strings_of}
+use Rattle.regress_front_tree.specs.ClassValues.{strings_of, all_united}
 use Rattle.regress_front_tree.proofs.class_value.+class_value.Given as goal
 
 abbrev pub invariant-union_value-loop-member : goal.invariant-union_value-loop-member
-invariant-union_value-loop-member l = strings_of l.value ≡ value_of (table l.tables) l.folded (union_of (map class_view (take l.member-index l.members)))
+invariant-union_value-loop-member l = all_united l.values.items ≡ value_of (table l.tables) l.folded (union_of (map class_view (take l.member-index l.members)))
 
 abbrev pub invariant-intersected_value-loop-other : goal.invariant-intersected_value-loop-other
 invariant-intersected_value-loop-other l = (c : meaning.Class) → strings_of l.fn.first ≡ value_of (table l.tables) l.folded c
