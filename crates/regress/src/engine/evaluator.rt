@@ -1,11 +1,10 @@
 //! The evaluator: what a tree matches, on lists of states, as the definitions say it.
-ghost use Rattle.std.specs.Prelude.{◌≡◌, ◌≤◌, length, map, option_map, chars, IfOk, IfSome};
+ghost use Rattle.std.specs.Prelude.{◌≡◌, ◌≤◌, if◌then◌else◌, length, map, option_map, chars, IfOk, IfSome};
 ghost use Rattle.std.specs.Box.{boxed_slice_items};
 ghost use Rattle.std.specs.List.{flat_map};
 ghost use Rattle.regress_front_tree.specs.Trees.{tree, cat_of, anchor_of, boundary, loop};
 ghost use Rattle.regress_front_tree.specs.TreeMeaning.{node_outcomes, literal_steps, alternatives};
 ghost use Rattle.regress_meaning.specs.Meaning.{Forward, Backward, captured, looked};
-ghost use Rattle.std.specs.Prelude.{if◌then◌else◌};
 ghost use Rattle.regress_front_syntax.specs.Trees.{most};
 ghost use Rattle.regress.specs.NodeMatches.{node_attempt, node_first_match};
 ghost use Rattle.regress.specs.Views.{item_of};
