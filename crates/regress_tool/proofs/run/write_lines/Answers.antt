@@ -25,7 +25,7 @@ returns-in_err-found-clause-err g c = λ t o p s.
 pub returns-in_err-found-clause-write : goal.returns-in_err-found-clause-write
 returns-in_err-found-clause-write g c =
     let error = err_from_is_err_and c.from_residual-in_err-found.result c.from_residual-in_err-found.ensures.1 in
-    let refused = (rw c.in_err-found.was at c.in-Some.ensures.steps.1.first).0 in
+    let refused = (rw c.in_err-found.was at c.in-Some.ensures.steps.2.first).0 in
     let told = error.2 ∙ ap fault_of refused in
     (λ h. cc (error.1, told, h), λ h. cc (h, c.loop-found.invariant.0))
 
@@ -44,7 +44,7 @@ put_all-requires g c = c.loop-found.invariant.0
 pub returns-then-is_err-clause-err : goal.returns-then-is_err-clause-err
 returns-then-is_err-clause-err g c = λ t o p s.
     IsWritten-part _ _ _ _ _ (item_of c.in_ok-found.field-0) _ _ (c.loop-found.invariant.1 t o p s)
-    (rw c.in_ok-found.was at c.in-Some.ensures.steps.1.first).0
+    (rw c.in_ok-found.was at c.in-Some.ensures.steps.2.first).0
     (c.as_bytes.ensures.value ∙ c.in_ok-line.ensures)
     (on_err-at _ c.if-is_err.ensures.value c.put_all.ensures.err)
 
@@ -53,14 +53,14 @@ loop-found-preserved g c = (
   c.put_all.ensures.failure ∙ sym c.is_err.ensures.value ∙ c.if-is_err.false,
   λ t o p s.
       IsWritten-more _ _ _ _ _ (item_of c.in_ok-found.field-0) _ _ (c.loop-found.invariant.1 t o p s)
-      (rw c.in_ok-found.was at c.in-Some.ensures.steps.1.first).0
+      (rw c.in_ok-found.was at c.in-Some.ensures.steps.2.first).0
       (c.as_bytes.ensures.value ∙ c.in_ok-line.ensures)
       (on_ok-at _ (sym c.if-is_err.false ∙ c.is_err.ensures.value) c.put_all.ensures.ok),
 )
 
 pub returns-clause-ok : goal.returns-clause-ok
 returns-clause-ok g c = λ t o p s.
-    IsWritten-all _ _ _ _ (c.loop-found.invariant.1 t o p s) c.in-None.ensures.steps.1.first.0
+    IsWritten-all _ _ _ _ (c.loop-found.invariant.1 t o p s) c.in-None.ensures.steps.2.first.0
 
 pub returns-clause-write : goal.returns-clause-write
 returns-clause-write g c = (λ h. cc h, λ h. cc (h, c.loop-found.invariant.0))
