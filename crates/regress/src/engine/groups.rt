@@ -1,6 +1,7 @@
 //! The groups of a match, one after another.
 ghost use Rattle.std.specs.Prelude.{◌≤◌, ◌+◌, vec_len};
-ghost use Rattle.std.specs.Iterator.{YieldsFirst, item_count};
+ghost use Rattle.std.specs.Iterator.{YieldsFirst, UpTo, item_count};
+ghost use Rattle.std.specs.Iterator.SizeHint.{IsWithinCount};
 
 use crate::engine::found::{Match, Range};
 use std::iter::{ExactSizeIterator, FusedIterator};
@@ -27,6 +28,7 @@ impl<'m> Groups<'m> {
 }
 
 impl<'m> Iterator for Groups<'m> {
+    ghost use Rattle.std.specs.Prelude.{◌≡◌, Some, IfSome, length};
     ghost use Rattle.regress.specs.GroupViews.{groups_left};
 
     type Item = Option<Range>;
@@ -46,7 +48,11 @@ impl<'m> Iterator for Groups<'m> {
     }
 
     /// How many groups are still to come, as both bounds.
-    fn size_hint(&self) -> (usize, Option<usize>) {
+    fn size_hint(&self) -> (usize, Option<usize>)
+        ensures lower { IsWithinCount result.0 (item_count groups_left self.now) }
+        ensures upper { IfSome result.1 (UpTo (item_count groups_left self.now)) }
+        ensures exact { result ≡ (length (groups_left self.now), Some (length (groups_left self.now))) }
+    {
         let len = self.len();
         (len, Some(len))
     }
