@@ -9,9 +9,9 @@ use Rattle.regress_meaning.specs.Flags.{Options, is_unicode, first_settings}
 use Rattle.regress_meaning.specs.Meaning.{State, Context, Forward, outcomes}
 use Rattle.regress_meaning.specs.Matches.{Item, item_at, first_from, list_from, attempt, first_match, match_list}
 use Rattle.regress_meaning.specs.Laws.{LiesIn, IsInside}
-use Rattle.regress_front_tree.specs.Trees.{Tree}
-use Rattle.regress_front_tree.specs.TreeMeaning.{node_outcomes}
-use Rattle.regress_front_tree.specs.Alike.{distinct, IsAlike}
+use Rattle.regress_front_nodes.specs.Trees.{Tree}
+use Rattle.regress_front_nodes.specs.TreeMeaning.{node_outcomes}
+use Rattle.regress_front_nodes.specs.Alike.{distinct, IsAlike}
 use Rattle.regress.specs.NodeMatches.{node_attempt, node_first_match, node_match_list}
 
 -- lists of the same distinct states have the same first

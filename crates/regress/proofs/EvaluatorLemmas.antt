@@ -4,9 +4,9 @@ use Rattle.std.specs.List.{flat_map}
 use Rattle.std.proofs.lemmas.List.{append-nil, drop_more, take_more, map_push, take_more_set, take_all, drop_all, length-drop, drop-set-lt}
 use Rattle.std.proofs.lemmas.List.Concat.{flat_map-append}
 use Rattle.regress_meaning.specs.Meaning.{State, Direction, Context, beside, step}
-use Rattle.regress_front_tree.specs.Trees.{Tree, cat, no_part, cat_of, tree}
-use Rattle.regress_front_tree.specs.TreeMeaning.{node_outcomes}
-use Rattle.regress_front_tree.specs.declared.node.Node.{Node}
+use Rattle.regress_front_nodes.specs.Trees.{Tree, cat, no_part, cat_of, tree}
+use Rattle.regress_front_nodes.specs.TreeMeaning.{node_outcomes}
+use Rattle.regress_front_nodes.specs.declared.node.Node.{Node}
 use Rattle.regress.specs.declared.engine.state.State as evaluator
 use Rattle.regress.specs.StateViews.{state_of}
 

@@ -19,10 +19,10 @@ use Rattle.regress_meaning.specs.Matches.{Item, match_list}
 use Rattle.regress_meaning.specs.Offsets.{offset, of_utf8, told, Begins}
 use Rattle.regress_meaning.specs.Laws.{OffsetsRise}
 use Rattle.regress.specs.declared.api.Regex.{Regex}
-use Rattle.regress_front_sets.specs.declared.error.Error.{Error}
+use Rattle.regress_front_core.specs.declared.error.Error.{Error}
 use Rattle.regress.specs.declared.engine.found.Match.{Match}
 use Rattle.regress.specs.declared.engine.matches.Matches.{Matches}
-use Rattle.regress_front_tree.specs.Trees.{tree}
+use Rattle.regress_front_nodes.specs.Trees.{tree}
 use Rattle.regress.specs.Views.{item_of}
 use Rattle.regress.specs.TextViews.{utf8_reading}
 use Rattle.regress.specs.GroupViews.{groups_of}

@@ -7,8 +7,8 @@ use Rattle.std.proofs.lemmas.List.Elements.{All-head, All-same, All-replicate}
 use Rattle.regress_meaning.specs.Meaning.{State, Forward, Context}
 use Rattle.regress_meaning.specs.Matches.{Item, item_at, first_from, next_place, list_from}
 use Rattle.regress_meaning.specs.Laws.{LiesIn, IsInside}
-use Rattle.regress_front_tree.specs.Trees.{Tree}
-use Rattle.regress_front_tree.specs.TreeMeaning.{node_outcomes}
+use Rattle.regress_front_nodes.specs.Trees.{Tree}
+use Rattle.regress_front_nodes.specs.TreeMeaning.{node_outcomes}
 use Rattle.regress.specs.NodeMatches.{node_attempt, node_first_match, node_match_list}
 use Rattle.regress.specs.StateViews.{IsItemInside}
 use Rattle.regress.specs.Views.{ends}

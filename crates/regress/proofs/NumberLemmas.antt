@@ -5,9 +5,9 @@ use Rattle.std.proofs.Common.{◌≡◌, ℕ, ◌+◌, ◌-◌, ◌<◌, ◌≤�
 use Rattle.std.proofs.lemmas.Bool.{cases_lt, cond_both, eq-eqb, eqb-true}
 use Rattle.std.proofs.lemmas.Bool.Decides.{nat_tests}
 use Rattle.std.proofs.lemmas.List.{drop_more}
-use Rattle.regress_front_tree.specs.Trees.{tree, cat_of}
-use Rattle.regress_front_tree.specs.WellFormed.{AreNumbered, group_ids}
-use Rattle.regress_front_tree.specs.declared.node.Node.{Node}
+use Rattle.regress_front_nodes.specs.Trees.{tree, cat_of}
+use Rattle.regress_front_nodes.specs.WellFormed.{AreNumbered, group_ids}
+use Rattle.regress_front_nodes.specs.declared.node.Node.{Node}
 use Rattle.regress.specs.GroupNames.{bound_of}
 
 pub bound_of-append : (xs ys : List ℕ) → bound_of (xs ++ ys) ≡ max (bound_of xs) (bound_of ys)

@@ -7,8 +7,8 @@ use Rattle.std.proofs.lemmas.List.Sums.{sum_by-append, sum_by-cons, sum_by_push}
 use Rattle.std.proofs.lemmas.Bool.{cases_lt}
 use Rattle.std.proofs.lemmas.Bool.Decides.{nat_tests}
 use Rattle.regress_meaning.specs.Meaning.{State, Direction, Outcomes, Context, clear_from, cleared, moved, iterations}
-use Rattle.regress_front_tree.specs.Trees.{Tree, loop, single_loop}
-use Rattle.regress_front_tree.specs.TreeMeaning.{node_outcomes}
+use Rattle.regress_front_nodes.specs.Trees.{Tree, loop, single_loop}
+use Rattle.regress_front_nodes.specs.TreeMeaning.{node_outcomes}
 use Rattle.regress.specs.declared.engine.state.State as evaluator
 use Rattle.regress.specs.declared.engine.tasks.Task.{Task}
 use Rattle.regress.specs.declared.engine.tasks.Task.TheVariants.{Expand, Emit}

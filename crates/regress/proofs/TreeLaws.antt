@@ -6,13 +6,13 @@ use Rattle.std.specs.declared.boxed.BoxedSlice.{BoxedSlice}
 use Rattle.std.specs.declared.ops.Range.{Range}
 use Rattle.std.specs.declared.string.String.{String}
 use Rattle.regress_front_sets.specs.Intervals.{ends_of}
-use Rattle.regress_front_syntax.specs.declared.syntax.Quantifier.{Quantifier}
-use Rattle.regress_front_syntax.specs.Trees.{most}
-use Rattle.regress_front_tree.specs.Trees.{Tree, empty, goal, char, bytes, byte_set, char_set, alt, any, any_in_line, boundary, capture, back, bracket, string_set, look, loop, single_loop, cat_of, anchor_of, tree, node_tree}
-use Rattle.regress_front_tree.specs.declared.node.AnchorType.{AnchorType}
-use Rattle.regress_front_tree.specs.declared.node.BracketContents.{BracketContents}
-use Rattle.regress_front_tree.specs.declared.node.Node.{Node, Node-F, fold-roll-Node}
-use Rattle.regress_front_tree.specs.declared.node.Node.TheVariants as node
+use Rattle.regress_front_core.specs.declared.quantifier.Quantifier.{Quantifier}
+use Rattle.regress_front_core.specs.Quantifiers.{most}
+use Rattle.regress_front_nodes.specs.Trees.{Tree, empty, goal, char, bytes, byte_set, char_set, alt, any, any_in_line, boundary, capture, back, bracket, string_set, look, loop, single_loop, cat_of, anchor_of, tree, node_tree}
+use Rattle.regress_front_nodes.specs.declared.node.AnchorType.{AnchorType}
+use Rattle.regress_front_nodes.specs.declared.node.BracketContents.{BracketContents}
+use Rattle.regress_front_nodes.specs.declared.node.Node.{Node, Node-F, fold-roll-Node}
+use Rattle.regress_front_nodes.specs.declared.node.Node.TheVariants as node
 
 pub tree-Empty : tree node.Empty ≡ empty
 tree-Empty = ap tree (sym node.rolls-Empty) ∙ fold-roll-Node Tree node_tree Node-F.Empty

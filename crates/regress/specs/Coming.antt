@@ -8,9 +8,9 @@ use Rattle.regress.specs.declared.api.Regex.{Regex}
 use Rattle.regress.specs.declared.engine.found.Match.{Match}
 use Rattle.regress.specs.declared.engine.matches.Search.{Search}
 use Rattle.regress.specs.declared.engine.matches.Matches.{Matches}
-use Rattle.regress_front_tree.specs.Trees.{tree}
-use Rattle.regress_front_sets.specs.TableViews.{table}
-use Rattle.regress_front_sets.specs.FlagWords.{options}
+use Rattle.regress_front_nodes.specs.Trees.{tree}
+use Rattle.regress_front_tables.specs.TableViews.{table}
+use Rattle.regress_front_core.specs.FlagWords.{options}
 use Rattle.regress.specs.GroupViews.{names_of_match}
 use Rattle.regress.specs.NodeMatches.{node_match_list}
 use Rattle.regress.specs.GroupNames.{group_count, shared_names}

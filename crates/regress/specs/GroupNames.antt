@@ -6,8 +6,8 @@ use Rattle.std.specs.String.{string_bytes}
 use Rattle.std.specs.declared.alloc.Global.{Global}
 use Rattle.std.specs.declared.string.String.{String}
 use Rattle.std.specs.declared.sync.ArcSlice.{ArcSlice}
-use Rattle.regress_front_tree.specs.Trees.{Tree}
-use Rattle.regress_front_tree.specs.WellFormed.{name_by_number}
+use Rattle.regress_front_nodes.specs.Trees.{Tree}
+use Rattle.regress_front_nodes.specs.WellFormed.{name_by_number}
 
 -- one more than the greatest number, and 0 for none
 abbrev pub bound_of : List ℕ → ℕ

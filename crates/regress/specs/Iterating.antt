@@ -1,8 +1,8 @@
 -- One match after another: what a search has still to find, and what one step of it gives.
 use Rattle.std.specs.Prelude.{◌≡◌, ℕ, ◌+◌, nat_le, List, [], ◌∷◌, Option, Some, None, Result, Ok, Err, if◌then◌else◌}
 use Rattle.regress_meaning.specs.Matches.{Item}
-use Rattle.regress_front_sets.specs.declared.error.Error.{Error}
-use Rattle.regress_front_sets.specs.declared.error.Error.TheVariants.{OutOfMemory}
+use Rattle.regress_front_core.specs.declared.error.Error.{Error}
+use Rattle.regress_front_core.specs.declared.error.Error.TheVariants.{OutOfMemory}
 use Rattle.regress.specs.declared.engine.found.Match.{Match}
 use Rattle.regress.specs.Views.{item_of}
 

@@ -3,7 +3,7 @@ use Rattle.std.specs.Prelude.{ℕ, Bool, true, not, nat_eq}
 use Rattle.regress_meaning.specs.Text.{holds}
 use Rattle.regress_meaning.specs.Meaning.{is_line_end}
 use Rattle.regress_front_sets.specs.Intervals.{ends_of}
-use Rattle.regress_front_tree.specs.TreeMeaning.{bracket_has}
+use Rattle.regress_front_nodes.specs.TreeMeaning.{bracket_has}
 use Rattle.regress.specs.declared.engine.singles.Single.{Single}
 use Rattle.regress.specs.declared.engine.singles.Single.TheVariants.{Char, ByteSet, CharSet, Any, AnyInLine, Bracket}
 

@@ -3,7 +3,7 @@ use Rattle.std.specs.Prelude.{ℕ, List, length, map, option_map, All, IfSome}
 use Rattle.regress_meaning.specs.Meaning.{State, Direction, Forward, Backward, Context}
 use Rattle.regress_meaning.specs.Matches.{Item}
 use Rattle.regress_meaning.specs.Laws.{LiesIn}
-use Rattle.regress_front_sets.specs.TableViews.{table}
+use Rattle.regress_front_tables.specs.TableViews.{table}
 use Rattle.regress.specs.declared.engine.state.State as evaluator
 use Rattle.regress.specs.declared.engine.steps.Direction as steps
 use Rattle.regress.specs.declared.engine.steps.Direction.TheVariants as ways

@@ -15,6 +15,6 @@ pub use engine::found::{Match, Range};
 pub use engine::groups::Groups;
 pub use engine::matches::Matches;
 pub use regress_front_bytes::are_code_points;
-pub use regress_front_sets::{
+pub use regress_front_tables::{
     Error, Flags, TableError, TableLaw, TableParts, Tables, flags_are_read_back,
 };

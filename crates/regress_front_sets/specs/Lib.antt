@@ -1,13 +1,4 @@
-pub mod FlagWords
-pub mod ErrorTexts
-pub mod TableViews
 pub mod Props
 pub mod Intervals
 pub mod Sets
-pub mod Entries
-pub mod Parts
-pub mod Listed
-pub mod Breaking
 pub mod FirstBytes
-pub mod Telling
-pub mod Folding

@@ -4,7 +4,7 @@ ghost use Rattle.regress_meaning.specs.TableParts.{IntervalsRise};
 ghost use Rattle.regress_front_sets.specs.Props.{IntervalsRise-prop};
 ghost use Rattle.regress_front_sets.specs.Intervals.{ends, ends_of, in_interval, IsRun, gap, inverse};
 
-use crate::error::Error;
+use regress_front_core::Error;
 use crate::interval::{CODE_POINT_MAX, CodePoint, Interval};
 pub use laws::{equal_members_equal_intervals, inverted_twice_is_the_same};
 

@@ -9,8 +9,8 @@ use Rattle.regress_meaning.specs.Tokens.{Mode, Reads, Escape, point, set, groups
 use Rattle.regress_meaning.specs.Grammar.{class_of, member_class, dash_before_member}
 use Rattle.regress_meaning.specs.ReadingClass.{closes_class, read_member, dashed, read_members}
 use Rattle.regress_meaning.specs.Laws.{LeavesLess}
-use Rattle.regress_front_sets.specs.declared.error.Error.{Error}
-use Rattle.regress_front_sets.specs.declared.error.Error.TheVariants.{Syntax, TooDeep, TooManyGroups, TooManyLoops, TooLarge, OutOfMemory}
+use Rattle.regress_front_core.specs.declared.error.Error.{Error}
+use Rattle.regress_front_core.specs.declared.error.Error.TheVariants.{Syntax, TooDeep, TooManyGroups, TooManyLoops, TooLarge, OutOfMemory}
 use Rattle.regress_front_syntax.specs.declared.syntax.Class.{Class as ClassValue, Class-F, fold-roll-Class}
 use Rattle.regress_front_syntax.specs.declared.syntax.Class.TheVariants.{Range, Union, rolls-Range}
 use Rattle.regress_front_syntax.specs.Readings.{IsRead}

@@ -14,8 +14,8 @@ use Rattle.regress_meaning.specs.Limits.{class_depth, depth, opens_nesting, grea
 use Rattle.regress_meaning.specs.Laws.{ContentsBySteps}
 use Rattle.regress_meaning.specs.Reading.{single, no_term, of_class, class_opening}
 use Rattle.regress_meaning.specs.ReadingClass.{closes_class, two_at, opens_strings, SetItem, one_point, any_class, item_class, read_set_atom, read_set_character, behind_bracket, read_range, union_from, read_operand, read_intersection, read_difference, set_strings_at, operand_at, contents_at, union_at, intersection_at, difference_at, read_class}
-use Rattle.regress_front_sets.specs.declared.error.Error.{Error}
-use Rattle.regress_front_sets.specs.declared.error.Error.TheVariants.{Syntax, TooDeep, TooManyGroups, TooManyLoops, TooLarge, OutOfMemory}
+use Rattle.regress_front_core.specs.declared.error.Error.{Error}
+use Rattle.regress_front_core.specs.declared.error.Error.TheVariants.{Syntax, TooDeep, TooManyGroups, TooManyLoops, TooLarge, OutOfMemory}
 use Rattle.regress_front_syntax.specs.Cursors.{unread, SameText}
 use Rattle.regress_front_syntax.specs.declared.cursor.Cursor.{Cursor}
 use Rattle.regress_front_syntax.specs.Readings.{IsRead}

@@ -12,8 +12,8 @@ use Rattle.regress_meaning.specs.Class.{Class, property, sequences, complement, 
 use Rattle.regress_meaning.specs.Tokens.{Mode, Reads, Escape, point, set, groups, guard, as_point, is_octal, greatest, class_letter, control, control_letter, hex_at, unicode_escape, octal_at, decimal_at, key_at, name_at, numbers_from, property_of, property_at, named_reference, octal_or_digit, decimal_escape, identity, escape_at, class_escape_at}
 use Rattle.regress_meaning.proofs.Inversion.{is_at-eq, option-cases}
 use Rattle.regress_meaning.proofs.ScanWords.{differs}
-use Rattle.regress_front_sets.specs.declared.error.Error.{Error}
-use Rattle.regress_front_sets.specs.declared.error.Error.TheVariants.{Syntax, TooDeep, TooManyGroups, TooManyLoops, TooLarge, OutOfMemory}
+use Rattle.regress_front_core.specs.declared.error.Error.{Error}
+use Rattle.regress_front_core.specs.declared.error.Error.TheVariants.{Syntax, TooDeep, TooManyGroups, TooManyLoops, TooLarge, OutOfMemory}
 use Rattle.regress_front_syntax.specs.Readings.{IsNext, IsReading, IsRead}
 use Rattle.regress_front_syntax.specs.Escapes.{from_first, class_control, mode_view}
 use Rattle.regress_front_syntax.specs.declared.mode.Mode as declared

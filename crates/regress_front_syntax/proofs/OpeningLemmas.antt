@@ -10,8 +10,8 @@ use Rattle.regress_meaning.specs.Tokens.{Mode, Reads, guard, begins_name, name_p
 use Rattle.regress_meaning.specs.Grammar.{is_flag, all_differ}
 use Rattle.regress_meaning.specs.Reading as meaning
 use Rattle.regress_meaning.specs.Reading.{of_letters, modifiers_at, angle_opening, question_opening, parenthesis_opening}
-use Rattle.regress_front_sets.specs.declared.error.Error.{Error}
-use Rattle.regress_front_sets.specs.declared.error.Error.TheVariants.{Syntax, TooDeep, TooManyGroups, TooManyLoops, TooLarge, OutOfMemory}
+use Rattle.regress_front_core.specs.declared.error.Error.{Error}
+use Rattle.regress_front_core.specs.declared.error.Error.TheVariants.{Syntax, TooDeep, TooManyGroups, TooManyLoops, TooLarge, OutOfMemory}
 use Rattle.regress_front_syntax.specs.declared.group.Opening.{Opening}
 use Rattle.regress_front_syntax.specs.Readings.{IsRead}
 use Rattle.regress_front_syntax.specs.Openings.{group_of, switched_off, IsOpening}

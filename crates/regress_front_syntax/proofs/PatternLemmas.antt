@@ -12,11 +12,11 @@ use Rattle.regress_meaning.specs.Grammar.{Spells, mode_of, names_apart, opens_na
 use Rattle.regress_meaning.specs.Limits.{SpellsNone, PassesGroups, WithinLimits, depth, quantifiers, opens_group, most_groups}
 use Rattle.regress_meaning.specs.Scan.{after_escape, opened_groups, group_names, scanned_names}
 use Rattle.regress_meaning.specs.Reading.{Front, disjunction_at, whole_tree, read_pattern, ReadsBySteps}
-use Rattle.regress_front_sets.specs.declared.error.Error.{Error}
-use Rattle.regress_front_sets.specs.declared.error.Error.TheVariants.{Syntax as SyntaxError, TooDeep, TooManyGroups, TooManyLoops, TooLarge, OutOfMemory}
+use Rattle.regress_front_core.specs.declared.error.Error.{Error}
+use Rattle.regress_front_core.specs.declared.error.Error.TheVariants.{Syntax as SyntaxError, TooDeep, TooManyGroups, TooManyLoops, TooLarge, OutOfMemory}
 use Rattle.regress_front_syntax.specs.declared.syntax.Syntax.{Syntax}
 use Rattle.regress_front_syntax.specs.Trees.{tree}
-use Rattle.regress_front_syntax.specs.Refusals.{MayRefuse}
+use Rattle.regress_front_core.specs.Refusals.{MayRefuse}
 use Rattle.regress_front_syntax.specs.Parsing.{IsCoherent, IsRefusal, IsWholeAnswer, whole_at}
 use Rattle.regress_front_syntax.proofs.AnswerLemmas.{at, count-less, count-opening}
 

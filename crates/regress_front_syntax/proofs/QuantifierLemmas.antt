@@ -9,12 +9,12 @@ use Rattle.regress_meaning.specs.Grammar.{greedy_at, after_mark}
 use Rattle.regress_meaning.specs.Laws.{LeavesLess}
 use Rattle.regress_meaning.specs.Limits.{depth, quantifiers, opens_nesting, opens_group, opens_quantifier, most_quantifiers}
 use Rattle.regress_meaning.specs.Reading.{Front, bounded, quantified}
-use Rattle.regress_front_sets.specs.declared.error.Error.{Error}
-use Rattle.regress_front_sets.specs.declared.error.Error.TheVariants.{Syntax as SyntaxError, TooDeep, TooManyGroups, TooManyLoops, TooLarge, OutOfMemory}
+use Rattle.regress_front_core.specs.declared.error.Error.{Error}
+use Rattle.regress_front_core.specs.declared.error.Error.TheVariants.{Syntax as SyntaxError, TooDeep, TooManyGroups, TooManyLoops, TooLarge, OutOfMemory}
 use Rattle.regress_front_syntax.specs.declared.cursor.Cursor.{Cursor}
-use Rattle.regress_front_syntax.specs.declared.syntax.Quantifier.{Quantifier}
+use Rattle.regress_front_core.specs.declared.quantifier.Quantifier.{Quantifier}
 use Rattle.regress_front_syntax.specs.Cursors.{unread, SameText}
-use Rattle.regress_front_syntax.specs.Trees.{most}
+use Rattle.regress_front_core.specs.Quantifiers.{most}
 use Rattle.regress_front_syntax.specs.Words.{quantifier_at, quantifier_view}
 use Rattle.regress_front_syntax.specs.Parsing.{Place, Grows, IsRefusal, IsQuantifier, ReadsQuantifier, PassesQuantifiers, with_quantifier, front_to}
 use Rattle.regress_front_syntax.proofs.AnswerLemmas.{at, Leads_refl, Leads_trans, quantified-none}

@@ -11,8 +11,8 @@ use Rattle.regress_meaning.specs.Laws.{LeavesLess}
 use Rattle.regress_meaning.specs.Limits.{class_depth, depth, quantifiers, opens_nesting, greatest_depth}
 use Rattle.regress_meaning.specs.ReadingClass.{read_class}
 use Rattle.regress_meaning.specs.Reading.{Front, Opening, assertion, single, lookahead, lookbehind, group, named_group, uncaptured, modifiers, no_term, of_class, opening, escape_opening, class_opening, parenthesis_opening, quantified, read_term, disjunction_at, term_at}
-use Rattle.regress_front_sets.specs.declared.error.Error.{Error}
-use Rattle.regress_front_sets.specs.declared.error.Error.TheVariants.{Syntax as SyntaxError, TooDeep, TooManyGroups, TooManyLoops, TooLarge, OutOfMemory}
+use Rattle.regress_front_core.specs.declared.error.Error.{Error}
+use Rattle.regress_front_core.specs.declared.error.Error.TheVariants.{Syntax as SyntaxError, TooDeep, TooManyGroups, TooManyLoops, TooLarge, OutOfMemory}
 use Rattle.regress_front_syntax.specs.declared.escape.Escape.{Escape as EscapeValue}
 use Rattle.regress_front_syntax.specs.declared.syntax.Syntax.{Syntax}
 use Rattle.regress_front_syntax.specs.Escapes.{escape_view}

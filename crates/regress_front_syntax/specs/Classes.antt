@@ -7,8 +7,8 @@ use Rattle.regress_meaning.specs.Tokens.{Mode, Reads, Escape, point, guard}
 use Rattle.regress_meaning.specs.ReadingClass as meaning_set
 use Rattle.regress_meaning.specs.ReadingClass.{dashed, read_members, item_class}
 use Rattle.regress_meaning.specs.Limits.{class_depth}
-use Rattle.regress_front_sets.specs.declared.error.Error.{Error}
-use Rattle.regress_front_sets.specs.declared.error.Error.TheVariants.{Syntax, OutOfMemory}
+use Rattle.regress_front_core.specs.declared.error.Error.{Error}
+use Rattle.regress_front_core.specs.declared.error.Error.TheVariants.{Syntax, OutOfMemory}
 use Rattle.regress_front_syntax.specs.declared.syntax.Class.{Class}
 use Rattle.regress_front_syntax.specs.declared.class_set.SetItem.{SetItem}
 use Rattle.regress_front_syntax.specs.declared.class_set.SetItem.TheVariants.{Point, Set}

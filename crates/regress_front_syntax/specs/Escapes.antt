@@ -4,7 +4,7 @@ use Rattle.std.specs.Global.{Vec}
 use Rattle.regress_meaning.specs.Text.{is_at}
 use Rattle.regress_meaning.specs.Class.{is_ascii_word}
 use Rattle.regress_meaning.specs.Tokens as meaning
-use Rattle.regress_front_sets.specs.TableViews.{table}
+use Rattle.regress_front_tables.specs.TableViews.{table}
 use Rattle.regress_front_syntax.specs.declared.mode.Mode.{Mode}
 use Rattle.regress_front_syntax.specs.declared.escape.Escape.{Escape}
 use Rattle.regress_front_syntax.specs.declared.escape.Escape.TheVariants.{Point, Set, Groups}

@@ -5,6 +5,5 @@ pub mod Openings
 pub mod Names
 pub mod Parsing
 pub mod Readings
-pub mod Refusals
 pub mod Trees
 pub mod Words

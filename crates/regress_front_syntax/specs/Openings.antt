@@ -5,8 +5,8 @@ use Rattle.regress_meaning.specs.Flags.{settings_of}
 use Rattle.regress_meaning.specs.Text.{is_at, span}
 use Rattle.regress_meaning.specs.Grammar.{is_flag}
 use Rattle.regress_meaning.specs.Reading as meaning
-use Rattle.regress_front_sets.specs.declared.error.Error.{Error}
-use Rattle.regress_front_sets.specs.declared.error.Error.TheVariants.{Syntax, OutOfMemory}
+use Rattle.regress_front_core.specs.declared.error.Error.{Error}
+use Rattle.regress_front_core.specs.declared.error.Error.TheVariants.{Syntax, OutOfMemory}
 use Rattle.regress_front_syntax.specs.declared.group.Opening.{Opening}
 use Rattle.regress_front_syntax.specs.declared.group.Opening.TheVariants.{Capture, Group, Modified, Lookahead, Lookbehind}
 use Rattle.regress_front_syntax.specs.Trees.{capture_of}

@@ -5,13 +5,14 @@ use Rattle.regress_meaning.specs.Pattern.{Pattern, names_of, character, class, r
 use Rattle.regress_meaning.specs.Tokens.{Mode, Reads}
 use Rattle.regress_meaning.specs.Limits.{WithinLimits, class_depth, depth, quantifiers, opens_nesting, opens_group, opens_quantifier, greatest_depth, most_groups, most_quantifiers}
 use Rattle.regress_meaning.specs.Reading.{Front, Opening, quantified, closed, whole_tree, disjunction_at, read_term, single, no_term, class_opening}
-use Rattle.regress_front_sets.specs.declared.error.Error.{Error}
-use Rattle.regress_front_sets.specs.declared.error.Error.TheVariants.{Syntax as SyntaxError, TooDeep, TooManyGroups, TooManyLoops, TooLarge, OutOfMemory}
+use Rattle.regress_front_core.specs.declared.error.Error.{Error}
+use Rattle.regress_front_core.specs.declared.error.Error.TheVariants.{Syntax as SyntaxError, TooDeep, TooManyGroups, TooManyLoops, TooLarge, OutOfMemory}
 use Rattle.regress_front_syntax.specs.declared.syntax.Syntax.{Syntax}
-use Rattle.regress_front_syntax.specs.declared.syntax.Quantifier.{Quantifier}
+use Rattle.regress_front_core.specs.declared.quantifier.Quantifier.{Quantifier}
 use Rattle.regress_front_syntax.specs.declared.syntax.Class.{Class}
 use Rattle.regress_front_syntax.specs.declared.parser.Parser.{Parser}
-use Rattle.regress_front_syntax.specs.Trees.{tree, class_view, most}
+use Rattle.regress_front_syntax.specs.Trees.{tree, class_view}
+use Rattle.regress_front_core.specs.Quantifiers.{most}
 use Rattle.regress_front_syntax.specs.Cursors.{unread}
 use Rattle.regress_front_syntax.specs.Words.{stands_for_itself}
 

@@ -1,8 +1,8 @@
 -- What the parser's calls read, against the definitions of what stands at the front of a text.
 use Rattle.std.specs.Prelude.{◌≡◌, ℕ, Bool, List, [], ◌∷◌, Option, Some, None, Result, Ok, Err}
 use Rattle.regress_meaning.specs.Tokens.{Reads}
-use Rattle.regress_front_sets.specs.declared.error.Error.{Error}
-use Rattle.regress_front_sets.specs.declared.error.Error.TheVariants.{Syntax, OutOfMemory}
+use Rattle.regress_front_core.specs.declared.error.Error.{Error}
+use Rattle.regress_front_core.specs.declared.error.Error.TheVariants.{Syntax, OutOfMemory}
 
 -- the code point at the front was taken, where there is one
 abbrev pub IsNext : List ℕ → Option ℕ → List ℕ → Type 0

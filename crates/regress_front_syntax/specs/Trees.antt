@@ -1,10 +1,8 @@
 -- The trees that the values of the parser stand for.
 use Rattle.std.specs.Prelude.{ℕ, List, [], ◌∷◌, None, Some, map, fold}
-use Rattle.std.specs.Option.{unwrap_or}
+use Rattle.regress_front_core.specs.Quantifiers.{most}
 use Rattle.regress_meaning.specs.Class as meaning
 use Rattle.regress_meaning.specs.Pattern.{Pattern, Settings, nothing, character, any, class, class_escape, sequence, choice, capture, grouped, modified, repeated, look, reference, line_start, line_end, word_boundary}
-use Rattle.regress_meaning.specs.Tokens.{greatest}
-use Rattle.regress_front_syntax.specs.declared.syntax.Quantifier.{Quantifier}
 use Rattle.regress_front_syntax.specs.declared.syntax.Modifiers.{Modifiers}
 use Rattle.regress_front_syntax.specs.declared.syntax.Class.{Class}
 use Rattle.regress_front_syntax.specs.declared.syntax.Class.TheOpen.{Class-F}
@@ -51,10 +49,6 @@ abbrev pub choice_of : List Pattern → Pattern
 choice_of [] = nothing
 choice_of (p ∷ []) = p
 choice_of (p ∷ q ∷ ps) = choice p (choice_of (q ∷ ps))
-
--- the greatest number of times that a quantifier allows
-abbrev pub most : Quantifier → ℕ
-most q = unwrap_or q.max greatest
 
 -- a capturing group, whose name is empty where it has none
 abbrev pub capture_of : ℕ → List ℕ → Pattern → Pattern

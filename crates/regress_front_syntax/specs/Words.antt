@@ -5,8 +5,8 @@ use lib.Utf8.{scalar}
 use Rattle.regress_meaning.specs.Text.{◌∈◌}
 use Rattle.regress_meaning.specs.Tokens.{Reads, Bounds, decimal_at, braced_end, bounds_at, greatest}
 use Rattle.regress_meaning.specs.Grammar.{greedy_at, after_mark}
-use Rattle.regress_front_syntax.specs.declared.syntax.Quantifier.{Quantifier}
-use Rattle.regress_front_syntax.specs.Trees.{most}
+use Rattle.regress_front_core.specs.declared.quantifier.Quantifier.{Quantifier}
+use Rattle.regress_front_core.specs.Quantifiers.{most}
 
 -- a decimal number, which stops at the greatest `usize`
 abbrev pub count_at : Reads ℕ

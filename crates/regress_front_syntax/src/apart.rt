@@ -5,7 +5,7 @@ ghost use Rattle.regress_front_syntax.specs.Trees.{tree, sequence_of, choice_of,
 ghost use Rattle.regress_front_syntax.specs.Names.{AreJoined, IsNaming};
 
 use crate::syntax::Syntax;
-use regress_front_sets::{CodePoint, Error};
+use regress_front_tables::{CodePoint, Error};
 use std::alloc::Global;
 use std::collections::BTreeSet;
 use std::mem::swap;

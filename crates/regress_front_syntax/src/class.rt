@@ -13,7 +13,7 @@ use crate::cursor::Cursor;
 use crate::escape::Escape;
 use crate::mode::Mode;
 use crate::syntax::Class;
-use regress_front_sets::{CodePoint, Error, MAX_NESTING_DEPTH};
+use regress_front_tables::{CodePoint, Error, MAX_NESTING_DEPTH};
 use std::alloc::Global;
 
 /// Why a class is refused that has no closing bracket.
@@ -193,7 +193,7 @@ impl Cursor<'_> {
 mod tests {
     use super::*;
     use crate::cursor::tests::points;
-    use regress_front_sets::Tables;
+    use regress_front_tables::Tables;
     use std::test::Fail;
 
     /// The members of a class, written out, or the error.

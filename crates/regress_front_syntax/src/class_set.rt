@@ -17,7 +17,7 @@ use crate::cursor::{Cursor, is_one_of};
 use crate::escape::Escape;
 use crate::mode::Mode;
 use crate::syntax::Class;
-use regress_front_sets::{CodePoint, Error};
+use regress_front_tables::{CodePoint, Error};
 use std::alloc::Global;
 
 /// What stands side by side in a class.
@@ -439,7 +439,7 @@ impl Cursor<'_> {
 mod tests {
     use super::*;
     use crate::cursor::tests::points;
-    use regress_front_sets::Tables;
+    use regress_front_tables::Tables;
     use std::alloc::AllocError;
     use std::test::Fail;
 

@@ -4,7 +4,7 @@ ghost use Rattle.std.specs.List.{prefix_len};
 ghost use Rattle.regress_meaning.specs.Text.{is_at, holds, span, span_up_to};
 ghost use Rattle.regress_front_syntax.specs.Readings.{IsNext, Tells};
 
-use regress_front_sets::CodePoint;
+use regress_front_tables::CodePoint;
 
 /// Whether the code point is one of these characters of ASCII.
 pub(crate) fn is_one_of(point: CodePoint, marks: &str) -> bool

@@ -12,7 +12,7 @@ ghost use Rattle.regress_front_syntax.specs.Words.{characters_of};
 use crate::cursor::{Cursor, is_one_of};
 use crate::mode::{Mode, groups_of_name};
 use crate::syntax::Class;
-use regress_front_sets::{CodePoint, Error, is_ascii_word};
+use regress_front_tables::{CodePoint, Error, is_ascii_word};
 use std::alloc::Global;
 
 /// Why an escape is refused.
@@ -371,7 +371,7 @@ mod tests {
     use super::*;
     use crate::cursor::tests::points;
     use crate::scan::mode;
-    use regress_front_sets::{Flags, Tables};
+    use regress_front_tables::{Flags, Tables};
     use std::test::Fail;
 
     /// What an escape means: its code point, the number of its first group, that it is a class, or the error's text.

@@ -10,7 +10,7 @@ ghost use Rattle.regress_meaning.specs.Reading.{modifiers_at, angle_opening, que
 use crate::cursor::{Cursor, is_one_of};
 use crate::mode::Mode;
 use crate::syntax::{Modifiers, Syntax};
-use regress_front_sets::{CodePoint, Error};
+use regress_front_tables::{CodePoint, Error};
 use std::alloc::Global;
 
 /// What an opening parenthesis begins, up to the contents.

@@ -15,4 +15,5 @@ mod scan;
 mod syntax;
 
 pub use parser::parse;
-pub use syntax::{Class, Modifiers, Quantifier, Syntax};
+pub use regress_front_tables::Quantifier;
+pub use syntax::{Class, Modifiers, Syntax};

@@ -1,10 +1,10 @@
 //! What holds for a whole pattern while it is read.
 ghost use Rattle.std.specs.Prelude.{◌≡◌, ◌≤◌, length, IfOk, IfErr, map};
 ghost use Rattle.regress_meaning.specs.Tokens.{numbers_from, begins_name, continues_name};
-ghost use Rattle.regress_front_sets.specs.TableViews.{table};
+ghost use Rattle.regress_front_tables.specs.TableViews.{table};
 
 use crate::cursor::is_one_of;
-use regress_front_sets::{CodePoint, Error, Tables};
+use regress_front_tables::{CodePoint, Error, Tables};
 use std::alloc::Global;
 
 /// What holds for the whole pattern: how its escapes and classes are read ("Patterns", its grammar parameters).

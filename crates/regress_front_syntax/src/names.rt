@@ -3,13 +3,13 @@ ghost use Rattle.std.specs.Prelude.{◌≡◌};
 ghost use Rattle.regress_meaning.specs.Text.{is_at};
 ghost use Rattle.regress_meaning.specs.Tokens.{name_point, name_at, key_at};
 ghost use Rattle.regress_meaning.specs.Class.{is_ascii_word};
-ghost use Rattle.regress_front_sets.specs.TableViews.{table};
+ghost use Rattle.regress_front_tables.specs.TableViews.{table};
 ghost use Rattle.regress_front_syntax.specs.Readings.{IsReading, IsRead, IsTried};
 ghost use Rattle.regress_front_syntax.specs.Words.{key_of};
 
 use crate::cursor::Cursor;
 use crate::mode::{begins_name, continues_name};
-use regress_front_sets::{CodePoint, Error, Tables, is_ascii_word};
+use regress_front_tables::{CodePoint, Error, Tables, is_ascii_word};
 use std::alloc::Global;
 
 impl<'p> Cursor<'p> {

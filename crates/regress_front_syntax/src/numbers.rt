@@ -7,8 +7,8 @@ ghost use Rattle.regress_front_syntax.specs.Readings.{IsReading};
 ghost use Rattle.regress_front_syntax.specs.Words.{count_at, braced_at, bounds_view, quantifier_at, quantifier_view};
 
 use crate::cursor::Cursor;
-use crate::syntax::Quantifier;
-use regress_front_sets::{CODE_POINT_MAX, CodePoint};
+use regress_front_tables::Quantifier;
+use regress_front_tables::{CODE_POINT_MAX, CodePoint};
 
 /// Whether the code point is a decimal digit.
 fn is_decimal_digit(point: CodePoint) -> bool

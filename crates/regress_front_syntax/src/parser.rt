@@ -7,9 +7,9 @@ ghost use Rattle.regress_front_syntax.specs.Trees.{tree};
 ghost use Rattle.regress_meaning.specs.Grammar.{Spells, ends_alternative, mode_of, tree_of};
 ghost use Rattle.regress_meaning.specs.Limits.{WithinLimits};
 ghost use Rattle.regress_meaning.specs.Scan.{scanned_names};
-ghost use Rattle.regress_front_sets.specs.FlagWords.{options};
-ghost use Rattle.regress_front_sets.specs.TableViews.{table};
-ghost use Rattle.regress_front_syntax.specs.Refusals.{MayRefuse};
+ghost use Rattle.regress_front_core.specs.FlagWords.{options};
+ghost use Rattle.regress_front_tables.specs.TableViews.{table};
+ghost use Rattle.regress_front_core.specs.Refusals.{MayRefuse};
 ghost use Rattle.regress_meaning.specs.Reading.{disjunction_at, alternative_at, term_at};
 ghost use Rattle.regress_meaning.specs.Reading.{escape_opening, class_opening, parenthesis_opening};
 
@@ -20,7 +20,7 @@ use crate::group::Opening;
 use crate::mode::Mode;
 use crate::scan::mode;
 use crate::syntax::{Quantifier, Syntax};
-use regress_front_sets::{
+use regress_front_tables::{
     CodePoint, Error, Flags, MAX_CAPTURE_GROUPS, MAX_LOOPS, MAX_NESTING_DEPTH, Tables,
 };
 use std::alloc::Global;

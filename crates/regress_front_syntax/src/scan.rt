@@ -2,13 +2,13 @@
 ghost use Rattle.std.specs.Prelude.{◌≡◌, ◌==◌, not, false, OnOk, IfOk, IfErr, if◌then◌else◌};
 ghost use Rattle.regress_meaning.specs.Grammar.{opens_name, holds_a_name, mode_of};
 ghost use Rattle.regress_meaning.specs.Scan.{after_escape, opened_groups, group_names, scanned_names};
-ghost use Rattle.regress_front_sets.specs.FlagWords.{options};
-ghost use Rattle.regress_front_sets.specs.TableViews.{table};
+ghost use Rattle.regress_front_core.specs.FlagWords.{options};
+ghost use Rattle.regress_front_tables.specs.TableViews.{table};
 ghost use Rattle.regress_front_syntax.specs.Escapes.{mode_view, texts, opened};
 
 use crate::cursor::Cursor;
 use crate::mode::Mode;
-use regress_front_sets::{CodePoint, Error, Flags, Tables};
+use regress_front_tables::{CodePoint, Error, Flags, Tables};
 use std::alloc::Global;
 
 /// Whether a scan stands in a class behind the code point. Brackets inside a class are not paired.

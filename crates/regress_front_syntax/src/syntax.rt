@@ -1,18 +1,7 @@
 //! The syntax tree of a pattern, as the parser makes it.
 
-use regress_front_sets::CodePoint;
+use regress_front_tables::CodePoint;
 use std::ops::Range;
-
-/// How often something is matched one after another ("Quantifier").
-#[derive(Debug, Clone, Copy, Drop)]
-pub struct Quantifier {
-    /// At least so often.
-    pub min: usize,
-    /// At most so often; `None` for any number of times.
-    pub max: Option<usize>,
-    /// Whether more is preferred to less.
-    pub greedy: bool,
-}
 
 /// What modifiers switch on, or off ("RegularExpressionModifiers").
 #[derive(Debug, Clone, Copy, Drop)]

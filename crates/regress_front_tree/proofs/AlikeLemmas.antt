@@ -8,53 +8,15 @@ use Rattle.regress_meaning.specs.TableParts.{is_code_point}
 use Rattle.regress_meaning.specs.Pattern.{Pattern, Settings}
 use Rattle.regress_meaning.specs.Meaning.{State, Direction, Forward, Backward, Context, beside, stepped, step, outcomes}
 use Rattle.regress_front_syntax.specs.Trees.{sequence_of, choice_of}
-use Rattle.regress_front_tree.specs.Trees.{Tree, char, byte_set, char_set, any, any_in_line, bracket, cat_of}
-use Rattle.regress_front_tree.specs.TreeMeaning.{one, node_outcomes}
+use Rattle.regress_front_nodes.specs.Trees.{Tree, char, byte_set, char_set, any, any_in_line, bracket, cat_of}
+use Rattle.regress_front_nodes.specs.TreeMeaning.{one, node_outcomes}
 use Rattle.regress_meaning.specs.Laws.{IsInside}
-use Rattle.regress_front_tree.specs.Alike.{AreAlike, GoAlike, StayInside}
+use Rattle.regress_front_nodes.specs.Alike.{AreAlike, GoAlike, StayInside}
 use Rattle.regress_front_tree.specs.Lowering.{direction, is_character, taken, Takes, cat_made, in_reading_order, HasArms, one_arm, two_halves}
-use Rattle.regress_front_tree.proofs.DistinctLemmas.{joined-alike, followed-alike}
-
--- two tests that agree on code points agree on lists of them
-pub list_all-agree : (p q : ℕ → Bool) → ((c : ℕ) → is_code_point c → p c ≡ q c) → (cs : List ℕ) → All is_code_point cs → list_all p cs ≡ list_all q cs
-list_all-agree p q same [] h = refl
-list_all-agree p q same (c ∷ cs) h = rw (same c (All-head is_code_point c cs h), list_all-agree p q same cs (All-tail is_code_point c cs h)) refl
-
--- all ways from what all ways lead to
-pub flat_map-again : {X Y Z : Type 0} (f : Y → List Z) (g : X → List Y) (xs : List X) → flat_map f (flat_map g xs) ≡ flat_map (λ x. flat_map f (g x)) xs
-flat_map-again f g [] = refl
-flat_map-again f g (x ∷ xs) = flat_map-append f (g x) (flat_map g xs) ∙ ap (λ ys. flat_map f (g x) ++ ys) (flat_map-again f g xs)
-
-pub flat_map-self : {X : Type 0} (xs : List X) → flat_map (λ x. x ∷ []) xs ≡ xs
-flat_map-self [] = refl
-flat_map-self (x ∷ xs) = ap (λ ys. x ∷ ys) (flat_map-self xs)
+use Rattle.regress_front_nodes.proofs.StepLemmas.{list_all-agree, step-agree, flat_map-again, flat_map-self}
+use Rattle.regress_front_nodes.proofs.DistinctLemmas.{joined-alike, followed-alike}
 
 module _ (w : Context) (valid : All is_code_point w.text) where
-  -- code points beside a place are the text's
-  pub beside-valid : (dir : Direction) (k p : ℕ) (cs : List ℕ) (q : ℕ) → beside w dir k p ≡ Some (cs, q) → All is_code_point cs
-  unfolding beside
-  beside-valid Forward k p cs q e = by_room (nat_le (p + k) (length w.text)) e
-    where
-      by_room : (b : Bool) → (let found : Option (List ℕ × ℕ) = Some (slice_range w.text p (p + k), p + k) in (if b then found else None) ≡ Some (cs, q)) → All is_code_point cs
-      by_room true h = let pair : ◌≡◌ {A = List ℕ × ℕ} (slice_range w.text p (p + k), p + k) (cs, q) = cc in let same : slice_range w.text p (p + k) ≡ cs = ap (λ (x : List ℕ × ℕ). x.0) pair in
-          rw (← same) (All-take is_code_point (p + k - p) (drop p w.text) (All-drop is_code_point p w.text valid))
-      by_room false h = absurd (cc)
-  beside-valid Backward k p cs q e = by_room (nat_le k p) e
-    where
-      by_room : (b : Bool) → (let found : Option (List ℕ × ℕ) = Some (slice_range w.text (p - k) p, p - k) in (if b then found else None) ≡ Some (cs, q)) → All is_code_point cs
-      by_room true h = let pair : ◌≡◌ {A = List ℕ × ℕ} (slice_range w.text (p - k) p, p - k) (cs, q) = cc in let same : slice_range w.text (p - k) p ≡ cs = ap (λ (x : List ℕ × ℕ). x.0) pair in
-          rw (← same) (All-take is_code_point (p - (p - k)) (drop (p - k) w.text) (All-drop is_code_point (p - k) w.text valid))
-      by_room false h = absurd (cc)
-
-  -- two tests that agree on lists of code points step alike
-  pub step-agree : (dir : Direction) (k : ℕ) (f g : List ℕ → Bool) → ((cs : List ℕ) → All is_code_point cs → f cs ≡ g cs) → (s : State) → step w dir k f s ≡ step w dir k g s
-  unfolding step
-  step-agree dir k f g same s = by_found (beside w dir k s.place) refl
-    where
-      by_found : (o : Option (List ℕ × ℕ)) → beside w dir k s.place ≡ o → stepped w f s o ≡ stepped w g s o
-      by_found None e = refl
-      by_found (Some (cs, p)) e = rw (same cs (beside-valid dir k s.place cs p e)) refl
-
   -- a tree that takes one character steps over one
   character-steps : (t : Tree) → is_character t ≡ true → (dir : Direction) (s : State) → node_outcomes w t dir s ≡ one w dir (taken t) s
   unfolding node_outcomes
@@ -67,7 +29,7 @@ module _ (w : Context) (valid : All is_code_point w.text) where
   character-steps _ e dir s = absurd (cc)
 
   pub takes-steps : (t : Tree) (test : ℕ → Bool) → Takes t test → (dir : Direction) (s : State) → node_outcomes w t dir s ≡ step w dir 1 (list_all test) s
-  takes-steps t test h dir s = character-steps t h.alone dir s ∙ step-agree dir 1 (list_all (taken t)) (list_all test) (list_all-agree (taken t) test h.members) s
+  takes-steps t test h dir s = character-steps t h.alone dir s ∙ step-agree w valid dir 1 (list_all (taken t)) (list_all test) (list_all-agree (taken t) test h.members) s
 
   -- parts one after another
 

@@ -2,8 +2,8 @@
 use Rattle.std.proofs.Common.{◌≡◌, ◌+◌, ◌*◌, ◌≤◌, List, [], ◌∷◌, ◌++◌, length, ap, subst, arith, rules, refl, length-append, map, Option, None, Some, IsSome}
 use Rattle.std.specs.Option.{option_to_list, unwrap_or}
 use Rattle.std.proofs.lemmas.List.{append-nil, append_assoc, length-map}
-use Rattle.regress_front_tree.specs.declared.node.Node.{Node}
-use Rattle.regress_front_tree.specs.Trees.{Tree, tree}
+use Rattle.regress_front_nodes.specs.declared.node.Node.{Node}
+use Rattle.regress_front_nodes.specs.Trees.{Tree, tree}
 use Rattle.regress_front_tree.specs.Lowering.{HasArms, one_arm, two_halves}
 use Rattle.regress_front_tree.specs.Pairing.{in_pairs}
 

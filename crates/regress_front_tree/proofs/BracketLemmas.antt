@@ -13,11 +13,11 @@ use Rattle.std.proofs.lemmas.Map.Views.{All-map-IsPermutation}
 use Rattle.regress_meaning.specs.Text.{same_text, holds}
 use Rattle.regress_meaning.specs.Table.{Table, canon, last_code_point}
 use Rattle.regress_meaning.specs.Pattern.{Settings}
-use Rattle.regress_front_sets.specs.Folding.{Lists}
+use Rattle.regress_front_tables.specs.Folding.{Lists}
 use Rattle.regress_front_sets.specs.declared.code_point_set.CodePointSet.{CodePointSet}
 use Rattle.regress_front_sets.specs.Intervals.{ends_of}
 use Rattle.regress_front_sets.specs.Sets.{in_set}
-use Rattle.regress_front_tree.specs.Trees.{char, char_set, bracket}
+use Rattle.regress_front_nodes.specs.Trees.{char, char_set, bracket}
 use Rattle.regress_meaning.specs.TableParts.{is_code_point}
 use Rattle.regress_meaning.specs.Class.{among}
 use Rattle.regress_front_tree.specs.Lowering.{AreByLength, LengthsFall, Takes, same_point}

@@ -14,10 +14,10 @@ use Rattle.std.proofs.lemmas.List.Folds.{list_any-append}
 use Rattle.regress_meaning.specs.Text.{between, same_text}
 use Rattle.regress_meaning.specs.Table.{last_code_point, some_below, closure}
 use Rattle.regress_meaning.specs.TableParts.{in_intervals, IntervalsRise, is_code_point, entry, ascii_lower}
-use Rattle.regress_front_sets.specs.Entries.{entry_of}
+use Rattle.regress_front_tables.specs.Entries.{entry_of}
 use Rattle.regress_meaning.specs.Class.{Strings, among, of_list, only, is_ascii_word, is_word}
-use Rattle.regress_front_sets.specs.declared.tables.Tables.{Tables}
-use Rattle.regress_front_sets.specs.TableViews.{table}
+use Rattle.regress_front_tables.specs.declared.tables.Tables.{Tables}
+use Rattle.regress_front_tables.specs.TableViews.{table}
 use Rattle.regress_front_sets.specs.declared.interval.Interval.{Interval}
 use Rattle.regress_front_sets.specs.declared.code_point_set.CodePointSet.{CodePointSet}
 use Rattle.regress_front_sets.specs.Intervals.{ends_of}

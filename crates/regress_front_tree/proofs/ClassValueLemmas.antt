@@ -7,8 +7,8 @@ use Rattle.regress_meaning.specs.Table.{Table}
 use Rattle.regress_meaning.specs.Class as meaning
 use Rattle.regress_meaning.specs.Class.{Strings, only, value_of, among}
 use Rattle.regress_meaning.specs.TableParts.{is_code_point}
-use Rattle.regress_front_sets.specs.declared.tables.Tables.{Tables}
-use Rattle.regress_front_sets.specs.TableViews.{table}
+use Rattle.regress_front_tables.specs.declared.tables.Tables.{Tables}
+use Rattle.regress_front_tables.specs.TableViews.{table}
 use Rattle.regress_meaning.specs.Points.{ClassIsOfPoints}
 use Rattle.regress_front_syntax.specs.declared.syntax.Class.{Class}
 use Rattle.regress_front_syntax.specs.Trees.{class_view, union_of}

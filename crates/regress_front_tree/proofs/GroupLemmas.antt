@@ -9,10 +9,10 @@ use Rattle.std.proofs.lemmas.List.Elements.{All-nil, All-cons, All-head, All-tai
 use Rattle.std.proofs.lemmas.List.Sums.{sum_by-append}
 use Rattle.std.proofs.lemmas.Option.{slice_get_past}
 use Rattle.regress_meaning.specs.TableParts.{is_code_point}
-use Rattle.regress_front_tree.specs.Trees.{Tree, char, byte_set, char_set, cat, no_part, any, any_in_line, capture, back, bracket, string_set, cat_of}
-use Rattle.regress_front_tree.specs.WellFormed.{HoldsNoSingleLoop, group_ids, goals, AreLawful}
-use Rattle.regress_front_tree.specs.Sizes.{loops}
-use Rattle.regress_front_tree.specs.WellFormed.{name_by_number}
+use Rattle.regress_front_nodes.specs.Trees.{Tree, char, byte_set, char_set, cat, no_part, any, any_in_line, capture, back, bracket, string_set, cat_of}
+use Rattle.regress_front_nodes.specs.WellFormed.{HoldsNoSingleLoop, group_ids, goals, AreLawful}
+use Rattle.regress_front_nodes.specs.Sizes.{loops}
+use Rattle.regress_front_nodes.specs.WellFormed.{name_by_number}
 use Rattle.regress_front_tree.specs.Lowering.{is_character, in_reading_order}
 use Rattle.regress_front_tree.proofs.SameLemmas.{Same, option_or-none}
 

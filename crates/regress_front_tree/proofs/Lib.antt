@@ -2,7 +2,6 @@ pub mod BracketLemmas
 pub mod ClassLemmas
 pub mod ClassValueLemmas
 pub mod ClassViewLaws
-pub mod DistinctLemmas
 pub mod AlikeLemmas
 pub mod StringLemmas
 pub mod SameLemmas
@@ -11,17 +10,8 @@ pub mod NumberLemmas
 pub mod LoweredLemmas
 pub mod LoweredAlike
 pub mod NameTexts
-pub mod TreeLaws
 pub mod ArmLemmas
 pub mod SequenceLemmas
 pub mod SyntaxLaws
 pub mod LowerableLemmas
 pub mod LoweringLemmas
-pub mod NodeLemmas
-pub mod KindLemmas
-pub mod CopyLemmas
-pub mod WalkLemmas
-pub mod EmptyBrackets
-pub mod PieceLemmas
-pub mod PieceOutcomes
-pub mod ChangeLemmas

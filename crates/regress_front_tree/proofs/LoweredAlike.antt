@@ -13,11 +13,11 @@ use Rattle.regress_meaning.specs.Pattern as meaning
 use Rattle.regress_meaning.specs.Pattern.{Pattern, Settings}
 use Rattle.regress_meaning.specs.Laws.{LiesIn, IsInside}
 use Rattle.regress_meaning.specs.Meaning.{State, Direction, Forward, Backward, Context, step, same_all, closed, class_steps, captured, clear_from, cleared, repeat_group, references, outcomes}
-use Rattle.regress_front_tree.specs.Trees.{Tree, back, string_set, cat_of}
-use Rattle.regress_front_tree.specs.TreeMeaning.{ignoring, alternatives, node_outcomes}
-use Rattle.regress_front_tree.specs.Alike.{distinct, GoAlike}
+use Rattle.regress_front_nodes.specs.Trees.{Tree, back, string_set, cat_of}
+use Rattle.regress_front_nodes.specs.TreeMeaning.{ignoring, alternatives, node_outcomes}
+use Rattle.regress_front_nodes.specs.Alike.{distinct, GoAlike}
 use Rattle.regress_front_tree.specs.Lowering.{direction, cat_made, in_reading_order, class_value, LowersClass, Lowers, LowersAll, of_character, of_any, of_class, of_negated_class, of_class_escape, of_terms, of_arms, of_capture, of_group, of_modified, of_repeated, of_look, of_reference, of_line_start, of_line_end, of_word_boundary, no_pattern, and_next}
-use Rattle.regress_front_tree.proofs.DistinctLemmas.{changed-alike, looked-alike, iterated-alike}
+use Rattle.regress_front_nodes.proofs.DistinctLemmas.{changed-alike, looked-alike, iterated-alike}
 use Rattle.regress_front_tree.proofs.AlikeLemmas.{takes-steps, made-outcomes, AllAlike, Stays, terms-alike, arms-outcomes, arms-alike}
 use Rattle.regress_front_tree.proofs.StringLemmas.{among-All, each-string, like, like-sized, empty-agrees, no_empty-agrees, arms-of-class}
 

@@ -11,8 +11,8 @@ use Rattle.regress_meaning.specs.Limits.{quantifiers, most_groups}
 use Rattle.regress_meaning.specs.Points.{ClassHoldsNoStrings, HoldsNoStrings}
 use Rattle.regress_meaning.specs.Weights.{weight}
 use Rattle.regress_front_syntax.specs.Trees.{sequence_of, choice_of}
-use Rattle.regress_front_tree.specs.Trees.{Tree, char, byte_set, char_set, any, any_in_line, line_start, line_end, boundary, back, bracket, cat_of}
-use Rattle.regress_front_tree.specs.Sizes.{size}
+use Rattle.regress_front_nodes.specs.Trees.{Tree, char, byte_set, char_set, any, any_in_line, line_start, line_end, boundary, back, bracket, cat_of}
+use Rattle.regress_front_nodes.specs.Sizes.{size}
 use Rattle.regress_front_tree.specs.Lowered.{IsLowered}
 use Rattle.regress_front_tree.specs.Lowering.{is_character, cat_made, in_reading_order, HasArms, one_arm, two_halves, class_arms, class_value, LowersClass, Lowers, of_character, of_any, of_class, of_negated_class, of_class_escape, of_terms, of_arms, of_capture, of_group, of_modified, of_repeated, of_look, of_reference, of_line_start, of_line_end, of_word_boundary, LowersAll, no_pattern, and_next}
 use Rattle.regress_front_tree.proofs.SameLemmas.{same-push, same-made, same-arms}

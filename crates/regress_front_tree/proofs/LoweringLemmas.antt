@@ -6,13 +6,13 @@ use Rattle.std.proofs.lemmas.List.{take_more, map_push, length-map}
 use Rattle.regress_meaning.specs.Table.{Table}
 use Rattle.regress_meaning.specs.Pattern.{Pattern, Settings, nothing, modified}
 use Rattle.regress_meaning.specs.Meaning.{is_line_end}
-use Rattle.regress_front_sets.specs.TableViews.{table}
+use Rattle.regress_front_tables.specs.TableViews.{table}
 use Rattle.regress_front_syntax.specs.Trees as parsed
 use Rattle.regress_front_syntax.specs.declared.syntax.Syntax.{Syntax}
-use Rattle.regress_front_tree.specs.declared.node.Node.{Node}
+use Rattle.regress_front_nodes.specs.declared.node.Node.{Node}
 use Rattle.regress_front_tree.specs.declared.lowering.Lowering.{Lowering}
 use Rattle.regress_front_tree.specs.declared.lowering.Scope.{Scope}
-use Rattle.regress_front_tree.specs.Trees.{Tree, tree, empty, any, any_in_line}
+use Rattle.regress_front_nodes.specs.Trees.{Tree, tree, empty, any, any_in_line}
 use Rattle.regress_front_tree.specs.Lowering.{Takes, Lowers, LowersAll, no_pattern, and_next, of_terms, of_modified, switched_by}
 use Rattle.regress_front_tree.specs.Scopes.{settings_of, name_told, LowersInScope, LowersAllInScope, IsSamePattern}
 

@@ -2,10 +2,10 @@
 use Rattle.std.proofs.Common.{◌≡◌, ℕ, ◌+◌, List, [], ◌∷◌, ◌++◌, Option, Some, None, refl, sym, ap, ap₂, ◌∙◌, arith}
 use Rattle.std.specs.Option.{option_or}
 use Rattle.std.proofs.lemmas.List.{append_assoc, append-nil}
-use Rattle.regress_front_tree.specs.Trees.{Tree, cat, no_part, alt, cat_of}
-use Rattle.regress_front_tree.specs.WellFormed.{HoldsNoSingleLoop, group_ids, goals, AreLawful}
-use Rattle.regress_front_tree.specs.Sizes.{loops}
-use Rattle.regress_front_tree.specs.WellFormed.{name_by_number}
+use Rattle.regress_front_nodes.specs.Trees.{Tree, cat, no_part, alt, cat_of}
+use Rattle.regress_front_nodes.specs.WellFormed.{HoldsNoSingleLoop, group_ids, goals, AreLawful}
+use Rattle.regress_front_nodes.specs.Sizes.{loops}
+use Rattle.regress_front_nodes.specs.WellFormed.{name_by_number}
 use Rattle.regress_front_tree.specs.Lowering.{cat_made, HasArms, one_arm, two_halves}
 
 -- Trees with the same groups, names and loops, both lawful or neither.

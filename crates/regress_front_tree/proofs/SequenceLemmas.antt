@@ -2,11 +2,11 @@
 use Rattle.std.proofs.Common.{◌≡◌, ◌<◌, ◌≤◌, Bool, true, false, List, [], ◌∷◌, ◌++◌, length, map, reverse, Option, Some, None, IsSome, refl, sym, ap, ◌∙◌, arith, rules, length-append}
 use Rattle.std.specs.Option.{option_to_list, unwrap_or}
 use Rattle.std.proofs.lemmas.List.{map-append, reverse-append}
-use Rattle.regress_front_tree.specs.declared.node.Node.{Node}
-use Rattle.regress_front_tree.specs.declared.node.Node.TheVariants as N
-use Rattle.regress_front_tree.specs.Trees.{Tree, tree, cat_of}
+use Rattle.regress_front_nodes.specs.declared.node.Node.{Node}
+use Rattle.regress_front_nodes.specs.declared.node.Node.TheVariants as N
+use Rattle.regress_front_nodes.specs.Trees.{Tree, tree, cat_of}
 use Rattle.regress_front_tree.specs.Lowering.{cat_made, in_reading_order}
-use Rattle.regress_front_tree.proofs.TreeLaws.{tree-Empty}
+use Rattle.regress_front_nodes.proofs.TreeLaws.{tree-Empty}
 
 pub cat_made-many : (ts : List Tree) → 1 < length ts → cat_of ts ≡ cat_made ts
 cat_made-many [] h = absurd (omega arith)

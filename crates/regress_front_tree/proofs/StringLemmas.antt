@@ -12,11 +12,11 @@ use Rattle.regress_meaning.specs.TableParts.{is_code_point}
 use Rattle.regress_meaning.specs.Class.{Strings, among, longest}
 use Rattle.regress_meaning.specs.Pattern.{Settings}
 use Rattle.regress_meaning.specs.Meaning.{State, Direction, Forward, Backward, Context, beside, stepped, step, same, same_all, closed, string_steps}
-use Rattle.regress_front_tree.specs.TreeMeaning.{ignoring}
-use Rattle.regress_front_tree.specs.Alike.{distinct, AreAlike}
+use Rattle.regress_front_nodes.specs.TreeMeaning.{ignoring}
+use Rattle.regress_front_nodes.specs.Alike.{distinct, AreAlike}
 use Rattle.regress_front_tree.specs.Lowering.{LengthsFall, AreByLength}
-use Rattle.regress_front_tree.proofs.DistinctLemmas.{joined-alike, same_state-self, repeat-left_out}
-use Rattle.regress_front_tree.proofs.AlikeLemmas.{beside-valid}
+use Rattle.regress_front_nodes.proofs.DistinctLemmas.{joined-alike, same_state-self, repeat-left_out}
+use Rattle.regress_front_nodes.proofs.StepLemmas.{beside-length, sized-agree}
 
 -- lists that agree one by one are of one length
 pointwise-length : (f : ℕ → ℕ → Bool) (cs ds : List ℕ) → pointwise f cs ds ≡ true → length cs ≡ length ds
@@ -116,36 +116,6 @@ among-All P (t ∷ ss) h r found = by_first (same_text r t) refl found (among-Al
     by_first false e found rest = rest found
 
 module _ (w : Context) (valid : All is_code_point w.text) (dir : Direction) (s : State) (inside : s.place ≤ length w.text) where
-  beside-length : (d : Direction) (k : ℕ) (cs : List ℕ) (q : ℕ) → beside w d k s.place ≡ Some (cs, q) → length cs ≡ k
-  unfolding beside
-  beside-length Forward k cs q e = by_room (nat_le (s.place + k) (length w.text)) refl e
-    where
-      by_room : (b : Bool) → nat_le (s.place + k) (length w.text) ≡ b → (let found : Option (List ℕ × ℕ) = Some (slice_range w.text s.place (s.place + k), s.place + k) in (if b then found else None) ≡ Some (cs, q)) → length cs ≡ k
-      by_room true h e =
-          let pair : ◌≡◌ {A = List ℕ × ℕ} (slice_range w.text s.place (s.place + k), s.place + k) (cs, q) = cc in
-          let same : slice_range w.text s.place (s.place + k) ≡ cs = ap (λ (x : List ℕ × ℕ). x.0) pair in
-          let room = leb-true (s.place + k) (length w.text) h in
-          rw (← same) (omega (arith, length-take (s.place + k - s.place) (drop s.place w.text), length-drop s.place w.text))
-      by_room false h e = absurd (cc)
-  beside-length Backward k cs q e = by_room (nat_le k s.place) refl e
-    where
-      by_room : (b : Bool) → nat_le k s.place ≡ b → (let found : Option (List ℕ × ℕ) = Some (slice_range w.text (s.place - k) s.place, s.place - k) in (if b then found else None) ≡ Some (cs, q)) → length cs ≡ k
-      by_room true h e =
-          let pair : ◌≡◌ {A = List ℕ × ℕ} (slice_range w.text (s.place - k) s.place, s.place - k) (cs, q) = cc in
-          let same : slice_range w.text (s.place - k) s.place ≡ cs = ap (λ (x : List ℕ × ℕ). x.0) pair in
-          let room = leb-true k s.place h in
-          rw (← same) (omega (arith, length-take (s.place - (s.place - k)) (drop (s.place - k) w.text), length-drop (s.place - k) w.text))
-      by_room false h e = absurd (cc)
-
-  -- tests that agree on the texts of one length step alike by that length
-  pub sized-agree : (k : ℕ) (f g : List ℕ → Bool) → ((cs : List ℕ) → length cs ≡ k → All is_code_point cs → f cs ≡ g cs) → step w dir k f s ≡ step w dir k g s
-  unfolding step
-  sized-agree k f g agree = by_found (beside w dir k s.place) refl
-    where
-      by_found : (o : Option (List ℕ × ℕ)) → beside w dir k s.place ≡ o → stepped w f s o ≡ stepped w g s o
-      by_found None e = refl
-      by_found (Some (cs, p)) e = rw (agree cs (beside-length dir k cs p e) (beside-valid w valid dir k s.place cs p e)) refl
-
   never-steps : (k : ℕ) → step w dir k (λ cs. false) s ≡ []
   unfolding step
   never-steps k = by_found (beside w dir k s.place)
@@ -179,7 +149,7 @@ module _ (w : Context) (valid : All is_code_point w.text) (dir : Direction) (s :
   levels-agree f g zero agree = refl
   levels-agree f g (suc zero) agree = refl
   levels-agree f g (suc (suc k)) agree =
-      let here = sized-agree (suc (suc k)) f g (λ cs e h. agree cs (omega arith) (omega arith)) in
+      let here = sized-agree w valid dir s inside (suc (suc k)) f g (λ cs e h. agree cs (omega arith) (omega arith)) in
       let further = levels-agree f g (suc k) (λ cs a b. agree cs a (omega arith)) in
       (λ i. here i ++ further i)
 
@@ -255,7 +225,7 @@ module _ (w : Context) (valid : All is_code_point w.text) (dir : Direction) (s :
                 let short : length r ≤ suc k = grind (arith, nat_tests) in
                 let all_short : All (λ t. length t ≤ suc k) (r ∷ ss) = All-cons (λ t. length t ≤ suc k) r ss short (Short (length r) (suc k) ss short falls.0) in
                 let none : step w dir n (test (r ∷ ss)) s ≡ [] =
-                sized-agree n (test (r ∷ ss)) (λ cs. false) (λ cs h v. any-shorter (suc k) (r ∷ ss) all_short cs (omega arith)) ∙ never-steps n in
+                sized-agree w valid dir s inside n (test (r ∷ ss)) (λ cs. false) (λ cs h v. any-shorter (suc k) (r ∷ ss) all_short cs (omega arith)) ∙ never-steps n in
                 shorter (r ∷ ss) falls (Between-less n (r ∷ ss) (suc k) all_short bounds)
                 ∙ ap (λ us. distinct (us ++ levels (test (r ∷ ss)) (suc k))) (sym none)
 
@@ -269,7 +239,7 @@ module _ (w : Context) (valid : All is_code_point w.text) (dir : Direction) (s :
       let rest : List State = step w dir 1 (list_all (closed w e v.singles)) s ++ step w dir 0 test s in
       let no : (suc k == 0) ≡ false = grind (arith, nat_tests) in
       let here : step w dir (suc (suc k)) (λ cs. if suc k == 0 then list_all (closed w e v.singles) cs else list_any (same_all w e cs) v.others) s ≡ step w dir (suc (suc k)) test s =
-      sized-agree (suc (suc k)) (λ cs. if suc k == 0 then list_all (closed w e v.singles) cs else list_any (same_all w e cs) v.others) test (λ cs a b. rw no refl) in
+      sized-agree w valid dir s inside (suc (suc k)) (λ cs. if suc k == 0 then list_all (closed w e v.singles) cs else list_any (same_all w e cs) v.others) test (λ cs a b. rw no refl) in
       (λ i. here i ++ string_steps-levels e v k i) ∙ sym (append_assoc (step w dir (suc (suc k)) test s) (levels test (suc k)) rest)
 
   -- strings of a node against a text
@@ -306,14 +276,14 @@ module _ (w : Context) (valid : All is_code_point w.text) (dir : Direction) (s :
 
   -- the empty string, as a set of its own
   pub empty-agrees : (e : Settings) (others : List (List ℕ)) → among others [] ≡ true → step w dir 0 (like e []) s ≡ step w dir 0 (λ cs. list_any (same_all w e cs) others) s
-  empty-agrees e others found = sized-agree 0 (like e []) (λ cs. list_any (same_all w e cs) others) agree
+  empty-agrees e others found = sized-agree w valid dir s inside 0 (like e []) (λ cs. list_any (same_all w e cs) others) agree
     where
       agree : (cs : List ℕ) → length cs ≡ 0 → All is_code_point cs → like e [] cs ≡ list_any (same_all w e cs) others
       agree [] h k = sym (among-any (same_all w e []) others [] found refl)
       agree (c ∷ cs) h k = absurd (suc-ne-zero (length cs) h)
 
   pub no_empty-agrees : (e : Settings) (others : List (List ℕ)) → among others [] ≡ false → step w dir 0 (λ cs. list_any (same_all w e cs) others) s ≡ []
-  no_empty-agrees e others none = sized-agree 0 (λ cs. list_any (same_all w e cs) others) (λ cs. false) agree ∙ never-steps 0
+  no_empty-agrees e others none = sized-agree w valid dir s inside 0 (λ cs. list_any (same_all w e cs) others) (λ cs. false) agree ∙ never-steps 0
     where
       fails : (b : Bool) → list_any (same_all w e []) others ≡ b → b ≡ false
       fails false h = refl

@@ -2,9 +2,10 @@
 use Rattle.std.proofs.Common.{◌≡◌, ℕ, Bool, map, Vec, Box, Global, sym, ap, ◌∙◌}
 use Rattle.std.specs.declared.ops.Range.{Range}
 use Rattle.regress_meaning.specs.Pattern.{Pattern, character, any, class, class_escape, grouped, modified, repeated, look, reference, line_start, line_end, word_boundary}
-use Rattle.regress_front_syntax.specs.Trees.{tree, class_view, settings, most, capture_of, node_tree, sequence_of, choice_of}
+use Rattle.regress_front_syntax.specs.Trees.{tree, class_view, settings, capture_of, node_tree, sequence_of, choice_of}
+use Rattle.regress_front_core.specs.Quantifiers.{most}
 use Rattle.regress_front_syntax.specs.declared.syntax.Class.{Class as ClassValue}
-use Rattle.regress_front_syntax.specs.declared.syntax.Quantifier.{Quantifier}
+use Rattle.regress_front_core.specs.declared.quantifier.Quantifier.{Quantifier}
 use Rattle.regress_front_syntax.specs.declared.syntax.Modifiers.{Modifiers}
 use Rattle.regress_front_syntax.specs.declared.syntax.Syntax.{Syntax, Syntax-F, fold-roll-Syntax}
 use Rattle.regress_front_syntax.specs.declared.syntax.Syntax.TheVariants.{Character, Any, Class, ClassEscape, Alternative, Disjunction, Capture, Group, Modified, Loop, Look, Reference, LineStart, LineEnd, WordBoundary, rolls-Character, rolls-Any, rolls-Class, rolls-ClassEscape, rolls-Alternative, rolls-Disjunction, rolls-Capture, rolls-Group, rolls-Modified, rolls-Loop, rolls-Look, rolls-Reference, rolls-LineStart, rolls-LineEnd, rolls-WordBoundary}

@@ -5,9 +5,9 @@ use Rattle.regress_meaning.specs.Pattern.{Pattern, names_of}
 use Rattle.regress_meaning.specs.Limits.{quantifiers}
 use Rattle.regress_meaning.specs.Points.{HoldsNoStrings}
 use Rattle.regress_meaning.specs.Weights.{weight}
-use Rattle.regress_front_tree.specs.Trees.{Tree}
-use Rattle.regress_front_tree.specs.WellFormed.{group_ids, AreNumbered, goals, AreLawful, IsWellFormed, name_by_number, HoldsNoSingleLoop}
-use Rattle.regress_front_tree.specs.Sizes.{size, loops}
+use Rattle.regress_front_nodes.specs.Trees.{Tree}
+use Rattle.regress_front_nodes.specs.WellFormed.{group_ids, AreNumbered, goals, AreLawful, IsWellFormed, name_by_number, HoldsNoSingleLoop}
+use Rattle.regress_front_nodes.specs.Sizes.{size, loops}
 
 -- The tree that a part of a pattern was lowered to: the whole has n groups, k of them opened before the part, and l up to
 -- its end.

@@ -8,10 +8,10 @@ use Rattle.regress_meaning.specs.Pattern as meaning
 use Rattle.regress_meaning.specs.Pattern.{Pattern, Settings}
 use Rattle.regress_meaning.specs.Meaning.{Direction, Forward, Backward, is_line_end, with}
 use Rattle.regress_front_syntax.specs.Trees.{sequence_of, choice_of}
-use Rattle.regress_front_tree.specs.Trees.{Tree, empty, char, byte_set, char_set, alt, any, any_in_line, line_start, line_end, boundary, capture, back, bracket, string_set, look, loop, cat_of}
+use Rattle.regress_front_nodes.specs.Trees.{Tree, empty, char, byte_set, char_set, alt, any, any_in_line, line_start, line_end, boundary, capture, back, bracket, string_set, look, loop, cat_of}
 use Rattle.regress_meaning.specs.Text.{holds}
-use Rattle.regress_front_tree.specs.TreeMeaning.{bracket_has}
-use Rattle.regress_front_tree.specs.WellFormed.{AreLawful}
+use Rattle.regress_front_nodes.specs.TreeMeaning.{bracket_has}
+use Rattle.regress_front_nodes.specs.WellFormed.{AreLawful}
 
 -- which way a part is read
 abbrev pub direction : Bool → Direction

@@ -1,6 +1,6 @@
 -- One round of pairing arms.
 use Rattle.std.specs.Prelude.{List, [], ◌∷◌}
-use Rattle.regress_front_tree.specs.Trees.{Tree, alt}
+use Rattle.regress_front_nodes.specs.Trees.{Tree, alt}
 
 -- neighbours as one tree each; the last of an odd number stays as it is
 abbrev pub in_pairs : List Tree → List Tree

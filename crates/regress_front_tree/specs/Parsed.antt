@@ -6,9 +6,9 @@ use Rattle.regress_meaning.specs.Pattern.{Pattern}
 use Rattle.regress_meaning.specs.Grammar.{Spells}
 use Rattle.regress_meaning.specs.Limits.{WithinLimits}
 use Rattle.regress_meaning.specs.Meaning.{Forward, outcomes}
-use Rattle.regress_front_tree.specs.Trees.{Tree}
-use Rattle.regress_front_tree.specs.TreeMeaning.{node_outcomes}
-use Rattle.regress_front_tree.specs.Alike.{IsAlike}
+use Rattle.regress_front_nodes.specs.Trees.{Tree}
+use Rattle.regress_front_nodes.specs.TreeMeaning.{node_outcomes}
+use Rattle.regress_front_nodes.specs.Alike.{IsAlike}
 use Rattle.regress_front_tree.specs.Lowered.{IsWhole}
 
 -- The tree of a pattern that a text spells within the limits: it is alike the pattern, and as a whole tree has to be.

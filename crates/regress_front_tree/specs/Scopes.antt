@@ -3,10 +3,10 @@ use Rattle.std.specs.Prelude.{◌≡◌, ℕ, true, List, [], ◌∷◌, Option,
 use Rattle.std.specs.Str.{all_scalars}
 use Rattle.regress_meaning.specs.Pattern.{Pattern, Settings, names_of}
 use Rattle.regress_meaning.specs.Points.{IsOfPoints}
-use Rattle.regress_front_sets.specs.TableViews.{table}
+use Rattle.regress_front_tables.specs.TableViews.{table}
 use Rattle.regress_front_tree.specs.declared.lowering.Lowering.{Lowering}
 use Rattle.regress_front_tree.specs.declared.lowering.Scope.{Scope}
-use Rattle.regress_front_tree.specs.Trees.{Tree}
+use Rattle.regress_front_nodes.specs.Trees.{Tree}
 use Rattle.regress_front_tree.specs.Lowering.{Lowers, LowersAll}
 
 -- the settings that hold in a scope

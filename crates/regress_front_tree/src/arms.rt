@@ -1,11 +1,11 @@
 //! Alternatives, as nodes of two arms each.
 ghost use Rattle.std.specs.Prelude.{◌≡◌, ◌<◌, length, map, IfOk, IfErr};
-ghost use Rattle.regress_front_tree.specs.Trees.{tree};
+ghost use Rattle.regress_front_nodes.specs.Trees.{tree};
 ghost use Rattle.regress_front_tree.specs.Lowering.{HasArms};
 ghost use Rattle.regress_front_tree.specs.Pairing.{in_pairs};
 
-use crate::node::{Node, NodeList};
-use regress_front_sets::Error;
+use regress_front_nodes::{Node, NodeList};
+use regress_front_tables::Error;
 use std::alloc::Global;
 
 /// Neighbours as one node each, in order; the last of an odd number stays as it is. `OutOfMemory` is the only error.

@@ -6,11 +6,11 @@ ghost use Rattle.regress_meaning.specs.Class.{Strings, intersection, difference,
 ghost use Rattle.regress_meaning.specs.Points.{ClassIsOfPoints};
 ghost use Rattle.regress_front_sets.specs.Intervals.{ends_of};
 ghost use Rattle.regress_front_sets.specs.Sets.{in_set};
-ghost use Rattle.regress_front_sets.specs.TableViews.{table};
+ghost use Rattle.regress_front_tables.specs.TableViews.{table};
 ghost use Rattle.regress_front_syntax.specs.Trees.{class_view, union_of};
 
 use crate::text::text_of;
-use regress_front_sets::{
+use regress_front_tables::{
     CodePoint, CodePointSet, Error, Interval, Tables, add_icase_code_points, digits, whitespace,
     word_chars,
 };
@@ -325,7 +325,7 @@ fn joined(alloc: Global, values: Vec<ClassValue>) -> Result<ClassValue, Error>
 #[cfg(test)]
 pub(crate) mod tests {
     use super::*;
-    use regress_front_sets::CODE_POINT_MAX;
+    use regress_front_tables::CODE_POINT_MAX;
     use std::test::Fail;
 
     /// The code points from one to another.

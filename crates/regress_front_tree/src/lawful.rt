@@ -7,7 +7,7 @@ ghost use Rattle.regress_meaning.specs.Flags.{Options, is_unicode, first_setting
 ghost use Rattle.regress_meaning.specs.Grammar.{Spells};
 ghost use Rattle.regress_meaning.specs.Limits.{WithinLimits, most_groups};
 ghost use Rattle.regress_meaning.specs.Numbering.{group_numbers, FitsGroups};
-ghost use Rattle.regress_front_tree.specs.Trees.{Tree, goal, cat_of};
+ghost use Rattle.regress_front_nodes.specs.Trees.{Tree, goal, cat_of};
 ghost use Rattle.regress_front_tree.specs.Lowering.{Lowers};
 ghost use Rattle.regress_front_tree.specs.Lowered.{IsLowered, IsWhole};
 

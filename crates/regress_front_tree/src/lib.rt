@@ -1,30 +1,18 @@
-//! The tree that the engine rewrites and emits: from a pattern's text to nodes, what they mean, and walks over them.
+//! From a pattern's text to the tree that the engine rewrites and emits.
 #![tactic(auto)]
 
 mod alike;
 mod arms;
 mod brackets;
 mod class_value;
-mod copy;
-mod ir;
 mod lawful;
-mod laws;
 mod lowering;
-mod node;
 mod parse;
-mod piece;
 mod text;
-mod visit;
-mod walking;
-mod walking_mut;
 
-pub use alike::alike_parts_make_alike_wholes;
-pub use ir::Regex;
-pub use laws::nodes_stand_for_trees;
-pub use node::{AnchorType, BracketContents, Node, NodeList};
 pub use parse::try_parse;
-pub use piece::{Piece, lower_code_point_sequence, pieces_match_their_string};
-pub use regress_front_syntax::Quantifier;
-pub use visit::Walk;
-pub use walking::walk;
-pub use walking_mut::walk_mut;
+pub use regress_front_nodes::{
+    AnchorType, BracketContents, Node, NodeList, Piece, Quantifier, Regex, Walk,
+    alike_parts_make_alike_wholes, lower_code_point_sequence, nodes_stand_for_trees,
+    pieces_match_their_string, walk, walk_mut,
+};

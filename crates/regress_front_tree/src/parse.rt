@@ -2,19 +2,19 @@
 ghost use Rattle.std.specs.Prelude.{◌≡◌, ◌≤◌, false, All, IfOk, IfErr};
 ghost use Rattle.regress_meaning.specs.Pattern.{Pattern};
 ghost use Rattle.regress_meaning.specs.Flags.{first_settings};
-ghost use Rattle.regress_front_sets.specs.TableViews.{table};
-ghost use Rattle.regress_front_sets.specs.FlagWords.{options};
-ghost use Rattle.regress_front_syntax.specs.Refusals.{MayRefuse};
-ghost use Rattle.regress_front_tree.specs.Trees.{tree};
+ghost use Rattle.regress_front_tables.specs.TableViews.{table};
+ghost use Rattle.regress_front_core.specs.FlagWords.{options};
+ghost use Rattle.regress_front_core.specs.Refusals.{MayRefuse};
+ghost use Rattle.regress_front_nodes.specs.Trees.{tree};
 ghost use Rattle.regress_front_tree.specs.Scopes.{settings_of};
 ghost use Rattle.regress_front_tree.specs.Parsed.{IsTreeOf};
 
 use crate::alike::lowered_trees_are_alike;
-use crate::ir::Regex;
+use regress_front_nodes::Regex;
 use crate::lawful::whole_trees_are_well_formed;
 use crate::lowering::{Lowering, Scope};
-use crate::node::Node;
-use regress_front_sets::{CodePoint, Error, Flags, Tables};
+use regress_front_nodes::Node;
+use regress_front_tables::{CodePoint, Error, Flags, Tables};
 use regress_front_syntax::parse;
 use std::alloc::Global;
 
@@ -64,7 +64,7 @@ pub fn try_parse<'u>(
 #[cfg(test)]
 mod tests {
     use super::*;
-    use regress_front_sets::are_code_points;
+    use regress_front_tables::are_code_points;
     use std::alloc::AllocError;
     use std::test::Fail;
 

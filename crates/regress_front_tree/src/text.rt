@@ -3,7 +3,7 @@ ghost use Rattle.std.specs.Prelude.{◌≡◌, false, chars, MatchOption, IfOk, 
 ghost use Rattle.std.specs.Str.{all_scalars};
 ghost use Rattle.std.specs.String.{string_bytes};
 
-use regress_front_sets::{CodePoint, Error};
+use regress_front_tables::{CodePoint, Error};
 use std::alloc::Global;
 
 /// The text of these code points; `None` where one of them is no character. `OutOfMemory` is the only error.

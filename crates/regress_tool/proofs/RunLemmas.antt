@@ -12,10 +12,10 @@ use Rattle.regress_meaning.specs.Limits.{WithinLimits}
 use Rattle.regress_meaning.specs.Matches.{Item}
 use Rattle.regress_meaning.specs.Output.{line_of, lines_of}
 use Rattle.regress.specs.declared.api.Regex.{Regex}
-use Rattle.regress_front_sets.specs.declared.flags.Flags.{Flags}
-use Rattle.regress_front_sets.specs.FlagWords.{flags_of}
+use Rattle.regress_front_core.specs.declared.flags.Flags.{Flags}
+use Rattle.regress_front_core.specs.FlagWords.{flags_of}
 use Rattle.regress.specs.Standing.{StandsFor}
-use Rattle.regress_front_sets.specs.FlagWords.{options}
+use Rattle.regress_front_core.specs.FlagWords.{options}
 use Rattle.regress_tool.specs.Running.{small, output, AppendsFront, Accepted, Searched}
 
 -- what stands behind an error

@@ -1,8 +1,8 @@
 -- Why the program ends without its whole output, and what it says then.
 use Rattle.std.specs.Prelude.{ℕ, List, codes}
-use Rattle.regress_front_sets.specs.declared.error.Error as regress
-use Rattle.regress_front_sets.specs.declared.error.Error.TheVariants as refusal
-use Rattle.regress_front_sets.specs.ErrorTexts.{error_text}
+use Rattle.regress_front_core.specs.declared.error.Error as regress
+use Rattle.regress_front_core.specs.declared.error.Error.TheVariants as refusal
+use Rattle.regress_front_core.specs.ErrorTexts.{error_text}
 use Rattle.regress_tool.specs.declared.error.ToolError.{ToolError}
 use Rattle.regress_tool.specs.declared.error.ToolError.TheVariants as fault
 

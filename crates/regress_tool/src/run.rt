@@ -4,10 +4,10 @@ ghost use Rattle.std.specs.Io.KnownBytes.{Appends};
 ghost use Rattle.regress_meaning.specs.Table.{Table};
 ghost use Rattle.regress_meaning.specs.Pattern.{Pattern};
 ghost use Rattle.regress_meaning.specs.Flags.{Options, options_of};
-ghost use Rattle.regress_front_sets.specs.declared.error.Error as refusal;
-ghost use Rattle.regress_front_sets.specs.declared.error.Error.TheVariants as refused;
+ghost use Rattle.regress_front_core.specs.declared.error.Error as refusal;
+ghost use Rattle.regress_front_core.specs.declared.error.Error.TheVariants as refused;
 ghost use Rattle.regress.specs.Standing.{StandsFor};
-ghost use Rattle.regress_front_syntax.specs.Refusals.{MayRefuse};
+ghost use Rattle.regress_front_core.specs.Refusals.{MayRefuse};
 ghost use Rattle.regress_tool.specs.Running.{small, output, AppendsFront, Accepted, Searched};
 
 use crate::error::ToolError;

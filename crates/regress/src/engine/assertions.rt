@@ -2,13 +2,13 @@
 ghost use Rattle.std.specs.Prelude.{◌≡◌, ◌==◌, ◌&&◌, ◌||◌, length, map, IfOk};
 ghost use Rattle.regress_meaning.specs.Class.{is_ascii_word, is_word};
 ghost use Rattle.regress_meaning.specs.Meaning.{before, after, is_some_and, is_line_end, keep_if};
-ghost use Rattle.regress_front_tree.specs.TreeMeaning.{differ};
+ghost use Rattle.regress_front_nodes.specs.TreeMeaning.{differ};
 ghost use Rattle.regress.specs.StateViews.{state_of, context_of};
 
 use crate::engine::evaluator::Evaluator;
 use crate::engine::singles::is_line_end;
 use crate::engine::state::State;
-use regress_front_sets::{CodePoint, is_ascii_word};
+use regress_front_tables::{CodePoint, is_ascii_word};
 use std::alloc::AllocError;
 
 impl<'s> Evaluator<'s> {

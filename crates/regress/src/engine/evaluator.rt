@@ -2,10 +2,10 @@
 ghost use Rattle.std.specs.Prelude.{◌≡◌, ◌≤◌, if◌then◌else◌, length, map, option_map, chars, IfOk, IfSome};
 ghost use Rattle.std.specs.Box.{boxed_slice_items};
 ghost use Rattle.std.specs.List.{flat_map};
-ghost use Rattle.regress_front_tree.specs.Trees.{tree, cat_of, anchor_of, boundary, loop};
-ghost use Rattle.regress_front_tree.specs.TreeMeaning.{node_outcomes, literal_steps, alternatives};
+ghost use Rattle.regress_front_nodes.specs.Trees.{tree, cat_of, anchor_of, boundary, loop};
+ghost use Rattle.regress_front_nodes.specs.TreeMeaning.{node_outcomes, literal_steps, alternatives};
 ghost use Rattle.regress_meaning.specs.Meaning.{Forward, Backward, captured, looked};
-ghost use Rattle.regress_front_syntax.specs.Trees.{most};
+ghost use Rattle.regress_front_core.specs.Quantifiers.{most};
 ghost use Rattle.regress.specs.NodeMatches.{node_attempt, node_first_match};
 ghost use Rattle.regress.specs.Views.{item_of};
 ghost use Rattle.regress.specs.GroupNames.{shared_names, group_count};
@@ -18,7 +18,7 @@ use crate::engine::state::State;
 use crate::engine::steps::Direction;
 use crate::engine::tasks::{Task, push_expansions, push_tasks};
 use crate::engine::utf8::characters;
-use regress_front_sets::{CaptureGroupID, CaptureGroupName, CodePoint, Tables};
+use regress_front_tables::{CaptureGroupID, CaptureGroupName, CodePoint, Tables};
 use regress_front_tree::{AnchorType, Node, Quantifier};
 use std::alloc::{AllocError, Global};
 use std::boxed::BoxedSlice;
@@ -325,7 +325,7 @@ impl<'s> Evaluator<'s> {
 #[cfg(test)]
 mod tests {
     use super::*;
-    use regress_front_sets::{CodePointSet, Interval};
+    use regress_front_tables::{CodePointSet, Interval};
     use regress_front_tree::BracketContents;
     use std::test::Fail;
 

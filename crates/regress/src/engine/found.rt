@@ -4,7 +4,7 @@ ghost use Rattle.std.specs.Str.{IsCharBoundary};
 ghost use Rattle.std.specs.String.{string_bytes};
 
 use crate::engine::groups::Groups;
-use regress_front_sets::CaptureGroupName;
+use regress_front_tables::CaptureGroupName;
 use std::sync::ArcSlice;
 
 /// A range of offsets.

@@ -11,7 +11,7 @@ use crate::api::Regex;
 use crate::engine::evaluator::Evaluator;
 use crate::engine::found::Match;
 use crate::engine::text::Text;
-use regress_front_sets::Error;
+use regress_front_tables::Error;
 use std::iter::FusedIterator;
 
 /// What finds the matches of one pattern in one text.

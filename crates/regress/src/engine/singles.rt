@@ -3,7 +3,7 @@ ghost use Rattle.std.specs.Prelude.{◌≡◌};
 ghost use Rattle.regress_meaning.specs.Meaning.{is_line_end};
 ghost use Rattle.regress.specs.Singles.{passes};
 
-use regress_front_sets::CodePoint;
+use regress_front_tables::CodePoint;
 use regress_front_tree::BracketContents;
 
 /// A test on one character.

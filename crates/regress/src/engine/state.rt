@@ -4,7 +4,7 @@ ghost use Rattle.regress_meaning.specs.Meaning.{Context, captured, cleared};
 ghost use Rattle.regress.specs.StateViews.{state_of};
 
 use crate::engine::found::Range;
-use regress_front_sets::CaptureGroupID;
+use regress_front_tables::CaptureGroupID;
 use std::alloc::{AllocError, Global};
 
 /// A place in the text, and the range of places that each group took, if any.

@@ -2,14 +2,14 @@
 ghost use Rattle.std.specs.Prelude.{◌≡◌, map, option_map, slice_range, IfOk};
 ghost use Rattle.regress_meaning.specs.Meaning.{beside, same, same_all, step, repeat_group};
 ghost use Rattle.std.specs.Prelude.{length, slice_get, ◌-◌};
-ghost use Rattle.regress_front_tree.specs.TreeMeaning.{ignoring, one};
+ghost use Rattle.regress_front_nodes.specs.TreeMeaning.{ignoring, one};
 ghost use Rattle.regress.specs.StateViews.{state_of, context_of, direction_of};
 ghost use Rattle.regress.specs.Singles.{passes};
 
 use crate::engine::evaluator::Evaluator;
 use crate::engine::singles::Single;
 use crate::engine::state::State;
-use regress_front_sets::CodePoint;
+use regress_front_tables::CodePoint;
 use std::alloc::AllocError;
 
 /// Which way the text is read ("CompileSubpattern").

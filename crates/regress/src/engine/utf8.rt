@@ -3,7 +3,7 @@ ghost use Rattle.std.specs.Prelude.{◌≡◌, ℕ, List, ◌∷◌, chars, IfOk
 ghost use Rattle.std.specs.Str.{continuation_len, lead_bits, chars_after};
 ghost use Rattle.regress.specs.Utf8Reading.{pending, IsPending};
 
-use regress_front_sets::CodePoint;
+use regress_front_tables::CodePoint;
 use std::alloc::{AllocError, Global};
 
 /// How many bytes of a character stand behind this first one, and the bits of the character that it holds.

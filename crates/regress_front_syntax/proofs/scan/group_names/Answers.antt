@@ -1,6 +1,6 @@
 use Rattle.std.proofs.Common.{◌≡◌, ◌+◌, false, ◌++◌, length, sym, ap, ◌∙◌, arith, append-nil, length-drop}
 use Rattle.regress_meaning.specs.Scan.{group_names}
-use Rattle.regress_front_sets.specs.TableViews.{table}
+use Rattle.regress_front_tables.specs.TableViews.{table}
 use Rattle.regress_front_syntax.specs.Cursors.{unread}
 use Rattle.regress_front_syntax.specs.Escapes.{texts}
 use Rattle.regress_front_syntax.proofs.EscapeLemmas.{next-drop}

@@ -1,6 +1,6 @@
 use Rattle.std.proofs.Common.{◌≡◌, length, map, ap, arith}
-use Rattle.regress_front_tree.specs.declared.node.Node.TheVariants as N
-use Rattle.regress_front_tree.specs.Trees.{tree}
+use Rattle.regress_front_nodes.specs.declared.node.Node.TheVariants as N
+use Rattle.regress_front_nodes.specs.Trees.{tree}
 use Rattle.regress_front_tree.proofs.ArmLemmas.{AreArms-alone, AreArms-paired, AreArms-one, pairs-length, alone}
 use Rattle.regress_front_tree.proofs.arms.alternatives.Goals as goal
 

@@ -1,5 +1,5 @@
 use Rattle.std.proofs.Common.{◌<◌, map, vec_len}
-use Rattle.regress_front_tree.specs.Trees.{tree}
+use Rattle.regress_front_nodes.specs.Trees.{tree}
 use Rattle.regress_front_tree.proofs.ArmLemmas.{AreArms}
 use Rattle.regress_front_tree.proofs.arms.alternatives.Given as goal
 

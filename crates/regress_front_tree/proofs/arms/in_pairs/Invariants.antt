@@ -1,5 +1,5 @@
 use Rattle.std.proofs.Common.{◌≡◌, ◌++◌, map}
-use Rattle.regress_front_tree.specs.Trees.{tree}
+use Rattle.regress_front_nodes.specs.Trees.{tree}
 use Rattle.regress_front_tree.specs.Pairing.{in_pairs}
 use Rattle.regress_front_tree.proofs.arms.in_pairs.Given as goal
 

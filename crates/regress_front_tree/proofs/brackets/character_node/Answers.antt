@@ -1,7 +1,7 @@
 use Rattle.std.proofs.Common.{arith}
-use Rattle.regress_front_sets.specs.TableViews.{table}
+use Rattle.regress_front_tables.specs.TableViews.{table}
 use Rattle.regress_front_tree.proofs.BracketLemmas.{stored_length, takes-one, takes-some}
-use Rattle.regress_front_tree.proofs.TreeLaws.{tree-Char, tree-CharSet}
+use Rattle.regress_front_nodes.proofs.TreeLaws.{tree-Char, tree-CharSet}
 use Rattle.regress_front_tree.proofs.brackets.character_node.Goals as goal
 
 pub returns-then-len-eq1-clause-ok : goal.returns-then-len-eq1-clause-ok

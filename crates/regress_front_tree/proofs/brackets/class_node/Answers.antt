@@ -5,14 +5,14 @@ use Rattle.regress_meaning.specs.TableParts.{is_code_point}
 use Rattle.regress_meaning.specs.Class.{Strings, value_of, among}
 use Rattle.regress_front_sets.specs.Intervals.{ends_of}
 use Rattle.regress_front_sets.specs.Sets.{in_set}
-use Rattle.regress_front_sets.specs.TableViews.{table}
+use Rattle.regress_front_tables.specs.TableViews.{table}
 use Rattle.regress_front_syntax.specs.Trees.{class_view}
-use Rattle.regress_front_tree.specs.Trees.{Tree, tree, bracket}
+use Rattle.regress_front_nodes.specs.Trees.{Tree, tree, bracket}
 use Rattle.regress_front_tree.specs.Lowering.{HasArms, AreByLength, in_closed, class_value, class_arms}
 use Rattle.regress_front_tree.specs.ClassValues.{lists}
 use Rattle.regress_front_tree.proofs.BracketLemmas.{takes-bracket}
 use Rattle.regress_front_tree.proofs.ClassValueLemmas.{value-points}
-use Rattle.regress_front_tree.proofs.TreeLaws.{tree-Bracket}
+use Rattle.regress_front_nodes.proofs.TreeLaws.{tree-Bracket}
 use Rattle.regress_front_tree.proofs.brackets.class_node.Goals as goal
 use Rattle.regress_front_tree.proofs.brackets.class_node.Goals.{then-unicode, else-unicode}
 

@@ -1,11 +1,11 @@
 use Rattle.std.proofs.Common.{◌≡◌, Bool, true, ◌&&◌, sym, ap, ◌∙◌}
 use Rattle.regress_meaning.specs.Class.{Strings, value_of}
 use Rattle.regress_front_sets.specs.Sets.{in_set}
-use Rattle.regress_front_sets.specs.TableViews.{table}
+use Rattle.regress_front_tables.specs.TableViews.{table}
 use Rattle.regress_front_syntax.specs.Trees.{class_view}
 use Rattle.regress_front_tree.specs.Lowering.{in_closed, class_value}
 use Rattle.regress_front_tree.proofs.BracketLemmas.{takes-bracket}
-use Rattle.regress_front_tree.proofs.TreeLaws.{tree-Bracket}
+use Rattle.regress_front_nodes.proofs.TreeLaws.{tree-Bracket}
 use Rattle.regress_front_tree.proofs.brackets.negated_class_node.Goals as goal
 use Rattle.regress_front_tree.proofs.brackets.negated_class_node.Goals.{then-unicode, else-unicode}
 

@@ -8,7 +8,7 @@ use Rattle.regress_meaning.specs.Class as meaning
 use Rattle.regress_meaning.specs.Points.{ClassIsOfPoints}
 use Rattle.regress_meaning.specs.Class.{Strings, only, complement_of, value_of}
 use Rattle.regress_front_sets.specs.Sets.{in_set}
-use Rattle.regress_front_sets.specs.TableViews.{table}
+use Rattle.regress_front_tables.specs.TableViews.{table}
 use Rattle.regress_front_syntax.specs.declared.syntax.Class.{Class}
 use Rattle.regress_front_syntax.specs.Trees.{class_view}
 use Rattle.regress_front_tree.specs.ClassValues.{united, all_united, intersected, subtracted}

@@ -1,7 +1,7 @@
 use Rattle.std.proofs.Common.{ℕ, ◌≡◌, ◌∙◌, Option, List, [], All, sym, ap, unwrap_or, map, chars, string_bytes}
 use Rattle.regress_meaning.specs.TableParts.{is_code_point}
 use Rattle.regress_meaning.specs.Class.{of_list}
-use Rattle.regress_front_sets.specs.TableViews.{table}
+use Rattle.regress_front_tables.specs.TableViews.{table}
 use Rattle.regress_front_tree.specs.ClassValues.{lists}
 use Rattle.regress_front_tree.proofs.ClassLemmas.{only-none, entry-no_text, entry-all}
 use Rattle.regress_front_tree.proofs.class_value.sequence_value.Goals as goal

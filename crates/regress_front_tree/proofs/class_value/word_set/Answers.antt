@@ -4,7 +4,7 @@ use Rattle.std.proofs.lemmas.Result.{IfOk-weaker}
 use Rattle.regress_meaning.specs.Table.{closure}
 use Rattle.regress_meaning.specs.Class.{is_ascii_word, is_word}
 use Rattle.regress_front_sets.specs.Sets.{in_set}
-use Rattle.regress_front_sets.specs.TableViews.{table}
+use Rattle.regress_front_tables.specs.TableViews.{table}
 use Rattle.regress_front_tree.proofs.ClassLemmas.{folded-words, plain-words}
 use Rattle.regress_front_tree.proofs.class_value.word_set.Goals as goal
 

@@ -6,9 +6,9 @@ use Rattle.regress_meaning.specs.Pattern.{Pattern, names_of}
 use Rattle.regress_meaning.specs.Limits.{quantifiers}
 use Rattle.regress_meaning.specs.Points.{HoldsNoStrings}
 use Rattle.regress_meaning.specs.Weights.{weight}
-use Rattle.regress_front_tree.specs.Trees.{Tree, goal, cat_of}
-use Rattle.regress_front_tree.specs.WellFormed.{group_ids, AreNumbered}
-use Rattle.regress_front_tree.specs.WellFormed.{name_by_number}
+use Rattle.regress_front_nodes.specs.Trees.{Tree, goal, cat_of}
+use Rattle.regress_front_nodes.specs.WellFormed.{group_ids, AreNumbered}
+use Rattle.regress_front_nodes.specs.WellFormed.{name_by_number}
 use Rattle.regress_front_tree.specs.Lowered.{IsLowered, IsWhole}
 use Rattle.regress_front_tree.proofs.SameLemmas.{option_or-none}
 use Rattle.regress_front_tree.proofs.lawful.whole_trees_are_well_formed.Goals as goals

@@ -1,18 +1,18 @@
 use Rattle.std.proofs.Common.{◌≡◌, false, List, [], ◌∷◌, map, ap, ◌∙◌}
 use Rattle.regress_meaning.specs.Flags.{is_unicode, first_settings}
 use Rattle.regress_meaning.specs.Meaning.{State, Forward, Context}
-use Rattle.regress_front_sets.specs.TableViews.{table, parts}
-use Rattle.regress_front_sets.specs.FlagWords.{options}
+use Rattle.regress_front_tables.specs.TableViews.{table, parts}
+use Rattle.regress_front_core.specs.FlagWords.{options}
 use Rattle.regress_front_syntax.specs.Trees as parsed
-use Rattle.regress_front_tree.specs.declared.node.Node.{Node}
-use Rattle.regress_front_tree.specs.declared.node.Node.TheViews.{Cat}
-use Rattle.regress_front_tree.specs.Trees.{Tree, tree, goal, cat_of}
-use Rattle.regress_front_tree.specs.TreeMeaning.{node_outcomes}
-use Rattle.regress_front_tree.specs.Alike.{distinct}
+use Rattle.regress_front_nodes.specs.declared.node.Node.{Node}
+use Rattle.regress_front_nodes.specs.declared.node.Node.TheViews.{Cat}
+use Rattle.regress_front_nodes.specs.Trees.{Tree, tree, goal, cat_of}
+use Rattle.regress_front_nodes.specs.TreeMeaning.{node_outcomes}
+use Rattle.regress_front_nodes.specs.Alike.{distinct}
 use Rattle.regress_front_tree.specs.Lowering.{Lowers}
 use Rattle.regress_front_tree.proofs.AlikeLemmas.{flat_map-self}
 use Rattle.regress_front_tree.proofs.NameTexts.{names-scalars}
-use Rattle.regress_front_tree.proofs.TreeLaws.{tree-Cat, tree-Goal}
+use Rattle.regress_front_nodes.proofs.TreeLaws.{tree-Cat, tree-Goal}
 use Rattle.regress_front_tree.proofs.parse.try_parse.Goals as goals
 
 -- the end of the whole changes no outcome

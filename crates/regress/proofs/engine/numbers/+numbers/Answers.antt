@@ -1,6 +1,6 @@
 use Rattle.std.proofs.Common.{refl, arith}
-use Rattle.regress_front_tree.specs.Trees.{tree}
-use Rattle.regress_front_tree.specs.WellFormed.{group_ids}
+use Rattle.regress_front_nodes.specs.Trees.{tree}
+use Rattle.regress_front_nodes.specs.WellFormed.{group_ids}
 use Rattle.regress.proofs.NumberLemmas.{bound_of-append, bound-more}
 use Rattle.regress.proofs.TreeLaws.{tree-Alt}
 use Rattle.regress.proofs.engine.numbers.+numbers.Goals as goal

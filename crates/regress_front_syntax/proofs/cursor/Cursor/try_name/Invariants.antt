@@ -1,6 +1,6 @@
 use Rattle.std.proofs.Common.{◌≡◌, length}
 use Rattle.regress_meaning.specs.Tokens.{name_at}
-use Rattle.regress_front_sets.specs.TableViews.{table}
+use Rattle.regress_front_tables.specs.TableViews.{table}
 use Rattle.regress_front_syntax.specs.Cursors.{unread}
 use Rattle.regress_front_syntax.proofs.NameLemmas.{behind, rest_at}
 use Rattle.regress_front_syntax.proofs.cursor.Cursor.try_name.Given as goal

@@ -1,8 +1,8 @@
 use Rattle.std.proofs.Common.{◌+◌, ◌<◌, ℕ, length, map, refl, ap, ◌∙◌, arith}
 use Rattle.std.proofs.lemmas.List.{take_all, take_more, map_push}
-use Rattle.regress_front_tree.specs.Trees.{Tree, back}
+use Rattle.regress_front_nodes.specs.Trees.{Tree, back}
 use Rattle.regress_front_tree.specs.Lowering.{of_reference}
-use Rattle.regress_front_tree.proofs.TreeLaws.{tree-BackRef}
+use Rattle.regress_front_nodes.proofs.TreeLaws.{tree-BackRef}
 use Rattle.regress_front_tree.proofs.SequenceLemmas.{in_reading_order-map}
 use Rattle.regress_front_tree.proofs.lowering.Lowering.reference.Goals as goal
 

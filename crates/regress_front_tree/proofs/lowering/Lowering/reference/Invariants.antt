@@ -1,5 +1,5 @@
 use Rattle.std.proofs.Common.{◌≡◌, ◌+◌, ℕ, map, take}
-use Rattle.regress_front_tree.specs.Trees.{tree, back}
+use Rattle.regress_front_nodes.specs.Trees.{tree, back}
 use Rattle.regress_front_tree.proofs.lowering.Lowering.reference.Given as goal
 
 -- the nodes of the groups so far

@@ -2,11 +2,11 @@ use Rattle.std.proofs.Common.{◌≡◌, ◌+◌, List, [], ◌∷◌, ◌++◌,
 use Rattle.std.specs.List.{flat_map}
 use Rattle.std.proofs.lemmas.List.{take_all, drop_all, append-nil, map-append, nil_from_length}
 use Rattle.regress_meaning.specs.Meaning.{State, captured}
-use Rattle.regress_front_syntax.specs.Trees.{most}
-use Rattle.regress_front_tree.specs.Trees.{cat_of, tree}
-use Rattle.regress_front_tree.specs.TreeMeaning.{node_outcomes}
+use Rattle.regress_front_core.specs.Quantifiers.{most}
+use Rattle.regress_front_nodes.specs.Trees.{cat_of, tree}
+use Rattle.regress_front_nodes.specs.TreeMeaning.{node_outcomes}
 use Rattle.regress.specs.StateViews.{state_of, context_of, direction_of}
-use Rattle.regress_front_tree.specs.declared.node.Node.TheVariants as node
+use Rattle.regress_front_nodes.specs.declared.node.Node.TheVariants as node
 use Rattle.regress.specs.declared.engine.tasks.Task.{Task}
 use Rattle.regress.proofs.EvaluatorLemmas.{flat_map-no_part, parts_more, changed_more, changed_all}
 use Rattle.regress.proofs.RepetitionLemmas.{run, single_loop-is_loop, outcomes_of_task, outcomes_of_tasks, outcomes_of_tasks-start, outcomes_of_task-last, outcomes_of_tasks-emit, outcomes_of_tasks-expand, turns_of_task, turns-last, turns_of_tasks-emit, turns_of_tasks-expand}

@@ -1,9 +1,9 @@
 use Rattle.std.proofs.Common.{◌≡◌, ◌++◌, map, take, drop}
 use Rattle.std.specs.List.{flat_map}
 use Rattle.regress_meaning.specs.Meaning.{captured}
-use Rattle.regress_front_syntax.specs.Trees.{most}
-use Rattle.regress_front_tree.specs.Trees.{cat_of, loop, tree}
-use Rattle.regress_front_tree.specs.TreeMeaning.{node_outcomes}
+use Rattle.regress_front_core.specs.Quantifiers.{most}
+use Rattle.regress_front_nodes.specs.Trees.{cat_of, loop, tree}
+use Rattle.regress_front_nodes.specs.TreeMeaning.{node_outcomes}
 use Rattle.regress.specs.StateViews.{state_of, context_of, direction_of}
 use Rattle.regress.proofs.RepetitionLemmas.{run, outcomes_of_tasks, turns_of_tasks}
 use Rattle.regress.proofs.engine.evaluator.Evaluator.+evaluator.Given as goal

@@ -1,6 +1,6 @@
 use Rattle.std.proofs.Common.{◌≡◌, drop}
 use Rattle.regress_meaning.specs.Meaning.{same_all}
-use Rattle.regress_front_tree.specs.TreeMeaning.{ignoring}
+use Rattle.regress_front_nodes.specs.TreeMeaning.{ignoring}
 use Rattle.regress.specs.StateViews.{context_of}
 use Rattle.regress.proofs.engine.evaluator.Evaluator.are_same.Given as goal
 

@@ -1,7 +1,7 @@
 use Rattle.std.proofs.Common.{◌≡◌, ℕ, ◌<◌, [], None, length, map, option_map, replicate, sym, ap, ◌∙◌, arith, rules}
 use Rattle.std.proofs.lemmas.Bool.{false≢true}
 use Rattle.std.proofs.lemmas.List.{nil_from_length}
-use Rattle.regress_front_tree.specs.Trees.{tree}
+use Rattle.regress_front_nodes.specs.Trees.{tree}
 use Rattle.regress.specs.Views.{ends}
 use Rattle.regress.specs.GroupNames.{group_count}
 use Rattle.regress.specs.StateViews.{state_of, context_of}

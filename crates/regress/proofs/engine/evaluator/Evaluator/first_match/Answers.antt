@@ -1,5 +1,5 @@
 use Rattle.std.proofs.Common.{◌+◌, ◌∙◌, sym, ap, option_map, arith}
-use Rattle.regress_front_tree.specs.Trees.{tree}
+use Rattle.regress_front_nodes.specs.Trees.{tree}
 use Rattle.regress.specs.Views.{item_of}
 use Rattle.regress.specs.GroupNames.{group_count}
 use Rattle.regress.specs.StateViews.{context_of}

@@ -1,5 +1,5 @@
 use Rattle.std.proofs.Common.{◌≡◌}
-use Rattle.regress_front_tree.specs.Trees.{tree}
+use Rattle.regress_front_nodes.specs.Trees.{tree}
 use Rattle.regress.specs.NodeMatches.{node_first_match}
 use Rattle.regress.specs.GroupNames.{group_count}
 use Rattle.regress.specs.StateViews.{context_of}

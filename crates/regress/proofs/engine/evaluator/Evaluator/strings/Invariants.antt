@@ -1,6 +1,6 @@
 use Rattle.std.proofs.Common.{◌≡◌, map, take}
 use Rattle.std.specs.Box.{boxed_slice_items}
-use Rattle.regress_front_tree.specs.TreeMeaning.{alternatives}
+use Rattle.regress_front_nodes.specs.TreeMeaning.{alternatives}
 use Rattle.regress.specs.StateViews.{state_of, context_of, direction_of}
 use Rattle.regress.proofs.engine.evaluator.Evaluator.strings.Given as goal
 

@@ -3,7 +3,7 @@ use Rattle.std.proofs.lemmas.Option.{IfSome_then}
 use Rattle.regress_meaning.specs.Meaning.{Context}
 use Rattle.regress_meaning.specs.Matches.{Item, next_place}
 use Rattle.regress_meaning.specs.Offsets.{offset, told}
-use Rattle.regress_front_tree.specs.Trees.{tree}
+use Rattle.regress_front_nodes.specs.Trees.{tree}
 use Rattle.regress.specs.NodeMatches.{node_first_match, node_match_list}
 use Rattle.regress.specs.GroupNames.{group_count, shared_names}
 use Rattle.regress.specs.GroupViews.{names_of_match}

@@ -1,0 +1,4 @@
+pub mod ErrorTexts
+pub mod FlagWords
+pub mod Quantifiers
+pub mod Refusals

@@ -1,0 +1,134 @@
+//! The flags of a pattern.
+ghost use Rattle.std.specs.Prelude.{◌≡◌, false, chars, Some};
+ghost use Rattle.std.specs.Iterator.{IsFinite};
+ghost use Rattle.std.specs.Iterator.Runs.{WholeRun};
+ghost use Rattle.regress_front_core.specs.declared.flags.Flags.{Flags};
+ghost use Rattle.regress_meaning.specs.Flags.{is_unicode};
+ghost use Rattle.regress_front_core.specs.FlagWords.{options, flags_of, letters_of, letter_if};
+
+use std::fmt;
+
+/// What holds for a whole pattern ("RegExp Records"). All flags are off by default.
+#[derive(Clone, Copy, Debug, Default)]
+pub struct Flags {
+    /// `i`: case is ignored.
+    pub icase: bool,
+    /// `m`: `^` and `$` also stand at line terminators.
+    pub multiline: bool,
+    /// `s`: `.` is any character, line terminators too.
+    pub dot_all: bool,
+    /// The tree is not rewritten before it is run. No letter sets it.
+    pub no_opt: bool,
+    /// `u`: Unicode mode.
+    pub unicode: bool,
+    /// `v`: Unicode mode, with sets in classes.
+    pub unicode_sets: bool,
+}
+
+impl Flags {
+    /// The flags that a word sets, given as its code points: `i`, `m`, `s`, `u` and `v`, wherever they stand in it and
+    /// however often. All else is skipped, and unlike in "RegExpInitialize" no word is refused.
+    pub fn new<I: Iterator<Item = u32>>(letters: I) -> Flags
+        requires can { I.can_next letters }
+        requires ends { IsFinite (I.remaining letters) }
+        ensures { WholeRun I.next_gives letters (λ run. result ≡ flags_of run.items) }
+    {
+        let mut flags = Flags::default();
+        for letter in letters {
+            match char::from_u32(letter) {
+                Some('i') => flags.icase = true,
+                Some('m') => flags.multiline = true,
+                Some('s') => flags.dot_all = true,
+                Some('u') => flags.unicode = true,
+                Some('v') => flags.unicode_sets = true,
+                _ => {}
+            }
+        }
+        flags
+    }
+
+    /// Whether they set Unicode mode: `u` or `v` ("RegExp Records").
+    pub fn is_unicode(self) -> bool
+        ensures { result ≡ is_unicode (options self) }
+    {
+        self.unicode || self.unicode_sets
+    }
+}
+
+/// The flags that a word sets, as `Flags::new` reads its code points.
+impl From<&str> for Flags {
+    ghost from_gives = { λ text flags. flags ≡ flags_of (chars text.now) };
+
+    fn from(text: &str) -> Flags {
+        Flags::new(text.chars().map(u32::from))
+    }
+}
+
+/// The letters of the flags that are set, in the order `misuv`. Nothing is written for `no_opt`.
+impl fmt::Display for Flags {
+    ghost output = { λ flags. Some (letters_of flags) };
+
+    fn fmt<W: fmt::Write>(&self, f: &mut fmt::Formatter<W>) -> fmt::Result {
+        f.write_str(letter_if(self.multiline, "m"))?;
+        f.write_str(letter_if(self.icase, "i"))?;
+        f.write_str(letter_if(self.dot_all, "s"))?;
+        f.write_str(letter_if(self.unicode, "u"))?;
+        f.write_str(letter_if(self.unicode_sets, "v"))
+    }
+}
+
+/// What is written for flags is read back as those flags, with `no_opt` off. The letters are one byte each.
+pub fn flags_are_read_back()
+    ensures read { (flags : Flags) → flags_of (letters_of flags) ≡ record flags { no_opt = false } }
+    ensures text { (flags : Flags) → chars (letters_of flags) ≡ letters_of flags }
+{}
+
+/// The letter of a flag where the flag is set, and else nothing.
+fn letter_if(is_set: bool, letter: &str) -> &str
+    ensures { result.now ≡ letter_if is_set letter.now }
+{
+    if is_set { letter } else { "" }
+}
+
+#[cfg(test)]
+mod tests {
+    use super::*;
+    use std::test::Fail;
+
+    #[test]
+    fn letters_are_written_in_one_order(rt: HostRuntime) -> Result<(), Fail> {
+        let text = Flags::from("vusim").to_string(rt.alloc())?;
+        assert_eq!(rt; text.as_str(), "misuv");
+        Ok(())
+    }
+
+    #[test]
+    fn other_letters_set_nothing(rt: HostRuntime) -> Result<(), Fail> {
+        let text = Flags::from("gy").to_string(rt.alloc())?;
+        assert_eq!(rt; text.as_str(), "");
+        Ok(())
+    }
+
+    #[test]
+    fn code_points_are_read(rt: HostRuntime) -> Result<(), Fail> {
+        let text = Flags::new([0x76, 0x1_F600, 0x69, 0x69].into_iter()).to_string(rt.alloc())?;
+        assert_eq!(rt; text.as_str(), "iv");
+        Ok(())
+    }
+
+    #[test]
+    fn two_letters_set_unicode_mode(rt: HostRuntime) {
+        assert!(rt; Flags::from("u").is_unicode());
+        assert!(rt; Flags::from("v").is_unicode());
+        assert!(rt; !Flags::from("ims").is_unicode());
+    }
+
+    #[test]
+    fn all_flags_are_off_by_default(rt: HostRuntime) -> Result<(), Fail> {
+        let flags = Flags::default();
+        assert!(rt; !flags.no_opt);
+        let text = flags.to_string(rt.alloc())?;
+        assert_eq!(rt; text.as_str(), "");
+        Ok(())
+    }
+}

@@ -1,0 +1,17 @@
+//! What every layer of the engine shares: flags, errors, limits, quantifiers, and the data of loops and groups.
+#![tactic(auto)]
+
+mod error;
+mod flags;
+mod limits;
+mod quantifier;
+mod state;
+
+pub use error::Error;
+pub use flags::{Flags, flags_are_read_back};
+pub use limits::{
+    CaptureGroupID, CaptureGroupName, IP, LoopID, MAX_CAPTURE_GROUPS, MAX_LOOPS, MAX_NESTING_DEPTH,
+    limits_are_those_of_the_definitions,
+};
+pub use quantifier::Quantifier;
+pub use state::{GroupData, LoopData};

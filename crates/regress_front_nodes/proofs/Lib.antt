@@ -1,0 +1,11 @@
+pub mod ChangeLemmas
+pub mod CopyLemmas
+pub mod DistinctLemmas
+pub mod EmptyBrackets
+pub mod KindLemmas
+pub mod NodeLemmas
+pub mod PieceLemmas
+pub mod PieceOutcomes
+pub mod StepLemmas
+pub mod TreeLaws
+pub mod WalkLemmas

@@ -1,0 +1,59 @@
+-- What a tree is by its form.
+use Rattle.std.specs.Prelude.{ℕ, ◌+◌, Bool, true, false, List, [], ◌∷◌, reverse, max}
+use Rattle.regress_front_nodes.specs.Trees.{Tree, empty, cat, cat_of, no_part, alt, capture, look, loop, single_loop}
+
+-- it is `Empty`
+abbrev pub is_empty : Tree → Bool
+is_empty empty = true
+is_empty _ = false
+
+-- it is a `Cat`
+abbrev pub is_cat : Tree → Bool
+is_cat (cat a b) = true
+is_cat no_part = true
+is_cat _ = false
+
+-- its kind has no parts
+abbrev pub is_leaf : Tree → Bool
+is_leaf (cat a b) = false
+is_leaf no_part = false
+is_leaf (alt a b) = false
+is_leaf (capture k name a) = false
+is_leaf (look negated backward first last a) = false
+is_leaf (loop a first last least most greedy) = false
+is_leaf (single_loop a least most greedy) = false
+is_leaf _ = true
+
+-- the parts of a `Cat`
+abbrev pub parts : Tree → List Tree
+parts (cat a b) = a ∷ parts b
+parts _ = []
+
+-- a `Cat` with its parts from the last to the first, and any other tree as it is
+abbrev pub turned : Tree → Tree
+turned (cat a b) = cat_of (reverse (parts (cat a b)))
+turned t = t
+
+-- how many nodes stand above the deepest one
+abbrev pub nesting : Tree → ℕ
+nesting (cat a b) = max (nesting a + 1) (nesting b)
+nesting (alt a b) = max (nesting a) (nesting b) + 1
+nesting (capture k name a) = nesting a + 1
+nesting (look negated backward first last a) = nesting a + 1
+nesting (loop a first last least most greedy) = nesting a + 1
+nesting (single_loop a least most greedy) = nesting a + 1
+nesting _ = 0
+
+-- deeper than this no copy of a node is made
+abbrev pub deepest_copy : ℕ
+deepest_copy = 1280
+
+-- the tree with nothing in the places right below it
+abbrev pub shell : Tree → Tree
+shell (cat a b) = cat empty (shell b)
+shell (alt a b) = alt empty empty
+shell (capture k name a) = capture k name empty
+shell (look negated backward first last a) = look negated backward first last empty
+shell (loop a first last least most greedy) = loop empty first last least most greedy
+shell (single_loop a least most greedy) = single_loop empty least most greedy
+shell t = t

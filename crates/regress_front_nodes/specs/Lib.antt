@@ -1,0 +1,12 @@
+pub mod Alike
+pub mod Changes
+pub mod Copies
+pub mod Forms
+pub mod Laws
+pub mod Pieces
+pub mod Singles
+pub mod Sizes
+pub mod TreeMeaning
+pub mod Trees
+pub mod Walks
+pub mod WellFormed

@@ -1,0 +1,22 @@
+//! The tree that the engine rewrites and emits: its nodes, what they mean, and walks over them.
+#![tactic(auto)]
+
+mod alike;
+mod copy;
+mod ir;
+mod laws;
+mod node;
+mod piece;
+mod visit;
+mod walking;
+mod walking_mut;
+
+pub use alike::alike_parts_make_alike_wholes;
+pub use ir::Regex;
+pub use laws::nodes_stand_for_trees;
+pub use node::{AnchorType, BracketContents, Node, NodeList};
+pub use piece::{Piece, lower_code_point_sequence, pieces_match_their_string};
+pub use regress_front_tables::Quantifier;
+pub use visit::Walk;
+pub use walking::walk;
+pub use walking_mut::walk_mut;

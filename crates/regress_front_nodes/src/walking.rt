@@ -1,0 +1,208 @@
+//! Walks over the nodes of a tree.
+ghost use Rattle.std.specs.Prelude.{◌≡◌, ℕ, suc, min, false, [], ◌∷◌};
+ghost use Rattle.regress_meaning.specs.Tokens.{greatest};
+ghost use Rattle.regress_front_nodes.specs.Walks.{Walks, below, direction};
+
+use crate::node::Node;
+use crate::visit::Walk;
+
+/// How a walk goes.
+#[derive(Clone, Copy)]
+pub(crate) struct Mode {
+    /// Whether a node is visited after all nodes below it.
+    pub postorder: bool,
+    /// What each visit is told of Unicode mode.
+    pub unicode: bool,
+}
+
+/// Calls `func` once for each node of a tree, from left to right, in postorder after all nodes below it, and else before.
+///
+/// In preorder the nodes below a node for which `func` set `skip_children` are passed over. Whatever else it writes to the
+/// `Walk` is dropped. `unicode` is handed on to each visit.
+pub fn walk<F>(postorder: bool, unicode: bool, node: &Node, func: &mut F)
+where
+    F: FnMut(&Node, &mut Walk),
+    requires { F.IsAlwaysCallable func.old }
+    ensures { Walks F.FnMut postorder unicode 0 false func.old (node.now ∷ []) func.new }
+{
+    visit(Mode { postorder, unicode }, 0, false, node, func);
+}
+
+/// Visits a node below `depth` others, and all below it.
+#[cycle(walk)]
+fn visit<F>(mode: Mode, depth: usize, in_lookbehind: bool, node: &Node, func: &mut F)
+where
+    F: FnMut(&Node, &mut Walk),
+    requires { F.IsAlwaysCallable func.old }
+    ensures visited { (d : ℕ) → depth ≡ min d greatest →
+        Walks F.FnMut mode.postorder mode.unicode d in_lookbehind func.old (node.now ∷ []) func.new }
+    ensures callable { F.IsAlwaysCallable func.new }
+{
+    let mut walk = Walk {
+        skip_children: false,
+        depth,
+        in_lookbehind,
+        unicode: mode.unicode,
+    };
+    if mode.postorder {
+        visit_below(mode, depth, in_lookbehind, node, func);
+        func(node, &mut walk);
+        return;
+    }
+    func(node, &mut walk);
+    if !walk.skip_children {
+        visit_below(mode, depth, in_lookbehind, node, func);
+    }
+}
+
+/// Visits all nodes below a node that stands itself below `depth` others.
+#[cycle(walk)]
+fn visit_below<F>(mode: Mode, depth: usize, in_lookbehind: bool, node: &Node, func: &mut F)
+where
+    F: FnMut(&Node, &mut Walk),
+    requires { F.IsAlwaysCallable func.old }
+    ensures visited { (d : ℕ) → depth ≡ min d greatest →
+        Walks F.FnMut mode.postorder mode.unicode (suc d) (direction node.now in_lookbehind) func.old (below node.now) func.new }
+    ensures callable { F.IsAlwaysCallable func.new }
+{
+    let deeper = depth.saturating_add(1);
+    match node {
+        Node::Cat(parts) => {
+            for part in parts {
+                visit(mode, deeper, in_lookbehind, part, func);
+            }
+        }
+        Node::Alt(first, second) => {
+            visit(mode, deeper, in_lookbehind, first, func);
+            visit(mode, deeper, in_lookbehind, second, func);
+        }
+        Node::LookaroundAssertion {
+            backwards,
+            contents,
+            ..
+        } => visit(mode, deeper, *backwards, contents, func),
+        Node::CaptureGroup { contents, .. } => visit(mode, deeper, in_lookbehind, contents, func),
+        Node::Loop { loopee, .. } | Node::Loop1CharBody { loopee, .. } => {
+            visit(mode, deeper, in_lookbehind, loopee, func);
+        }
+        _ => {}
+    }
+}
+
+#[cfg(test)]
+mod tests {
+    use super::*;
+    use regress_front_tables::Error;
+    use std::alloc::Global;
+    use std::test::Fail;
+
+    /// What a walk told at each visit: the kind of the node, the nodes above, whether it is read backwards.
+    #[derive(Clone, Copy, Debug, PartialEq)]
+    struct Told {
+        kind: char,
+        depth: usize,
+        in_lookbehind: bool,
+    }
+
+    fn kind(node: &Node) -> char {
+        match node {
+            Node::Cat(_) => 'c',
+            Node::LookaroundAssertion { .. } => 'l',
+            Node::MatchAny => 'a',
+            Node::Goal => 'g',
+            _ => 'o',
+        }
+    }
+
+    fn look(alloc: Global, backwards: bool, contents: Node) -> Result<Node, Error> {
+        Ok(Node::LookaroundAssertion {
+            negate: false,
+            backwards,
+            start_group: 0,
+            end_group: 0,
+            contents: Box::new(alloc, contents)?,
+        })
+    }
+
+    /// A lookahead in a lookbehind, and the goal.
+    fn sample(alloc: Global) -> Result<Node, Error> {
+        let inner = look(alloc, false, Node::MatchAny)?;
+        let outer = look(alloc, true, inner)?;
+        Ok(Node::Cat(vec![in alloc; outer, Node::Goal]?))
+    }
+
+    fn visit_of(kind: char, depth: usize, in_lookbehind: bool) -> Told {
+        Told {
+            kind,
+            depth,
+            in_lookbehind,
+        }
+    }
+
+    /// The visits of a walk that passes over what stands below the nodes of one kind.
+    fn visits(postorder: bool, node: &Node, passed: char) -> [Option<Told>; 5] {
+        let mut visits = [None; 5];
+        let mut count = 0;
+        walk(
+            postorder,
+            true,
+            node,
+            &mut |node: &Node, walk: &mut Walk| {
+                if count < 5 {
+                    visits[count] = Some(visit_of(kind(node), walk.depth, walk.in_lookbehind));
+                    count += 1;
+                }
+                walk.skip_children = kind(node) == passed;
+            },
+        );
+        visits
+    }
+
+    #[test]
+    fn nodes_are_visited_from_above(rt: HostRuntime) -> Result<(), Fail> {
+        let node = sample(rt.alloc())?;
+        assert_eq!(rt;
+            visits(false, &node, '-'),
+            [
+                Some(visit_of('c', 0, false)),
+                Some(visit_of('l', 1, false)),
+                Some(visit_of('l', 2, true)),
+                Some(visit_of('a', 3, false)),
+                Some(visit_of('g', 1, false)),
+            ]
+        );
+        Ok(())
+    }
+
+    #[test]
+    fn nodes_are_visited_from_below(rt: HostRuntime) -> Result<(), Fail> {
+        let node = sample(rt.alloc())?;
+        assert_eq!(rt;
+            visits(true, &node, 'c'),
+            [
+                Some(visit_of('a', 3, false)),
+                Some(visit_of('l', 2, true)),
+                Some(visit_of('l', 1, false)),
+                Some(visit_of('g', 1, false)),
+                Some(visit_of('c', 0, false)),
+            ]
+        );
+        Ok(())
+    }
+
+    #[test]
+    fn what_is_passed_over_is_not_visited(rt: HostRuntime) -> Result<(), Fail> {
+        let node = sample(rt.alloc())?;
+        assert_eq!(rt;
+            visits(false, &node, 'l'),
+            [
+                Some(visit_of('c', 0, false)),
+                Some(visit_of('l', 1, false)),
+                Some(visit_of('g', 1, false)),
+                None,
+                None,
+            ]
+        );
+        Ok(())
+    }
+}

@@ -1,0 +1,5 @@
+use Rattle.regress_front_sets.proofs.ClassLemmas.{members_of_digits}
+use Rattle.regress_front_sets.proofs.character_classes.digits.Goals as goal
+
+pub returns-clause-members : goal.returns-clause-members
+returns-clause-members c = members_of_digits

@@ -1,6 +1,0 @@
-use Rattle.regress_meaning.specs.Table.{canon}
-use Rattle.regress_front_sets.proofs.folding.add_icase_code_points.Goals as goal
-
-pub returns-clause-members : goal.returns-clause-members
-unfolding canon
-returns-clause-members c = c.closure.ensures.members

@@ -1,0 +1,171 @@
+//! The code points that class escapes hold.
+ghost use Rattle.std.specs.Prelude.{◌≡◌, ℕ};
+ghost use Rattle.regress_meaning.specs.TableParts.{IntervalsRise, in_intervals};
+ghost use Rattle.regress_meaning.specs.Class.{is_ascii_word, is_digit, is_space};
+ghost use Rattle.regress_meaning.specs.Meaning.{is_line_end};
+ghost use Rattle.regress_front_sets.specs.Intervals.{ends_of};
+
+use crate::interval::{CodePoint, Interval};
+
+/// What a class escape holds, or what it does not hold where its letter is a capital ("CharacterClassEscape").
+#[derive(Debug, Clone, Copy)]
+pub enum CharacterClassType {
+    /// `\d`.
+    Digits,
+    /// `\s`.
+    Spaces,
+    /// `\w`.
+    Words,
+}
+
+/// What `\w` holds where case is not ignored: ASCII letters, digits and `_` ("WordCharacters").
+pub const WORD_CHARS: [Interval; 4] = [
+    Interval {
+        first: 0x30,
+        last: 0x39,
+    },
+    Interval {
+        first: 0x41,
+        last: 0x5A,
+    },
+    Interval {
+        first: 0x5F,
+        last: 0x5F,
+    },
+    Interval {
+        first: 0x61,
+        last: 0x7A,
+    },
+];
+
+/// What `\d` holds: ASCII digits.
+pub const DIGITS: [Interval; 1] = [Interval {
+    first: 0x30,
+    last: 0x39,
+}];
+
+/// What `\s` holds: white space and line terminators ("WhiteSpace", "LineTerminator").
+pub const WHITESPACE: [Interval; 10] = [
+    Interval {
+        first: 0x9,
+        last: 0xD,
+    },
+    Interval {
+        first: 0x20,
+        last: 0x20,
+    },
+    Interval {
+        first: 0xA0,
+        last: 0xA0,
+    },
+    Interval {
+        first: 0x1680,
+        last: 0x1680,
+    },
+    Interval {
+        first: 0x2000,
+        last: 0x200A,
+    },
+    Interval {
+        first: 0x2028,
+        last: 0x2029,
+    },
+    Interval {
+        first: 0x202F,
+        last: 0x202F,
+    },
+    Interval {
+        first: 0x205F,
+        last: 0x205F,
+    },
+    Interval {
+        first: 0x3000,
+        last: 0x3000,
+    },
+    Interval {
+        first: 0xFEFF,
+        last: 0xFEFF,
+    },
+];
+
+/// The line terminators ("LineTerminator").
+pub const LINE_TERMINATOR: [Interval; 3] = [
+    Interval {
+        first: 0xA,
+        last: 0xA,
+    },
+    Interval {
+        first: 0xD,
+        last: 0xD,
+    },
+    Interval {
+        first: 0x2028,
+        last: 0x2029,
+    },
+];
+
+/// `WORD_CHARS`, with a contract that tells its members, since a clause cannot name a constant of intervals.
+pub const fn word_chars() -> [Interval; 4]
+    ensures members { (c : ℕ) → in_intervals (ends_of result) c ≡ is_ascii_word c }
+    ensures rise { IntervalsRise (ends_of result) }
+{
+    WORD_CHARS
+}
+
+/// `DIGITS`, with a contract that tells its members.
+pub const fn digits() -> [Interval; 1]
+    ensures members { (c : ℕ) → in_intervals (ends_of result) c ≡ is_digit c }
+    ensures rise { IntervalsRise (ends_of result) }
+{
+    DIGITS
+}
+
+/// `WHITESPACE`, with a contract that tells its members.
+pub const fn whitespace() -> [Interval; 10]
+    ensures members { (c : ℕ) → in_intervals (ends_of result) c ≡ is_space c }
+    ensures rise { IntervalsRise (ends_of result) }
+{
+    WHITESPACE
+}
+
+/// `LINE_TERMINATOR`, with a contract that tells its members.
+pub const fn line_terminator() -> [Interval; 3]
+    ensures members { (c : ℕ) → in_intervals (ends_of result) c ≡ is_line_end c }
+    ensures rise { IntervalsRise (ends_of result) }
+{
+    LINE_TERMINATOR
+}
+
+/// Whether the code point is an ASCII letter, a digit or `_`: what `\w` holds where case is not ignored ("WordCharacters").
+pub fn is_ascii_word(point: CodePoint) -> bool
+    ensures { result ≡ is_ascii_word point }
+{
+    matches!(
+        char::from_u32(point),
+        Some('0'..='9' | 'A'..='Z' | 'a'..='z' | '_')
+    )
+}
+
+#[cfg(test)]
+mod tests {
+    use super::*;
+
+    #[test]
+    fn class_intervals_have_their_ends(rt: HostRuntime) {
+        assert!(rt; word_chars()[2].contains(0x5F));
+        assert!(rt; !word_chars()[3].contains(0x7B));
+        assert!(rt; digits()[0].contains(0x39));
+        assert!(rt; whitespace()[9].contains(0xFEFF));
+        assert!(rt; line_terminator()[2].contains(0x2029));
+    }
+
+    #[test]
+    fn words_are_of_letters_digits_and_the_low_line(rt: HostRuntime) {
+        for point in [0x30, 0x39, 0x41, 0x5A, 0x5F, 0x61, 0x7A] {
+            assert!(rt; is_ascii_word(point));
+        }
+        for point in [0x2F, 0x3A, 0x40, 0x5B, 0x60, 0x7B, 0x17F, 0x110000] {
+            assert!(rt; !is_ascii_word(point));
+        }
+    }
+}

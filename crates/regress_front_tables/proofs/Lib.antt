@@ -1,0 +1,10 @@
+pub mod ClassLemmas
+pub mod EntryLemmas
+pub mod FoldingLemmas
+pub mod ImageLemmas
+pub mod LawLemmas
+pub mod ListLemmas
+pub mod OrderLemmas
+pub mod RangeLemmas
+pub mod SurrogateLemmas
+pub mod TellingLemmas

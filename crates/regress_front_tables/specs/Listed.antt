@@ -1,0 +1,23 @@
+-- The parts that lists and sets stand for.
+use Rattle.std.specs.Prelude.{ℕ, List, String, Vec, map}
+use Rattle.std.specs.declared.alloc.Global.{Global}
+use Rattle.regress_meaning.specs.TableParts.{TableParts}
+use Rattle.regress_front_sets.specs.declared.code_point_set.CodePointSet.{CodePointSet}
+use Rattle.regress_front_sets.specs.Intervals.{ends_of}
+use Rattle.regress_front_tables.specs.Entries.{entry_of}
+
+-- the ends of a set's intervals
+abbrev pub ends_in : CodePointSet → List (ℕ × ℕ)
+ends_in set = ends_of set.intervals.items
+
+-- the parts of the lists and the sets
+abbrev pub listed : List (ℕ × ℕ) → List (ℕ × ℕ) → CodePointSet → CodePointSet → List (String Global × CodePointSet)
+    → List (String Global × Vec (Vec ℕ Global) Global) → TableParts
+listed fold upper id_start id_continue properties sequences = record {
+  fold = fold;
+  upper = upper;
+  id_start = ends_in id_start;
+  id_continue = ends_in id_continue;
+  properties = map (entry_of ends_in) properties;
+  sequences = map (entry_of (λ v. map (λ s. s.items) v.items)) sequences;
+}

@@ -1,0 +1,247 @@
+//! Code points where case is ignored: what they fold to, which fold alike, and sets closed under that.
+ghost use Rattle.std.specs.Prelude.{◌≡◌, ◌+◌, ◌<◌, ◌≤◌, ◌==◌, ℕ, Bool, true, false, ◌∷◌, [], vec_len, IfOk, OnOk, IsOkUnless};
+ghost use Rattle.regress_meaning.specs.Text.{holds};
+ghost use Rattle.regress_meaning.specs.Table.{canon, closure};
+ghost use Rattle.regress_meaning.specs.TableParts.{image};
+ghost use Rattle.regress_front_tables.specs.declared.tables.Tables.{Tables};
+ghost use Rattle.regress_front_tables.specs.TableViews.{table};
+ghost use Rattle.regress_front_sets.specs.Sets.{in_set};
+ghost use Rattle.regress_front_tables.specs.Folding.{Lists, IsCaseMap, GrowsInside};
+
+use regress_front_sets::CodePointSet;
+use regress_front_sets::Error;
+use regress_front_sets::{CODE_POINT_MAX, CodePoint};
+use crate::tables::Tables;
+use crate::tables::image::image;
+use std::alloc::Global;
+
+/// The simple case folding of a code point, which is itself where it has no other ("Canonicalize").
+pub fn fold(tables: &Tables, c: CodePoint) -> CodePoint
+    ensures { result ≡ (table tables.now).fold c }
+{
+    tables.fold(c)
+}
+
+/// The code points that fold to what this one folds to, from low to high ("Canonicalize", in Unicode mode). Where memory
+/// is refused the error is `OutOfMemory`, and there is no other.
+pub fn unfold_char(alloc: Global, c: CodePoint, tables: &Tables) -> Result<Vec<CodePoint>, Error>
+    requires { c ≤ CODE_POINT_MAX }
+    ensures members { IfOk result (λ cs. Lists (λ d. (table tables.now).fold d == (table tables.now).fold c) cs.items) }
+    ensures refused { IsOkUnless result Error.OutOfMemory }
+{
+    sharing(alloc, pairs_of(tables, true), c)
+}
+
+/// All code points that fold to what a member of the set folds to ("CharacterSetMatcher", where case is ignored in Unicode
+/// mode). Where memory is refused the error is `OutOfMemory`, and there is no other.
+pub fn add_icase_code_points(set: CodePointSet, tables: &Tables) -> Result<CodePointSet, Error>
+    ensures members { IfOk result (λ all. (c : ℕ) → in_set all c ≡ closure (table tables.now).fold (in_set set) c) }
+    ensures refused { IsOkUnless result Error.OutOfMemory }
+{
+    closure(set, true, tables)
+}
+
+/// All code points that a member of the set stands for where case is ignored: those with its fold in Unicode mode, and else
+/// those with its upper case ("CharacterSetMatcher"). Where memory is refused the error is `OutOfMemory`, and there is no
+/// other.
+pub fn closure(set: CodePointSet, unicode: bool, tables: &Tables) -> Result<CodePointSet, Error>
+    ensures members { IfOk result (λ all. (c : ℕ) → in_set all c ≡ closure (canon (table tables.now) unicode) (in_set set) c) }
+    ensures refused { IsOkUnless result Error.OutOfMemory }
+{
+    closed_by(set, pairs_of(tables, unicode))
+}
+
+/// The code points that a code point of a pattern stands for, from low to high: itself, or where case is ignored all with its
+/// fold in Unicode mode, and else all with its upper case ("CharacterSetMatcher"). There are at most four. Where memory is
+/// refused the error is `OutOfMemory`, and there is no other.
+pub fn expand_code_point(
+    alloc: Global,
+    cp: CodePoint,
+    icase: bool,
+    unicode: bool,
+    tables: &Tables,
+) -> Result<Vec<CodePoint>, Error>
+    requires { cp ≤ CODE_POINT_MAX }
+    ensures alone { icase ≡ false → IfOk result (λ cs. cs.items ≡ cp ∷ []) }
+    ensures all { icase ≡ true → IfOk result (λ cs. Lists (λ c. canon (table tables.now) unicode c == canon (table tables.now) unicode cp) cs.items) }
+    ensures own { IfOk result (λ cs. holds cs.items cp ≡ true) }
+    ensures few { IfOk result (λ cs. (0 < vec_len cs) × (vec_len cs ≤ 4)) }
+    ensures refused { IsOkUnless result Error.OutOfMemory }
+{
+    if icase {
+        sharing(alloc, pairs_of(tables, unicode), cp)
+    } else {
+        Ok(vec![in alloc; cp]?)
+    }
+}
+
+/// Folding applied twice is folding applied once, and so is upper case.
+pub fn fold_is_idempotent()
+    ensures fold { (tables : Tables) → (c : ℕ) → (table tables).fold ((table tables).fold c) ≡ (table tables).fold c }
+    ensures upper { (tables : Tables) → (c : ℕ) → (table tables).upper ((table tables).upper c) ≡ (table tables).upper c }
+{}
+
+/// The pairs by which case is ignored: those of the fold in Unicode mode, and else those of the upper case.
+fn pairs_of(tables: &Tables, unicode: bool) -> &[(CodePoint, CodePoint)]
+    ensures lawful { IsCaseMap result.now }
+    ensures canon { image result.now ≡ canon (table tables.now) unicode }
+{
+    if unicode { &tables.fold } else { &tables.upper }
+}
+
+/// The code points that a map takes to where it takes this one, from low to high.
+fn sharing(
+    alloc: Global,
+    pairs: &[(CodePoint, CodePoint)],
+    c: CodePoint,
+) -> Result<Vec<CodePoint>, Error>
+    requires lawful { IsCaseMap pairs.now }
+    requires code_point { c ≤ CODE_POINT_MAX }
+    ensures members { IfOk result (λ cs. Lists (λ d. image pairs.now d == image pairs.now c) cs.items) }
+    ensures few { IfOk result (λ cs. (0 < vec_len cs) × (vec_len cs ≤ 4)) }
+    ensures refused { IsOkUnless result Error.OutOfMemory }
+{
+    let to = image(pairs, c);
+    let mut sharing: Vec<CodePoint> = pairs
+        .iter()
+        .filter(|pair| pair.1 == to)
+        .map(|pair| pair.0)
+        .collect(alloc)?;
+    if let Err(place) = sharing.binary_search(&to) {
+        sharing.insert(place, to)?;
+    }
+    Ok(sharing)
+}
+
+/// The code points that a map takes to where it takes a member.
+fn closed_by(set: CodePointSet, pairs: &[(CodePoint, CodePoint)]) -> Result<CodePointSet, Error>
+    requires { IsCaseMap pairs.now }
+    ensures members { IfOk result (λ closed. (c : ℕ) → in_set closed c ≡ closure (image pairs.now) (in_set set) c) }
+    ensures refused { IsOkUnless result Error.OutOfMemory }
+{
+    let mut closed = set;
+    add_images(&mut closed, pairs)?;
+    add_sources(&mut closed, pairs)?;
+    Ok(closed)
+}
+
+/// Adds what a map takes the members to.
+fn add_images(set: &mut CodePointSet, pairs: &[(CodePoint, CodePoint)]) -> Result<(), Error>
+    requires { IsCaseMap pairs.now }
+    ensures inside { OnOk result (GrowsInside (image pairs.now) (in_set set.old) (in_set set.new)) }
+    ensures images { OnOk result ((c : ℕ) → in_set set.old c ≡ true → in_set set.new (image pairs.now c) ≡ true) }
+    ensures refused { IsOkUnless result Error.OutOfMemory }
+{
+    for (from, to) in pairs {
+        if set.contains(*from) {
+            set.add_one(*to)?;
+        }
+    }
+    Ok(())
+}
+
+/// Adds what a map takes to the members.
+fn add_sources(set: &mut CodePointSet, pairs: &[(CodePoint, CodePoint)]) -> Result<(), Error>
+    requires { IsCaseMap pairs.now }
+    ensures inside { OnOk result (GrowsInside (image pairs.now) (in_set set.old) (in_set set.new)) }
+    ensures sources { OnOk result ((c : ℕ) → in_set set.old (image pairs.now c) ≡ true → in_set set.new c ≡ true) }
+    ensures refused { IsOkUnless result Error.OutOfMemory }
+{
+    for (from, to) in pairs {
+        if set.contains(*to) {
+            set.add_one(*from)?;
+        }
+    }
+    Ok(())
+}
+
+#[cfg(test)]
+mod tests {
+    use super::*;
+    use regress_front_sets::Interval;
+    use crate::tables::parts::TableParts;
+    use std::test::Fail;
+
+    #[test]
+    fn code_points_fold(rt: HostRuntime) -> Result<(), Fail> {
+        let tables = Tables::small(rt.alloc())?;
+        assert_eq!(rt; fold(&tables, 0x4B), 0x6B);
+        assert_eq!(rt; fold(&tables, 0x212A), 0x6B);
+        assert_eq!(rt; fold(&tables, 0x6B), 0x6B);
+        Ok(())
+    }
+
+    #[test]
+    fn a_fold_is_undone(rt: HostRuntime) -> Result<(), Fail> {
+        let tables = Tables::small(rt.alloc())?;
+        let thetas = unfold_char(rt.alloc(), 0x3F4, &tables)?;
+        assert_eq!(rt; thetas.as_slice(), [0x398, 0x3B8, 0x3D1, 0x3F4].as_slice());
+        let digit = unfold_char(rt.alloc(), 0x30, &tables)?;
+        assert_eq!(rt; digit.as_slice(), [0x30].as_slice());
+        Ok(())
+    }
+
+    #[test]
+    fn the_last_code_point_is_unfolded(rt: HostRuntime) -> Result<(), Fail> {
+        let mut parts = TableParts::small(rt.alloc())?;
+        parts.fold.push((0x10_FFFE, 0x10_FFFF))?;
+        let tables = Tables::new(rt.alloc(), parts)?;
+        let last = unfold_char(rt.alloc(), 0x10_FFFF, &tables)?;
+        assert_eq!(rt; last.as_slice(), [0x10_FFFE, 0x10_FFFF].as_slice());
+        Ok(())
+    }
+
+    #[test]
+    fn a_code_point_is_expanded(rt: HostRuntime) -> Result<(), Fail> {
+        let tables = Tables::small(rt.alloc())?;
+        let sigmas = expand_code_point(rt.alloc(), 0x3C3, true, false, &tables)?;
+        assert_eq!(rt; sigmas.as_slice(), [0x3A3, 0x3C2, 0x3C3].as_slice());
+        let long_s = expand_code_point(rt.alloc(), 0x73, true, true, &tables)?;
+        assert_eq!(rt; long_s.as_slice(), [0x53, 0x73, 0x17F].as_slice());
+        let s = expand_code_point(rt.alloc(), 0x73, true, false, &tables)?;
+        assert_eq!(rt; s.as_slice(), [0x53, 0x73].as_slice());
+        let alone = expand_code_point(rt.alloc(), 0x73, false, true, &tables)?;
+        assert_eq!(rt; alone.as_slice(), [0x73].as_slice());
+        Ok(())
+    }
+
+    fn set_of_k(alloc: Global) -> Result<CodePointSet, Error> {
+        let mut set = CodePointSet::new(alloc);
+        set.add(Interval {
+            first: 0x6B,
+            last: 0x6B,
+        })?;
+        Ok(set)
+    }
+
+    fn is_set_of(set: &CodePointSet, expected: &[CodePoint]) -> bool {
+        let intervals = set.intervals();
+        intervals.len() == expected.len()
+            && intervals
+                .iter()
+                .zip(expected)
+                .all(|(i, e)| i.first == *e && i.last == *e)
+    }
+
+    #[test]
+    fn a_set_is_closed(rt: HostRuntime) -> Result<(), Fail> {
+        let tables = Tables::small(rt.alloc())?;
+        let folded = add_icase_code_points(set_of_k(rt.alloc())?, &tables)?;
+        assert!(rt; is_set_of(&folded, &[0x4B, 0x6B, 0x212A]));
+        let unicode = closure(set_of_k(rt.alloc())?, true, &tables)?;
+        assert!(rt; is_set_of(&unicode, &[0x4B, 0x6B, 0x212A]));
+        let upper = closure(set_of_k(rt.alloc())?, false, &tables)?;
+        assert!(rt; is_set_of(&upper, &[0x4B, 0x6B]));
+        Ok(())
+    }
+
+    #[test]
+    fn refused_memory_is_told(rt: HostRuntime) {
+        if let Ok(tables) = Tables::small(rt.alloc()) {
+            match unfold_char(rt.alloc(), 0x6B, &tables) {
+                Ok(ks) => assert_eq!(rt; ks.as_slice(), [0x4B, 0x6B, 0x212A].as_slice()),
+                Err(e) => assert_eq!(rt; e, Error::OutOfMemory),
+            }
+        }
+    }
+}

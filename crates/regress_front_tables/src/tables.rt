@@ -1,0 +1,281 @@
+//! Case and properties of code points.
+ghost use Rattle.std.specs.Prelude.{◌≡◌, All, IfOk, map, chars, option_map, option_copied};
+ghost use Rattle.regress_meaning.specs.TableParts.{IsLawful, IntervalsRise, entry};
+ghost use Rattle.regress_front_sets.specs.Props.{IsLawful-prop};
+ghost use Rattle.regress_front_sets.specs.Intervals.{ends_of};
+ghost use Rattle.regress_front_tables.specs.Entries.{entry_of};
+ghost use Rattle.regress_front_tables.specs.Listed.{listed, ends_in};
+
+mod check;
+pub(crate) mod image;
+pub(crate) mod law;
+mod order;
+pub(crate) mod parts;
+mod range;
+pub(crate) mod single;
+
+use regress_front_sets::CodePointSet;
+use regress_front_sets::{CodePoint, Interval};
+use check::check_laws;
+use image::image;
+use law::TableError;
+use parts::TableParts;
+use std::alloc::{AllocError, Global};
+
+/// Case and properties of code points, which patterns are compiled by. They keep all laws (`TableLaw`).
+#[derive(Debug, Drop)]
+pub struct Tables {
+    pub(crate) fold: Vec<(CodePoint, CodePoint)>,
+    pub(crate) upper: Vec<(CodePoint, CodePoint)>,
+    id_start: CodePointSet,
+    id_continue: CodePointSet,
+    properties: Vec<(String, CodePointSet)>,
+    sequences: Vec<(String, Vec<Vec<CodePoint>>)>,
+    pub ghost lawful: { IsLawful (listed fold.items upper.items id_start id_continue properties.items sequences.items) } by { IsLawful-prop (listed fold.items upper.items id_start id_continue properties.items sequences.items) },
+}
+
+impl Tables {
+    ghost use Rattle.std.specs.Prelude.{IfErr, OnOk, IsOkUnless};
+    ghost use Rattle.regress_meaning.specs.Table.{canon};
+    ghost use Rattle.regress_meaning.specs.TableParts.{table_of, small_parts};
+    ghost use Rattle.regress_front_tables.specs.Parts.{parts_of};
+    ghost use Rattle.regress_front_sets.specs.Sets.{in_set};
+    ghost use Rattle.regress_front_tables.specs.Breaking.{TellsBroken};
+    ghost use Rattle.regress_front_tables.specs.TableViews.{table, parts as parts_in};
+
+    /// The tables with these parts, if the parts keep all laws. Otherwise `Broken` tells the first law that they break, in
+    /// the order of `TableLaw`. Where a request for memory is refused, the error is `OutOfMemory`.
+    pub fn new(alloc: Global, parts: TableParts) -> Result<Tables, TableError>
+        ensures made { IfOk result (λ tables. parts_in tables ≡ parts_of parts) }
+        ensures lawful { OnOk result (IsLawful (parts_of parts)) }
+        ensures broken { IfErr result (λ e. TellsBroken e (parts_of parts)) }
+    {
+        check_laws(alloc, &parts)?;
+        let properties = property_sets(alloc, parts.properties)?;
+        Ok(Tables {
+            fold: parts.fold,
+            upper: parts.upper,
+            id_start: CodePointSet::from_sorted_disjoint_intervals(parts.id_start),
+            id_continue: CodePointSet::from_sorted_disjoint_intervals(parts.id_continue),
+            properties,
+            sequences: parts.sequences,
+        })
+    }
+
+    /// The small table, which knows ASCII, a few letters beyond it and four keys. The only error is `OutOfMemory`.
+    pub fn small(alloc: Global) -> Result<Tables, TableError>
+        ensures small { IfOk result (λ tables. table tables ≡ table_of small_parts) }
+        ensures refused { IsOkUnless result TableError.OutOfMemory }
+    {
+        regress_meaning::small_parts_are_lawful();
+        Tables::new(alloc, TableParts::small(alloc)?)
+    }
+
+    /// The simple case folding of a code point, which is itself where it has no other ("Canonicalize").
+    pub fn fold(&self, c: CodePoint) -> CodePoint
+        ensures { result ≡ (table self.now).fold c }
+    {
+        image(&self.fold, c)
+    }
+
+    /// The simple upper case of a code point, which is itself where it has no other ("Canonicalize").
+    pub fn upper(&self, c: CodePoint) -> CodePoint
+        ensures { result ≡ (table self.now).upper c }
+    {
+        image(&self.upper, c)
+    }
+
+    /// What two code points have alike where case is ignored: the fold in Unicode mode, and else the upper case
+    /// ("Canonicalize").
+    pub fn canon(&self, unicode: bool, c: CodePoint) -> CodePoint
+        ensures { result ≡ canon (table self.now) unicode c }
+    {
+        if unicode { self.fold(c) } else { self.upper(c) }
+    }
+
+    /// Whether an identifier may begin with the code point ("IdentifierStartChar", without `$` and `_`).
+    pub fn id_start(&self, c: CodePoint) -> bool
+        ensures { result ≡ (table self.now).is_id_start c }
+    {
+        self.id_start.contains(c)
+    }
+
+    /// Whether an identifier may go on with the code point ("IdentifierPartChar", without `$`).
+    pub fn id_continue(&self, c: CodePoint) -> bool
+        ensures { result ≡ (table self.now).is_id_continue c }
+    {
+        self.id_continue.contains(c)
+    }
+
+    /// The code points with a property ("UnicodeMatchProperty"). The key is the text between the braces of `\p{..}`. The
+    /// answer is `None` where no property of code points has that key.
+    pub fn property(&self, key: &str) -> Option<&CodePointSet>
+        ensures { option_map (λ set. in_set set.now) result ≡ (table self.now).property (chars key.now) }
+    {
+        entry(&self.properties, key)
+    }
+
+    /// The strings with a property of strings ("UnicodeMatchProperty"), each as its code points. The key is the text between
+    /// the braces of `\p{..}`. The answer is `None` where no property of strings has that key.
+    pub fn sequences(&self, key: &str) -> Option<&[Vec<CodePoint>]>
+        ensures { option_map (λ strings. map (λ s. s.items) strings.now) result ≡ (table self.now).sequences (chars key.now) }
+    {
+        entry(&self.sequences, key).map(|strings| strings.as_slice())
+    }
+}
+
+/// The properties, with a set for each list of intervals.
+fn property_sets(
+    alloc: Global,
+    properties: Vec<(String, Vec<Interval>)>,
+) -> Result<Vec<(String, CodePointSet)>, AllocError>
+    requires { All (λ e. IntervalsRise (ends_of e.1.items)) properties.items }
+    ensures { IfOk result (λ sets. map (entry_of ends_in) sets.items ≡ map (entry_of (λ v. ends_of v.items)) properties.items) }
+{
+    properties
+        .into_iter()
+        .map(|(key, intervals)| (key, CodePointSet::from_sorted_disjoint_intervals(intervals)))
+        .collect(alloc)
+}
+
+/// What stands under a key, at its first entry.
+fn entry<'a, T>(entries: &'a [(String, T)], key: &str) -> Option<&'a T>
+    ensures { option_copied result ≡ entry (chars key.now) (map (entry_of (λ v. v)) entries.now) }
+{
+    entries.iter().find(|e| e.0.as_str() == key).map(|e| &e.1)
+}
+
+#[cfg(test)]
+mod tests {
+    use super::*;
+    use law::TableLaw;
+    use std::test::Fail;
+
+    /// Whether exactly this is told of the parts.
+    fn is_told(
+        alloc: Global,
+        parts: TableParts,
+        expected: TableLaw,
+        expected_code_point: CodePoint,
+    ) -> bool {
+        match Tables::new(alloc, parts) {
+            Err(TableError::Broken { law, code_point }) => law == expected
+                && code_point == expected_code_point,
+            _ => false,
+        }
+    }
+
+    #[test]
+    fn case_is_that_of_the_small_table(rt: HostRuntime) -> Result<(), Fail> {
+        let tables = Tables::small(rt.alloc())?;
+        assert_eq!(rt; tables.fold(0x41), 0x61);
+        assert_eq!(rt; tables.fold(0x212A), 0x6B);
+        assert_eq!(rt; tables.fold(0x61), 0x61);
+        assert_eq!(rt; tables.upper(0x3C2), 0x3A3);
+        assert_eq!(rt; tables.upper(0x10_FFFF), 0x10_FFFF);
+        assert_eq!(rt; tables.canon(true, 0x17F), 0x73);
+        assert_eq!(rt; tables.canon(false, 0x17F), 0x17F);
+        Ok(())
+    }
+
+    #[test]
+    fn identifiers_are_those_of_the_small_table(rt: HostRuntime) -> Result<(), Fail> {
+        let tables = Tables::small(rt.alloc())?;
+        assert!(rt; tables.id_start(0x5A));
+        assert!(rt; !tables.id_start(0x30));
+        assert!(rt; tables.id_continue(0x30));
+        assert!(rt; !tables.id_continue(0x24));
+        Ok(())
+    }
+
+    #[test]
+    fn properties_are_those_of_the_small_table(rt: HostRuntime) -> Result<(), Fail> {
+        let tables = Tables::small(rt.alloc())?;
+        let digits = tables.property("ASCII_Hex_Digit").ok_or("no digits")?;
+        assert!(rt; digits.contains(0x66));
+        assert!(rt; !digits.contains(0x67));
+        assert!(rt; tables.property("ASCII_Hex").is_none());
+        let keycaps = tables
+            .sequences("Emoji_Keycap_Sequence")
+            .ok_or("no keycaps")?;
+        assert_eq!(rt; keycaps.len(), 12);
+        let last = keycaps.last().ok_or("no keycap")?;
+        assert_eq!(rt; last.as_slice(), [0x39, 0xFE0F, 0x20E3].as_slice());
+        assert!(rt; tables.sequences("ASCII").is_none());
+        Ok(())
+    }
+
+    #[test]
+    fn lawful_parts_are_accepted(rt: HostRuntime) -> Result<(), Fail> {
+        let mut parts = TableParts::small(rt.alloc())?;
+        parts.fold.push((0x10_FFFE, 0x10_FFFF))?;
+        let tables = Tables::new(rt.alloc(), parts)?;
+        assert_eq!(rt; tables.fold(0x10_FFFE), 0x10_FFFF);
+        Ok(())
+    }
+
+    #[test]
+    fn laws_on_lists_are_told(rt: HostRuntime) -> Result<(), Fail> {
+        let mut parts = TableParts::small(rt.alloc())?;
+        parts.fold.push((0x11_0000, 0))?;
+        assert!(rt; is_told(rt.alloc(), parts, TableLaw::Range, 0x11_0000));
+
+        let mut parts = TableParts::small(rt.alloc())?;
+        assert!(rt; parts.upper.len() > 1);
+        parts.upper.swap(0, 1);
+        assert!(rt; is_told(rt.alloc(), parts, TableLaw::Order, 0x61));
+
+        let mut parts = TableParts::small(rt.alloc())?;
+        assert!(rt; parts.id_start.len() > 1);
+        parts.id_start.swap(0, 1);
+        assert!(rt; is_told(rt.alloc(), parts, TableLaw::Canonical, 0x41));
+
+        let mut parts = TableParts::small(rt.alloc())?;
+        parts.id_start.insert(
+            0,
+            Interval {
+                first: 0x24,
+                last: 0x24,
+            },
+        )?;
+        assert!(rt; is_told(rt.alloc(), parts, TableLaw::Identifier, 0x24));
+        Ok(())
+    }
+
+    #[test]
+    fn laws_on_case_are_told(rt: HostRuntime) -> Result<(), Fail> {
+        let mut parts = TableParts::small(rt.alloc())?;
+        parts.fold.retain(|pair| pair.0 != 0x41);
+        assert!(rt; is_told(rt.alloc(), parts, TableLaw::AsciiCase, 0x41));
+
+        let mut parts = TableParts::small(rt.alloc())?;
+        parts
+            .fold
+            .extend_from_slice(&[(0x100, 0x101), (0x101, 0x102)])?;
+        parts.fold.sort_unstable();
+        assert!(rt; is_told(rt.alloc(), parts, TableLaw::Idempotent, 0x100));
+
+        let mut parts = TableParts::small(rt.alloc())?;
+        parts.fold.extend_from_slice(&[
+            (0x201, 0x200),
+            (0x202, 0x200),
+            (0x203, 0x200),
+            (0x204, 0x200),
+        ])?;
+        parts.fold.sort_unstable();
+        assert!(rt; is_told(rt.alloc(), parts, TableLaw::ClassSize, 0x200));
+
+        let mut parts = TableParts::small(rt.alloc())?;
+        parts.fold.push((0xE000, 0xD800))?;
+        assert!(rt; is_told(rt.alloc(), parts, TableLaw::Surrogate, 0xE000));
+        Ok(())
+    }
+
+    #[test]
+    fn only_refused_memory_keeps_from_the_small_table(rt: HostRuntime) {
+        match Tables::small(rt.alloc()) {
+            Ok(tables) => assert_eq!(rt; tables.fold(0x41), 0x61),
+            Err(error) => assert_eq!(rt; error, TableError::OutOfMemory),
+        }
+    }
+}
