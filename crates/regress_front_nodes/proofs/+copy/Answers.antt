@@ -4,7 +4,7 @@ use Rattle.regress_front_nodes.specs.Trees.{tree}
 use Rattle.regress_front_nodes.proofs.KindLemmas.{other_than_copied}
 use Rattle.regress_front_nodes.proofs.TreeLaws.{tree-Alt}
 use Rattle.regress_front_nodes.proofs.CopyLemmas.{MayBeCopied-first, MayBeCopied-more, MayBeCopied-at, parts-more}
-use Rattle.regress_front_tree.proofs.+copy.Goals as goal
+use Rattle.regress_front_nodes.proofs.+copy.Goals as goal
 
 pub copy::copies-loop-part-init : goal.copy::copies-loop-part-init
 copy::copies-loop-part-init t c = (ap (map tree) c.new-copies.ensures.items, (refl, omega (arith, c.requires)))

@@ -1,7 +1,7 @@
 use Rattle.std.proofs.Common.{◌≡◌, map, take}
 use Rattle.regress_front_nodes.specs.Trees.{tree, cat_of}
 use Rattle.regress_front_nodes.specs.Copies.{MayBeCopied}
-use Rattle.regress_front_tree.proofs.+copy.Given as goal
+use Rattle.regress_front_nodes.proofs.+copy.Given as goal
 
 -- the copies so far are those of the parts so far, which may be copied
 abbrev pub invariant-copy::copies-loop-part : goal.invariant-copy::copies-loop-part
