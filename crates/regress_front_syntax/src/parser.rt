@@ -19,7 +19,8 @@ use crate::escape::Escape;
 use crate::group::Opening;
 use crate::mode::Mode;
 use crate::scan::mode;
-use crate::syntax::{Quantifier, Syntax};
+use crate::syntax::Syntax;
+use regress_front_tables::Quantifier;
 use regress_front_tables::{
     CodePoint, Error, Flags, MAX_CAPTURE_GROUPS, MAX_LOOPS, MAX_NESTING_DEPTH, Tables,
 };

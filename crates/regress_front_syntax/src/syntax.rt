@@ -1,6 +1,6 @@
 //! The syntax tree of a pattern, as the parser makes it.
 
-use regress_front_tables::CodePoint;
+use regress_front_tables::{CodePoint, Quantifier};
 use std::ops::Range;
 
 /// What modifiers switch on, or off ("RegularExpressionModifiers").
