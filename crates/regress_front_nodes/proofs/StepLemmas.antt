@@ -49,7 +49,7 @@ module _ (w : Context) (valid : All is_code_point w.text) where
       by_found (Some (cs, p)) e = rw (same cs (beside-valid dir k s.place cs p e)) refl
 
 module _ (w : Context) (valid : All is_code_point w.text) (dir : Direction) (s : State) (inside : s.place ≤ length w.text) where
-  beside-length : (d : Direction) (k : ℕ) (cs : List ℕ) (q : ℕ) → beside w d k s.place ≡ Some (cs, q) → length cs ≡ k
+  pub beside-length : (d : Direction) (k : ℕ) (cs : List ℕ) (q : ℕ) → beside w d k s.place ≡ Some (cs, q) → length cs ≡ k
   unfolding beside
   beside-length Forward k cs q e = by_room (nat_le (s.place + k) (length w.text)) refl e
     where

@@ -139,7 +139,7 @@ fn word_set(alloc: Global, tables: &Tables, folded: bool) -> Result<CodePointSet
     ensures ok { IfOk result (λ s. in_set s ≡ is_word (table tables.now) folded) }
     ensures err { IfErr result (λ e. e ≡ Error.OutOfMemory) }
 {
-    regress_front_sets::fold_is_idempotent();
+    regress_front_tables::fold_is_idempotent();
     let words = set_of(alloc, &word_chars())?;
     if folded {
         add_icase_code_points(words, tables)

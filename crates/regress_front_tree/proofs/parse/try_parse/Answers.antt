@@ -10,7 +10,7 @@ use Rattle.regress_front_nodes.specs.Trees.{Tree, tree, goal, cat_of}
 use Rattle.regress_front_nodes.specs.TreeMeaning.{node_outcomes}
 use Rattle.regress_front_nodes.specs.Alike.{distinct}
 use Rattle.regress_front_tree.specs.Lowering.{Lowers}
-use Rattle.regress_front_tree.proofs.AlikeLemmas.{flat_map-self}
+use Rattle.regress_front_nodes.proofs.StepLemmas.{flat_map-self}
 use Rattle.regress_front_tree.proofs.NameTexts.{names-scalars}
 use Rattle.regress_front_nodes.proofs.TreeLaws.{tree-Cat, tree-Goal}
 use Rattle.regress_front_tree.proofs.parse.try_parse.Goals as goals
