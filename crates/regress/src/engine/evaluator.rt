@@ -131,7 +131,7 @@ impl<'s> Evaluator<'s> {
     }
 
     /// The state, where an anchor holds at its place.
-    #[tactic(auto, unfolding(regress_front_tree::specs::TreeMeaning::node_outcomes))]
+    #[tactic(auto, unfolding(regress_front_nodes::specs::TreeMeaning::node_outcomes))]
     fn anchor(
         &self,
         anchor_type: AnchorType,
@@ -150,7 +150,7 @@ impl<'s> Evaluator<'s> {
     }
 
     /// The state, where a word starts or ends at its place; inverted, where none does.
-    #[tactic(auto, unfolding(regress_front_tree::specs::TreeMeaning::node_outcomes))]
+    #[tactic(auto, unfolding(regress_front_nodes::specs::TreeMeaning::node_outcomes))]
     fn word_boundary(
         &self,
         invert: bool,
