@@ -30,18 +30,3 @@ pub fn equal_range_by<T, F: Fn(&T) -> Ordering>(slice: &[T], compare: F) -> Rang
     let len = slice[start..].partition_point(is_equal);
     start..start + len
 }
-
-#[cfg(test)]
-mod tests {
-    use super::*;
-
-    #[test]
-    fn equal_items_are_found(rt: HostRuntime) {
-        let items = [1, 3, 3, 3, 7];
-        assert_eq!(rt; equal_range_by(items.as_slice(), |x| x.cmp(&3)), 1..4);
-        assert_eq!(rt; equal_range_by(items.as_slice(), |x| x.cmp(&1)), 0..1);
-        assert_eq!(rt; equal_range_by(items.as_slice(), |x| x.cmp(&7)), 4..5);
-        assert_eq!(rt; equal_range_by(items.as_slice(), |x| x.cmp(&4)), 4..4);
-        assert_eq!(rt; equal_range_by(items.as_slice(), |x| x.cmp(&9)), 5..5);
-    }
-}

@@ -87,38 +87,3 @@ impl FoldRange {
         }
     }
 }
-
-#[cfg(test)]
-mod tests {
-    use super::*;
-
-    #[test]
-    fn a_range_of_one_ends_where_it_starts(rt: HostRuntime) {
-        let range = CodePointRange::from(0x61, 1);
-        assert_eq!(rt; range.first(), 0x61);
-        assert_eq!(rt; range.last(), 0x61);
-    }
-
-    #[test]
-    fn a_range_ends_at_its_last(rt: HostRuntime) {
-        assert_eq!(rt; CodePointRange::from(0xF_FFFF, 4095).last(), 0x10_0FFD);
-    }
-
-    #[test]
-    fn every_second_is_moved(rt: HostRuntime) {
-        let fold = FoldRange::from(0x100, 0x30, 1, 2);
-        assert_eq!(rt; fold.apply(0x100), Some(0x101));
-        assert_eq!(rt; fold.apply(0x101), None);
-        assert_eq!(rt; fold.apply(0x12E), Some(0x12F));
-        assert_eq!(rt; fold.apply(0x130), None);
-        assert_eq!(rt; fold.apply(0xFF), None);
-    }
-
-    #[test]
-    fn some_are_moved_down(rt: HostRuntime) {
-        assert_eq!(rt;
-            FoldRange::from(0x10A0, 1, -4096, 1).apply(0x10A0),
-            Some(0xA0)
-        );
-    }
-}
