@@ -1,0 +1,5 @@
+pub mod Endings
+pub mod Errors
+pub mod Running
+pub mod Streams
+pub mod Words

@@ -1,0 +1,129 @@
+//! One run of the program.
+ghost use Rattle.std.specs.Prelude.{◌≡◌, ◌≢◌, ◌↔◌, ◌⊎◌, [], true, false, Some, chars, IsUtf8, OnOk, OnErr, IfOk, IfErr, IfSome, IsErrOf, is_err};
+ghost use Rattle.std.specs.Io.KnownBytes.{Appends};
+ghost use Rattle.regress_meaning.specs.Table.{Table};
+ghost use Rattle.regress_meaning.specs.Pattern.{Pattern};
+ghost use Rattle.regress_meaning.specs.Flags.{Options, options_of};
+ghost use Rattle.regress_front_core.specs.declared.error.Error as library;
+ghost use Rattle.regress_front_core.specs.declared.error.Error.TheVariants as library_error;
+ghost use Rattle.regress.specs.Standing.{StandsFor};
+ghost use Rattle.regress_front_core.specs.Refusals.{MayRefuse};
+ghost use Rattle.regress_program.specs.Running.{small, output, AppendsFront, Accepted, Searched};
+
+use crate::error::ToolError;
+use crate::lines::line;
+use crate::sink::Sink;
+use crate::source::{Failed, Source};
+use regress::{Flags, Regex, Tables};
+use std::alloc::Global;
+
+/// How many bytes are asked for at a time.
+const CHUNK: usize = 4096;
+
+/// Reads all input, and writes a line for each match of a pattern in it.
+///
+/// Asks that neither stream has failed. The errors are found in this order: a pattern that is no pattern or passes a limit, before anything
+/// is read; a read that fails; input that is not UTF-8; then a write that fails. A request for memory may be refused at any
+/// time, and over a source that never ends one is. After a write that fails, a beginning of the output was written.
+pub fn run<R: Source, W: Sink>(
+    alloc: Global,
+    source: &mut R,
+    sink: &mut W,
+    flags: &str,
+    pattern: &str,
+) -> Result<(), ToolError>
+    requires source { R.failed source.old ≡ false }
+    requires sink { W.failed sink.old ≡ false }
+    ensures ok { OnOk result (IfSome (R.left source.old) (λ input.
+        Searched flags.now pattern.now input (R.left source.new)
+        (Appends (W.written sink.old) (W.written sink.new)))) }
+
+    // An error of the pattern is found first.
+    ensures pattern { (e : library.Error) → IsErrOf result (ToolError.Pattern e)
+        → MayRefuse small (options_of (chars flags.now)) (chars pattern.now) e × (e ≢ library_error.OutOfMemory)
+        × (source.new ≡ source.old) × (sink.new ≡ sink.old) }
+
+    // Then a read that fails, and then what is not UTF-8.
+    ensures read { IsErrOf result ToolError.Read ↔ (R.failed source.new ≡ true) }
+    ensures on_read { IsErrOf result ToolError.Read → Accepted flags.now pattern.now × (sink.new ≡ sink.old) }
+    ensures not_utf8 { IsErrOf result ToolError.NotUtf8 → Accepted flags.now pattern.now × (sink.new ≡ sink.old)
+        × IfSome (R.left source.old) (λ input. (R.left source.new ≡ Some []) × ¬ IsUtf8 input) }
+
+    // Then a write that fails.
+    ensures write { IsErrOf result ToolError.Write ↔ (W.failed sink.new ≡ true) }
+    ensures on_write { IsErrOf result ToolError.Write → IfSome (R.left source.old) (λ input.
+        Searched flags.now pattern.now input (R.left source.new)
+        (AppendsFront (W.written sink.old) (W.written sink.new))) }
+
+    // Memory may be refused before anything is written, or after a beginning of the output.
+    ensures out_of_memory { IsErrOf result ToolError.OutOfMemory
+        → (sink.new ≡ sink.old) ⊎ IfSome (R.left source.old) (λ input.
+        Searched flags.now pattern.now input (R.left source.new)
+        (AppendsFront (W.written sink.old) (W.written sink.new))) }
+{
+    let Ok(tables) = Tables::small(alloc) else {
+        return Err(ToolError::OutOfMemory);
+    };
+    let regex = Regex::with_flags(alloc, pattern, Flags::from(flags), &tables)?;
+    let bytes = read_all(alloc, source)?;
+    let Ok(text) = str::from_utf8(bytes.as_slice()) else {
+        return Err(ToolError::NotUtf8);
+    };
+    write_lines(alloc, &regex, text, sink)
+}
+
+/// Writes a line for each match in a text. On an error, a beginning of them was written.
+fn write_lines<W: Sink>(
+    alloc: Global,
+    regex: &Regex,
+    text: &str,
+    sink: &mut W,
+) -> Result<(), ToolError>
+    requires { W.failed sink.old ≡ false }
+    ensures ok { (t : Table) → (o : Options) → (p : Pattern) → StandsFor regex.now t o p
+        → OnOk result (Appends (W.written sink.old) (W.written sink.new) (output t o p text.now)) }
+    ensures err { (t : Table) → (o : Options) → (p : Pattern) → StandsFor regex.now t o p
+        → OnErr result (AppendsFront (W.written sink.old) (W.written sink.new) (output t o p text.now)) }
+    ensures write { IsErrOf result ToolError.Write ↔ (W.failed sink.new ≡ true) }
+    ensures errors { IfErr result (λ e. (e ≡ ToolError.Write) ⊎ (e ≡ ToolError.OutOfMemory)) }
+{
+    for found in regex.find_iter(text)? {
+        let line = line(alloc, &found?)?;
+        if put_all(sink, line.as_bytes()).is_err() {
+            return Err(ToolError::Write);
+        }
+    }
+    Ok(())
+}
+
+/// Reads all that is left. Each read but the last adds to the buffer, so over a source that never ends memory is refused.
+fn read_all<R: Source>(alloc: Global, source: &mut R) -> Result<Vec<u8>, ToolError>
+    requires { R.failed source.old ≡ false }
+    ensures read { IfOk result (λ bytes. IfSome (R.left source.old) (λ input. (bytes.items ≡ input) × (R.left source.new ≡ Some []))) }
+    ensures failure { IsErrOf result ToolError.Read ↔ (R.failed source.new ≡ true) }
+    ensures errors { IfErr result (λ e. (e ≡ ToolError.Read) ⊎ (e ≡ ToolError.OutOfMemory)) }
+{
+    let mut bytes = Vec::new(alloc);
+    let mut chunk = [0; CHUNK];
+    loop {
+        match source.take(&mut chunk) {
+            Ok(0) => return Ok(bytes),
+            Ok(count) => bytes.extend_from_slice(&chunk[..count])?,
+            Err(Failed) => return Err(ToolError::Read),
+        }
+    }
+}
+
+/// Writes all bytes. On an error, a beginning of them was written.
+fn put_all<W: Sink>(sink: &mut W, bytes: &[u8]) -> Result<(), Failed>
+    requires { W.failed sink.old ≡ false }
+    ensures ok { OnOk result (Appends (W.written sink.old) (W.written sink.new) bytes.now) }
+    ensures err { OnErr result (AppendsFront (W.written sink.old) (W.written sink.new) bytes.now) }
+    ensures failure { W.failed sink.new ≡ is_err result }
+{
+    let mut done = 0;
+    while done < bytes.len() {
+        done += sink.put(&bytes[done..])?;
+    }
+    Ok(())
+}

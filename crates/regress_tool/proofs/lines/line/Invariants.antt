@@ -1,9 +1,0 @@
-use Rattle.std.proofs.Common.{◌≡◌, ◌++◌, take, map, string_bytes, option_map}
-use Rattle.std.specs.Prelude.{flat_map}
-use Rattle.regress_meaning.specs.Output.{group_text, range_text}
-use Rattle.regress.specs.Views.{ends}
-use Rattle.regress_tool.proofs.lines.line.Given as goal
-
-abbrev pub invariant-loop-group : goal.invariant-loop-group
-invariant-loop-group l =
-    string_bytes l.text ≡ range_text (ends l.found.range) ++ flat_map group_text (map (option_map ends) (take l.group-index l.group-items))
