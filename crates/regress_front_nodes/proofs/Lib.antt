@@ -1,11 +1,14 @@
 pub mod ChangeLemmas
+pub mod CharacterLemmas
 pub mod CopyLemmas
+pub mod CountLemmas
 pub mod DistinctLemmas
 pub mod EmptyBrackets
 pub mod KindLemmas
 pub mod NodeLemmas
 pub mod PieceLemmas
 pub mod PieceOutcomes
+pub mod SequenceLemmas
 pub mod StepLemmas
 pub mod TreeLaws
 pub mod WalkLemmas

@@ -1,5 +1,5 @@
 -- What a tree is by its form.
-use Rattle.std.specs.Prelude.{ℕ, ◌+◌, Bool, true, false, List, [], ◌∷◌, reverse, max}
+use Rattle.std.specs.Prelude.{ℕ, ◌+◌, Bool, true, false, List, [], ◌∷◌, if◌then◌else◌, reverse, max}
 use Rattle.regress_front_nodes.specs.Trees.{Tree, empty, cat, cat_of, no_part, alt, capture, look, loop, single_loop}
 
 -- it is `Empty`
@@ -57,3 +57,13 @@ shell (look negated backward first last a) = look negated backward first last em
 shell (loop a first last least most greedy) = loop empty first last least most greedy
 shell (single_loop a least most greedy) = single_loop empty least most greedy
 shell t = t
+
+-- parts one after another: none is the empty text, and one is itself
+abbrev pub cat_made : List Tree → Tree
+cat_made [] = empty
+cat_made (t ∷ []) = t
+cat_made (t ∷ u ∷ ts) = cat_of (t ∷ u ∷ ts)
+
+-- in the order of reading
+abbrev pub in_reading_order : {A : Type 0} → Bool → List A → List A
+in_reading_order backward xs = if backward then reverse xs else xs

@@ -1,5 +1,6 @@
 pub mod Alike
 pub mod Changes
+pub mod Characters
 pub mod Copies
 pub mod Forms
 pub mod Laws

@@ -9,6 +9,10 @@ use Rattle.regress_meaning.specs.Pattern.{Settings}
 use Rattle.regress_meaning.specs.Meaning.{Direction, Forward, Backward, Outcomes, Context, is_some_and, is_line_end, before, after, step, same_all, iterations, cleared, looked, captured, repeat_group, keep_if}
 use Rattle.regress_front_nodes.specs.Trees.{Tree, empty, goal, char, bytes, byte_set, char_set, cat, no_part, alt, any, any_in_line, line_start, line_end, boundary, capture, back, bracket, string_set, look, loop, single_loop}
 
+-- which way a part is read
+abbrev pub direction : Bool → Direction
+direction backward = if backward then Backward else Forward
+
 -- case is ignored, or not
 abbrev pub ignoring : Bool → Settings
 ignoring icase = record { icase = icase; multiline = false; dot_all = false }
@@ -59,7 +63,7 @@ module _ (context : Context) where
   node_outcomes (bracket inverted intervals) dir s = one dir (bracket_has inverted intervals) s
   node_outcomes (string_set strings icase) dir s = alternatives dir icase strings s
   node_outcomes (look negated backward first last a) dir s =
-      looked context negated s (node_outcomes a (if backward then Backward else Forward) s)
+      looked context negated s (node_outcomes a (direction backward) s)
   node_outcomes (loop a first last least most greedy) dir s =
       iterations context (λ t. node_outcomes a dir (cleared context first last t)) greedy most least s
   node_outcomes (single_loop a least most greedy) dir s = iterations context (node_outcomes a dir) greedy most least s

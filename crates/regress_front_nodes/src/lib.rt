@@ -3,7 +3,7 @@
 
 mod alike;
 mod copy;
-mod ir;
+pub mod ir;
 mod laws;
 mod node;
 mod piece;
@@ -12,7 +12,6 @@ mod walking;
 mod walking_mut;
 
 pub use alike::alike_parts_make_alike_wholes;
-pub use ir::Regex;
 pub use laws::nodes_stand_for_trees;
 pub use node::{AnchorType, BracketContents, Node, NodeList};
 pub use piece::{Piece, lower_code_point_sequence, pieces_match_their_string};

@@ -1,51 +1,24 @@
--- A lowered tree is alike its pattern: the parts that take a character, parts one after another, and alternatives.
-use Rattle.std.proofs.Common.{◌≡◌, ℕ, ◌+◌, ◌-◌, Bool, true, false, List, [], ◌∷◌, ◌++◌, length, Option, Some, None, if◌then◌else◌, reverse, drop, nat_le, slice_range, All, refl, sym, ap, ◌∙◌}
-use Rattle.std.specs.List.{flat_map, list_all}
+-- A lowered tree is alike its pattern: parts one after another, and alternatives.
+use Rattle.std.proofs.Common.{◌≡◌, Bool, true, false, List, [], ◌∷◌, ◌++◌, if◌then◌else◌, reverse, All, refl, sym, ap, ◌∙◌}
+use Rattle.std.specs.List.{flat_map}
 use Rattle.std.proofs.lemmas.List.{append-nil, reverse-append}
-use Rattle.std.proofs.lemmas.List.Elements.{All-head, All-tail, All-take, All-drop}
 use Rattle.std.proofs.lemmas.Grind.{flat_map-append}
 use Rattle.regress_meaning.specs.TableParts.{is_code_point}
 use Rattle.regress_meaning.specs.Pattern.{Pattern, Settings}
-use Rattle.regress_meaning.specs.Meaning.{State, Direction, Forward, Backward, Context, beside, stepped, step, outcomes}
+use Rattle.regress_meaning.specs.Meaning.{State, Direction, Forward, Backward, Context, outcomes}
 use Rattle.regress_front_syntax.specs.Trees.{sequence_of, choice_of}
-use Rattle.regress_front_nodes.specs.Trees.{Tree, char, byte_set, char_set, any, any_in_line, bracket, cat_of}
-use Rattle.regress_front_nodes.specs.TreeMeaning.{one, node_outcomes}
+use Rattle.regress_front_nodes.specs.Trees.{Tree, cat_of}
+use Rattle.regress_front_nodes.specs.TreeMeaning.{node_outcomes}
 use Rattle.regress_meaning.specs.Laws.{IsInside}
 use Rattle.regress_front_nodes.specs.Alike.{AreAlike, GoAlike, StayInside}
-use Rattle.regress_front_tree.specs.Lowering.{direction, is_character, taken, Takes, cat_made, in_reading_order, HasArms, one_arm, two_halves}
-use Rattle.regress_front_nodes.proofs.StepLemmas.{list_all-agree, step-agree, flat_map-again, flat_map-self}
+use Rattle.regress_front_nodes.specs.TreeMeaning.{direction}
+use Rattle.regress_front_nodes.specs.Forms.{cat_made, in_reading_order}
+use Rattle.regress_front_tree.specs.Lowering.{HasArms, one_arm, two_halves}
+use Rattle.regress_front_nodes.proofs.StepLemmas.{flat_map-self}
+use Rattle.regress_front_nodes.proofs.SequenceLemmas.{made-outcomes, cat_of-append}
 use Rattle.regress_front_nodes.proofs.DistinctLemmas.{joined-alike, followed-alike}
 
 module _ (w : Context) (valid : All is_code_point w.text) where
-  -- a tree that takes one character steps over one
-  character-steps : (t : Tree) → is_character t ≡ true → (dir : Direction) (s : State) → node_outcomes w t dir s ≡ one w dir (taken t) s
-  unfolding node_outcomes
-  character-steps (char c) e dir s = refl
-  character-steps (byte_set bs) e dir s = refl
-  character-steps (char_set cs) e dir s = refl
-  character-steps any e dir s = refl
-  character-steps any_in_line e dir s = refl
-  character-steps (bracket inverted intervals) e dir s = refl
-  character-steps _ e dir s = absurd (cc)
-
-  pub takes-steps : (t : Tree) (test : ℕ → Bool) → Takes t test → (dir : Direction) (s : State) → node_outcomes w t dir s ≡ step w dir 1 (list_all test) s
-  takes-steps t test h dir s = character-steps t h.alone dir s ∙ step-agree w valid dir 1 (list_all (taken t)) (list_all test) (list_all-agree (taken t) test h.members) s
-
-  -- parts one after another
-
-  pub made-outcomes : (ts : List Tree) (dir : Direction) (s : State) → node_outcomes w (cat_made ts) dir s ≡ node_outcomes w (cat_of ts) dir s
-  unfolding node_outcomes
-  made-outcomes [] dir s = refl
-  made-outcomes (t ∷ []) dir s = sym (flat_map-self (node_outcomes w t dir s))
-  made-outcomes (t ∷ u ∷ ts) dir s = refl
-
-  cat_of-append : (ts us : List Tree) (dir : Direction) (s : State) → node_outcomes w (cat_of (ts ++ us)) dir s ≡ flat_map (node_outcomes w (cat_of us) dir) (node_outcomes w (cat_of ts) dir s)
-  unfolding node_outcomes
-  cat_of-append [] us dir s = sym (append-nil (node_outcomes w (cat_of us) dir s))
-  cat_of-append (t ∷ ts) us dir s =
-      (λ i. flat_map (λ r. cat_of-append ts us dir r i) (node_outcomes w t dir s))
-      ∙ sym (flat_map-again (node_outcomes w (cat_of us) dir) (node_outcomes w (cat_of ts) dir) (node_outcomes w t dir s))
-
   -- trees that are alike patterns, one by one; the patterns' outcomes stay in the text
   abbrev pub AllAlike : Direction → Settings → List Pattern → List Tree → Type 0
   AllAlike dir e [] [] = Unit {0}
@@ -74,15 +47,15 @@ module _ (w : Context) (valid : All is_code_point w.text) where
   backward-alike stays e (p ∷ ps) (t ∷ ts) h s inside =
       let turned : node_outcomes w (cat_of (reverse (t ∷ ts))) Backward s ≡ flat_map (node_outcomes w t Backward) (node_outcomes w (cat_of (reverse ts)) Backward s) =
       ap (λ us. node_outcomes w (cat_of us) Backward s) (reverse-append (t ∷ []) ts)
-      ∙ cat_of-append (reverse ts) (t ∷ []) Backward s
+      ∙ cat_of-append w (reverse ts) (t ∷ []) Backward s
       ∙ (λ i. flat_map (λ r. flat_map-self (node_outcomes w t Backward r) i) (node_outcomes w (cat_of (reverse ts)) Backward s)) in
       rw turned (followed-alike (IsInside w.text) (node_outcomes w t Backward) (outcomes w p Backward e) (node_outcomes w (cat_of (reverse ts)) Backward s) (outcomes w (sequence_of ps) Backward e s)
       h.0 (stays (sequence_of ps) Backward e s inside) (backward-alike stays e ps ts h.1 s inside))
 
   pub terms-alike : Stays → (b : Bool) (e : Settings) (ps : List Pattern) (ts : List Tree) → AllAlike (direction b) e ps ts
       → GoAlike w (node_outcomes w (cat_made (in_reading_order b ts)) (direction b)) (outcomes w (sequence_of ps) (direction b) e)
-  terms-alike stays false e ps ts h s inside = rw (made-outcomes ts Forward s) (forward-alike stays e ps ts h s inside)
-  terms-alike stays true e ps ts h s inside = rw (made-outcomes (reverse ts) Backward s) (backward-alike stays e ps ts h s inside)
+  terms-alike stays false e ps ts h s inside = rw (made-outcomes w ts Forward s) (forward-alike stays e ps ts h s inside)
+  terms-alike stays true e ps ts h s inside = rw (made-outcomes w (reverse ts) Backward s) (backward-alike stays e ps ts h s inside)
 
   -- alternatives
 

@@ -20,7 +20,8 @@ use Rattle.regress_front_sets.specs.Sets.{in_set}
 use Rattle.regress_front_nodes.specs.Trees.{char, char_set, bracket}
 use Rattle.regress_meaning.specs.TableParts.{is_code_point}
 use Rattle.regress_meaning.specs.Class.{among}
-use Rattle.regress_front_tree.specs.Lowering.{AreByLength, LengthsFall, Takes, same_point}
+use Rattle.regress_front_nodes.specs.Characters.{Takes}
+use Rattle.regress_front_tree.specs.Lowering.{AreByLength, LengthsFall, same_point}
 use Rattle.regress_front_tree.specs.ClassValues.{lists}
 use Rattle.regress_front_tree.proofs.ClassLemmas.{among-lists, filter-lists}
 

@@ -6,19 +6,16 @@ use Rattle.std.proofs.lemmas.Bool.{cases_lt}
 use Rattle.std.proofs.lemmas.Bool.Decides.{nat_tests}
 use Rattle.std.proofs.lemmas.List.{reverse-append}
 use Rattle.std.proofs.lemmas.List.Elements.{All-nil, All-cons, All-head, All-tail, All-append}
-use Rattle.std.proofs.lemmas.List.Sums.{sum_by-append}
 use Rattle.std.proofs.lemmas.Option.{slice_get_past}
 use Rattle.regress_meaning.specs.TableParts.{is_code_point}
 use Rattle.regress_front_nodes.specs.Trees.{Tree, char, byte_set, char_set, cat, no_part, any, any_in_line, capture, back, bracket, string_set, cat_of}
 use Rattle.regress_front_nodes.specs.WellFormed.{HoldsNoSingleLoop, group_ids, goals, AreLawful}
 use Rattle.regress_front_nodes.specs.Sizes.{loops}
 use Rattle.regress_front_nodes.specs.WellFormed.{name_by_number}
-use Rattle.regress_front_tree.specs.Lowering.{is_character, in_reading_order}
+use Rattle.regress_front_nodes.specs.Characters.{is_character}
+use Rattle.regress_front_nodes.specs.Forms.{in_reading_order}
+use Rattle.regress_front_nodes.proofs.CountLemmas.{times, count-append, count-cons}
 use Rattle.regress_front_tree.proofs.SameLemmas.{Same, option_or-none}
-
--- how often the number stands in the list
-abbrev pub times : ℕ → List ℕ → ℕ
-times i xs = count_by (λ id. id == i) xs
 
 -- A tree has the groups of these numbers, in some order, and these names, and so many loops; k groups were opened before it.
 pub record Fits (n k : ℕ) (numbers : List ℕ) (names : List (List ℕ)) (count : ℕ) (t : Tree) : Type 0 where
@@ -57,16 +54,6 @@ leaf {k = k} t e h g l none plain = record {
   none_before = λ i h. none i;
   plain = plain;
 }
-
--- a number is in one of two lists
-count-append : (i : ℕ) (xs ys : List ℕ) → times i (xs ++ ys) ≡ times i xs + times i ys
-count-append i xs ys = sum_by-append _ xs ys
-
-count-one : (i x : ℕ) → times i (x ∷ []) ≡ cond (x == i) 1 0
-count-one i x = omega arith
-
-pub count-cons : (i x : ℕ) (xs : List ℕ) → times i (x ∷ xs) ≡ cond (x == i) 1 0 + times i xs
-count-cons i x xs = count-append i (x ∷ []) xs ∙ ap (λ m. m + times i xs) (count-one i x)
 
 -- a name of the first list, or behind it of the second
 get-first : {A : Type 0} (xs ys : List A) (i : ℕ) → i < length xs → slice_get (xs ++ ys) i ≡ slice_get xs i

@@ -11,7 +11,6 @@ pub mod LoweredLemmas
 pub mod LoweredAlike
 pub mod NameTexts
 pub mod ArmLemmas
-pub mod SequenceLemmas
 pub mod SyntaxLaws
 pub mod LowerableLemmas
 pub mod LoweringLemmas

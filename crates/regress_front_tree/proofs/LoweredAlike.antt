@@ -16,9 +16,13 @@ use Rattle.regress_meaning.specs.Meaning.{State, Direction, Forward, Backward, C
 use Rattle.regress_front_nodes.specs.Trees.{Tree, back, string_set, cat_of}
 use Rattle.regress_front_nodes.specs.TreeMeaning.{ignoring, alternatives, node_outcomes}
 use Rattle.regress_front_nodes.specs.Alike.{distinct, GoAlike}
-use Rattle.regress_front_tree.specs.Lowering.{direction, cat_made, in_reading_order, class_value, LowersClass, Lowers, LowersAll, of_character, of_any, of_class, of_negated_class, of_class_escape, of_terms, of_arms, of_capture, of_group, of_modified, of_repeated, of_look, of_reference, of_line_start, of_line_end, of_word_boundary, no_pattern, and_next}
+use Rattle.regress_front_nodes.specs.TreeMeaning.{direction}
+use Rattle.regress_front_nodes.specs.Forms.{cat_made, in_reading_order}
+use Rattle.regress_front_tree.specs.Lowering.{class_value, LowersClass, Lowers, LowersAll, of_character, of_any, of_class, of_negated_class, of_class_escape, of_terms, of_arms, of_capture, of_group, of_modified, of_repeated, of_look, of_reference, of_line_start, of_line_end, of_word_boundary, no_pattern, and_next}
 use Rattle.regress_front_nodes.proofs.DistinctLemmas.{changed-alike, looked-alike, iterated-alike}
-use Rattle.regress_front_tree.proofs.AlikeLemmas.{takes-steps, made-outcomes, AllAlike, Stays, terms-alike, arms-outcomes, arms-alike}
+use Rattle.regress_front_nodes.proofs.CharacterLemmas.{takes-steps}
+use Rattle.regress_front_nodes.proofs.SequenceLemmas.{made-outcomes}
+use Rattle.regress_front_tree.proofs.AlikeLemmas.{AllAlike, Stays, terms-alike, arms-outcomes, arms-alike}
 use Rattle.regress_front_tree.proofs.StringLemmas.{among-All, each-string, like, like-sized, empty-agrees, no_empty-agrees, arms-of-class}
 
 -- what passes holds of what a filter keeps
@@ -106,8 +110,8 @@ module _ (w : Context) (valid : All is_code_point w.text) (stays : Stays w valid
   references-are : (b : Bool) (e : Settings) (ks : List ℕ) (s : State)
       → node_outcomes w (cat_made (map (λ j. back (j + 1) e.icase) (in_reading_order b ks))) (direction b) s ≡ outcomes w (meaning.reference ks) (direction b) e s
   unfolding outcomes
-  references-are false e ks s = made-outcomes w valid (map (λ j. back (j + 1) e.icase) ks) Forward s ∙ backs ks e Forward s
-  references-are true e ks s = made-outcomes w valid (map (λ j. back (j + 1) e.icase) (reverse ks)) Backward s ∙ backs (reverse ks) e Backward s
+  references-are false e ks s = made-outcomes w (map (λ j. back (j + 1) e.icase) ks) Forward s ∙ backs ks e Forward s
+  references-are true e ks s = made-outcomes w (map (λ j. back (j + 1) e.icase) (reverse ks)) Backward s ∙ backs (reverse ks) e Backward s
 
   -- clearing groups leaves a state in the text
   abbrev GroupLies : Option (ℕ × ℕ) → Type 0

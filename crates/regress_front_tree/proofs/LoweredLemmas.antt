@@ -14,7 +14,9 @@ use Rattle.regress_front_syntax.specs.Trees.{sequence_of, choice_of}
 use Rattle.regress_front_nodes.specs.Trees.{Tree, char, byte_set, char_set, any, any_in_line, line_start, line_end, boundary, back, bracket, cat_of}
 use Rattle.regress_front_nodes.specs.Sizes.{size}
 use Rattle.regress_front_tree.specs.Lowered.{IsLowered}
-use Rattle.regress_front_tree.specs.Lowering.{is_character, cat_made, in_reading_order, HasArms, one_arm, two_halves, class_arms, class_value, LowersClass, Lowers, of_character, of_any, of_class, of_negated_class, of_class_escape, of_terms, of_arms, of_capture, of_group, of_modified, of_repeated, of_look, of_reference, of_line_start, of_line_end, of_word_boundary, LowersAll, no_pattern, and_next}
+use Rattle.regress_front_nodes.specs.Characters.{is_character}
+use Rattle.regress_front_nodes.specs.Forms.{cat_made, in_reading_order}
+use Rattle.regress_front_tree.specs.Lowering.{HasArms, one_arm, two_halves, class_arms, class_value, LowersClass, Lowers, of_character, of_any, of_class, of_negated_class, of_class_escape, of_terms, of_arms, of_capture, of_group, of_modified, of_repeated, of_look, of_reference, of_line_start, of_line_end, of_word_boundary, LowersAll, no_pattern, and_next}
 use Rattle.regress_front_tree.proofs.SameLemmas.{same-push, same-made, same-arms}
 use Rattle.regress_front_tree.proofs.GroupLemmas.{Fits, same-fits, Leaf, leaf, cat-fits, back-fits, takes-leaf, no_part-leaf, class-leaves, All-turned, back-leaves, capture-fits}
 use Rattle.regress_front_tree.proofs.NumberLemmas.{numbered-from, IsNumberedFrom, sequence-numbered, capture-numbered, choice-names, choice-numbers, choice-quantifiers, choice-numbered}

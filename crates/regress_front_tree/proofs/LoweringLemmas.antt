@@ -13,7 +13,8 @@ use Rattle.regress_front_nodes.specs.declared.node.Node.{Node}
 use Rattle.regress_front_tree.specs.declared.lowering.Lowering.{Lowering}
 use Rattle.regress_front_tree.specs.declared.lowering.Scope.{Scope}
 use Rattle.regress_front_nodes.specs.Trees.{Tree, tree, empty, any, any_in_line}
-use Rattle.regress_front_tree.specs.Lowering.{Takes, Lowers, LowersAll, no_pattern, and_next, of_terms, of_modified, switched_by}
+use Rattle.regress_front_nodes.specs.Characters.{Takes}
+use Rattle.regress_front_tree.specs.Lowering.{Lowers, LowersAll, no_pattern, and_next, of_terms, of_modified, switched_by}
 use Rattle.regress_front_tree.specs.Scopes.{settings_of, name_told, LowersInScope, LowersAllInScope, IsSamePattern}
 
 -- one more pattern at the end

@@ -6,7 +6,8 @@ use Rattle.regress_front_nodes.specs.Trees.{Tree, cat, no_part, alt, cat_of}
 use Rattle.regress_front_nodes.specs.WellFormed.{HoldsNoSingleLoop, group_ids, goals, AreLawful}
 use Rattle.regress_front_nodes.specs.Sizes.{loops}
 use Rattle.regress_front_nodes.specs.WellFormed.{name_by_number}
-use Rattle.regress_front_tree.specs.Lowering.{cat_made, HasArms, one_arm, two_halves}
+use Rattle.regress_front_nodes.specs.Forms.{cat_made}
+use Rattle.regress_front_tree.specs.Lowering.{HasArms, one_arm, two_halves}
 
 -- Trees with the same groups, names and loops, both lawful or neither.
 pub record Same (t u : Tree) : Type 0 where

@@ -1,57 +1,16 @@
 -- How the tree of a pattern is lowered to nodes: case closed by the table, classes as sets, parts in the order of reading.
-use Rattle.std.specs.Prelude.{◌≡◌, ℕ, suc, ◌+◌, ◌≤◌, Bool, true, false, not, ◌&&◌, ◌||◌, ◌==◌, List, [], ◌∷◌, ◌++◌, length, Option, if◌then◌else◌, map, min, nat_eq, reverse, All}
+use Rattle.std.specs.Prelude.{◌≡◌, ℕ, suc, ◌+◌, ◌≤◌, Bool, true, false, not, ◌&&◌, ◌||◌, ◌==◌, List, [], ◌∷◌, ◌++◌, length, Option, if◌then◌else◌, map, min, All}
 use Rattle.regress_meaning.specs.Table.{Table, canon, closure}
 use Rattle.regress_meaning.specs.TableParts.{is_code_point}
 use Rattle.regress_meaning.specs.Limits.{most_groups}
 use Rattle.regress_meaning.specs.Class.{Class, Strings, value_of, among}
 use Rattle.regress_meaning.specs.Pattern as meaning
 use Rattle.regress_meaning.specs.Pattern.{Pattern, Settings}
-use Rattle.regress_meaning.specs.Meaning.{Direction, Forward, Backward, is_line_end, with}
+use Rattle.regress_meaning.specs.Meaning.{is_line_end, with}
 use Rattle.regress_front_syntax.specs.Trees.{sequence_of, choice_of}
-use Rattle.regress_front_nodes.specs.Trees.{Tree, empty, char, byte_set, char_set, alt, any, any_in_line, line_start, line_end, boundary, capture, back, bracket, string_set, look, loop, cat_of}
-use Rattle.regress_meaning.specs.Text.{holds}
-use Rattle.regress_front_nodes.specs.TreeMeaning.{bracket_has}
-use Rattle.regress_front_nodes.specs.WellFormed.{AreLawful}
-
--- which way a part is read
-abbrev pub direction : Bool → Direction
-direction backward = if backward then Backward else Forward
-
--- by itself the tree takes one character
-abbrev pub is_character : Tree → Bool
-is_character (char c) = true
-is_character (byte_set bs) = true
-is_character (char_set cs) = true
-is_character any = true
-is_character any_in_line = true
-is_character (bracket inverted intervals) = true
-is_character _ = false
-
--- the characters that it takes
-abbrev pub taken : Tree → ℕ → Bool
-taken (char c) d = nat_eq c d
-taken (byte_set bs) d = holds bs d
-taken (char_set cs) d = holds cs d
-taken any d = true
-taken any_in_line d = not (is_line_end d)
-taken (bracket inverted intervals) d = bracket_has inverted intervals d
-taken _ d = false
-
--- The tree takes one character, of the code points those that pass.
-pub record Takes (t : Tree) (test : ℕ → Bool) : Type 0 where
-  pub alone : is_character t ≡ true
-  pub members : (c : ℕ) → is_code_point c → taken t c ≡ test c
-  pub lawful : AreLawful 0 t
-
--- parts one after another: none is the empty text, and one is itself
-abbrev pub cat_made : List Tree → Tree
-cat_made [] = empty
-cat_made (t ∷ []) = t
-cat_made (t ∷ u ∷ ts) = cat_of (t ∷ u ∷ ts)
-
--- in the order of reading
-abbrev pub in_reading_order : {A : Type 0} → Bool → List A → List A
-in_reading_order backward xs = if backward then reverse xs else xs
+use Rattle.regress_front_nodes.specs.Trees.{Tree, alt, line_start, line_end, boundary, capture, back, string_set, look, loop}
+use Rattle.regress_front_nodes.specs.Forms.{cat_made, in_reading_order}
+use Rattle.regress_front_nodes.specs.Characters.{Takes}
 
 -- The tree has these arms, the earlier preferred.
 pub data HasArms : List Tree → Tree → Type 0 where

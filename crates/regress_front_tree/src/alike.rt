@@ -6,7 +6,8 @@ ghost use Rattle.regress_meaning.specs.Meaning.{Context, outcomes};
 ghost use Rattle.regress_front_nodes.specs.Trees.{Tree};
 ghost use Rattle.regress_front_nodes.specs.TreeMeaning.{node_outcomes};
 ghost use Rattle.regress_front_nodes.specs.Alike.{IsAlike};
-ghost use Rattle.regress_front_tree.specs.Lowering.{Lowers, direction};
+ghost use Rattle.regress_front_nodes.specs.TreeMeaning.{direction};
+ghost use Rattle.regress_front_tree.specs.Lowering.{Lowers};
 
 /// A lowered tree is alike its pattern, in the direction in which it is read.
 pub(crate) fn lowered_trees_are_alike()

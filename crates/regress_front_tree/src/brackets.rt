@@ -10,7 +10,8 @@ ghost use Rattle.regress_front_sets.specs.Sets.{in_set};
 ghost use Rattle.regress_front_tables.specs.TableViews.{table};
 ghost use Rattle.regress_front_syntax.specs.Trees.{class_view};
 ghost use Rattle.regress_front_nodes.specs.Trees.{tree};
-ghost use Rattle.regress_front_tree.specs.Lowering.{Takes, AreByLength, LowersClass, same_point, in_closed, class_value, class_arms};
+ghost use Rattle.regress_front_nodes.specs.Characters.{Takes};
+ghost use Rattle.regress_front_tree.specs.Lowering.{AreByLength, LowersClass, same_point, in_closed, class_value, class_arms};
 ghost use Rattle.regress_front_tree.specs.ClassValues.{lists};
 
 use crate::arms::alternatives;

@@ -9,7 +9,8 @@ ghost use Rattle.regress_front_syntax.specs.Trees as parsed;
 ghost use Rattle.regress_front_syntax.specs.Trees.{settings, class_view, choice_of, capture_of};
 ghost use Rattle.regress_front_core.specs.Quantifiers.{most};
 ghost use Rattle.regress_front_nodes.specs.Trees.{tree, anchor_of};
-ghost use Rattle.regress_front_tree.specs.Lowering.{cat_made, in_reading_order, switched_by};
+ghost use Rattle.regress_front_nodes.specs.Forms.{cat_made, in_reading_order};
+ghost use Rattle.regress_front_tree.specs.Lowering.{switched_by};
 ghost use Rattle.regress_front_tree.specs.Scopes.{settings_of, name_told, IsLowerable, LowersInScope, LowersAllInScope, IsSamePattern};
 
 use crate::arms::alternatives;

@@ -1,9 +1,9 @@
 use Rattle.std.proofs.Common.{◌≡◌, ◌<◌, length, map, refl, ap, ◌∙◌, sym, arith}
 use Rattle.std.proofs.lemmas.List.{length-map}
 use Rattle.regress_front_nodes.specs.Trees.{tree}
-use Rattle.regress_front_tree.specs.Lowering.{in_reading_order}
+use Rattle.regress_front_nodes.specs.Forms.{in_reading_order}
 use Rattle.regress_front_nodes.proofs.TreeLaws.{tree-Cat}
-use Rattle.regress_front_tree.proofs.SequenceLemmas.{cat_made-many, cat_made-few, ordered}
+use Rattle.regress_front_nodes.proofs.SequenceLemmas.{cat_made-many, cat_made-few, ordered}
 use Rattle.regress_front_tree.proofs.lowering.sequence.Goals as goal
 use Rattle.regress_front_tree.proofs.lowering.sequence.Goals.{then-backward, else-backward}
 

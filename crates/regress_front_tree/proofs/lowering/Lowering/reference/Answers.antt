@@ -3,7 +3,7 @@ use Rattle.std.proofs.lemmas.List.{take_all, take_more, map_push}
 use Rattle.regress_front_nodes.specs.Trees.{Tree, back}
 use Rattle.regress_front_tree.specs.Lowering.{of_reference}
 use Rattle.regress_front_nodes.proofs.TreeLaws.{tree-BackRef}
-use Rattle.regress_front_tree.proofs.SequenceLemmas.{in_reading_order-map}
+use Rattle.regress_front_nodes.proofs.SequenceLemmas.{in_reading_order-map}
 use Rattle.regress_front_tree.proofs.lowering.Lowering.reference.Goals as goal
 
 pub loop-group-preserved : goal.loop-group-preserved
