@@ -12,7 +12,7 @@ mod text;
 
 pub use parse::try_parse;
 pub use regress_front_nodes::{
-    AnchorType, BracketContents, Node, NodeList, Piece, Quantifier, Regex, Walk,
-    alike_parts_make_alike_wholes, lower_code_point_sequence, nodes_stand_for_trees,
+    AnchorType, BracketContents, Node, NodeList, Piece, Quantifier, Walk,
+    alike_parts_make_alike_wholes, ir, lower_code_point_sequence, nodes_stand_for_trees,
     pieces_match_their_string, walk, walk_mut,
 };

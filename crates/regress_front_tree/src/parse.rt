@@ -10,7 +10,7 @@ ghost use Rattle.regress_front_tree.specs.Scopes.{settings_of};
 ghost use Rattle.regress_front_tree.specs.Parsed.{IsTreeOf};
 
 use crate::alike::lowered_trees_are_alike;
-use regress_front_nodes::Regex;
+use regress_front_nodes::ir::Regex;
 use crate::lawful::whole_trees_are_well_formed;
 use crate::lowering::{Lowering, Scope};
 use regress_front_nodes::Node;
