@@ -248,41 +248,41 @@ module _ (w : Context) where
   inside-with true s us h k = All-append (IsInside w.text) us (s ∷ []) k (All-cons (IsInside w.text) s [] h (All-nil (IsInside w.text)))
   inside-with false s us h k = All-cons (IsInside w.text) s us h k
 
-  iterated-inside : (g : Outcomes) (greedy : Bool) (most least : ℕ) → StayInside w g → StayInside w (iterations w g greedy most least)
+  iterated-inside : (g : Outcomes) (greedy : Bool) (most least : ℕ) → StayInside w g → StayInside w (iterations g greedy most least)
   unfolding iterations
   iterated-inside g greedy zero least h s inside = All-cons (IsInside w.text) s [] inside (All-nil (IsInside w.text))
   iterated-inside g greedy (suc most) zero h s inside =
-      inside-with greedy s (flat_map (iterations w g greedy most zero) (filter (moved w s) (g s))) inside
-      (All-flat_map (IsInside w.text) (IsInside w.text) (iterations w g greedy most zero) (iterated-inside g greedy most zero h)
-      (filter (moved w s) (g s)) (All-filter (moved w s) (IsInside w.text) (g s) (h s inside)))
+      inside-with greedy s (flat_map (iterations g greedy most zero) (filter (moved s) (g s))) inside
+      (All-flat_map (IsInside w.text) (IsInside w.text) (iterations g greedy most zero) (iterated-inside g greedy most zero h)
+      (filter (moved s) (g s)) (All-filter (moved s) (IsInside w.text) (g s) (h s inside)))
   iterated-inside g greedy (suc most) (suc least) h s inside =
-      All-flat_map (IsInside w.text) (IsInside w.text) (iterations w g greedy most least) (iterated-inside g greedy most least h) (g s) (h s inside)
+      All-flat_map (IsInside w.text) (IsInside w.text) (iterations g greedy most least) (iterated-inside g greedy most least h) (g s) (h s inside)
 
-  pub looked-alike : (negated : Bool) (s : State) (ss ts : List State) → AreAlike ss ts → looked w negated s ss ≡ looked w negated s ts
+  pub looked-alike : (negated : Bool) (s : State) (ss ts : List State) → AreAlike ss ts → looked negated s ss ≡ looked negated s ts
   unfolding distinct
   looked-alike negated s [] [] k = refl
   looked-alike negated s [] (t ∷ ts) k = absurd (cc)
   looked-alike negated s (r ∷ rs) [] k = absurd (cc)
   looked-alike negated s (r ∷ rs) (t ∷ ts) k = let same : r ≡ t = cc in by_sign negated same
     where
-      by_sign : (b : Bool) → r ≡ t → looked w b s (r ∷ rs) ≡ looked w b s (t ∷ ts)
+      by_sign : (b : Bool) → r ≡ t → looked b s (r ∷ rs) ≡ looked b s (t ∷ ts)
       by_sign true e = refl
       by_sign false e = rw e refl
 
   pub iterated-alike : (f g : Outcomes) (greedy : Bool) (most least : ℕ) → GoAlike w f g → StayInside w g
-      → GoAlike w (iterations w f greedy most least) (iterations w g greedy most least)
+      → GoAlike w (iterations f greedy most least) (iterations g greedy most least)
   unfolding iterations
   iterated-alike f g greedy zero least h stays s inside = refl
   iterated-alike f g greedy (suc most) zero h stays s inside =
-      let more = followed-alike (IsInside w.text) (iterations w f greedy most zero) (iterations w g greedy most zero) (filter (moved w s) (f s)) (filter (moved w s) (g s))
-      (iterated-alike f g greedy most zero h stays) (All-filter (moved w s) (IsInside w.text) (g s) (stays s inside)) (filter-alike (moved w s) (f s) (g s) (h s inside)) in
-      ordered greedy (flat_map (iterations w f greedy most zero) (filter (moved w s) (f s))) (flat_map (iterations w g greedy most zero) (filter (moved w s) (g s))) more
+      let more = followed-alike (IsInside w.text) (iterations f greedy most zero) (iterations g greedy most zero) (filter (moved s) (f s)) (filter (moved s) (g s))
+      (iterated-alike f g greedy most zero h stays) (All-filter (moved s) (IsInside w.text) (g s) (stays s inside)) (filter-alike (moved s) (f s) (g s) (h s inside)) in
+      ordered greedy (flat_map (iterations f greedy most zero) (filter (moved s) (f s))) (flat_map (iterations g greedy most zero) (filter (moved s) (g s))) more
     where
       ordered : (b : Bool) (us vs : List State) → AreAlike us vs → AreAlike (if b then us ++ s ∷ [] else s ∷ us) (if b then vs ++ s ∷ [] else s ∷ vs)
       ordered true us vs k = joined-alike us (s ∷ []) vs (s ∷ []) k refl
       ordered false us vs k = joined-alike (s ∷ []) us (s ∷ []) vs refl k
   iterated-alike f g greedy (suc most) (suc least) h stays s inside =
-      followed-alike (IsInside w.text) (iterations w f greedy most least) (iterations w g greedy most least) (f s) (g s) (iterated-alike f g greedy most least h stays) (stays s inside) (h s inside)
+      followed-alike (IsInside w.text) (iterations f greedy most least) (iterations g greedy most least) (f s) (g s) (iterated-alike f g greedy most least h stays) (stays s inside) (h s inside)
 
   pub make-alike : MakeAlike w
   make-alike = record {

@@ -102,12 +102,12 @@ module _ (context : Context) where
   pub all_further : (dir : Direction) (test : List ℕ → Bool) (s : State) → All (IsOneFurther dir s) (step context dir 1 test s)
   unfolding step beside
   all_further Forward test s =
-      cond_both (nat_le (s.place + 1) (length context.text)) _ _ (λ o. All (IsOneFurther Forward s) (stepped context test s o))
+      cond_both (nat_le (s.place + 1) (length context.text)) _ _ (λ o. All (IsOneFurther Forward s) (stepped test s o))
       (λ l. cond_both (test (slice_range context.text s.place (s.place + 1))) _ _ (All (IsOneFurther Forward s))
       (λ p. All-cons (IsOneFurther Forward s) _ [] (refl, refl) (All-nil (IsOneFurther Forward s))) (λ p. All-nil (IsOneFurther Forward s)))
       (λ l. All-nil (IsOneFurther Forward s))
   all_further Backward test s =
-      cond_both (nat_le 1 s.place) _ _ (λ o. All (IsOneFurther Backward s) (stepped context test s o))
+      cond_both (nat_le 1 s.place) _ _ (λ o. All (IsOneFurther Backward s) (stepped test s o))
       (λ l. cond_both (test (slice_range context.text (s.place - 1) s.place)) _ _ (All (IsOneFurther Backward s))
       (λ p. All-cons (IsOneFurther Backward s) _ [] (omega (arith, leb-true _ _ l), refl) (All-nil (IsOneFurther Backward s))) (λ p. All-nil (IsOneFurther Backward s)))
       (λ l. All-nil (IsOneFurther Backward s))
@@ -130,12 +130,12 @@ module _ (context : Context) where
       → s.place ≤ length context.text → one context dir test s ≡ []
   unfolding step beside
   none_further Forward test s fails all inside =
-      cond_both (nat_le (s.place + 1) (length context.text)) _ _ (λ o. stepped context (list_all test) s o ≡ [])
+      cond_both (nat_le (s.place + 1) (length context.text)) _ _ (λ o. stepped (list_all test) s o ≡ [])
       (λ l. rw (none_passes test fails (slice_range context.text s.place (s.place + 1)) (All-take is_code_point _ _ (All-drop is_code_point s.place context.text all))
       (some_taken (s.place + 1 - s.place) s.place context.text (omega arith) (omega (arith, leb-true _ _ l)))) refl)
       (λ l. refl)
   none_further Backward test s fails all inside =
-      cond_both (nat_le 1 s.place) _ _ (λ o. stepped context (list_all test) s o ≡ [])
+      cond_both (nat_le 1 s.place) _ _ (λ o. stepped (list_all test) s o ≡ [])
       (λ l. rw (none_passes test fails (slice_range context.text (s.place - 1) s.place) (All-take is_code_point _ _ (All-drop is_code_point (s.place - 1) context.text all)) (some_taken (s.place - (s.place - 1)) (s.place - 1) context.text (omega (arith, leb-true _ _ l)) (omega (arith, leb-true _ _ l, inside)))) refl)
       (λ l. refl)
 

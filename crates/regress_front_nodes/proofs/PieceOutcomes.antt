@@ -12,10 +12,9 @@ use Rattle.std.proofs.lemmas.Str.{chars-append, chars-encodes, IsUtf8-encode, le
 use Rattle.regress_meaning.specs.Text.{holds}
 use Rattle.regress_meaning.specs.Table.{canon, code_points}
 use Rattle.regress_meaning.specs.TableParts.{is_code_point, is_surrogate}
-use Rattle.regress_meaning.specs.Pattern.{Settings}
 use Rattle.regress_meaning.specs.Meaning.{State, Forward, Backward, Context, beside, step, same, same_all}
 use Rattle.regress_front_nodes.specs.Trees.{Tree, char, bytes, byte_set, char_set, cat_of}
-use Rattle.regress_front_nodes.specs.TreeMeaning.{ignoring, one, node_outcomes}
+use Rattle.regress_front_nodes.specs.TreeMeaning.{one, node_outcomes}
 use Rattle.regress_front_nodes.specs.Pieces.{expansion, bytes_before, before, pieces_of}
 use Rattle.regress_front_nodes.proofs.StepLemmas.{list_all-agree, step-agree, flat_map-again, flat_map-self, sized-agree}
 use Rattle.regress_front_nodes.proofs.PieceLemmas.{held-below, expansion-points, scalar-from}
@@ -287,7 +286,7 @@ module _ (w : Context) where
     place-kept : (s : State) → s ∷ [] ≡ record s { place = s.place + 0 } ∷ []
     place-kept s = let same : s.place ≡ s.place + 0 = omega arith in (λ i. record s { place = same i } ∷ [])
 
-    stands-for : (icase : Bool) (c d : ℕ) → is_code_point d → holds (expansion w.table icase w.unicode c) d ≡ same w (ignoring icase) c d
+    stands-for : (icase : Bool) (c d : ℕ) → is_code_point d → holds (expansion w.table icase w.unicode c) d ≡ same w.table w.unicode icase c d
     unfolding expansion
     stands-for false c d h = grind (arith, nat_tests)
     stands-for true c d h =
@@ -319,18 +318,17 @@ module _ (w : Context) where
 
     -- the string and its pieces
     pub pieces-outcomes : (icase : Bool) (cs : List ℕ) (s : State) → All is_code_point cs → s.place ≤ length w.text
-        → node_outcomes w (cat_of (pieces_of w.table icase w.unicode cs)) Forward s ≡ step w Forward (length cs) (same_all w (ignoring icase) cs) s
+        → node_outcomes w (cat_of (pieces_of w.table icase w.unicode cs)) Forward s ≡ step w Forward (length cs) (same_all w.table w.unicode icase cs) s
     unfolding node_outcomes pieces_of
-    pieces-outcomes icase [] s points inside = rw (step-in 0 (same_all w (ignoring icase) []) s (omega arith)) (place-kept s)
+    pieces-outcomes icase [] s points inside = rw (step-in 0 (same_all w.table w.unicode icase []) s (omega arith)) (place-kept s)
     pieces-outcomes icase (c ∷ cs) s points inside =
-        let e : Settings = ignoring icase in
         let ms : List ℕ = expansion w.table icase w.unicode c in
         let ts : List Tree = pieces_of w.table icase w.unicode cs in
         let own : is_code_point c = All-head is_code_point c cs points in
-        before-first (same w e c) ms ts s (expansion-points w.table w.unicode c icase own) (stands-for icase c) inside
-        ∙ flat_map-step (node_outcomes w (cat_of ts) Forward) (step w Forward (length cs) (same_all w e cs))
-        (λ t h. pieces-outcomes icase cs t (All-tail is_code_point c cs points) h) 1 (list_all (same w e c)) s
-        ∙ sym (step-first (same w e c) (same_all w e cs) (same_all w e (c ∷ cs)) (λ d ds. refl) (length cs) s)
+        before-first (same w.table w.unicode icase c) ms ts s (expansion-points w.table w.unicode c icase own) (stands-for icase c) inside
+        ∙ flat_map-step (node_outcomes w (cat_of ts) Forward) (step w Forward (length cs) (same_all w.table w.unicode icase cs))
+        (λ t h. pieces-outcomes icase cs t (All-tail is_code_point c cs points) h) 1 (list_all (same w.table w.unicode icase c)) s
+        ∙ sym (step-first (same w.table w.unicode icase c) (same_all w.table w.unicode icase cs) (same_all w.table w.unicode icase (c ∷ cs)) (λ d ds. refl) (length cs) s)
 
     -- ---- from right to left
 
@@ -406,14 +404,13 @@ module _ (w : Context) where
 
     -- the string and its pieces, the last first
     pub back-outcomes : (icase : Bool) (cs : List ℕ) (s : State) → All is_code_point cs → s.place ≤ length w.text
-        → node_outcomes w (cat_of (reverse (pieces_of w.table icase w.unicode cs))) Backward s ≡ step w Backward (length cs) (same_all w (ignoring icase) cs) s
+        → node_outcomes w (cat_of (reverse (pieces_of w.table icase w.unicode cs))) Backward s ≡ step w Backward (length cs) (same_all w.table w.unicode icase cs) s
     unfolding node_outcomes pieces_of
-    back-outcomes icase [] s points inside = rw (back-in 0 (same_all w (ignoring icase) []) s (omega arith)) (place-left s)
+    back-outcomes icase [] s points inside = rw (back-in 0 (same_all w.table w.unicode icase []) s (omega arith)) (place-left s)
     back-outcomes icase (c ∷ cs) s points inside =
-        let e : Settings = ignoring icase in
         let ms : List ℕ = expansion w.table icase w.unicode c in
         let ts : List Tree = pieces_of w.table icase w.unicode cs in
         let own : is_code_point c = All-head is_code_point c cs points in
-        before-last (same w e c) ms ts s (expansion-points w.table w.unicode c icase own) (stands-for icase c) inside (all-pieces icase cs)
-        ∙ ap (λ us. flat_map (one w Backward (same w e c)) us) (back-outcomes icase cs s (All-tail is_code_point c cs points) inside)
-        ∙ sym (step-last (same w e c) (same_all w e cs) (same_all w e (c ∷ cs)) (λ d ds. refl) (length cs) s inside)
+        before-last (same w.table w.unicode icase c) ms ts s (expansion-points w.table w.unicode c icase own) (stands-for icase c) inside (all-pieces icase cs)
+        ∙ ap (λ us. flat_map (one w Backward (same w.table w.unicode icase c)) us) (back-outcomes icase cs s (All-tail is_code_point c cs points) inside)
+        ∙ sym (step-last (same w.table w.unicode icase c) (same_all w.table w.unicode icase cs) (same_all w.table w.unicode icase (c ∷ cs)) (λ d ds. refl) (length cs) s inside)

@@ -44,7 +44,7 @@ module _ (w : Context) (valid : All is_code_point w.text) where
   unfolding step
   step-agree dir k f g same s = by_found (beside w dir k s.place) refl
     where
-      by_found : (o : Option (List ℕ × ℕ)) → beside w dir k s.place ≡ o → stepped w f s o ≡ stepped w g s o
+      by_found : (o : Option (List ℕ × ℕ)) → beside w dir k s.place ≡ o → stepped f s o ≡ stepped g s o
       by_found None e = refl
       by_found (Some (cs, p)) e = rw (same cs (beside-valid dir k s.place cs p e)) refl
 
@@ -75,6 +75,6 @@ module _ (w : Context) (valid : All is_code_point w.text) (dir : Direction) (s :
   unfolding step
   sized-agree k f g agree = by_found (beside w dir k s.place) refl
     where
-      by_found : (o : Option (List ℕ × ℕ)) → beside w dir k s.place ≡ o → stepped w f s o ≡ stepped w g s o
+      by_found : (o : Option (List ℕ × ℕ)) → beside w dir k s.place ≡ o → stepped f s o ≡ stepped g s o
       by_found None e = refl
       by_found (Some (cs, p)) e = rw (agree cs (beside-length dir k cs p e) (beside-valid w valid dir k s.place cs p e)) refl

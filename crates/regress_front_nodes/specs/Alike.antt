@@ -47,6 +47,6 @@ pub record MakeAlike (context : Context) : Type 0 where
   pub followed : (f g : Outcomes) (ss ts : List State) → GoAlike context f g → All (IsInside context.text) ts → AreAlike ss ts
       → AreAlike (flat_map f ss) (flat_map g ts)
   pub changed : (h : State → State) (ss ts : List State) → AreAlike ss ts → AreAlike (map h ss) (map h ts)
-  pub looked : (negated : Bool) (s : State) (ss ts : List State) → AreAlike ss ts → looked context negated s ss ≡ looked context negated s ts
+  pub looked : (negated : Bool) (s : State) (ss ts : List State) → AreAlike ss ts → looked negated s ss ≡ looked negated s ts
   pub iterated : (f g : Outcomes) (greedy : Bool) (most least : ℕ) → GoAlike context f g → StayInside context g
-      → GoAlike context (iterations context f greedy most least) (iterations context g greedy most least)
+      → GoAlike context (iterations f greedy most least) (iterations g greedy most least)

@@ -4,18 +4,12 @@ use Rattle.std.specs.Prelude.{ℕ, ◌-◌, Bool, true, false, not, ◌&&◌, �
 use Rattle.std.specs.List.{flat_map, list_all}
 use Rattle.regress_meaning.specs.Text.{holds, same_text}
 use Rattle.regress_meaning.specs.TableParts.{in_intervals}
-use Rattle.regress_meaning.specs.Class.{is_word}
-use Rattle.regress_meaning.specs.Pattern.{Settings}
-use Rattle.regress_meaning.specs.Meaning.{Direction, Forward, Backward, Outcomes, Context, is_some_and, is_line_end, before, after, step, same_all, iterations, cleared, looked, captured, repeat_group, keep_if}
+use Rattle.regress_meaning.specs.Meaning.{Direction, Forward, Backward, Outcomes, Context, is_some_and, is_line_end, differ, before, after, step, same_all, iterations, cleared, looked, captured, repeat_group, keep_if}
 use Rattle.regress_front_nodes.specs.Trees.{Tree, empty, goal, char, bytes, byte_set, char_set, cat, no_part, alt, any, any_in_line, line_start, line_end, boundary, capture, back, bracket, string_set, look, loop, single_loop}
 
 -- which way a part is read
 abbrev pub direction : Bool → Direction
 direction backward = if backward then Backward else Forward
-
--- case is ignored, or not
-abbrev pub ignoring : Bool → Settings
-ignoring icase = record { icase = icase; multiline = false; dot_all = false }
 
 -- a bracket matches the code point
 abbrev pub bracket_has : Bool → List (ℕ × ℕ) → ℕ → Bool
@@ -32,12 +26,7 @@ module _ (context : Context) where
 
   -- the strings that stand beside the place, one after another
   abbrev pub alternatives : Direction → Bool → List (List ℕ) → Outcomes
-  alternatives dir icase strings s = flat_map (λ cs. step context dir (length cs) (same_all context (ignoring icase) cs) s) strings
-
-  -- exactly one neighbour is a word character
-  abbrev pub differ : Bool → Option ℕ → Option ℕ → Bool
-  differ folded a b =
-      if is_some_and a (is_word context.table folded) then not (is_some_and b (is_word context.table folded)) else is_some_and b (is_word context.table folded)
+  alternatives dir icase strings s = flat_map (λ cs. step context dir (length cs) (same_all context.table context.unicode icase cs) s) strings
 
   -- The outcomes of a tree, in a direction.
   unfoldable pub node_outcomes : Tree → Direction → Outcomes
@@ -53,17 +42,17 @@ module _ (context : Context) where
   node_outcomes any dir s = one dir (λ c. true) s
   node_outcomes any_in_line dir s = one dir (λ c. not (is_line_end c)) s
   node_outcomes (line_start multiline) dir s =
-      keep_if context (s.place == 0 || (multiline && is_some_and (before context s.place) is_line_end)) s
+      keep_if (s.place == 0 || (multiline && is_some_and (before context s.place) is_line_end)) s
   node_outcomes (line_end multiline) dir s =
-      keep_if context (s.place == length context.text || (multiline && is_some_and (after context s.place) is_line_end)) s
+      keep_if (s.place == length context.text || (multiline && is_some_and (after context s.place) is_line_end)) s
   node_outcomes (boundary inverted folded) dir s =
-      let d = differ folded (before context s.place) (after context s.place) in keep_if context (if inverted then not d else d) s
-  node_outcomes (capture k name a) dir s = map (captured context k s.place) (node_outcomes a dir s)
-  node_outcomes (back k icase) dir s = repeat_group context dir (ignoring icase) (slice_get s.groups (k - 1)) s
+      let d = differ context.table folded (before context s.place) (after context s.place) in keep_if (if inverted then not d else d) s
+  node_outcomes (capture k name a) dir s = map (captured k s.place) (node_outcomes a dir s)
+  node_outcomes (back k icase) dir s = repeat_group context dir icase (slice_get s.groups (k - 1)) s
   node_outcomes (bracket inverted intervals) dir s = one dir (bracket_has inverted intervals) s
   node_outcomes (string_set strings icase) dir s = alternatives dir icase strings s
   node_outcomes (look negated backward first last a) dir s =
-      looked context negated s (node_outcomes a (direction backward) s)
+      looked negated s (node_outcomes a (direction backward) s)
   node_outcomes (loop a first last least most greedy) dir s =
-      iterations context (λ t. node_outcomes a dir (cleared context first last t)) greedy most least s
-  node_outcomes (single_loop a least most greedy) dir s = iterations context (node_outcomes a dir) greedy most least s
+      iterations (λ t. node_outcomes a dir (cleared first last t)) greedy most least s
+  node_outcomes (single_loop a least most greedy) dir s = iterations (node_outcomes a dir) greedy most least s

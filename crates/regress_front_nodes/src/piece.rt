@@ -5,7 +5,7 @@ ghost use Rattle.regress_meaning.specs.TableParts.{is_code_point};
 ghost use Rattle.regress_meaning.specs.Meaning.{Context, State, Forward, Backward, step, same_all};
 ghost use Rattle.regress_front_tables.specs.TableViews.{table};
 ghost use Rattle.regress_front_nodes.specs.Trees.{Tree, tree, cat_of};
-ghost use Rattle.regress_front_nodes.specs.TreeMeaning.{ignoring, node_outcomes};
+ghost use Rattle.regress_front_nodes.specs.TreeMeaning.{node_outcomes};
 ghost use Rattle.regress_front_nodes.specs.WellFormed.{AreLawful};
 
 use crate::node::{Node, NodeList};
@@ -171,8 +171,8 @@ pub fn lower_code_point_sequence(
 /// The nodes of a string's pieces, one after another, match exactly what the string does: the characters of the text that are
 /// its own, or where case is ignored have the canon of its own, one by one. From right to left so do the nodes in reverse.
 pub fn pieces_match_their_string()
-    ensures forward { (context : Context) → (icase : Bool) → (cs : List ℕ) → (s : State) → All is_code_point context.text → All is_code_point cs → s.place ≤ length context.text → node_outcomes context (cat_of (pieces_of context.table icase context.unicode cs)) Forward s ≡ step context Forward (length cs) (same_all context (ignoring icase) cs) s }
-    ensures backward { (context : Context) → (icase : Bool) → (cs : List ℕ) → (s : State) → All is_code_point context.text → All is_code_point cs → s.place ≤ length context.text → node_outcomes context (cat_of (reverse (pieces_of context.table icase context.unicode cs))) Backward s ≡ step context Backward (length cs) (same_all context (ignoring icase) cs) s }
+    ensures forward { (context : Context) → (icase : Bool) → (cs : List ℕ) → (s : State) → All is_code_point context.text → All is_code_point cs → s.place ≤ length context.text → node_outcomes context (cat_of (pieces_of context.table icase context.unicode cs)) Forward s ≡ step context Forward (length cs) (same_all context.table context.unicode icase cs) s }
+    ensures backward { (context : Context) → (icase : Bool) → (cs : List ℕ) → (s : State) → All is_code_point context.text → All is_code_point cs → s.place ≤ length context.text → node_outcomes context (cat_of (reverse (pieces_of context.table icase context.unicode cs))) Backward s ≡ step context Backward (length cs) (same_all context.table context.unicode icase cs) s }
 {}
 
 #[cfg(test)]

@@ -12,6 +12,7 @@ use Rattle.std.proofs.lemmas.List.Sorted.{sorted_far, list_any-IsPermutation, Is
 use Rattle.std.proofs.lemmas.Map.Views.{All-map-IsPermutation}
 use Rattle.regress_meaning.specs.Text.{same_text, holds}
 use Rattle.regress_meaning.specs.Table.{Table, canon, last_code_point}
+use Rattle.regress_meaning.specs.Meaning.{same}
 use Rattle.regress_meaning.specs.Pattern.{Settings}
 use Rattle.regress_front_tables.specs.Folding.{Lists}
 use Rattle.regress_front_sets.specs.declared.code_point_set.CodePointSet.{CodePointSet}
@@ -21,7 +22,7 @@ use Rattle.regress_front_nodes.specs.Trees.{char, char_set, bracket}
 use Rattle.regress_meaning.specs.TableParts.{is_code_point}
 use Rattle.regress_meaning.specs.Class.{among}
 use Rattle.regress_front_nodes.specs.Characters.{Takes}
-use Rattle.regress_front_tree.specs.Lowering.{AreByLength, LengthsFall, same_point}
+use Rattle.regress_front_tree.specs.Lowering.{AreByLength, LengthsFall}
 use Rattle.regress_front_tree.specs.ClassValues.{lists}
 use Rattle.regress_front_tree.proofs.ClassLemmas.{among-lists, filter-lists}
 
@@ -128,18 +129,18 @@ eqb-sym m n =
 module _ (table : Table) (unicode : Bool) (e : Settings) (icase : Bool) (is : e.icase ≡ icase) (cs : List ℕ) (c : ℕ)
     (all : icase ≡ true → Lists (λ d. canon table unicode d == canon table unicode c) cs) where
   -- which code points are listed
-  listed : icase ≡ true → (d : ℕ) → is_code_point d → holds cs d ≡ same_point table unicode e c d
+  listed : icase ≡ true → (d : ℕ) → is_code_point d → holds cs d ≡ same table unicode e.icase c d
   listed ignored d point =
       (all ignored).members d
       ∙ ap (λ b. b && (canon table unicode d == canon table unicode c)) (le-leb d last_code_point point)
       ∙ eqb-sym (canon table unicode d) (canon table unicode c)
       ∙ sym (cond-true e.icase _ _ (is ∙ ignored))
 
-  alone : icase ≡ false → (d : ℕ) → (c == d) ≡ same_point table unicode e c d
+  alone : icase ≡ false → (d : ℕ) → (c == d) ≡ same table unicode e.icase c d
   alone regarded d = sym (cond-false e.icase _ _ (is ∙ regarded))
 
   -- nothing else has its canon
-  pub takes-one : is_code_point c → holds cs c ≡ true → length cs ≡ 1 → Takes (char c) (same_point table unicode e c)
+  pub takes-one : is_code_point c → holds cs c ≡ true → length cs ≡ 1 → Takes (char c) (same table unicode e.icase c)
   takes-one point own one = record {
     alone = refl;
     members = λ d bound. elim (cases_Bool icase) [
@@ -150,7 +151,7 @@ module _ (table : Table) (unicode : Bool) (e : Settings) (icase : Bool) (is : e.
   }
 
   -- others have its canon
-  pub takes-some : (icase ≡ false → cs ≡ c ∷ []) → (length cs ≡ 1 → ⊥) → length cs ≤ 4 → Takes (char_set cs) (same_point table unicode e c)
+  pub takes-some : (icase ≡ false → cs ≡ c ∷ []) → (length cs ≡ 1 → ⊥) → length cs ≤ 4 → Takes (char_set cs) (same table unicode e.icase c)
   takes-some itself several few =
       let ignored : icase ≡ true = true_from_ne_false icase (λ regarded. several (ap length (itself regarded))) in
       record {

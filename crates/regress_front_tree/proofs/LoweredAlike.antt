@@ -14,7 +14,7 @@ use Rattle.regress_meaning.specs.Pattern.{Pattern, Settings}
 use Rattle.regress_meaning.specs.Laws.{LiesIn, IsInside}
 use Rattle.regress_meaning.specs.Meaning.{State, Direction, Forward, Backward, Context, step, same_all, closed, class_steps, captured, clear_from, cleared, repeat_group, references, outcomes}
 use Rattle.regress_front_nodes.specs.Trees.{Tree, back, string_set, cat_of}
-use Rattle.regress_front_nodes.specs.TreeMeaning.{ignoring, alternatives, node_outcomes}
+use Rattle.regress_front_nodes.specs.TreeMeaning.{alternatives, node_outcomes}
 use Rattle.regress_front_nodes.specs.Alike.{distinct, GoAlike}
 use Rattle.regress_front_nodes.specs.TreeMeaning.{direction}
 use Rattle.regress_front_nodes.specs.Forms.{cat_made, in_reading_order}
@@ -64,18 +64,18 @@ others-sized table folded (nested false a) = others-sized table folded a
 
 module _ (w : Context) (valid : All is_code_point w.text) (stays : Stays w valid) where
   -- the arms of a class, one after another
-  class-outcomes : (dir : Direction) (e : Settings) (c : Class) (t : Tree) → LowersClass w.table w.unicode e c t → GoAlike w (node_outcomes w t dir) (class_steps w dir e false (class_value w.table w.unicode e c))
+  class-outcomes : (dir : Direction) (e : Settings) (c : Class) (t : Tree) → LowersClass w.table w.unicode e c t → GoAlike w (node_outcomes w t dir) (class_steps w dir e.icase false (class_value w.table w.unicode e c))
   unfolding node_outcomes class_steps
   class-outcomes dir e c t h s inside =
       let v = class_value w.table w.unicode e c in
       let go : Tree → List State = λ u. node_outcomes w u dir s in
-      let test : List ℕ → Bool = λ cs. list_any (same_all w e cs) v.others in
+      let test : List ℕ → Bool = λ cs. list_any (same_all w.table w.unicode e.icase cs) v.others in
       let last : List Tree = if among v.others [] then string_set ([] ∷ []) e.icase ∷ [] else [] in
       let first : List Tree = if length h.strings == 0 then [] else string_set h.strings e.icase ∷ [] in
       let strings_are : flat_map go first ≡ each-string w valid dir s inside.place (like w valid dir s inside.place e) (like-sized w valid dir s inside.place e) h.strings = first_arm h.strings in
-      let characters_are : go h.characters ≡ step w dir 1 (list_all (closed w e v.singles)) s = takes-steps w valid h.characters (closed w e v.singles) h.takes dir s in
+      let characters_are : go h.characters ≡ step w dir 1 (list_all (closed w.table w.unicode e.icase v.singles)) s = takes-steps w valid h.characters (closed w.table w.unicode e.icase v.singles) h.takes dir s in
       let last_is : flat_map go last ≡ step w dir 0 test s = last_arm (among v.others []) refl in
-      let whole : go t ≡ each-string w valid dir s inside.place (like w valid dir s inside.place e) (like-sized w valid dir s inside.place e) h.strings ++ (step w dir 1 (list_all (closed w e v.singles)) s ++ step w dir 0 test s) =
+      let whole : go t ≡ each-string w valid dir s inside.place (like w valid dir s inside.place e) (like-sized w valid dir s inside.place e) h.strings ++ (step w dir 1 (list_all (closed w.table w.unicode e.icase v.singles)) s ++ step w dir 0 test s) =
       arms-outcomes w valid h.arms dir s ∙ flat_map-append go first (h.characters ∷ last) ∙ (λ i. strings_are i ++ (characters_are i ++ last_is i)) in
       ap distinct whole
       ∙ arms-of-class w valid dir s inside.place e v h.strings (among-All Other v.others (others-sized w.table (w.unicode && e.icase) c)) h.by_length
@@ -88,21 +88,16 @@ module _ (w : Context) (valid : All is_code_point w.text) (stays : Stays w valid
       first_arm (r ∷ ss) = let some : (suc (length ss) == 0) ≡ false = grind (arith, nat_tests) in rw some (append-nil (alternatives w dir e.icase (r ∷ ss) s))
 
       last_arm : (b : Bool) → among (class_value w.table w.unicode e c).others [] ≡ b
-          → flat_map (λ u. node_outcomes w u dir s) (if b then string_set ([] ∷ []) e.icase ∷ [] else []) ≡ step w dir 0 (λ cs. list_any (same_all w e cs) (class_value w.table w.unicode e c).others) s
+          → flat_map (λ u. node_outcomes w u dir s) (if b then string_set ([] ∷ []) e.icase ∷ [] else []) ≡ step w dir 0 (λ cs. list_any (same_all w.table w.unicode e.icase cs) (class_value w.table w.unicode e c).others) s
       last_arm true found = append-nil (alternatives w dir e.icase ([] ∷ []) s) ∙ append-nil (step w dir 0 (like w valid dir s inside.place e []) s) ∙ empty-agrees w valid dir s inside.place e (class_value w.table w.unicode e c).others found
       last_arm false none = sym (no_empty-agrees w valid dir s inside.place e (class_value w.table w.unicode e c).others none)
 
   -- references one after another
-  back-one : (b : Bool) (j : ℕ) (e : Settings) (dir : Direction) (s : State) → node_outcomes w (back (j + 1) e.icase) dir s ≡ repeat_group w dir e (slice_get s.groups j) s
+  back-one : (b : Bool) (j : ℕ) (e : Settings) (dir : Direction) (s : State) → node_outcomes w (back (j + 1) e.icase) dir s ≡ repeat_group w dir e.icase (slice_get s.groups j) s
   unfolding node_outcomes repeat_group
-  back-one b j e dir s = let same : (j + 1) - 1 ≡ j = omega arith in rw same (by_group (slice_get s.groups j))
-    where
-      by_group : (g : Option (Option (ℕ × ℕ))) → repeat_group w dir (ignoring e.icase) g s ≡ repeat_group w dir e g s
-      by_group None = refl
-      by_group (Some None) = refl
-      by_group (Some (Some (a, b))) = refl
+  back-one b j e dir s = let same : (j + 1) - 1 ≡ j = omega arith in rw same refl
 
-  backs : (ks : List ℕ) (e : Settings) (dir : Direction) (s : State) → node_outcomes w (cat_of (map (λ j. back (j + 1) e.icase) ks)) dir s ≡ references w dir e ks s
+  backs : (ks : List ℕ) (e : Settings) (dir : Direction) (s : State) → node_outcomes w (cat_of (map (λ j. back (j + 1) e.icase) ks)) dir s ≡ references w dir e.icase ks s
   unfolding node_outcomes references
   backs [] e dir s = refl
   backs (j ∷ ks) e dir s = (λ i. flat_map (λ r. backs ks e dir r i) (back-one true j e dir s i))
@@ -117,14 +112,14 @@ module _ (w : Context) (valid : All is_code_point w.text) (stays : Stays w valid
   abbrev GroupLies : Option (ℕ × ℕ) → Type 0
   GroupLies g = IfSome g (LiesIn (length w.text))
 
-  clear_from-lie : (i first last : ℕ) (gs : List (Option (ℕ × ℕ))) → All GroupLies gs → All GroupLies (clear_from w i first last gs)
+  clear_from-lie : (i first last : ℕ) (gs : List (Option (ℕ × ℕ))) → All GroupLies gs → All GroupLies (clear_from i first last gs)
   clear_from-lie i first last [] h = All-nil GroupLies
   clear_from-lie i first last (g ∷ gs) h =
-      All-cons GroupLies _ (clear_from w (i + 1) first last gs)
+      All-cons GroupLies _ (clear_from (i + 1) first last gs)
       (cond_both (nat_le first i && nat_lt i last) None g GroupLies (λ e. tt) (λ e. All-head GroupLies g gs h))
       (clear_from-lie (i + 1) first last gs (All-tail GroupLies g gs h))
 
-  cleared-inside : (first last : ℕ) (s : State) → IsInside w.text s → IsInside w.text (cleared w first last s)
+  cleared-inside : (first last : ℕ) (s : State) → IsInside w.text s → IsInside w.text (cleared first last s)
   cleared-inside first last s h = record { place = h.place; groups = clear_from-lie 0 first last s.groups h.groups }
 
   mutual
@@ -138,13 +133,13 @@ module _ (w : Context) (valid : All is_code_point w.text) (stays : Stays w valid
     lowered-alike {b} {e} (of_class_escape {c = c} {t = t} h) s inside = class-outcomes (direction b) e c t h s inside
     lowered-alike {b} {e} (of_terms {ps = ps} {ts = ts} h) s inside = terms-alike w valid stays b e ps ts (all-alike h) s inside
     lowered-alike {b} {e} (of_arms {ps = ps} {ts = ts} {t = t} h arms) s inside = arms-alike w valid (direction b) e ps ts t (all-alike h) arms s inside
-    lowered-alike {b} {e} (of_capture {j = j} {p = p} {t = t} h) s inside = changed-alike (captured w j s.place) (node_outcomes w t (direction b) s) (outcomes w p (direction b) e s) (lowered-alike h s inside)
+    lowered-alike {b} {e} (of_capture {j = j} {p = p} {t = t} h) s inside = changed-alike (captured j s.place) (node_outcomes w t (direction b) s) (outcomes w p (direction b) e s) (lowered-alike h s inside)
     lowered-alike (of_group h) s inside = lowered-alike h s inside
     lowered-alike (of_modified h) s inside = lowered-alike h s inside
     lowered-alike {b} {e} (of_repeated {first = first} {last = last} {least = least} {most = most} {greedy = greedy} {p = p} {t = t} h) s inside =
-        iterated-alike w (λ r. node_outcomes w t (direction b) (cleared w first last r)) (λ r. outcomes w p (direction b) e (cleared w first last r)) greedy most least
-        (λ r in_text. lowered-alike h (cleared w first last r) (cleared-inside first last r in_text))
-        (λ r in_text. stays p (direction b) e (cleared w first last r) (cleared-inside first last r in_text)) s inside
+        iterated-alike w (λ r. node_outcomes w t (direction b) (cleared first last r)) (λ r. outcomes w p (direction b) e (cleared first last r)) greedy most least
+        (λ r in_text. lowered-alike h (cleared first last r) (cleared-inside first last r in_text))
+        (λ r in_text. stays p (direction b) e (cleared first last r) (cleared-inside first last r in_text)) s inside
     lowered-alike {b} {e} (of_look {negated = negated} {backward = backward} {p = p} {t = t} h) s inside =
         ap distinct (looked-alike w negated s (node_outcomes w t (direction backward) s) (outcomes w p (direction backward) e s) (lowered-alike h s inside))
     lowered-alike {b} {e} (of_reference {ks = ks}) s inside = ap distinct (references-are b e ks s)

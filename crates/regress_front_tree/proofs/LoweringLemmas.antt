@@ -5,7 +5,7 @@ use Rattle.std.proofs.lemmas.Bool.{false≢true}
 use Rattle.std.proofs.lemmas.List.{take_more, map_push, length-map}
 use Rattle.regress_meaning.specs.Table.{Table}
 use Rattle.regress_meaning.specs.Pattern.{Pattern, Settings, nothing, modified}
-use Rattle.regress_meaning.specs.Meaning.{is_line_end}
+use Rattle.regress_meaning.specs.Meaning.{is_line_end, with}
 use Rattle.regress_front_tables.specs.TableViews.{table}
 use Rattle.regress_front_syntax.specs.Trees as parsed
 use Rattle.regress_front_syntax.specs.declared.syntax.Syntax.{Syntax}
@@ -14,7 +14,7 @@ use Rattle.regress_front_tree.specs.declared.lowering.Lowering.{Lowering}
 use Rattle.regress_front_tree.specs.declared.lowering.Scope.{Scope}
 use Rattle.regress_front_nodes.specs.Trees.{Tree, tree, empty, any, any_in_line}
 use Rattle.regress_front_nodes.specs.Characters.{Takes}
-use Rattle.regress_front_tree.specs.Lowering.{Lowers, LowersAll, no_pattern, and_next, of_terms, of_modified, switched_by}
+use Rattle.regress_front_tree.specs.Lowering.{Lowers, LowersAll, no_pattern, and_next, of_terms, of_modified}
 use Rattle.regress_front_tree.specs.Scopes.{settings_of, name_told, LowersInScope, LowersAllInScope, IsSamePattern}
 
 -- one more pattern at the end
@@ -66,9 +66,9 @@ nodes-length old new s parts nodes h =
 
 -- inside modifiers
 pub LowersInScope-modified : (old new : Lowering) (s inside : Scope) (on off : Settings) (p : Pattern) (t : Tree)
-    → ((table : Table) (u : Bool) → settings_of inside ≡ switched_by table u on off (settings_of s)) → inside.backward ≡ s.backward
+    → settings_of inside ≡ with on off (settings_of s) → inside.backward ≡ s.backward
     → LowersInScope old inside p t new → LowersInScope old s (modified on off p) t new
-LowersInScope-modified old new s inside on off p t e b h = of_modified (rw (e (table old.tables.now) old.unicode, b) at h)
+LowersInScope-modified old new s inside on off p t e b h = of_modified (rw (e, b) at h)
 
 -- a name that isn't empty, and its text
 pub name_told-text : (name : List ℕ) (text : Option (String Global)) → all_scalars name ≡ true → (length name == 0) ≡ false

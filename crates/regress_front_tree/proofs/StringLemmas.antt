@@ -12,7 +12,6 @@ use Rattle.regress_meaning.specs.TableParts.{is_code_point}
 use Rattle.regress_meaning.specs.Class.{Strings, among, longest}
 use Rattle.regress_meaning.specs.Pattern.{Settings}
 use Rattle.regress_meaning.specs.Meaning.{State, Direction, Forward, Backward, Context, beside, stepped, step, same, same_all, closed, string_steps}
-use Rattle.regress_front_nodes.specs.TreeMeaning.{ignoring}
 use Rattle.regress_front_nodes.specs.Alike.{distinct, AreAlike}
 use Rattle.regress_front_tree.specs.Lowering.{LengthsFall, AreByLength}
 use Rattle.regress_front_nodes.proofs.DistinctLemmas.{joined-alike, same_state-self, repeat-left_out}
@@ -120,7 +119,7 @@ module _ (w : Context) (valid : All is_code_point w.text) (dir : Direction) (s :
   unfolding step
   never-steps k = by_found (beside w dir k s.place)
     where
-      by_found : (o : Option (List ℕ × ℕ)) → stepped w (λ cs. false) s o ≡ []
+      by_found : (o : Option (List ℕ × ℕ)) → stepped (λ cs. false) s o ≡ []
       by_found None = refl
       by_found (Some (cs, p)) = refl
 
@@ -135,7 +134,7 @@ module _ (w : Context) (valid : All is_code_point w.text) (dir : Direction) (s :
       by_tests cs p false true = refl
       by_tests cs p false false = refl
 
-      by_found : (o : Option (List ℕ × ℕ)) → AreAlike (stepped w f s o ++ stepped w g s o) (stepped w (λ cs. f cs || g cs) s o)
+      by_found : (o : Option (List ℕ × ℕ)) → AreAlike (stepped f s o ++ stepped g s o) (stepped (λ cs. f cs || g cs) s o)
       by_found None = refl
       by_found (Some (cs, p)) = by_tests cs p (f cs) (g cs)
 
@@ -230,24 +229,24 @@ module _ (w : Context) (valid : All is_code_point w.text) (dir : Direction) (s :
                 ∙ ap (λ us. distinct (us ++ levels (test (r ∷ ss)) (suc k))) (sym none)
 
   -- the outcomes of a set of strings: of each length, then the single characters, then the empty string
-  string_steps-levels : (e : Settings) (v : Strings) (k : ℕ) → string_steps w dir e v (suc k) s
-      ≡ levels (λ cs. list_any (same_all w e cs) v.others) (suc k) ++ (step w dir 1 (list_all (closed w e v.singles)) s ++ step w dir 0 (λ cs. list_any (same_all w e cs) v.others) s)
+  string_steps-levels : (e : Settings) (v : Strings) (k : ℕ) → string_steps w dir e.icase v (suc k) s
+      ≡ levels (λ cs. list_any (same_all w.table w.unicode e.icase cs) v.others) (suc k) ++ (step w dir 1 (list_all (closed w.table w.unicode e.icase v.singles)) s ++ step w dir 0 (λ cs. list_any (same_all w.table w.unicode e.icase cs) v.others) s)
   unfolding string_steps
   string_steps-levels e v zero = refl
   string_steps-levels e v (suc k) =
-      let test : List ℕ → Bool = λ cs. list_any (same_all w e cs) v.others in
-      let rest : List State = step w dir 1 (list_all (closed w e v.singles)) s ++ step w dir 0 test s in
+      let test : List ℕ → Bool = λ cs. list_any (same_all w.table w.unicode e.icase cs) v.others in
+      let rest : List State = step w dir 1 (list_all (closed w.table w.unicode e.icase v.singles)) s ++ step w dir 0 test s in
       let no : (suc k == 0) ≡ false = grind (arith, nat_tests) in
-      let here : step w dir (suc (suc k)) (λ cs. if suc k == 0 then list_all (closed w e v.singles) cs else list_any (same_all w e cs) v.others) s ≡ step w dir (suc (suc k)) test s =
-      sized-agree w valid dir s inside (suc (suc k)) (λ cs. if suc k == 0 then list_all (closed w e v.singles) cs else list_any (same_all w e cs) v.others) test (λ cs a b. rw no refl) in
+      let here : step w dir (suc (suc k)) (λ cs. if suc k == 0 then list_all (closed w.table w.unicode e.icase v.singles) cs else list_any (same_all w.table w.unicode e.icase cs) v.others) s ≡ step w dir (suc (suc k)) test s =
+      sized-agree w valid dir s inside (suc (suc k)) (λ cs. if suc k == 0 then list_all (closed w.table w.unicode e.icase v.singles) cs else list_any (same_all w.table w.unicode e.icase cs) v.others) test (λ cs a b. rw no refl) in
       (λ i. here i ++ string_steps-levels e v k i) ∙ sym (append_assoc (step w dir (suc (suc k)) test s) (levels test (suc k)) rest)
 
   -- strings of a node against a text
   abbrev pub like : Settings → List ℕ → List ℕ → Bool
-  like e r cs = same_all w (ignoring e.icase) r cs
+  like e r cs = same_all w.table w.unicode e.icase r cs
 
-  like-turned : (e : Settings) (r cs : List ℕ) → like e r cs ≡ same_all w e cs r
-  like-turned e r cs = pointwise-turned (same w (ignoring e.icase)) (same w e) (λ c d. turned e.icase c d) r cs
+  like-turned : (e : Settings) (r cs : List ℕ) → like e r cs ≡ same_all w.table w.unicode e.icase cs r
+  like-turned e r cs = pointwise-turned (same w.table w.unicode e.icase) (same w.table w.unicode e.icase) (λ c d. turned e.icase c d) r cs
     where
       turned : (b : Bool) (c d : ℕ) → (if b then canon w.table w.unicode c == canon w.table w.unicode d else c == d) ≡ (if b then canon w.table w.unicode d == canon w.table w.unicode c else d == c)
       turned true c d = grind (arith, nat_tests)
@@ -255,58 +254,58 @@ module _ (w : Context) (valid : All is_code_point w.text) (dir : Direction) (s :
 
   -- some string of the node passes where some string of the class does, but for the empty one
   any-agree : (e : Settings) (strings others : List (List ℕ)) → ((r : List ℕ) → among strings r ≡ (not (length r == 0) && among others r)) → (cs : List ℕ) → 1 ≤ length cs
-      → list_any (λ r. like e r cs) strings ≡ list_any (same_all w e cs) others
-  any-agree e strings others members cs long = both_ways (list_any (λ r. like e r cs) strings) (list_any (same_all w e cs) others) there back
+      → list_any (λ r. like e r cs) strings ≡ list_any (same_all w.table w.unicode e.icase cs) others
+  any-agree e strings others members cs long = both_ways (list_any (λ r. like e r cs) strings) (list_any (same_all w.table w.unicode e.icase cs) others) there back
     where
       second : (a b : Bool) → (a && b) ≡ true → b ≡ true
       second true b h = h
       second false b h = absurd (cc)
 
-      there : list_any (λ r. like e r cs) strings ≡ true → list_any (same_all w e cs) others ≡ true
+      there : list_any (λ r. like e r cs) strings ≡ true → list_any (same_all w.table w.unicode e.icase cs) others ≡ true
       there h =
           let (r, found, passes) = any-among (λ r. like e r cs) strings h in
-          among-any (same_all w e cs) others r (second (not (length r == 0)) (among others r) (sym (members r) ∙ found)) (sym (like-turned e r cs) ∙ passes)
+          among-any (same_all w.table w.unicode e.icase cs) others r (second (not (length r == 0)) (among others r) (sym (members r) ∙ found)) (sym (like-turned e r cs) ∙ passes)
 
-      back : list_any (same_all w e cs) others ≡ true → list_any (λ r. like e r cs) strings ≡ true
+      back : list_any (same_all w.table w.unicode e.icase cs) others ≡ true → list_any (λ r. like e r cs) strings ≡ true
       back h =
-          let (r, found, passes) = any-among (same_all w e cs) others h in
-          let size = pointwise-length (same w e) cs r passes in
+          let (r, found, passes) = any-among (same_all w.table w.unicode e.icase cs) others h in
+          let size = pointwise-length (same w.table w.unicode e.icase) cs r passes in
           let some : (length r == 0) ≡ false = grind (arith, nat_tests) in
           among-any (λ t. like e t cs) strings r (members r ∙ rw (some, found) refl) (like-turned e r cs ∙ passes)
 
   -- the empty string, as a set of its own
-  pub empty-agrees : (e : Settings) (others : List (List ℕ)) → among others [] ≡ true → step w dir 0 (like e []) s ≡ step w dir 0 (λ cs. list_any (same_all w e cs) others) s
-  empty-agrees e others found = sized-agree w valid dir s inside 0 (like e []) (λ cs. list_any (same_all w e cs) others) agree
+  pub empty-agrees : (e : Settings) (others : List (List ℕ)) → among others [] ≡ true → step w dir 0 (like e []) s ≡ step w dir 0 (λ cs. list_any (same_all w.table w.unicode e.icase cs) others) s
+  empty-agrees e others found = sized-agree w valid dir s inside 0 (like e []) (λ cs. list_any (same_all w.table w.unicode e.icase cs) others) agree
     where
-      agree : (cs : List ℕ) → length cs ≡ 0 → All is_code_point cs → like e [] cs ≡ list_any (same_all w e cs) others
-      agree [] h k = sym (among-any (same_all w e []) others [] found refl)
+      agree : (cs : List ℕ) → length cs ≡ 0 → All is_code_point cs → like e [] cs ≡ list_any (same_all w.table w.unicode e.icase cs) others
+      agree [] h k = sym (among-any (same_all w.table w.unicode e.icase []) others [] found refl)
       agree (c ∷ cs) h k = absurd (suc-ne-zero (length cs) h)
 
-  pub no_empty-agrees : (e : Settings) (others : List (List ℕ)) → among others [] ≡ false → step w dir 0 (λ cs. list_any (same_all w e cs) others) s ≡ []
-  no_empty-agrees e others none = sized-agree w valid dir s inside 0 (λ cs. list_any (same_all w e cs) others) (λ cs. false) agree ∙ never-steps 0
+  pub no_empty-agrees : (e : Settings) (others : List (List ℕ)) → among others [] ≡ false → step w dir 0 (λ cs. list_any (same_all w.table w.unicode e.icase cs) others) s ≡ []
+  no_empty-agrees e others none = sized-agree w valid dir s inside 0 (λ cs. list_any (same_all w.table w.unicode e.icase cs) others) (λ cs. false) agree ∙ never-steps 0
     where
-      fails : (b : Bool) → list_any (same_all w e []) others ≡ b → b ≡ false
+      fails : (b : Bool) → list_any (same_all w.table w.unicode e.icase []) others ≡ b → b ≡ false
       fails false h = refl
-      fails true h = let (r, found, passes) = any-among (same_all w e []) others h in absurd (only r found passes)
+      fails true h = let (r, found, passes) = any-among (same_all w.table w.unicode e.icase []) others h in absurd (only r found passes)
         where
-          only : (r : List ℕ) → among others r ≡ true → same_all w e [] r ≡ true → ⊥
+          only : (r : List ℕ) → among others r ≡ true → same_all w.table w.unicode e.icase [] r ≡ true → ⊥
           only [] found passes = cc
           only (c ∷ r) found passes = cc
 
-      agree : (cs : List ℕ) → length cs ≡ 0 → All is_code_point cs → list_any (same_all w e cs) others ≡ false
-      agree [] h k = fails (list_any (same_all w e []) others) refl
+      agree : (cs : List ℕ) → length cs ≡ 0 → All is_code_point cs → list_any (same_all w.table w.unicode e.icase cs) others ≡ false
+      agree [] h k = fails (list_any (same_all w.table w.unicode e.icase []) others) refl
       agree (c ∷ cs) h k = absurd (suc-ne-zero (length cs) h)
 
   pub like-sized : (e : Settings) (r cs : List ℕ) → like e r cs ≡ true → length r ≡ length cs
-  like-sized e r cs h = pointwise-length (same w (ignoring e.icase)) r cs h
+  like-sized e r cs h = pointwise-length (same w.table w.unicode e.icase) r cs h
 
   -- strings of a class, its characters and its empty string are alike its outcomes
   pub arms-of-class : (e : Settings) (v : Strings) (strings : List (List ℕ)) → ((r : List ℕ) → among v.others r ≡ true → (length r == 1) ≡ false) → AreByLength strings v.others
-      → AreAlike (each-string (like e) (like-sized e) strings ++ (step w dir 1 (list_all (closed w e v.singles)) s ++ step w dir 0 (λ cs. list_any (same_all w e cs) v.others) s))
-      (string_steps w dir e v (max 1 (longest v.others)) s)
+      → AreAlike (each-string (like e) (like-sized e) strings ++ (step w dir 1 (list_all (closed w.table w.unicode e.icase v.singles)) s ++ step w dir 0 (λ cs. list_any (same_all w.table w.unicode e.icase cs) v.others) s))
+      (string_steps w dir e.icase v (max 1 (longest v.others)) s)
   arms-of-class e v strings sizes h =
-      let test : List ℕ → Bool = λ cs. list_any (same_all w e cs) v.others in
-      let rest : List State = step w dir 1 (list_all (closed w e v.singles)) s ++ step w dir 0 test s in
+      let test : List ℕ → Bool = λ cs. list_any (same_all w.table w.unicode e.icase cs) v.others in
+      let rest : List State = step w dir 1 (list_all (closed w.table w.unicode e.icase v.singles)) s ++ step w dir 0 test s in
       let k : ℕ = max 1 (longest v.others) - 1 in
       let most : max 1 (longest v.others) ≡ suc k = omega arith in
       let bounds : All (Between (like e) (like-sized e) (suc k)) strings = All-among (Between (like e) (like-sized e) (suc k)) strings (bounded k (omega arith)) in
@@ -315,7 +314,7 @@ module _ (w : Context) (valid : All is_code_point w.text) (dir : Direction) (s :
       ∙ ap distinct (levels-agree (λ cs. list_any (λ r. like e r cs) strings) test (suc k) (λ cs a b. any-agree e strings v.others h.members cs (omega arith))) in
       joined-alike (each-string (like e) (like-sized e) strings) rest (levels test (suc k)) rest alike refl
       ∙ ap distinct (sym (string_steps-levels e v k))
-      ∙ (λ i. distinct (string_steps w dir e v (sym most i) s))
+      ∙ (λ i. distinct (string_steps w dir e.icase v (sym most i) s))
     where
       both : (a b : Bool) → (a && b) ≡ true → (a ≡ true) × (b ≡ true)
       both true true p = (refl, refl)

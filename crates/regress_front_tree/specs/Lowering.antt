@@ -1,12 +1,12 @@
 -- How the tree of a pattern is lowered to nodes: case closed by the table, classes as sets, parts in the order of reading.
 use Rattle.std.specs.Prelude.{◌≡◌, ℕ, suc, ◌+◌, ◌≤◌, Bool, true, false, not, ◌&&◌, ◌||◌, ◌==◌, List, [], ◌∷◌, ◌++◌, length, Option, if◌then◌else◌, map, min, All}
-use Rattle.regress_meaning.specs.Table.{Table, canon, closure}
+use Rattle.regress_meaning.specs.Table.{Table}
 use Rattle.regress_meaning.specs.TableParts.{is_code_point}
 use Rattle.regress_meaning.specs.Limits.{most_groups}
 use Rattle.regress_meaning.specs.Class.{Class, Strings, value_of, among}
 use Rattle.regress_meaning.specs.Pattern as meaning
 use Rattle.regress_meaning.specs.Pattern.{Pattern, Settings}
-use Rattle.regress_meaning.specs.Meaning.{is_line_end, with}
+use Rattle.regress_meaning.specs.Meaning.{is_line_end, same, closed, with}
 use Rattle.regress_front_syntax.specs.Trees.{sequence_of, choice_of}
 use Rattle.regress_front_nodes.specs.Trees.{Tree, alt, line_start, line_end, boundary, capture, back, string_set, look, loop}
 use Rattle.regress_front_nodes.specs.Forms.{cat_made, in_reading_order}
@@ -38,38 +38,26 @@ abbrev pub one_more : ℕ → ℕ
 one_more k = min (suc k) most_groups
 
 module _ (table : Table) (unicode : Bool) where
-  -- two code points are equal, or where case is ignored have equal canons
-  abbrev pub same_point : Settings → ℕ → ℕ → Bool
-  same_point e c d = if e.icase then canon table unicode c == canon table unicode d else c == d
-
-  -- c is a member, or where case is ignored in the closure
-  abbrev pub in_closed : Settings → (ℕ → Bool) → ℕ → Bool
-  in_closed e members c = if e.icase then closure (canon table unicode) members c else members c
-
   -- the strings that a class stands for
   abbrev pub class_value : Settings → Class → Strings
   class_value e c = value_of table (unicode && e.icase) c
-
-  -- the settings inside a modifier
-  abbrev pub switched_by : Settings → Settings → Settings → Settings
-  switched_by on off e = with (record { text = []; table = table; unicode = unicode }) on off e
 
   -- A class that isn't negated, as its arms.
   pub record LowersClass (e : Settings) (c : Class) (t : Tree) : Type 0 where
     pub strings : List (List ℕ)
     pub characters : Tree
     pub by_length : AreByLength strings (class_value e c).others
-    pub takes : Takes characters (in_closed e (class_value e c).singles)
+    pub takes : Takes characters (closed table unicode e.icase (class_value e c).singles)
     pub arms : HasArms (class_arms e.icase strings characters (among (class_value e c).others [])) t
 
   mutual
     -- A pattern is lowered: the way in which it is read, its settings, the groups opened before it, the pattern, the tree,
     -- and the groups opened up to its end.
     pub data Lowers : Bool → Settings → ℕ → Pattern → Tree → ℕ → Type 0 where
-      of_character : {b : Bool} {e : Settings} {k c : ℕ} {t : Tree} → Takes t (same_point e c) → Lowers b e k (meaning.character c) t k
+      of_character : {b : Bool} {e : Settings} {k c : ℕ} {t : Tree} → Takes t (same table unicode e.icase c) → Lowers b e k (meaning.character c) t k
       of_any : {b : Bool} {e : Settings} {k : ℕ} {t : Tree} → Takes t (λ c. e.dot_all || not (is_line_end c)) → Lowers b e k meaning.any t k
       of_class : {b : Bool} {e : Settings} {k : ℕ} {c : Class} {t : Tree} → LowersClass e c t → Lowers b e k (meaning.class false c) t k
-      of_negated_class : {b : Bool} {e : Settings} {k : ℕ} {c : Class} {t : Tree} → Takes t (λ d. not (in_closed e (class_value e c).singles d))
+      of_negated_class : {b : Bool} {e : Settings} {k : ℕ} {c : Class} {t : Tree} → Takes t (λ d. not (closed table unicode e.icase (class_value e c).singles d))
           → Lowers b e k (meaning.class true c) t k
       of_class_escape : {b : Bool} {e : Settings} {k : ℕ} {c : Class} {t : Tree} → LowersClass e c t → Lowers b e k (meaning.class_escape c) t k
       of_terms : {b : Bool} {e : Settings} {k l : ℕ} {ps : List Pattern} {ts : List Tree} → LowersAll b e k ps ts l
@@ -79,7 +67,7 @@ module _ (table : Table) (unicode : Bool) where
       of_capture : {b : Bool} {e : Settings} {k l j : ℕ} {name : Option (List ℕ)} {p : Pattern} {t : Tree} → Lowers b e (one_more k) p t l
           → Lowers b e k (meaning.capture j name p) (capture j name t) l
       of_group : {b : Bool} {e : Settings} {k l : ℕ} {p : Pattern} {t : Tree} → Lowers b e k p t l → Lowers b e k (meaning.grouped p) t l
-      of_modified : {b : Bool} {e on off : Settings} {k l : ℕ} {p : Pattern} {t : Tree} → Lowers b (switched_by on off e) k p t l
+      of_modified : {b : Bool} {e on off : Settings} {k l : ℕ} {p : Pattern} {t : Tree} → Lowers b (with on off e) k p t l
           → Lowers b e k (meaning.modified on off p) t l
       of_repeated : {b : Bool} {e : Settings} {k l first last least most : ℕ} {greedy : Bool} {p : Pattern} {t : Tree} → Lowers b e k p t l
           → Lowers b e k (meaning.repeated p first last least most greedy) (loop t first last least most greedy) l

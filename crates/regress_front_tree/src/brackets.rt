@@ -5,13 +5,14 @@ ghost use Rattle.regress_meaning.specs.Table.{Table};
 ghost use Rattle.regress_meaning.specs.TableParts.{is_code_point};
 ghost use Rattle.regress_meaning.specs.Class.{among};
 ghost use Rattle.regress_meaning.specs.Pattern.{Settings};
+ghost use Rattle.regress_meaning.specs.Meaning.{same, closed};
 ghost use Rattle.regress_meaning.specs.Points.{ClassIsOfPoints};
 ghost use Rattle.regress_front_sets.specs.Sets.{in_set};
 ghost use Rattle.regress_front_tables.specs.TableViews.{table};
 ghost use Rattle.regress_front_syntax.specs.Trees.{class_view};
 ghost use Rattle.regress_front_nodes.specs.Trees.{tree};
 ghost use Rattle.regress_front_nodes.specs.Characters.{Takes};
-ghost use Rattle.regress_front_tree.specs.Lowering.{AreByLength, LowersClass, same_point, in_closed, class_value, class_arms};
+ghost use Rattle.regress_front_tree.specs.Lowering.{AreByLength, LowersClass, class_value, class_arms};
 ghost use Rattle.regress_front_tree.specs.ClassValues.{lists};
 
 use crate::arms::alternatives;
@@ -32,7 +33,7 @@ pub(crate) fn character_node(
     c: CodePoint,
 ) -> Result<Node, Error>
     requires { is_code_point c }
-    ensures ok { (e : Settings) → e.icase ≡ icase → IfOk result (λ node. Takes (tree node) (same_point (table tables.now) unicode e c)) }
+    ensures ok { (e : Settings) → e.icase ≡ icase → IfOk result (λ node. Takes (tree node) (same (table tables.now) unicode e.icase c)) }
     ensures err { IfErr result (λ e. e ≡ Error.OutOfMemory) }
 {
     let points = expand_code_point(alloc, c, icase, unicode, tables)?;
@@ -50,7 +51,7 @@ fn closed(
     icase: bool,
     set: CodePointSet,
 ) -> Result<CodePointSet, Error>
-    ensures ok { (e : Settings) → e.icase ≡ icase → IfOk result (λ s. in_set s ≡ in_closed (table tables.now) unicode e (in_set set)) }
+    ensures ok { (e : Settings) → e.icase ≡ icase → IfOk result (λ s. in_set s ≡ closed (table tables.now) unicode e.icase (in_set set)) }
     ensures err { IfErr result (λ e. e ≡ Error.OutOfMemory) }
 {
     if icase {
@@ -71,7 +72,7 @@ pub(crate) fn negated_class_node(
 ) -> Result<Node, Error>
     requires { ClassIsOfPoints (class_view class.now) }
     ensures ok { (e : Settings) → e.icase ≡ icase → IfOk result (λ node.
-        Takes (tree node) (λ d. not (in_closed (table tables.now) unicode e (class_value (table tables.now) unicode e (class_view class.now)).singles d))) }
+        Takes (tree node) (λ d. not (closed (table tables.now) unicode e.icase (class_value (table tables.now) unicode e (class_view class.now)).singles d))) }
     ensures err { IfErr result (λ e. e ≡ Error.OutOfMemory) }
 {
     let value = class_value(alloc, tables, unicode && icase, class)?;

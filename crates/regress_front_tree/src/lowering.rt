@@ -2,15 +2,14 @@
 ghost use Rattle.std.specs.Prelude.{◌≡◌, Bool, true, map, option_map, chars, All, IfOk, IfErr};
 ghost use Rattle.std.specs.Str.{all_scalars};
 ghost use Rattle.std.specs.String.{string_bytes};
-ghost use Rattle.regress_meaning.specs.Table.{Table};
 ghost use Rattle.regress_meaning.specs.Pattern as meaning;
+ghost use Rattle.regress_meaning.specs.Meaning.{with};
 ghost use Rattle.regress_meaning.specs.Points.{ClassIsOfPoints};
 ghost use Rattle.regress_front_syntax.specs.Trees as parsed;
 ghost use Rattle.regress_front_syntax.specs.Trees.{settings, class_view, choice_of, capture_of};
 ghost use Rattle.regress_front_core.specs.Quantifiers.{most};
 ghost use Rattle.regress_front_nodes.specs.Trees.{tree, anchor_of};
 ghost use Rattle.regress_front_nodes.specs.Forms.{cat_made, in_reading_order};
-ghost use Rattle.regress_front_tree.specs.Lowering.{switched_by};
 ghost use Rattle.regress_front_tree.specs.Scopes.{settings_of, name_told, IsLowerable, LowersInScope, LowersAllInScope, IsSamePattern};
 
 use crate::arms::alternatives;
@@ -38,7 +37,7 @@ pub(crate) struct Scope {
 impl Scope {
     /// What holds inside modifiers ("UpdateModifiers").
     fn switched(self, on: Modifiers, off: Modifiers) -> Scope
-        ensures settings { (t : Table) → (u : Bool) → settings_of result ≡ switched_by t u (settings on) (settings off) (settings_of self) }
+        ensures settings { settings_of result ≡ with (settings on) (settings off) (settings_of self) }
         ensures backward { result.backward ≡ self.backward }
     {
         Scope {

@@ -72,11 +72,11 @@ module _ (context : Context) where
       → All (To dir s) (flat_map f ts)
   All-after dir f goes s = All-flat_map (To dir s) (To dir s) f (λ t l. All-then dir s t (f t) l (goes t))
 
-  Goes-then : (dir : Direction) (f g : Outcomes) → Goes dir f → Goes dir g → Goes dir (then_go context f g)
+  Goes-then : (dir : Direction) (f g : Outcomes) → Goes dir f → Goes dir g → Goes dir (then_go f g)
   Goes-then dir f g first second s = All-after dir g second s (f s) (first s)
 
   Goes-in_order : (dir : Direction) (f g : Outcomes) → Goes dir f → Goes dir g
-      → Goes dir (in_order context dir (then_go context) f g)
+      → Goes dir (in_order dir then_go f g)
   Goes-in_order Forward f g first second = Goes-then Forward f g first second
   Goes-in_order Backward f g first second = Goes-then Backward g f second first
 
@@ -94,7 +94,7 @@ module _ (context : Context) where
       (λ o. IfSome o (Beside Backward p)) (λ e. (omega arith, λ h. omega arith)) (λ e. tt)
 
   stepped-ahead : (dir : Direction) (test : List ℕ → Bool) (s : State) (o : Option (List ℕ × ℕ)) → IfSome o (Beside dir s.place)
-      → All (To dir s) (stepped context test s o)
+      → All (To dir s) (stepped test s o)
   stepped-ahead dir test s None h = none dir s
   stepped-ahead dir test s (Some (cs, p)) h =
       let t : State = record s { place = p } in
@@ -110,48 +110,48 @@ module _ (context : Context) where
   unfolding step
   Goes-step dir k test s = stepped-ahead dir test s (beside context dir k s.place) (beside-ahead dir k s.place)
 
-  Goes-string_steps : (dir : Direction) (e : Settings) (v : Strings) (k : ℕ) → Goes dir (string_steps context dir e v k)
+  Goes-string_steps : (dir : Direction) (e : Settings) (v : Strings) (k : ℕ) → Goes dir (string_steps context dir e.icase v k)
   unfolding string_steps
   Goes-string_steps dir e v zero s = Goes-step dir 0 _ s
   Goes-string_steps dir e v (suc k) s = All-append (To dir s) _ _ (Goes-step dir (suc k) _ s) (Goes-string_steps dir e v k s)
 
   Goes-class_steps : (dir : Direction) (e : Settings) (negated : Bool) (v : Strings)
-      → Goes dir (class_steps context dir e negated v)
+      → Goes dir (class_steps context dir e.icase negated v)
   unfolding class_steps
   Goes-class_steps dir e true v s = Goes-step dir 1 _ s
   Goes-class_steps dir e false v s = Goes-string_steps dir e v (max 1 (longest v.others)) s
 
-  Goes-keep_if : (dir : Direction) (b : Bool) → Goes dir (keep_if context b)
+  Goes-keep_if : (dir : Direction) (b : Bool) → Goes dir (keep_if b)
   Goes-keep_if dir true s = stays dir s
   Goes-keep_if dir false s = none dir s
 
   Goes-repeat_group : (dir : Direction) (e : Settings) (o : Option (Option (ℕ × ℕ)))
-      → Goes dir (repeat_group context dir e o)
+      → Goes dir (repeat_group context dir e.icase o)
   unfolding repeat_group
   Goes-repeat_group dir e None s = stays dir s
   Goes-repeat_group dir e (Some None) s = stays dir s
   Goes-repeat_group dir e (Some (Some (a, b))) s = Goes-step dir (b - a) _ s
 
-  Goes-references : (dir : Direction) (e : Settings) (ks : List ℕ) → Goes dir (references context dir e ks)
+  Goes-references : (dir : Direction) (e : Settings) (ks : List ℕ) → Goes dir (references context dir e.icase ks)
   unfolding references
   Goes-references dir e [] s = stays dir s
   Goes-references dir e (k ∷ ks) s =
-      All-after dir (references context dir e ks) (Goes-references dir e ks) s _
+      All-after dir (references context dir e.icase ks) (Goes-references dir e ks) s _
       (Goes-repeat_group dir e (slice_get s.groups k) s)
 
   clear_from-lie : (n i first last : ℕ) (gs : List (Option (ℕ × ℕ))) → All (GroupLies n) gs
-      → All (GroupLies n) (clear_from context i first last gs)
+      → All (GroupLies n) (clear_from i first last gs)
   clear_from-lie n i first last [] h = All-nil (GroupLies n)
   clear_from-lie n i first last (g ∷ gs) h =
-      All-cons (GroupLies n) _ (clear_from context (i + 1) first last gs)
+      All-cons (GroupLies n) _ (clear_from (i + 1) first last gs)
       (cond_both (nat_le first i && nat_lt i last) None g (GroupLies n) (λ e. tt) (λ e. All-head (GroupLies n) g gs h))
       (clear_from-lie n (i + 1) first last gs (All-tail (GroupLies n) g gs h))
 
-  length-clear_from : (i first last : ℕ) (gs : List (Option (ℕ × ℕ))) → length (clear_from context i first last gs) ≡ length gs
+  length-clear_from : (i first last : ℕ) (gs : List (Option (ℕ × ℕ))) → length (clear_from i first last gs) ≡ length gs
   length-clear_from i first last [] = refl
   length-clear_from i first last (g ∷ gs) = ap suc (length-clear_from (i + 1) first last gs)
 
-  Leads-cleared : (dir : Direction) (first last : ℕ) (s : State) → To dir s (cleared context first last s)
+  Leads-cleared : (dir : Direction) (first last : ℕ) (s : State) → To dir s (cleared first last s)
   Leads-cleared dir first last s = record {
     ahead = IsAhead-same dir s.place;
     inside = λ h. record {
@@ -162,22 +162,22 @@ module _ (context : Context) where
   }
 
   Goes-iterations : (dir : Direction) (body : Outcomes) → Goes dir body → (greedy : Bool) (left need : ℕ)
-      → Goes dir (iterations context body greedy left need)
+      → Goes dir (iterations body greedy left need)
   unfolding iterations
   Goes-iterations dir body goes greedy zero need s = stays dir s
   Goes-iterations dir body goes greedy (suc left) zero s =
-      let more : All (To dir s) (flat_map (iterations context body greedy left zero) (filter (moved context s) (body s))) =
-      All-after dir (iterations context body greedy left zero) (Goes-iterations dir body goes greedy left zero) s _
-      (All-filter (moved context s) (To dir s) (body s) (goes s)) in
+      let more : All (To dir s) (flat_map (iterations body greedy left zero) (filter (moved s) (body s))) =
+      All-after dir (iterations body greedy left zero) (Goes-iterations dir body goes greedy left zero) s _
+      (All-filter (moved s) (To dir s) (body s) (goes s)) in
       cond_both greedy _ _ (All (To dir s))
       (λ e. All-append (To dir s) _ (s ∷ []) more (stays dir s))
       (λ e. All-cons (To dir s) s _ (Leads-same dir s) more)
   Goes-iterations dir body goes greedy (suc left) (suc need) s =
-      All-after dir (iterations context body greedy left need) (Goes-iterations dir body goes greedy left need) s (body s) (goes s)
+      All-after dir (iterations body greedy left need) (Goes-iterations dir body goes greedy left need) s (body s) (goes s)
 
   -- a lookaround stays at its place, whichever way its contents are read
   looked-stays : (dir turned : Direction) (negated : Bool) (s : State) (ts : List State) → All (To turned s) ts
-      → All (To dir s) (looked context negated s ts)
+      → All (To dir s) (looked negated s ts)
   looked-stays dir turned true s [] h = stays dir s
   looked-stays dir turned true s (t ∷ ts) h = none dir s
   looked-stays dir turned false s [] h = none dir s
@@ -189,7 +189,7 @@ module _ (context : Context) where
         count = l.count;
       })
 
-  Leads-captured : (dir : Direction) (k : ℕ) (s t : State) → To dir s t → To dir s (captured context k s.place t)
+  Leads-captured : (dir : Direction) (k : ℕ) (s t : State) → To dir s t → To dir s (captured k s.place t)
   Leads-captured dir k s t l =
       let range : Option (ℕ × ℕ) = Some (min s.place t.place, max s.place t.place) in
       record {
@@ -214,14 +214,14 @@ module _ (context : Context) where
       Goes-in_order dir (outcomes context a dir e) (outcomes context b dir e) (Goes-outcomes a dir e) (Goes-outcomes b dir e) s
   Goes-outcomes (choice a b) dir e s = All-append (To dir s) _ _ (Goes-outcomes a dir e s) (Goes-outcomes b dir e s)
   Goes-outcomes (capture k name a) dir e s =
-      All-map (To dir s) (captured context k s.place) _
-      (All-weaker (To dir s) (λ t. To dir s (captured context k s.place t)) (Leads-captured dir k s) _
+      All-map (To dir s) (captured k s.place) _
+      (All-weaker (To dir s) (λ t. To dir s (captured k s.place t)) (Leads-captured dir k s) _
       (Goes-outcomes a dir e s))
   Goes-outcomes (grouped a) dir e s = Goes-outcomes a dir e s
   Goes-outcomes (modified on off a) dir e s = Goes-outcomes a dir _ s
   Goes-outcomes (repeated a first last least most greedy) dir e s =
-      Goes-iterations dir (λ t. outcomes context a dir e (cleared context first last t))
-      (λ t. let u = cleared context first last t in All-then dir t u _ (Leads-cleared dir first last t) (Goes-outcomes a dir e u))
+      Goes-iterations dir (λ t. outcomes context a dir e (cleared first last t))
+      (λ t. let u = cleared first last t in All-then dir t u _ (Leads-cleared dir first last t) (Goes-outcomes a dir e u))
       greedy most least s
   Goes-outcomes (look negated backward a) dir e s =
       let turned : Direction = if backward then Backward else Forward in looked-stays dir turned negated s _ (Goes-outcomes a turned e s)

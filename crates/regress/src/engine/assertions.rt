@@ -1,8 +1,7 @@
 //! Assertions at a place: where lines and words start and end.
 ghost use Rattle.std.specs.Prelude.{◌≡◌, ◌==◌, ◌&&◌, ◌||◌, length, map, IfOk};
 ghost use Rattle.regress_meaning.specs.Class.{is_ascii_word, is_word};
-ghost use Rattle.regress_meaning.specs.Meaning.{before, after, is_some_and, is_line_end, keep_if};
-ghost use Rattle.regress_front_nodes.specs.TreeMeaning.{differ};
+ghost use Rattle.regress_meaning.specs.Meaning.{before, after, is_some_and, is_line_end, differ, keep_if};
 ghost use Rattle.regress.specs.StateViews.{state_of, context_of};
 
 use crate::engine::evaluator::Evaluator;
@@ -56,7 +55,7 @@ impl<'s> Evaluator<'s> {
 
     /// Whether a word starts or ends at a place.
     pub(crate) fn is_boundary(&self, folded: bool, place: usize) -> bool
-        ensures { result ≡ differ (context_of self.now) folded (before (context_of self.now) place) (after (context_of self.now) place) }
+        ensures { result ≡ differ (context_of self.now).table folded (before (context_of self.now) place) (after (context_of self.now) place) }
     {
         self.is_word(folded, self.before(place)) != self.is_word(folded, self.after(place))
     }
@@ -64,7 +63,7 @@ impl<'s> Evaluator<'s> {
     /// The state, where something holds.
     pub(crate) fn keep_if(&self, holds: bool, state: &State) -> Result<Vec<State>, AllocError>
         ensures { IfOk result (λ states. map state_of states.items
-            ≡ keep_if (context_of self.now) holds (state_of state.now)) }
+            ≡ keep_if holds (state_of state.now)) }
     {
         if holds {
             state.alone_at(state.place)

@@ -210,7 +210,7 @@ impl<'s> Evaluator<'s> {
         state: &State,
     ) -> Result<Vec<State>, AllocError>
         ensures { IfOk result (λ states. map state_of states.items
-            ≡ map (captured (context_of self.now) group state.now.place)
+            ≡ map (captured group state.now.place)
             (node_outcomes (context_of self.now) (tree contents.now) (direction_of direction) (state_of state.now))) }
     {
         let mut states = self.outcomes(contents, direction, state)?;
@@ -231,7 +231,7 @@ impl<'s> Evaluator<'s> {
         state: &State,
     ) -> Result<Vec<State>, AllocError>
         ensures { IfOk result (λ states. map state_of states.items
-            ≡ looked (context_of self.now) negate (state_of state.now)
+            ≡ looked negate (state_of state.now)
             (node_outcomes (context_of self.now) (tree contents.now) (if backwards then Backward else Forward) (state_of state.now))) }
     {
         let direction = if backwards {

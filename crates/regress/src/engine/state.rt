@@ -1,6 +1,6 @@
 //! The states of the evaluator.
 ghost use Rattle.std.specs.Prelude.{◌≡◌, [], ◌∷◌, map, IfOk};
-ghost use Rattle.regress_meaning.specs.Meaning.{Context, captured, cleared};
+ghost use Rattle.regress_meaning.specs.Meaning.{captured, cleared};
 ghost use Rattle.regress.specs.StateViews.{state_of};
 
 use crate::engine::found::Range;
@@ -33,7 +33,7 @@ impl State {
 
     /// The group takes what lies between a place and this one.
     pub(crate) fn capture(&mut self, group: CaptureGroupID, from: usize)
-        ensures { (context : Context) → state_of self.new ≡ captured context group from (state_of self.old) }
+        ensures { state_of self.new ≡ captured group from (state_of self.old) }
     {
         let start = from.min(self.place);
         let end = from.max(self.place);
@@ -47,8 +47,8 @@ impl State {
         &self,
         enclosed: &std::ops::Range<CaptureGroupID>,
     ) -> Result<State, AllocError>
-        ensures { IfOk result (λ s. (context : Context) →
-            state_of s ≡ cleared context enclosed.now.start enclosed.now.end (state_of self.now)) }
+        ensures { IfOk result (λ s.
+            state_of s ≡ cleared enclosed.now.start enclosed.now.end (state_of self.now)) }
     {
         let mut state = self.at(self.place)?;
         for group in enclosed.start..enclosed.end {

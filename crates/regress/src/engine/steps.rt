@@ -2,7 +2,7 @@
 ghost use Rattle.std.specs.Prelude.{◌≡◌, map, option_map, slice_range, IfOk};
 ghost use Rattle.regress_meaning.specs.Meaning.{beside, same, same_all, step, repeat_group};
 ghost use Rattle.std.specs.Prelude.{length, slice_get, ◌-◌};
-ghost use Rattle.regress_front_nodes.specs.TreeMeaning.{ignoring, one};
+ghost use Rattle.regress_front_nodes.specs.TreeMeaning.{one};
 ghost use Rattle.regress.specs.StateViews.{state_of, context_of, direction_of};
 ghost use Rattle.regress.specs.Singles.{passes};
 
@@ -59,7 +59,7 @@ impl<'s> Evaluator<'s> {
 
     /// Whether two code points are equal, or where case is ignored have equal canons ("Canonicalize").
     fn is_same(&self, icase: bool, c: CodePoint, d: CodePoint) -> bool
-        ensures { result ≡ same (context_of self.now) (ignoring icase) c d }
+        ensures { result ≡ same (context_of self.now).table (context_of self.now).unicode icase c d }
     {
         if icase {
             self.tables.canon(self.unicode, c) == self.tables.canon(self.unicode, d)
@@ -70,7 +70,7 @@ impl<'s> Evaluator<'s> {
 
     /// Whether two strings are, one by one.
     fn are_same(&self, icase: bool, first: &[CodePoint], second: &[CodePoint]) -> bool
-        ensures { result ≡ same_all (context_of self.now) (ignoring icase) first.now second.now }
+        ensures { result ≡ same_all (context_of self.now).table (context_of self.now).unicode icase first.now second.now }
     {
         if first.len() != second.len() {
             return false;
@@ -114,7 +114,7 @@ impl<'s> Evaluator<'s> {
     ) -> Result<Vec<State>, AllocError>
         ensures { IfOk result (λ states. map state_of states.items
             ≡ step (context_of self.now) (direction_of direction) count
-            (same_all (context_of self.now) (ignoring icase) string.now) (state_of state.now)) }
+            (same_all (context_of self.now).table (context_of self.now).unicode icase string.now) (state_of state.now)) }
     {
         if let Some((points, place)) = self.beside(direction, count, state.place) {
             if self.are_same(icase, string, points) {
@@ -134,7 +134,7 @@ impl<'s> Evaluator<'s> {
     ) -> Result<Vec<State>, AllocError>
         ensures { IfOk result (λ states. map state_of states.items
             ≡ step (context_of self.now) (direction_of direction) (length string.now)
-            (same_all (context_of self.now) (ignoring icase) string.now) (state_of state.now)) }
+            (same_all (context_of self.now).table (context_of self.now).unicode icase string.now) (state_of state.now)) }
     {
         self.over(direction, string.len(), string, icase, state)
     }
@@ -149,7 +149,7 @@ impl<'s> Evaluator<'s> {
         state: &State,
     ) -> Result<Vec<State>, AllocError>
         ensures { IfOk result (λ states. map state_of states.items
-            ≡ repeat_group (context_of self.now) (direction_of direction) (ignoring icase)
+            ≡ repeat_group (context_of self.now) (direction_of direction) icase
             (slice_get (state_of state.now).groups (group - 1)) (state_of state.now)) }
     {
         let index = group.saturating_sub(1) as usize;

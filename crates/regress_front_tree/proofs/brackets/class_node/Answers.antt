@@ -8,7 +8,8 @@ use Rattle.regress_front_sets.specs.Sets.{in_set}
 use Rattle.regress_front_tables.specs.TableViews.{table}
 use Rattle.regress_front_syntax.specs.Trees.{class_view}
 use Rattle.regress_front_nodes.specs.Trees.{Tree, tree, bracket}
-use Rattle.regress_front_tree.specs.Lowering.{HasArms, AreByLength, in_closed, class_value, class_arms}
+use Rattle.regress_meaning.specs.Meaning.{closed}
+use Rattle.regress_front_tree.specs.Lowering.{HasArms, AreByLength, class_value, class_arms}
 use Rattle.regress_front_tree.specs.ClassValues.{lists}
 use Rattle.regress_front_tree.proofs.BracketLemmas.{takes-bracket}
 use Rattle.regress_front_tree.proofs.ClassValueLemmas.{value-points}
@@ -30,8 +31,8 @@ returns-clause-ok c = λ e is.
       | else-unicode w ↦ w.class_value-is ∙ w.if-unicode.false ∙ ap (λ (b : Bool). b && e.icase) (sym w.if-unicode.false)
     ] in
     let value = c.in_ok-value.ensures.ok ∙ ap (λ (b : Bool). value_of tables b (class_view c.args.class.now)) folded in
-    let members : in_set cps ≡ in_closed tables c.args.unicode e (class_value tables c.args.unicode e (class_view c.args.class.now)).singles =
-    c.in_ok-cps.ensures.ok e is ∙ ap (λ (v : Strings). in_closed tables c.args.unicode e v.singles) value in
+    let members : in_set cps ≡ closed tables c.args.unicode e.icase (class_value tables c.args.unicode e (class_view c.args.class.now)).singles =
+    c.in_ok-cps.ensures.ok e is ∙ ap (λ (v : Strings). closed tables c.args.unicode e.icase v.singles) value in
     let others : lists c.in_ok-value.value.strings.items ≡ (class_value tables c.args.unicode e (class_view c.args.class.now)).others = ap (λ (v : Strings). v.others) value in
     let strings = map boxed_slice_items c.in_ok-strings.strings.items in
     let characters = bracket false (ends_of cps.intervals.items) in

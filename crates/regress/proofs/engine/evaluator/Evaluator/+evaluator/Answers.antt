@@ -112,13 +112,13 @@ outcomes_of_parts-returns t c =
 
 pub outcomes_of_capture-loop-found-preserved : goal.outcomes_of_capture-loop-found-preserved
 outcomes_of_capture-loop-found-preserved t c =
-    changed_more (captured (context_of c.args.self.now) c.args.group c.args.state.now.place) c.loop-found.found-items c.deref_mut-found-items.result.now c.loop-found.found-index
-    c.found-item.result c.capture.new.self (omega arith) (c.capture.ensures (context_of c.args.self.now))
+    changed_more (captured c.args.group c.args.state.now.place) c.loop-found.found-items c.deref_mut-found-items.result.now c.loop-found.found-index
+    c.found-item.result c.capture.new.self (omega arith) c.capture.ensures
     c.loop-found.invariant.0 c.loop-found.invariant.1
 
 pub outcomes_of_capture-returns : goal.outcomes_of_capture-returns
 outcomes_of_capture-returns t c =
-    let f = captured (context_of c.args.self.now) c.args.group c.args.state.now.place in
+    let f = captured c.args.group c.args.state.now.place in
     let states = c.in_ok-states.states.items in
     changed_all f c.loop-found.found-items states c.loop-found.found-index c.in_ok-states.states.len
     (omega arith) (c.loop-found.auto.found-items ∙ ap length c.deref_mut-found-items.ensures.value) c.in_ok-states.states.ok.0
@@ -137,16 +137,16 @@ pub outcomes_of_loop-loop-task-smaller-in_ok-push-in-Emit : goal.outcomes_of_loo
 outcomes_of_loop-loop-task-smaller-in_ok-push-in-Emit t c =
     let context = context_of c.args.self.now in
     let body = run context (tree c.args.loopee.now) (direction_of c.args.direction) c.args.enclosed.now.start c.args.enclosed.now.end in
-    turns_of_tasks-emit context body c.loop-task.tasks.items c.pop.new.self.items c.in-Some.task c.in-Some.ensures.items
-    (ap (turns_of_task context body) c.in-Emit.is)
+    turns_of_tasks-emit body c.loop-task.tasks.items c.pop.new.self.items c.in-Some.task c.in-Some.ensures.items
+    (ap (turns_of_task body) c.in-Emit.is)
 
 pub outcomes_of_loop-loop-task-preserved-in_ok-push-in-Emit : goal.outcomes_of_loop-loop-task-preserved-in_ok-push-in-Emit
 outcomes_of_loop-loop-task-preserved-in_ok-push-in-Emit t c =
     let context = context_of c.args.self.now in
     let body = run context (tree c.args.loopee.now) (direction_of c.args.direction) c.args.enclosed.now.start c.args.enclosed.now.end in
     rw c.in_ok-push-in-Emit.ensures.items
-    (outcomes_of_tasks-emit context body c.args.quant.greedy c.loop-task.all.items c.loop-task.tasks.items c.pop.new.self.items c.in-Some.task c.in-Emit.state c.in-Some.ensures.items
-    (ap (outcomes_of_task context body c.args.quant.greedy) c.in-Emit.is)
+    (outcomes_of_tasks-emit body c.args.quant.greedy c.loop-task.all.items c.loop-task.tasks.items c.pop.new.self.items c.in-Some.task c.in-Emit.state c.in-Some.ensures.items
+    (ap (outcomes_of_task body c.args.quant.greedy) c.in-Emit.is)
     ∙ c.loop-task.invariant)
 
 pub outcomes_of_loop-loop-task-smaller-in_ok-push-in-Expand-default-eq0-default : goal.outcomes_of_loop-loop-task-smaller-in_ok-push-in-Expand-default-eq0-default
@@ -154,8 +154,8 @@ outcomes_of_loop-loop-task-smaller-in_ok-push-in-Expand-default-eq0-default t c 
     let last = c.in-Expand-default-eq0-default in
     let context = context_of c.args.self.now in
     let body = run context (tree c.args.loopee.now) (direction_of c.args.direction) c.args.enclosed.now.start c.args.enclosed.now.end in
-    turns_of_tasks-emit context body c.loop-task.tasks.items c.pop.new.self.items c.in-Some.task c.in-Some.ensures.items
-    (ap (turns_of_task context body) last.is ∙ turns-last context body last.state last.left last.need last.left-test)
+    turns_of_tasks-emit body c.loop-task.tasks.items c.pop.new.self.items c.in-Some.task c.in-Some.ensures.items
+    (ap (turns_of_task body) last.is ∙ turns-last body last.state last.left last.need last.left-test)
 
 pub outcomes_of_loop-loop-task-preserved-in_ok-push-in-Expand-default-eq0-default : goal.outcomes_of_loop-loop-task-preserved-in_ok-push-in-Expand-default-eq0-default
 outcomes_of_loop-loop-task-preserved-in_ok-push-in-Expand-default-eq0-default t c =
@@ -163,8 +163,8 @@ outcomes_of_loop-loop-task-preserved-in_ok-push-in-Expand-default-eq0-default t 
     let context = context_of c.args.self.now in
     let body = run context (tree c.args.loopee.now) (direction_of c.args.direction) c.args.enclosed.now.start c.args.enclosed.now.end in
     rw c.in_ok-push-in-Expand-default-eq0-default.ensures.items
-    (outcomes_of_tasks-emit context body c.args.quant.greedy c.loop-task.all.items c.loop-task.tasks.items c.pop.new.self.items c.in-Some.task last.state c.in-Some.ensures.items
-    (ap (outcomes_of_task context body c.args.quant.greedy) last.is ∙ outcomes_of_task-last context body c.args.quant.greedy last.state last.left last.need last.left-test)
+    (outcomes_of_tasks-emit body c.args.quant.greedy c.loop-task.all.items c.loop-task.tasks.items c.pop.new.self.items c.in-Some.task last.state c.in-Some.ensures.items
+    (ap (outcomes_of_task body c.args.quant.greedy) last.is ∙ outcomes_of_task-last body c.args.quant.greedy last.state last.left last.need last.left-test)
     ∙ c.loop-task.invariant)
 
 pub outcomes_of_loop-loop-task-smaller : goal.outcomes_of_loop-loop-task-smaller
@@ -172,10 +172,10 @@ outcomes_of_loop-loop-task-smaller t c =
     let context = context_of c.args.self.now in
     let dir = direction_of c.args.direction in
     let body = run context (tree c.args.loopee.now) dir c.args.enclosed.now.start c.args.enclosed.now.end in
-    turns_of_tasks-expand context body c.args.quant.greedy c.loop-task.tasks.items c.pop.new.self.items c.push_tasks.new.tasks.items
+    turns_of_tasks-expand body c.args.quant.greedy c.loop-task.tasks.items c.pop.new.self.items c.push_tasks.new.tasks.items
     c.in-Expand.state c.in_ok-next-in-Expand.next.items c.in-Expand.left c.in-Expand.need (omega (arith, c.in-Expand.left-test.1))
     (c.in-Some.ensures.items ∙ ap (λ (task : Task). c.pop.new.self.items ++ task ∷ []) c.in-Expand.is) c.in_ok-push_tasks-in-Expand.ensures
-    (c.in_ok-next-in-Expand.ensures ∙ ap (node_outcomes context (tree c.args.loopee.now) dir) (c.in_ok-cleared-in-Expand.ensures context))
+    (c.in_ok-next-in-Expand.ensures ∙ ap (node_outcomes context (tree c.args.loopee.now) dir) c.in_ok-cleared-in-Expand.ensures)
 
 pub outcomes_of_loop-loop-task-preserved : goal.outcomes_of_loop-loop-task-preserved
 outcomes_of_loop-loop-task-preserved t c =
@@ -183,10 +183,10 @@ outcomes_of_loop-loop-task-preserved t c =
     let dir = direction_of c.args.direction in
     let body = run context (tree c.args.loopee.now) dir c.args.enclosed.now.start c.args.enclosed.now.end in
     ap (λ (ts : List State). map state_of c.loop-task.all.items ++ ts)
-    (outcomes_of_tasks-expand context body c.args.quant.greedy c.loop-task.tasks.items c.pop.new.self.items c.push_tasks.new.tasks.items
+    (outcomes_of_tasks-expand body c.args.quant.greedy c.loop-task.tasks.items c.pop.new.self.items c.push_tasks.new.tasks.items
     c.in-Expand.state c.in_ok-next-in-Expand.next.items c.in-Expand.left c.in-Expand.need (omega (arith, c.in-Expand.left-test.1))
     (c.in-Some.ensures.items ∙ ap (λ (task : Task). c.pop.new.self.items ++ task ∷ []) c.in-Expand.is) c.in_ok-push_tasks-in-Expand.ensures
-    (c.in_ok-next-in-Expand.ensures ∙ ap (node_outcomes context (tree c.args.loopee.now) dir) (c.in_ok-cleared-in-Expand.ensures context)))
+    (c.in_ok-next-in-Expand.ensures ∙ ap (node_outcomes context (tree c.args.loopee.now) dir) c.in_ok-cleared-in-Expand.ensures))
     ∙ c.loop-task.invariant
 
 pub outcomes_of_loop-returns : goal.outcomes_of_loop-returns
@@ -195,5 +195,5 @@ outcomes_of_loop-returns t c =
     let body = run context (tree c.args.loopee.now) (direction_of c.args.direction) c.args.enclosed.now.start c.args.enclosed.now.end in
     let none : c.loop-task.tasks.items ≡ [] = nil_from_length c.loop-task.tasks.items (omega (arith, c.in_default.ensures.cases, c.loop-task.tasks.ok.0)) in
     sym (append-nil (map state_of c.loop-task.all.items))
-    ∙ ap (λ (ts : List Task). map state_of c.loop-task.all.items ++ outcomes_of_tasks context body c.args.quant.greedy ts) (sym none)
+    ∙ ap (λ (ts : List Task). map state_of c.loop-task.all.items ++ outcomes_of_tasks body c.args.quant.greedy ts) (sym none)
     ∙ c.loop-task.invariant

@@ -22,7 +22,7 @@ invariant-outcomes_of_parts-loop-part l =
 -- the group is set in the states so far, and the others are as they were
 abbrev pub invariant-outcomes_of_capture-loop-found : goal.invariant-outcomes_of_capture-loop-found
 invariant-outcomes_of_capture-loop-found l =
-    (map state_of (take l.found-index l.found-items) ≡ map (captured (context_of l.self) l.group l.state.place) (map state_of (take l.found-index l.initial.found-items)))
+    (map state_of (take l.found-index l.found-items) ≡ map (captured l.group l.state.place) (map state_of (take l.found-index l.initial.found-items)))
     × (drop l.found-index l.found-items ≡ drop l.found-index l.initial.found-items)
 
 -- the outcomes so far, and behind them what the stack stands for, are all
@@ -30,11 +30,11 @@ abbrev pub invariant-outcomes_of_loop-loop-task : goal.invariant-outcomes_of_loo
 invariant-outcomes_of_loop-loop-task l =
     let context = context_of l.self in
     let dir = direction_of l.direction in
-    map state_of l.all.items ++ outcomes_of_tasks context (run context (tree l.loopee) dir l.enclosed.start l.enclosed.end) l.quant.greedy l.tasks.items
+    map state_of l.all.items ++ outcomes_of_tasks (run context (tree l.loopee) dir l.enclosed.start l.enclosed.end) l.quant.greedy l.tasks.items
     ≡ node_outcomes context (loop (tree l.loopee) l.enclosed.start l.enclosed.end l.quant.min (most l.quant) l.quant.greedy) dir (state_of l.state)
 
 -- the turns that the stack takes
 abbrev pub decreases-outcomes_of_loop-loop-task : goal.decreases-outcomes_of_loop-loop-task
 decreases-outcomes_of_loop-loop-task l =
     let context = context_of l.self in
-    turns_of_tasks context (run context (tree l.loopee) (direction_of l.direction) l.enclosed.start l.enclosed.end) l.tasks.items
+    turns_of_tasks (run context (tree l.loopee) (direction_of l.direction) l.enclosed.start l.enclosed.end) l.tasks.items

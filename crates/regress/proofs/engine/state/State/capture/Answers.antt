@@ -5,14 +5,14 @@ use Rattle.regress.specs.Views.{ends}
 use Rattle.regress.proofs.engine.state.State.capture.Goals as goal
 
 pub returns-in-Some : goal.returns-in-Some
-returns-in-Some c = λ context.
+returns-in-Some c =
     let groups = c.args.self.now.groups.items in
     let at : List (Option (ℕ × ℕ)) → State = λ gs. record { place = c.args.self.now.place; groups = gs } in
     ap at (map-set (option_map ends) groups c.from.result (Some (record { start = c.min-start.result; end = c.max-end.result }))
     ∙ rw (c.from.ensures, c.min-start.ensures, c.max-end.ensures) refl)
 
 pub returns-in_default : goal.returns-in_default
-returns-in_default c = λ context.
+returns-in_default c =
     let groups = c.args.self.now.groups.items in
     let at : List (Option (ℕ × ℕ)) → State = λ gs. record { place = c.args.self.now.place; groups = gs } in
     ap at (sym (set_past (map (option_map ends) groups) c.args.group _

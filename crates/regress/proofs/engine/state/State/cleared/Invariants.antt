@@ -1,10 +1,10 @@
 use Rattle.std.proofs.Common.{◌≡◌, ◌≤◌}
-use Rattle.regress_meaning.specs.Meaning.{Context, cleared}
+use Rattle.regress_meaning.specs.Meaning.{cleared}
 use Rattle.regress.specs.StateViews.{state_of}
 use Rattle.regress.proofs.engine.state.State.cleared.Given as goal
 
 -- the groups so far are cleared; an empty range has none
 abbrev pub invariant-loop-group : goal.invariant-loop-group
 invariant-loop-group l =
-    ((context : Context) → state_of l.state ≡ cleared context l.enclosed.start l.group (state_of l.self))
+    (state_of l.state ≡ cleared l.enclosed.start l.group (state_of l.self))
     × (l.enclosed.end ≤ l.enclosed.start → l.group ≡ l.enclosed.start)
