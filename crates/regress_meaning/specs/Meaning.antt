@@ -140,7 +140,7 @@ module _ (context : Context) where
   string_steps dir icase v zero s = step dir 0 (λ cs. list_any (same_all context.table context.unicode icase cs) v.others) s
   string_steps dir icase v (suc k) s =
       step dir (suc k) (λ cs. if k == 0 then list_all (closed context.table context.unicode icase v.singles) cs
-        else list_any (same_all context.table context.unicode icase cs) v.others) s ++ string_steps dir icase v k s
+      else list_any (same_all context.table context.unicode icase cs) v.others) s ++ string_steps dir icase v k s
 
   -- A class. An outermost `^` is applied after the closure ("CompileCharacterClass").
   unfoldable pub class_steps : Direction → Bool → Bool → Strings → Outcomes

@@ -47,8 +47,8 @@ impl State {
         &self,
         enclosed: &std::ops::Range<CaptureGroupID>,
     ) -> Result<State, AllocError>
-        ensures { IfOk result (λ s.
-            state_of s ≡ cleared enclosed.now.start enclosed.now.end (state_of self.now)) }
+        ensures { IfOk result
+            (λ s. state_of s ≡ cleared enclosed.now.start enclosed.now.end (state_of self.now)) }
     {
         let mut state = self.at(self.place)?;
         for group in enclosed.start..enclosed.end {

@@ -11,10 +11,10 @@ loop-group-init c = (c.in_ok-state.ensures ∙ sym (cleared-none c.args.enclosed
 
 pub loop-group-preserved : goal.loop-group-preserved
 loop-group-preserved c = (
-      let s = c.loop-group.state in
+  let s = c.loop-group.state in
       let groups = s.groups.items in
       let group = c.loop-group.group in
-      let more = cleared-more c.args.enclosed.now.start group (state_of c.args.self.now) (state_of s) (omega arith) (c.loop-group.invariant.0) in
+      let more = cleared-more c.args.enclosed.now.start group (state_of c.args.self.now) (state_of s) (omega arith) c.loop-group.invariant.0 in
       elim c.match-get_mut.branch [
         | in-Some w ↦
             ap state_of w.state-is
