@@ -1,3 +1,4 @@
+pub mod Answering
 pub mod Endings
 pub mod Errors
 pub mod Running

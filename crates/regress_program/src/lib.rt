@@ -15,7 +15,7 @@ mod words;
 pub use ending::Ending;
 pub use error::ToolError;
 pub use lines::line;
-pub use program::run;
+pub use program::{answer, run};
 pub use sink::{Sink, StdSink};
 pub use source::{Failed, Source, StdSource};
 pub use words::{Request, read_words};

@@ -1,5 +1,7 @@
 //! One run of the program.
-ghost use Rattle.std.specs.Prelude.{◌≡◌, ◌≢◌, ◌↔◌, ◌⊎◌, [], true, false, Some, chars, IsUtf8, OnOk, OnErr, IfOk, IfErr, IfSome, IsErrOf, is_err};
+ghost use Rattle.std.specs.Prelude.{◌≡◌, ◌≢◌, ◌↔◌, ◌⊎◌, [], true, false, Some, Result, chars, string_bytes, IsUtf8, OnOk, OnErr, IfOk, IfErr, IfSome, IsErrOf, is_err};
+ghost use Rattle.std.specs.IoError.{error_kind};
+ghost use Rattle.std.specs.Vec.Iter.{into_iter_items};
 ghost use Rattle.std.specs.Io.KnownBytes.{Appends};
 ghost use Rattle.regress_meaning.specs.Table.{Table};
 ghost use Rattle.regress_meaning.specs.Pattern.{Pattern};
@@ -8,17 +10,60 @@ ghost use Rattle.regress_front_core.specs.declared.error.Error as library;
 ghost use Rattle.regress_front_core.specs.declared.error.Error.TheVariants as library_error;
 ghost use Rattle.regress.specs.Standing.{StandsFor};
 ghost use Rattle.regress_front_core.specs.Refusals.{MayRefuse};
+ghost use Rattle.regress_program.specs.Answering.{Asks, Runs};
+ghost use Rattle.regress_program.specs.Endings.{ending_of};
+ghost use Rattle.regress_program.specs.Words.{request_of};
 ghost use Rattle.regress_program.specs.Running.{small, output, AppendsFront, Accepted, Searched};
 
+use crate::ending::Ending;
 use crate::error::ToolError;
 use crate::lines::line;
 use crate::sink::Sink;
 use crate::source::{Failed, Source};
+use crate::words::{Request, read_words};
 use regress::{Flags, Regex, Tables};
 use std::alloc::Global;
+use std::env::Args;
+use std::io;
+use std::io::ErrorKind;
 
 /// How many bytes are asked for at a time.
 const CHUNK: usize = 4096;
+
+/// The whole program: reads its words, runs, and tells how it ends.
+///
+/// `words` are those of the command line, as `std::env::args` gives them: the program's own name, FLAGS and PATTERN. Asks that
+/// neither stream has failed. Where there are other words or none can be read, neither stream is touched.
+pub fn answer<R: Source, W: Sink>(
+    alloc: Global,
+    words: io::Result<Args>,
+    source: &mut R,
+    sink: &mut W,
+) -> Ending
+    requires source { R.failed source.old ≡ false }
+    requires sink { W.failed sink.old ≡ false }
+
+    // Two words are run, and how that ends is told.
+    ensures asked { (request : Request) → Asks words request
+        → (outcome : Result (Unit {0}) ToolError) × (result ≡ ending_of outcome)
+        × Runs R.left R.failed W.written W.failed (string_bytes request.flags) (string_bytes request.pattern)
+        source.old source.new sink.old sink.new outcome }
+
+    // Any other number of words is wrong, and so are words that can't be read.
+    ensures wrong_words { IfOk words (λ ws. request_of (into_iter_items ws) ≡ Err Ending.WrongWords
+        → (result ≡ Ending.WrongWords) × (source.new ≡ source.old) × (sink.new ≡ sink.old)) }
+    ensures unread { IfErr words (λ e. (source.new ≡ source.old) × (sink.new ≡ sink.old)
+        × ((result ≡ Ending.Failed ToolError.OutOfMemory) ↔ (error_kind e ≡ ErrorKind.OutOfMemory))
+        × ((result ≡ Ending.WrongWords) ↔ (error_kind e ≢ ErrorKind.OutOfMemory))) }
+{
+    match read_words(words) {
+        Ok(request) => {
+            let Request { flags, pattern } = request;
+            Ending::from(run(alloc, source, sink, flags.as_str(), pattern.as_str()))
+        }
+        Err(ending) => ending,
+    }
+}
 
 /// Reads all input, and writes a line for each match of a pattern in it.
 ///

@@ -4,21 +4,14 @@
 //! its range or `-`. An error is told in one line on standard error.
 #![tactic(auto)]
 
-use regress_program::{Ending, StdSink, StdSource, read_words, run};
+use regress_program::{StdSink, StdSource, answer};
 use std::env;
 use std::process::ExitCode;
 
 fn main(rt: HostRuntime) -> ExitCode {
-    let ending = match read_words(env::args(&rt)) {
-        Ok(request) => Ending::from(run(
-            rt.alloc(),
-            &mut StdSource::new(rt.stdin()),
-            &mut StdSink::new(rt.stdout()),
-            request.flags.as_str(),
-            request.pattern.as_str(),
-        )),
-        Err(ending) => ending,
-    };
+    let mut source = StdSource::new(rt.stdin());
+    let mut sink = StdSink::new(rt.stdout());
+    let ending = answer(rt.alloc(), env::args(&rt), &mut source, &mut sink);
     let status = ending.status();
     // Where standard error can't be written either, the status alone tells of the error.
     let _ = rt.eprint(ending);
