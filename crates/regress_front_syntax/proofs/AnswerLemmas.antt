@@ -9,7 +9,7 @@ use Rattle.regress_meaning.specs.Limits.{depth, quantifiers, opens_nesting, open
 use Rattle.regress_meaning.specs.Reading.{Front, bounded, quantified, closed, closed_and_quantified}
 use Rattle.regress_front_core.specs.declared.error.Error.{Error}
 use Rattle.regress_front_core.specs.declared.error.Error.TheVariants.{Syntax as SyntaxError, TooDeep, TooManyGroups, TooManyLoops, TooLarge, OutOfMemory}
-use Rattle.regress_front_syntax.specs.declared.syntax.Syntax.{Syntax}
+use Rattle.regress_front_tokens.specs.declared.syntax.Syntax.{Syntax}
 use Rattle.regress_front_syntax.specs.Parsing.{Place, Leads, Grows, IsRefusal, IsAnswer, contents_of}
 
 -- a place, by its parts

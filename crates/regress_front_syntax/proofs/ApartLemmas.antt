@@ -16,8 +16,8 @@ use Rattle.regress_meaning.specs.Text.{same_text}
 use Rattle.regress_meaning.specs.Class.{among}
 use Rattle.regress_meaning.specs.Pattern.{Pattern, names_of, nothing, sequence}
 use Rattle.regress_meaning.specs.Grammar.{is_name, share_a_name, names_apart}
-use Rattle.regress_front_syntax.specs.declared.syntax.Syntax.{Syntax}
-use Rattle.regress_front_syntax.specs.Trees.{tree, sequence_of, choice_of, capture_of}
+use Rattle.regress_front_tokens.specs.declared.syntax.Syntax.{Syntax}
+use Rattle.regress_front_tokens.specs.Trees.{tree, sequence_of, choice_of, capture_of}
 use Rattle.regress_front_syntax.specs.Names.{has_name, IsNaming, AreJoined}
 
 -- a query by order finds a name exactly if one by equality does

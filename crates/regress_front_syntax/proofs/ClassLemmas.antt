@@ -11,11 +11,11 @@ use Rattle.regress_meaning.specs.ReadingClass.{closes_class, read_member, dashed
 use Rattle.regress_meaning.specs.Laws.{LeavesLess}
 use Rattle.regress_front_core.specs.declared.error.Error.{Error}
 use Rattle.regress_front_core.specs.declared.error.Error.TheVariants.{Syntax, TooDeep, TooManyGroups, TooManyLoops, TooLarge, OutOfMemory}
-use Rattle.regress_front_syntax.specs.declared.syntax.Class.{Class as ClassValue, Class-F, fold-roll-Class}
-use Rattle.regress_front_syntax.specs.declared.syntax.Class.TheVariants.{Range, Union, rolls-Range}
-use Rattle.regress_front_syntax.specs.Readings.{IsRead}
-use Rattle.regress_front_syntax.specs.Trees.{class_view, node_class, union_of}
-use Rattle.regress_front_syntax.proofs.ClassViews.{class_view-Union}
+use Rattle.regress_front_tokens.specs.declared.syntax.Class.{Class as ClassValue, Class-F, fold-roll-Class}
+use Rattle.regress_front_tokens.specs.declared.syntax.Class.TheVariants.{Range, Union, rolls-Range}
+use Rattle.regress_front_tokens.specs.Readings.{IsRead}
+use Rattle.regress_front_tokens.specs.Trees.{class_view, node_class, union_of}
+use Rattle.regress_front_tokens.proofs.ClassViews.{class_view-Union}
 use Rattle.regress_front_syntax.specs.Classes.{point_of, union_before, members_at, AddsDashed}
 
 -- an escape leaves no more of the text than stands behind its backslash, and another member leaves what follows it

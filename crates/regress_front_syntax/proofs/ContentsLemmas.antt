@@ -16,11 +16,11 @@ use Rattle.regress_meaning.specs.Reading.{single, no_term, of_class, class_openi
 use Rattle.regress_meaning.specs.ReadingClass.{closes_class, two_at, opens_strings, SetItem, one_point, any_class, item_class, read_set_atom, read_set_character, behind_bracket, read_range, union_from, read_operand, read_intersection, read_difference, set_strings_at, operand_at, contents_at, union_at, intersection_at, difference_at, read_class}
 use Rattle.regress_front_core.specs.declared.error.Error.{Error}
 use Rattle.regress_front_core.specs.declared.error.Error.TheVariants.{Syntax, TooDeep, TooManyGroups, TooManyLoops, TooLarge, OutOfMemory}
-use Rattle.regress_front_syntax.specs.Cursors.{unread, SameText}
-use Rattle.regress_front_syntax.specs.declared.cursor.Cursor.{Cursor}
-use Rattle.regress_front_syntax.specs.Readings.{IsRead}
-use Rattle.regress_front_syntax.specs.Trees.{class_view, union_of}
-use Rattle.regress_front_syntax.specs.declared.syntax.Class.{Class as ClassValue}
+use Rattle.regress_front_tokens.specs.Cursors.{unread, SameText}
+use Rattle.regress_front_tokens.specs.declared.cursor.Cursor.{Cursor}
+use Rattle.regress_front_tokens.specs.Readings.{IsRead}
+use Rattle.regress_front_tokens.specs.Trees.{class_view, union_of}
+use Rattle.regress_front_tokens.specs.declared.syntax.Class.{Class as ClassValue}
 use Rattle.regress_front_syntax.specs.Classes.{item_view, item_depth, members_at, union_before}
 use Rattle.regress_front_syntax.specs.Parsing.{IsNested, IsBracketAnswer}
 use Rattle.regress_front_syntax.proofs.SetLemmas.{on_true, on_false, on_some, on_none, on_guard}

@@ -9,7 +9,7 @@ use Rattle.regress_front_core.specs.declared.error.Error.{Error}
 use Rattle.regress_front_core.specs.declared.error.Error.TheVariants.{Syntax as SyntaxError, TooDeep, TooManyGroups, TooManyLoops, TooLarge, OutOfMemory}
 use Rattle.regress_front_syntax.specs.declared.group.Opening.{Opening}
 use Rattle.regress_front_syntax.specs.declared.group.Opening.TheVariants.{Capture, Group, Modified, Lookahead, Lookbehind}
-use Rattle.regress_front_syntax.specs.Trees.{capture_of}
+use Rattle.regress_front_tokens.specs.Trees.{capture_of}
 use Rattle.regress_front_syntax.specs.Openings.{group_of, opening_view, enclosed, is_lookbehind, may_repeat, opened_by, IsOpening}
 use Rattle.regress_front_syntax.specs.Parsing.{Place, Leads, Grows, front_to, IsRefusal, contents_of}
 use Rattle.regress_front_syntax.proofs.AnswerLemmas.{at, Within, Keeps, quantified-keeps, Some-keeps, wrapped, quantified-contents, closed-alone, Leads_trans}

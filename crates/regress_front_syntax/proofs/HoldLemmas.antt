@@ -3,8 +3,8 @@ use Rattle.std.proofs.Common.{◌≡◌, ℕ, Bool, true, false, not, ◌&&◌, 
 use Rattle.std.specs.Global.{Vec}
 use Rattle.std.specs.List.{list_any, list_all}
 use Rattle.regress_meaning.specs.Class.{Class, intersection, difference, may_hold_strings}
-use Rattle.regress_front_syntax.specs.declared.syntax.Class.{Class as ClassValue}
-use Rattle.regress_front_syntax.specs.Trees.{class_view, union_of}
+use Rattle.regress_front_tokens.specs.declared.syntax.Class.{Class as ClassValue}
+use Rattle.regress_front_tokens.specs.Trees.{class_view, union_of}
 
 -- the value's class may
 abbrev pub holds_strings : ClassValue → Bool

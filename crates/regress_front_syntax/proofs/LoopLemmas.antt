@@ -3,7 +3,7 @@ use Rattle.std.proofs.Common.{◌≡◌, ℕ, ◌+◌, ◌≤◌, List, [], ◌�
 use Rattle.regress_meaning.specs.Pattern.{Pattern, names_of, nothing, sequence, choice}
 use Rattle.regress_meaning.specs.Limits.{depth, quantifiers}
 use Rattle.regress_meaning.specs.Reading.{Front, joined_by}
-use Rattle.regress_front_syntax.specs.Trees.{sequence_of, choice_of}
+use Rattle.regress_front_tokens.specs.Trees.{sequence_of, choice_of}
 use Rattle.regress_front_syntax.specs.Parsing.{Place, Leads, Grows, front_to}
 use Rattle.regress_front_syntax.proofs.AnswerLemmas.{Within, Leads_refl, Leads_trans}
 

@@ -6,8 +6,8 @@ use Rattle.std.proofs.Common.{cond, ◌≡◌, ℕ, zero, suc, ◌<◌, ◌≤�
 use Rattle.regress_meaning.specs.Text.{holds, is_at}
 use Rattle.regress_meaning.specs.Tokens.{Bounds, bounds_at}
 use Rattle.regress_meaning.specs.Limits.{opens_nesting, opens_group, opens_quantifier}
-use Rattle.regress_front_syntax.specs.declared.cursor.Cursor.{Cursor}
-use Rattle.regress_front_syntax.specs.Cursors.{unread, SameText}
+use Rattle.regress_front_tokens.specs.declared.cursor.Cursor.{Cursor}
+use Rattle.regress_front_tokens.specs.Cursors.{unread, SameText}
 use Rattle.regress_front_syntax.specs.Parsing.{Leads}
 use Rattle.regress_front_syntax.proofs.AnswerLemmas.{at, count-less, count-opening}
 

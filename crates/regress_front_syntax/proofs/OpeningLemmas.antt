@@ -13,9 +13,9 @@ use Rattle.regress_meaning.specs.Reading.{of_letters, modifiers_at, angle_openin
 use Rattle.regress_front_core.specs.declared.error.Error.{Error}
 use Rattle.regress_front_core.specs.declared.error.Error.TheVariants.{Syntax, TooDeep, TooManyGroups, TooManyLoops, TooLarge, OutOfMemory}
 use Rattle.regress_front_syntax.specs.declared.group.Opening.{Opening}
-use Rattle.regress_front_syntax.specs.Readings.{IsRead}
+use Rattle.regress_front_tokens.specs.Readings.{IsRead}
 use Rattle.regress_front_syntax.specs.Openings.{group_of, switched_off, IsOpening}
-use Rattle.regress_front_syntax.proofs.SpanLemmas.{span-joined}
+use Rattle.regress_front_tokens.proofs.SpanLemmas.{span-joined}
 
 -- a name that was read is not empty
 abbrev IsNamed : Option (List ℕ × List ℕ) → Type 0

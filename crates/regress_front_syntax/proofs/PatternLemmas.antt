@@ -14,8 +14,8 @@ use Rattle.regress_meaning.specs.Scan.{after_escape, opened_groups, group_names,
 use Rattle.regress_meaning.specs.Reading.{Front, disjunction_at, whole_tree, read_pattern, ReadsBySteps}
 use Rattle.regress_front_core.specs.declared.error.Error.{Error}
 use Rattle.regress_front_core.specs.declared.error.Error.TheVariants.{Syntax as SyntaxError, TooDeep, TooManyGroups, TooManyLoops, TooLarge, OutOfMemory}
-use Rattle.regress_front_syntax.specs.declared.syntax.Syntax.{Syntax}
-use Rattle.regress_front_syntax.specs.Trees.{tree}
+use Rattle.regress_front_tokens.specs.declared.syntax.Syntax.{Syntax}
+use Rattle.regress_front_tokens.specs.Trees.{tree}
 use Rattle.regress_front_core.specs.Refusals.{MayRefuse}
 use Rattle.regress_front_syntax.specs.Parsing.{IsCoherent, IsRefusal, IsWholeAnswer, whole_at}
 use Rattle.regress_front_syntax.proofs.AnswerLemmas.{at, count-less, count-opening}

@@ -11,11 +11,11 @@ use Rattle.regress_meaning.specs.Limits.{depth, quantifiers, opens_nesting, open
 use Rattle.regress_meaning.specs.Reading.{Front, bounded, quantified}
 use Rattle.regress_front_core.specs.declared.error.Error.{Error}
 use Rattle.regress_front_core.specs.declared.error.Error.TheVariants.{Syntax as SyntaxError, TooDeep, TooManyGroups, TooManyLoops, TooLarge, OutOfMemory}
-use Rattle.regress_front_syntax.specs.declared.cursor.Cursor.{Cursor}
+use Rattle.regress_front_tokens.specs.declared.cursor.Cursor.{Cursor}
 use Rattle.regress_front_core.specs.declared.quantifier.Quantifier.{Quantifier}
-use Rattle.regress_front_syntax.specs.Cursors.{unread, SameText}
+use Rattle.regress_front_tokens.specs.Cursors.{unread, SameText}
 use Rattle.regress_front_core.specs.Quantifiers.{most}
-use Rattle.regress_front_syntax.specs.Words.{quantifier_at, quantifier_view}
+use Rattle.regress_front_tokens.specs.Words.{quantifier_at, quantifier_view}
 use Rattle.regress_front_syntax.specs.Parsing.{Place, Grows, IsRefusal, IsQuantifier, ReadsQuantifier, PassesQuantifiers, with_quantifier, front_to}
 use Rattle.regress_front_syntax.proofs.AnswerLemmas.{at, Leads_refl, Leads_trans, quantified-none}
 use Rattle.regress_front_syntax.proofs.MarkLemmas.{quantifier-mark, count-further, count-beyond}

@@ -10,7 +10,7 @@ use Rattle.regress_meaning.specs.Laws.{ContentsBySteps}
 use Rattle.regress_meaning.specs.ReadingClass.{is_set_syntax, is_set_mark, SetItem, one_point, any_class, item_class, item_of, read_set_escape, read_set_atom, read_set_character, read_range, set_string_at, set_strings_at}
 use Rattle.std.specs.Option.{option_eq, ok_or}
 use Rattle.regress_front_core.specs.declared.error.Error.{Error}
-use Rattle.regress_front_syntax.specs.Readings.{IsRead}
+use Rattle.regress_front_tokens.specs.Readings.{IsRead}
 use Rattle.regress_front_syntax.specs.Classes.{only_point, mark_at}
 
 -- The case of an `elim` on a test that is known; the other case is an argument, since nothing else tells it.

@@ -13,11 +13,11 @@ use Rattle.regress_meaning.specs.ReadingClass.{read_class}
 use Rattle.regress_meaning.specs.Reading.{Front, Opening, assertion, single, lookahead, lookbehind, group, named_group, uncaptured, modifiers, no_term, of_class, opening, escape_opening, class_opening, parenthesis_opening, quantified, read_term, disjunction_at, term_at}
 use Rattle.regress_front_core.specs.declared.error.Error.{Error}
 use Rattle.regress_front_core.specs.declared.error.Error.TheVariants.{Syntax as SyntaxError, TooDeep, TooManyGroups, TooManyLoops, TooLarge, OutOfMemory}
-use Rattle.regress_front_syntax.specs.declared.escape.Escape.{Escape as EscapeValue}
-use Rattle.regress_front_syntax.specs.declared.syntax.Syntax.{Syntax}
-use Rattle.regress_front_syntax.specs.Escapes.{escape_view}
-use Rattle.regress_front_syntax.specs.Readings.{IsRead}
-use Rattle.regress_front_syntax.specs.Words.{stands_for_itself}
+use Rattle.regress_front_tokens.specs.declared.escape.Escape.{Escape as EscapeValue}
+use Rattle.regress_front_tokens.specs.declared.syntax.Syntax.{Syntax}
+use Rattle.regress_front_tokens.specs.Escapes.{escape_view}
+use Rattle.regress_front_tokens.specs.Readings.{IsRead}
+use Rattle.regress_front_tokens.specs.Words.{stands_for_itself}
 use Rattle.regress_front_syntax.specs.Parsing.{Place, Leads, Grows, front_to, IsRefusal, IsAnswer, IsRepetition, IsBracketAnswer, character_opening}
 use Rattle.regress_front_syntax.proofs.AnswerLemmas.{at, Leads_drop, quantified-keeps, count-opening}
 

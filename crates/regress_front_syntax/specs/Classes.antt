@@ -9,10 +9,10 @@ use Rattle.regress_meaning.specs.ReadingClass.{dashed, read_members, item_class}
 use Rattle.regress_meaning.specs.Limits.{class_depth}
 use Rattle.regress_front_core.specs.declared.error.Error.{Error}
 use Rattle.regress_front_core.specs.declared.error.Error.TheVariants.{Syntax, OutOfMemory}
-use Rattle.regress_front_syntax.specs.declared.syntax.Class.{Class}
-use Rattle.regress_front_syntax.specs.declared.class_set.SetItem.{SetItem}
-use Rattle.regress_front_syntax.specs.declared.class_set.SetItem.TheVariants.{Point, Set}
-use Rattle.regress_front_syntax.specs.Trees.{class_view}
+use Rattle.regress_front_tokens.specs.declared.syntax.Class.{Class}
+use Rattle.regress_front_syntax.specs.declared.class.SetItem.{SetItem}
+use Rattle.regress_front_syntax.specs.declared.class.SetItem.TheVariants.{Point, Set}
+use Rattle.regress_front_tokens.specs.Trees.{class_view}
 
 -- the code point that an escape stands for, if it is one
 abbrev pub point_of : Escape → Option ℕ

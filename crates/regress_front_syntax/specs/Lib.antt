@@ -1,9 +1,4 @@
 pub mod Classes
-pub mod Cursors
-pub mod Escapes
-pub mod Openings
 pub mod Names
+pub mod Openings
 pub mod Parsing
-pub mod Readings
-pub mod Trees
-pub mod Words

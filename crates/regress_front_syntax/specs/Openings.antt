@@ -9,7 +9,7 @@ use Rattle.regress_front_core.specs.declared.error.Error.{Error}
 use Rattle.regress_front_core.specs.declared.error.Error.TheVariants.{Syntax, OutOfMemory}
 use Rattle.regress_front_syntax.specs.declared.group.Opening.{Opening}
 use Rattle.regress_front_syntax.specs.declared.group.Opening.TheVariants.{Capture, Group, Modified, Lookahead, Lookbehind}
-use Rattle.regress_front_syntax.specs.Trees.{capture_of}
+use Rattle.regress_front_tokens.specs.Trees.{capture_of}
 
 -- a capturing group, whose name is empty where it has none
 abbrev pub group_of : List ℕ → List ℕ → meaning.Opening

@@ -7,14 +7,14 @@ use Rattle.regress_meaning.specs.Limits.{WithinLimits, class_depth, depth, quant
 use Rattle.regress_meaning.specs.Reading.{Front, Opening, quantified, closed, whole_tree, disjunction_at, read_term, single, no_term, class_opening}
 use Rattle.regress_front_core.specs.declared.error.Error.{Error}
 use Rattle.regress_front_core.specs.declared.error.Error.TheVariants.{Syntax as SyntaxError, TooDeep, TooManyGroups, TooManyLoops, TooLarge, OutOfMemory}
-use Rattle.regress_front_syntax.specs.declared.syntax.Syntax.{Syntax}
+use Rattle.regress_front_tokens.specs.declared.syntax.Syntax.{Syntax}
 use Rattle.regress_front_core.specs.declared.quantifier.Quantifier.{Quantifier}
-use Rattle.regress_front_syntax.specs.declared.syntax.Class.{Class}
+use Rattle.regress_front_tokens.specs.declared.syntax.Class.{Class}
 use Rattle.regress_front_syntax.specs.declared.parser.Parser.{Parser}
-use Rattle.regress_front_syntax.specs.Trees.{tree, class_view}
+use Rattle.regress_front_tokens.specs.Trees.{tree, class_view}
 use Rattle.regress_front_core.specs.Quantifiers.{most}
-use Rattle.regress_front_syntax.specs.Cursors.{unread}
-use Rattle.regress_front_syntax.specs.Words.{stands_for_itself}
+use Rattle.regress_front_tokens.specs.Cursors.{unread}
+use Rattle.regress_front_tokens.specs.Words.{stands_for_itself}
 
 -- What was answered for what holds brackets, as many as `size` tells open at once, where so many parentheses and brackets are
 -- open: it was read at the front of the text and nests no deeper than it may; or there is none; or whatever is read there

@@ -4,13 +4,14 @@ ghost use Rattle.std.specs.List.{list_any};
 ghost use Rattle.regress_meaning.specs.Text.{holds};
 ghost use Rattle.regress_meaning.specs.Flags.{settings_of};
 ghost use Rattle.regress_meaning.specs.Grammar.{is_flag, all_differ};
-ghost use Rattle.regress_front_syntax.specs.Trees.{settings};
+ghost use Rattle.regress_front_tokens.specs.Trees.{settings};
 ghost use Rattle.regress_meaning.specs.Reading.{modifiers_at, angle_opening, question_opening, parenthesis_opening};
+ghost use Rattle.regress_front_tokens.specs.Cursors.{unread, SameText};
+ghost use Rattle.regress_front_tokens.specs.Escapes.{mode_view};
+ghost use Rattle.regress_front_syntax.specs.Openings.{switched_off, IsOpening};
 
-use crate::cursor::{Cursor, is_one_of};
-use crate::mode::Mode;
-use crate::syntax::{Modifiers, Syntax};
 use regress_front_tables::{CodePoint, Error};
+use regress_front_tokens::{Cursor, Mode, Modifiers, Syntax, is_one_of};
 use std::alloc::Global;
 
 /// What an opening parenthesis begins, up to the contents.
@@ -82,7 +83,7 @@ fn modifiers_of(letters: &[CodePoint]) -> Modifiers
 }
 
 impl Opening<'_> {
-    ghost use Rattle.regress_front_syntax.specs.Trees.{tree};
+    ghost use Rattle.regress_front_tokens.specs.Trees.{tree};
     ghost use Rattle.regress_front_syntax.specs.Openings.{is_capture, may_repeat, is_lookbehind, enclosed};
 
     /// Whether it opens a capturing group.
@@ -135,91 +136,97 @@ impl Opening<'_> {
     }
 }
 
-impl<'p> Cursor<'p> {
-    ghost use Rattle.regress_front_syntax.specs.Cursors.{unread, SameText};
-    ghost use Rattle.regress_front_syntax.specs.Escapes.{mode_view};
-    ghost use Rattle.regress_front_syntax.specs.Openings.{switched_off, IsOpening};
-
-    /// Behind `(`: what it opens ("Atom", "Assertion"). A syntax error where that is nothing.
-    pub(crate) fn opening(&mut self, alloc: Global, mode: &Mode) -> Result<Opening<'p>, Error>
-        ensures read { IsOpening (parenthesis_opening (mode_view mode.now) (unread self.old)) result (unread self.new) }
-        ensures kept { SameText self.old self.new }
-        ensures progress { OnOk result (length (unread self.new) ≤ length (unread self.old)) }
-    {
-        if self.eat('?') {
-            return self.question_opening(alloc, mode);
-        }
-        Ok(Opening::Capture(Vec::new(alloc)))
+/// Behind `(`: what it opens ("Atom", "Assertion"). A syntax error where that is nothing.
+pub(crate) fn read_opening<'p>(
+    cursor: &mut Cursor<'p>,
+    alloc: Global,
+    mode: &Mode,
+) -> Result<Opening<'p>, Error>
+    ensures read { IsOpening (parenthesis_opening (mode_view mode.now) (unread cursor.old)) result (unread cursor.new) }
+    ensures kept { SameText cursor.old cursor.new }
+    ensures progress { OnOk result (length (unread cursor.new) ≤ length (unread cursor.old)) }
+{
+    if cursor.eat('?') {
+        return question_opening(cursor, alloc, mode);
     }
+    Ok(Opening::Capture(Vec::new(alloc)))
+}
 
-    /// Behind `(?`: what it opens.
-    fn question_opening(&mut self, alloc: Global, mode: &Mode) -> Result<Opening<'p>, Error>
-        ensures read { IsOpening (question_opening (mode_view mode.now) (unread self.old)) result (unread self.new) }
-        ensures kept { SameText self.old self.new }
-        ensures progress { OnOk result (length (unread self.new) ≤ length (unread self.old)) }
-    {
-        if self.is_at_any("=!") {
-            let negated = self.is_at('!');
-            self.bump();
-            return Ok(Opening::Lookahead { negated });
-        }
-        if self.eat(':') {
-            return Ok(Opening::Group);
-        }
-        if self.eat('<') {
-            return self.angle_opening(alloc, mode);
-        }
-        self.modifiers()
+/// Behind `(?`: what it opens.
+fn question_opening<'p>(
+    cursor: &mut Cursor<'p>,
+    alloc: Global,
+    mode: &Mode,
+) -> Result<Opening<'p>, Error>
+    ensures read { IsOpening (question_opening (mode_view mode.now) (unread cursor.old)) result (unread cursor.new) }
+    ensures kept { SameText cursor.old cursor.new }
+    ensures progress { OnOk result (length (unread cursor.new) ≤ length (unread cursor.old)) }
+{
+    if cursor.is_at_any("=!") {
+        let negated = cursor.is_at('!');
+        cursor.bump();
+        return Ok(Opening::Lookahead { negated });
     }
-
-    /// Behind `(?<`: a lookbehind, or a group with a name ("GroupSpecifier").
-    fn angle_opening(&mut self, alloc: Global, mode: &Mode) -> Result<Opening<'p>, Error>
-        ensures read { IsOpening (angle_opening (mode_view mode.now) (unread self.old)) result (unread self.new) }
-        ensures kept { SameText self.old self.new }
-        ensures progress { OnOk result (length (unread self.new) ≤ length (unread self.old)) }
-    {
-        regress_meaning::reading_leaves_less();
-        if self.is_at_any("=!") {
-            let negated = self.is_at('!');
-            self.bump();
-            return Ok(Opening::Lookbehind { negated });
-        }
-        let name = self.name(alloc, mode.tables)?;
-        Ok(Opening::Capture(name))
+    if cursor.eat(':') {
+        return Ok(Opening::Group);
     }
-
-    /// Behind `(?`: letters that are switched on, perhaps a dash and letters that are switched off, and `:`. Each letter is one
-    /// of `i`, `m` and `s`, and stands once; there is at least one ("RegularExpressionModifiers").
-    fn modifiers(&mut self) -> Result<Opening<'p>, Error>
-        ensures read { IsOpening (modifiers_at (unread self.old)) result (unread self.new) }
-        ensures kept { SameText self.old self.new }
-        ensures progress { OnOk result (length (unread self.new) ≤ length (unread self.old)) }
-    {
-        if !self.is_at_any("ims-") {
-            return Err(Error::Syntax {
-                text: "Invalid group",
-            });
-        }
-        let on = self.take_while(is_flag);
-        let off = self.switched_off();
-        let is_empty = on.is_empty() && off.is_empty();
-        if is_empty || !differ(on, off) || !self.eat(':') {
-            return Err(Error::Syntax {
-                text: "Invalid modifiers",
-            });
-        }
-        Ok(Opening::Modified { on, off })
+    if cursor.eat('<') {
+        return angle_opening(cursor, alloc, mode);
     }
+    modifiers(cursor)
+}
 
-    /// A dash and the letters behind it, if a dash stands here.
-    fn switched_off(&mut self) -> &'p [CodePoint]
-        ensures read { switched_off (unread self.old) ≡ (result.now, unread self.new) }
-        ensures kept { SameText self.old self.new }
-    {
-        if self.eat('-') {
-            self.take_while(is_flag)
-        } else {
-            self.take_up_to(0, is_flag)
-        }
+/// Behind `(?<`: a lookbehind, or a group with a name ("GroupSpecifier").
+fn angle_opening<'p>(
+    cursor: &mut Cursor<'p>,
+    alloc: Global,
+    mode: &Mode,
+) -> Result<Opening<'p>, Error>
+    ensures read { IsOpening (angle_opening (mode_view mode.now) (unread cursor.old)) result (unread cursor.new) }
+    ensures kept { SameText cursor.old cursor.new }
+    ensures progress { OnOk result (length (unread cursor.new) ≤ length (unread cursor.old)) }
+{
+    regress_meaning::reading_leaves_less();
+    if cursor.is_at_any("=!") {
+        let negated = cursor.is_at('!');
+        cursor.bump();
+        return Ok(Opening::Lookbehind { negated });
+    }
+    let name = cursor.name(alloc, mode.tables)?;
+    Ok(Opening::Capture(name))
+}
+
+/// Behind `(?`: letters that are switched on, perhaps a dash and letters that are switched off, and `:`. Each letter is one
+/// of `i`, `m` and `s`, and stands once; there is at least one ("RegularExpressionModifiers").
+fn modifiers<'p>(cursor: &mut Cursor<'p>) -> Result<Opening<'p>, Error>
+    ensures read { IsOpening (modifiers_at (unread cursor.old)) result (unread cursor.new) }
+    ensures kept { SameText cursor.old cursor.new }
+    ensures progress { OnOk result (length (unread cursor.new) ≤ length (unread cursor.old)) }
+{
+    if !cursor.is_at_any("ims-") {
+        return Err(Error::Syntax {
+            text: "Invalid group",
+        });
+    }
+    let on = cursor.take_while(is_flag);
+    let off = switched_off(cursor);
+    let is_empty = on.is_empty() && off.is_empty();
+    if is_empty || !differ(on, off) || !cursor.eat(':') {
+        return Err(Error::Syntax {
+            text: "Invalid modifiers",
+        });
+    }
+    Ok(Opening::Modified { on, off })
+}
+
+/// A dash and the letters behind it, if a dash stands here.
+fn switched_off<'p>(cursor: &mut Cursor<'p>) -> &'p [CodePoint]
+    ensures read { switched_off (unread cursor.old) ≡ (result.now, unread cursor.new) }
+    ensures kept { SameText cursor.old cursor.new }
+{
+    if cursor.eat('-') {
+        cursor.take_while(is_flag)
+    } else {
+        cursor.take_up_to(0, is_flag)
     }
 }

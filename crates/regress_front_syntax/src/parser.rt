@@ -2,8 +2,8 @@
 ghost use Rattle.std.specs.Prelude.{◌≡◌, ◌==◌, ◌+◌, ◌<◌, ◌≤◌, ℕ, suc, length, true, false, is_some, OnOk, IfOk, IfErr, if◌then◌else◌};
 ghost use Rattle.regress_meaning.specs.Text.{◌∈◌, is_at};
 ghost use Rattle.regress_meaning.specs.Tokens.{bounds_at};
-ghost use Rattle.regress_front_syntax.specs.Escapes.{escape_view, mode_view, HasFewGroups};
-ghost use Rattle.regress_front_syntax.specs.Trees.{tree};
+ghost use Rattle.regress_front_tokens.specs.Escapes.{escape_view, mode_view, HasFewGroups};
+ghost use Rattle.regress_front_tokens.specs.Trees.{tree};
 ghost use Rattle.regress_meaning.specs.Grammar.{Spells, ends_alternative, mode_of, tree_of};
 ghost use Rattle.regress_meaning.specs.Limits.{WithinLimits};
 ghost use Rattle.regress_meaning.specs.Scan.{scanned_names};
@@ -12,18 +12,16 @@ ghost use Rattle.regress_front_tables.specs.TableViews.{table};
 ghost use Rattle.regress_front_core.specs.Refusals.{MayRefuse};
 ghost use Rattle.regress_meaning.specs.Reading.{disjunction_at, alternative_at, term_at};
 ghost use Rattle.regress_meaning.specs.Reading.{escape_opening, class_opening, parenthesis_opening};
+ghost use Rattle.regress_front_tokens.specs.Cursors.{unread};
+ghost use Rattle.regress_front_tokens.specs.Words.{stands_for_itself};
 
 use crate::apart::names_are_apart;
-use crate::cursor::Cursor;
-use crate::escape::Escape;
-use crate::group::Opening;
-use crate::mode::Mode;
-use crate::scan::mode;
-use crate::syntax::Syntax;
-use regress_front_tables::Quantifier;
+use crate::class::bracketed_class;
+use crate::group::{Opening, read_opening};
 use regress_front_tables::{
-    CodePoint, Error, Flags, MAX_CAPTURE_GROUPS, MAX_LOOPS, MAX_NESTING_DEPTH, Tables,
+    CodePoint, Error, Flags, MAX_CAPTURE_GROUPS, MAX_LOOPS, MAX_NESTING_DEPTH, Quantifier, Tables,
 };
+use regress_front_tokens::{Cursor, Escape, Mode, Syntax, mode_of};
 use std::alloc::Global;
 
 /// Why a quantifier is refused.
@@ -49,40 +47,35 @@ fn tree_of(escape: Escape) -> Syntax
     }
 }
 
-impl Cursor<'_> {
-    ghost use Rattle.regress_front_syntax.specs.Cursors.{unread};
-    ghost use Rattle.regress_front_syntax.specs.Words.{stands_for_itself};
-
-    /// Whether a code point stands here that is a character by itself ("PatternCharacter", "ExtendedPatternCharacter").
-    fn is_at_pattern_character(&self, unicode: bool) -> bool
-        ensures { result ≡ stands_for_itself unicode (unread self.now) }
-    {
-        if self.peek().is_none() {
-            return false;
-        }
-        if unicode {
-            return !self.is_at_any("^$\\.*+?()[]{}|");
-        }
-        if self.is_at('{') {
-            let mut ahead = *self;
-            return ahead.quantifier().is_none();
-        }
-        !self.is_at_any("^$\\.*+?()[|")
+/// Whether a code point stands here that is a character by itself ("PatternCharacter", "ExtendedPatternCharacter").
+fn is_at_pattern_character(cursor: &Cursor, unicode: bool) -> bool
+    ensures { result ≡ stands_for_itself unicode (unread cursor.now) }
+{
+    if cursor.peek().is_none() {
+        return false;
     }
+    if unicode {
+        return !cursor.is_at_any("^$\\.*+?()[]{}|");
+    }
+    if cursor.is_at('{') {
+        let mut ahead = *cursor;
+        return ahead.quantifier().is_none();
+    }
+    !cursor.is_at_any("^$\\.*+?()[|")
+}
 
-    /// Why no term begins here.
-    fn misplaced(&self) -> &'static str
-        ensures { result.now ≡ (if is_at (λ c. c ∈ "*+?") (unread self.now) then NOTHING_TO_REPEAT.now
-            else if is_some (bounds_at (unread self.now)) then INVALID_QUANTIFIER.now else UNEXPECTED_CHARACTER.now) }
-    {
-        let mut ahead = *self;
-        if self.is_at_any("*+?") {
-            NOTHING_TO_REPEAT
-        } else if ahead.quantifier().is_some() {
-            INVALID_QUANTIFIER
-        } else {
-            UNEXPECTED_CHARACTER
-        }
+/// Why no term begins here.
+fn misplacement(cursor: &Cursor) -> &'static str
+    ensures { result.now ≡ (if is_at (λ c. c ∈ "*+?") (unread cursor.now) then NOTHING_TO_REPEAT.now
+        else if is_some (bounds_at (unread cursor.now)) then INVALID_QUANTIFIER.now else UNEXPECTED_CHARACTER.now) }
+{
+    let mut ahead = *cursor;
+    if cursor.is_at_any("*+?") {
+        NOTHING_TO_REPEAT
+    } else if ahead.quantifier().is_some() {
+        INVALID_QUANTIFIER
+    } else {
+        UNEXPECTED_CHARACTER
     }
 }
 
@@ -100,7 +93,7 @@ fn limited_mode<'t>(
     ensures refused { IfErr result (λ e. MayRefuse (table tables.now) (options flags) points.now e) }
 {
     regress_meaning::names_are_found_by_a_scan();
-    let mode = mode(alloc, points, flags, tables)?;
+    let mode = mode_of(alloc, points, flags, tables)?;
     if mode.names.len() > MAX_CAPTURE_GROUPS {
         return Err(Error::TooManyGroups);
     }
@@ -135,7 +128,7 @@ pub(crate) struct Parser<'p> {
 }
 
 impl<'p> Parser<'p> {
-    ghost use Rattle.regress_front_syntax.specs.Cursors.{unread};
+    ghost use Rattle.regress_front_tokens.specs.Cursors.{unread};
     ghost use Rattle.regress_front_syntax.specs.Openings.{opened_by};
     ghost use Rattle.regress_front_syntax.specs.Parsing.{place, Answers, AnswersBehind, term_by};
     ghost use Rattle.regress_front_syntax.specs.Parsing.{IsCoherent, IsQuantifier, IsRepetition, IsWholeAnswer};
@@ -288,7 +281,7 @@ impl<'p> Parser<'p> {
         ensures progress { OnOk result (length (unread self.new.cursor) ≤ length (unread self.old.cursor)) }
     {
         regress_meaning::reading_leaves_less();
-        let (negated, class) = self.cursor.bracketed(self.alloc, mode, nesting)?;
+        let (negated, class) = bracketed_class(&mut self.cursor, self.alloc, mode, nesting)?;
         self.repeated(Syntax::Class { negated, class }, self.groups, true)
     }
 
@@ -299,9 +292,9 @@ impl<'p> Parser<'p> {
             → Answers (term_by character_opening (mode_view mode.now)) nesting self.old self.new result }
         ensures progress { OnOk result (length (unread self.new.cursor) < length (unread self.old.cursor)) }
     {
-        if !self.cursor.is_at_pattern_character(mode.unicode) {
+        if !is_at_pattern_character(&self.cursor, mode.unicode) {
             return Err(Error::Syntax {
-                text: self.cursor.misplaced(),
+                text: misplacement(&self.cursor),
             });
         }
         let Some(point) = self.cursor.next() else {
@@ -323,7 +316,7 @@ impl<'p> Parser<'p> {
     {
         regress_meaning::reading_goes_by_steps();
         let opened = self.groups;
-        let opening = self.cursor.opening(self.alloc, mode)?;
+        let opening = read_opening(&mut self.cursor, self.alloc, mode)?;
         self.open(&opening)?;
         let contents = self.contents(mode, nesting)?;
         let is_lookbehind = opening.is_lookbehind();
@@ -413,207 +406,5 @@ impl<'p> Parser<'p> {
         }
         self.loops += 1;
         Ok(Some(quant))
-    }
-}
-
-#[cfg(test)]
-mod tests {
-    use super::*;
-    use std::test::Fail;
-
-    /// A piece of text so many times.
-    fn points(alloc: Global, piece: &str, count: u32) -> Result<Vec<CodePoint>, Error> {
-        let mut points = Vec::new(alloc);
-        for _ in 0..count {
-            for c in piece.chars() {
-                points.push(CodePoint::from(c))?;
-            }
-        }
-        Ok(points)
-    }
-
-    fn parsed(alloc: Global, flags: &str, points: &[CodePoint]) -> Result<Syntax, Error> {
-        let tables = Tables::small(alloc).map_err(|_| Error::OutOfMemory)?;
-        parse(alloc, points, Flags::from(flags), &tables)
-    }
-
-    /// The tree of a pattern, written out.
-    fn written(alloc: Global, flags: &str, pattern: &str) -> Result<String, Error> {
-        let points = points(alloc, pattern, 1)?;
-        let syntax = parsed(alloc, flags, &points)?;
-        Ok(format!(in alloc; "{syntax:?}")?)
-    }
-
-    /// What is told of a pattern that is refused.
-    fn refusal(alloc: Global, flags: &str, points: &[CodePoint]) -> Option<Error> {
-        parsed(alloc, flags, points).err()
-    }
-
-    /// So many groups, each in the one before.
-    fn nested(alloc: Global, count: u32) -> Result<Vec<CodePoint>, Error> {
-        let mut nested = points(alloc, "(", count)?;
-        let closing = points(alloc, ")", count)?;
-        nested.extend_from_slice(&closing)?;
-        Ok(nested)
-    }
-
-    #[test]
-    fn alternatives_are_read(rt: HostRuntime) -> Result<(), Fail> {
-        let text = written(rt.alloc(), "", "ab|")?;
-        assert_eq!(rt;
-            text.as_str(),
-            "Disjunction([Alternative([Character(97), Character(98)]), Alternative([])])"
-        );
-        Ok(())
-    }
-
-    #[test]
-    fn terms_are_read(rt: HostRuntime) -> Result<(), Fail> {
-        for (pattern, terms) in [
-            (
-                r"^$\b\B",
-                "LineStart, LineEnd, WordBoundary { negated: false }, WordBoundary { negated: true }",
-            ),
-            (r".\d\n", "Any, ClassEscape(Digits), Character(10)"),
-            (
-                "[^a]",
-                "Class { negated: true, class: Union([Range { first: 97, last: 97 }]) }",
-            ),
-            (
-                "]}a{",
-                "Character(93), Character(125), Character(97), Character(123)",
-            ),
-            (
-                "a*b{2,3}?",
-                "Loop { loopee: Character(97), quant: Quantifier { min: 0, max: None, greedy: true }, enclosed_groups: 0..0 }, Loop { loopee: Character(98), quant: Quantifier { min: 2, max: Some(3), greedy: false }, enclosed_groups: 0..0 }",
-            ),
-        ] {
-            let text = written(rt.alloc(), "", pattern)?;
-            let expected = format!(in rt.alloc(); "Disjunction([Alternative([{terms}])])")?;
-            assert_eq!(rt; text.as_str(), expected.as_str(), "at {pattern}");
-        }
-        Ok(())
-    }
-
-    #[test]
-    fn groups_are_read(rt: HostRuntime) -> Result<(), Fail> {
-        for (pattern, group) in [
-            ("(a)", "Capture { id: 0, name: [], contents: A }"),
-            ("(?<b>a)", "Capture { id: 0, name: [98], contents: A }"),
-            ("(?:a)", "Group(A)"),
-            (
-                "(?i-ms:a)",
-                "Modified { on: Modifiers { icase: true, multiline: false, dot_all: false }, off: Modifiers { icase: false, multiline: true, dot_all: true }, contents: A }",
-            ),
-            (
-                "(?=a)",
-                "Look { negated: false, backward: false, contents: A }",
-            ),
-            (
-                "(?!a)",
-                "Look { negated: true, backward: false, contents: A }",
-            ),
-            (
-                "(?<=a)",
-                "Look { negated: false, backward: true, contents: A }",
-            ),
-            (
-                "(?<!a)",
-                "Look { negated: true, backward: true, contents: A }",
-            ),
-        ] {
-            let text = written(rt.alloc(), "u", pattern)?;
-            let group = group.replace(
-                rt.alloc(),
-                "A",
-                "Disjunction([Alternative([Character(97)])])",
-            )?;
-            let expected = format!(in rt.alloc(); "Disjunction([Alternative([{group}])])")?;
-            assert_eq!(rt; text.as_str(), expected.as_str(), "at {pattern}");
-        }
-        Ok(())
-    }
-
-    #[test]
-    fn groups_are_numbered(rt: HostRuntime) -> Result<(), Fail> {
-        let text = written(rt.alloc(), "", r"(\2(){1})")?;
-        assert_eq!(rt;
-            text.as_str(),
-            "Disjunction([Alternative([Capture { id: 0, name: [], contents: Disjunction([Alternative([Reference([1]), Loop { loopee: Capture { id: 1, name: [], contents: Disjunction([Alternative([])]) }, quant: Quantifier { min: 1, max: Some(1), greedy: true }, enclosed_groups: 1..2 }])]) }])])"
-        );
-        Ok(())
-    }
-
-    #[test]
-    fn some_odd_patterns_are_accepted(rt: HostRuntime) -> Result<(), Fail> {
-        for pattern in [
-            "",
-            "a{99999999999999999999,88888888888888888888}",
-            "(?i-:a)",
-            "(?=a)*",
-            "(?<a>x)|(?<a>y)",
-            "{a}",
-        ] {
-            let points = points(rt.alloc(), pattern, 1)?;
-            assert!(rt; parsed(rt.alloc(), "", &points).is_ok(), "at {pattern}");
-        }
-        Ok(())
-    }
-
-    #[test]
-    fn refusals_have_their_text(rt: HostRuntime) -> Result<(), Fail> {
-        for (flags, pattern, text) in [
-            ("", "a**", "Nothing to repeat"),
-            ("", "[a", "Unbalanced bracket"),
-            ("", "(?<=a)*", "Nothing to repeat"),
-            ("u", "(?=a)*", "Nothing to repeat"),
-            ("", "{1}", "Invalid quantifier"),
-            ("", "x{5,3}", "Invalid quantifier"),
-            ("", "(a", "Unbalanced parenthesis"),
-            ("", "a)", "Unbalanced parenthesis"),
-            ("", "(?<a>x)(?<a>y)", "Duplicate capture group name"),
-            ("", "(?<1>a)", "Invalid group name"),
-            ("", "(?ii:a)", "Invalid modifiers"),
-            ("", "(?i-i:a)", "Invalid modifiers"),
-            ("", "(?-:a)", "Invalid modifiers"),
-            ("", "(?i", "Invalid modifiers"),
-            ("", "(?x:a)", "Invalid group"),
-            ("", "\\", "Invalid escape"),
-            ("u", r"\1", "Invalid backreference"),
-            ("u", "]", "Unexpected character"),
-            ("u", "a{", "Unexpected character"),
-        ] {
-            let points = points(rt.alloc(), pattern, 1)?;
-            let refused = refusal(rt.alloc(), flags, &points);
-            assert_eq!(rt; refused, Some(Error::Syntax { text }), "at {pattern}");
-        }
-        Ok(())
-    }
-
-    #[test]
-    fn groups_are_at_most_65535(rt: HostRuntime) -> Result<(), Fail> {
-        let most = points(rt.alloc(), "()", 65535)?;
-        assert!(rt; parsed(rt.alloc(), "", &most).is_ok());
-        let more = points(rt.alloc(), "()", 65536)?;
-        assert_eq!(rt; refusal(rt.alloc(), "", &more), Some(Error::TooManyGroups));
-        Ok(())
-    }
-
-    #[test]
-    fn quantifiers_are_at_most_65535(rt: HostRuntime) -> Result<(), Fail> {
-        let most = points(rt.alloc(), "a*", 65535)?;
-        assert!(rt; parsed(rt.alloc(), "", &most).is_ok());
-        let more = points(rt.alloc(), "a*", 65536)?;
-        assert_eq!(rt; refusal(rt.alloc(), "", &more), Some(Error::TooManyLoops));
-        Ok(())
-    }
-
-    #[test]
-    fn parentheses_are_at_most_256(rt: HostRuntime) -> Result<(), Fail> {
-        let deepest = nested(rt.alloc(), 256)?;
-        assert!(rt; parsed(rt.alloc(), "", &deepest).is_ok());
-        let deeper = nested(rt.alloc(), 257)?;
-        assert_eq!(rt; refusal(rt.alloc(), "", &deeper), Some(Error::TooDeep));
-        Ok(())
     }
 }

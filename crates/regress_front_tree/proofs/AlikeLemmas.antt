@@ -6,7 +6,7 @@ use Rattle.std.proofs.lemmas.Grind.{flat_map-append}
 use Rattle.regress_meaning.specs.TableParts.{is_code_point}
 use Rattle.regress_meaning.specs.Pattern.{Pattern, Settings}
 use Rattle.regress_meaning.specs.Meaning.{State, Direction, Forward, Backward, Context, outcomes}
-use Rattle.regress_front_syntax.specs.Trees.{sequence_of, choice_of}
+use Rattle.regress_front_tokens.specs.Trees.{sequence_of, choice_of}
 use Rattle.regress_front_nodes.specs.Trees.{Tree, cat_of}
 use Rattle.regress_front_nodes.specs.TreeMeaning.{node_outcomes}
 use Rattle.regress_meaning.specs.Laws.{IsInside}

@@ -10,8 +10,8 @@ use Rattle.regress_meaning.specs.TableParts.{is_code_point}
 use Rattle.regress_front_tables.specs.declared.tables.Tables.{Tables}
 use Rattle.regress_front_tables.specs.TableViews.{table}
 use Rattle.regress_meaning.specs.Points.{ClassIsOfPoints}
-use Rattle.regress_front_syntax.specs.declared.syntax.Class.{Class}
-use Rattle.regress_front_syntax.specs.Trees.{class_view, union_of}
+use Rattle.regress_front_tokens.specs.declared.syntax.Class.{Class}
+use Rattle.regress_front_tokens.specs.Trees.{class_view, union_of}
 use Rattle.std.proofs.lemmas.List.Elements.{All-nil, All-cons, All-head, All-tail, All-append, All-filter}
 use Rattle.regress_front_tree.specs.ClassValues.{strings_of, united, all_united}
 use Rattle.regress_front_tree.specs.declared.class_value.ClassValue.{ClassValue}

@@ -1,9 +1,9 @@
 -- The equations of `class_view`, one for each variant.
 use Rattle.std.proofs.Common.{◌≡◌, ℕ, Bool, Box, Global, Vec, map, fold, sym, ap, ◌∙◌}
 use Rattle.regress_meaning.specs.Class as meaning
-use Rattle.regress_front_syntax.specs.Trees.{class_view, node_class, union_of}
-use Rattle.regress_front_syntax.specs.declared.syntax.Class.{Class, Class-F, fold-roll-Class}
-use Rattle.regress_front_syntax.specs.declared.syntax.Class.TheVariants.{Range, Digits, Spaces, Words, Property, Sequences, Strings, Union, Intersection, Difference, Complement, Nested, rolls-Range, rolls-Digits, rolls-Spaces, rolls-Words, rolls-Property, rolls-Sequences, rolls-Strings, rolls-Union, rolls-Intersection, rolls-Difference, rolls-Complement, rolls-Nested}
+use Rattle.regress_front_tokens.specs.Trees.{class_view, node_class, union_of}
+use Rattle.regress_front_tokens.specs.declared.syntax.Class.{Class, Class-F, fold-roll-Class}
+use Rattle.regress_front_tokens.specs.declared.syntax.Class.TheVariants.{Range, Digits, Spaces, Words, Property, Sequences, Strings, Union, Intersection, Difference, Complement, Nested, rolls-Range, rolls-Digits, rolls-Spaces, rolls-Words, rolls-Property, rolls-Sequences, rolls-Strings, rolls-Union, rolls-Intersection, rolls-Difference, rolls-Complement, rolls-Nested}
 
 pub class_view-Range : (first last : ℕ) → class_view (Range first last) ≡ meaning.range first last
 class_view-Range first last = ap class_view (sym (rolls-Range first last)) ∙ fold-roll-Class meaning.Class node_class (Class-F.Range first last)

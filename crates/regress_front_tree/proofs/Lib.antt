@@ -11,6 +11,5 @@ pub mod LoweredLemmas
 pub mod LoweredAlike
 pub mod NameTexts
 pub mod ArmLemmas
-pub mod SyntaxLaws
 pub mod LowerableLemmas
 pub mod LoweringLemmas

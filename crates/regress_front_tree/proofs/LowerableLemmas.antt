@@ -3,8 +3,8 @@ use Rattle.std.proofs.Common.{◌≡◌, ℕ, zero, suc, ◌<◌, true, List, []
 use Rattle.std.specs.Str.{all_scalars}
 use Rattle.std.proofs.lemmas.List.Elements.{All-nil, All-cons, All-head, All-tail}
 use Rattle.regress_meaning.specs.Pattern.{Pattern, names_of, capture}
-use Rattle.regress_front_syntax.specs.Trees.{tree, sequence_of, choice_of, capture_of}
-use Rattle.regress_front_syntax.specs.declared.syntax.Syntax.{Syntax}
+use Rattle.regress_front_tokens.specs.Trees.{tree, sequence_of, choice_of, capture_of}
+use Rattle.regress_front_tokens.specs.declared.syntax.Syntax.{Syntax}
 use Rattle.regress_front_tree.specs.Scopes.{IsLowerable, name_told}
 
 All-left : {X : Type 0} (P : X → Type 0) (xs ys : List X) → All P (xs ++ ys) → All P xs

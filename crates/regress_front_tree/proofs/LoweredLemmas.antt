@@ -10,7 +10,7 @@ use Rattle.regress_meaning.specs.Numbering.{group_numbers, FitsGroups}
 use Rattle.regress_meaning.specs.Limits.{quantifiers, most_groups}
 use Rattle.regress_meaning.specs.Points.{ClassHoldsNoStrings, HoldsNoStrings}
 use Rattle.regress_meaning.specs.Weights.{weight}
-use Rattle.regress_front_syntax.specs.Trees.{sequence_of, choice_of}
+use Rattle.regress_front_tokens.specs.Trees.{sequence_of, choice_of}
 use Rattle.regress_front_nodes.specs.Trees.{Tree, char, byte_set, char_set, any, any_in_line, line_start, line_end, boundary, back, bracket, cat_of}
 use Rattle.regress_front_nodes.specs.Sizes.{size}
 use Rattle.regress_front_tree.specs.Lowered.{IsLowered}

@@ -7,8 +7,8 @@ use Rattle.regress_meaning.specs.Table.{Table}
 use Rattle.regress_meaning.specs.Pattern.{Pattern, Settings, nothing, modified}
 use Rattle.regress_meaning.specs.Meaning.{is_line_end, with}
 use Rattle.regress_front_tables.specs.TableViews.{table}
-use Rattle.regress_front_syntax.specs.Trees as parsed
-use Rattle.regress_front_syntax.specs.declared.syntax.Syntax.{Syntax}
+use Rattle.regress_front_tokens.specs.Trees as parsed
+use Rattle.regress_front_tokens.specs.declared.syntax.Syntax.{Syntax}
 use Rattle.regress_front_nodes.specs.declared.node.Node.{Node}
 use Rattle.regress_front_tree.specs.declared.lowering.Lowering.{Lowering}
 use Rattle.regress_front_tree.specs.declared.lowering.Scope.{Scope}

@@ -8,7 +8,7 @@ use Rattle.regress_meaning.specs.Pattern as meaning
 use Rattle.regress_meaning.specs.Pattern.{Pattern, names_of}
 use Rattle.regress_meaning.specs.Numbering.{group_numbers, FitsGroups}
 use Rattle.regress_meaning.specs.Limits.{quantifiers, most_groups}
-use Rattle.regress_front_syntax.specs.Trees.{sequence_of, choice_of}
+use Rattle.regress_front_tokens.specs.Trees.{sequence_of, choice_of}
 use Rattle.regress_front_nodes.specs.WellFormed.{AreNumbered}
 use Rattle.regress_front_tree.specs.Lowering.{one_more}
 use Rattle.regress_front_nodes.proofs.CountLemmas.{times, count-cons}

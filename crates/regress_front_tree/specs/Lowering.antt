@@ -7,7 +7,7 @@ use Rattle.regress_meaning.specs.Class.{Class, Strings, value_of, among}
 use Rattle.regress_meaning.specs.Pattern as meaning
 use Rattle.regress_meaning.specs.Pattern.{Pattern, Settings}
 use Rattle.regress_meaning.specs.Meaning.{is_line_end, same, closed, with}
-use Rattle.regress_front_syntax.specs.Trees.{sequence_of, choice_of}
+use Rattle.regress_front_tokens.specs.Trees.{sequence_of, choice_of}
 use Rattle.regress_front_nodes.specs.Trees.{Tree, alt, line_start, line_end, boundary, capture, back, string_set, look, loop}
 use Rattle.regress_front_nodes.specs.Forms.{cat_made, in_reading_order}
 use Rattle.regress_front_nodes.specs.Characters.{Takes}

@@ -9,7 +9,7 @@ ghost use Rattle.regress_meaning.specs.Meaning.{same, closed};
 ghost use Rattle.regress_meaning.specs.Points.{ClassIsOfPoints};
 ghost use Rattle.regress_front_sets.specs.Sets.{in_set};
 ghost use Rattle.regress_front_tables.specs.TableViews.{table};
-ghost use Rattle.regress_front_syntax.specs.Trees.{class_view};
+ghost use Rattle.regress_front_tokens.specs.Trees.{class_view};
 ghost use Rattle.regress_front_nodes.specs.Trees.{tree};
 ghost use Rattle.regress_front_nodes.specs.Characters.{Takes};
 ghost use Rattle.regress_front_tree.specs.Lowering.{AreByLength, LowersClass, class_value, class_arms};

@@ -7,7 +7,7 @@ ghost use Rattle.regress_meaning.specs.Points.{ClassIsOfPoints};
 ghost use Rattle.regress_front_sets.specs.Intervals.{ends_of};
 ghost use Rattle.regress_front_sets.specs.Sets.{in_set};
 ghost use Rattle.regress_front_tables.specs.TableViews.{table};
-ghost use Rattle.regress_front_syntax.specs.Trees.{class_view, union_of};
+ghost use Rattle.regress_front_tokens.specs.Trees.{class_view, union_of};
 
 use crate::text::text_of;
 use regress_front_tables::{

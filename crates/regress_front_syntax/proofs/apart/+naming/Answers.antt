@@ -1,6 +1,6 @@
 use Rattle.std.proofs.Common.{◌+◌, not, map, drop, refl, ap, sym, ◌∙◌, arith}
 use Rattle.std.proofs.lemmas.List.{drop_all}
-use Rattle.regress_front_syntax.specs.Trees.{tree, sequence_of, choice_of}
+use Rattle.regress_front_tokens.specs.Trees.{tree, sequence_of, choice_of}
 use Rattle.regress_front_syntax.proofs.ApartLemmas.{added-names, put-names, terms-first, terms-split, terms-none, terms-more, terms-last, arms-first, arms-split, arms-none, arms-more, arms-last, capture-taken, capture-added}
 use Rattle.regress_front_syntax.proofs.apart.+naming.Goals as goal
 

@@ -1,5 +1,5 @@
 use Rattle.std.proofs.Common.{map, drop}
-use Rattle.regress_front_syntax.specs.Trees.{tree, sequence_of, choice_of}
+use Rattle.regress_front_tokens.specs.Trees.{tree, sequence_of, choice_of}
 use Rattle.regress_front_syntax.proofs.ApartLemmas.{AreTermsLeft, AreArmsLeft}
 use Rattle.regress_front_syntax.proofs.apart.+naming.Given as goal
 

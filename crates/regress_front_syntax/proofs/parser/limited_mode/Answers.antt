@@ -3,7 +3,7 @@ use Rattle.std.proofs.lemmas.List.{length-map}
 use Rattle.regress_meaning.specs.Scan.{scanned_names}
 use Rattle.regress_front_core.specs.FlagWords.{options}
 use Rattle.regress_front_tables.specs.TableViews.{table}
-use Rattle.regress_front_syntax.specs.Escapes.{texts}
+use Rattle.regress_front_tokens.specs.Escapes.{texts}
 use Rattle.regress_front_syntax.proofs.PatternLemmas.{groups-passed}
 use Rattle.regress_front_syntax.proofs.parser.limited_mode.Goals as goal
 

@@ -2,7 +2,7 @@ use Rattle.std.proofs.Common.{subst}
 use Rattle.regress_meaning.specs.Tokens.{Mode}
 use Rattle.regress_front_core.specs.FlagWords.{options}
 use Rattle.regress_front_tables.specs.TableViews.{table}
-use Rattle.regress_front_syntax.specs.Escapes.{mode_view}
+use Rattle.regress_front_tokens.specs.Escapes.{mode_view}
 use Rattle.regress_front_syntax.specs.Parsing.{IsWholeAnswer, whole_at}
 use Rattle.regress_front_syntax.proofs.PatternLemmas.{accepted-whole, refused-whole}
 use Rattle.regress_front_syntax.proofs.parser.parse.Goals as goal

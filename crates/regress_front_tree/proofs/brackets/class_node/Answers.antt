@@ -6,7 +6,7 @@ use Rattle.regress_meaning.specs.Class.{Strings, value_of, among}
 use Rattle.regress_front_sets.specs.Intervals.{ends_of}
 use Rattle.regress_front_sets.specs.Sets.{in_set}
 use Rattle.regress_front_tables.specs.TableViews.{table}
-use Rattle.regress_front_syntax.specs.Trees.{class_view}
+use Rattle.regress_front_tokens.specs.Trees.{class_view}
 use Rattle.regress_front_nodes.specs.Trees.{Tree, tree, bracket}
 use Rattle.regress_meaning.specs.Meaning.{closed}
 use Rattle.regress_front_tree.specs.Lowering.{HasArms, AreByLength, class_value, class_arms}

@@ -2,7 +2,7 @@ use Rattle.std.proofs.Common.{◌≡◌, Bool, true, ◌&&◌, sym, ap, ◌∙�
 use Rattle.regress_meaning.specs.Class.{Strings, value_of}
 use Rattle.regress_front_sets.specs.Sets.{in_set}
 use Rattle.regress_front_tables.specs.TableViews.{table}
-use Rattle.regress_front_syntax.specs.Trees.{class_view}
+use Rattle.regress_front_tokens.specs.Trees.{class_view}
 use Rattle.regress_meaning.specs.Meaning.{closed}
 use Rattle.regress_front_tree.specs.Lowering.{class_value}
 use Rattle.regress_front_tree.proofs.BracketLemmas.{takes-bracket}

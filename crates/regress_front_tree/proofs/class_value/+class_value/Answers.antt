@@ -2,15 +2,15 @@ use Rattle.std.proofs.Common.{◌∙◌, sym, ap, ap₂, map, fold, rules, arith
 use Rattle.std.proofs.Math.Path.{fun_ext}
 use Rattle.std.proofs.lemmas.Result.{IfOk-weaker}
 use denote.Param.Weighed.{at_most}
-use Rattle.regress_front_syntax.proofs.syntax.Class.TheLaws.{the_size}
-use Rattle.regress_front_syntax.specs.declared.syntax.Class.TheViews.{the_lemmas}
+use Rattle.regress_front_tokens.proofs.syntax.Class.TheLaws.{the_size}
+use Rattle.regress_front_tokens.specs.declared.syntax.Class.TheViews.{the_lemmas}
 use Rattle.regress_meaning.specs.Class as meaning
 use Rattle.regress_meaning.specs.Points.{ClassIsOfPoints}
 use Rattle.regress_meaning.specs.Class.{Strings, only, complement_of, value_of}
 use Rattle.regress_front_sets.specs.Sets.{in_set}
 use Rattle.regress_front_tables.specs.TableViews.{table}
-use Rattle.regress_front_syntax.specs.declared.syntax.Class.{Class}
-use Rattle.regress_front_syntax.specs.Trees.{class_view}
+use Rattle.regress_front_tokens.specs.declared.syntax.Class.{Class}
+use Rattle.regress_front_tokens.specs.Trees.{class_view}
 use Rattle.regress_front_tree.specs.ClassValues.{united, all_united, intersected, subtracted}
 use Rattle.regress_front_tree.proofs.ClassLemmas.{in_intervals-one}
 use Rattle.regress_front_tree.proofs.ClassValueLemmas.{value_of-more, union_points, fold-more, first_points, other_points, one_points}

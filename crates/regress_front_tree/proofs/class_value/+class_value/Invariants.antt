@@ -2,7 +2,7 @@ use Rattle.std.proofs.Common.{◌≡◌, map, fold, take}
 use Rattle.regress_meaning.specs.Class as meaning
 use Rattle.regress_meaning.specs.Class.{value_of}
 use Rattle.regress_front_tables.specs.TableViews.{table}
-use Rattle.regress_front_syntax.specs.Trees.{class_view, union_of}
+use Rattle.regress_front_tokens.specs.Trees.{class_view, union_of}
 use Rattle.regress_front_tree.specs.ClassValues.{strings_of, all_united}
 use Rattle.regress_front_tree.proofs.class_value.+class_value.Given as goal
 

@@ -3,7 +3,7 @@ use Rattle.regress_meaning.specs.Flags.{is_unicode, first_settings}
 use Rattle.regress_meaning.specs.Meaning.{State, Forward, Context}
 use Rattle.regress_front_tables.specs.TableViews.{table, parts}
 use Rattle.regress_front_core.specs.FlagWords.{options}
-use Rattle.regress_front_syntax.specs.Trees as parsed
+use Rattle.regress_front_tokens.specs.Trees as parsed
 use Rattle.regress_front_nodes.specs.declared.node.Node.{Node}
 use Rattle.regress_front_nodes.specs.declared.node.Node.TheViews.{Cat}
 use Rattle.regress_front_nodes.specs.Trees.{Tree, tree, goal, cat_of}

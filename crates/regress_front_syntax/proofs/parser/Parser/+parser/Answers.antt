@@ -3,12 +3,12 @@ use Rattle.std.proofs.lemmas.Result.{err_from_is_err_and}
 use Rattle.std.proofs.Common.{◌≡◌, suc, ◌+◌, true, false, [], ◌∷◌, length, drop, map, Some, refl, sym, ap, subst, ◌∙◌, length-drop, arith}
 use Rattle.regress_meaning.specs.Pattern.{sequence, choice, nothing}
 use Rattle.regress_meaning.specs.Reading.{disjunction_at, alternative_at, quantified, read_term, parenthesis_opening}
-use Rattle.regress_front_syntax.specs.Cursors.{unread}
-use Rattle.regress_front_syntax.specs.Escapes.{mode_view}
-use Rattle.regress_front_syntax.specs.Trees.{tree, choice_of}
+use Rattle.regress_front_tokens.specs.Cursors.{unread}
+use Rattle.regress_front_tokens.specs.Escapes.{mode_view}
+use Rattle.regress_front_tokens.specs.Trees.{tree, choice_of}
 use Rattle.regress_front_syntax.specs.Openings.{enclosed, is_lookbehind, may_repeat, opened_by}
 use Rattle.regress_front_syntax.specs.Parsing.{Place, Grows, IsRefusal, front_to, place, place_behind, contents_of}
-use Rattle.regress_front_syntax.proofs.TreeLaws.{tree-Alternative, tree-Disjunction}
+use Rattle.regress_front_tokens.proofs.TreeLaws.{tree-Alternative, tree-Disjunction}
 use Rattle.regress_front_syntax.proofs.AnswerLemmas.{at, answer_same, refused_within, Leads_refl, Leads_drop}
 use Rattle.regress_front_syntax.proofs.LoopLemmas.{sequence_of-before, choice_of-before, sequence_joins, choice_joins, loop_begins, loop-within, loop_goes_on, loop_ends}
 use Rattle.regress_front_syntax.proofs.StepLemmas.{nothing-grows, arm-goes_on, arm-ends, arm-within, term-within, term-goes_on, alternative-ends, contents-closed, contents-open, contents-within, closed-grows}
@@ -155,8 +155,8 @@ group-returns-in_err-open-clause-answer t c =
     let k = c.args.self.now.groups in
     let r = c.args.self.now.loops in
     let text = 0x28 ∷ unread c.args.self.now.cursor in
-    let u = unread c.opening.new.self in
-    let leads = Leads_inside c.args.self.now.cursor c.opening.new.self c.in_ok-opening.ensures.kept n k (opened_by o k) r (opened_by-most o k) c.in_ok-opening.ensures.progress in
+    let u = unread c.read_opening.new.cursor in
+    let leads = Leads_inside c.args.self.now.cursor c.read_opening.new.cursor c.in_ok-opening.ensures.kept n k (opened_by o k) r (opened_by-most o k) c.in_ok-opening.ensures.progress in
     let p = err_from_is_err_and c.from_residual-in_err-open.result c.from_residual-in_err-open.ensures.1 in
     let full = c.in_err-open.ensures.full in
     rw (p.1, p.2, full.0) (group-full m (parenthesis_opening m (unread c.args.self.now.cursor)) o n k r text u c.in_ok-opening.ensures.read leads
@@ -170,8 +170,8 @@ group-returns-in_err-contents-clause-answer t c =
     let k = c.args.self.now.groups in
     let r = c.args.self.now.loops in
     let text = 0x28 ∷ unread c.args.self.now.cursor in
-    let u = unread c.opening.new.self in
-    let leads = Leads_inside c.args.self.now.cursor c.opening.new.self c.in_ok-opening.ensures.kept n k (opened_by o k) r (opened_by-most o k) c.in_ok-opening.ensures.progress in
+    let u = unread c.read_opening.new.cursor in
+    let leads = Leads_inside c.args.self.now.cursor c.read_opening.new.cursor c.in_ok-opening.ensures.kept n k (opened_by o k) r (opened_by-most o k) c.in_ok-opening.ensures.progress in
     let one : n + 1 ≡ suc n = omega arith in
     let inside : place (n + 1) c.open.new.self ≡ at (suc n) (opened_by o k) r u =
     λ i. record { nesting = one i; opened = c.in_ok-open.ensures.opened i; repeated = c.open.ensures.kept.1 i; text = c.open.ensures.kept.0 i } in
@@ -188,8 +188,8 @@ group-returns-then-is_lookbehind-clause-answer t c =
     let k = c.args.self.now.groups in
     let r = c.args.self.now.loops in
     let text = 0x28 ∷ unread c.args.self.now.cursor in
-    let u = unread c.opening.new.self in
-    let leads = Leads_inside c.args.self.now.cursor c.opening.new.self c.in_ok-opening.ensures.kept n k (opened_by o k) r (opened_by-most o k) c.in_ok-opening.ensures.progress in
+    let u = unread c.read_opening.new.cursor in
+    let leads = Leads_inside c.args.self.now.cursor c.read_opening.new.cursor c.in_ok-opening.ensures.kept n k (opened_by o k) r (opened_by-most o k) c.in_ok-opening.ensures.progress in
     let one : n + 1 ≡ suc n = omega arith in
     let inside : place (n + 1) c.open.new.self ≡ at (suc n) (opened_by o k) r u =
     λ i. record { nesting = one i; opened = c.in_ok-open.ensures.opened i; repeated = c.open.ensures.kept.1 i; text = c.open.ensures.kept.0 i } in
@@ -210,8 +210,8 @@ group-returns-clause-answer t c =
     let k = c.args.self.now.groups in
     let r = c.args.self.now.loops in
     let text = 0x28 ∷ unread c.args.self.now.cursor in
-    let u = unread c.opening.new.self in
-    let leads = Leads_inside c.args.self.now.cursor c.opening.new.self c.in_ok-opening.ensures.kept n k (opened_by o k) r (opened_by-most o k) c.in_ok-opening.ensures.progress in
+    let u = unread c.read_opening.new.cursor in
+    let leads = Leads_inside c.args.self.now.cursor c.read_opening.new.cursor c.in_ok-opening.ensures.kept n k (opened_by o k) r (opened_by-most o k) c.in_ok-opening.ensures.progress in
     let one : n + 1 ≡ suc n = omega arith in
     let inside : place (n + 1) c.open.new.self ≡ at (suc n) (opened_by o k) r u =
     λ i. record { nesting = one i; opened = c.in_ok-open.ensures.opened i; repeated = c.open.ensures.kept.1 i; text = c.open.ensures.kept.0 i } in

@@ -1,9 +1,9 @@
 use Rattle.std.proofs.Common.{◌+◌, ◌-◌, ◌*◌, ◌≤◌, length, map}
 use Rattle.regress_meaning.specs.Pattern.{sequence, choice}
 use Rattle.regress_meaning.specs.Reading.{disjunction_at, alternative_at}
-use Rattle.regress_front_syntax.specs.Cursors.{unread}
-use Rattle.regress_front_syntax.specs.Escapes.{mode_view}
-use Rattle.regress_front_syntax.specs.Trees.{tree}
+use Rattle.regress_front_tokens.specs.Cursors.{unread}
+use Rattle.regress_front_tokens.specs.Escapes.{mode_view}
+use Rattle.regress_front_tokens.specs.Trees.{tree}
 use Rattle.regress_front_syntax.specs.Parsing.{place}
 use Rattle.regress_front_syntax.proofs.LoopLemmas.{LoopState}
 use Rattle.regress_front_syntax.proofs.parser.Parser.+parser.Given as goal

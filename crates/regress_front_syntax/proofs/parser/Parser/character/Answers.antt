@@ -1,9 +1,9 @@
 use Rattle.std.proofs.Common.{refl, sym, ap, length, arith}
 use Rattle.regress_meaning.specs.Pattern.{character}
-use Rattle.regress_front_syntax.specs.Cursors.{unread}
-use Rattle.regress_front_syntax.specs.Escapes.{mode_view}
+use Rattle.regress_front_tokens.specs.Cursors.{unread}
+use Rattle.regress_front_tokens.specs.Escapes.{mode_view}
 use Rattle.regress_front_syntax.specs.Parsing.{place}
-use Rattle.regress_front_syntax.proofs.TreeLaws.{tree-Character}
+use Rattle.regress_front_tokens.proofs.TreeLaws.{tree-Character}
 use Rattle.regress_front_syntax.proofs.MarkLemmas.{Leads_further}
 use Rattle.regress_front_syntax.proofs.TermLemmas.{leaf-grows, single-answer, character-read, character-refused}
 use Rattle.regress_front_syntax.proofs.parser.Parser.character.Goals as goal

@@ -3,10 +3,10 @@ use Rattle.std.proofs.lemmas.Result.{err_from_is_err_and}
 use Rattle.regress_meaning.specs.Text.{is_at}
 use Rattle.regress_meaning.specs.Pattern.{word_boundary}
 use Rattle.regress_meaning.specs.Grammar.{tree_of}
-use Rattle.regress_front_syntax.specs.Cursors.{unread}
-use Rattle.regress_front_syntax.specs.Escapes.{mode_view, escape_view}
+use Rattle.regress_front_tokens.specs.Cursors.{unread}
+use Rattle.regress_front_tokens.specs.Escapes.{mode_view, escape_view}
 use Rattle.regress_front_syntax.specs.Parsing.{place}
-use Rattle.regress_front_syntax.proofs.TreeLaws.{tree-WordBoundary}
+use Rattle.regress_front_tokens.proofs.TreeLaws.{tree-WordBoundary}
 use Rattle.regress_front_syntax.proofs.MarkLemmas.{Leads_further}
 use Rattle.regress_front_syntax.proofs.TermLemmas.{progress-through, tree_of-leaf, leaf-grows, assertion-answer, single-answer, boundary-read, escape-read, escape-refused}
 use Rattle.regress_front_syntax.proofs.parser.Parser.escape.Goals as goal

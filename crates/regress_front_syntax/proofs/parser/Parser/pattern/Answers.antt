@@ -1,9 +1,9 @@
 use Rattle.std.proofs.lemmas.Result.{err_from_is_err_and}
 use Rattle.std.proofs.Common.{◌≡◌, sym, ap, ◌∙◌, subst, is_some, Some, arith}
 use Rattle.regress_meaning.specs.Reading.{disjunction_at}
-use Rattle.regress_front_syntax.specs.Cursors.{unread}
-use Rattle.regress_front_syntax.specs.Escapes.{mode_view}
-use Rattle.regress_front_syntax.specs.Trees.{tree}
+use Rattle.regress_front_tokens.specs.Cursors.{unread}
+use Rattle.regress_front_tokens.specs.Escapes.{mode_view}
+use Rattle.regress_front_tokens.specs.Trees.{tree}
 use Rattle.regress_front_syntax.specs.Parsing.{Place, Grows, IsRefusal, front_to, place}
 use Rattle.regress_front_syntax.proofs.AnswerLemmas.{at}
 use Rattle.regress_front_syntax.proofs.PatternLemmas.{empty-text, left-none, alike-none, apart-whole, whole-refused}

@@ -1,6 +1,6 @@
 use Rattle.std.proofs.Common.{arith}
-use Rattle.regress_front_syntax.specs.Cursors.{unread}
-use Rattle.regress_front_syntax.proofs.ModeLemmas.{any_mode}
+use Rattle.regress_front_tokens.specs.Cursors.{unread}
+use Rattle.regress_front_tokens.proofs.ModeLemmas.{any_mode}
 use Rattle.regress_front_syntax.proofs.QuantifierLemmas.{no_quantifier, not_allowed, out_of_order, quantifier-read, quantifier-less, quantifiers-full}
 use Rattle.regress_front_syntax.proofs.parser.Parser.quantifier.Goals as goal
 

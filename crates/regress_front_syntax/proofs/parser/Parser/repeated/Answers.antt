@@ -1,10 +1,10 @@
 use Rattle.std.proofs.Common.{refl, ◌∙◌, None, Some}
 use Rattle.std.proofs.lemmas.Result.{err_from_is_err_and}
 use Rattle.regress_meaning.specs.Pattern.{repeated}
-use Rattle.regress_front_syntax.specs.Trees.{tree}
+use Rattle.regress_front_tokens.specs.Trees.{tree}
 use Rattle.regress_front_core.specs.Quantifiers.{most}
 use Rattle.regress_front_syntax.specs.Parsing.{place}
-use Rattle.regress_front_syntax.proofs.TreeLaws.{tree-Loop}
+use Rattle.regress_front_tokens.proofs.TreeLaws.{tree-Loop}
 use Rattle.regress_front_syntax.proofs.QuantifierLemmas.{repetition-answer, repetition-refused}
 use Rattle.regress_front_syntax.proofs.parser.Parser.repeated.Goals as goal
 

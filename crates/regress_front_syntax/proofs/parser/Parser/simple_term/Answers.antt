@@ -2,10 +2,10 @@ use Rattle.std.proofs.Common.{◌≡◌, ◌==◌, ◌∷◌, refl, sym, ap, ◌
 use Rattle.regress_meaning.specs.Text.{is_at}
 use Rattle.regress_meaning.specs.Pattern.{any, line_start, line_end}
 use Rattle.regress_meaning.specs.Reading.{read_term, disjunction_at, escape_opening, class_opening}
-use Rattle.regress_front_syntax.specs.Cursors.{unread}
-use Rattle.regress_front_syntax.specs.Escapes.{mode_view}
+use Rattle.regress_front_tokens.specs.Cursors.{unread}
+use Rattle.regress_front_tokens.specs.Escapes.{mode_view}
 use Rattle.regress_front_syntax.specs.Parsing.{place, character_opening}
-use Rattle.regress_front_syntax.proofs.TreeLaws.{tree-Any, tree-LineStart, tree-LineEnd}
+use Rattle.regress_front_tokens.proofs.TreeLaws.{tree-Any, tree-LineStart, tree-LineEnd}
 use Rattle.regress_front_syntax.proofs.AnswerLemmas.{at, answer_there, answer_same, Leads_drop}
 use Rattle.regress_front_syntax.proofs.TermLemmas.{leaf-grows, assertion-answer, single-answer, answer_behind, mark-stands, start-read, end-read, dot-read, backslash-read, bracket-read, other-read}
 use Rattle.regress_front_syntax.proofs.parser.Parser.simple_term.Goals as goal

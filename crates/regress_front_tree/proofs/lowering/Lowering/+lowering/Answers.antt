@@ -2,12 +2,12 @@ use Rattle.std.proofs.Common.{◌≡◌, ◌&&◌, [], length, refl, sym, arith,
 use Rattle.std.proofs.lemmas.Bool.{eqb-true, eqb-false}
 use Rattle.std.proofs.lemmas.List.{take_all, nil_from_length}
 use Rattle.std.proofs.lemmas.Result.{IfOk-weaker}
-use Rattle.regress_front_syntax.specs.declared.syntax.Syntax.TheViews.{the_lemmas}
-use Rattle.regress_front_syntax.specs.Trees as parsed
+use Rattle.regress_front_tokens.specs.declared.syntax.Syntax.TheViews.{the_lemmas}
+use Rattle.regress_front_tokens.specs.Trees as parsed
 use Rattle.regress_front_nodes.specs.Trees.{tree}
 use Rattle.regress_front_tree.specs.Lowering.{no_pattern, of_character, of_any, of_class_escape, of_terms, of_arms, of_capture, of_group, of_repeated, of_look, of_line_start, of_line_end, of_word_boundary}
 use Rattle.regress_front_tree.specs.Scopes.{settings_of, IsLowerable}
-use Rattle.regress_front_tree.proofs.SyntaxLaws as law
+use Rattle.regress_front_tokens.proofs.TreeLaws as law
 use Rattle.regress_front_nodes.proofs.TreeLaws.{tree-Empty, tree-MatchAny, tree-MatchAnyExceptLineTerminator, tree-WordBoundary, tree-CaptureGroup, tree-LookaroundAssertion, tree-Loop}
 use Rattle.regress_front_tree.proofs.LowerableLemmas.{IsLowerable-terms, IsLowerable-arms, capture_of-told, contents-IsLowerable, each_is}
 use Rattle.regress_front_tree.proofs.LoweringLemmas.{each_more, nodes-length, Lowers-nothing, LowersInScope-modified, IsSamePattern-chain, Takes-any, Takes-any_in_line}

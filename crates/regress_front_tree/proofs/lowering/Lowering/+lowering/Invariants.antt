@@ -1,5 +1,5 @@
 use Rattle.std.proofs.Common.{map, take}
-use Rattle.regress_front_syntax.specs.Trees as parsed
+use Rattle.regress_front_tokens.specs.Trees as parsed
 use Rattle.regress_front_nodes.specs.Trees.{tree}
 use Rattle.regress_front_tree.specs.Scopes.{LowersAllInScope, IsSamePattern}
 use Rattle.regress_front_tree.proofs.lowering.Lowering.+lowering.Given as goal

@@ -1,0 +1,31 @@
+-- The equations of `class_view`, one for each variant that holds something.
+use Rattle.std.proofs.Common.{◌≡◌, ℕ, Bool, map, fold, Box, Global, sym, ap, ◌∙◌}
+use Rattle.std.specs.Global.{Vec}
+use Rattle.regress_meaning.specs.Class as meaning
+use Rattle.regress_front_tokens.specs.Trees.{class_view, node_class, union_of}
+use Rattle.regress_front_tokens.specs.declared.syntax.Class.{Class, Class-F, fold-roll-Class}
+use Rattle.regress_front_tokens.specs.declared.syntax.Class.TheVariants.{Property, Sequences, Complement, Strings, Union, Intersection, Difference, Nested, rolls-Property, rolls-Sequences, rolls-Complement, rolls-Strings, rolls-Union, rolls-Intersection, rolls-Difference, rolls-Nested}
+
+pub class_view-Property : (key : Vec ℕ) → class_view (Property key) ≡ meaning.property key.items
+class_view-Property key = ap class_view (sym (rolls-Property key)) ∙ fold-roll-Class meaning.Class node_class (Class-F.Property key)
+
+pub class_view-Sequences : (key : Vec ℕ) → class_view (Sequences key) ≡ meaning.sequences key.items
+class_view-Sequences key = ap class_view (sym (rolls-Sequences key)) ∙ fold-roll-Class meaning.Class node_class (Class-F.Sequences key)
+
+pub class_view-Complement : (contents : Box Class Global) → class_view (Complement contents) ≡ meaning.complement (class_view contents.value)
+class_view-Complement contents = ap class_view (sym (rolls-Complement contents)) ∙ fold-roll-Class meaning.Class node_class (Class-F.Complement contents)
+
+pub class_view-Strings : (strings : Vec (Vec ℕ)) → class_view (Strings strings) ≡ meaning.strings (map (λ s. s.items) strings.items)
+class_view-Strings strings = ap class_view (sym (rolls-Strings strings)) ∙ fold-roll-Class meaning.Class node_class (Class-F.Strings strings)
+
+pub class_view-Union : (members : Vec Class) → class_view (Union members) ≡ union_of (map class_view members.items)
+class_view-Union members = ap class_view (sym (rolls-Union members)) ∙ fold-roll-Class meaning.Class node_class (Class-F.Union members)
+
+pub class_view-Intersection : (first : Box Class Global) (others : Vec Class) → class_view (Intersection first others) ≡ fold meaning.intersection (class_view first.value) (map class_view others.items)
+class_view-Intersection first others = ap class_view (sym (rolls-Intersection first others)) ∙ fold-roll-Class meaning.Class node_class (Class-F.Intersection first others)
+
+pub class_view-Difference : (first : Box Class Global) (others : Vec Class) → class_view (Difference first others) ≡ fold meaning.difference (class_view first.value) (map class_view others.items)
+class_view-Difference first others = ap class_view (sym (rolls-Difference first others)) ∙ fold-roll-Class meaning.Class node_class (Class-F.Difference first others)
+
+pub class_view-Nested : (negated : Bool) (contents : Box Class Global) → class_view (Nested negated contents) ≡ meaning.nested negated (class_view contents.value)
+class_view-Nested negated contents = ap class_view (sym (rolls-Nested negated contents)) ∙ fold-roll-Class meaning.Class node_class (Class-F.Nested negated contents)

@@ -1,0 +1,9 @@
+pub mod ClassViews
+pub mod EscapeLemmas
+pub mod ModeLemmas
+pub mod NameLemmas
+pub mod NumberLemmas
+pub mod ScanLemmas
+pub mod SpanLemmas
+pub mod TokenLemmas
+pub mod TreeLaws

@@ -1,0 +1,5 @@
+pub mod Cursors
+pub mod Escapes
+pub mod Readings
+pub mod Trees
+pub mod Words

@@ -1,0 +1,58 @@
+//! What holds for a whole pattern while it is read.
+ghost use Rattle.std.specs.Prelude.{◌≡◌, ◌≤◌, length, IfOk, IfErr, map};
+ghost use Rattle.regress_meaning.specs.Tokens.{numbers_from, begins_name, continues_name};
+ghost use Rattle.regress_front_tables.specs.TableViews.{table};
+
+use crate::cursor::is_one_of;
+use regress_front_tables::{CodePoint, Error, Tables};
+use std::alloc::Global;
+
+/// What holds for the whole pattern: how its escapes and classes are read ("Patterns", its grammar parameters).
+#[derive(Debug, Drop)]
+pub struct Mode<'t> {
+    /// Case and properties of code points.
+    pub tables: &'t Tables,
+    /// Unicode mode: `u` or `v`.
+    pub unicode: bool,
+    /// `v`.
+    pub sets: bool,
+    /// Unicode mode, or some group has a name.
+    pub named: bool,
+    /// The name of each capturing group as code points, empty where it has none.
+    pub names: Vec<Vec<CodePoint>>,
+}
+
+/// Whether a group's name may begin with the code point ("RegExpIdentifierStart").
+pub(crate) fn begins_name(tables: &Tables, point: CodePoint) -> bool
+    ensures { result ≡ begins_name (table tables.now) point }
+{
+    is_one_of(point, "$_") || tables.id_start(point)
+}
+
+/// Whether a group's name may go on with the code point ("RegExpIdentifierPart").
+pub(crate) fn continues_name(tables: &Tables, point: CodePoint) -> bool
+    ensures { result ≡ continues_name (table tables.now) point }
+{
+    begins_name(tables, point)
+        || tables.id_continue(point)
+        || matches!(char::from_u32(point), Some('\u{200C}' | '\u{200D}'))
+}
+
+/// The numbers of the groups that have the name, from 0 ("GroupSpecifiersThatMatch"). `OutOfMemory` is the only error.
+pub(crate) fn groups_of_name(
+    alloc: Global,
+    names: &[Vec<CodePoint>],
+    name: &[CodePoint],
+) -> Result<Vec<u16>, Error>
+    requires { length names.now ≤ 65535 }
+    ensures ok { IfOk result (λ groups. groups.items ≡ numbers_from 0 name.now (map (λ n. n.items) names.now)) }
+    ensures err { IfErr result (λ e. e ≡ Error.OutOfMemory) }
+{
+    let mut groups = Vec::new(alloc);
+    for (group, other) in names.iter().enumerate() {
+        if name == other.as_slice() {
+            groups.push(group as u16)?;
+        }
+    }
+    Ok(groups)
+}
