@@ -122,11 +122,7 @@ impl<'p> Cursor<'p> {
     }
 
     /// As many code points as pass the test, but at most so many. Goes on behind them.
-    pub fn take_up_to<F: Fn(CodePoint) -> bool>(
-        &mut self,
-        most: usize,
-        test: F,
-    ) -> &'p [CodePoint]
+    pub fn take_up_to<F: Fn(CodePoint) -> bool>(&mut self, most: usize, test: F) -> &'p [CodePoint]
         requires { F.IsAlwaysCallable test }
         ensures read { (passes : ℕ → Bool) → Tells (F.post test) passes
             → span_up_to most passes (unread self.old) ≡ (result.now, unread self.new) }

@@ -7,8 +7,7 @@ ghost use Rattle.regress_front_tokens.specs.Readings.{IsReading};
 ghost use Rattle.regress_front_tokens.specs.Words.{count_at, braced_at, bounds_view, quantifier_at, quantifier_view};
 
 use crate::cursor::Cursor;
-use regress_front_tables::Quantifier;
-use regress_front_tables::{CODE_POINT_MAX, CodePoint};
+use regress_front_tables::{CODE_POINT_MAX, CodePoint, Quantifier};
 
 /// Whether the code point is a decimal digit.
 fn is_decimal_digit(point: CodePoint) -> bool
