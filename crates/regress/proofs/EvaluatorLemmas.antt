@@ -1,5 +1,5 @@
 -- What trees lead to, in the form in which the evaluator's loops take it.
-use Rattle.std.proofs.Common.{◌≡◌, ℕ, Bool, true, Some, ◌+◌, ◌<◌, ◌≤◌, List, [], ◌∷◌, ◌++◌, length, map, take, drop, get_or, slice_set, refl, sym, ap, ◌∙◌, arith}
+use Rattle.std.proofs.Common.{◌≡◌, ℕ, zero, suc, Bool, true, Option, Some, None, ◌+◌, ◌<◌, ◌≤◌, List, [], ◌∷◌, ◌++◌, length, map, option_map, replicate, take, drop, get_or, slice_set, refl, sym, ap, ◌∙◌, arith}
 use Rattle.std.specs.List.{flat_map}
 use Rattle.std.proofs.lemmas.List.{append-nil, drop_more, take_more, map_push, take_more_set, take_all, drop_all, length-drop, drop-set-lt}
 use Rattle.std.proofs.lemmas.List.Concat.{flat_map-append}
@@ -8,7 +8,13 @@ use Rattle.regress_front_nodes.specs.Trees.{Tree, cat, no_part, cat_of, tree}
 use Rattle.regress_front_nodes.specs.TreeMeaning.{node_outcomes}
 use Rattle.regress_front_nodes.specs.declared.node.Node.{Node}
 use Rattle.regress.specs.declared.engine.state.State as evaluator
+use Rattle.regress.specs.Views.{ends}
 use Rattle.regress.specs.StateViews.{state_of}
+
+-- no group is set
+pub map-replicate : (n : ℕ) → map (option_map ends) (replicate n None) ≡ replicate n None
+map-replicate zero = refl
+map-replicate (suc n) = ap (λ (gs : List (Option (ℕ × ℕ))). None ∷ gs) (map-replicate n)
 
 module _ (context : Context) (dir : Direction) where
   -- behind the last part all stays

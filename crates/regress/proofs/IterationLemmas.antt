@@ -30,9 +30,9 @@ use Rattle.regress.specs.GroupNames.{group_count, shared_names}
 use Rattle.regress.specs.Standing.{StandsFor}
 use Rattle.regress.specs.Iterating.{place_within, coming_on, GivesFirst}
 use Rattle.regress.specs.Coming.{searching, items_from, StartsAt, searched, coming}
-use Rattle.regress.specs.NodeMatches.{node_match_list}
-use Rattle.regress.proofs.MatchLemmas.{matches_bounded}
-use Rattle.regress.proofs.AlikeLemmas.{match_list-same}
+use Rattle.regress_front_nodes.specs.NodeMatches.{node_match_list}
+use Rattle.regress_front_nodes.proofs.MatchLemmas.{matches_bounded}
+use Rattle.regress_front_nodes.proofs.AlikeMatches.{match_list-same}
 use Rattle.regress.proofs.TextLemmas.{code_points, length-encodes, offset_is_boundary, offset_of_end, offset-le}
 
 -- what is left from an element on

@@ -1,12 +1,8 @@
-pub mod TreeLaws
 pub mod Utf8Lemmas
 pub mod TextLemmas
 pub mod ToldLemmas
 pub mod EvaluatorLemmas
 pub mod RepetitionLemmas
-pub mod OutcomeLemmas
-pub mod MatchLemmas
-pub mod AlikeLemmas
 pub mod NumberLemmas
 pub mod NameLemmas
 pub mod IterationLemmas

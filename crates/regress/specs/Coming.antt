@@ -12,7 +12,7 @@ use Rattle.regress_front_nodes.specs.Trees.{tree}
 use Rattle.regress_front_tables.specs.TableViews.{table}
 use Rattle.regress_front_core.specs.FlagWords.{options}
 use Rattle.regress.specs.GroupViews.{names_of_match}
-use Rattle.regress.specs.NodeMatches.{node_match_list}
+use Rattle.regress_front_nodes.specs.NodeMatches.{node_match_list}
 use Rattle.regress.specs.GroupNames.{group_count, shared_names}
 use Rattle.regress.specs.TextViews.{utf8_reading}
 use Rattle.regress.specs.Iterating.{coming_on, steps_on, place_within}

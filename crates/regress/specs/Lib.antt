@@ -1,7 +1,6 @@
 pub mod Views
 pub mod TextViews
 pub mod Singles
-pub mod NodeMatches
 pub mod StateViews
 pub mod Repeating
 pub mod Standing

@@ -1,8 +1,6 @@
 -- How the values of the evaluator stand to those of the definitions.
-use Rattle.std.specs.Prelude.{ℕ, List, length, map, option_map, All, IfSome}
+use Rattle.std.specs.Prelude.{map, option_map}
 use Rattle.regress_meaning.specs.Meaning.{State, Direction, Forward, Backward, Context}
-use Rattle.regress_meaning.specs.Matches.{Item}
-use Rattle.regress_meaning.specs.Laws.{LiesIn}
 use Rattle.regress_front_tables.specs.TableViews.{table}
 use Rattle.regress.specs.declared.engine.state.State as evaluator
 use Rattle.regress.specs.declared.engine.steps.Direction as steps
@@ -22,8 +20,3 @@ direction_of ways.Backward = Backward
 -- the text, the table and the mode of an evaluator
 abbrev pub context_of : Evaluator → Context
 context_of e = record { text = e.points.now; table = table e.tables.now; unicode = e.unicode }
-
--- A match lies in a text: its range does, and each range that a group took.
-pub record IsItemInside (text : List ℕ) (i : Item) : Type 0 where
-  pub range : LiesIn (length text) (i.start, i.end)
-  pub groups : All (λ g. IfSome g (LiesIn (length text))) i.groups

@@ -1,3 +1,4 @@
+pub mod AlikeMatches
 pub mod ChangeLemmas
 pub mod CharacterLemmas
 pub mod CopyLemmas
@@ -5,7 +6,9 @@ pub mod CountLemmas
 pub mod DistinctLemmas
 pub mod EmptyBrackets
 pub mod KindLemmas
+pub mod MatchLemmas
 pub mod NodeLemmas
+pub mod OutcomeLemmas
 pub mod PieceLemmas
 pub mod PieceOutcomes
 pub mod SequenceLemmas

@@ -4,6 +4,7 @@ pub mod Characters
 pub mod Copies
 pub mod Forms
 pub mod Laws
+pub mod NodeMatches
 pub mod Pieces
 pub mod Singles
 pub mod Sizes

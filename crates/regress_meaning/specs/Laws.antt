@@ -18,6 +18,11 @@ pub record IsInside (text : List ℕ) (s : State) : Type 0 where
   pub place : s.place ≤ length text
   pub groups : All (λ g. IfSome g (LiesIn (length text))) s.groups
 
+-- A match lies in a text: its range does, and each range that a group took.
+pub record IsItemInside (text : List ℕ) (i : Item) : Type 0 where
+  pub range : LiesIn (length text) (i.start, i.end)
+  pub groups : All (λ g. IfSome g (LiesIn (length text))) i.groups
+
 -- the second place is the first, or on the side that is read next
 abbrev pub IsAhead : Direction → ℕ → ℕ → Type 0
 IsAhead Forward p q = p ≤ q

@@ -20,7 +20,7 @@ ghost use Rattle.regress_meaning.specs.Weights.{weight};
 ghost use Rattle.regress_meaning.specs.Meaning.{State, Direction, Context, outcomes};
 ghost use Rattle.regress_meaning.specs.Matches.{Item, first_match, match_list, next_place};
 ghost use Rattle.regress_meaning.specs.Offsets.{of_utf8, of_ascii, of_utf16, of_ucs2};
-ghost use Rattle.regress_meaning.specs.Laws.{IsInside, IsAhead, ItemsRise, OffsetsRise, in_group, LeavesLess, ContentsBySteps};
+ghost use Rattle.regress_meaning.specs.Laws.{IsInside, IsItemInside, IsAhead, ItemsRise, OffsetsRise, in_group, LeavesLess, ContentsBySteps};
 
 /// The closure of a closed set is that set, whatever the canon.
 pub fn closure_is_idempotent()
@@ -100,6 +100,12 @@ pub fn outcomes_stay_inside()
 /// No outcome lies behind the state that it comes from, in the direction in which the text is read.
 pub fn outcomes_go_ahead()
     ensures { (context : Context) → (p : Pattern) → (dir : Direction) → (e : Settings) → (s : State) → All (λ t. IsAhead dir s.place t.place) (outcomes context p dir e s) }
+{}
+
+/// Each item of a match list lies in the text, with the range of each of its groups, and it has as many groups as the pattern.
+pub fn items_lie_in_the_text()
+    ensures inside { (table : Table) → (o : Options) → (p : Pattern) → (text : List ℕ) → (place : ℕ) → All (IsItemInside text) (match_list table o p text place) }
+    ensures groups { (table : Table) → (o : Options) → (p : Pattern) → (text : List ℕ) → (place : ℕ) → All (λ i. length i.groups ≡ length (names_of p)) (match_list table o p text place) }
 {}
 
 /// In a match list starts strictly increase, and each is at least the end before it.

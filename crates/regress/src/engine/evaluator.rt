@@ -5,12 +5,13 @@ ghost use Rattle.std.specs.List.{flat_map};
 ghost use Rattle.regress_front_nodes.specs.Trees.{tree, cat_of, anchor_of, boundary, loop};
 ghost use Rattle.regress_front_nodes.specs.TreeMeaning.{node_outcomes, literal_steps, alternatives};
 ghost use Rattle.regress_meaning.specs.Meaning.{Forward, Backward, captured, looked};
+ghost use Rattle.regress_meaning.specs.Laws.{IsItemInside};
 ghost use Rattle.regress_front_core.specs.Quantifiers.{most};
-ghost use Rattle.regress.specs.NodeMatches.{node_attempt, node_first_match};
+ghost use Rattle.regress_front_nodes.specs.NodeMatches.{node_attempt, node_first_match};
 ghost use Rattle.regress.specs.Views.{item_of};
 ghost use Rattle.regress.specs.GroupNames.{shared_names, group_count};
 ghost use Rattle.regress.specs.GroupViews.{names_of_match};
-ghost use Rattle.regress.specs.StateViews.{state_of, context_of, direction_of, IsItemInside};
+ghost use Rattle.regress.specs.StateViews.{state_of, context_of, direction_of};
 
 use crate::engine::found::Match;
 use crate::engine::singles::Single;

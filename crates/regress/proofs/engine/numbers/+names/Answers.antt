@@ -2,7 +2,7 @@ use Rattle.std.proofs.Common.{option_map, arith}
 use Rattle.regress_front_nodes.specs.Trees.{tree}
 use Rattle.regress.specs.GroupNames.{characters_of}
 use Rattle.regress.proofs.NameLemmas.{renamed-capture, renamed-past}
-use Rattle.regress.proofs.TreeLaws.{tree-CaptureGroup}
+use Rattle.regress_front_nodes.proofs.TreeLaws.{tree-CaptureGroup}
 use Rattle.regress.proofs.engine.numbers.+names.Goals as goal
 
 pub write_names-returns-in_ok-rename-in-CaptureGroup : goal.write_names-returns-in_ok-rename-in-CaptureGroup

@@ -2,7 +2,7 @@ use Rattle.std.proofs.Common.{refl, arith}
 use Rattle.regress_front_nodes.specs.Trees.{tree}
 use Rattle.regress_front_nodes.specs.WellFormed.{group_ids}
 use Rattle.regress.proofs.NumberLemmas.{bound_of-append, bound-more}
-use Rattle.regress.proofs.TreeLaws.{tree-Alt}
+use Rattle.regress_front_nodes.proofs.TreeLaws.{tree-Alt}
 use Rattle.regress.proofs.engine.numbers.+numbers.Goals as goal
 
 pub group_bound-returns-in-Alt : goal.group_bound-returns-in-Alt

@@ -10,7 +10,7 @@ use Rattle.regress_front_nodes.specs.declared.node.Node.TheVariants as node
 use Rattle.regress.specs.declared.engine.tasks.Task.{Task}
 use Rattle.regress.proofs.EvaluatorLemmas.{flat_map-no_part, parts_more, changed_more, changed_all}
 use Rattle.regress.proofs.RepetitionLemmas.{run, single_loop-is_loop, outcomes_of_task, outcomes_of_tasks, outcomes_of_tasks-start, outcomes_of_task-last, outcomes_of_tasks-emit, outcomes_of_tasks-expand, turns_of_task, turns-last, turns_of_tasks-emit, turns_of_tasks-expand}
-use Rattle.regress.proofs.TreeLaws.{tree-Empty, tree-Goal, tree-Char, tree-ByteSequence, tree-ByteSet, tree-CharSet, tree-Cat, tree-Alt, tree-MatchAny, tree-MatchAnyExceptLineTerminator, tree-Anchor, tree-WordBoundary, tree-CaptureGroup, tree-BackRef, tree-Bracket, tree-StringSet, tree-LookaroundAssertion, tree-Loop, tree-Loop1CharBody}
+use Rattle.regress_front_nodes.proofs.TreeLaws.{tree-Empty, tree-Goal, tree-Char, tree-ByteSequence, tree-ByteSet, tree-CharSet, tree-Cat, tree-Alt, tree-MatchAny, tree-MatchAnyExceptLineTerminator, tree-Anchor, tree-WordBoundary, tree-CaptureGroup, tree-BackRef, tree-Bracket, tree-StringSet, tree-LookaroundAssertion, tree-Loop, tree-Loop1CharBody}
 use Rattle.regress.proofs.engine.evaluator.Evaluator.+evaluator.Goals as goal
 
 pub outcomes-returns-in-Empty : goal.outcomes-returns-in-Empty

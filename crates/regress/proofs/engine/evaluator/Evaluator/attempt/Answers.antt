@@ -5,7 +5,8 @@ use Rattle.regress_front_nodes.specs.Trees.{tree}
 use Rattle.regress.specs.Views.{ends}
 use Rattle.regress.specs.GroupNames.{group_count}
 use Rattle.regress.specs.StateViews.{state_of, context_of}
-use Rattle.regress.proofs.MatchLemmas.{map-replicate, attempt-is, first-inside}
+use Rattle.regress_front_nodes.proofs.MatchLemmas.{attempt-is, first-inside}
+use Rattle.regress.proofs.EvaluatorLemmas.{map-replicate}
 use Rattle.regress.proofs.engine.evaluator.Evaluator.attempt.Goals as goal
 
 pub returns-in_default-clause-value : goal.returns-in_default-clause-value

@@ -3,7 +3,7 @@ use Rattle.regress_front_nodes.specs.Trees.{tree}
 use Rattle.regress.specs.Views.{item_of}
 use Rattle.regress.specs.GroupNames.{group_count}
 use Rattle.regress.specs.StateViews.{context_of}
-use Rattle.regress.proofs.MatchLemmas.{first_match-found, first_match-more, first_match_past}
+use Rattle.regress_front_nodes.proofs.MatchLemmas.{first_match-found, first_match-more, first_match_past}
 use Rattle.regress.proofs.engine.evaluator.Evaluator.first_match.Goals.{else-loop-start-test, then-loop-start-test+in_ok-found+in_default+else-start-start-end}
 use Rattle.regress.proofs.engine.evaluator.Evaluator.first_match.Goals as goal
 

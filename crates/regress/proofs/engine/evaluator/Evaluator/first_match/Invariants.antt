@@ -1,6 +1,6 @@
 use Rattle.std.proofs.Common.{◌≡◌}
 use Rattle.regress_front_nodes.specs.Trees.{tree}
-use Rattle.regress.specs.NodeMatches.{node_first_match}
+use Rattle.regress_front_nodes.specs.NodeMatches.{node_first_match}
 use Rattle.regress.specs.GroupNames.{group_count}
 use Rattle.regress.specs.StateViews.{context_of}
 use Rattle.regress.proofs.engine.evaluator.Evaluator.first_match.Given as goal

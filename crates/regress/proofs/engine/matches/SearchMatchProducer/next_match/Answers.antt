@@ -4,7 +4,7 @@ use Rattle.regress_meaning.specs.Meaning.{Context}
 use Rattle.regress_meaning.specs.Matches.{Item, next_place}
 use Rattle.regress_meaning.specs.Offsets.{offset, told}
 use Rattle.regress_front_nodes.specs.Trees.{tree}
-use Rattle.regress.specs.NodeMatches.{node_first_match, node_match_list}
+use Rattle.regress_front_nodes.specs.NodeMatches.{node_first_match, node_match_list}
 use Rattle.regress.specs.GroupNames.{group_count, shared_names}
 use Rattle.regress.specs.GroupViews.{names_of_match}
 use Rattle.regress.specs.StateViews.{context_of}
@@ -13,7 +13,7 @@ use Rattle.regress.specs.Views.{item_of}
 use Rattle.regress.specs.Iterating.{coming_on}
 use Rattle.regress.specs.Coming.{searching, items_from}
 use Rattle.regress.proofs.TextLemmas.{offset-le}
-use Rattle.regress.proofs.MatchLemmas.{first_match_past, matches_go, matches_end, first_match-later}
+use Rattle.regress_front_nodes.proofs.MatchLemmas.{first_match_past, matches_go, matches_end, first_match-later}
 use Rattle.regress.proofs.IterationLemmas.{offset_is_boundary_of_points, coming_on_within}
 use Rattle.regress.proofs.engine.matches.SearchMatchProducer.next_match.Goals as goal
 

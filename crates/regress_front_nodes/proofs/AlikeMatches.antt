@@ -1,18 +1,18 @@
 -- A tree that is alike a pattern has its matches.
-use Rattle.std.proofs.Common.{◌≡◌, ℕ, zero, suc, ◌+◌, ◌-◌, ◌<◌, ◌≤◌, List, [], ◌∷◌, length, Option, Some, None, replicate, All, refl, ap, arith}
+use Rattle.std.proofs.Common.{◌≡◌, ℕ, ◌≤◌, List, [], ◌∷◌, length, Option, Some, None, replicate, All, IfSome, refl, ap}
 use Rattle.std.proofs.lemmas.List.Elements.{All-replicate}
-use Rattle.std.specs.Prelude.{IfSome}
 use Rattle.regress_meaning.specs.Table.{Table}
 use Rattle.regress_meaning.specs.TableParts.{is_code_point}
 use Rattle.regress_meaning.specs.Pattern.{Pattern, names_of}
 use Rattle.regress_meaning.specs.Flags.{Options, is_unicode, first_settings}
 use Rattle.regress_meaning.specs.Meaning.{State, Context, Forward, outcomes}
-use Rattle.regress_meaning.specs.Matches.{Item, item_at, first_from, list_from, attempt, first_match, match_list}
+use Rattle.regress_meaning.specs.Matches.{item_at, attempt, match_list}
 use Rattle.regress_meaning.specs.Laws.{LiesIn, IsInside}
+use Rattle.regress_meaning.proofs.MatchLaws.{all_found-same}
 use Rattle.regress_front_nodes.specs.Trees.{Tree}
 use Rattle.regress_front_nodes.specs.TreeMeaning.{node_outcomes}
 use Rattle.regress_front_nodes.specs.Alike.{distinct, IsAlike}
-use Rattle.regress.specs.NodeMatches.{node_attempt, node_first_match, node_match_list}
+use Rattle.regress_front_nodes.specs.NodeMatches.{node_attempt, node_match_list}
 
 -- lists of the same distinct states have the same first
 item-same : (q : ℕ) (ss ts : List State) → distinct ss ≡ distinct ts → item_at q ss ≡ item_at q ts
@@ -21,13 +21,6 @@ item-same q [] [] e = refl
 item-same q [] (t ∷ ts) e = absurd (cc)
 item-same q (s ∷ ss) [] e = absurd (cc)
 item-same q (s ∷ ss) (t ∷ ts) e = let same : s ≡ t = cc in ap (λ (u : State). Some (record { start = q; end = u.place; groups = u.groups })) same
-
--- the first item is the same where each place of the text has the same
-first_from-same : (f g : ℕ → Option Item) (last n p : ℕ) → ((q : ℕ) → q ≤ last → f q ≡ g q) → (0 < n → p + n ≤ last + 1) → first_from f n p ≡ first_from g n p
-unfolding first_from
-first_from-same f g last zero p each within = refl
-first_from-same f g last (suc n) p each within =
-    rw (each p (omega (arith, within (omega arith))), first_from-same f g last n (p + 1) each (λ some. omega (arith, within (omega arith)))) refl
 
 module _ (table : Table) (o : Options) (p : Pattern) (text : List ℕ) (tree : Tree) (count : ℕ) (counted : count ≡ length (names_of p))
     (alike : IsAlike table (is_unicode o) (λ context. node_outcomes context tree Forward) (λ context. outcomes context p Forward (first_settings o)))
@@ -44,11 +37,7 @@ module _ (table : Table) (o : Options) (p : Pattern) (text : List ℕ) (tree : T
       let begins : IsInside text s = record { place = within; groups = All-replicate lies (length (names_of p)) None tt } in
       rw counted (item-same q (node_outcomes context tree Forward s) (outcomes context p Forward (first_settings o) s) (alike text points s begins))
 
-  first_match-same : (q : ℕ) → node_first_match context count tree q ≡ first_match table o p text q
-  unfolding node_first_match first_match
-  first_match-same q = first_from-same (node_attempt context count tree) (attempt table o p text) (length text) (length text + 1 - q) q attempt-same (λ some. omega arith)
-
   -- the match lists are the same
   pub match_list-same : (q : ℕ) → node_match_list context count tree q ≡ match_list table o p text q
   unfolding node_match_list match_list
-  match_list-same q = ap (λ (found : ℕ → Option Item). list_from found (length text + 1 - q) q) (λ i r. first_match-same r i)
+  match_list-same q = all_found-same (node_attempt context count tree) (attempt table o p text) (length text) attempt-same q
