@@ -3,3 +3,9 @@
 
 #[cfg(test)]
 mod bytes;
+#[cfg(test)]
+mod core_values;
+#[cfg(test)]
+mod sets;
+#[cfg(test)]
+mod tables;

@@ -63,35 +63,3 @@ impl<T: Drop> From<AllocFailed<T>> for Error {
         Error::OutOfMemory
     }
 }
-
-#[cfg(test)]
-mod tests {
-    use super::*;
-    use std::alloc::Global;
-    use std::test::Fail;
-
-    fn is_written(alloc: Global, error: Error, expected: &str) -> Result<bool, AllocError> {
-        let text = error.to_string(alloc)?;
-        Ok(text.as_str() == expected)
-    }
-
-    #[test]
-    fn each_error_has_its_text(rt: HostRuntime) -> Result<(), Fail> {
-        let syntax = Error::Syntax {
-            text: "Unbalanced parenthesis",
-        };
-        assert!(rt; is_written(rt.alloc(), syntax, "Unbalanced parenthesis")?);
-        assert!(rt; is_written(rt.alloc(), Error::TooDeep, "pattern is nested too deeply")?);
-        assert!(rt; is_written(rt.alloc(), Error::TooManyGroups, "too many capture groups")?);
-        assert!(rt; is_written(rt.alloc(), Error::TooManyLoops, "too many quantifiers")?);
-        assert!(rt; is_written(rt.alloc(), Error::TooLarge, "program is too large")?);
-        assert!(rt; is_written(rt.alloc(), Error::OutOfMemory, "out of memory")?);
-        Ok(())
-    }
-
-    #[test]
-    fn refused_memory_is_told(rt: HostRuntime) {
-        assert_eq!(rt; Error::from(AllocError), Error::OutOfMemory);
-        assert_eq!(rt; Error::from(AllocFailed { value: 1u8 }), Error::OutOfMemory);
-    }
-}

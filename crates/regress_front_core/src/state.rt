@@ -73,30 +73,3 @@ impl<P: Copy> GroupData<P> {
         *self = GroupData::new();
     }
 }
-
-#[cfg(test)]
-mod tests {
-    use super::*;
-
-    #[test]
-    fn a_loop_begins_with_no_iteration(rt: HostRuntime) {
-        let data = LoopData::new(7);
-        assert_eq!(rt; data.iters, 0);
-        assert_eq!(rt; data.entry, 7);
-    }
-
-    #[test]
-    fn a_group_has_a_range_once_both_ends_are_known(rt: HostRuntime) {
-        let mut group: GroupData<usize> = GroupData::new();
-        assert!(rt; !group.start_matched());
-        assert_eq!(rt; group.as_range(), None);
-        group.start = Some(3);
-        assert!(rt; group.start_matched() && !group.end_matched());
-        assert_eq!(rt; group.as_range(), None);
-        group.end = Some(5);
-        assert!(rt; group.end_matched());
-        assert_eq!(rt; group.as_range(), Some(3..5));
-        group.reset();
-        assert!(rt; !group.start_matched() && !group.end_matched());
-    }
-}

@@ -145,27 +145,3 @@ pub fn is_ascii_word(point: CodePoint) -> bool
         Some('0'..='9' | 'A'..='Z' | 'a'..='z' | '_')
     )
 }
-
-#[cfg(test)]
-mod tests {
-    use super::*;
-
-    #[test]
-    fn class_intervals_have_their_ends(rt: HostRuntime) {
-        assert!(rt; word_chars()[2].contains(0x5F));
-        assert!(rt; !word_chars()[3].contains(0x7B));
-        assert!(rt; digits()[0].contains(0x39));
-        assert!(rt; whitespace()[9].contains(0xFEFF));
-        assert!(rt; line_terminator()[2].contains(0x2029));
-    }
-
-    #[test]
-    fn words_are_of_letters_digits_and_the_low_line(rt: HostRuntime) {
-        for point in [0x30, 0x39, 0x41, 0x5A, 0x5F, 0x61, 0x7A] {
-            assert!(rt; is_ascii_word(point));
-        }
-        for point in [0x2F, 0x3A, 0x40, 0x5B, 0x60, 0x7B, 0x17F, 0x110000] {
-            assert!(rt; !is_ascii_word(point));
-        }
-    }
-}

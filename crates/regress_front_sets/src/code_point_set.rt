@@ -4,13 +4,13 @@ ghost use Rattle.regress_meaning.specs.TableParts.{IntervalsRise};
 ghost use Rattle.regress_front_sets.specs.Props.{IntervalsRise-prop};
 ghost use Rattle.regress_front_sets.specs.Intervals.{ends, ends_of, in_interval, IsRun, gap, inverse};
 
-use regress_front_core::Error;
 use crate::interval::{CODE_POINT_MAX, CodePoint, Interval};
 pub use laws::{equal_members_equal_intervals, inverted_twice_is_the_same};
+use regress_front_core::Error;
 
 mod laws;
 
-use std::alloc::Global;
+use std::alloc::{AllocError, Global};
 use std::ops::Range;
 
 /// A set of code points.
@@ -112,9 +112,8 @@ impl CodePointSet {
     }
 
     /// The members of either set: both are walked in order, and the lower interval of the two is taken each time.
-    fn union(&self, other: &CodePointSet) -> Result<CodePointSet, Error>
-        ensures members { IfOk result (λ s. (c : ℕ) → in_set s c ≡ (in_set self.now c || in_set other.now c)) }
-        ensures refused { IsOkUnless result Error.OutOfMemory }
+    fn union(&self, other: &CodePointSet) -> Result<CodePointSet, AllocError>
+        ensures { IfOk result (λ s. (c : ℕ) → in_set s c ≡ (in_set self.now c || in_set other.now c)) }
     {
         let left = self.intervals();
         let right = other.intervals();
@@ -134,11 +133,10 @@ impl CodePointSet {
     }
 
     /// Adds each code point of an interval that begins no earlier than any of the set.
-    fn push(&mut self, next: Interval) -> Result<(), Error>
+    fn push(&mut self, next: Interval) -> Result<(), AllocError>
         requires { All (λ i. i.first ≤ next.first) self.old.intervals.items }
         ensures members { OnOk result ((c : ℕ) → in_set self.new c ≡ (in_set self.old c || in_interval next c)) }
         ensures order { OnOk result (All (λ i. i.first ≤ next.first) self.new.intervals.items) }
-        ensures refused { IsOkUnless result Error.OutOfMemory }
     {
         let len = self.intervals.len();
         if len > 0 {
@@ -163,9 +161,8 @@ impl CodePointSet {
     }
 
     /// The intervals of the code points that are no members.
-    fn gaps(&self) -> Result<Vec<Interval>, Error>
-        ensures intervals { IfOk result (λ gaps. ends_of gaps.items ≡ inverse (ends_of self.now.intervals.items)) }
-        ensures refused { IsOkUnless result Error.OutOfMemory }
+    fn gaps(&self) -> Result<Vec<Interval>, AllocError>
+        ensures { IfOk result (λ gaps. ends_of gaps.items ≡ inverse (ends_of self.now.intervals.items)) }
     {
         let mut gaps = Vec::new(*self.intervals.allocator());
         let mut next = 0;
@@ -193,10 +190,9 @@ impl CodePointSet {
 }
 
 /// Adds the code points from one up to another, without it, as an interval, if there are any.
-fn push_gap(gaps: &mut Vec<Interval>, start: CodePoint, end: u32) -> Result<(), Error>
+fn push_gap(gaps: &mut Vec<Interval>, start: CodePoint, end: u32) -> Result<(), AllocError>
     requires { end ≤ CODE_POINT_MAX + 1 }
-    ensures gap { OnOk result (ends_of gaps.new.items ≡ ends_of gaps.old.items ++ gap start end) }
-    ensures refused { IsOkUnless result Error.OutOfMemory }
+    ensures { OnOk result (ends_of gaps.new.items ≡ ends_of gaps.old.items ++ gap start end) }
 {
     if start < end {
         gaps.push(Interval {
@@ -205,127 +201,4 @@ fn push_gap(gaps: &mut Vec<Interval>, start: CodePoint, end: u32) -> Result<(), 
         })?;
     }
     Ok(())
-}
-
-#[cfg(test)]
-mod tests {
-    use super::*;
-    use std::test::Fail;
-
-    fn interval(first: CodePoint, last: CodePoint) -> Interval
-        requires ordered { first ≤ last }
-        requires bounded { last ≤ CODE_POINT_MAX }
-    {
-        Interval { first, last }
-    }
-
-    fn set_of(alloc: Global, intervals: &[Interval]) -> Result<CodePointSet, Error> {
-        let mut set = CodePointSet::new(alloc);
-        for interval in intervals {
-            set.add(*interval)?;
-        }
-        Ok(set)
-    }
-
-    fn has_intervals(set: &CodePointSet, expected: &[(CodePoint, CodePoint)]) -> bool {
-        let intervals = set.intervals();
-        intervals.len() == expected.len()
-            && intervals
-                .iter()
-                .zip(expected)
-                .all(|(i, e)| i.first == e.0 && i.last == e.1)
-    }
-
-    #[test]
-    fn intervals_that_adjoin_become_one(rt: HostRuntime) -> Result<(), Fail> {
-        let mut set = set_of(
-            rt.alloc(),
-            &[interval(8, 9), interval(1, 3), interval(4, 6)],
-        )?;
-        assert!(rt; has_intervals(&set, &[(1, 6), (8, 9)]));
-        set.add_one(7)?;
-        assert!(rt; has_intervals(&set, &[(1, 9)]));
-        Ok(())
-    }
-
-    #[test]
-    fn intervals_that_overlap_become_one(rt: HostRuntime) -> Result<(), Fail> {
-        let mut set = set_of(
-            rt.alloc(),
-            &[
-                interval(1, 2),
-                interval(5, 6),
-                interval(9, 12),
-                interval(20, 20),
-            ],
-        )?;
-        set.add(interval(6, 10))?;
-        assert!(rt; has_intervals(&set, &[(1, 2), (5, 12), (20, 20)]));
-        set.add(interval(0, CODE_POINT_MAX))?;
-        assert!(rt; has_intervals(&set, &[(0, CODE_POINT_MAX)]));
-        Ok(())
-    }
-
-    #[test]
-    fn a_union_has_the_members_of_both(rt: HostRuntime) -> Result<(), Fail> {
-        let mut set = set_of(rt.alloc(), &[interval(1, 2), interval(7, 9)])?;
-        set.add_set(set_of(
-            rt.alloc(),
-            &[interval(3, 4), interval(6, 6), interval(11, 12)],
-        )?)?;
-        assert!(rt; has_intervals(&set, &[(1, 4), (6, 9), (11, 12)]));
-        set.add_set(CodePointSet::new(rt.alloc()))?;
-        assert!(rt; has_intervals(&set, &[(1, 4), (6, 9), (11, 12)]));
-        Ok(())
-    }
-
-    #[test]
-    fn the_inverse_has_all_else(rt: HostRuntime) -> Result<(), Fail> {
-        let empty = CodePointSet::new(rt.alloc());
-        assert_eq!(rt; empty.inverted_interval_count(), 1);
-        let all = empty.inverted()?;
-        assert!(rt; has_intervals(&all, &[(0, CODE_POINT_MAX)]));
-        assert_eq!(rt; all.inverted_interval_count(), 0);
-        assert!(rt; has_intervals(&all.inverted()?, &[]));
-        let some = set_of(rt.alloc(), &[interval(0, 4), interval(6, 9)])?;
-        assert_eq!(rt; some.inverted_interval_count(), 2);
-        assert!(rt; has_intervals(&some.inverted()?, &[(5, 5), (10, CODE_POINT_MAX)]));
-        Ok(())
-    }
-
-    #[test]
-    fn members_lie_between_both_ends(rt: HostRuntime) -> Result<(), Fail> {
-        let set = set_of(rt.alloc(), &[interval(2, 3), interval(7, 7)])?;
-        assert!(rt; !set.contains(1));
-        assert!(rt; set.contains(2));
-        assert!(rt; set.contains(3));
-        assert!(rt; !set.contains(4));
-        assert!(rt; !set.contains(6));
-        assert!(rt; set.contains(7));
-        assert!(rt; !set.contains(8));
-        Ok(())
-    }
-
-    #[test]
-    fn sorted_intervals_are_taken_as_they_are(rt: HostRuntime) -> Result<(), Fail> {
-        let intervals = vec![in rt.alloc(); interval(1, 2)]?;
-        let set = CodePointSet::from_sorted_disjoint_intervals(intervals);
-        assert!(rt; has_intervals(&set, &[(1, 2)]));
-        Ok(())
-    }
-
-    #[test]
-    fn a_set_that_is_refused_memory_stays(rt: HostRuntime) {
-        let mut set = CodePointSet::new(rt.alloc());
-        let added = set.add(interval(1, 2)).is_ok();
-        assert_eq!(rt; set.contains(1), added);
-        if let Ok(other) = set_of(rt.alloc(), &[interval(5, 6)]) {
-            let joined = set.add_set(other).is_ok();
-            assert_eq!(rt; set.contains(1), added);
-            assert_eq!(rt; set.contains(6), joined);
-        }
-        if let Ok(inverse) = set.inverted() {
-            assert_eq!(rt; inverse.contains(1), !added);
-        }
-    }
 }

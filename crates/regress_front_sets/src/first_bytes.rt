@@ -28,27 +28,3 @@ fn add_first_bytes(first: u8, last: u8, bitmap: &mut ByteBitmap)
         }
     }
 }
-
-#[cfg(test)]
-mod tests {
-    use super::*;
-
-    #[test]
-    fn first_bytes_are_those_of_some_code_point(rt: HostRuntime) {
-        let mut bitmap = ByteBitmap::default();
-        let interval = Interval {
-            first: 0x7E,
-            last: 0x80,
-        };
-        add_utf8_first_bytes_to_bitmap(interval, &mut bitmap);
-        assert_eq!(rt; bitmap.count_bits(), 3);
-        assert!(rt; bitmap.contains(0x7E) && bitmap.contains(0x7F) && bitmap.contains(0xC2));
-        let surrogates = Interval {
-            first: 0xD800,
-            last: 0x1_0000,
-        };
-        add_utf8_first_bytes_to_bitmap(surrogates, &mut bitmap);
-        assert_eq!(rt; bitmap.count_bits(), 7);
-        assert!(rt; bitmap.contains(0xED) && bitmap.contains(0xEF) && bitmap.contains(0xF0));
-    }
-}

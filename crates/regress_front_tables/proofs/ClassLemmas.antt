@@ -38,7 +38,7 @@ unfolding count_below
 count_below-suc n test = refl
 
 -- tests that agree below n let as many pass
-count_below-same : (n : ℕ) (s t : ℕ → Bool) → ((c : ℕ) → c < n → s c ≡ t c) → count_below n s ≡ count_below n t
+pub count_below-same : (n : ℕ) (s t : ℕ → Bool) → ((c : ℕ) → c < n → s c ≡ t c) → count_below n s ≡ count_below n t
 count_below-same zero s t h = count_below-zero s ∙ sym (count_below-zero t)
 count_below-same (suc n) s t h =
     let here : one_if (s n) ≡ one_if (t n) = ap (λ b. one_if b) (h n (le_refl (suc n))) in

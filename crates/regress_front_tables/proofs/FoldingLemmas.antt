@@ -16,6 +16,7 @@ use Rattle.regress_meaning.specs.Table.{some_below, count_below, closure, code_p
 use Rattle.regress_meaning.specs.TableParts.{TableParts, IsLawful, image, PairsRise, is_code_point}
 use Rattle.regress_front_tables.specs.Folding.{Lists, IsCaseMap, GrowsInside}
 use Rattle.regress_front_sets.proofs.IntervalLemmas.{same_bool}
+use Rattle.regress_front_tables.proofs.ClassLemmas.{count_below-same}
 use Rattle.regress_front_tables.proofs.ImageLemmas.{PairsRise-at, All-image, image-listed, image-unlisted, image_cases}
 
 -- ---- closures
@@ -159,13 +160,6 @@ count_below-mono (suc n) s t h = go (s n) (t n) (h n) _ _ (count_below-mono n s 
     go true true k i j l = omega arith
     go true false k i j l = absurd (false≢true (k refl))
 
--- two tests that agree below n pass equally many
-count_below-agree : (n : ℕ) (s t : ℕ → Bool) → ((c : ℕ) → c < n → s c ≡ t c) → count_below n s ≡ count_below n t
-unfolding count_below
-count_below-agree zero s t h = refl
-count_below-agree (suc n) s t h =
-    ap₂ (λ b k. cond b 1 0 + k) (h n (omega arith)) (count_below-agree n s t (λ c l. h c (omega arith)))
-
 -- one more number is one more
 count_below-cons : (n x : ℕ) (t : ℕ → Bool) → x < n → t x ≡ false → count_below n (λ c. x == c || t c) ≡ suc (count_below n t)
 unfolding count_below
@@ -175,7 +169,7 @@ count_below-cons (suc n) x t l h =
       | inl e ↦
           let here : (x == n) ≡ true = eq-eqb x n e in
           let none : t n ≡ false = ap t (sym e) ∙ h in
-          let rest = count_below-agree n (λ c. x == c || t c) t (λ c m. ap (λ b. b || t c) (ne_eqb x c (λ q. omega arith))) in
+          let rest = count_below-same n (λ c. x == c || t c) t (λ c m. ap (λ b. b || t c) (ne_eqb x c (λ q. omega arith))) in
           rw (here, none) (omega (arith, rest))
       | inr ne ↦
           let other : (x == n) ≡ false = ne_eqb x n ne in

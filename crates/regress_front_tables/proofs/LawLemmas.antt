@@ -1,5 +1,5 @@
 -- Of a law that is kept nothing is told, and what is told of the first that isn't.
-use Rattle.std.proofs.Common.{◌≡◌, ℕ, zero, suc, ◌<◌, Option, Result, Ok, Err, None, Some, MatchOption, IfNone, IfSome, IfErr, IsOkUnless, refl, sym, ap, subst, ◌∙◌, inl, inr, arith}
+use Rattle.std.proofs.Common.{◌≡◌, ℕ, zero, suc, ◌+◌, ◌<◌, Result, Ok, Err, IfErr, IsOkUnless, refl, sym, ap, subst, ◌∙◌, inl, inr, arith}
 use Rattle.std.proofs.lemmas.Bool.{cases_eq}
 use Rattle.std.proofs.lemmas.List.Elements.{All-contains}
 use Rattle.regress_meaning.specs.TableParts.{TableParts, IsLawful, BothMaps, HasAsciiCase, IsIdempotentAt, HasSmallClass, AvoidsSurrogates, KeepsIdentifierAt, KeepsRange, KeepsOrder, KeepsCanonical, is_code_point}
@@ -7,20 +7,9 @@ use Rattle.regress_front_tables.specs.declared.tables.law.TableError.{TableError
 use Rattle.regress_front_tables.specs.declared.tables.law.TableError.TheVariants.{Broken, OutOfMemory}
 use Rattle.regress_front_tables.specs.declared.tables.law.TableLaw.{TableLaw}
 use Rattle.regress_front_tables.specs.declared.tables.law.TableLaw.TheVariants.{Range, Order, AsciiCase, Idempotent, ClassSize, Surrogate, Canonical, Identifier}
-use Rattle.regress_front_tables.specs.Breaking.{Tells, TellsBroken, rank, numbers, IsFirstBroken}
+use Rattle.regress_front_tables.specs.Breaking.{Keeps, KeepsFirst, Tells, TellsBroken, rank, numbers, IsFirstBroken}
 use Rattle.regress_front_tables.proofs.OrderLemmas.{out_of_order-none, out_of_place-none}
 use Rattle.regress_front_tables.proofs.RangeLemmas.{All-numbers}
-
--- the parts keep the law
-abbrev pub Keeps : TableLaw → TableParts → Type 0
-Keeps Range parts = KeepsRange parts
-Keeps Order parts = KeepsOrder parts
-Keeps AsciiCase parts = (c : ℕ) → c < 0x80 → HasAsciiCase parts c
-Keeps Idempotent parts = BothMaps parts (λ pairs. (c : ℕ) → IsIdempotentAt c pairs)
-Keeps ClassSize parts = BothMaps parts (λ pairs. (d : ℕ) → HasSmallClass d pairs)
-Keeps Surrogate parts = BothMaps parts (λ pairs. (c : ℕ) → AvoidsSurrogates c pairs)
-Keeps Canonical parts = KeepsCanonical parts
-Keeps Identifier parts = (c : ℕ) → KeepsIdentifierAt parts c
 
 -- lawful parts keep each law
 pub Keeps-lawful : (law : TableLaw) (parts : TableParts) → IsLawful parts → Keeps law parts
@@ -46,10 +35,6 @@ tells_nothing ClassSize parts kept c told = told.holds (kept.0 c, kept.1 c)
 tells_nothing Surrogate parts kept c told = told.holds (kept.0 c, kept.1 c)
 tells_nothing Canonical parts kept c told = let none = out_of_place-none parts kept in cc
 tells_nothing Identifier parts kept c told = told.holds (kept c)
-
--- the parts keep the first n laws
-abbrev pub KeepsFirst : ℕ → TableParts → Type 0
-KeepsFirst n parts = (law : TableLaw) → rank law < n → Keeps law parts
 
 -- the law with that rank
 abbrev law_at : ℕ → TableLaw
@@ -77,7 +62,7 @@ pub KeepsFirst-none : (parts : TableParts) → KeepsFirst 0 parts
 KeepsFirst-none parts law l = absurd (omega arith)
 
 -- one more law is kept
-pub KeepsFirst-more : (law : TableLaw) (parts : TableParts) → KeepsFirst (rank law) parts → Keeps law parts → KeepsFirst (suc (rank law)) parts
+pub KeepsFirst-more : (law : TableLaw) (parts : TableParts) → KeepsFirst (rank law) parts → Keeps law parts → KeepsFirst (rank law + 1) parts
 KeepsFirst-more law parts first kept other l =
     elim (cases_eq (rank other) (rank law)) [
       | inl e ↦ subst (λ x. Keeps x parts) (sym (law_at-rank law) ∙ ap law_at (sym e) ∙ law_at-rank other) kept
@@ -88,19 +73,6 @@ KeepsFirst-more law parts first kept other l =
 pub IsFirstBroken-from : (law : TableLaw) (parts : TableParts) → KeepsFirst (rank law) parts → (c : ℕ) → Tells law parts c → IsFirstBroken law parts c
 IsFirstBroken-from law parts first c told =
     record { told = told; first = λ earlier l. tells_nothing earlier parts (first earlier l) }
-
--- a law of which nothing is told, by a call that errs where something is, is kept
-pub Keeps-from_ok : (law : TableLaw) (parts : TableParts) (told : Option ℕ) (result : Result (Unit {0}) TableError)
-    → MatchOption told (result ≡ Ok tt) (λ c. result ≡ Err (Broken law c)) → result ≡ Ok tt → IfNone told (Keeps law parts) → Keeps law parts
-Keeps-from_ok law parts None result says ok kept = kept
-Keeps-from_ok law parts (Some c) result says ok kept = absurd (cc)
-
--- where that call errs, its error tells the first law that is broken
-pub TellsBroken-from_told : (law : TableLaw) (parts : TableParts) (told : Option ℕ) (result : Result (Unit {0}) TableError)
-    → MatchOption told (result ≡ Ok tt) (λ c. result ≡ Err (Broken law c)) → IfSome told (Tells law parts) → KeepsFirst (rank law) parts
-    → IfErr result (λ e. TellsBroken e parts)
-TellsBroken-from_told law parts None result says broken first = rw says tt
-TellsBroken-from_told law parts (Some c) result says broken first = rw says (IsFirstBroken-from law parts first c broken)
 
 -- where parts are lawful, nothing but refused memory is told
 pub IsOkUnless-lawful : {T : Type 0} (parts : TableParts) → IsLawful parts → (result : Result T TableError)

@@ -10,30 +10,10 @@ use Rattle.regress_meaning.specs.TableParts.{in_intervals, is_surrogate, Interva
 use Rattle.regress_front_sets.specs.declared.interval.Interval.{Interval}
 use Rattle.regress_front_tables.specs.declared.tables.parts.TableParts.{TableParts}
 use Rattle.regress_front_sets.specs.Intervals.{ends, ends_of, in_interval}
+use Rattle.regress_front_sets.proofs.IntervalLemmas.{in_intervals-after_first, IntervalsRise-first, IntervalsRise-rest}
 use Rattle.regress_front_tables.specs.Parts.{parts_of}
 use Rattle.regress_front_tables.specs.Telling.{TellsLeast, lesser}
 use Rattle.regress_front_tables.proofs.TellingLemmas.{TellsLeast-same, TellsLeast-both}
-
--- ---- intervals in order
-
--- an interval before others isn't empty, and the others rise too
-IntervalsRise-parts : (i : ℕ × ℕ) (rest : List (ℕ × ℕ)) → IntervalsRise (i ∷ rest) → (i.0 ≤ i.1) × IntervalsRise rest
-IntervalsRise-parts i [] rise = (rise.0, tt)
-IntervalsRise-parts i (j ∷ rest) rise = (rise.0, rise.2)
-
--- what lies in the others lies above it
-in_intervals-above : (i : ℕ × ℕ) (rest : List (ℕ × ℕ)) (c : ℕ) → IntervalsRise (i ∷ rest) → in_intervals rest c ≡ true → i.1 < c
-unfolding in_intervals
-in_intervals-above i [] c rise h = absurd (false≢true h)
-in_intervals-above i (j ∷ rest) c rise h =
-    let ordered = (IntervalsRise-parts j rest rise.2).0 in
-    elim (or_cases (between j.0 j.1 c) _ h) [
-      | inl here ↦ above_first here
-      | inr behind ↦ omega (arith, rise.1, ordered, in_intervals-above j rest c rise.2 behind)
-    ]
-  where
-    above_first : between j.0 j.1 c ≡ true → i.1 < c
-    above_first here = let gap : i.1 + 1 < j.0 = rise.1 in grind (arith, nat_tests)
 
 -- ---- surrogates
 
@@ -76,7 +56,7 @@ meets-least i rest d rise ordered l =
     elim (cases_lt d 0xD800) [
       | inl low ↦ λ h. surrogate-below d low
       | inr high ↦ IsNoSurrogate-cons i rest d (λ here. absurd (outside high here))
-          (λ behind. let above = in_intervals-above (ends i) (ends_of rest) d rise behind in absurd (omega arith))
+          (λ behind. absurd (both_ways _ (in_intervals-after_first (ends i) (ends_of rest) d rise (omega arith)) behind))
     ]
   where
     outside : 0xD800 ≤ d → between i.first i.last d ≡ true → ⊥
@@ -88,8 +68,8 @@ pub TellsLeast-surrogate : (intervals : List Interval) → IntervalsRise (ends_o
 unfolding in_intervals
 TellsLeast-surrogate [] rise = λ c h. absurd (false≢true h)
 TellsLeast-surrogate (i ∷ rest) rise =
-    let parts = IntervalsRise-parts (ends i) (ends_of rest) rise in
-    go (meets_surrogates i) refl parts.0 (TellsLeast-surrogate rest parts.1)
+    go (meets_surrogates i) refl (IntervalsRise-first (ends i) (ends_of rest) rise).0
+    (TellsLeast-surrogate rest (IntervalsRise-rest (ends i) (ends_of rest) rise))
   where
     go : (b : Bool) → meets_surrogates i ≡ b → i.first ≤ i.last
         → TellsLeast (option_map (λ j. max j.first 0xD800) (find meets_surrogates rest)) (IsNoSurrogate rest)

@@ -3,7 +3,7 @@ use Rattle.std.specs.Prelude.{◌≡◌, ℕ, ◌+◌, ◌<◌, nat_lt, List, []
 use Rattle.std.specs.List.{Contains, flat_map, reduce}
 use Rattle.std.specs.Option.{option_or}
 use Rattle.regress_meaning.specs.Table.{last_code_point}
-use Rattle.regress_meaning.specs.TableParts.{TableParts, BothMaps, HasAsciiCase, IsIdempotentAt, HasSmallClass, AvoidsSurrogates, KeepsIdentifierAt}
+use Rattle.regress_meaning.specs.TableParts.{TableParts, BothMaps, HasAsciiCase, IsIdempotentAt, HasSmallClass, AvoidsSurrogates, KeepsIdentifierAt, KeepsRange, KeepsOrder, KeepsCanonical}
 use Rattle.regress_front_tables.specs.declared.tables.law.TableError.{TableError}
 use Rattle.regress_front_tables.specs.declared.tables.law.TableError.TheVariants.{Broken, OutOfMemory}
 use Rattle.regress_front_tables.specs.declared.tables.law.TableLaw.{TableLaw}
@@ -55,6 +55,17 @@ out_of_order parts = first_some (map first_out_of_order (parts.fold ∷ parts.up
 abbrev pub out_of_place : TableParts → Option ℕ
 out_of_place parts = first_some (map first_out_of_place (parts.id_start ∷ parts.id_continue ∷ map (λ e. e.1) parts.properties))
 
+-- the parts keep the law
+abbrev pub Keeps : TableLaw → TableParts → Type 0
+Keeps Range parts = KeepsRange parts
+Keeps Order parts = KeepsOrder parts
+Keeps AsciiCase parts = (c : ℕ) → c < 0x80 → HasAsciiCase parts c
+Keeps Idempotent parts = BothMaps parts (λ pairs. (c : ℕ) → IsIdempotentAt c pairs)
+Keeps ClassSize parts = BothMaps parts (λ pairs. (d : ℕ) → HasSmallClass d pairs)
+Keeps Surrogate parts = BothMaps parts (λ pairs. (c : ℕ) → AvoidsSurrogates c pairs)
+Keeps Canonical parts = KeepsCanonical parts
+Keeps Identifier parts = (c : ℕ) → KeepsIdentifierAt parts c
+
 -- c breaks one of the laws that are about single code points
 abbrev pub Breaks : TableLaw → TableParts → ℕ → Type 0
 Breaks Range parts c = (last_code_point < c) × Contains (numbers parts) c
@@ -81,6 +92,10 @@ rank ClassSize = 4
 rank Surrogate = 5
 rank Canonical = 6
 rank Identifier = 7
+
+-- the parts keep the first n laws
+abbrev pub KeepsFirst : ℕ → TableParts → Type 0
+KeepsFirst n parts = (law : TableLaw) → rank law < n → Keeps law parts
 
 -- The law is the first that is broken, and c the code point that is told for it.
 pub record IsFirstBroken (law : TableLaw) (parts : TableParts) (c : ℕ) : Type 0 where

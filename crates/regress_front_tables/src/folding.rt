@@ -8,11 +8,9 @@ ghost use Rattle.regress_front_tables.specs.TableViews.{table};
 ghost use Rattle.regress_front_sets.specs.Sets.{in_set};
 ghost use Rattle.regress_front_tables.specs.Folding.{Lists, IsCaseMap, GrowsInside};
 
-use regress_front_sets::CodePointSet;
-use regress_front_sets::Error;
-use regress_front_sets::{CODE_POINT_MAX, CodePoint};
 use crate::tables::Tables;
 use crate::tables::image::image;
+use regress_front_sets::{CODE_POINT_MAX, CodePoint, CodePointSet, Error};
 use std::alloc::Global;
 
 /// The simple case folding of a code point, which is itself where it has no other ("Canonicalize").
@@ -153,95 +151,4 @@ fn add_sources(set: &mut CodePointSet, pairs: &[(CodePoint, CodePoint)]) -> Resu
         }
     }
     Ok(())
-}
-
-#[cfg(test)]
-mod tests {
-    use super::*;
-    use regress_front_sets::Interval;
-    use crate::tables::parts::TableParts;
-    use std::test::Fail;
-
-    #[test]
-    fn code_points_fold(rt: HostRuntime) -> Result<(), Fail> {
-        let tables = Tables::small(rt.alloc())?;
-        assert_eq!(rt; fold(&tables, 0x4B), 0x6B);
-        assert_eq!(rt; fold(&tables, 0x212A), 0x6B);
-        assert_eq!(rt; fold(&tables, 0x6B), 0x6B);
-        Ok(())
-    }
-
-    #[test]
-    fn a_fold_is_undone(rt: HostRuntime) -> Result<(), Fail> {
-        let tables = Tables::small(rt.alloc())?;
-        let thetas = unfold_char(rt.alloc(), 0x3F4, &tables)?;
-        assert_eq!(rt; thetas.as_slice(), [0x398, 0x3B8, 0x3D1, 0x3F4].as_slice());
-        let digit = unfold_char(rt.alloc(), 0x30, &tables)?;
-        assert_eq!(rt; digit.as_slice(), [0x30].as_slice());
-        Ok(())
-    }
-
-    #[test]
-    fn the_last_code_point_is_unfolded(rt: HostRuntime) -> Result<(), Fail> {
-        let mut parts = TableParts::small(rt.alloc())?;
-        parts.fold.push((0x10_FFFE, 0x10_FFFF))?;
-        let tables = Tables::new(rt.alloc(), parts)?;
-        let last = unfold_char(rt.alloc(), 0x10_FFFF, &tables)?;
-        assert_eq!(rt; last.as_slice(), [0x10_FFFE, 0x10_FFFF].as_slice());
-        Ok(())
-    }
-
-    #[test]
-    fn a_code_point_is_expanded(rt: HostRuntime) -> Result<(), Fail> {
-        let tables = Tables::small(rt.alloc())?;
-        let sigmas = expand_code_point(rt.alloc(), 0x3C3, true, false, &tables)?;
-        assert_eq!(rt; sigmas.as_slice(), [0x3A3, 0x3C2, 0x3C3].as_slice());
-        let long_s = expand_code_point(rt.alloc(), 0x73, true, true, &tables)?;
-        assert_eq!(rt; long_s.as_slice(), [0x53, 0x73, 0x17F].as_slice());
-        let s = expand_code_point(rt.alloc(), 0x73, true, false, &tables)?;
-        assert_eq!(rt; s.as_slice(), [0x53, 0x73].as_slice());
-        let alone = expand_code_point(rt.alloc(), 0x73, false, true, &tables)?;
-        assert_eq!(rt; alone.as_slice(), [0x73].as_slice());
-        Ok(())
-    }
-
-    fn set_of_k(alloc: Global) -> Result<CodePointSet, Error> {
-        let mut set = CodePointSet::new(alloc);
-        set.add(Interval {
-            first: 0x6B,
-            last: 0x6B,
-        })?;
-        Ok(set)
-    }
-
-    fn is_set_of(set: &CodePointSet, expected: &[CodePoint]) -> bool {
-        let intervals = set.intervals();
-        intervals.len() == expected.len()
-            && intervals
-                .iter()
-                .zip(expected)
-                .all(|(i, e)| i.first == *e && i.last == *e)
-    }
-
-    #[test]
-    fn a_set_is_closed(rt: HostRuntime) -> Result<(), Fail> {
-        let tables = Tables::small(rt.alloc())?;
-        let folded = add_icase_code_points(set_of_k(rt.alloc())?, &tables)?;
-        assert!(rt; is_set_of(&folded, &[0x4B, 0x6B, 0x212A]));
-        let unicode = closure(set_of_k(rt.alloc())?, true, &tables)?;
-        assert!(rt; is_set_of(&unicode, &[0x4B, 0x6B, 0x212A]));
-        let upper = closure(set_of_k(rt.alloc())?, false, &tables)?;
-        assert!(rt; is_set_of(&upper, &[0x4B, 0x6B]));
-        Ok(())
-    }
-
-    #[test]
-    fn refused_memory_is_told(rt: HostRuntime) {
-        if let Ok(tables) = Tables::small(rt.alloc()) {
-            match unfold_char(rt.alloc(), 0x6B, &tables) {
-                Ok(ks) => assert_eq!(rt; ks.as_slice(), [0x4B, 0x6B, 0x212A].as_slice()),
-                Err(e) => assert_eq!(rt; e, Error::OutOfMemory),
-            }
-        }
-    }
 }

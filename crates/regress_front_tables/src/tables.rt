@@ -14,12 +14,11 @@ pub(crate) mod parts;
 mod range;
 pub(crate) mod single;
 
-use regress_front_sets::CodePointSet;
-use regress_front_sets::{CodePoint, Interval};
 use check::check_laws;
 use image::image;
 use law::TableError;
 use parts::TableParts;
+use regress_front_sets::{CodePoint, CodePointSet, Interval};
 use std::alloc::{AllocError, Global};
 
 /// Case and properties of code points, which patterns are compiled by. They keep all laws (`TableLaw`).
@@ -143,139 +142,4 @@ fn entry<'a, T>(entries: &'a [(String, T)], key: &str) -> Option<&'a T>
     ensures { option_copied result ≡ entry (chars key.now) (map (entry_of (λ v. v)) entries.now) }
 {
     entries.iter().find(|e| e.0.as_str() == key).map(|e| &e.1)
-}
-
-#[cfg(test)]
-mod tests {
-    use super::*;
-    use law::TableLaw;
-    use std::test::Fail;
-
-    /// Whether exactly this is told of the parts.
-    fn is_told(
-        alloc: Global,
-        parts: TableParts,
-        expected: TableLaw,
-        expected_code_point: CodePoint,
-    ) -> bool {
-        match Tables::new(alloc, parts) {
-            Err(TableError::Broken { law, code_point }) => law == expected
-                && code_point == expected_code_point,
-            _ => false,
-        }
-    }
-
-    #[test]
-    fn case_is_that_of_the_small_table(rt: HostRuntime) -> Result<(), Fail> {
-        let tables = Tables::small(rt.alloc())?;
-        assert_eq!(rt; tables.fold(0x41), 0x61);
-        assert_eq!(rt; tables.fold(0x212A), 0x6B);
-        assert_eq!(rt; tables.fold(0x61), 0x61);
-        assert_eq!(rt; tables.upper(0x3C2), 0x3A3);
-        assert_eq!(rt; tables.upper(0x10_FFFF), 0x10_FFFF);
-        assert_eq!(rt; tables.canon(true, 0x17F), 0x73);
-        assert_eq!(rt; tables.canon(false, 0x17F), 0x17F);
-        Ok(())
-    }
-
-    #[test]
-    fn identifiers_are_those_of_the_small_table(rt: HostRuntime) -> Result<(), Fail> {
-        let tables = Tables::small(rt.alloc())?;
-        assert!(rt; tables.id_start(0x5A));
-        assert!(rt; !tables.id_start(0x30));
-        assert!(rt; tables.id_continue(0x30));
-        assert!(rt; !tables.id_continue(0x24));
-        Ok(())
-    }
-
-    #[test]
-    fn properties_are_those_of_the_small_table(rt: HostRuntime) -> Result<(), Fail> {
-        let tables = Tables::small(rt.alloc())?;
-        let digits = tables.property("ASCII_Hex_Digit").ok_or("no digits")?;
-        assert!(rt; digits.contains(0x66));
-        assert!(rt; !digits.contains(0x67));
-        assert!(rt; tables.property("ASCII_Hex").is_none());
-        let keycaps = tables
-            .sequences("Emoji_Keycap_Sequence")
-            .ok_or("no keycaps")?;
-        assert_eq!(rt; keycaps.len(), 12);
-        let last = keycaps.last().ok_or("no keycap")?;
-        assert_eq!(rt; last.as_slice(), [0x39, 0xFE0F, 0x20E3].as_slice());
-        assert!(rt; tables.sequences("ASCII").is_none());
-        Ok(())
-    }
-
-    #[test]
-    fn lawful_parts_are_accepted(rt: HostRuntime) -> Result<(), Fail> {
-        let mut parts = TableParts::small(rt.alloc())?;
-        parts.fold.push((0x10_FFFE, 0x10_FFFF))?;
-        let tables = Tables::new(rt.alloc(), parts)?;
-        assert_eq!(rt; tables.fold(0x10_FFFE), 0x10_FFFF);
-        Ok(())
-    }
-
-    #[test]
-    fn laws_on_lists_are_told(rt: HostRuntime) -> Result<(), Fail> {
-        let mut parts = TableParts::small(rt.alloc())?;
-        parts.fold.push((0x11_0000, 0))?;
-        assert!(rt; is_told(rt.alloc(), parts, TableLaw::Range, 0x11_0000));
-
-        let mut parts = TableParts::small(rt.alloc())?;
-        assert!(rt; parts.upper.len() > 1);
-        parts.upper.swap(0, 1);
-        assert!(rt; is_told(rt.alloc(), parts, TableLaw::Order, 0x61));
-
-        let mut parts = TableParts::small(rt.alloc())?;
-        assert!(rt; parts.id_start.len() > 1);
-        parts.id_start.swap(0, 1);
-        assert!(rt; is_told(rt.alloc(), parts, TableLaw::Canonical, 0x41));
-
-        let mut parts = TableParts::small(rt.alloc())?;
-        parts.id_start.insert(
-            0,
-            Interval {
-                first: 0x24,
-                last: 0x24,
-            },
-        )?;
-        assert!(rt; is_told(rt.alloc(), parts, TableLaw::Identifier, 0x24));
-        Ok(())
-    }
-
-    #[test]
-    fn laws_on_case_are_told(rt: HostRuntime) -> Result<(), Fail> {
-        let mut parts = TableParts::small(rt.alloc())?;
-        parts.fold.retain(|pair| pair.0 != 0x41);
-        assert!(rt; is_told(rt.alloc(), parts, TableLaw::AsciiCase, 0x41));
-
-        let mut parts = TableParts::small(rt.alloc())?;
-        parts
-            .fold
-            .extend_from_slice(&[(0x100, 0x101), (0x101, 0x102)])?;
-        parts.fold.sort_unstable();
-        assert!(rt; is_told(rt.alloc(), parts, TableLaw::Idempotent, 0x100));
-
-        let mut parts = TableParts::small(rt.alloc())?;
-        parts.fold.extend_from_slice(&[
-            (0x201, 0x200),
-            (0x202, 0x200),
-            (0x203, 0x200),
-            (0x204, 0x200),
-        ])?;
-        parts.fold.sort_unstable();
-        assert!(rt; is_told(rt.alloc(), parts, TableLaw::ClassSize, 0x200));
-
-        let mut parts = TableParts::small(rt.alloc())?;
-        parts.fold.push((0xE000, 0xD800))?;
-        assert!(rt; is_told(rt.alloc(), parts, TableLaw::Surrogate, 0xE000));
-        Ok(())
-    }
-
-    #[test]
-    fn only_refused_memory_keeps_from_the_small_table(rt: HostRuntime) {
-        match Tables::small(rt.alloc()) {
-            Ok(tables) => assert_eq!(rt; tables.fold(0x41), 0x61),
-            Err(error) => assert_eq!(rt; error, TableError::OutOfMemory),
-        }
-    }
 }

@@ -100,7 +100,7 @@ impl Cursor<'_> {
     {
         let (min, max) = self.bounds()?;
         let greedy = !self.eat('?');
-        Some(Quantifier { min, max, greedy })
+        Some(Quantifier::new(min, max.unwrap_or(usize::MAX), greedy))
     }
 
     /// How often a quantifier repeats: at least, and at most, if there is a limit ("QuantifierPrefix").

@@ -1,8 +1,8 @@
 //! Whether parts of tables keep the laws.
-ghost use Rattle.std.specs.Prelude.{◌≡◌, Ok, Err, Some, None, MatchOption, OnOk, IfErr};
+ghost use Rattle.std.specs.Prelude.{◌+◌, OnOk, IfErr, IfNone, IfSome};
 ghost use Rattle.regress_meaning.specs.TableParts.{IsLawful};
 ghost use Rattle.regress_front_tables.specs.Parts.{parts_of};
-ghost use Rattle.regress_front_tables.specs.Breaking.{TellsBroken};
+ghost use Rattle.regress_front_tables.specs.Breaking.{Keeps, KeepsFirst, Tells, TellsBroken, rank};
 
 use super::law::{TableError, TableLaw};
 use super::order::{out_of_order, out_of_place};
@@ -19,19 +19,24 @@ pub(crate) fn check_laws(alloc: Global, parts: &TableParts) -> Result<(), TableE
     ensures kept { OnOk result (IsLawful (parts_of parts.now)) }
     ensures broken { IfErr result (λ e. TellsBroken e (parts_of parts.now)) }
 {
-    refuse(TableLaw::Range, out_of_range(parts))?;
-    refuse(TableLaw::Order, out_of_order(parts))?;
-    refuse(TableLaw::AsciiCase, wrong_ascii_case(parts))?;
-    refuse(TableLaw::Idempotent, moved_twice(parts))?;
-    refuse(TableLaw::ClassSize, too_large_class(alloc, parts)?)?;
-    refuse(TableLaw::Surrogate, mapped_to_surrogate(parts))?;
-    refuse(TableLaw::Canonical, out_of_place(parts))?;
-    refuse(TableLaw::Identifier, wrong_identifier(parts))
+    refuse(parts, TableLaw::Range, out_of_range(parts))?;
+    refuse(parts, TableLaw::Order, out_of_order(parts))?;
+    refuse(parts, TableLaw::AsciiCase, wrong_ascii_case(parts))?;
+    refuse(parts, TableLaw::Idempotent, moved_twice(parts))?;
+    refuse(parts, TableLaw::ClassSize, too_large_class(alloc, parts)?)?;
+    refuse(parts, TableLaw::Surrogate, mapped_to_surrogate(parts))?;
+    refuse(parts, TableLaw::Canonical, out_of_place(parts))?;
+    refuse(parts, TableLaw::Identifier, wrong_identifier(parts))
 }
 
-/// An error, if a code point is told for the law.
-fn refuse(law: TableLaw, told: Option<CodePoint>) -> Result<(), TableError>
-    ensures { MatchOption told (result ≡ Ok tt) (λ c. result ≡ Err (TableError.Broken law c)) }
+/// An error, if a code point is told for the law. All laws before it are kept.
+fn refuse(parts: &TableParts, law: TableLaw, told: Option<CodePoint>) -> Result<(), TableError>
+    requires earlier { KeepsFirst (rank law) (parts_of parts.now) }
+    requires none { IfNone told (Keeps law (parts_of parts.now)) }
+    requires some { IfSome told (λ c. Tells law (parts_of parts.now) c) }
+    ensures kept { OnOk result (Keeps law (parts_of parts.now)) }
+    ensures further { OnOk result (KeepsFirst (rank law + 1) (parts_of parts.now)) }
+    ensures broken { IfErr result (λ e. TellsBroken e (parts_of parts.now)) }
 {
     match told {
         Some(code_point) => Err(TableError::Broken { law, code_point }),

@@ -14,19 +14,3 @@ pub(crate) fn image(pairs: &[(CodePoint, CodePoint)], c: CodePoint) -> CodePoint
         Err(_) => c,
     }
 }
-
-#[cfg(test)]
-mod tests {
-    use super::*;
-
-    #[test]
-    fn pairs_are_found(rt: HostRuntime) {
-        let pairs = [(0x41, 0x61), (0x42, 0x62), (0x212A, 0x6B)];
-        assert_eq!(rt; image(&pairs, 0x41), 0x61);
-        assert_eq!(rt; image(&pairs, 0x42), 0x62);
-        assert_eq!(rt; image(&pairs, 0x43), 0x43);
-        assert_eq!(rt; image(&pairs, 0x212A), 0x6B);
-        assert_eq!(rt; image(&pairs, 0x10_FFFF), 0x10_FFFF);
-        assert_eq!(rt; image(&[], 0), 0);
-    }
-}

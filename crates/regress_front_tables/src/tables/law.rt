@@ -6,7 +6,7 @@ ghost use Rattle.regress_front_tables.specs.Breaking.{Tells};
 ghost use Rattle.regress_front_tables.specs.TableTexts.{law_text};
 
 use regress_front_sets::CodePoint;
-use std::alloc::AllocError;
+use std::alloc::{AllocError, AllocFailed};
 use std::{error, fmt};
 
 /// What is asked of the parts of tables.
@@ -92,82 +92,12 @@ impl From<AllocError> for TableError {
     }
 }
 
-#[cfg(test)]
-mod tests {
-    use super::*;
-    use std::alloc::Global;
-    use std::test::Fail;
+impl<T: Drop> From<AllocFailed<T>> for TableError {
+    ghost use Rattle.regress_front_tables.specs.declared.tables.law.TableError.TheVariants.{OutOfMemory};
 
-    fn is_written(alloc: Global, law: TableLaw, expected: &str) -> Result<bool, AllocError> {
-        let text = TableError::Broken { law, code_point: 0 }.to_string(alloc)?;
-        Ok(text.as_str() == expected)
-    }
+    ghost from_gives = { λ _ e. e ≡ OutOfMemory };
 
-    #[test]
-    fn each_law_has_its_text(rt: HostRuntime) -> Result<(), Fail> {
-        assert!(rt;
-            is_written(
-                rt.alloc(),
-                TableLaw::Range,
-                "the table has a number past the last code point"
-            )?
-        );
-        assert!(rt;
-            is_written(
-                rt.alloc(),
-                TableLaw::Order,
-                "the table's pairs are out of order"
-            )?
-        );
-        assert!(rt;
-            is_written(
-                rt.alloc(),
-                TableLaw::AsciiCase,
-                "the table's case of ASCII is wrong"
-            )?
-        );
-        assert!(rt;
-            is_written(
-                rt.alloc(),
-                TableLaw::Idempotent,
-                "the table maps a code point twice"
-            )?
-        );
-        assert!(rt;
-            is_written(
-                rt.alloc(),
-                TableLaw::ClassSize,
-                "the table maps too many code points to one"
-            )?
-        );
-        assert!(rt;
-            is_written(
-                rt.alloc(),
-                TableLaw::Surrogate,
-                "the table maps a code point to a surrogate"
-            )?
-        );
-        assert!(rt;
-            is_written(
-                rt.alloc(),
-                TableLaw::Canonical,
-                "the table's intervals are out of order"
-            )?
-        );
-        assert!(rt;
-            is_written(
-                rt.alloc(),
-                TableLaw::Identifier,
-                "the table's identifiers have a wrong code point"
-            )?
-        );
-        Ok(())
-    }
-
-    #[test]
-    fn refused_memory_has_its_text(rt: HostRuntime) -> Result<(), Fail> {
-        let text = TableError::from(AllocError).to_string(rt.alloc())?;
-        assert_eq!(rt; text.as_str(), "out of memory");
-        Ok(())
+    fn from(_refused: AllocFailed<T>) -> TableError {
+        TableError::OutOfMemory
     }
 }

@@ -7,13 +7,13 @@ pub loop-interval-preserved : goal.loop-interval-preserved
 loop-interval-preserved c =
     let before = c.loop-interval in
     gaps_from-drop_more (ends_of before.gaps.items) (ends_of c.push_gap.new.gaps.items) before.next before.interval-index
-    c.deref-interval-items.result.now c.interval-item.result c.loop-interval-test.true c.interval-item.is c.in_ok-push_gap.ensures.gap
+    c.deref-interval-items.result.now c.interval-item.result c.loop-interval-test.true c.interval-item.is c.in_ok-push_gap.ensures
     ∙ before.invariant
 
-pub returns-clause-intervals : goal.returns-clause-intervals
-returns-clause-intervals c =
+pub returns : goal.returns
+returns c =
     let last = c.loop-interval in
     gaps_from-drop_all (ends_of last.gaps.items) (ends_of c.push_gap-2.new.gaps.items) last.next last.interval-index
-    c.deref-interval-items.result.now (omega arith) c.in_ok-push_gap-2.ensures.gap
+    c.deref-interval-items.result.now (omega arith) c.in_ok-push_gap-2.ensures
     ∙ last.invariant
     ∙ ap (λ l. inverse (ends_of l)) c.deref-interval-items.ensures.value

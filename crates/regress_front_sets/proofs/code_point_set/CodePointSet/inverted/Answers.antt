@@ -6,10 +6,10 @@ use Rattle.regress_front_sets.proofs.code_point_set.CodePointSet.inverted.Goals 
 pub from_sorted_disjoint_intervals-requires : goal.from_sorted_disjoint_intervals-requires
 from_sorted_disjoint_intervals-requires c =
     let set = c.args.self.now in
-    rw c.in_ok-gaps.ensures.intervals (IntervalsRise-inverse (ends_of set.intervals.items) set.canonical)
+    rw c.in_ok-gaps.ensures (IntervalsRise-inverse (ends_of set.intervals.items) set.canonical)
 
 pub returns-clause-members : goal.returns-clause-members
 returns-clause-members c =
     let set = c.args.self.now in
-    let gaps = ap ends_of c.from_sorted_disjoint_intervals.ensures ∙ c.in_ok-gaps.ensures.intervals in
+    let gaps = ap ends_of c.from_sorted_disjoint_intervals.ensures ∙ c.in_ok-gaps.ensures in
     λ x. rw gaps (in_intervals-inverse (ends_of set.intervals.items) x set.canonical)

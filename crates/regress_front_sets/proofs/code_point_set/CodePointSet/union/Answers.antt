@@ -67,7 +67,7 @@ loop-i-preserved c =
     ])
     c.in_ok-push-2.ensures.order c.in_ok-push-2.ensures.members)
 
-pub returns-clause-members : goal.returns-clause-members
-returns-clause-members c =
+pub returns : goal.returns
+returns c =
     λ x. IsMerged-all c.intervals-left.result.now c.intervals-right.result.now c.loop-i.union.intervals.items c.loop-i.i c.loop-i.j c.loop-i.invariant (omega arith) (omega arith) x
     ∙ ap₂ (λ xs ys. in_intervals (ends_of xs) x || in_intervals (ends_of ys) x) c.intervals-left.ensures c.intervals-right.ensures

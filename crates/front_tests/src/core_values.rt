@@ -1,0 +1,91 @@
+//! Tests of `regress_front_core`.
+use regress_front_core::{Error, Flags, GroupData, LoopData, Quantifier};
+use std::alloc::{AllocError, AllocFailed};
+use std::test::Fail;
+
+#[test]
+fn each_error_has_its_text(rt: HostRuntime) -> Result<(), Fail> {
+    let syntax = Error::Syntax {
+        text: "Unbalanced parenthesis",
+    };
+    for (error, expected) in [
+        (syntax, "Unbalanced parenthesis"),
+        (Error::TooDeep, "pattern is nested too deeply"),
+        (Error::TooManyGroups, "too many capture groups"),
+        (Error::TooManyLoops, "too many quantifiers"),
+        (Error::TooLarge, "program is too large"),
+        (Error::OutOfMemory, "out of memory"),
+    ] {
+        let text = error.to_string(rt.alloc())?;
+        assert!(rt; text.as_str() == expected);
+    }
+    Ok(())
+}
+
+#[test]
+fn refused_memory_is_an_error(rt: HostRuntime) {
+    let refused = Error::from(AllocError) == Error::OutOfMemory;
+    let with_value = Error::from(AllocFailed { value: 1u8 }) == Error::OutOfMemory;
+    prove!(refused && with_value);
+    assert!(rt; refused && with_value);
+}
+
+#[test]
+fn letters_are_written_in_one_order(rt: HostRuntime) -> Result<(), Fail> {
+    for (letters, expected) in [("vusim", "misuv"), ("iv", "iv"), ("gy", ""), ("", "")] {
+        let flags = Flags::from(letters);
+        assert!(rt; !flags.no_opt);
+        let text = flags.to_string(rt.alloc())?;
+        assert!(rt; text.as_str() == expected);
+    }
+    let text = Flags::new([0x76, 0x1_F600, 0x69, 0x69].into_iter()).to_string(rt.alloc())?;
+    assert!(rt; text.as_str() == "iv");
+    let text = Flags::default().to_string(rt.alloc())?;
+    assert!(rt; text.as_str() == "");
+    Ok(())
+}
+
+#[test]
+fn two_letters_set_unicode_mode(rt: HostRuntime) {
+    for (letters, expected) in [("u", true), ("v", true), ("ims", false), ("", false)] {
+        assert!(rt; Flags::from(letters).is_unicode() == expected);
+    }
+    let mut flags = Flags::default();
+    let none = flags.is_unicode();
+    flags.unicode_sets = true;
+    let sets = flags.is_unicode();
+    prove!(sets && !none);
+}
+
+#[test]
+fn no_limit_is_the_greatest_number(rt: HostRuntime) {
+    let few = Quantifier::new(2, 3, false);
+    prove!(few.min == 2 && few.max == Some(3) && !few.greedy && few.most() == 3);
+    assert!(rt; few.min == 2 && few.max == Some(3) && !few.greedy && few.most() == 3);
+    let many = Quantifier::new(1, usize::MAX, true);
+    prove!(many.max.is_none() && many.greedy && many.most() == usize::MAX);
+    assert!(rt; many.min == 1 && many.max.is_none() && many.greedy && many.most() == usize::MAX);
+}
+
+#[test]
+fn a_loop_begins_with_no_iteration(rt: HostRuntime) {
+    let data = LoopData::new(7);
+    prove!(data.iters == 0 && data.entry == 7);
+    assert!(rt; data.iters == 0 && data.entry == 7);
+}
+
+#[test]
+fn a_group_has_a_range_once_both_ends_are_known(rt: HostRuntime) {
+    let mut group: GroupData<usize> = GroupData::new();
+    prove!(!group.start_matched() && !group.end_matched() && group.as_range().is_none());
+    group.start = Some(3);
+    prove!(group.start_matched() && !group.end_matched() && group.as_range().is_none());
+    assert!(rt; group.start_matched() && !group.end_matched() && group.as_range().is_none());
+    group.end = Some(5);
+    let range = group.as_range();
+    prove!(group.end_matched() && range == Some(3..5));
+    assert!(rt; group.end_matched() && range == Some(3..5));
+    group.reset();
+    prove!(!group.start_matched() && !group.end_matched());
+    assert!(rt; !group.start_matched() && !group.end_matched());
+}
