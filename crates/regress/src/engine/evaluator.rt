@@ -362,7 +362,7 @@ mod tests {
     ) -> Result<Node, AllocError> {
         Ok(Node::Loop {
             loopee: Box::new(alloc, contents)?,
-            quant: Quantifier { min, max, greedy },
+            quant: Quantifier::new(min, max.unwrap_or(usize::MAX), greedy),
             enclosed_groups,
         })
     }
@@ -696,7 +696,7 @@ mod tests {
             assert_eq!(rt; both_ways(alloc, &aaab, &node)?.0.as_slice(), expected);
             let single = Node::Loop1CharBody {
                 loopee: Box::new(alloc, letter('a'))?,
-                quant: Quantifier { min, max, greedy },
+                quant: Quantifier::new(min, max.unwrap_or(usize::MAX), greedy),
             };
             assert_eq!(rt; both_ways(alloc, &aaab, &single)?.0.as_slice(), expected);
         }
