@@ -1,0 +1,23 @@
+//! The example of the repository's README, word for word, and a test of it.
+use regress::{Error, Flags, Regex, Tables};
+use std::alloc::Global;
+
+/// Where the years of the dates in a text stand, in bytes.
+fn years(alloc: Global, text: &str, tables: &Tables) -> Result<Vec<(usize, usize)>, Error> {
+    let regex = Regex::with_flags(alloc, r"(?<year>\d{4})-\d\d", Flags::from("u"), tables)?;
+    let mut years = Vec::new(alloc);
+    for found in regex.find_iter(text)? {
+        if let Some(year) = found?.named_group("year") {
+            years.push((year.start, year.end))?;
+        }
+    }
+    Ok(years)
+}
+
+#[test]
+fn years_of_dates_are_found(rt: HostRuntime) -> Result<(), std::test::Fail> {
+    let tables = Tables::small(rt.alloc())?;
+    let years = years(rt.alloc(), "from 1998-07 to 2025-06", &tables)?;
+    assert!(rt; years.as_slice() == [(5, 9), (16, 20)].as_slice());
+    Ok(())
+}

@@ -1,0 +1,7 @@
+//! Tests of `regress` and of the program's library, by their public calls alone. The library itself is empty.
+#![tactic(auto)]
+
+#[cfg(test)]
+mod example;
+#[cfg(test)]
+mod program;
