@@ -19,6 +19,10 @@ impl Ending {
     ghost use Rattle.regress_program.specs.Endings.{exit_status};
 
     /// The exit status of the program: 0 where all went well, 2 for wrong words, and else the error's.
+    ///
+    /// ```rust
+    /// let status = Ending::WrongWords.status(); // 2
+    /// ```
     pub fn status(&self) -> u8
         ensures { result ≡ exit_status self.now }
     {

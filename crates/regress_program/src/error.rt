@@ -24,6 +24,10 @@ impl ToolError {
     ghost use Rattle.regress_program.specs.Errors.{status_of};
 
     /// The exit status of the program: 2 for an error of the pattern, and else 1.
+    ///
+    /// ```rust
+    /// let status = ToolError::Read.status(); // 1
+    /// ```
     pub fn status(&self) -> u8
         ensures { result ≡ status_of self.now }
     {

@@ -2,6 +2,13 @@
 //!
 //! [`answer`] is the whole program over any source and sink. [`run`] is what it does with a pattern, [`line`] makes the line
 //! of a match, and [`StdSource`] and [`StdSink`] are std's readers and writers as a source and a sink.
+//!
+//! ```rust
+//! let mut written = Vec::new(alloc);
+//! let mut source = StdSource::new(b"ab".as_slice());
+//! let mut sink = StdSink::new(&mut written);
+//! run(alloc, &mut source, &mut sink, "i", "(A)|b")?; // written: "0..1 0..1\n1..2 -\n"
+//! ```
 #![tactic(auto)]
 
 mod ending;

@@ -7,7 +7,11 @@ use regress::{Match, Range};
 use std::alloc::{AllocError, Global};
 
 /// The line of a match with its newline: the range of the match, and for each group in order of its number a space and
-/// its range or `-`. Errs where a request for memory is refused.
+/// its range or `-`. Ranges are in bytes. Errs where a request for memory is refused.
+///
+/// ```rust
+/// let text = line(alloc, &found)?; // "0..3 0..2 -\n", where the first group of two took 0..2
+/// ```
 pub fn line(alloc: Global, found: &Match) -> Result<String, AllocError>
     ensures { IfOk result (λ text. string_bytes text ≡ line_of (item_of found.now)) }
 {

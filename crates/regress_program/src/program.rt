@@ -1,4 +1,4 @@
-//! One run of the program.
+//! The program, and one run of it.
 ghost use Rattle.std.specs.Prelude.{◌≡◌, ◌≢◌, ◌↔◌, ◌⊎◌, [], true, false, Some, Result, chars, string_bytes, IsUtf8, OnOk, OnErr, IfOk, IfErr, IfSome, IsErrOf, is_err};
 ghost use Rattle.std.specs.IoError.{error_kind};
 ghost use Rattle.std.specs.Vec.Iter.{into_iter_items};
@@ -32,8 +32,13 @@ const CHUNK: usize = 4096;
 
 /// The whole program: reads its words, runs, and tells how it ends.
 ///
-/// `words` are those of the command line, as `std::env::args` gives them: the program's own name, FLAGS and PATTERN. Asks that
-/// neither stream has failed. Where there are other words or none can be read, neither stream is touched.
+/// `words` are those of the command line, as `std::env::args` gives them: the program's own name, FLAGS and PATTERN. Asks
+/// that neither stream has failed. Where there are other words, or none can be read, neither stream is touched.
+///
+/// ```rust
+/// let ending = answer(rt.alloc(), env::args(&rt), &mut source, &mut sink);
+/// let status = ending.status();
+/// ```
 pub fn answer<R: Source, W: Sink>(
     alloc: Global,
     words: io::Result<Args>,
@@ -65,11 +70,12 @@ pub fn answer<R: Source, W: Sink>(
     }
 }
 
-/// Reads all input, and writes a line for each match of a pattern in it.
+/// Reads all input, and writes a line for each match of a pattern in it, as [`line`] makes it.
 ///
-/// Asks that neither stream has failed. The errors are found in this order: a pattern that is no pattern or passes a limit, before anything
-/// is read; a read that fails; input that is not UTF-8; then a write that fails. A request for memory may be refused at any
-/// time, and over a source that never ends one is. After a write that fails, a beginning of the output was written.
+/// `flags` is a flags word, `pattern` the pattern as it stands; the tables are the small ones. Asks that neither stream has
+/// failed. The errors are found in this order: a text that is no pattern or passes a limit, before anything is read; a read
+/// that fails; input that is not UTF-8; then a write that fails. A request for memory may be refused at any time, and over a
+/// source that never ends one is. After a write that fails, a beginning of the output was written.
 pub fn run<R: Source, W: Sink>(
     alloc: Global,
     source: &mut R,

@@ -39,7 +39,11 @@ pub struct StdSink<W: Write> {
 impl<W: Write> StdSink<W> {
     ghost use Rattle.regress_program.specs.Streams.{writer_of, write_failed};
 
-    /// A sink over a writer, none of whose writes has failed.
+    /// A sink over a writer. None of its writes has failed.
+    ///
+    /// ```rust
+    /// let mut sink = StdSink::new(rt.stdout());
+    /// ```
     pub fn new(writer: W) -> StdSink<W>
         ensures writer { writer_of result ≡ writer }
         ensures fresh { write_failed result ≡ false }

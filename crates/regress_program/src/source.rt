@@ -41,7 +41,11 @@ pub struct StdSource<R: Read> {
 impl<R: Read> StdSource<R> {
     ghost use Rattle.regress_program.specs.Streams.{reader_of, read_failed};
 
-    /// A source over a reader, none of whose reads has failed.
+    /// A source over a reader. None of its reads has failed.
+    ///
+    /// ```rust
+    /// let mut source = StdSource::new(rt.stdin());
+    /// ```
     pub fn new(reader: R) -> StdSource<R>
         ensures reader { reader_of result ≡ reader }
         ensures fresh { read_failed result ≡ false }

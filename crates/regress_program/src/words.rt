@@ -23,6 +23,10 @@ pub struct Request {
 ///
 /// Errs where there are fewer words or more, and where they can't be read, with `WrongWords`; where memory was refused for
 /// them, with `Failed(OutOfMemory)`.
+///
+/// ```rust
+/// let request = read_words(env::args(&rt))?; // of `regress_tool i a+b`: flags "i" and pattern "a+b"
+/// ```
 pub fn read_words(words: io::Result<Args>) -> Result<Request, Ending>
     ensures request { IfOk words (λ ws. result ≡ request_of (into_iter_items ws)) }
     ensures out_of_memory { IfErr words (λ e. IsErrOf result (Ending.Failed ToolError.OutOfMemory) ↔ (error_kind e ≡ ErrorKind.OutOfMemory)) }

@@ -7,29 +7,42 @@ use regress_program::{
 use std::alloc::{AllocError, Global};
 use std::io;
 use std::io::{ErrorKind, Read, Write};
+use std::process::Abort;
 use std::test::Fail;
+
+/// One byte more than three chunks of the program.
+static LONG: [u8; 12289] = [b'a'; 12289];
 
 /// A reader and a writer over memory. Each call gives or takes so many bytes at most; one call is interrupted, and those
 /// behind it would go on.
 #[derive(Drop)]
-struct Faulty<'a> {
-    rest: &'a [u8],
+struct Faulty {
+    given: Vec<u8>,
+    at: usize,
     taken: Vec<u8>,
     most: usize,
     calls: usize,
     failing_call: usize,
 }
 
-impl<'a> Faulty<'a> {
+impl Faulty {
     /// Gives these bytes, so many a call; the call of this number is interrupted. Calls are counted from 1.
-    fn new(alloc: Global, rest: &'a [u8], most: usize, failing_call: usize) -> Faulty<'a> {
-        Faulty {
-            rest,
+    fn new(
+        alloc: Global,
+        bytes: &[u8],
+        most: usize,
+        failing_call: usize,
+    ) -> Result<Faulty, AllocError> {
+        let mut given = Vec::new(alloc);
+        given.extend_from_slice(bytes)?;
+        Ok(Faulty {
+            given,
+            at: 0,
             taken: Vec::new(alloc),
             most,
             calls: 0,
             failing_call,
-        }
+        })
     }
 
     /// Whether its own failing call has been made.
@@ -46,15 +59,19 @@ impl<'a> Faulty<'a> {
     }
 }
 
-impl<'a> Read for Faulty<'a> {
+impl Read for Faulty {
     fn read(&mut self, buffer: &mut [u8]) -> io::Result<usize> {
         self.count_call()?;
         let most = self.most.min(buffer.len());
-        self.rest.read(&mut buffer[..most])
+        let at = self.at.min(self.given.len());
+        let mut rest = &self.given.as_slice()[at..];
+        let count = rest.read(&mut buffer[..most])?;
+        self.at = at.saturating_add(count);
+        Ok(count)
     }
 }
 
-impl<'a> Write for Faulty<'a> {
+impl Write for Faulty {
     fn write(&mut self, bytes: &[u8]) -> io::Result<usize> {
         self.count_call()?;
         let most = self.most.min(bytes.len());
@@ -91,131 +108,85 @@ fn a_line_for_each_match(rt: HostRuntime) -> Result<(), Fail> {
     Ok(())
 }
 
+/// Runs a pattern from a reader to a writer, and compares what the streams say of themselves with the answer.
+fn run_over(
+    rt: &impl Abort,
+    alloc: Global,
+    pattern: &str,
+    reader: &mut Faulty,
+    writer: &mut Faulty,
+) -> Result<(), ToolError> {
+    let mut source = StdSource::new(&mut *reader);
+    let mut sink = StdSink::new(&mut *writer);
+    let result = run(alloc, &mut source, &mut sink, "", pattern);
+    let has_read_failed = result == Err(ToolError::Read);
+    let has_write_failed = result == Err(ToolError::Write);
+    assert!(rt; source.failed() == has_read_failed && sink.failed() == has_write_failed);
+    assert!(rt; reader.has_failed() == has_read_failed);
+    result
+}
+
 #[test]
-fn an_error_of_a_stream_ends_the_run(rt: HostRuntime) -> Result<(), Fail> {
+fn streams_of_single_bytes(rt: HostRuntime) -> Result<(), Fail> {
+    let mut reader = Faulty::new(rt.alloc(), b"ab", 1, 0)?;
+    let mut writer = Faulty::new(rt.alloc(), b"", 1, 0)?;
+    assert!(rt; run_over(&rt, rt.alloc(), "(a)|b", &mut reader, &mut writer) == Ok(()));
+    assert!(rt; writer.taken.as_slice() == b"0..1 0..1\n1..2 -\n".as_slice());
+    assert!(rt; reader.calls == 3 && writer.calls == 17);
+    Ok(())
+}
+
+#[test]
+fn a_failed_read_ends_the_run(rt: HostRuntime) -> Result<(), Fail> {
+    for failing in 1..4 {
+        let mut reader = Faulty::new(rt.alloc(), b"ab", 1, failing)?;
+        let mut writer = Faulty::new(rt.alloc(), b"", 1, 0)?;
+        assert!(rt;
+            run_over(&rt, rt.alloc(), "a", &mut reader, &mut writer) == Err(ToolError::Read)
+        );
+        assert!(rt; reader.calls == failing && writer.calls == 0);
+    }
+    Ok(())
+}
+
+#[test]
+fn a_failed_write_ends_the_run(rt: HostRuntime) -> Result<(), Fail> {
+    // The call that fails, how many bytes are taken a call, what was taken, and how many calls were made.
+    for (failing, most, written, calls) in [
+        (1, 1, "", 1),
+        (3, 1, "0.", 3),
+        (2, 4, "0..1", 2),
+        (11, 1, "0..1 0..1\n", 11),
+        (0, 0, "", 1),
+    ] {
+        let mut reader = Faulty::new(rt.alloc(), b"aa", 1, 0)?;
+        let mut writer = Faulty::new(rt.alloc(), b"", most, failing)?;
+        assert!(rt;
+            run_over(&rt, rt.alloc(), "(a)", &mut reader, &mut writer) == Err(ToolError::Write)
+        );
+        assert!(rt; writer.taken.as_slice() == written.as_bytes(), "{failing}");
+        assert!(rt; reader.calls == 3 && writer.calls == calls, "{failing}");
+    }
+    Ok(())
+}
+
+#[test]
+fn other_errors_leave_the_sink(rt: HostRuntime) -> Result<(), Fail> {
     let no_pattern = ToolError::Pattern(regress::Error::Syntax {
         text: "Unbalanced parenthesis",
     });
-    // Pattern and input; the call of the reader, and of the writer, that is interrupted, and 0 for none; how many bytes the
-    // writer takes a call; the answer, what was written, and how often the reader and the writer were called.
-    for (pattern, input, failing_read, failing_write, most, expected, written, reads, writes) in [
-        (
-            "(a)|b",
-            b"ab".as_slice(),
-            0,
-            0,
-            1,
-            Ok(()),
-            "0..1 0..1\n1..2 -\n",
-            3,
-            17,
-        ),
-        (
-            "(a",
-            b"ab".as_slice(),
-            0,
-            0,
-            1,
-            Err(no_pattern.clone()?),
-            "",
-            0,
-            0,
-        ),
-        ("(a", b"ab".as_slice(), 1, 1, 1, Err(no_pattern), "", 0, 0),
-        (
-            "a",
-            b"ab".as_slice(),
-            1,
-            0,
-            1,
-            Err(ToolError::Read),
-            "",
-            1,
-            0,
-        ),
-        (
-            "a",
-            b"ab".as_slice(),
-            2,
-            0,
-            1,
-            Err(ToolError::Read),
-            "",
-            2,
-            0,
-        ),
-        (
-            "a",
-            b"ab".as_slice(),
-            3,
-            0,
-            1,
-            Err(ToolError::Read),
-            "",
-            3,
-            0,
-        ),
-        (
-            "a",
-            b"a\xff".as_slice(),
-            0,
-            0,
-            1,
-            Err(ToolError::NotUtf8),
-            "",
-            3,
-            0,
-        ),
-        (
-            "(a)",
-            b"ab".as_slice(),
-            0,
-            1,
-            1,
-            Err(ToolError::Write),
-            "",
-            3,
-            1,
-        ),
-        (
-            "(a)",
-            b"ab".as_slice(),
-            0,
-            3,
-            1,
-            Err(ToolError::Write),
-            "0.",
-            3,
-            3,
-        ),
-        (
-            "(a)",
-            b"ab".as_slice(),
-            0,
-            0,
-            0,
-            Err(ToolError::Write),
-            "",
-            3,
-            1,
-        ),
+    for (pattern, failing, expected, reads) in [
+        ("(a", 0, Err(no_pattern), 0),
+        ("a", 0, Err(ToolError::NotUtf8), 3),
+        ("a", 3, Err(ToolError::Read), 3),
     ] {
-        let mut reader = Faulty::new(rt.alloc(), input, 1, failing_read);
-        let mut writer = Faulty::new(rt.alloc(), b"", most, failing_write);
-        let mut source = StdSource::new(&mut reader);
-        let mut sink = StdSink::new(&mut writer);
-        let result = run(rt.alloc(), &mut source, &mut sink, "", pattern);
-        assert!(rt; source.failed() == (result == Err(ToolError::Read)));
-        assert!(rt; sink.failed() == (result == Err(ToolError::Write)));
-        assert!(rt; result == expected, "{failing_read} and {failing_write}");
-        assert!(rt; reader.has_failed() == (result == Err(ToolError::Read)));
+        let mut reader = Faulty::new(rt.alloc(), b"a\xff", 1, failing)?;
+        let mut writer = Faulty::new(rt.alloc(), b"", 1, 1)?;
         assert!(rt;
-            reader.calls == reads && writer.calls == writes,
-            "calls: {} and {}",
-            reader.calls,
-            writer.calls
+            run_over(&rt, rt.alloc(), pattern, &mut reader, &mut writer) == expected,
+            "{pattern}"
         );
-        assert!(rt; writer.taken.as_slice() == written.as_bytes());
+        assert!(rt; reader.calls == reads && writer.calls == 0, "{pattern}");
     }
     Ok(())
 }
@@ -229,17 +200,10 @@ fn inputs_and_lines_longer_than_a_chunk(rt: HostRuntime) -> Result<(), Fail> {
         (4097, 3, "4096..4097\n"),
         (12289, 5, "12288..12289\n"),
     ] {
-        let mut input = Vec::new(rt.alloc());
-        for _ in 1..length {
-            input.push(b'a')?;
-        }
-        input.push(b'b')?;
-        let mut reader = Faulty::new(rt.alloc(), input.as_slice(), usize::MAX, 0);
-        let mut writer = Faulty::new(rt.alloc(), b"", usize::MAX, 0);
-        let mut source = StdSource::new(&mut reader);
-        let mut sink = StdSink::new(&mut writer);
-        let result = run(rt.alloc(), &mut source, &mut sink, "", "b");
-        assert!(rt; result == Ok(()));
+        let input = &LONG[..LONG.len().min(length)];
+        let mut reader = Faulty::new(rt.alloc(), input, usize::MAX, 0)?;
+        let mut writer = Faulty::new(rt.alloc(), b"", usize::MAX, 0)?;
+        assert!(rt; run_over(&rt, rt.alloc(), "a$", &mut reader, &mut writer) == Ok(()));
         assert!(rt;
             reader.calls == reads,
             "{length} bytes: {} reads",
@@ -255,28 +219,27 @@ fn inputs_and_lines_longer_than_a_chunk(rt: HostRuntime) -> Result<(), Fail> {
     }
     pattern.push('x')?;
     expected.push('\n')?;
-    let mut writer = Faulty::new(rt.alloc(), b"", 1000, 0);
-    let mut source = StdSource::new(b"x".as_slice());
-    let mut sink = StdSink::new(&mut writer);
-    let result = run(rt.alloc(), &mut source, &mut sink, "", pattern.as_str());
-    assert!(rt; result == Ok(()));
+    let mut reader = Faulty::new(rt.alloc(), b"x", 1, 0)?;
+    let mut writer = Faulty::new(rt.alloc(), b"", 1000, 0)?;
+    assert!(rt; run_over(&rt, rt.alloc(), pattern.as_str(), &mut reader, &mut writer) == Ok(()));
     assert!(rt; writer.calls == 6 && writer.taken.as_slice() == expected.as_bytes());
     Ok(())
 }
 
 #[test]
-fn new_streams_have_not_failed_and_an_empty_write_passes(rt: HostRuntime) {
-    let mut source = StdSource::new(Faulty::new(rt.alloc(), b"ab", 1, 1));
+fn new_streams_have_not_failed_and_an_empty_write_passes(rt: HostRuntime) -> Result<(), Fail> {
+    let mut source = StdSource::new(Faulty::new(rt.alloc(), b"ab", 1, 1)?);
     let before = source.failed();
     prove!(!before);
     assert!(rt; !before);
     assert!(rt; source.take(&mut [0; 2]) == Err(Failed) && source.failed());
-    let mut sink = StdSink::new(Faulty::new(rt.alloc(), b"", 0, 0));
+    let mut sink = StdSink::new(Faulty::new(rt.alloc(), b"", 0, 0)?);
     let before = sink.failed();
     prove!(!before);
     assert!(rt; !before);
     assert!(rt; sink.put(&[]) == Ok(0) && !sink.failed());
     assert!(rt; sink.put(b"a") == Err(Failed) && sink.failed());
+    Ok(())
 }
 
 #[test]
