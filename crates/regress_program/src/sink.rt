@@ -21,6 +21,10 @@ pub trait Sink {
     /// Writes bytes from the front of a slice, and answers how many: at least one of a slice that isn't empty.
     ///
     /// Asks that no write has failed. Errs where this one does, and then it wrote no byte.
+    ///
+    /// ```rust
+    /// let count = sink.put(line.as_bytes())?; // the first `count` bytes of the line were written
+    /// ```
     fn put(&mut self, bytes: &[u8]) -> Result<usize, Failed>
         requires { failed self.old ≡ false }
         ensures bound { WritesAtMost result bytes.now }

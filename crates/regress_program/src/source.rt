@@ -24,6 +24,10 @@ pub trait Source {
     /// Reads bytes into the front of a buffer, and answers how many: 0 only at the end, and where the buffer is empty.
     ///
     /// Asks that no read has failed. Errs where this one does, and then it took no byte.
+    ///
+    /// ```rust
+    /// let count = source.take(&mut chunk)?; // the first `count` bytes of `chunk` are the next of the input
+    /// ```
     fn take(&mut self, buffer: &mut [u8]) -> Result<usize, Failed>
         requires { failed self.old ≡ false }
         ensures bound { ReadsAtMost result buffer.new }
