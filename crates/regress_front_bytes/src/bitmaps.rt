@@ -19,7 +19,7 @@ impl Default for AsciiBitmap {
 }
 
 impl AsciiBitmap {
-    /// Adds the byte `val`, which is under 0x80.
+    /// Adds the byte `val`, which is under 0x80. After `set.set(b'a')` the set holds `b'a'`.
     pub fn set(&mut self, val: u8)
         requires { val < 128 }
         ensures { (b : ℕ) → ascii_bitmap_contains self.new b
@@ -50,7 +50,7 @@ impl Default for ByteBitmap {
 }
 
 impl ByteBitmap {
-    /// The set of these bytes.
+    /// The set of these bytes: `ByteBitmap::new(b"ab")` holds `b'a'` and `b'b'`.
     pub fn new(bytes: &[u8]) -> ByteBitmap
         ensures { (b : ℕ) → byte_bitmap_contains result b ≡ holds bytes.now b }
     {
@@ -61,14 +61,14 @@ impl ByteBitmap {
         bitmap
     }
 
-    /// Whether the byte `val` is a member.
+    /// Whether the byte `val` is a member: `ByteBitmap::new(b"ab").contains(b'b')` is true.
     pub fn contains(&self, val: u8) -> bool
         ensures { result ≡ byte_bitmap_contains self.now val }
     {
         self.0[usize::from(val / 16)] >> (val % 16) & 1 == 1
     }
 
-    /// Adds the byte `val`.
+    /// Adds the byte `val`. After `set.set(0xFF)` the set holds `0xFF`.
     pub fn set(&mut self, val: u8)
         ensures { (b : ℕ) → byte_bitmap_contains self.new b
             ≡ byte_bitmap_contains self.old b || val == b }
@@ -76,7 +76,7 @@ impl ByteBitmap {
         self.0[usize::from(val / 16)] |= 1 << (val % 16);
     }
 
-    /// Adds the members of `rhs`.
+    /// Adds the members of `rhs`. After `set.bitor(&ByteBitmap::new(b"ab"))` the set holds `b'a'` and `b'b'`.
     pub fn bitor(&mut self, rhs: &ByteBitmap)
         ensures { (b : ℕ) → byte_bitmap_contains self.new b
             ≡ byte_bitmap_contains self.old b || byte_bitmap_contains rhs.now b }
@@ -86,7 +86,8 @@ impl ByteBitmap {
         }
     }
 
-    /// Makes members of all bytes that were none, and of no other. It answers the set itself.
+    /// Makes members of all bytes that were none, and of no other. It answers the set itself: of a set of two bytes
+    /// `set.bitnot().count_bits()` is 254.
     pub fn bitnot(&mut self) -> &mut Self
         ensures same { result.ghost_name ≡ self.entry.ghost_name }
         ensures complement { (b : ℕ) → b < 256 →
@@ -98,7 +99,7 @@ impl ByteBitmap {
         self
     }
 
-    /// How many members there are.
+    /// How many members there are: `ByteBitmap::new(b"cac").count_bits()` is 2.
     pub fn count_bits(&self) -> u32
         ensures { result ≡ length (members (byte_bitmap_contains self.now)) }
     {
@@ -109,7 +110,7 @@ impl ByteBitmap {
         count
     }
 
-    /// The members, ascending. `N` is how many there are.
+    /// The members, ascending. `N` is how many there are: `ByteBitmap::new(b"cac").as_array::<2>()` is `*b"ac"`.
     pub fn as_array<const N: usize>(&self) -> [u8; N]
         requires { N ≡ length (members (byte_bitmap_contains self.now)) }
         ensures { result ≡ members (byte_bitmap_contains self.now) }

@@ -2,13 +2,15 @@
 ghost use Rattle.std.specs.Prelude.{◌≡◌, ℕ, Bool, List, Option, Some, position};
 ghost use Rattle.regress_meaning.specs.Text.{holds};
 
+use regress_front_core::MAX_CHAR_SET_LENGTH;
+
 /// What is looked for in bytes. It is found at an index or not at all.
 pub trait ByteSearcher {
     // the index at which it is found in bytes
     ghost find_in: { Self → List ℕ → Option ℕ };
 
     /// The first index in `rhs` at which this is found, or `None` where it is nowhere. Of a set of bytes it is the first
-    /// index of a member.
+    /// index of a member: `b"cb".find_in(b"abc")` is `Some(1)`.
     fn find_in(&self, rhs: &[u8]) -> Option<usize>
         ensures { result ≡ find_in self.now rhs.now };
 }
@@ -18,7 +20,7 @@ pub trait ByteSet {
     // a byte is a member
     ghost contains: { Self → ℕ → Bool };
 
-    /// Whether the byte `b` is a member.
+    /// Whether the byte `b` is a member. Of an `AsciiBitmap` the answer is false for all bytes from 0x80 on.
     fn contains(&self, b: u8) -> bool
         ensures { result ≡ contains self.now b };
 }
@@ -28,11 +30,11 @@ pub trait SmallArraySet: Copy {
     // a byte is a member
     ghost contains: { Self → ℕ → Bool };
 
-    /// Whether the byte `b` is a member.
+    /// Whether the byte `b` is a member, as `b'a'` is of `*b"ab"`.
     fn contains(self, b: u8) -> bool
         ensures { result ≡ contains self b };
 
-    /// The first index in `rhs` of a member, or `None` where there is none.
+    /// The first index in `rhs` of a member, or `None` where there is none: of `*b"xyc"` in `b"abc"` it is `Some(2)`.
     fn find_in(self, rhs: &[u8]) -> Option<usize>
         ensures { result ≡ position (contains self) rhs.now }
     {
@@ -48,10 +50,7 @@ pub struct ByteArraySet<ArraySet: SmallArraySet>(pub ArraySet);
 #[derive(Clone, Copy, Debug)]
 pub struct EmptyString;
 
-/// How many characters a set of them has that is held in an array.
-pub const MAX_CHAR_SET_LENGTH: usize = 4;
-
-/// Whether the character `c` is one of `set`.
+/// Whether the character `c` is one of `set`: `charset_contains(&[0x41, 0x61, 0x61, 0x61], 0x61)` is true.
 pub fn charset_contains(set: &[u32; MAX_CHAR_SET_LENGTH], c: u32) -> bool
     ensures { result ≡ holds set.now c }
 {
@@ -86,7 +85,7 @@ impl SmallArraySet for [u8; 4] {
 }
 
 impl<ArraySet: SmallArraySet> ByteArraySet<ArraySet> {
-    /// Whether the byte `b` is a member.
+    /// Whether the byte `b` is a member: `ByteArraySet(*b"abc").contains(b'c')` is true.
     pub fn contains(self, b: u8) -> bool
         ensures { result ≡ ArraySet.contains self.0 b }
     {

@@ -10,7 +10,8 @@ use std::cmp::Ordering;
 use std::ops::Range;
 
 /// The indices of the items that compare as `Equal`, in a slice whose items compare as `Less` first, then as `Equal`,
-/// then as `Greater`. Of any other slice it answers a range within the slice.
+/// then as `Greater`. Of any other slice it answers a range within the slice. `equal_range_by(&[1, 3, 3, 7], |x| x.cmp(&3))`
+/// is `1..3`.
 pub fn equal_range_by<T, F: Fn(&T) -> Ordering>(slice: &[T], compare: F) -> Range<usize>
     requires { F.IsAlwaysCallable compare }
     ensures ordered { result.start ≤ result.end }

@@ -9,11 +9,11 @@ mod utf8;
 
 pub use bitmaps::{AsciiBitmap, ByteBitmap};
 pub use byte_search::{
-    ByteArraySet, ByteSearcher, ByteSet, EmptyString, MAX_CHAR_SET_LENGTH, SmallArraySet,
-    charset_contains,
+    ByteArraySet, ByteSearcher, ByteSet, EmptyString, SmallArraySet, charset_contains,
 };
 pub use equal_range::equal_range_by;
 pub use ranges::{CodePointRange, FoldRange};
+pub use regress_front_core::MAX_CHAR_SET_LENGTH;
 pub use utf8::{
     are_code_points, is_utf8_continuation, to_char_sat, utf8_first_byte, utf8_w2, utf8_w3, utf8_w4,
 };

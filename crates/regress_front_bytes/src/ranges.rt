@@ -15,7 +15,7 @@ pub struct CodePointRange {
 }
 
 impl CodePointRange {
-    /// The `len` code points from `start` on.
+    /// The `len` code points from `start` on: `CodePointRange::from(0x41, 26)` has the capital letters of ASCII.
     pub const fn from(start: u32, len: u32) -> Self
         requires low { start < 0x10_0000 }
         requires not_empty { 1 ≤ len }
@@ -26,14 +26,14 @@ impl CodePointRange {
         CodePointRange { start, len }
     }
 
-    /// The first code point.
+    /// The first code point: 41 (hexadecimal) of the capital letters of ASCII.
     pub const fn first(self) -> u32
         ensures { result ≡ self.start }
     {
         self.start
     }
 
-    /// The last code point.
+    /// The last code point: 5A (hexadecimal) of the capital letters of ASCII.
     pub const fn last(self) -> u32
         ensures { result + 1 ≡ self.start + self.len }
     {
@@ -55,7 +55,8 @@ pub struct FoldRange {
 }
 
 impl FoldRange {
-    /// Moves by `delta` every `modulo`-th of the `length` code points from `start` on.
+    /// Moves by `delta` every `modulo`-th of the `length` code points from `start` on: `FoldRange::from(0x41, 26, 32, 1)` moves
+    /// the capital letters of ASCII to the small ones.
     pub const fn from(start: u32, length: u32, delta: i32, modulo: u8) -> Self
         requires low { start < 0x10_0000 }
         requires not_empty { 1 ≤ length }
@@ -74,7 +75,8 @@ impl FoldRange {
         }
     }
 
-    /// Where folding moves the code point `c`, or `None` where this range leaves it alone.
+    /// Where folding moves the code point `c`, or `None` where this range leaves it alone:
+    /// `FoldRange::from(0x41, 26, 32, 1).apply(0x4B)` is `Some(0x6B)`.
     pub fn apply(&self, c: u32) -> Option<u32>
         ensures when { IsSome result ↔ IsStep self.now.range.start self.now.range.len self.now.modulo c }
         ensures moved { IfSome result (λ d. pos d ≡ pos c +ℤ self.now.delta) }

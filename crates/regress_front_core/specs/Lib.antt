@@ -1,4 +1,5 @@
 pub mod ErrorTexts
 pub mod FlagWords
+pub mod Limits
 pub mod Quantifiers
 pub mod Refusals

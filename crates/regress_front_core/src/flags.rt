@@ -27,7 +27,8 @@ pub struct Flags {
 
 impl Flags {
     /// The flags that a word sets, given as its code points: `i`, `m`, `s`, `u` and `v`, wherever they stand in it and
-    /// however often. All else is skipped, and unlike in "RegExpInitialize" no word is refused.
+    /// however often. All else is skipped, and unlike in "RegExpInitialize" no word is an error: `Flags::new([0x69].into_iter())`
+    /// sets `icase` alone.
     pub fn new<I: Iterator<Item = u32>>(letters: I) -> Flags
         requires can { I.can_next letters }
         requires ends { IsFinite (I.remaining letters) }
@@ -47,7 +48,7 @@ impl Flags {
         flags
     }
 
-    /// Whether they set Unicode mode: `u` or `v` ("RegExp Records").
+    /// Whether they set Unicode mode: `u` or `v` ("RegExp Records"). `Flags::from("iv").is_unicode()` is true.
     pub fn is_unicode(self) -> bool
         ensures { result ≡ is_unicode (options self) }
     {
@@ -55,7 +56,7 @@ impl Flags {
     }
 }
 
-/// The flags that a word sets, as `Flags::new` reads its code points.
+/// The flags that a word sets, as `Flags::new` reads its code points: `Flags::from("im")` sets `icase` and `multiline`.
 impl From<&str> for Flags {
     ghost from_gives = { λ text flags. flags ≡ flags_of (chars text.now) };
 
@@ -64,7 +65,8 @@ impl From<&str> for Flags {
     }
 }
 
-/// The letters of the flags that are set, in the order `misuv`. Nothing is written for `no_opt`.
+/// The letters of the flags that are set, in the order `misuv`, as `iv` for `Flags::from("vi")`. Nothing is written for
+/// `no_opt`.
 impl fmt::Display for Flags {
     ghost output = { λ flags. Some (letters_of flags) };
 

@@ -10,8 +10,8 @@ mod state;
 pub use error::Error;
 pub use flags::{Flags, flags_are_read_back};
 pub use limits::{
-    CaptureGroupID, CaptureGroupName, IP, LoopID, MAX_CAPTURE_GROUPS, MAX_LOOPS, MAX_NESTING_DEPTH,
-    limits_are_those_of_the_definitions,
+    CaptureGroupID, CaptureGroupName, IP, LoopID, MAX_CAPTURE_GROUPS, MAX_CHAR_SET_LENGTH,
+    MAX_LOOPS, MAX_NESTING_DEPTH, limits_are_those_of_the_definitions,
 };
 pub use quantifier::Quantifier;
 pub use state::{GroupData, LoopData};

@@ -33,7 +33,8 @@ impl Quantifier {
         Quantifier { min, max, greedy }
     }
 
-    /// How often it may be matched at most: `max`, or `usize::MAX` where there is no limit.
+    /// How often it may be matched at most: `max`, or `usize::MAX` where there is no limit. `Quantifier::new(2, 3, true).most()`
+    /// is 3.
     pub fn most(self) -> usize
         ensures { result ≡ most self }
     {

@@ -13,7 +13,7 @@ pub struct LoopData<P: Copy> {
 }
 
 impl<P: Copy> LoopData<P> {
-    /// A loop before its first iteration, entered at a position.
+    /// A loop before its first iteration, entered at a position: `LoopData::new(7)` has 7 as its `entry`.
     pub fn new(entry: P) -> LoopData<P>
         ensures { result ≡ record { iters = 0; entry = entry } }
     {
@@ -31,7 +31,7 @@ pub struct GroupData<P: Copy> {
 }
 
 impl<P: Copy> GroupData<P> {
-    /// A group that has matched nothing.
+    /// A group that has matched nothing: `GroupData::<usize>::new().as_range()` is `None`.
     pub fn new() -> GroupData<P>
         ensures { result ≡ record { start = None; end = None } }
     {
@@ -41,21 +41,21 @@ impl<P: Copy> GroupData<P> {
         }
     }
 
-    /// Whether the start is known.
+    /// Whether the start is known, as `group.start_matched()` after `group.start = Some(3)`.
     pub fn start_matched(&self) -> bool
         ensures { result ≡ is_some self.now.start }
     {
         self.start.is_some()
     }
 
-    /// Whether the end is known.
+    /// Whether the end is known, as `group.end_matched()` after `group.end = Some(5)`.
     pub fn end_matched(&self) -> bool
         ensures { result ≡ is_some self.now.end }
     {
         self.end.is_some()
     }
 
-    /// The range that the group has matched, where both its ends are known.
+    /// The range that the group has matched, where both its ends are known: `Some(3..5)` from 3 to 5.
     pub fn as_range(&self) -> Option<Range<P>>
         ensures both { IsSome result ↔ (IsSome self.now.start × IsSome self.now.end) }
         ensures ends { IfSome result (λ range. (self.now.start ≡ Some range.start) × (self.now.end ≡ Some range.end)) }
@@ -66,7 +66,7 @@ impl<P: Copy> GroupData<P> {
         }
     }
 
-    /// Forgets the match.
+    /// Forgets the match: after `group.reset()` neither end is known.
     pub fn reset(&mut self)
         ensures { self.new ≡ record { start = None; end = None } }
     {

@@ -3,6 +3,7 @@ use Rattle.std.specs.Prelude.{◌≡◌, ℕ, ◌+◌, ◌<◌, ◌≤◌, true,
 use Rattle.std.specs.Option.{option_or}
 use Rattle.std.specs.Str.{IsUtf8}
 use Rattle.regress_meaning.specs.TableParts.{IntervalsRise, is_code_point}
+use Rattle.regress_front_core.specs.Limits.{most_members}
 use Rattle.regress_front_nodes.specs.Trees.{Tree, goal, char, bytes, byte_set, char_set, cat, no_part, alt, capture, back, bracket, string_set, look, loop, single_loop}
 use Rattle.regress_front_nodes.specs.Singles.{takes_one}
 
@@ -37,10 +38,6 @@ abbrev pub last_part : Tree → Tree
 last_part (cat a no_part) = last_part a
 last_part (cat a b) = last_part b
 last_part a = a
-
--- at most this many members has a set of bytes or of code points
-abbrev pub most_members : ℕ
-most_members = 4
 
 -- the bytes are the UTF-8 of some characters, at least one
 abbrev pub AreCharacters : List ℕ → Type 0

@@ -104,7 +104,8 @@ pub const LINE_TERMINATOR: [Interval; 3] = [
     },
 ];
 
-/// `WORD_CHARS`, with a contract that tells its members, since a clause cannot name a constant of intervals.
+/// `WORD_CHARS`, with a contract that tells its members, since a clause cannot name a constant of intervals:
+/// `word_chars()[2]` holds `_` alone.
 pub const fn word_chars() -> [Interval; 4]
     ensures members { (c : ℕ) → in_intervals (ends_of result) c ≡ is_ascii_word c }
     ensures rise { IntervalsRise (ends_of result) }
@@ -112,7 +113,7 @@ pub const fn word_chars() -> [Interval; 4]
     WORD_CHARS
 }
 
-/// `DIGITS`, with a contract that tells its members.
+/// `DIGITS`, with a contract that tells its members: `digits()[0].contains(0x39)` is true.
 pub const fn digits() -> [Interval; 1]
     ensures members { (c : ℕ) → in_intervals (ends_of result) c ≡ is_digit c }
     ensures rise { IntervalsRise (ends_of result) }
@@ -120,7 +121,7 @@ pub const fn digits() -> [Interval; 1]
     DIGITS
 }
 
-/// `WHITESPACE`, with a contract that tells its members.
+/// `WHITESPACE`, with a contract that tells its members: `whitespace()[1]` holds the space alone.
 pub const fn whitespace() -> [Interval; 10]
     ensures members { (c : ℕ) → in_intervals (ends_of result) c ≡ is_space c }
     ensures rise { IntervalsRise (ends_of result) }
@@ -128,7 +129,7 @@ pub const fn whitespace() -> [Interval; 10]
     WHITESPACE
 }
 
-/// `LINE_TERMINATOR`, with a contract that tells its members.
+/// `LINE_TERMINATOR`, with a contract that tells its members: `line_terminator()[0]` holds the line feed alone.
 pub const fn line_terminator() -> [Interval; 3]
     ensures members { (c : ℕ) → in_intervals (ends_of result) c ≡ is_line_end c }
     ensures rise { IntervalsRise (ends_of result) }
@@ -137,6 +138,7 @@ pub const fn line_terminator() -> [Interval; 3]
 }
 
 /// Whether the code point is an ASCII letter, a digit or `_`: what `\w` holds where case is not ignored ("WordCharacters").
+/// `is_ascii_word(0x5F)` is true, `is_ascii_word(0x17F)` is not.
 pub fn is_ascii_word(point: CodePoint) -> bool
     ensures { result ≡ is_ascii_word point }
 {

@@ -21,33 +21,35 @@ pub struct CodePointSet {
 }
 
 impl CodePointSet {
-    ghost use Rattle.regress_front_sets.specs.Sets.{in_set};
+    ghost use Rattle.regress_front_sets.specs.Sets.{in_set, intervals_of, ends_in};
 
-    /// The empty set. It takes no memory until something is added.
+    /// The empty set. It takes no memory until something is added: `CodePointSet::new(alloc).contains(0x61)` is false.
     pub fn new(alloc: Global) -> CodePointSet
-        ensures { result.intervals.items ≡ [] }
+        ensures { intervals_of result ≡ [] }
     {
         CodePointSet {
             intervals: Vec::new(alloc),
         }
     }
 
-    /// The intervals of the set, from low to high, with a code point of no interval between any two.
+    /// The intervals of the set, from low to high, with a code point of no interval between any two: `set.intervals().len()`
+    /// is 1 once 1, 2 and 3 are added to an empty set.
     pub fn intervals(&self) -> &[Interval]
-        ensures { result.now ≡ self.now.intervals.items }
+        ensures { result.now ≡ intervals_of self.now }
     {
         self.intervals.as_slice()
     }
 
-    /// The set of the code points of intervals that rise, with a code point of no interval between any two.
+    /// The set of the code points of intervals that rise, with a code point of no interval between any two, as of
+    /// `vec![in alloc; Interval { first: 1, last: 2 }]?`.
     pub fn from_sorted_disjoint_intervals(intervals: Vec<Interval>) -> CodePointSet
         requires { IntervalsRise (ends_of intervals.items) }
-        ensures { result.intervals.items ≡ intervals.items }
+        ensures { intervals_of result ≡ intervals.items }
     {
         CodePointSet { intervals }
     }
 
-    /// Whether the code point is a member.
+    /// Whether the code point is a member: `set.contains(0x61)` is true after `set.add_one(0x61)?`.
     pub fn contains(&self, cp: CodePoint) -> bool
         ensures { result ≡ in_set self.now cp }
     {
@@ -56,10 +58,11 @@ impl CodePointSet {
             .is_ok()
     }
 
-    /// Adds each code point of an interval. Where memory is refused, with `Error::OutOfMemory`, the set stays as it is.
+    /// Adds each code point of an interval, as `set.add(Interval { first: 0x61, last: 0x7A })?`. Where memory is refused, with
+    /// `Error::OutOfMemory`, the set stays as it is.
     pub fn add(&mut self, new_iv: Interval) -> Result<(), Error>
         ensures members { OnOk result ((c : ℕ) → in_set self.new c ≡ (in_set self.old c || in_interval new_iv c)) }
-        ensures unchanged { OnErr result (self.new.intervals.items ≡ self.old.intervals.items) }
+        ensures unchanged { OnErr result (intervals_of self.new ≡ intervals_of self.old) }
         ensures refused { IsOkUnless result Error.OutOfMemory }
     {
         let run = self.run(new_iv);
@@ -76,7 +79,7 @@ impl CodePointSet {
 
     /// The places of the intervals that an interval overlaps or adjoins.
     fn run(&self, interval: Interval) -> Range<usize>
-        ensures { IsRun (ends_of self.now.intervals.items) (ends interval) result.start result.end }
+        ensures { IsRun (ends_in self.now) (ends interval) result.start result.end }
     {
         let start = self
             .intervals
@@ -87,11 +90,11 @@ impl CodePointSet {
         start..end
     }
 
-    /// Adds a code point. Where memory is refused, with `Error::OutOfMemory`, the set stays as it is.
+    /// Adds a code point, as `set.add_one(0x61)?`. Where memory is refused, with `Error::OutOfMemory`, the set stays as it is.
     pub fn add_one(&mut self, cp: CodePoint) -> Result<(), Error>
         requires { cp ≤ CODE_POINT_MAX }
         ensures members { OnOk result ((c : ℕ) → in_set self.new c ≡ (in_set self.old c || c == cp)) }
-        ensures unchanged { OnErr result (self.new.intervals.items ≡ self.old.intervals.items) }
+        ensures unchanged { OnErr result (intervals_of self.new ≡ intervals_of self.old) }
         ensures refused { IsOkUnless result Error.OutOfMemory }
     {
         self.add(Interval {
@@ -100,10 +103,11 @@ impl CodePointSet {
         })
     }
 
-    /// Adds each member of another set. Where memory is refused, with `Error::OutOfMemory`, the set stays as it is.
+    /// Adds each member of another set, as `set.add_set(letters)?`. Where memory is refused, with `Error::OutOfMemory`, the set
+    /// stays as it is.
     pub fn add_set(&mut self, rhs: CodePointSet) -> Result<(), Error>
         ensures members { OnOk result ((c : ℕ) → in_set self.new c ≡ (in_set self.old c || in_set rhs c)) }
-        ensures unchanged { OnErr result (self.new.intervals.items ≡ self.old.intervals.items) }
+        ensures unchanged { OnErr result (intervals_of self.new ≡ intervals_of self.old) }
         ensures refused { IsOkUnless result Error.OutOfMemory }
     {
         let union = self.union(&rhs)?;
@@ -134,9 +138,9 @@ impl CodePointSet {
 
     /// Adds each code point of an interval that begins no earlier than any of the set.
     fn push(&mut self, next: Interval) -> Result<(), AllocError>
-        requires { All (λ i. i.first ≤ next.first) self.old.intervals.items }
+        requires { All (λ i. i.first ≤ next.first) (intervals_of self.old) }
         ensures members { OnOk result ((c : ℕ) → in_set self.new c ≡ (in_set self.old c || in_interval next c)) }
-        ensures order { OnOk result (All (λ i. i.first ≤ next.first) self.new.intervals.items) }
+        ensures order { OnOk result (All (λ i. i.first ≤ next.first) (intervals_of self.new)) }
     {
         let len = self.intervals.len();
         if len > 0 {
@@ -150,10 +154,11 @@ impl CodePointSet {
         Ok(())
     }
 
-    /// The code points that are no members, as a set of their own. `Error::OutOfMemory` where memory is refused.
+    /// The code points that are no members, as a set of their own: `CodePointSet::new(alloc).inverted()?` holds all. The error
+    /// is `Error::OutOfMemory`, where memory is refused.
     pub fn inverted(&self) -> Result<CodePointSet, Error>
         ensures members { IfOk result (λ s. (c : ℕ) → in_set s c ≡ (nat_le c CODE_POINT_MAX && not (in_set self.now c))) }
-        ensures intervals { IfOk result (λ s. ends_of s.intervals.items ≡ inverse (ends_of self.now.intervals.items)) }
+        ensures intervals { IfOk result (λ s. ends_in s ≡ inverse (ends_in self.now)) }
         ensures refused { IsOkUnless result Error.OutOfMemory }
     {
         let gaps = self.gaps()?;
@@ -162,7 +167,7 @@ impl CodePointSet {
 
     /// The intervals of the code points that are no members.
     fn gaps(&self) -> Result<Vec<Interval>, AllocError>
-        ensures { IfOk result (λ gaps. ends_of gaps.items ≡ inverse (ends_of self.now.intervals.items)) }
+        ensures { IfOk result (λ gaps. ends_of gaps.items ≡ inverse (ends_in self.now)) }
     {
         let mut gaps = Vec::new(*self.intervals.allocator());
         let mut next = 0;
@@ -174,9 +179,9 @@ impl CodePointSet {
         Ok(gaps)
     }
 
-    /// How many intervals the inverted set has.
+    /// How many intervals the inverted set has: 1 for the empty set.
     pub fn inverted_interval_count(&self) -> usize
-        ensures { result ≡ length (inverse (ends_of self.now.intervals.items)) }
+        ensures { result ≡ length (inverse (ends_in self.now)) }
     {
         let len = self.intervals.len();
         if len == 0 {

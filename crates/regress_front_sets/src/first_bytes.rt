@@ -6,7 +6,8 @@ ghost use Rattle.regress_front_sets.specs.FirstBytes.{BeginsSome, begins_between
 use crate::interval::Interval;
 use regress_front_bytes::{ByteBitmap, utf8_first_byte};
 
-/// Adds to the bitmap the first byte of each code point of the interval in UTF-8, where a surrogate takes three bytes.
+/// Adds to the bitmap the first byte of each code point of the interval in UTF-8, where a surrogate takes three bytes: of
+/// 7E to 80 (hexadecimal) the bytes 7E, 7F and C2.
 pub fn add_utf8_first_bytes_to_bitmap(interval: Interval, bitmap: &mut ByteBitmap)
     ensures { (b : ℕ) → (byte_bitmap_contains bitmap.new b ≡ true)
         ↔ ((byte_bitmap_contains bitmap.old b ≡ true) ⊎ BeginsSome interval b) }

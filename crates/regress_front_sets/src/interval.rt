@@ -25,7 +25,7 @@ impl Interval {
     ghost use Rattle.regress_front_sets.specs.Intervals.{in_interval, interval_cmp};
 
     /// Where the interval lies, seen from a code point: `Less` where all of it lies before, `Equal` where it holds the
-    /// code point, `Greater` where all of it lies after.
+    /// code point, `Greater` where all of it lies after. Of 61 to 7A (hexadecimal) `letters.compare(0x60)` is `Greater`.
     pub fn compare(self, cp: CodePoint) -> Ordering
         ensures { result ≡ interval_cmp self cp }
     {
@@ -38,21 +38,21 @@ impl Interval {
         }
     }
 
-    /// Whether the code point lies in the interval.
+    /// Whether the code point lies in the interval, as `Interval { first: 0x61, last: 0x7A }.contains(0x7A)`.
     pub fn contains(self, cp: CodePoint) -> bool
         ensures { result ≡ in_interval self cp }
     {
         self.first <= cp && cp <= self.last
     }
 
-    /// Whether some code point lies in both intervals.
+    /// Whether some code point lies in both intervals: those from 1 to 5 and from 5 to 9 overlap.
     pub fn overlaps(self, other: Interval) -> bool
         ensures { IsTrue result ↔ ((c : ℕ) × IsTrue (in_interval self c) × IsTrue (in_interval other c)) }
     {
         self.first <= other.last && other.first <= self.last
     }
 
-    /// The code points of the interval, as a range whose end is not included.
+    /// The code points of the interval, as a range whose end is not included: `1..6` for those from 1 to 5.
     pub fn codepoints(self) -> Range<u32>
         ensures start { result.start ≡ self.first }
         ensures end { result.end ≡ self.last + 1 }
@@ -60,7 +60,7 @@ impl Interval {
         self.first..self.last + 1
     }
 
-    /// How many code points lie in the interval.
+    /// How many code points lie in the interval: 5 in that from 1 to 5.
     pub fn count_codepoints(self) -> usize
         ensures { self.first + result ≡ self.last + 1 }
     {

@@ -3,12 +3,8 @@ use Rattle.std.specs.Prelude.{ℕ, List, String, Vec, map}
 use Rattle.std.specs.declared.alloc.Global.{Global}
 use Rattle.regress_meaning.specs.TableParts.{TableParts}
 use Rattle.regress_front_sets.specs.declared.code_point_set.CodePointSet.{CodePointSet}
-use Rattle.regress_front_sets.specs.Intervals.{ends_of}
+use Rattle.regress_front_sets.specs.Sets.{ends_in}
 use Rattle.regress_front_tables.specs.Entries.{entry_of}
-
--- the ends of a set's intervals
-abbrev pub ends_in : CodePointSet → List (ℕ × ℕ)
-ends_in set = ends_of set.intervals.items
 
 -- the parts of the lists and the sets
 abbrev pub listed : List (ℕ × ℕ) → List (ℕ × ℕ) → CodePointSet → CodePointSet → List (String Global × CodePointSet)

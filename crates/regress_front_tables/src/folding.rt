@@ -11,9 +11,10 @@ ghost use Rattle.regress_front_tables.specs.Folding.{Lists, IsCaseMap, GrowsInsi
 use crate::tables::Tables;
 use crate::tables::image::image;
 use regress_front_sets::{CODE_POINT_MAX, CodePoint, CodePointSet, Error};
-use std::alloc::Global;
+use std::alloc::{AllocError, Global};
 
-/// The simple case folding of a code point, which is itself where it has no other ("Canonicalize").
+/// The simple case folding of a code point, which is itself where it has no other ("Canonicalize"): `fold(&tables, 0x4B)` is
+/// `0x6B`.
 pub fn fold(tables: &Tables, c: CodePoint) -> CodePoint
     ensures { result ≡ (table tables.now).fold c }
 {
@@ -21,17 +22,19 @@ pub fn fold(tables: &Tables, c: CodePoint) -> CodePoint
 }
 
 /// The code points that fold to what this one folds to, from low to high ("Canonicalize", in Unicode mode). Where memory
-/// is refused the error is `OutOfMemory`, and there is no other.
+/// is refused the error is `OutOfMemory`, and there is no other. Of the small table `unfold_char(alloc, 0x6B, &tables)?` holds
+/// `0x4B`, `0x6B` and `0x212A`.
 pub fn unfold_char(alloc: Global, c: CodePoint, tables: &Tables) -> Result<Vec<CodePoint>, Error>
     requires { c ≤ CODE_POINT_MAX }
     ensures members { IfOk result (λ cs. Lists (λ d. (table tables.now).fold d == (table tables.now).fold c) cs.items) }
     ensures refused { IsOkUnless result Error.OutOfMemory }
 {
-    sharing(alloc, pairs_of(tables, true), c)
+    Ok(sharing(alloc, pairs_of(tables, true), c)?)
 }
 
 /// All code points that fold to what a member of the set folds to ("CharacterSetMatcher", where case is ignored in Unicode
-/// mode). Where memory is refused the error is `OutOfMemory`, and there is no other.
+/// mode): of `k` alone `k`, `K` and the sign of kelvin. Where memory is refused the error is `OutOfMemory`, and there is no
+/// other.
 pub fn add_icase_code_points(set: CodePointSet, tables: &Tables) -> Result<CodePointSet, Error>
     ensures members { IfOk result (λ all. (c : ℕ) → in_set all c ≡ closure (table tables.now).fold (in_set set) c) }
     ensures refused { IsOkUnless result Error.OutOfMemory }
@@ -40,8 +43,8 @@ pub fn add_icase_code_points(set: CodePointSet, tables: &Tables) -> Result<CodeP
 }
 
 /// All code points that a member of the set stands for where case is ignored: those with its fold in Unicode mode, and else
-/// those with its upper case ("CharacterSetMatcher"). Where memory is refused the error is `OutOfMemory`, and there is no
-/// other.
+/// those with its upper case ("CharacterSetMatcher"): of `k` alone `closure(set, false, &tables)?` holds `k` and `K`. Where
+/// memory is refused the error is `OutOfMemory`, and there is no other.
 pub fn closure(set: CodePointSet, unicode: bool, tables: &Tables) -> Result<CodePointSet, Error>
     ensures members { IfOk result (λ all. (c : ℕ) → in_set all c ≡ closure (canon (table tables.now) unicode) (in_set set) c) }
     ensures refused { IsOkUnless result Error.OutOfMemory }
@@ -51,7 +54,8 @@ pub fn closure(set: CodePointSet, unicode: bool, tables: &Tables) -> Result<Code
 
 /// The code points that a code point of a pattern stands for, from low to high: itself, or where case is ignored all with its
 /// fold in Unicode mode, and else all with its upper case ("CharacterSetMatcher"). There are at most four. Where memory is
-/// refused the error is `OutOfMemory`, and there is no other.
+/// refused the error is `OutOfMemory`, and there is no other. `expand_code_point(alloc, 0x73, true, false, &tables)?` holds
+/// `0x53` and `0x73`.
 pub fn expand_code_point(
     alloc: Global,
     cp: CodePoint,
@@ -67,7 +71,7 @@ pub fn expand_code_point(
     ensures refused { IsOkUnless result Error.OutOfMemory }
 {
     if icase {
-        sharing(alloc, pairs_of(tables, unicode), cp)
+        Ok(sharing(alloc, pairs_of(tables, unicode), cp)?)
     } else {
         Ok(vec![in alloc; cp]?)
     }
@@ -92,12 +96,11 @@ fn sharing(
     alloc: Global,
     pairs: &[(CodePoint, CodePoint)],
     c: CodePoint,
-) -> Result<Vec<CodePoint>, Error>
+) -> Result<Vec<CodePoint>, AllocError>
     requires lawful { IsCaseMap pairs.now }
     requires code_point { c ≤ CODE_POINT_MAX }
     ensures members { IfOk result (λ cs. Lists (λ d. image pairs.now d == image pairs.now c) cs.items) }
     ensures few { IfOk result (λ cs. (0 < vec_len cs) × (vec_len cs ≤ 4)) }
-    ensures refused { IsOkUnless result Error.OutOfMemory }
 {
     let to = image(pairs, c);
     let mut sharing: Vec<CodePoint> = pairs

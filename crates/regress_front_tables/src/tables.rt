@@ -3,8 +3,9 @@ ghost use Rattle.std.specs.Prelude.{◌≡◌, All, IfOk, map, chars, option_map
 ghost use Rattle.regress_meaning.specs.TableParts.{IsLawful, IntervalsRise, entry};
 ghost use Rattle.regress_front_sets.specs.Props.{IsLawful-prop};
 ghost use Rattle.regress_front_sets.specs.Intervals.{ends_of};
+ghost use Rattle.regress_front_sets.specs.Sets.{ends_in};
 ghost use Rattle.regress_front_tables.specs.Entries.{entry_of};
-ghost use Rattle.regress_front_tables.specs.Listed.{listed, ends_in};
+ghost use Rattle.regress_front_tables.specs.Listed.{listed};
 
 mod check;
 pub(crate) mod image;
@@ -44,6 +45,7 @@ impl Tables {
 
     /// The tables with these parts, if the parts keep all laws. Otherwise `Broken` tells the first law that they break, in
     /// the order of `TableLaw`. Where a request for memory is refused, the error is `OutOfMemory`.
+    /// `Tables::new(alloc, parts)?` of what `TableParts::small(alloc)?` answers is the small table.
     pub fn new(alloc: Global, parts: TableParts) -> Result<Tables, TableError>
         ensures made { IfOk result (λ tables. parts_in tables ≡ parts_of parts) }
         ensures lawful { OnOk result (IsLawful (parts_of parts)) }
@@ -61,7 +63,8 @@ impl Tables {
         })
     }
 
-    /// The small table, which knows ASCII, a few letters beyond it and four keys. The only error is `OutOfMemory`.
+    /// The small table, which knows ASCII, a few letters beyond it and four keys: `Tables::small(alloc)?`. The only error is
+    /// `OutOfMemory`.
     pub fn small(alloc: Global) -> Result<Tables, TableError>
         ensures small { IfOk result (λ tables. table tables ≡ table_of small_parts) }
         ensures refused { IsOkUnless result TableError.OutOfMemory }
@@ -70,14 +73,16 @@ impl Tables {
         Tables::new(alloc, TableParts::small(alloc)?)
     }
 
-    /// The simple case folding of a code point, which is itself where it has no other ("Canonicalize").
+    /// The simple case folding of a code point, which is itself where it has no other ("Canonicalize"): `tables.fold(0x4B)` is
+    /// `0x6B`.
     pub fn fold(&self, c: CodePoint) -> CodePoint
         ensures { result ≡ (table self.now).fold c }
     {
         image(&self.fold, c)
     }
 
-    /// The simple upper case of a code point, which is itself where it has no other ("Canonicalize").
+    /// The simple upper case of a code point, which is itself where it has no other ("Canonicalize"): `tables.upper(0x6B)` is
+    /// `0x4B`.
     pub fn upper(&self, c: CodePoint) -> CodePoint
         ensures { result ≡ (table self.now).upper c }
     {
@@ -85,21 +90,23 @@ impl Tables {
     }
 
     /// What two code points have alike where case is ignored: the fold in Unicode mode, and else the upper case
-    /// ("Canonicalize").
+    /// ("Canonicalize"). `tables.canon(true, 0x4B)` is `0x6B`, `tables.canon(false, 0x4B)` is `0x4B`.
     pub fn canon(&self, unicode: bool, c: CodePoint) -> CodePoint
         ensures { result ≡ canon (table self.now) unicode c }
     {
         if unicode { self.fold(c) } else { self.upper(c) }
     }
 
-    /// Whether an identifier may begin with the code point ("IdentifierStartChar", without `$` and `_`).
+    /// Whether an identifier may begin with the code point ("IdentifierStartChar", without `$` and `_`):
+    /// `tables.id_start(0x30)` is false.
     pub fn id_start(&self, c: CodePoint) -> bool
         ensures { result ≡ (table self.now).is_id_start c }
     {
         self.id_start.contains(c)
     }
 
-    /// Whether an identifier may go on with the code point ("IdentifierPartChar", without `$`).
+    /// Whether an identifier may go on with the code point ("IdentifierPartChar", without `$`): `tables.id_continue(0x30)` is
+    /// true.
     pub fn id_continue(&self, c: CodePoint) -> bool
         ensures { result ≡ (table self.now).is_id_continue c }
     {
@@ -107,7 +114,7 @@ impl Tables {
     }
 
     /// The code points with a property ("UnicodeMatchProperty"). The key is the text between the braces of `\p{..}`. The
-    /// answer is `None` where no property of code points has that key.
+    /// answer is `None` where no property of code points has that key, as for `tables.property("Basic_Emoji")`.
     pub fn property(&self, key: &str) -> Option<&CodePointSet>
         ensures { option_map (λ set. in_set set.now) result ≡ (table self.now).property (chars key.now) }
     {
@@ -115,7 +122,8 @@ impl Tables {
     }
 
     /// The strings with a property of strings ("UnicodeMatchProperty"), each as its code points. The key is the text between
-    /// the braces of `\p{..}`. The answer is `None` where no property of strings has that key.
+    /// the braces of `\p{..}`, as in `tables.sequences("Emoji_Keycap_Sequence")`. The answer is `None` where no property of
+    /// strings has that key.
     pub fn sequences(&self, key: &str) -> Option<&[Vec<CodePoint>]>
         ensures { option_map (λ strings. map (λ s. s.items) strings.now) result ≡ (table self.now).sequences (chars key.now) }
     {

@@ -28,7 +28,8 @@ pub struct TableParts {
 impl TableParts {
     ghost use Rattle.regress_front_tables.specs.Parts.{parts_of};
 
-    /// The parts of the small table: ASCII, a few letters beyond it and four keys. The only error is `OutOfMemory`.
+    /// The parts of the small table: ASCII, a few letters beyond it and four keys. `TableParts::small(alloc)?.id_start` holds
+    /// letters alone. The only error is `OutOfMemory`.
     pub fn small(alloc: Global) -> Result<TableParts, TableError>
         ensures small { IfOk result (λ parts. parts_of parts ≡ small_parts) }
         ensures refused { IsOkUnless result TableError.OutOfMemory }

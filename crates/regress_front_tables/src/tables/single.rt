@@ -1,5 +1,5 @@
 //! The laws of tables that are about single code points.
-ghost use Rattle.std.specs.Prelude.{◌≡◌, ◌↔◌, ◌<◌, ◌+◌, ℕ, false, true, [], IsTrue, IfSome, IfNone, IfOk, IfErr, All, unwrap_or};
+ghost use Rattle.std.specs.Prelude.{◌≡◌, ◌↔◌, ◌<◌, ◌+◌, ℕ, false, true, [], IsTrue, IfSome, IfNone, IfOk, All, unwrap_or};
 ghost use Rattle.std.specs.Ordering.{nat_cmp};
 ghost use Rattle.std.specs.BTreeMap.{get};
 ghost use Rattle.regress_meaning.specs.TableParts.{PairsRise, IntervalsRise, KeepsRange, KeepsOrder, KeepsCanonical, BothMaps, HasAsciiCase, IsIdempotentAt, HasSmallClass, AvoidsSurrogates, KeepsIdentifierAt, in_intervals, is_surrogate, is_code_point};
@@ -8,10 +8,8 @@ ghost use Rattle.regress_front_tables.specs.Parts.{parts_of};
 ghost use Rattle.regress_front_tables.specs.Breaking.{Tells};
 ghost use Rattle.regress_front_tables.specs.Telling.{TellsLeast, lesser, others_to};
 ghost use Rattle.regress_front_tables.specs.declared.tables.law.TableLaw.TheVariants.{AsciiCase, Idempotent, ClassSize, Surrogate, Identifier};
-ghost use Rattle.regress_front_tables.specs.declared.tables.law.TableError.TheVariants.{OutOfMemory};
 
 use super::image::image;
-use super::law::TableError;
 use super::parts::TableParts;
 use regress_front_sets::{CodePoint, Interval};
 use std::alloc::{AllocError, Global};
@@ -66,14 +64,13 @@ fn moved_twice_by(pairs: &[(CodePoint, CodePoint)]) -> Option<CodePoint>
 pub(crate) fn too_large_class(
     alloc: Global,
     parts: &TableParts,
-) -> Result<Option<CodePoint>, TableError>
+) -> Result<Option<CodePoint>, AllocError>
     requires range { KeepsRange (parts_of parts.now) }
     requires order { KeepsOrder (parts_of parts.now) }
     requires idempotent { BothMaps (parts_of parts.now) (λ pairs. (c : ℕ) → IsIdempotentAt c pairs) }
     ensures kept { IfOk result (λ told. IfNone told
         (BothMaps (parts_of parts.now) (λ pairs. (d : ℕ) → HasSmallClass d pairs))) }
     ensures broken { IfOk result (λ told. IfSome told (λ d. Tells ClassSize (parts_of parts.now) d)) }
-    ensures refused { IfErr result (λ e. e ≡ OutOfMemory) }
 {
     let fold = too_large_class_by(alloc, &parts.fold)?;
     let upper = too_large_class_by(alloc, &parts.upper)?;

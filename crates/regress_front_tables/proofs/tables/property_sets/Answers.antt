@@ -6,7 +6,7 @@ use Rattle.regress_meaning.specs.TableParts.{IntervalsRise}
 use Rattle.regress_front_sets.specs.declared.interval.Interval.{Interval}
 use Rattle.regress_front_sets.specs.Intervals.{ends_of}
 use Rattle.regress_front_tables.specs.Entries.{entry_of}
-use Rattle.regress_front_tables.specs.Listed.{ends_in}
+use Rattle.regress_front_sets.specs.Sets.{ends_in}
 use Rattle.regress_front_tables.proofs.tables.property_sets.Goals as goal
 
 pub collect-requires-clause-can : goal.collect-requires-clause-can

@@ -1,6 +1,6 @@
 use Rattle.std.proofs.Common.{ℕ, ◌≡◌, ◌∙◌, Option, List, Bool, false, sym, ap, unwrap_or, option_map, chars, string_bytes}
 use Rattle.regress_meaning.specs.TableParts.{in_intervals}
-use Rattle.regress_front_tables.specs.Listed.{ends_in}
+use Rattle.regress_front_sets.specs.Sets.{ends_in}
 use Rattle.regress_front_tables.specs.TableViews.{table}
 use Rattle.regress_front_tree.proofs.ClassLemmas.{in_set-none, entry-no_text}
 use Rattle.regress_front_tree.proofs.class_value.property_set.Goals as goal

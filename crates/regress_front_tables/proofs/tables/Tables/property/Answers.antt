@@ -3,7 +3,7 @@ use Rattle.std.specs.Option.{option_map}
 use Rattle.regress_meaning.specs.TableParts.{entry, in_intervals}
 use Rattle.regress_front_sets.specs.Sets.{in_set}
 use Rattle.regress_front_tables.specs.Entries.{entry_of}
-use Rattle.regress_front_tables.specs.Listed.{ends_in}
+use Rattle.regress_front_sets.specs.Sets.{ends_in}
 use Rattle.regress_front_tables.proofs.EntryLemmas.{entry-map, option_map-copied, option_map-option_map}
 use Rattle.regress_front_tables.proofs.tables.Tables.property.Goals as goal
 
