@@ -1,50 +1,32 @@
 -- The matches that an iterator has still to yield.
-use Rattle.std.specs.Prelude.{◌≡◌, ℕ, ◌-◌, ◌≤◌, List, length, map, Option, None, IsCharBoundary}
+use Rattle.std.specs.Prelude.{◌≡◌, ℕ, List, Option}
 use Rattle.regress_meaning.specs.Flags.{is_unicode}
-use Rattle.regress_meaning.specs.Meaning.{Context}
 use Rattle.regress_meaning.specs.Matches.{Item}
-use Rattle.regress_meaning.specs.Offsets.{told, Begins}
-use Rattle.regress.specs.declared.api.Regex.{Regex}
-use Rattle.regress.specs.declared.engine.found.Match.{Match}
-use Rattle.regress.specs.declared.engine.matches.Search.{Search}
-use Rattle.regress.specs.declared.engine.matches.Matches.{Matches}
-use Rattle.regress_front_nodes.specs.Trees.{tree}
-use Rattle.regress_front_tables.specs.TableViews.{table}
 use Rattle.regress_front_core.specs.FlagWords.{options}
-use Rattle.regress.specs.GroupViews.{names_of_match}
-use Rattle.regress_front_nodes.specs.NodeMatches.{node_match_list}
-use Rattle.regress.specs.GroupNames.{group_count, shared_names}
-use Rattle.regress.specs.TextViews.{utf8_reading}
-use Rattle.regress.specs.Iterating.{coming_on, steps_on, place_within}
+use Rattle.regress_front_tables.specs.TableViews.{table}
+use Rattle.regress_match.specs.GroupNames.{shared_names}
+use Rattle.regress_match.specs.Iterating as iterating
+use Rattle.regress_match.specs.Iterating.{coming_on, steps_on, producer_of, position_of}
+use Rattle.regress_evaluator.specs.declared.search.CompiledPattern.{CompiledPattern}
+use Rattle.regress_evaluator.specs.declared.search.Search.{Search}
+use Rattle.regress_evaluator.specs.Searching.{pattern_of, items_from, places_behind}
+use Rattle.regress.specs.declared.api.Regex.{Regex}
+use Rattle.regress.specs.declared.matches.Matches.{Matches}
 
--- what a compiled pattern is searched for in a text by
-abbrev pub searching : Regex → List ℕ → Context
-searching r text = record { text = text; table = table r.tables.now; unicode = is_unicode (options r.flags) }
+-- What is sought is the pattern that a regex holds.
+pub record IsPatternOf (r : Regex) (pattern : CompiledPattern) : Type 0 where
+  pub node : pattern.node.now ≡ r.node
+  pub tables : table pattern.tables.now ≡ table r.tables.now
+  pub unicode : pattern.unicode ≡ is_unicode (options r.flags)
+  pub names : pattern.group_names.now ≡ r.group_names
 
--- the items from a place on, told in bytes
-abbrev pub items_from : Search → ℕ → List Item
-items_from s place =
-    let points = s.text.points.items in
-    let r = s.regex.now in
-    map (told (utf8_reading points)) (node_match_list (searching r points) (group_count r.group_names) (tree r.node) place)
+-- what finds the matches
+abbrev pub search_of : Matches → Search
+search_of ms = producer_of ms.inner
 
--- how many places lie behind one
-abbrev pub places_behind : Search → ℕ → ℕ
-places_behind s place = length s.text.points.items - place
-
--- a search that starts at an offset in bytes begins at the place there, and past the end at none
-abbrev pub StartsAt : Search → ℕ → Option ℕ → Type 0
-StartsAt s at position =
-    let points = s.text.points.items in
-    (place : ℕ) → Begins (utf8_reading points) at place → position ≡ place_within (length points) place
-
--- a match, told in bytes, lies inside a text between characters
-abbrev pub LiesBetween : List ℕ → Match → Type 0
-LiesBetween bytes m = (m.range.start ≤ m.range.end) × IsCharBoundary bytes m.range.start × IsCharBoundary bytes m.range.end
-
--- a match, told in bytes, lies inside a text between characters, and its groups have these names
-abbrev pub IsMatchIn : List ℕ → List (List ℕ) → Match → Type 0
-IsMatchIn bytes names m = LiesBetween bytes m × (names_of_match m ≡ names)
+-- the place from which the next search goes, and none where the iterator has ended
+abbrev pub place_of : Matches → Option ℕ
+place_of ms = position_of ms.inner
 
 -- The bytes of the text that is searched.
 abbrev pub searched : Matches → List ℕ
@@ -52,16 +34,16 @@ searched ms = ms.source.now
 
 -- The names of the groups of the pattern that is sought, as bytes of UTF-8.
 abbrev pub sought_names : Matches → List (List ℕ)
-sought_names ms = shared_names ms.inner.producer.regex.now.group_names
+sought_names ms = shared_names (pattern_of (search_of ms)).group_names.now
 
 -- The items that are still to come, told in bytes.
 abbrev pub coming : Matches → List Item
-coming ms = coming_on (items_from ms.inner.producer) ms.inner.position
+coming ms = coming_on (items_from (search_of ms)) (place_of ms)
 
 -- how many steps there may be up to the end
 abbrev pub steps_left : Matches → ℕ
-steps_left ms = steps_on (places_behind ms.inner.producer) ms.inner.position
+steps_left ms = steps_on (places_behind (search_of ms)) (place_of ms)
 
 -- The search is over.
 abbrev pub HasEnded : Matches → Type 0
-HasEnded ms = ms.inner.position ≡ None
+HasEnded ms = iterating.HasEnded ms.inner

@@ -1,11 +1,9 @@
 -- The numbers of groups, and their names.
-use Rattle.std.specs.Prelude.{◌≡◌, ◌≢◌, ℕ, ◌+◌, ◌<◌, List, [], ◌∷◌, Some, length, map, max, chars, slice_get}
-use Rattle.std.specs.Arc.{arc_slice_items}
+use Rattle.std.specs.Prelude.{ℕ, ◌+◌, List, [], ◌∷◌, max, chars}
 use Rattle.std.specs.Option.{unwrap_or}
 use Rattle.std.specs.String.{string_bytes}
 use Rattle.std.specs.declared.alloc.Global.{Global}
 use Rattle.std.specs.declared.string.String.{String}
-use Rattle.std.specs.declared.sync.ArcSlice.{ArcSlice}
 use Rattle.regress_front_nodes.specs.Trees.{Tree}
 use Rattle.regress_front_nodes.specs.WellFormed.{name_by_number}
 
@@ -21,17 +19,3 @@ characters_of name = chars (string_bytes name)
 -- the name that a tree gives the group of a number, and the old one where it has no such group
 abbrev pub renamed : ℕ → Tree → List ℕ → List ℕ
 renamed k t old = unwrap_or (name_by_number k t) old
-
--- how many groups have their names here
-abbrev pub group_count : ArcSlice (String Global) Global → ℕ
-group_count names = length (arc_slice_items names)
-
--- names that are shared, as bytes of UTF-8
-abbrev pub shared_names : ArcSlice (String Global) Global → List (List ℕ)
-shared_names names = map string_bytes (arc_slice_items names)
-
--- The group of index k is the first that has the name, which is not empty.
-pub record IsFirstNamed (name : List ℕ) (names : List (List ℕ)) (k : ℕ) : Type 0 where
-  pub some : name ≢ []
-  pub there : slice_get names k ≡ Some name
-  pub first : (j : ℕ) → j < k → slice_get names j ≢ Some name

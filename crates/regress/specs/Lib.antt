@@ -1,11 +1,3 @@
-pub mod Views
-pub mod TextViews
-pub mod Singles
-pub mod StateViews
-pub mod Repeating
 pub mod Standing
-pub mod Iterating
 pub mod Coming
-pub mod GroupViews
 pub mod GroupNames
-pub mod Utf8Reading

@@ -10,7 +10,7 @@ use Rattle.regress_front_nodes.specs.Trees.{tree}
 use Rattle.regress_front_nodes.specs.TreeMeaning.{node_outcomes}
 use Rattle.regress_front_nodes.specs.Alike.{IsAlike}
 use Rattle.regress.specs.declared.api.Regex.{Regex}
-use Rattle.regress.specs.GroupNames.{shared_names}
+use Rattle.regress_match.specs.GroupNames.{shared_names}
 
 -- no flags
 abbrev pub plain : Options

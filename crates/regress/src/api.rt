@@ -8,16 +8,17 @@ ghost use Rattle.regress_meaning.specs.Limits.{WithinLimits};
 ghost use Rattle.regress_meaning.specs.Matches.{match_list};
 ghost use Rattle.regress_meaning.specs.Offsets.{of_utf8, told, Begins};
 ghost use Rattle.regress_front_tables.specs.TableViews.{table};
-ghost use Rattle.regress.specs.Views.{item_of};
+ghost use Rattle.regress_match.specs.Views.{item_of};
 ghost use Rattle.regress_front_core.specs.FlagWords.{options};
 ghost use Rattle.regress_front_core.specs.Refusals.{MayRefuse};
 
-use crate::engine::found::Match;
-use crate::engine::matches::Matches;
-use crate::engine::numbers::group_names;
-use crate::engine::text::Text;
+use crate::matches::Matches;
+use crate::numbers::group_names;
+use crate::text::code_points;
+use regress_front_nodes::Node;
 use regress_front_tables::{CaptureGroupName, Error, Flags, Tables};
-use regress_front_tree::{Node, try_parse};
+use regress_front_tree::try_parse;
+use regress_match::Match;
 use std::alloc::Global;
 use std::sync::ArcSlice;
 
@@ -41,8 +42,9 @@ pub struct Regex<'u> {
 impl<'u> Regex<'u> {
     ghost use Rattle.regress.specs.Standing.{StandsFor, plain};
     ghost use Rattle.regress.specs.Coming.{searched, sought_names, coming};
-    ghost use Rattle.regress.specs.GroupNames.{shared_names};
-    ghost use Rattle.regress.specs.GroupViews.{names_of_match};
+    ghost use Rattle.regress_match.specs.GroupNames.{shared_names};
+    ghost use Rattle.regress_match.specs.GroupViews.{names_of_match};
+    ghost use Rattle.regress_match.specs.TextRanges.{LiesBetween};
 
     /// Compiles a pattern without flags.
     ///
@@ -67,8 +69,8 @@ impl<'u> Regex<'u> {
         ensures accepted { IfOk result (λ r. (p : Pattern) × Spells (table tables.now) (options flags) (chars pattern.now) p × WithinLimits p × StandsFor r (table tables.now) (options flags) p) }
         ensures refused { IfErr result (MayRefuse (table tables.now) (options flags) (chars pattern.now)) }
     {
-        let text = Text::new(alloc, pattern)?;
-        Regex::from_unicode(alloc, text.points(), flags, tables)
+        let points = code_points(alloc, pattern)?;
+        Regex::from_unicode(alloc, &points, flags, tables)
     }
 
     /// Compiles a pattern that is given as code points; raw surrogates are never joined.
@@ -102,6 +104,7 @@ impl<'u> Regex<'u> {
         ensures found { (t : Table) → (o : Options) → (p : Pattern) → StandsFor self.now t o p →
             IfOk result (λ found. option_map item_of found ≡ option_map (told (of_utf8 text.now)) (slice_get (match_list t o p (chars text.now) 0) 0)) }
         ensures inside { IfOk result (λ found. IfSome found (λ m. (m.range.start ≤ m.range.end) × IsCharBoundary text.now m.range.start × IsCharBoundary text.now m.range.end)) }
+        ensures groups_inside { IfOk result (λ found. IfSome found (λ m. All (λ g. IfSome g (LiesBetween text.now)) m.captures.items)) }
         ensures named { IfOk result (λ found. IfSome found (λ m. names_of_match m ≡ shared_names self.now.group_names)) }
         ensures refused { IsOkUnless result Error.OutOfMemory }
     {
@@ -139,78 +142,5 @@ impl<'u> Regex<'u> {
         ensures refused { IsOkUnless result Error.OutOfMemory }
     {
         Matches::new(self, text, start)
-    }
-}
-
-#[cfg(test)]
-mod tests {
-    use super::*;
-    use crate::engine::found::Range;
-    use std::test::Fail;
-
-    /// The ranges of all matches.
-    fn ranges(alloc: Global, pattern: &str, text: &str) -> Result<Vec<Range>, Error> {
-        let tables = Tables::small(alloc).ok().ok_or(Error::OutOfMemory)?;
-        let regex = Regex::new(alloc, pattern, &tables)?;
-        let mut ranges = Vec::new(alloc);
-        for found in regex.find_iter(text)? {
-            ranges.push(found?.range())?;
-        }
-        Ok(ranges)
-    }
-
-    #[test]
-    fn a_search_begins_between_characters_or_past_the_end(rt: HostRuntime) {
-        assert!(rt; is_start("é", 0));
-        assert!(rt; !is_start("é", 1));
-        assert!(rt; is_start("é", 2));
-        assert!(rt; is_start("é", 3));
-    }
-
-    #[test]
-    fn one_match_after_another(rt: HostRuntime) -> Result<(), Fail> {
-        let alloc = rt.alloc();
-        assert_eq!(rt;
-            ranges(alloc, "(?:)", "é")?.as_slice(),
-            [0..0, 2..2].as_slice()
-        );
-        assert_eq!(rt; ranges(alloc, "a", "")?.as_slice(), [].as_slice());
-        assert_eq!(rt; ranges(alloc, "a|", "")?.as_slice(), [0..0].as_slice());
-        assert_eq!(rt;
-            ranges(alloc, "a|b", "abcab")?.as_slice(),
-            [0..1, 1..2, 3..4, 4..5].as_slice()
-        );
-        assert_eq!(rt;
-            ranges(alloc, "a|", "ba")?.as_slice(),
-            [0..0, 1..2, 2..2].as_slice()
-        );
-        Ok(())
-    }
-
-    #[test]
-    fn matches_from_an_offset(rt: HostRuntime) -> Result<(), Fail> {
-        let tables = Tables::small(rt.alloc())?;
-        let regex = Regex::new(rt.alloc(), "(?:)", &tables)?;
-        assert!(rt; is_start("é", 2));
-        let mut matches = regex.find_from("é", 2)?;
-        assert_eq!(rt; matches.next().ok_or("no match")??.range(), 2..2);
-        assert!(rt; matches.next().is_none());
-        assert!(rt; matches.next().is_none());
-        assert!(rt; is_start("é", 3));
-        assert!(rt; regex.find_from("é", 3)?.next().is_none());
-        Ok(())
-    }
-
-    #[test]
-    fn groups_of_the_first_match(rt: HostRuntime) -> Result<(), Fail> {
-        let tables = Tables::small(rt.alloc())?;
-        let regex = Regex::new(rt.alloc(), "(a)|b", &tables)?;
-        let found = regex.find("ba")?.ok_or("no match")?;
-        let mut groups = found.groups();
-        assert_eq!(rt; groups.len(), 2);
-        assert_eq!(rt; groups.next(), Some(Some(0..1)));
-        assert_eq!(rt; groups.next(), Some(None));
-        assert_eq!(rt; groups.next(), None);
-        Ok(())
     }
 }

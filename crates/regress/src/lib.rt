@@ -4,17 +4,14 @@
 #![tactic(auto)]
 
 mod api;
-mod engine;
-#[cfg(test)]
-mod rows;
-#[cfg(test)]
-mod table;
+mod matches;
+mod numbers;
+mod text;
 
 pub use api::{Regex, is_start};
-pub use engine::found::{Match, Range};
-pub use engine::groups::Groups;
-pub use engine::matches::Matches;
+pub use matches::Matches;
 pub use regress_front_bytes::are_code_points;
 pub use regress_front_tables::{
     Error, Flags, TableError, TableLaw, TableParts, Tables, flags_are_read_back,
 };
+pub use regress_match::{Groups, Match, Range};

@@ -5,3 +5,7 @@
 mod example;
 #[cfg(test)]
 mod program;
+#[cfg(test)]
+mod rows;
+#[cfg(test)]
+mod table;

@@ -3,4 +3,4 @@ use Rattle.regress.proofs.api.Regex.find_from.Goals as goal
 
 pub returns-clause-matches : goal.returns-clause-matches
 returns-clause-matches c = λ t o p stands place begins.
-    coming-made_or_refused c.new.result c.args.text.now c.args.self.now t o p c.args.start place c.new.ensures.over c.new.ensures.begins stands begins
+    coming-made_or_refused c.new.result c.args.text.now c.args.self.now t o p c.args.start place c.utf8.text c.new.ensures.over c.new.ensures.begins stands begins

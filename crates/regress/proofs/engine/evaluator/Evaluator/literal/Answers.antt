@@ -1,4 +1,0 @@
-use Rattle.regress.proofs.engine.evaluator.Evaluator.literal.Goals as goal
-
-pub returns : goal.returns
-returns c = rw (← c.in_ok-characters.ensures, ← c.deref.ensures.value) c.string.ensures

@@ -1,9 +1,0 @@
-use Rattle.std.proofs.Common.{vec_len, arith}
-use Rattle.regress.proofs.IterationLemmas.{starts_at}
-use Rattle.regress.proofs.engine.matches.SearchMatchProducer.initial_position.Goals as goal
-
-pub returns : goal.returns
-returns c =
-    let text = c.args.self.now.text in
-    starts_at text.points.items c.args.self.now.characters c.offsets_rise.ensures.utf8 c.args.offset (vec_len text.points) c.place.result
-    (omega (arith, text.points.ok.0)) c.place.ensures.there c.place.ensures.nowhere

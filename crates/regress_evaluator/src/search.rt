@@ -1,0 +1,108 @@
+//! The search for a compiled pattern in a text, by the evaluator.
+ghost use Rattle.std.specs.Prelude.{◌≡◌, true, chars, encode_utf8_all, IfOk, IsOkUnless};
+ghost use Rattle.std.specs.Str.{all_scalars};
+
+use crate::evaluator::Evaluator;
+use crate::text::Text;
+use regress_front_nodes::Node;
+use regress_front_tables::{CaptureGroupName, Error, Tables};
+use regress_match::{Match, MatchProducer};
+use std::alloc::Global;
+use std::sync::ArcSlice;
+
+/// A compiled pattern, as the evaluator takes it.
+#[derive(Debug, Clone, Copy, Drop)]
+pub struct CompiledPattern<'r> {
+    /// The tree of the pattern.
+    pub node: &'r Node,
+    /// The tables by which classes and case are judged.
+    pub tables: &'r Tables,
+    /// Whether case is ignored as in Unicode mode.
+    pub unicode: bool,
+    /// The name of each capturing group in order of its number, the empty one where a group has none.
+    pub group_names: &'r ArcSlice<CaptureGroupName>,
+}
+
+/// Finds the matches of a compiled pattern in a text by the evaluator. A position is a place, counted in code points.
+#[derive(Debug, Drop)]
+pub struct Search<'r> {
+    alloc: Global,
+    pattern: CompiledPattern<'r>,
+    text: Text,
+    ghost characters: { all_scalars text.points.items ≡ true },
+}
+
+impl<'r> Search<'r> {
+    ghost use Rattle.regress_evaluator.specs.StateViews.{context_of};
+    ghost use Rattle.regress_evaluator.specs.Searching.{pattern_of, points_of, searching};
+    ghost use Rattle.regress_match.specs.GroupNames.{group_count};
+
+    /// The search for a pattern in a text. Errs with `OutOfMemory` alone.
+    pub fn new(
+        alloc: Global,
+        pattern: CompiledPattern<'r>,
+        source: &str,
+    ) -> Result<Search<'r>, Error>
+        ensures over { IfOk result (λ s. (pattern_of s ≡ pattern.entry) × (points_of s ≡ chars source.now)) }
+        ensures refused { IsOkUnless result Error.OutOfMemory }
+    {
+        let text = Text::new(alloc, source)?;
+        Ok(Search {
+            alloc,
+            pattern,
+            text,
+        })
+    }
+
+    /// What the pattern is evaluated by in the text.
+    fn evaluator(&self) -> Evaluator<'_>
+        ensures context { context_of result ≡ searching (pattern_of self.now) (points_of self.now) }
+        ensures text { result.points.now ≡ points_of self.now }
+        ensures groups { result.group_count ≡ group_count self.now.pattern.group_names.now }
+    {
+        Evaluator {
+            alloc: self.alloc,
+            points: self.text.points(),
+            tables: self.pattern.tables,
+            unicode: self.pattern.unicode,
+            group_count: self.pattern.group_names.len(),
+        }
+    }
+}
+
+impl<'r> MatchProducer for Search<'r> {
+    ghost use Rattle.regress_evaluator.specs.Searching.{pattern_of, points_of, items_from, places_behind, StartsAt};
+    ghost use Rattle.regress_match.specs.GroupNames.{shared_names};
+    ghost use Rattle.regress_match.specs.TextRanges.{IsMatchIn};
+
+    type Position = usize;
+
+    ghost items_from = { items_from };
+
+    ghost left_behind = { places_behind };
+
+    ghost starts_at = { StartsAt };
+
+    ghost is_of_search = { λ s m. IsMatchIn (encode_utf8_all (points_of s)) (shared_names (pattern_of s).group_names.now) m };
+
+    /// The place at an offset in bytes; `None` where no character begins and the text doesn't end there.
+    fn initial_position(&self, offset: usize) -> Option<usize> {
+        regress_meaning::offsets_rise();
+        self.text.place(offset)
+    }
+
+    /// The first match from a place on, told in bytes ("RegExpBuiltinExec").
+    fn next_match(
+        &self,
+        position: usize,
+        next: &mut Option<usize>,
+    ) -> Result<Option<Match>, Error> {
+        *next = None;
+        let Some(found) = self.evaluator().first_match(self.pattern.node, position)? else {
+            return Ok(None);
+        };
+        let told = self.text.told(&found, self.pattern.group_names.clone()?)?;
+        *next = found.place_after(self.text.points().len());
+        Ok(Some(told))
+    }
+}

@@ -1,0 +1,3 @@
+pub mod GroupLemmas
+pub mod NameLemmas
+pub mod TextLemmas

@@ -1,0 +1,5 @@
+pub mod Views
+pub mod GroupNames
+pub mod GroupViews
+pub mod TextRanges
+pub mod Iterating

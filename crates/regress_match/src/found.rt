@@ -1,0 +1,124 @@
+//! A match, and what is read from it.
+ghost use Rattle.std.specs.Prelude.{◌≡◌, ◌≢◌, ◌<◌, ◌≤◌, ◌-◌, ℕ, [], Some, None, IfSome, IfNone, length, map, unwrap_or, vec_len, slice_get, slice_range};
+ghost use Rattle.std.specs.Str.{IsCharBoundary};
+ghost use Rattle.std.specs.String.{string_bytes};
+
+use crate::groups::Groups;
+use regress_front_core::CaptureGroupName;
+use std::sync::ArcSlice;
+
+/// A range of offsets.
+pub type Range = std::ops::Range<usize>;
+
+/// A match.
+#[derive(Debug, Drop)]
+pub struct Match {
+    /// Where the match lies, in bytes of the text that was searched.
+    pub range: Range,
+    /// The range of each capturing group in order of its number, in bytes too; `None` where the group took no part.
+    pub captures: Vec<Option<Range>>,
+    group_names: ArcSlice<CaptureGroupName>,
+}
+
+/// The index of the first of some names that is this one.
+fn first_named(names: &[CaptureGroupName], wanted: &str) -> Option<usize>
+    ensures there { IfSome result (λ i. (i < length names.now) × (slice_get (map string_bytes names.now) i ≡ Some wanted.now)) }
+    ensures first { IfSome result (λ i. (j : ℕ) → j < i → slice_get (map string_bytes names.now) j ≢ Some wanted.now) }
+    ensures nowhere { IfNone result ((j : ℕ) → slice_get (map string_bytes names.now) j ≢ Some wanted.now) }
+{
+    names.iter().position(|name| name.as_str() == wanted)
+}
+
+impl Match {
+    ghost use Rattle.regress_match.specs.GroupViews.{groups_of, groups_left, names_of_match};
+    ghost use Rattle.regress_match.specs.GroupNames.{IsFirstNamed, shared_names};
+    ghost use Rattle.regress_match.specs.TextRanges.{LiesBetween, LiesInText};
+
+    /// A match at a range, with the range of each capturing group in order of its number, and the names of these groups, the
+    /// empty one where a group has none. Ranges are offsets in what was searched.
+    pub fn new(
+        range: Range,
+        captures: Vec<Option<Range>>,
+        group_names: ArcSlice<CaptureGroupName>,
+    ) -> Match
+        ensures range { result.range ≡ range }
+        ensures captures { result.captures ≡ captures }
+        ensures named { names_of_match result ≡ shared_names group_names }
+    {
+        Match {
+            range,
+            captures,
+            group_names,
+        }
+    }
+
+    /// The range of a group, in bytes of the text that was searched: 0 is the whole match, and 1 the first capturing
+    /// group. `None` where the group took no part, and past the last one.
+    pub fn group(&self, index: usize) -> Option<Range>
+        ensures whole { index ≡ 0 → result ≡ Some self.now.range }
+        ensures capture { 0 < index → index ≤ vec_len self.now.captures
+            → slice_get self.now.captures.items (index - 1) ≡ Some result }
+        ensures past { vec_len self.now.captures < index → result ≡ None }
+    {
+        if index == 0 {
+            return Some(self.range());
+        }
+        match self.captures.get(index - 1) {
+            Some(Some(range)) => Some(range.start..range.end),
+            _ => None,
+        }
+    }
+
+    /// The range of the first capturing group with a name, in bytes of the text that was searched. `None` where that group
+    /// took no part, where no group has the name, and for the empty name.
+    pub fn named_group(&self, name: &str) -> Option<Range>
+        ensures first { (k : ℕ) → IsFirstNamed name.now (names_of_match self.now) k
+            → result ≡ unwrap_or (slice_get self.now.captures.items k) None }
+        ensures nowhere { ((k : ℕ) → slice_get (names_of_match self.now) k ≢ Some name.now) → result ≡ None }
+        ensures empty { name.now ≡ [] → result ≡ None }
+    {
+        if name.is_empty() {
+            return None;
+        }
+        self.group(first_named(&self.group_names, name)? + 1)
+    }
+
+    /// The range of the whole match and then that of each capturing group, as `group` answers them one after another.
+    pub fn groups(&self) -> Groups<'_>
+        ensures { groups_left result ≡ groups_of self.now }
+    {
+        Groups::new(self)
+    }
+
+    /// Where the match lies, in bytes of the text that was searched.
+    pub fn range(&self) -> Range
+        ensures { result ≡ self.now.range }
+    {
+        self.start()..self.end()
+    }
+
+    /// The offset in bytes of the start of the match, in the text that was searched.
+    pub fn start(&self) -> usize
+        ensures { result ≡ self.now.range.start }
+    {
+        self.range.start
+    }
+
+    /// The offset in bytes of the end of the match, in the text that was searched.
+    pub fn end(&self) -> usize
+        ensures { result ≡ self.now.range.end }
+    {
+        self.range.end
+    }
+
+    /// The part of `text` at which the match lies, where `text` is the text that was searched. In any other text both ends
+    /// have to lie between characters, the start no later than the end.
+    pub fn as_str<'t>(&self, text: &'t str) -> &'t str
+        requires ordered { self.now.range.start ≤ self.now.range.end }
+        requires start_inside { IsCharBoundary text.now self.now.range.start }
+        requires end_inside { IsCharBoundary text.now self.now.range.end }
+        ensures { result.now ≡ slice_range text.now self.now.range.start self.now.range.end }
+    {
+        &text[self.range()]
+    }
+}

@@ -1,0 +1,89 @@
+//! One match after another, by whatever finds them.
+ghost use Rattle.std.specs.Prelude.{◌≡◌, ◌<◌, ℕ, List, Option, None, IfOk, IfSome, OnErr, IsOkUnless};
+ghost use Rattle.std.specs.Iterator.{at_most};
+ghost use Rattle.regress_meaning.specs.Matches.{Item};
+ghost use Rattle.regress_match.specs.declared.found.Match.{Match};
+ghost use Rattle.regress_match.specs.Iterating.{coming_on, steps_on, Finds};
+
+use crate::found::Match;
+use regress_front_core::Error;
+use std::fmt::Debug;
+use std::iter::FusedIterator;
+
+/// What finds the matches of one pattern in one text, by offsets in what holds the text.
+pub trait MatchProducer: Debug + Drop {
+    /// Where in the text a search begins.
+    type Position: Copy + Debug;
+
+    // The items from a position on, told in offsets.
+    ghost items_from: { Self → Self.Position → List Item };
+
+    // How many positions lie behind one.
+    ghost left_behind: { Self → Self.Position → ℕ };
+
+    // A search that starts at an offset begins at a position, if at any.
+    ghost starts_at: { Self → ℕ → Option Self.Position → Type 0 };
+
+    // A match lies in the text, and its groups are named as in the pattern.
+    ghost is_of_search: { Self → Match → Type 0 };
+
+    /// The position at an offset; `None` for an offset past the end.
+    fn initial_position(&self, offset: usize) -> Option<Self::Position>
+        ensures { starts_at self.now offset result };
+
+    /// The first match from a position on, and in `next` the position to go on from. Where there is no match, and where
+    /// memory is refused, it is the last search.
+    fn next_match(
+        &self,
+        position: Self::Position,
+        next: &mut Option<Self::Position>,
+    ) -> Result<Option<Match>, Error>
+        ensures found { IfOk result (λ found. Finds (items_from self.now) (is_of_search self.now) position found next.new) }
+        ensures nearer { IfSome next.new (λ p. left_behind self.now p < left_behind self.now position) }
+        ensures last { OnErr result (next.new ≡ None) }
+        ensures refused { IsOkUnless result Error.OutOfMemory };
+}
+
+/// The matches that a producer finds from an offset on, each after the one before.
+#[derive(Debug, Drop)]
+pub struct Matches<P: MatchProducer> {
+    producer: P,
+    position: Option<P::Position>,
+}
+
+impl<P: MatchProducer> Matches<P> {
+    ghost use Rattle.regress_match.specs.Iterating.{producer_of, position_of};
+
+    /// The matches of a producer from an offset on, in what holds its text.
+    pub fn new(producer: P, start: usize) -> Matches<P>
+        ensures over { producer_of result ≡ producer }
+        ensures begins { P.starts_at producer start (position_of result) }
+    {
+        let position = producer.initial_position(start);
+        Matches { producer, position }
+    }
+}
+
+impl<P: MatchProducer> Iterator for Matches<P> {
+    ghost use Rattle.regress_match.specs.Iterating.{producer_of, position_of, HasEnded, GivesMatch};
+
+    type Item = Result<Match, Error>;
+
+    ghost next_gives = { λ old r new. (producer_of new ≡ producer_of old)
+        × GivesMatch (λ ms. coming_on (P.items_from (producer_of ms)) (position_of ms)) HasEnded (P.is_of_search (producer_of old)) old r new };
+
+    ghost remaining = { λ ms. at_most (steps_on (P.left_behind (producer_of ms)) (position_of ms)) };
+
+    /// The next match.
+    ///
+    /// Answers `None` where there is none, and `OutOfMemory` where a request for memory is refused; after either it has
+    /// ended and answers `None` alone.
+    fn next(&mut self) -> Option<Result<Match, Error>> {
+        let position = self.position.take()?;
+        self.producer
+            .next_match(position, &mut self.position)
+            .transpose()
+    }
+}
+
+impl<P: MatchProducer> FusedIterator for Matches<P> {}
