@@ -1,7 +1,7 @@
 //! The lines that are written.
 ghost use Rattle.std.specs.Prelude.{◌≡◌, ◌++◌, OnOk, IfOk, string_bytes, option_map};
 ghost use Rattle.regress_meaning.specs.Output.{line_of, group_text, range_text};
-ghost use Rattle.regress.specs.Views.{ends, item_of};
+ghost use Rattle.regress_match.specs.Views.{ends, item_of};
 
 use regress::{Match, Range};
 use std::alloc::{AllocError, Global};

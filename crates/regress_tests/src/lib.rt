@@ -2,7 +2,13 @@
 #![tactic(auto)]
 
 #[cfg(test)]
+mod api;
+#[cfg(test)]
 mod example;
+#[cfg(test)]
+mod loops;
+#[cfg(test)]
+mod matches;
 #[cfg(test)]
 mod program;
 #[cfg(test)]

@@ -1,7 +1,7 @@
 use Rattle.std.proofs.Common.{◌≡◌, ◌++◌, take, map, string_bytes, option_map}
 use Rattle.std.specs.Prelude.{flat_map}
 use Rattle.regress_meaning.specs.Output.{group_text, range_text}
-use Rattle.regress.specs.Views.{ends}
+use Rattle.regress_match.specs.Views.{ends}
 use Rattle.regress_program.proofs.lines.line.Given as goal
 
 abbrev pub invariant-loop-group : goal.invariant-loop-group

@@ -3,7 +3,7 @@ use Rattle.std.proofs.KnownBytes.{Appends-nil}
 use Rattle.std.proofs.lemmas.Result.{err_from_is_err_and}
 use Rattle.regress_meaning.specs.Output.{lines_of}
 use Rattle.regress.specs.Coming.{coming}
-use Rattle.regress.specs.Views.{item_of}
+use Rattle.regress_match.specs.Views.{item_of}
 use Rattle.regress_program.proofs.RunLemmas.{IsWritten-front, IsWritten-all, IsWritten-more, IsWritten-part, on_ok-at, on_err-at, on_err-always}
 use Rattle.regress_program.specs.Errors.{tool_error_of}
 use Rattle.regress_program.proofs.program.write_lines.Goals as goal
