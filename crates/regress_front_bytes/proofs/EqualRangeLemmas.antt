@@ -5,7 +5,6 @@ use Rattle.std.specs.declared.cmp.Ordering.TheVariants.{Less, Equal, Greater}
 use Rattle.std.specs.Ordering.{ordering_index, is_lt, is_eq}
 use Rattle.std.specs.Fn.{Mut, Called, ComputesKey}
 use Rattle.std.specs.List.Sorted.{IsNonDecreasingBy, IsPartitionedBy, IsPartitionPoint}
-use Rattle.std.proofs.lemmas.Fn.{always_returns_same}
 use Rattle.std.proofs.lemmas.List.{get_or-drop, length-drop}
 use Rattle.regress_front_bytes.specs.EqualRange.{IsEqualRange}
 
@@ -90,12 +89,3 @@ module _ {X : Type 0} (ord : X → Ordering) (xs : List X) (rise : IsNonDecreasi
 module _ {F X : Type 0} (g : Mut F (Bor X × Unit {0}) Ordering) (ord : X → Ordering) (f : F) where
   pub compared_as : (a : Bor X × Unit {0}) (r : Ordering) (f' : F) → Called g f a r f' → ComputesKey g ord f → r ≡ ord a.0.now
   compared_as a r f' called computes = (computes.at (a ∷ []) r f' called).0
-
--- what a caller of `equal_range_by` learns, where each call of its closure compares as `ord` does
-pub IsEqualRange-from_clause : {X : Type 0} (ord : X → Ordering) → {F : Type 0} {g : Mut F (Bor X × Unit {0}) Ordering} {f : F} (xs : List X) (start end : ℕ)
-    → ((o : X → Ordering) → ComputesKey g o f → IsNonDecreasingBy (λ x. ordering_index (o x)) xs → IsEqualRange o xs start end)
-    → IsNonDecreasingBy (λ x. ordering_index (ord x)) xs
-    → ((a : Bor X × Unit {0}) (r : Ordering) (f' : F) → Called g f a r f' → (r ≡ ord a.0.now) × (f' ≡ f))
-    → IsEqualRange ord xs start end
-IsEqualRange-from_clause ord {g = g} {f = f} xs start end clause rise calls =
-    clause ord (always_returns_same g (λ a r. r ≡ ord a.0.now) f calls) rise

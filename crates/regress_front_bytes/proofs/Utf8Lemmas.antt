@@ -1,12 +1,7 @@
 -- The code point of a UTF-8 form, and the first byte of the form.
-use Rattle.std.proofs.Common.{◌≡◌, ℕ, ◌+◌, ◌*◌, ◌/◌, ◌%◌, ◌<◌, ◌≤◌, List, [], ◌∷◌, ◌++◌, Some, slice_get, ap, arith}
+use Rattle.std.proofs.Common.{◌≡◌, ℕ, ◌+◌, ◌*◌, ◌/◌, ◌%◌, ◌<◌, ◌≤◌, [], ◌∷◌, Some, slice_get, ap, arith}
 use Rattle.std.proofs.Math.Utf8.{encode}
-use Rattle.std.proofs.lemmas.Str.{encode_same}
 use Rattle.std.proofs.lemmas.Bool.Decides.{nat_tests}
-
--- a form has one code point
-pub code_point-of_form : (c d : ℕ) (bytes : List ℕ) → encode c ≡ bytes → encode d ≡ bytes → c ≡ d
-code_point-of_form c d bytes p q = (encode_same c d [] [] (let e : encode c ≡ encode d = cc in ap (λ xs. xs ++ []) e)).0
 
 -- what two, three and four bytes stand for
 pub code_point_of_two : (c a b : ℕ) → c ≤ 0x10_FFFF → encode c ≡ a ∷ b ∷ [] → a % 32 * 64 + b % 64 ≡ c

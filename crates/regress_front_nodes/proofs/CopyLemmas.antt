@@ -25,11 +25,6 @@ pub nesting-push : (ts : List Tree) (t : Tree) → nesting (cat_of (ts ++ t ∷ 
 nesting-push [] t = omega arith
 nesting-push (u ∷ ts) t = let e = nesting-push ts t in omega (arith, e)
 
--- a part nests no deeper than the whole
-pub nesting-front : (ts us : List Tree) → nesting (cat_of ts) ≤ nesting (cat_of (ts ++ us))
-nesting-front [] us = omega arith
-nesting-front (t ∷ ts) us = omega (arith, nesting-front ts us)
-
 append-none : {A : Type 0} (xs ys : List A) → xs ++ ys ≡ [] → (xs ≡ []) × (ys ≡ [])
 append-none [] ys h = (refl, h)
 append-none (x ∷ xs) ys h = absurd (some h)
@@ -62,9 +57,6 @@ nesting-more ns k d l = ap (λ ts. nesting (cat_of ts)) (parts-more ns k d l) �
 -- no group in the first of two, nor in the second
 pub no_groups_first : (a b : Tree) → group_ids a ++ group_ids b ≡ [] → group_ids a ≡ []
 no_groups_first a b none = (append-none (group_ids a) (group_ids b) none).0
-
-pub no_groups_second : (a b : Tree) → group_ids a ++ group_ids b ≡ [] → group_ids b ≡ []
-no_groups_second a b none = (append-none (group_ids a) (group_ids b) none).1
 
 no_groups_more : (ts : List Tree) (t : Tree) → group_ids (cat_of ts) ≡ [] → group_ids t ≡ [] → group_ids (cat_of (ts ++ t ∷ [])) ≡ []
 no_groups_more [] t none last = rw last refl

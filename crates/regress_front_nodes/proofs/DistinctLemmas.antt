@@ -4,7 +4,7 @@ use Rattle.std.specs.List.{flat_map, list_any}
 use lib.Pointwise.{pointwise}
 use Rattle.std.proofs.lemmas.Bool.Decides.{nat_tests}
 use Rattle.std.proofs.lemmas.List.{append_assoc}
-use Rattle.std.proofs.lemmas.List.Elements.{filter-append, All-nil, All-cons, All-head, All-tail, All-append, All-filter}
+use Rattle.std.proofs.lemmas.List.Elements.{filter-append, All-head, All-tail, All-filter}
 use Rattle.std.proofs.lemmas.List.Concat.{flat_map_single}
 use Rattle.regress_meaning.specs.Meaning.{State, Outcomes, Context, iterations, looked, moved}
 use Rattle.regress_meaning.specs.Laws.{IsInside}
@@ -236,27 +236,7 @@ changed-alike h ss ts k =
 filter-alike : (p : State → Bool) (ss ts : List State) → AreAlike ss ts → AreAlike (filter p ss) (filter p ts)
 filter-alike p ss ts k = sym (filter-distinct p ss) ∙ ap (filter p) k ∙ filter-distinct p ts
 
--- what holds of each element of each part holds of each element of the parts joined
-All-flat_map : {X Y : Type 0} (P : X → Type 0) (Q : Y → Type 0) (f : X → List Y) → ((x : X) → P x → All Q (f x)) → (xs : List X) → All P xs → All Q (flat_map f xs)
-All-flat_map P Q f each [] h = All-nil Q
-All-flat_map P Q f each (x ∷ xs) h =
-    All-append Q (f x) (flat_map f xs) (each x (All-head P x xs h)) (All-flat_map P Q f each xs (All-tail P x xs h))
-
 module _ (w : Context) where
-  -- a list of what is inside, with one more before or behind
-  inside-with : (b : Bool) (s : State) (us : List State) → IsInside w.text s → All (IsInside w.text) us → All (IsInside w.text) (if b then us ++ s ∷ [] else s ∷ us)
-  inside-with true s us h k = All-append (IsInside w.text) us (s ∷ []) k (All-cons (IsInside w.text) s [] h (All-nil (IsInside w.text)))
-  inside-with false s us h k = All-cons (IsInside w.text) s us h k
-
-  iterated-inside : (g : Outcomes) (greedy : Bool) (most least : ℕ) → StayInside w g → StayInside w (iterations g greedy most least)
-  unfolding iterations
-  iterated-inside g greedy zero least h s inside = All-cons (IsInside w.text) s [] inside (All-nil (IsInside w.text))
-  iterated-inside g greedy (suc most) zero h s inside =
-      inside-with greedy s (flat_map (iterations g greedy most zero) (filter (moved s) (g s))) inside
-      (All-flat_map (IsInside w.text) (IsInside w.text) (iterations g greedy most zero) (iterated-inside g greedy most zero h)
-      (filter (moved s) (g s)) (All-filter (moved s) (IsInside w.text) (g s) (h s inside)))
-  iterated-inside g greedy (suc most) (suc least) h s inside =
-      All-flat_map (IsInside w.text) (IsInside w.text) (iterations g greedy most least) (iterated-inside g greedy most least h) (g s) (h s inside)
 
   pub looked-alike : (negated : Bool) (s : State) (ss ts : List State) → AreAlike ss ts → looked negated s ss ≡ looked negated s ts
   unfolding distinct

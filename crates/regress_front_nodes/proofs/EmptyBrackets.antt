@@ -1,23 +1,15 @@
 -- When a bracket holds no code point.
-use Rattle.std.proofs.Common.{◌≡◌, ℕ, zero, suc, ◌+◌, ◌<◌, ◌≤◌, ◌⊎◌, Bool, true, false, not, ◌||◌, ◌==◌, nat_eq, List, [], ◌∷◌, length, refl, sym, ap, ◌∙◌, inl, inr, arith}
+use Rattle.std.proofs.Common.{◌≡◌, ℕ, zero, suc, ◌+◌, ◌<◌, ◌≤◌, Bool, true, false, not, ◌==◌, nat_eq, List, [], ◌∷◌, length, refl, sym, ap, ◌∙◌, inl, inr, arith}
 use Rattle.std.proofs.lemmas.Bool.{or_left, or_right, false≢true, cases_eq, cases_lt, lt-ltb, le-ltb, eq-eqb, ne_eqb}
 use Rattle.std.proofs.lemmas.Bool.Decides.{nat_tests}
 use Rattle.std.proofs.lemmas.List.{length-append}
-use Rattle.regress_meaning.specs.Text.{between}
 use Rattle.regress_meaning.specs.Table.{code_points, last_code_point, some_below}
 use Rattle.regress_meaning.specs.TableParts.{in_intervals, IntervalsRise}
 use Rattle.regress_front_sets.specs.Intervals.{gap, gaps_from, inverse}
 use Rattle.regress_front_nodes.specs.TreeMeaning.{bracket_has}
 use Rattle.regress_front_nodes.specs.Singles.{bracket_is_empty}
-
-some_below-from : (n d : ℕ) (test : ℕ → Bool) → d < n → test d ≡ true → some_below n test ≡ true
-unfolding some_below
-some_below-from zero d test l e = absurd (omega arith)
-some_below-from (suc n) d test l e =
-    elim (cases_eq d n) [
-      | inl p ↦ or_left _ _ (ap test (sym p) ∙ e)
-      | inr ne ↦ or_right _ _ (some_below-from n d test (omega arith) e)
-    ]
+use Rattle.regress_meaning.proofs.TableLemmas.{some_below-from}
+use Rattle.regress_front_sets.proofs.IntervalLemmas.{between-within, between-outside}
 
 some_below-none : (n : ℕ) (test : ℕ → Bool) → ((d : ℕ) → d < n → test d ≡ false) → some_below n test ≡ false
 unfolding some_below
@@ -30,16 +22,6 @@ is_false false h = refl
 
 pub some_below-fails : (n d : ℕ) (test : ℕ → Bool) → some_below n test ≡ false → d < n → test d ≡ false
 some_below-fails n d test none l = is_false (test d) (λ h. false≢true (sym none ∙ some_below-from n d test l h))
-
-between-within : (a b c : ℕ) → a ≤ c → c ≤ b → between a b c ≡ true
-between-within a b c h k = grind (arith, nat_tests)
-
-between-outside : (a b c : ℕ) → (c < a) ⊎ (b < c) → between a b c ≡ false
-between-outside a b c h = grind (arith, nat_tests)
-
-in_intervals-cons : (i : ℕ × ℕ) (xs : List (ℕ × ℕ)) (c : ℕ) → in_intervals (i ∷ xs) c ≡ (between i.0 i.1 c || in_intervals xs c)
-unfolding in_intervals
-in_intervals-cons i xs c = refl
 
 -- the first interval begins at a or above
 abbrev pub BeginsFrom : ℕ → List (ℕ × ℕ) → Type 0

@@ -1,5 +1,5 @@
 -- Nodes that are none of some kinds.
-use Rattle.std.proofs.Common.{◌≡◌, ℕ, Bool, true, false, List, [], ◌∷◌, length, map, Option, String, refl, sym, ap, ◌∙◌, Vec, Box, Global, arith}
+use Rattle.std.proofs.Common.{◌≡◌, ℕ, Bool, true, false, [], length, map, Option, String, refl, sym, ap, ◌∙◌, Vec, Box, Global, arith}
 use Rattle.std.proofs.lemmas.Bool.{false≢true}
 use Rattle.std.specs.declared.boxed.BoxedSlice.{BoxedSlice}
 use Rattle.std.specs.declared.ops.Range.{Range}
@@ -9,15 +9,12 @@ use Rattle.regress_front_nodes.specs.declared.node.AnchorType.TheVariants.{Start
 use Rattle.regress_front_nodes.specs.declared.node.BracketContents.{BracketContents}
 use Rattle.regress_front_nodes.specs.declared.node.Node.{Node, Node-F, fold-roll-Node, roll-Node, ind-Node}
 use Rattle.regress_front_nodes.specs.declared.node.Node.TheVariants as N
-use Rattle.regress_front_nodes.specs.Trees.{Tree, tree, node_tree, cat_of, anchor_of}
+use Rattle.regress_front_nodes.specs.Trees.{Tree, tree, node_tree, anchor_of}
 use Rattle.regress_front_nodes.specs.Forms.{is_empty, is_leaf}
 use Rattle.regress_front_nodes.specs.WellFormed.{group_ids}
 use Rattle.regress_front_nodes.specs.Singles.{always_fails, takes_one}
 use Rattle.regress_front_nodes.proofs.NodeLemmas.{is_empty-cat_of, is_empty-anchor_of, always_fails-cat_of, always_fails-anchor_of, takes_one-cat_of, takes_one-anchor_of}
-
-is_leaf-cat_of : (ts : List Tree) → is_leaf (cat_of ts) ≡ false
-is_leaf-cat_of [] = refl
-is_leaf-cat_of (t ∷ ts) = refl
+use Rattle.regress_front_nodes.proofs.CopyLemmas.{is_leaf-cat_of}
 
 is_leaf-anchor_of : (t : AnchorType) (multiline : Bool) → is_leaf (anchor_of t multiline) ≡ true
 is_leaf-anchor_of StartOfLine multiline = refl

@@ -34,14 +34,6 @@ alike true false f g = sym (f refl)
 alike false true f g = g refl
 alike false false f g = refl
 
--- what lies below all of a list is not in it
-below-none : (cs : List ℕ) (c : ℕ) → All (λ d. c < d) cs → holds cs c ≡ false
-below-none [] c h = refl
-below-none (d ∷ cs) c h =
-    let less = All-head (λ e. c < e) d cs h in
-    let other : (d == c) ≡ false = ne_eqb d c (λ e. omega arith) in
-    rw (other, below-none cs c (All-tail (λ e. c < e) d cs h)) refl
-
 -- what a list whose members lie above d holds lies above it
 held-above : (cs : List ℕ) (c d : ℕ) → All (λ e. d < e) cs → holds cs c ≡ true → d < c
 held-above [] c d h k = absurd (cc)

@@ -1,8 +1,8 @@
 -- Parts one after another as one node.
-use Rattle.std.proofs.Common.{◌≡◌, ◌<◌, ◌≤◌, Bool, true, false, List, [], ◌∷◌, ◌++◌, length, map, reverse, Option, Some, None, IsSome, refl, sym, ap, ◌∙◌, arith, rules, length-append}
+use Rattle.std.proofs.Common.{◌≡◌, ◌<◌, ◌≤◌, Bool, true, false, List, [], ◌∷◌, ◌++◌, length, map, Option, Some, None, IsSome, refl, sym, ap, ◌∙◌, arith, rules, length-append}
 use Rattle.std.specs.List.{flat_map}
 use Rattle.std.specs.Option.{option_to_list, unwrap_or}
-use Rattle.std.proofs.lemmas.List.{append-nil, map-append, reverse-append}
+use Rattle.std.proofs.lemmas.List.{append-nil}
 use Rattle.regress_meaning.specs.Meaning.{State, Direction, Context}
 use Rattle.regress_front_nodes.specs.declared.node.Node.{Node}
 use Rattle.regress_front_nodes.specs.declared.node.Node.TheVariants as N
@@ -11,6 +11,7 @@ use Rattle.regress_front_nodes.specs.TreeMeaning.{node_outcomes}
 use Rattle.regress_front_nodes.specs.Forms.{cat_made, in_reading_order}
 use Rattle.regress_front_nodes.proofs.StepLemmas.{flat_map-again, flat_map-self}
 use Rattle.regress_front_nodes.proofs.TreeLaws.{tree-Empty}
+use Rattle.regress_front_nodes.proofs.NodeLemmas.{map-reverse}
 
 pub cat_made-many : (ts : List Tree) → 1 < length ts → cat_of ts ≡ cat_made ts
 cat_made-many [] h = absurd (omega arith)
@@ -27,12 +28,6 @@ cat_made-few (x ∷ xs) rest None e h some = absurd (let s = some (omega arith) 
 cat_made-few (x ∷ []) [] (Some y) e h some = let same : y ≡ x = cc in ap tree same
 cat_made-few (x ∷ []) (z ∷ rest) (Some y) e h some = absurd (omega (arith, ap length e, length-append rest (y ∷ [])))
 cat_made-few (x ∷ w ∷ xs) rest (Some y) e h some = absurd (omega arith)
-
-map-reverse : {A B : Type 0} (f : A → B) (xs : List A) → map f (reverse xs) ≡ reverse (map f xs)
-map-reverse f [] = refl
-map-reverse {B = B} f (x ∷ xs) =
-    ap (map f) (reverse-append (x ∷ []) xs) ∙ map-append f (reverse xs) (x ∷ [])
-    ∙ ap (λ (ys : List B). ys ++ f x ∷ []) (map-reverse f xs) ∙ sym (reverse-append (f x ∷ []) (map f xs))
 
 pub in_reading_order-map : {A B : Type 0} (f : A → B) (b : Bool) (xs : List A) → map f (in_reading_order b xs) ≡ in_reading_order b (map f xs)
 in_reading_order-map f true xs = map-reverse f xs

@@ -2,24 +2,16 @@
 use Rattle.std.proofs.Common.{◌≡◌, ℕ, zero, suc, ◌+◌, ◌-◌, ◌<◌, ◌≤◌, ◌⊎◌, Bool, true, false, cond, not, ◌&&◌, ◌||◌, nat_le, nat_lt, min, max, List, [], ◌∷◌, ◌++◌, length, take, drop, refl, sym, ap, ap₂, ◌∙◌, inl, inr, arith, le_of_suc-le-suc}
 use Rattle.std.proofs.lemmas.Bool.{and_parts, or_cases, or_left, or_right, or_from, both_ways, false≢true, cases_eq, cases_lt, cases_order, lt-ltb, le-ltb, leb-true}
 use Rattle.std.proofs.lemmas.Bool.Decides.{nat_tests}
-use Rattle.std.proofs.lemmas.List.{take_more, length-append, length-drop, length-take-le, get_or_append_left, get_or-take, get_or_at, get_or-append-add, get_or-drop}
-use Rattle.std.proofs.lemmas.List.Recursion.{or_at, or_push}
+use Rattle.std.proofs.lemmas.List.{length-append, length-drop, length-take-le, get_or_append_left, get_or-take, get_or_at, get_or-append-add, get_or-drop}
+use Rattle.std.proofs.lemmas.List.Recursion.{or_at}
 use Rattle.regress_meaning.specs.Text.{between}
 use Rattle.regress_meaning.specs.Table.{last_code_point, code_points}
 use Rattle.regress_meaning.specs.TableParts.{in_intervals, IntervalsRise}
 use Rattle.regress_front_sets.specs.Intervals.{interval_at, IsRun, gap, gaps_from, inverse}
+use Rattle.std.proofs.Math.Bool.{or_assoc}
+use Rattle.regress_meaning.proofs.TableLemmas.{same_bool}
 
 -- ---- tests
-
--- two tests that pass together are one
-pub same_bool : (a b : Bool) → (a ≡ true → b ≡ true) → (b ≡ true → a ≡ true) → a ≡ b
-same_bool true b h k = sym (h refl)
-same_bool false true h k = k refl
-same_bool false false h k = refl
-
-pub or_assoc : (x y z : Bool) → ((x || y) || z) ≡ (x || (y || z))
-or_assoc true y z = refl
-or_assoc false y z = refl
 
 -- a number lies in an interval, or it lies below or above
 pub between_cases : (a b c : ℕ) → ((between a b c ≡ true) × (a ≤ c) × (c ≤ b)) ⊎ ((between a b c ≡ false) × ((c < a) ⊎ (b < c)))
@@ -54,15 +46,6 @@ in_intervals-append [] ys c = refl
 in_intervals-append (i ∷ xs) ys c =
     ap (λ b. between i.0 i.1 c || b) (in_intervals-append xs ys c)
     ∙ sym (or_assoc (between i.0 i.1 c) (in_intervals xs c) (in_intervals ys c))
-
-pub in_intervals-push : (xs : List (ℕ × ℕ)) (i : ℕ × ℕ) (c : ℕ) → in_intervals (xs ++ i ∷ []) c ≡ (in_intervals xs c || between i.0 i.1 c)
-unfolding in_intervals
-in_intervals-push xs i c = or_push (λ l. in_intervals l c) (holds_at c) refl (λ _ _. refl) xs i
-
-pub in_intervals-more : (xs : List (ℕ × ℕ)) (n c : ℕ) → n < length xs
-    → in_intervals (take (n + 1) xs) c ≡ (in_intervals (take n xs) c || between (interval_at xs n).0 (interval_at xs n).1 c)
-in_intervals-more xs n c h =
-    ap (λ l. in_intervals l c) (take_more xs n (0, 0) h) ∙ in_intervals-push (take n xs) (interval_at xs n) c
 
 -- what the interval at a place holds, all intervals hold
 pub in_intervals-at : (xs : List (ℕ × ℕ)) (k c : ℕ) → k < length xs → (interval_at xs k).0 ≤ c → c ≤ (interval_at xs k).1 → in_intervals xs c ≡ true

@@ -12,47 +12,14 @@ use Rattle.std.proofs.lemmas.List.Folds.{Any-from_list_any, list_any_at, list_an
 use Rattle.std.proofs.lemmas.List.Kept.{AllPairs-filter, AllPairs-from_increasing}
 use Rattle.std.proofs.lemmas.List.Sorted.{IsPermutation-insert, list_any-IsPermutation, searched}
 use Rattle.regress_meaning.specs.Text.{holds}
-use Rattle.regress_meaning.specs.Table.{some_below, count_below, closure, code_points, last_code_point}
+use Rattle.regress_meaning.specs.Table.{count_below, closure, code_points, last_code_point}
 use Rattle.regress_meaning.specs.TableParts.{TableParts, IsLawful, image, PairsRise, is_code_point}
 use Rattle.regress_front_tables.specs.Folding.{Lists, IsCaseMap, GrowsInside}
-use Rattle.regress_front_sets.proofs.IntervalLemmas.{same_bool}
+use Rattle.regress_meaning.proofs.TableLemmas.{same_bool, closure-true, closure-from, count_below-mono}
 use Rattle.regress_front_tables.proofs.ClassLemmas.{count_below-same}
 use Rattle.regress_front_tables.proofs.ImageLemmas.{PairsRise-at, All-image, image-listed, image-unlisted, image_cases}
 
 -- ---- closures
-
-some_below-from : (n d : ℕ) (test : ℕ → Bool) → d < n → test d ≡ true → some_below n test ≡ true
-unfolding some_below
-some_below-from zero d test l e = absurd (omega arith)
-some_below-from (suc n) d test l e =
-    elim (cases_eq d n) [
-      | inl p ↦ or_left _ _ (ap test (sym p) ∙ e)
-      | inr ne ↦ or_right _ _ (some_below-from n d test (omega arith) e)
-    ]
-
-some_below-true : (n : ℕ) (test : ℕ → Bool) → some_below n test ≡ true → (d : ℕ) × (d < n) × (test d ≡ true)
-unfolding some_below
-some_below-true zero test e = absurd (false≢true e)
-some_below-true (suc n) test e =
-    elim (or_cases _ _ e) [
-      | inl h ↦ (n, omega arith, h)
-      | inr h ↦ let r = some_below-true n test h in (r.0, omega (arith, r.1), r.2)
-    ]
-
--- what is in a closure has the image of a member
-closure-true : (map_of : ℕ → ℕ) (members : ℕ → Bool) (c : ℕ) → closure map_of members c ≡ true
-    → (d : ℕ) × (d < code_points) × (members d ≡ true) × (map_of d ≡ map_of c)
-unfolding closure
-closure-true map_of members c e =
-    let r = some_below-true _ _ e in
-    let parts = and_parts _ _ r.2 in
-    (r.0, r.1, parts.0, eqb-true _ _ parts.1)
-
--- what has the image of a member is in the closure
-closure-from : (map_of : ℕ → ℕ) (members : ℕ → Bool) (c d : ℕ)
-    → d < code_points → members d ≡ true → map_of d ≡ map_of c → closure map_of members c ≡ true
-unfolding closure
-closure-from map_of members c d l m e = some_below-from _ d _ l (and_from _ _ m (eq-eqb _ _ e))
 
 -- what has the image of something in a closure is in the closure
 closure-alike : (map_of : ℕ → ℕ) (members : ℕ → Bool) (c d : ℕ)
@@ -149,16 +116,6 @@ sources-taken pairs old new h c m =
     ]
 
 -- ---- numbers below a bound that pass
-
-count_below-mono : (n : ℕ) (s t : ℕ → Bool) → ((c : ℕ) → s c ≡ true → t c ≡ true) → count_below n s ≤ count_below n t
-unfolding count_below
-count_below-mono zero s t h = omega arith
-count_below-mono (suc n) s t h = go (s n) (t n) (h n) _ _ (count_below-mono n s t h)
-  where
-    go : (a b : Bool) → (a ≡ true → b ≡ true) → (i j : ℕ) → i ≤ j → cond a 1 0 + i ≤ cond b 1 0 + j
-    go false b k i j l = omega arith
-    go true true k i j l = omega arith
-    go true false k i j l = absurd (false≢true (k refl))
 
 -- one more number is one more
 count_below-cons : (n x : ℕ) (t : ℕ → Bool) → x < n → t x ≡ false → count_below n (λ c. x == c || t c) ≡ suc (count_below n t)

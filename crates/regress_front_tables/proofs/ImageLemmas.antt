@@ -70,14 +70,6 @@ image_cases (p ∷ pairs) c = go (p.0 == c) refl (image_cases pairs c)
     go false e (inl h) = inl (All-cons (λ q. q.0 ≢ c) p pairs (eqb-false p.0 c e) h)
     go false e (inr h) = inr (suc h.0, omega (arith, h.1), h.2)
 
--- what holds of c, and of the second part of each pair, holds of the image of c
-pub image-keeps : (P : ℕ → Type 0) (pairs : List (ℕ × ℕ)) (c : ℕ) → All (λ p. P p.1) pairs → P c → P (image pairs c)
-image-keeps P pairs c seconds own =
-    elim (image_cases pairs c) [
-      | inl unlisted ↦ subst P (sym (image-unlisted pairs c unlisted)) own
-      | inr listed ↦ All-contains (λ p. P p.1) pairs (c, image pairs c) seconds listed
-    ]
-
 -- ---- laws of one map, at its pairs
 
 -- whether a map applied twice is the map applied once, is seen at the second part of each pair

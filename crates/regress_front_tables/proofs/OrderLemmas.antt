@@ -1,5 +1,5 @@
 -- Lists of pairs and of intervals rise exactly where no entry is told as out of order.
-use Rattle.std.proofs.Common.{◌≡◌, ℕ, ◌+◌, ◌<◌, ◌≤◌, Bool, true, false, nat_lt, List, [], ◌∷◌, length, get_or, drop, Option, String, Vec, Global, All, map, ap, ◌∙◌, Option, None, Some, IfNone, IfSome, refl, sym, cond, arith}
+use Rattle.std.proofs.Common.{◌≡◌, ℕ, ◌+◌, ◌<◌, Bool, true, false, nat_lt, List, [], ◌∷◌, length, Option, String, Vec, Global, All, map, ap, ◌∙◌, Option, None, Some, IfNone, IfSome, refl, sym, cond, arith}
 use Rattle.std.specs.Option.{option_or}
 use Rattle.std.proofs.lemmas.Bool.{ltb-true, lt-ltb}
 use Rattle.std.proofs.lemmas.List.Elements.{All-nil, All-cons, All-head, All-tail}
@@ -12,25 +12,11 @@ use Rattle.regress_front_sets.specs.declared.interval.Interval.{Interval}
 use Rattle.regress_front_sets.specs.Intervals.{ends_of}
 use Rattle.regress_front_tables.specs.Breaking.{first_out_of_order, first_out_of_place, first_some, out_of_order, out_of_place}
 
--- two pairs decide, or what is left after the first
-pub first_out_of_order-step : (pairs : List (ℕ × ℕ)) (d : ℕ × ℕ) → 2 ≤ length pairs
-    → first_out_of_order pairs ≡ cond (nat_lt (get_or pairs 0 d).0 (get_or pairs 1 d).0) (first_out_of_order (drop 1 pairs)) (Some (get_or pairs 1 d).0)
-first_out_of_order-step [] d l = absurd (omega arith)
-first_out_of_order-step (p ∷ []) d l = absurd (omega arith)
-first_out_of_order-step (p ∷ q ∷ pairs) d l = refl
-
 -- one pair is in order
 pub first_out_of_order-short : (pairs : List (ℕ × ℕ)) → length pairs < 2 → first_out_of_order pairs ≡ None
 first_out_of_order-short [] l = refl
 first_out_of_order-short (p ∷ []) l = refl
 first_out_of_order-short (p ∷ q ∷ pairs) l = absurd (omega arith)
-
--- two intervals decide, or what is left after the first
-pub first_out_of_place-step : (intervals : List Interval) (d : Interval) → 2 ≤ length intervals
-    → first_out_of_place (ends_of intervals) ≡ cond (nat_lt ((get_or intervals 0 d).last + 1) (get_or intervals 1 d).first) (first_out_of_place (ends_of (drop 1 intervals))) (Some (get_or intervals 1 d).first)
-first_out_of_place-step [] d l = absurd (omega arith)
-first_out_of_place-step (i ∷ []) d l = absurd (omega arith)
-first_out_of_place-step (i ∷ j ∷ intervals) d l = refl
 
 -- one interval is in its place
 pub first_out_of_place-short : (intervals : List Interval) → length intervals < 2 → first_out_of_place (ends_of intervals) ≡ None

@@ -1,10 +1,22 @@
--- The equations of `class_view`, one for each variant that holds something.
+-- The equations of `class_view`, one for each variant.
 use Rattle.std.proofs.Common.{◌≡◌, ℕ, Bool, map, fold, Box, Global, sym, ap, ◌∙◌}
 use Rattle.std.specs.Global.{Vec}
 use Rattle.regress_meaning.specs.Class as meaning
 use Rattle.regress_front_tokens.specs.Trees.{class_view, node_class, union_of}
 use Rattle.regress_front_tokens.specs.declared.syntax.Class.{Class, Class-F, fold-roll-Class}
-use Rattle.regress_front_tokens.specs.declared.syntax.Class.TheVariants.{Property, Sequences, Complement, Strings, Union, Intersection, Difference, Nested, rolls-Property, rolls-Sequences, rolls-Complement, rolls-Strings, rolls-Union, rolls-Intersection, rolls-Difference, rolls-Nested}
+use Rattle.regress_front_tokens.specs.declared.syntax.Class.TheVariants.{Range, Digits, Spaces, Words, Property, Sequences, Complement, Strings, Union, Intersection, Difference, Nested, rolls-Range, rolls-Digits, rolls-Spaces, rolls-Words, rolls-Property, rolls-Sequences, rolls-Complement, rolls-Strings, rolls-Union, rolls-Intersection, rolls-Difference, rolls-Nested}
+
+pub class_view-Range : (first last : ℕ) → class_view (Range first last) ≡ meaning.range first last
+class_view-Range first last = ap class_view (sym (rolls-Range first last)) ∙ fold-roll-Class meaning.Class node_class (Class-F.Range first last)
+
+pub class_view-Digits : class_view Digits ≡ meaning.digits
+class_view-Digits = ap class_view (sym rolls-Digits) ∙ fold-roll-Class meaning.Class node_class Class-F.Digits
+
+pub class_view-Spaces : class_view Spaces ≡ meaning.spaces
+class_view-Spaces = ap class_view (sym rolls-Spaces) ∙ fold-roll-Class meaning.Class node_class Class-F.Spaces
+
+pub class_view-Words : class_view Words ≡ meaning.words
+class_view-Words = ap class_view (sym rolls-Words) ∙ fold-roll-Class meaning.Class node_class Class-F.Words
 
 pub class_view-Property : (key : Vec ℕ) → class_view (Property key) ≡ meaning.property key.items
 class_view-Property key = ap class_view (sym (rolls-Property key)) ∙ fold-roll-Class meaning.Class node_class (Class-F.Property key)

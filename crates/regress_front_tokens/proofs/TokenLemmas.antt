@@ -1,20 +1,18 @@
 -- What the words of a pattern are, where the parts that they are read by are known.
-use Rattle.std.proofs.Common.{◌≡◌, ℕ, suc, ◌≤◌, ◌==◌, ◌&&◌, not, min, Bool, true, false, nat_lt, nat_le, nat_eq, List, [], ◌∷◌, ◌++◌, length, drop, Option, Some, None, refl, sym, ap, ◌∙◌, inl, inr, arith, eqb-true, eq-eqb}
-use Rattle.std.specs.Prelude.{if◌then◌else◌, option_map, option_and_then, unwrap_or}
+use Rattle.std.proofs.Common.{◌≡◌, ℕ, suc, ◌≤◌, ◌==◌, ◌&&◌, not, min, Bool, true, false, nat_lt, nat_le, nat_eq, List, [], ◌∷◌, ◌++◌, length, drop, Option, Some, None, refl, sym, ap, ◌∙◌, arith, eqb-true, eq-eqb}
+use Rattle.std.specs.Prelude.{if◌then◌else◌, option_and_then, unwrap_or}
 use Rattle.std.specs.List.{starts_with}
 use Rattle.std.specs.Option.{option_or}
 use Rattle.std.proofs.Math.Bool.{and-true}
 use Rattle.std.proofs.lemmas.List.{drop-drop}
-use Rattle.std.proofs.lemmas.Bool.{ne_eqb, cond_both, cases_Bool}
+use Rattle.std.proofs.lemmas.Bool.{ne_eqb, cond_both}
 use Rattle.std.proofs.lemmas.Bool.Decides.{nat_tests}
 use Rattle.regress_meaning.specs.Text.{span, span_up_to, is_at, between}
 use Rattle.regress_meaning.specs.Class.{is_digit}
 use Rattle.regress_meaning.specs.Table.{last_code_point}
-use Rattle.regress_meaning.specs.Tokens.{guard, is_octal, is_hex, is_low, joined, number_of, greatest, decimal_at, braced_end, bounds, bounds_at, hex_at, low_half, pair_at, braces_at, unicode_escape, octal_at, Bounds}
+use Rattle.regress_meaning.specs.Tokens.{guard, is_octal, is_hex, is_low, joined, number_of, greatest, decimal_at, bounds, bounds_at, hex_at, low_half, pair_at, braces_at, unicode_escape, octal_at}
 use Rattle.regress_front_tokens.specs.Readings.{IsReading}
-use Rattle.regress_front_tokens.specs.Words.{count_at, braced_at, quantifier_at}
-use Rattle.std.proofs.lemmas.Option.{some_pair_parts}
-use Rattle.regress_meaning.specs.Grammar.{greedy_at, after_mark}
+use Rattle.regress_front_tokens.specs.Words.{count_at, braced_at}
 use Rattle.regress_front_tokens.proofs.SpanLemmas.{span-joined, span_up_to-joined}
 
 -- some are more than none
@@ -62,17 +60,6 @@ unfolding bounds_at
 bounds_at-is [] = refl
 bounds_at-is (c ∷ t) = refl
 
-pub braced_end-is : (n : ℕ) (t : List ℕ) → braced_end n t ≡ (
-    if is_at (λ c. c == 0x2C) t then (
-    if is_at (λ d. d == 0x7D) (drop 1 t) then Some (bounds n greatest, drop 2 t)
-    else option_and_then (λ (m, r). guard (is_at (λ d. d == 0x7D) r) (Some (bounds n m, drop 1 r))) (decimal_at (drop 1 t)))
-    else guard (is_at (λ d. d == 0x7D) t) (Some (bounds n n, drop 1 t)))
-braced_end-is n [] = refl
-braced_end-is n (c ∷ t) = elim (cases_Bool (c == 0x2C)) [
-  | inl comma ↦ let other : (c == 0x7D) ≡ false = ne_eqb c 0x7D (λ e. let k = eqb-true c 0x2C comma in absurd (omega arith)) in rw (comma, other) refl
-  | inr other ↦ rw other (cond_both (c == 0x7D) _ _ (λ o. o ≡ guard (c == 0x7D) (Some (bounds n n, t))) (λ e. rw e refl) (λ e. rw e refl))
-]
-
 -- the first of four tests on its own
 guard_first : {A : Type 0} (a b c d : Bool) (o : Option A) → guard (a && b && c && d) o ≡ guard a (guard (b && c && d) o)
 guard_first true b c d o = refl
@@ -119,21 +106,3 @@ unicode_escape-braced t (Some c) rest some h = rw h refl
 -- an octal escape has at most three digits
 pub octal_length-le : (t : List ℕ) (n : ℕ) → n ≡ (if is_at (between 0x30 0x33) t then 3 else 2) → n ≤ 3
 octal_length-le t n e = rw e (cond_both (is_at (between 0x30 0x33) t) 3 2 (λ k. k ≤ 3) (λ _. omega arith) (λ _. omega arith))
-
--- a quantifier was read: its bounds, and the mark behind them
-pub quantifier_at-some : (t : List ℕ) {b : Bounds} {greedy : Bool} {r : List ℕ} → quantifier_at t ≡ Some ((b, greedy), r) → (v : List ℕ) × (bounds_at t ≡ Some (b, v)) × (greedy ≡ greedy_at v) × (r ≡ after_mark v)
-quantifier_at-some t e = marked (bounds_at t) e
-  where
-    marked : (o : Option (Bounds × List ℕ)) {b : Bounds} {greedy : Bool} {r : List ℕ} → option_map {U = (Bounds × Bool) × List ℕ} (λ (b, v). ((b, greedy_at v), after_mark v)) o ≡ Some ((b, greedy), r) →
-        (v : List ℕ) × (o ≡ Some (b, v)) × (greedy ≡ greedy_at v) × (r ≡ after_mark v)
-    marked None e = cc
-    marked (Some (b, v)) e =
-        let parts = some_pair_parts _ _ _ _ e in
-        (v, ap (λ (p : Bounds × Bool). Some (p.0, v)) parts.0, ap (λ (p : Bounds × Bool). p.1) (sym parts.0), sym parts.1)
-
-pub quantifier_at-none : (t : List ℕ) → quantifier_at t ≡ None → bounds_at t ≡ None
-quantifier_at-none t e = unmarked (bounds_at t) e
-  where
-    unmarked : (o : Option (Bounds × List ℕ)) → option_map {U = (Bounds × Bool) × List ℕ} (λ (b, v). ((b, greedy_at v), after_mark v)) o ≡ None → o ≡ None
-    unmarked None e = refl
-    unmarked (Some x) e = cc

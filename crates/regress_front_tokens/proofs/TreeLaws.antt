@@ -1,14 +1,14 @@
 -- The equations of `tree`, one for each variant.
 use Rattle.std.proofs.Common.{◌≡◌, ℕ, Bool, map, Vec, Box, Global, sym, ap, ◌∙◌}
 use Rattle.std.specs.declared.ops.Range.{Range}
-use Rattle.regress_meaning.specs.Pattern.{Pattern, character, any, class, class_escape, grouped, modified, repeated, look, reference, line_start, line_end, word_boundary}
+use Rattle.regress_meaning.specs.Pattern.{Pattern, character, any, class, class_escape, grouped, modified, repeated, look, line_start, line_end, word_boundary}
 use Rattle.regress_front_tokens.specs.Trees.{tree, class_view, settings, capture_of, node_tree, sequence_of, choice_of}
 use Rattle.regress_front_core.specs.Quantifiers.{most}
 use Rattle.regress_front_tokens.specs.declared.syntax.Class.{Class as ClassValue}
 use Rattle.regress_front_core.specs.declared.quantifier.Quantifier.{Quantifier}
 use Rattle.regress_front_tokens.specs.declared.syntax.Modifiers.{Modifiers}
 use Rattle.regress_front_tokens.specs.declared.syntax.Syntax.{Syntax, Syntax-F, fold-roll-Syntax}
-use Rattle.regress_front_tokens.specs.declared.syntax.Syntax.TheVariants.{Character, Any, Class, ClassEscape, Alternative, Disjunction, Capture, Group, Modified, Loop, Look, Reference, LineStart, LineEnd, WordBoundary, rolls-Character, rolls-Any, rolls-Class, rolls-ClassEscape, rolls-Alternative, rolls-Disjunction, rolls-Capture, rolls-Group, rolls-Modified, rolls-Loop, rolls-Look, rolls-Reference, rolls-LineStart, rolls-LineEnd, rolls-WordBoundary}
+use Rattle.regress_front_tokens.specs.declared.syntax.Syntax.TheVariants.{Character, Any, Class, ClassEscape, Alternative, Disjunction, Capture, Group, Modified, Loop, Look, LineStart, LineEnd, WordBoundary, rolls-Character, rolls-Any, rolls-Class, rolls-ClassEscape, rolls-Alternative, rolls-Disjunction, rolls-Capture, rolls-Group, rolls-Modified, rolls-Loop, rolls-Look, rolls-LineStart, rolls-LineEnd, rolls-WordBoundary}
 
 pub tree-Character : (c : ℕ) → tree (Character c) ≡ character c
 tree-Character c = ap tree (sym (rolls-Character c)) ∙ fold-roll-Syntax Pattern node_tree (Syntax-F.Character c)
@@ -43,9 +43,6 @@ tree-Loop loopee quant groups = ap tree (sym (rolls-Loop loopee quant groups)) �
 
 pub tree-Look : (negated backward : Bool) (contents : Box Syntax Global) → tree (Look negated backward contents) ≡ look negated backward (tree contents.value)
 tree-Look negated backward contents = ap tree (sym (rolls-Look negated backward contents)) ∙ fold-roll-Syntax Pattern node_tree (Syntax-F.Look negated backward contents)
-
-pub tree-Reference : (groups : Vec ℕ Global) → tree (Reference groups) ≡ reference groups.items
-tree-Reference groups = ap tree (sym (rolls-Reference groups)) ∙ fold-roll-Syntax Pattern node_tree (Syntax-F.Reference groups)
 
 pub tree-LineStart : tree LineStart ≡ line_start
 tree-LineStart = ap tree (sym rolls-LineStart) ∙ fold-roll-Syntax Pattern node_tree Syntax-F.LineStart

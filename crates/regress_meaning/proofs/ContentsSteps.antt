@@ -18,7 +18,7 @@ test_agree : {A : Type 0} (b : Bool) {x y z w : A} → (b ≡ true → x ≡ z) 
 test_agree true h k = h refl
 test_agree false h k = k refl
 
-then_agree : {A B : Type 0} (f g : A → Option B) (o : Option A) → ((a : A) → o ≡ Some a → f a ≡ g a) → option_and_then f o ≡ option_and_then g o
+pub then_agree : {A B : Type 0} (f g : A → Option B) (o : Option A) → ((a : A) → o ≡ Some a → f a ≡ g a) → option_and_then f o ≡ option_and_then g o
 then_agree f g None same = refl
 then_agree f g (Some a) same = same a refl
 

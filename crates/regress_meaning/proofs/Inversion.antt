@@ -1,7 +1,7 @@
 -- What is known of the parts of an `if` or of a word on `Option`, where its value is known. What an `if` gives where its
 -- test is known is std's `cond-true` and `cond-false`; of `&&`, `||` and `not` it is std's `and_parts` and its like.
 use Rattle.std.specs.Prelude.{if◌then◌else◌}
-use Rattle.std.proofs.Common.{◌≡◌, ℕ, Bool, true, false, ◌==◌, ◌⊎◌, inl, inr, List, [], ◌∷◌, Option, Some, None, is_some, option_and_then, option_map, refl, ap, subst, eqb-true}
+use Rattle.std.proofs.Common.{◌≡◌, ℕ, Bool, true, false, ◌==◌, ◌⊎◌, inl, inr, List, [], ◌∷◌, Option, Some, None, option_and_then, option_map, refl, ap, subst, eqb-true}
 use Rattle.std.proofs.lemmas.Option.{same_Some}
 use Rattle.std.specs.Option.{option_or}
 use Rattle.regress_meaning.specs.Text.{is_at}
@@ -21,14 +21,6 @@ pub option-cases : {A : Type 0} (o : Option A) → (o ≡ None) ⊎ ((x : A) × 
 option-cases None = inl refl
 option-cases (Some x) = inr (x, refl)
 
-pub is_some-true : {A : Type 0} (o : Option A) → is_some o ≡ true → (x : A) × (o ≡ Some x)
-is_some-true None e = cc
-is_some-true (Some x) e = (x, refl)
-
-pub is_some-false : {A : Type 0} (o : Option A) → is_some o ≡ false → o ≡ None
-is_some-false None e = refl
-is_some-false (Some x) e = cc
-
 pub guard-some : {A : Type 0} (b : Bool) {o : Option A} {y : A} → guard b o ≡ Some y → (b ≡ true) × (o ≡ Some y)
 guard-some true e = (refl, e)
 guard-some false e = cc
@@ -40,15 +32,6 @@ and_then-some f (Some x) e = (x, refl, e)
 pub map-some : {A B : Type 0} (f : A → B) (o : Option A) {y : B} → option_map f o ≡ Some y → (x : A) × (o ≡ Some x) × (f x ≡ y)
 map-some f None e = cc
 map-some f (Some x) e = (x, refl, (cc))
-
-pub or-some : {A : Type 0} (o : Option A) {p : Option A} {y : A} → option_or o p ≡ Some y → (o ≡ Some y) ⊎ ((o ≡ None) × (p ≡ Some y))
-or-some None e = inr (refl, e)
-or-some (Some x) e = inl e
-
--- a front that passes is one code point and what follows it
-pub is_at-true : (test : ℕ → Bool) (t : List ℕ) → is_at test t ≡ true → (c : ℕ) × (r : List ℕ) × (t ≡ c ∷ r) × (test c ≡ true)
-is_at-true test [] e = cc
-is_at-true test (c ∷ t) e = (c, t, refl, e)
 
 pub is_at-eq : (k : ℕ) (t : List ℕ) → is_at (λ d. d == k) t ≡ true → (r : List ℕ) × (t ≡ k ∷ r)
 is_at-eq k [] e = cc

@@ -1,10 +1,10 @@
 -- The items of a match list rise and lie in the text, and there are at most as many as places.
-use Rattle.std.proofs.Common.{◌≡◌, ℕ, ◌+◌, ◌-◌, ◌≤◌, List, ◌∷◌, [], length, Option, Some, None, All, IfSome}
+use Rattle.std.proofs.Common.{◌≡◌, ℕ, ◌+◌, ◌-◌, ◌≤◌, List, ◌∷◌, [], length, Some, None, All, IfSome}
 use Rattle.std.proofs.lemmas.List.Elements.{All-weaker}
 use Rattle.regress_meaning.specs.Table.{Table}
 use Rattle.regress_meaning.specs.Pattern.{Pattern, names_of}
 use Rattle.regress_meaning.specs.Flags.{Options, is_unicode, first_settings}
-use Rattle.regress_meaning.specs.Meaning.{Forward, Outcomes, Context, outcomes}
+use Rattle.regress_meaning.specs.Meaning.{Forward, Context, outcomes}
 use Rattle.regress_meaning.specs.Matches.{Item, next_place, attempt, first_match, match_list}
 use Rattle.regress_meaning.specs.Laws.{IsItemInside, ItemsRise}
 use Rattle.regress_meaning.proofs.OutcomeLemmas.{Goes-outcomes}

@@ -1,18 +1,14 @@
 -- Where a pattern leads: its outcomes lie on one side of the place that it starts from, stay inside the text, and have as
 -- many groups.
-use Rattle.std.proofs.Common.{◌≡◌, ℕ, zero, suc, Bool, true, false, List, [], ◌∷◌, length, Option, if◌then◌else◌, slice_get, max, reverse, All}
+use Rattle.std.proofs.Common.{◌≡◌, ℕ, zero, suc, Bool, true, false, List, [], ◌∷◌, length, if◌then◌else◌, slice_get, max, reverse, All}
 use Rattle.std.proofs.lemmas.List.Elements.{All-weaker}
 use Rattle.regress_meaning.specs.Class.{Strings, longest}
 use Rattle.regress_meaning.specs.Pattern.{Pattern, Settings, nothing, character, any, class, class_escape, sequence, choice, capture, grouped, modified, repeated, look, reference, line_start, line_end, word_boundary}
-use Rattle.regress_meaning.specs.Meaning.{State, Direction, Forward, Backward, Context, string_steps, class_steps, cleared, repeat_group, references, outcomes}
+use Rattle.regress_meaning.specs.Meaning.{State, Direction, Forward, Backward, Context, string_steps, class_steps, cleared, references, outcomes}
 use Rattle.regress_meaning.specs.Laws.{IsAhead, IsInside}
-use Rattle.regress_meaning.proofs.StepLaws.{Leads, Goes, stays, All-after, Goes-both, Goes-in_order, Goes-step, Goes-keep_if, Goes-repeat_group, Goes-cleared, Goes-iterations, Goes-looked, Goes-captured}
+use Rattle.regress_meaning.proofs.StepLaws.{To, Goes, stays, All-after, Goes-both, Goes-in_order, Goes-step, Goes-keep_if, Goes-repeat_group, Goes-cleared, Goes-iterations, Goes-looked, Goes-captured}
 
 module _ (context : Context) where
-  -- one state leads to another, in this text
-  abbrev To : Direction → State → State → Type 0
-  To dir s t = Leads context.text dir s t
-
   Goes-string_steps : (dir : Direction) (icase : Bool) (v : Strings) (k : ℕ) → Goes context dir (string_steps context dir icase v k)
   unfolding string_steps
   Goes-string_steps dir icase v zero s = Goes-step context dir 0 _ s
@@ -62,9 +58,9 @@ module _ (context : Context) where
   pub outcomes_inside : (p : Pattern) (dir : Direction) (e : Settings) (s : State) → IsInside context.text s
       → All (λ t. IsInside context.text t × (length t.groups ≡ length s.groups)) (outcomes context p dir e s)
   outcomes_inside p dir e s h =
-      All-weaker (To dir s) (λ t. IsInside context.text t × (length t.groups ≡ length s.groups))
+      All-weaker (To context dir s) (λ t. IsInside context.text t × (length t.groups ≡ length s.groups))
       (λ t l. (l.inside h, l.count)) _ (Goes-outcomes p dir e s)
 
   pub outcomes_ahead : (p : Pattern) (dir : Direction) (e : Settings) (s : State) → All (λ t. IsAhead dir s.place t.place) (outcomes context p dir e s)
   outcomes_ahead p dir e s =
-      All-weaker (To dir s) (λ t. IsAhead dir s.place t.place) (λ t l. l.ahead) _ (Goes-outcomes p dir e s)
+      All-weaker (To context dir s) (λ t. IsAhead dir s.place t.place) (λ t l. l.ahead) _ (Goes-outcomes p dir e s)

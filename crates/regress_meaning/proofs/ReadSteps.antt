@@ -1,6 +1,6 @@
 -- The steps of a function that reads: what is known of what an `elim` on a test gives, and what a step gives where its
 -- parts are known.
-use Rattle.std.proofs.Common.{◌≡◌, ℕ, Bool, true, false, ◌==◌, List, [], ◌∷◌, drop, Option, Some, option_and_then, option_map, refl, sym, ap, ◌∙◌, eqb-true}
+use Rattle.std.proofs.Common.{◌≡◌, ℕ, Bool, true, false, ◌==◌, List, [], ◌∷◌, drop, Option, Some, None, option_and_then, option_map, refl, sym, ap, ◌∙◌, eqb-true}
 use Rattle.std.proofs.lemmas.Bool.{and_parts}
 use Rattle.regress_meaning.specs.Text.{is_at}
 use Rattle.regress_meaning.specs.Tokens.{guard}
@@ -27,11 +27,17 @@ on_false {y = y} x e h = ap (λ b. elim b [ true ↦ x | false ↦ y ]) e ∙ h
 pub on_some : {A B : Type 0} (f : A → Option B) {o : Option A} {x : A} {z : Option B} → o ≡ Some x → f x ≡ z → option_and_then f o ≡ z
 on_some f e h = ap (option_and_then f) e ∙ h
 
+pub on_none : {A B : Type 0} (f : A → Option B) {o : Option A} → o ≡ None → option_and_then f o ≡ None
+on_none f e = ap (option_and_then f) e
+
 pub on_map : {A B : Type 0} (f : A → B) {o : Option A} {x : A} → o ≡ Some x → option_map f o ≡ Some (f x)
 on_map f e = ap (option_map f) e
 
 pub on_guard : {A : Type 0} {b : Bool} (o : Option A) → b ≡ true → guard b o ≡ o
 on_guard o e = ap (λ b. guard b o) e
+
+pub off_guard : {A : Type 0} {b : Bool} (o : Option A) → b ≡ false → guard b o ≡ None
+off_guard o e = ap (λ b. guard b o) e
 
 -- a test that answers differently tells two numbers apart
 pub told_apart : (test : ℕ → Bool) (c d : ℕ) → test c ≡ false → test d ≡ true → (c == d) ≡ false

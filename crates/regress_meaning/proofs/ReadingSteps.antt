@@ -11,17 +11,13 @@ use Rattle.regress_meaning.proofs.ReadingSound.{ReadsDisjunctions, term-sound, r
 use Rattle.regress_meaning.proofs.ReadingComplete.{ReadsBelow, term-complete, read_disjunction-complete, read_alternative-complete}
 use Rattle.regress_meaning.proofs.Shorter.{Disjunction-shorter, Alternative-shorter, Term-shorter}
 use Rattle.regress_meaning.proofs.NumberingLemmas.{Disjunction-counts, Alternative-counts, Term-counts}
+use Rattle.regress_meaning.proofs.ContentsSteps.{then_agree}
 
 -- what finds the same values is the same
 agree : {A : Type 0} (o u : Option A) → ((a : A) → o ≡ Some a → u ≡ Some a) → ((a : A) → u ≡ Some a → o ≡ Some a) → o ≡ u
 agree (Some a) u f g = sym (f a refl)
 agree None (Some a) f g = g a refl
 agree None None f g = refl
-
--- two continuations that agree on what was found give the same
-then_agree : {A B : Type 0} (f g : A → Option B) (o : Option A) → ((a : A) → o ≡ Some a → f a ≡ g a) → option_and_then f o ≡ option_and_then g o
-then_agree f g None same = refl
-then_agree f g (Some a) same = same a refl
 
 if_agree : {A : Type 0} (b : Bool) (x y z : A) → (b ≡ false → y ≡ z) → (if b then x else y) ≡ (if b then x else z)
 if_agree true x y z same = refl

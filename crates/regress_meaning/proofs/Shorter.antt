@@ -33,9 +33,6 @@ length-span_up_to (suc n) test (c ∷ t) =
 pub span-shorter : (test : ℕ → Bool) (t : List ℕ) → length (span test t).1 ≤ length t
 span-shorter test t = omega (arith, length-span test t)
 
-pub span_up_to-shorter : (n : ℕ) (test : ℕ → Bool) (t : List ℕ) → length (span_up_to n test t).1 ≤ length t
-span_up_to-shorter n test t = omega (arith, length-span_up_to n test t)
-
 -- what was read leaves a text of fewer than n code points
 abbrev LeavesBelow : {A : Type 0} → ℕ → Option (A × List ℕ) → Type 0
 LeavesBelow n o = Gives (λ p. length p.1 < n) o
@@ -226,29 +223,14 @@ class_escape_at-below m (c ∷ t) =
     if-below (c == 0x6B) (gives-guard (not m.named) (λ _. gives-some (omega arith)))
     (escape_at-below m (c ∷ t))))))
 
-pub decimal_at-shorter : (t : List ℕ) {n : ℕ} {r : List ℕ} → decimal_at t ≡ Some (n, r) → length r < length t
-decimal_at-shorter t e = (decimal_at-below t).holds e
-
 pub bounds_at-shorter : (t : List ℕ) {b : Bounds} {r : List ℕ} → bounds_at t ≡ Some (b, r) → length r < length t
 bounds_at-shorter t e = (bounds_at-below t).holds e
-
-pub hex_at-shorter : (n : ℕ) (t : List ℕ) {c : ℕ} {r : List ℕ} → hex_at n t ≡ Some (c, r) → length r ≤ length t
-hex_at-shorter n t e = omega (arith, (hex_at-below n t).holds e)
-
-pub unicode_escape-shorter : (t : List ℕ) {c : ℕ} {r : List ℕ} → unicode_escape t ≡ Some (c, r) → length r < length t
-unicode_escape-shorter t e = (unicode_escape-below t).holds e
-
-pub octal_at-shorter : (t : List ℕ) {c : ℕ} {r : List ℕ} → octal_at t ≡ Some (c, r) → length r < length t
-octal_at-shorter t e = (octal_at-below t).holds e
 
 pub name_point-shorter : (t : List ℕ) {c : ℕ} {r : List ℕ} → name_point t ≡ Some (c, r) → length r < length t
 name_point-shorter t e = (name_point-below t).holds e
 
 pub name_at-shorter : (table : Table) (t : List ℕ) {name : List ℕ} {r : List ℕ} → name_at table t ≡ Some (name, r) → length r < length t
 name_at-shorter table t e = (name_at-below table t).holds e
-
-pub key_at-shorter : (t : List ℕ) {key : List ℕ} {r : List ℕ} → key_at t ≡ Some (key, r) → length r < length t
-key_at-shorter t e = (key_at-below t).holds e
 
 -- not strict, for `\c` before no letter
 pub escape_at-shorter : (m : Mode) (t : List ℕ) {e : Escape} {r : List ℕ} → escape_at m t ≡ Some (e, r) → length r ≤ length t

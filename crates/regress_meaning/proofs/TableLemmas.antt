@@ -9,14 +9,14 @@ use Rattle.regress_meaning.specs.Class.{is_letter, is_ascii_word}
 use Rattle.regress_meaning.specs.TableParts.{TableParts, IsLawful, small_parts, image, in_intervals, is_code_point, is_surrogate, PairsRise, IntervalsRise, ascii_lower, ascii_upper}
 
 -- two tests that pass together are one
-same_bool : (a b : Bool) → (a ≡ true → b ≡ true) → (b ≡ true → a ≡ true) → a ≡ b
+pub same_bool : (a b : Bool) → (a ≡ true → b ≡ true) → (b ≡ true → a ≡ true) → a ≡ b
 same_bool true b h k = sym (h refl)
 same_bool false true h k = k refl
 same_bool false false h k = refl
 
 -- ---- closures
 
-some_below-from : (n d : ℕ) (test : ℕ → Bool) → d < n → test d ≡ true → some_below n test ≡ true
+pub some_below-from : (n d : ℕ) (test : ℕ → Bool) → d < n → test d ≡ true → some_below n test ≡ true
 unfolding some_below
 some_below-from zero d test l e = absurd (omega arith)
 some_below-from (suc n) d test l e =
@@ -25,7 +25,7 @@ some_below-from (suc n) d test l e =
       | inr ne ↦ or_right _ _ (some_below-from n d test (omega arith) e)
     ]
 
-some_below-true : (n : ℕ) (test : ℕ → Bool) → some_below n test ≡ true → (d : ℕ) × (d < n) × (test d ≡ true)
+pub some_below-true : (n : ℕ) (test : ℕ → Bool) → some_below n test ≡ true → (d : ℕ) × (d < n) × (test d ≡ true)
 unfolding some_below
 some_below-true zero test e = absurd (false≢true e)
 some_below-true (suc n) test e =
@@ -35,7 +35,7 @@ some_below-true (suc n) test e =
     ]
 
 -- c has the canon of a member
-closure-true : (canon_of : ℕ → ℕ) (members : ℕ → Bool) (c : ℕ) → closure canon_of members c ≡ true
+pub closure-true : (canon_of : ℕ → ℕ) (members : ℕ → Bool) (c : ℕ) → closure canon_of members c ≡ true
     → (d : ℕ) × (d < code_points) × (members d ≡ true) × (canon_of d ≡ canon_of c)
 unfolding closure
 closure-true canon_of members c e =
@@ -43,7 +43,7 @@ closure-true canon_of members c e =
     let parts = and_parts _ _ r.2 in
     (r.0, r.1, parts.0, eqb-true _ _ parts.1)
 
-closure-from : (canon_of : ℕ → ℕ) (members : ℕ → Bool) (c d : ℕ)
+pub closure-from : (canon_of : ℕ → ℕ) (members : ℕ → Bool) (c d : ℕ)
     → d < code_points → members d ≡ true → canon_of d ≡ canon_of c → closure canon_of members c ≡ true
 unfolding closure
 closure-from canon_of members c d l m e = some_below-from _ d _ l (and_from _ _ m (eq-eqb _ _ e))
@@ -62,7 +62,7 @@ closure-idempotent canon_of members c = same_bool _ _
 -- ---- counts
 
 -- what passes the one test passes the other, so no more pass
-count_below-mono : (n : ℕ) (s t : ℕ → Bool) → ((c : ℕ) → s c ≡ true → t c ≡ true) → count_below n s ≤ count_below n t
+pub count_below-mono : (n : ℕ) (s t : ℕ → Bool) → ((c : ℕ) → s c ≡ true → t c ≡ true) → count_below n s ≤ count_below n t
 unfolding count_below
 count_below-mono zero s t h = le_refl 0
 count_below-mono (suc n) s t h = go (s n) (t n) (h n) (count_below-mono n s t h)

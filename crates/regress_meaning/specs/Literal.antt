@@ -1,7 +1,7 @@
 -- The occurrences of a literal in a text.
-use Rattle.std.specs.Prelude.{ℕ, ◌+◌, ◌-◌, List, [], length, Option, Some, None, drop, nat_eq, nat_le, ◌&&◌, if◌then◌else◌}
+use Rattle.std.specs.Prelude.{ℕ, ◌+◌, List, [], length, Option, Some, None, drop, nat_eq, nat_le, ◌&&◌, if◌then◌else◌}
 use Rattle.std.specs.List.{starts_with}
-use Rattle.regress_meaning.specs.Matches.{Item, first_from, list_from}
+use Rattle.regress_meaning.specs.Matches.{Item, all_found}
 
 module _ (literal text : List ℕ) where
   -- the literal stands at a place of the text
@@ -14,4 +14,4 @@ module _ (literal text : List ℕ) where
   -- The occurrences from a place on: the least place where it stands, then those from its end, or from one place later
   -- for the empty literal.
   unfoldable pub occurrences : ℕ → List Item
-  occurrences q = list_from (λ p. first_from occurrence_at (length text + 1 - p) p) (length text + 1 - q) q
+  occurrences q = all_found occurrence_at (length text) q
