@@ -23,6 +23,10 @@ use std::alloc::Global;
 use std::sync::ArcSlice;
 
 /// Whether a search in `text` may begin at `start`, an offset in bytes: at a boundary between characters, or past the end.
+///
+/// ```rust
+/// let inside = is_start("é", 1); // false: 1 stands inside a character
+/// ```
 pub fn is_start(text: &str, start: usize) -> bool
     ensures { IsTrue result ↔ ((place : ℕ) × Begins (of_utf8 text.now) start place) }
 {
@@ -49,6 +53,10 @@ impl<'u> Regex<'u> {
     /// Compiles a pattern without flags.
     ///
     /// Refused as `with_flags` says.
+    ///
+    /// ```rust
+    /// let regex = Regex::new(alloc, "a+b", &tables)?;
+    /// ```
     pub fn new(alloc: Global, pattern: &str, tables: &'u Tables) -> Result<Regex<'u>, Error>
         ensures accepted { IfOk result (λ r. (p : Pattern) × Spells (table tables.now) plain (chars pattern.now) p × WithinLimits p × StandsFor r (table tables.now) plain p) }
         ensures refused { IfErr result (MayRefuse (table tables.now) plain (chars pattern.now)) }
@@ -60,6 +68,10 @@ impl<'u> Regex<'u> {
     ///
     /// Answers a `Regex` for the tree that the pattern spells. Refused as `Syntax` where the text spells no tree, under the
     /// name of a limit that it passes, and as `OutOfMemory`.
+    ///
+    /// ```rust
+    /// let regex = Regex::with_flags(alloc, "a+b", Flags::from("im"), &tables)?;
+    /// ```
     pub fn with_flags(
         alloc: Global,
         pattern: &str,
@@ -76,6 +88,10 @@ impl<'u> Regex<'u> {
     /// Compiles a pattern that is given as code points; raw surrogates are never joined.
     ///
     /// Asks that all are code points, as `are_code_points` tells. Refused as `with_flags` says.
+    ///
+    /// ```rust
+    /// let regex = Regex::from_unicode(alloc, &[0x61, 0xD800], Flags::default(), &tables)?;
+    /// ```
     pub fn from_unicode(
         alloc: Global,
         points: &[u32],
@@ -100,6 +116,10 @@ impl<'u> Regex<'u> {
     /// The first match in a text, its ranges told in bytes ("RegExpBuiltinExec").
     ///
     /// Answers the first item of the pattern's match list from the beginning of the text. Errs with `OutOfMemory` alone.
+    ///
+    /// ```rust
+    /// let found = regex.find("xaab")?; // for `a+b` the match at 1..4
+    /// ```
     pub fn find(&self, text: &str) -> Result<Option<Match>, Error>
         ensures found { (t : Table) → (o : Options) → (p : Pattern) → StandsFor self.now t o p →
             IfOk result (λ found. option_map item_of found ≡ option_map (told (of_utf8 text.now)) (slice_get (match_list t o p (chars text.now) 0) 0)) }
@@ -114,6 +134,12 @@ impl<'u> Regex<'u> {
     /// All matches in a text, one after another, their ranges told in bytes ("RegExpBuiltinExec").
     ///
     /// Answers an iterator over the pattern's match list from the beginning of the text. Errs with `OutOfMemory` alone.
+    ///
+    /// ```rust
+    /// for found in regex.find_iter("aab ab")? {
+    ///     let range = found?.range(); // for `a+b` 0..3, then 4..6
+    /// }
+    /// ```
     pub fn find_iter<'r, 't>(&'r self, text: &'t str) -> Result<Matches<'r, 't>, Error>
         ensures matches { (t : Table) → (o : Options) → (p : Pattern) → StandsFor self.now t o p →
             IfOk result (λ ms. coming ms ≡ map (told (of_utf8 text.now)) (match_list t o p (chars text.now) 0)) }
@@ -128,6 +154,10 @@ impl<'u> Regex<'u> {
     ///
     /// Asks that a search may begin there, as `is_start` tells. Past the end of the text there is none. Errs with
     /// `OutOfMemory` alone.
+    ///
+    /// ```rust
+    /// let second = regex.find_from("aab ab", 3)?.next(); // for `a+b` the match at 4..6
+    /// ```
     pub fn find_from<'r, 't>(
         &'r self,
         text: &'t str,

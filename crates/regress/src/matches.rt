@@ -56,6 +56,11 @@ impl<'r, 't> Iterator for Matches<'r, 't> {
     ///
     /// Answers `None` where there is none, and `OutOfMemory` where a request for memory is refused; after either it has
     /// ended and answers `None` alone. After an empty match it goes on a character later, after any other at its end.
+    ///
+    /// ```rust
+    /// let mut matches = regex.find_iter(text)?;
+    /// let first = matches.next().transpose()?;
+    /// ```
     fn next(&mut self) -> Option<Result<Match, Error>> {
         self.inner.next()
     }

@@ -38,6 +38,10 @@ impl<'r> Search<'r> {
     ghost use Rattle.regress_match.specs.GroupNames.{group_count};
 
     /// The search for a pattern in a text. Errs with `OutOfMemory` alone.
+    ///
+    /// ```rust
+    /// let search = Search::new(alloc, pattern, "aab")?;
+    /// ```
     pub fn new(
         alloc: Global,
         pattern: CompiledPattern<'r>,

@@ -1,5 +1,5 @@
 //! A match, and what is read from it.
-ghost use Rattle.std.specs.Prelude.{◌≡◌, ◌≢◌, ◌<◌, ◌≤◌, ◌-◌, ℕ, [], Some, None, IfSome, IfNone, length, map, unwrap_or, vec_len, slice_get, slice_range};
+ghost use Rattle.std.specs.Prelude.{◌≡◌, ◌≢◌, ◌<◌, ◌≤◌, ◌-◌, ℕ, List, [], Some, None, IfSome, IfNone, length, map, unwrap_or, vec_len, slice_get, slice_range};
 ghost use Rattle.std.specs.Str.{IsCharBoundary};
 ghost use Rattle.std.specs.String.{string_bytes};
 
@@ -36,6 +36,10 @@ impl Match {
 
     /// A match at a range, with the range of each capturing group in order of its number, and the names of these groups, the
     /// empty one where a group has none. Ranges are offsets in what was searched.
+    ///
+    /// ```rust
+    /// let found = Match::new(1..3, vec![in alloc; Some(1..2)]?, group_names);
+    /// ```
     pub fn new(
         range: Range,
         captures: Vec<Option<Range>>,
@@ -54,11 +58,16 @@ impl Match {
 
     /// The range of a group, in bytes of the text that was searched: 0 is the whole match, and 1 the first capturing
     /// group. `None` where the group took no part, and past the last one.
+    ///
+    /// ```rust
+    /// let first = found.group(1);
+    /// ```
     pub fn group(&self, index: usize) -> Option<Range>
         ensures whole { index ≡ 0 → result ≡ Some self.now.range }
         ensures capture { 0 < index → index ≤ vec_len self.now.captures
             → slice_get self.now.captures.items (index - 1) ≡ Some result }
         ensures past { vec_len self.now.captures < index → result ≡ None }
+        ensures inside { (bytes : List ℕ) → LiesInText bytes self.now → IfSome result (LiesBetween bytes) }
     {
         if index == 0 {
             return Some(self.range());
@@ -71,6 +80,10 @@ impl Match {
 
     /// The range of the first capturing group with a name, in bytes of the text that was searched. `None` where that group
     /// took no part, where no group has the name, and for the empty name.
+    ///
+    /// ```rust
+    /// let year = found.named_group("year");
+    /// ```
     pub fn named_group(&self, name: &str) -> Option<Range>
         ensures first { (k : ℕ) → IsFirstNamed name.now (names_of_match self.now) k
             → result ≡ unwrap_or (slice_get self.now.captures.items k) None }
@@ -84,6 +97,12 @@ impl Match {
     }
 
     /// The range of the whole match and then that of each capturing group, as `group` answers them one after another.
+    ///
+    /// ```rust
+    /// for group in found.groups() {
+    ///     // the whole match, then each capturing group
+    /// }
+    /// ```
     pub fn groups(&self) -> Groups<'_>
         ensures { groups_left result ≡ groups_of self.now }
     {
@@ -91,6 +110,10 @@ impl Match {
     }
 
     /// Where the match lies, in bytes of the text that was searched.
+    ///
+    /// ```rust
+    /// let range = found.range();
+    /// ```
     pub fn range(&self) -> Range
         ensures { result ≡ self.now.range }
     {
@@ -98,6 +121,10 @@ impl Match {
     }
 
     /// The offset in bytes of the start of the match, in the text that was searched.
+    ///
+    /// ```rust
+    /// let start = found.start();
+    /// ```
     pub fn start(&self) -> usize
         ensures { result ≡ self.now.range.start }
     {
@@ -105,6 +132,10 @@ impl Match {
     }
 
     /// The offset in bytes of the end of the match, in the text that was searched.
+    ///
+    /// ```rust
+    /// let rest = regex.find_from(text, found.end())?;
+    /// ```
     pub fn end(&self) -> usize
         ensures { result ≡ self.now.range.end }
     {
@@ -113,6 +144,10 @@ impl Match {
 
     /// The part of `text` at which the match lies, where `text` is the text that was searched. In any other text both ends
     /// have to lie between characters, the start no later than the end.
+    ///
+    /// ```rust
+    /// let part = found.as_str(text);
+    /// ```
     pub fn as_str<'t>(&self, text: &'t str) -> &'t str
         requires ordered { self.now.range.start ≤ self.now.range.end }
         requires start_inside { IsCharBoundary text.now self.now.range.start }

@@ -55,6 +55,10 @@ impl<'m> Iterator for Groups<'m> {
     ghost remaining = { item_count groups_left };
 
     /// The next group; `None` after the last one, and ever after.
+    ///
+    /// ```rust
+    /// let whole = found.groups().next(); // `Some(Some(range))`
+    /// ```
     fn next(&mut self) -> Option<Option<Range>> {
         if self.index > self.found.captures.len() {
             return None;
@@ -65,6 +69,10 @@ impl<'m> Iterator for Groups<'m> {
     }
 
     /// How many groups are still to come, as both bounds.
+    ///
+    /// ```rust
+    /// let (lower, upper) = found.groups().size_hint(); // both the number of groups
+    /// ```
     fn size_hint(&self) -> (usize, Option<usize>)
         ensures lower { IsWithinCount result.0 (item_count groups_left self.now) }
         ensures upper { IfSome result.1 (UpTo (item_count groups_left self.now)) }
@@ -77,6 +85,10 @@ impl<'m> Iterator for Groups<'m> {
 
 impl<'m> ExactSizeIterator for Groups<'m> {
     /// How many groups are still to come.
+    ///
+    /// ```rust
+    /// let count = found.groups().len();
+    /// ```
     fn len(&self) -> usize {
         self.found.captures.len() + 1 - self.index
     }

@@ -55,6 +55,10 @@ impl<P: MatchProducer> Matches<P> {
     ghost use Rattle.regress_match.specs.Iterating.{producer_of, position_of};
 
     /// The matches of a producer from an offset on, in what holds its text.
+    ///
+    /// ```rust
+    /// let matches = Matches::new(producer, 0);
+    /// ```
     pub fn new(producer: P, start: usize) -> Matches<P>
         ensures over { producer_of result ≡ producer }
         ensures begins { P.starts_at producer start (position_of result) }
@@ -78,6 +82,12 @@ impl<P: MatchProducer> Iterator for Matches<P> {
     ///
     /// Answers `None` where there is none, and `OutOfMemory` where a request for memory is refused; after either it has
     /// ended and answers `None` alone.
+    ///
+    /// ```rust
+    /// while let Some(found) = matches.next() {
+    ///     let range = found?.range();
+    /// }
+    /// ```
     fn next(&mut self) -> Option<Result<Match, Error>> {
         let position = self.position.take()?;
         self.producer

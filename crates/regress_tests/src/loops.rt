@@ -5,11 +5,7 @@ use std::alloc::Global;
 use std::test::Fail;
 
 /// The text of each match.
-fn parts<'t>(
-    alloc: Global,
-    regex: &Regex<'_>,
-    text: &'t str,
-) -> Result<Vec<&'t str>, Error> {
+fn parts<'t>(alloc: Global, regex: &Regex<'_>, text: &'t str) -> Result<Vec<&'t str>, Error> {
     let mut parts = Vec::new(alloc);
     for found in regex.find_iter(text)? {
         let found = found?;
