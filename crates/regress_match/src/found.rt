@@ -89,6 +89,7 @@ impl Match {
             → result ≡ unwrap_or (slice_get self.now.captures.items k) None }
         ensures nowhere { ((k : ℕ) → slice_get (names_of_match self.now) k ≢ Some name.now) → result ≡ None }
         ensures empty { name.now ≡ [] → result ≡ None }
+        ensures inside { (bytes : List ℕ) → LiesInText bytes self.now → IfSome result (LiesBetween bytes) }
     {
         if name.is_empty() {
             return None;
