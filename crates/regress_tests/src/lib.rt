@@ -6,8 +6,6 @@ mod api;
 #[cfg(test)]
 mod example;
 #[cfg(test)]
-mod loops;
-#[cfg(test)]
 mod matches;
 #[cfg(test)]
 mod program;

@@ -39,7 +39,8 @@ fn a_match_is_read(rt: HostRuntime) -> Result<(), Fail> {
 
 #[test]
 fn a_part_of_the_text_is_read(rt: HostRuntime) -> Result<(), Fail> {
-    let found = match_of(rt.alloc(), &[], &[])?;
+    let names = ArcSlice::from_vec(Vec::new(rt.alloc()))?;
+    let found = Match::new(1..6, Vec::new(rt.alloc()), names);
     assert!(rt; found.as_str("aé漢😀") == "é漢");
     Ok(())
 }
