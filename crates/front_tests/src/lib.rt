@@ -6,6 +6,10 @@ mod bytes;
 #[cfg(test)]
 mod core_values;
 #[cfg(test)]
+mod nodes;
+#[cfg(test)]
 mod sets;
 #[cfg(test)]
 mod tables;
+#[cfg(test)]
+mod tree;

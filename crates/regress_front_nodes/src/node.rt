@@ -9,8 +9,7 @@ ghost use Rattle.regress_front_nodes.specs.Forms.{is_empty, is_cat, turned};
 ghost use Rattle.regress_front_nodes.specs.Singles.{bracket_is_empty, always_fails, takes_one, is_one_character, IsOneFurther};
 
 use crate::visit::Walk;
-use regress_front_tables::{CaptureGroupID, CaptureGroupName, CodePoint, CodePointSet};
-use regress_front_tables::Quantifier;
+use regress_front_tables::{CaptureGroupID, CaptureGroupName, CodePoint, CodePointSet, Quantifier};
 use std::alloc::Global;
 use std::boxed::BoxedSlice;
 use std::ops::Range;
@@ -34,7 +33,12 @@ pub struct BracketContents {
 }
 
 impl BracketContents {
-    /// Whether no code point matches.
+    /// Whether no code point matches: `[]` and, inverted, a set of all code points.
+    ///
+    /// ```rust
+    /// let none = BracketContents { invert: false, cps: CodePointSet::new(alloc) };
+    /// assert!(rt; none.is_empty());
+    /// ```
     pub fn is_empty(&self) -> bool
         ensures { result ≡ bracket_is_empty self.now.invert (ends_of self.now.cps.intervals.items) }
     {
@@ -148,7 +152,12 @@ impl Node {
 
     /// Turns the parts of a `Cat` that stands in a lookbehind, so that they stand in the order in which they are read.
     ///
-    /// Only this node is turned, and none below it. Any other node stays as it is.
+    /// Only this node is turned, and none below it. Any other node stays as it is. `w` tells whether it stands in a
+    /// lookbehind, as a walk tells it.
+    ///
+    /// ```rust
+    /// walk_mut(true, unicode, &mut node, &mut |node: &mut Node, w: &mut Walk| node.reverse_cats(w));
+    /// ```
     pub fn reverse_cats(&mut self, w: &Walk)
         ensures { tree self.new ≡ (if w.now.in_lookbehind then turned (tree self.old) else tree self.old) }
     {
@@ -159,14 +168,14 @@ impl Node {
         }
     }
 
-    /// Whether it is `Empty`.
+    /// Whether it is `Empty`: `Node::Empty.is_empty()`. A `Cat` without parts is not.
     pub fn is_empty(&self) -> bool
         ensures { result ≡ is_empty (tree self.now) }
     {
         matches!(self, Node::Empty)
     }
 
-    /// Whether it is a `Cat`.
+    /// Whether it is a `Cat`, also one without parts: `Node::Cat(Vec::new(alloc)).is_cat()`.
     pub fn is_cat(&self) -> bool
         ensures { result ≡ is_cat (tree self.now) }
     {
@@ -174,7 +183,8 @@ impl Node {
     }
 
     /// Whether it is a character, a literal of one character, or a set that holds some character. Then whatever it
-    /// matches is exactly one character.
+    /// matches is exactly one character, so a repetition of it may be a `Loop1CharBody`:
+    /// `Node::MatchAny.matches_exactly_one_char()`.
     pub fn matches_exactly_one_char(&self) -> bool
         ensures form { result ≡ takes_one (tree self.now) }
         ensures steps { IsTrue result → (context : Context) (dir : Direction) (s : State) →
@@ -188,7 +198,8 @@ impl Node {
         }
     }
 
-    /// Whether it is a set that holds no character. Then it matches nothing.
+    /// Whether it is a set that holds no character. Then it matches nothing:
+    /// `Node::make_always_fails(alloc).match_always_fails()`.
     pub fn match_always_fails(&self) -> bool
         ensures form { result ≡ always_fails (tree self.now) }
         ensures nothing { IsTrue result → (context : Context) (dir : Direction) (s : State) →
@@ -200,94 +211,5 @@ impl Node {
             Node::Bracket(contents) => contents.is_empty(),
             _ => false,
         }
-    }
-}
-
-#[cfg(test)]
-mod tests {
-    use super::*;
-    use regress_front_tables::{CODE_POINT_MAX, Error, Interval};
-    use std::test::Fail;
-
-    fn walk_in(in_lookbehind: bool) -> Walk {
-        Walk {
-            skip_children: false,
-            depth: 0,
-            in_lookbehind,
-            unicode: false,
-        }
-    }
-
-    fn bracket(
-        alloc: Global,
-        invert: bool,
-        intervals: &[Interval],
-    ) -> Result<BracketContents, Error> {
-        let mut cps = CodePointSet::new(alloc);
-        for interval in intervals {
-            cps.add(*interval)?;
-        }
-        Ok(BracketContents { invert, cps })
-    }
-
-    #[test]
-    fn brackets_are_empty_where_nothing_is_held(rt: HostRuntime) -> Result<(), Fail> {
-        let all = Interval {
-            first: 0,
-            last: CODE_POINT_MAX,
-        };
-        let some = Interval {
-            first: 1,
-            last: CODE_POINT_MAX,
-        };
-        assert!(rt; bracket(rt.alloc(), false, &[])?.is_empty());
-        assert!(rt; !bracket(rt.alloc(), true, &[])?.is_empty());
-        assert!(rt; bracket(rt.alloc(), true, &[all])?.is_empty());
-        assert!(rt; !bracket(rt.alloc(), false, &[all])?.is_empty());
-        assert!(rt; !bracket(rt.alloc(), true, &[some])?.is_empty());
-        Ok(())
-    }
-
-    #[test]
-    fn parts_are_turned_in_a_lookbehind(rt: HostRuntime) -> Result<(), Fail> {
-        let mut node = Node::Cat(vec![in rt.alloc(); Node::MatchAny, Node::Empty, Node::Goal]?);
-        node.reverse_cats(&walk_in(false));
-        assert!(rt; matches!(&node, Node::Cat(parts) if matches!(&parts[0], Node::MatchAny)));
-        node.reverse_cats(&walk_in(true));
-        assert!(rt; matches!(&node, Node::Cat(parts) if matches!(&parts[0], Node::Goal)));
-        Ok(())
-    }
-
-    #[test]
-    fn kinds_are_told(rt: HostRuntime) {
-        let none = Node::Cat(Vec::new(rt.alloc()));
-        assert!(rt; Node::Empty.is_empty());
-        assert!(rt; !none.is_empty());
-        assert!(rt; none.is_cat());
-        assert!(rt; !Node::Empty.is_cat());
-    }
-
-    #[test]
-    fn one_character_is_told(rt: HostRuntime) -> Result<(), Fail> {
-        let one = Node::ByteSequence(Vec::from_array(rt.alloc(), [0xE2, 0x82, 0xAC])?);
-        let two = Node::ByteSequence(Vec::from_array(rt.alloc(), [0x61, 0x62])?);
-        assert!(rt; one.matches_exactly_one_char());
-        assert!(rt; !two.matches_exactly_one_char());
-        assert!(rt; Node::Char { c: 0xD800 }.matches_exactly_one_char());
-        assert!(rt; Node::MatchAny.matches_exactly_one_char());
-        assert!(rt; !Node::Empty.matches_exactly_one_char());
-        assert!(rt; !Node::make_always_fails(rt.alloc()).matches_exactly_one_char());
-        Ok(())
-    }
-
-    #[test]
-    fn what_always_fails_is_told(rt: HostRuntime) -> Result<(), Fail> {
-        let some = Node::CharSet(Vec::from_array(rt.alloc(), [0x61])?);
-        assert!(rt; Node::make_always_fails(rt.alloc()).match_always_fails());
-        assert!(rt; Node::ByteSet(Vec::new(rt.alloc())).match_always_fails());
-        assert!(rt; Node::Bracket(bracket(rt.alloc(), false, &[])?).match_always_fails());
-        assert!(rt; !some.match_always_fails());
-        assert!(rt; !Node::Empty.match_always_fails());
-        Ok(())
     }
 }

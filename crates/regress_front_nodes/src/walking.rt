@@ -19,6 +19,15 @@ pub(crate) struct Mode {
 ///
 /// In preorder the nodes below a node for which `func` set `skip_children` are passed over. Whatever else it writes to the
 /// `Walk` is dropped. `unicode` is handed on to each visit.
+///
+/// ```rust
+/// let mut loops: u64 = 0;
+/// walk(false, unicode, &node, &mut |node: &Node, _walk: &mut Walk| {
+///     if matches!(node, Node::Loop { .. }) {
+///         loops = loops.saturating_add(1);
+///     }
+/// });
+/// ```
 pub fn walk<F>(postorder: bool, unicode: bool, node: &Node, func: &mut F)
 where
     F: FnMut(&Node, &mut Walk),
@@ -86,123 +95,5 @@ where
             visit(mode, deeper, in_lookbehind, loopee, func);
         }
         _ => {}
-    }
-}
-
-#[cfg(test)]
-mod tests {
-    use super::*;
-    use regress_front_tables::Error;
-    use std::alloc::Global;
-    use std::test::Fail;
-
-    /// What a walk told at each visit: the kind of the node, the nodes above, whether it is read backwards.
-    #[derive(Clone, Copy, Debug, PartialEq)]
-    struct Told {
-        kind: char,
-        depth: usize,
-        in_lookbehind: bool,
-    }
-
-    fn kind(node: &Node) -> char {
-        match node {
-            Node::Cat(_) => 'c',
-            Node::LookaroundAssertion { .. } => 'l',
-            Node::MatchAny => 'a',
-            Node::Goal => 'g',
-            _ => 'o',
-        }
-    }
-
-    fn look(alloc: Global, backwards: bool, contents: Node) -> Result<Node, Error> {
-        Ok(Node::LookaroundAssertion {
-            negate: false,
-            backwards,
-            start_group: 0,
-            end_group: 0,
-            contents: Box::new(alloc, contents)?,
-        })
-    }
-
-    /// A lookahead in a lookbehind, and the goal.
-    fn sample(alloc: Global) -> Result<Node, Error> {
-        let inner = look(alloc, false, Node::MatchAny)?;
-        let outer = look(alloc, true, inner)?;
-        Ok(Node::Cat(vec![in alloc; outer, Node::Goal]?))
-    }
-
-    fn visit_of(kind: char, depth: usize, in_lookbehind: bool) -> Told {
-        Told {
-            kind,
-            depth,
-            in_lookbehind,
-        }
-    }
-
-    /// The visits of a walk that passes over what stands below the nodes of one kind.
-    fn visits(postorder: bool, node: &Node, passed: char) -> [Option<Told>; 5] {
-        let mut visits = [None; 5];
-        let mut count = 0;
-        walk(
-            postorder,
-            true,
-            node,
-            &mut |node: &Node, walk: &mut Walk| {
-                if count < 5 {
-                    visits[count] = Some(visit_of(kind(node), walk.depth, walk.in_lookbehind));
-                    count += 1;
-                }
-                walk.skip_children = kind(node) == passed;
-            },
-        );
-        visits
-    }
-
-    #[test]
-    fn nodes_are_visited_from_above(rt: HostRuntime) -> Result<(), Fail> {
-        let node = sample(rt.alloc())?;
-        assert_eq!(rt;
-            visits(false, &node, '-'),
-            [
-                Some(visit_of('c', 0, false)),
-                Some(visit_of('l', 1, false)),
-                Some(visit_of('l', 2, true)),
-                Some(visit_of('a', 3, false)),
-                Some(visit_of('g', 1, false)),
-            ]
-        );
-        Ok(())
-    }
-
-    #[test]
-    fn nodes_are_visited_from_below(rt: HostRuntime) -> Result<(), Fail> {
-        let node = sample(rt.alloc())?;
-        assert_eq!(rt;
-            visits(true, &node, 'c'),
-            [
-                Some(visit_of('a', 3, false)),
-                Some(visit_of('l', 2, true)),
-                Some(visit_of('l', 1, false)),
-                Some(visit_of('g', 1, false)),
-                Some(visit_of('c', 0, false)),
-            ]
-        );
-        Ok(())
-    }
-
-    #[test]
-    fn what_is_passed_over_is_not_visited(rt: HostRuntime) -> Result<(), Fail> {
-        let node = sample(rt.alloc())?;
-        assert_eq!(rt;
-            visits(false, &node, 'l'),
-            [
-                Some(visit_of('c', 0, false)),
-                Some(visit_of('l', 1, false)),
-                Some(visit_of('g', 1, false)),
-                None,
-                None,
-            ]
-        );
-        Ok(())
     }
 }

@@ -18,6 +18,14 @@ use crate::walking::Mode;
 ///
 /// In preorder it is what `func` leaves of a node that is walked on below it, so there `func` may leave no node deeper than
 /// it was; else the walk might not end.
+///
+/// ```rust
+/// walk_mut(true, unicode, &mut node, &mut |node: &mut Node, _walk: &mut Walk| {
+///     if node.match_always_fails() {
+///         *node = Node::make_always_fails(alloc);
+///     }
+/// });
+/// ```
 pub fn walk_mut<F>(postorder: bool, unicode: bool, node: &mut Node, func: &mut F)
 where
     F: FnMut(&mut Node, &mut Walk),
@@ -90,93 +98,5 @@ where
         Node::Loop { loopee, .. } => visit_mut(mode, deeper, in_lookbehind, loopee, func),
         Node::Loop1CharBody { loopee, .. } => visit_mut(mode, deeper, in_lookbehind, loopee, func),
         _ => {}
-    }
-}
-
-#[cfg(test)]
-mod tests {
-    use super::*;
-    use crate::walking::walk;
-    use regress_front_tables::{CodePoint, Error};
-    use std::alloc::Global;
-    use std::test::Fail;
-
-    /// Turns `a` into `b`, and leaves all else.
-    fn turn(node: &mut Node)
-        ensures { nesting (tree node.new) ≤ nesting (tree node.old) }
-    {
-        if let Node::Char { c } = node {
-            if *c == 0x61 {
-                *c = 0x62;
-            }
-        }
-    }
-
-    /// Turns each `a` into `b`, and passes over what stands below a lookaround.
-    fn turn_all(postorder: bool, node: &mut Node) {
-        walk_mut(
-            postorder,
-            true,
-            node,
-            &mut |node: &mut Node, walk: &mut Walk|
-                ensures { nesting (tree node.new) ≤ nesting (tree node.old) }
-            {
-                turn(node);
-                walk.skip_children = matches!(node, Node::LookaroundAssertion { .. });
-            },
-        );
-    }
-
-    /// The first three characters, from left to right.
-    fn chars(node: &Node) -> [Option<CodePoint>; 3] {
-        let mut chars = [None; 3];
-        let mut count = 0;
-        walk(
-            false,
-            true,
-            node,
-            &mut |node: &Node, _walk: &mut Walk| {
-                if let Node::Char { c } = node {
-                    if count < 3 {
-                        chars[count] = Some(*c);
-                        count += 1;
-                    }
-                }
-            },
-        );
-        chars
-    }
-
-    /// `a(?=a)a`, the last in a group.
-    fn sample(alloc: Global) -> Result<Node, Error> {
-        let look = Node::LookaroundAssertion {
-            negate: false,
-            backwards: false,
-            start_group: 0,
-            end_group: 0,
-            contents: Box::new(alloc, Node::Char { c: 0x61 })?,
-        };
-        let group = Node::CaptureGroup {
-            id: 0,
-            contents: Box::new(alloc, Node::Char { c: 0x61 })?,
-            name: None,
-        };
-        Ok(Node::Cat(vec![in alloc; Node::Char { c: 0x61 }, look, group]?))
-    }
-
-    #[test]
-    fn what_is_passed_over_stays(rt: HostRuntime) -> Result<(), Fail> {
-        let mut node = sample(rt.alloc())?;
-        turn_all(false, &mut node);
-        assert_eq!(rt; chars(&node), [Some(0x62), Some(0x61), Some(0x62)]);
-        Ok(())
-    }
-
-    #[test]
-    fn all_nodes_are_changed_from_below(rt: HostRuntime) -> Result<(), Fail> {
-        let mut node = sample(rt.alloc())?;
-        turn_all(true, &mut node);
-        assert_eq!(rt; chars(&node), [Some(0x62); 3]);
-        Ok(())
     }
 }

@@ -18,8 +18,8 @@ ghost use Rattle.regress_front_tree.specs.ClassValues.{lists};
 use crate::arms::alternatives;
 use crate::class_value::class_value;
 use regress_front_nodes::{BracketContents, Node, NodeList};
-use regress_front_tables::{CodePoint, CodePointSet, Error, Tables, closure, expand_code_point};
 use regress_front_syntax::Class;
+use regress_front_tables::{CodePoint, CodePointSet, Error, Tables, closure, expand_code_point};
 use std::alloc::{AllocError, Global};
 use std::boxed::BoxedSlice;
 
@@ -101,10 +101,8 @@ pub(crate) fn class_node(
     let characters = Node::Bracket(BracketContents { invert: false, cps });
     let has_empty = has_empty(&value.strings);
     let strings = by_length(alloc, value.strings)?;
-    alternatives(
-        alloc,
-        class_arms(alloc, icase, strings, characters, has_empty)?,
-    )
+    let arms = class_arms(alloc, icase, strings, characters, has_empty)?;
+    Ok(alternatives(alloc, arms)?)
 }
 
 /// Whether the empty string is one of these.
@@ -114,22 +112,21 @@ fn has_empty(strings: &[Vec<CodePoint>]) -> bool
     strings.iter().any(|string| string.is_empty())
 }
 
-/// The strings but the empty one, the longest first. `OutOfMemory` is the only error.
+/// The strings but the empty one, the longest first.
 fn by_length(
     alloc: Global,
     strings: Vec<Vec<CodePoint>>,
-) -> Result<Vec<BoxedSlice<CodePoint>>, Error>
+) -> Result<Vec<BoxedSlice<CodePoint>>, AllocError>
     requires { All (All is_code_point) (lists strings.items) }
-    ensures ok { IfOk result (λ sorted. AreByLength (map boxed_slice_items sorted.items) (lists strings.items)) }
-    ensures err { IfErr result (λ e. e ≡ Error.OutOfMemory) }
+    ensures { IfOk result (λ sorted. AreByLength (map boxed_slice_items sorted.items) (lists strings.items)) }
 {
     let mut longer = strings;
     longer.retain(|string| !string.is_empty());
     longer.sort_by(|a, b| b.len().cmp(&a.len()))?;
-    Ok(boxed(alloc, longer)?)
+    boxed(alloc, longer)
 }
 
-/// The same strings, in slices of their own. `OutOfMemory` is the only error.
+/// The same strings, in slices of their own.
 fn boxed(
     alloc: Global,
     strings: Vec<Vec<CodePoint>>,
@@ -143,16 +140,15 @@ fn boxed(
 }
 
 /// The arms of a class: its longer strings, if there are any, its single characters, and the empty string, if it is one of
-/// its strings. `OutOfMemory` is the only error.
+/// its strings.
 fn class_arms(
     alloc: Global,
     icase: bool,
     strings: Vec<BoxedSlice<CodePoint>>,
     characters: Node,
     has_empty: bool,
-) -> Result<NodeList, Error>
-    ensures ok { IfOk result (λ arms. map tree arms.items ≡ class_arms icase (map boxed_slice_items strings.items) (tree characters) has_empty) }
-    ensures err { IfErr result (λ e. e ≡ Error.OutOfMemory) }
+) -> Result<NodeList, AllocError>
+    ensures { IfOk result (λ arms. map tree arms.items ≡ class_arms icase (map boxed_slice_items strings.items) (tree characters) has_empty) }
 {
     let mut arms = Vec::new(alloc);
     if !strings.is_empty() {
@@ -170,103 +166,4 @@ fn class_arms(
         })?;
     }
     Ok(arms)
-}
-
-#[cfg(test)]
-mod tests {
-    use super::*;
-    use crate::class_value::tests::{complement, range, strings};
-    use std::test::Fail;
-
-    /// Whether the node takes the character.
-    fn takes(node: &Node, c: CodePoint) -> bool {
-        match node {
-            Node::Char { c: own } => *own == c,
-            Node::CharSet(points) => points.contains(&c),
-            Node::Bracket(contents) => contents.invert != contents.cps.contains(c),
-            _ => false,
-        }
-    }
-
-    #[test]
-    fn characters_stand_with_those_equal_to_them(rt: HostRuntime) -> Result<(), Fail> {
-        let tables = Tables::small(rt.alloc())?;
-        let s = character_node(rt.alloc(), &tables, true, true, 0x73)?;
-        assert!(rt;
-            matches!(&s, Node::CharSet(points) if points.as_slice() == [0x53, 0x73, 0x17F].as_slice())
-        );
-        let digit = character_node(rt.alloc(), &tables, true, true, 0x30)?;
-        assert!(rt; matches!(digit, Node::Char { c: 0x30 }));
-        let alone = character_node(rt.alloc(), &tables, true, false, 0x73)?;
-        assert!(rt; matches!(alone, Node::Char { c: 0x73 }));
-        Ok(())
-    }
-
-    #[test]
-    fn complement_is_taken_before_the_closure(rt: HostRuntime) -> Result<(), Fail> {
-        let tables = Tables::small(rt.alloc())?;
-        let no_word = complement(rt.alloc(), Class::Words)?;
-        let folded = class_node(rt.alloc(), &tables, true, true, &no_word)?;
-        assert!(rt; !takes(&folded, 0x17F));
-        assert!(rt; !takes(&folded, 0x73));
-        assert!(rt; takes(&folded, 0x2D));
-        let plain = class_node(rt.alloc(), &tables, true, false, &no_word)?;
-        assert!(rt; takes(&plain, 0x17F));
-        let no_upper = complement(rt.alloc(), range(0x41, 0x5A))?;
-        let all = class_node(rt.alloc(), &tables, true, true, &no_upper)?;
-        assert!(rt; takes(&all, 0x41));
-        Ok(())
-    }
-
-    #[test]
-    fn outermost_complement_is_taken_after_the_closure(rt: HostRuntime) -> Result<(), Fail> {
-        let tables = Tables::small(rt.alloc())?;
-        let node = negated_class_node(rt.alloc(), &tables, false, true, &range(0x61, 0x61))?;
-        assert!(rt; !takes(&node, 0x61));
-        assert!(rt; !takes(&node, 0x41));
-        assert!(rt; takes(&node, 0x62));
-        Ok(())
-    }
-
-    #[test]
-    fn longest_string_comes_first(rt: HostRuntime) -> Result<(), Fail> {
-        let tables = Tables::small(rt.alloc())?;
-        let class = strings(rt.alloc(), &["de", "abc", "f", ""])?;
-        let node = class_node(rt.alloc(), &tables, true, false, &class)?;
-        let Node::Alt(longer, last) = &node else {
-            return Err("no arms".into());
-        };
-        let Node::Alt(first, single) = &**longer else {
-            return Err("two arms".into());
-        };
-        assert!(rt; is_string_set(first, &[3, 2]));
-        assert!(rt; takes(single, 0x66));
-        assert!(rt; !takes(single, 0x64));
-        assert!(rt; is_string_set(last, &[0]));
-        Ok(())
-    }
-
-    /// Whether the node is of strings of these lengths, in this order.
-    fn is_string_set(node: &Node, lengths: &[usize]) -> bool {
-        match node {
-            Node::StringSet { alternatives, .. } => {
-                alternatives.len() == lengths.len()
-                    && alternatives
-                        .iter()
-                        .zip(lengths)
-                        .all(|(string, length)| string.len() == *length)
-            }
-            _ => false,
-        }
-    }
-
-    #[test]
-    fn class_without_longer_strings_is_one_bracket(rt: HostRuntime) -> Result<(), Fail> {
-        let tables = Tables::small(rt.alloc())?;
-        let class = strings(rt.alloc(), &["f"])?;
-        let node = class_node(rt.alloc(), &tables, true, false, &class)?;
-        assert!(rt; matches!(&node, Node::Bracket(_)));
-        assert!(rt; takes(&node, 0x66));
-        Ok(())
-    }
 }

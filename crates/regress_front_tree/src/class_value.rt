@@ -10,12 +10,12 @@ ghost use Rattle.regress_front_tables.specs.TableViews.{table};
 ghost use Rattle.regress_front_tokens.specs.Trees.{class_view, union_of};
 
 use crate::text::text_of;
+use regress_front_syntax::Class;
 use regress_front_tables::{
     CodePoint, CodePointSet, Error, Interval, Tables, add_icase_code_points, digits, whitespace,
     word_chars,
 };
-use regress_front_syntax::Class;
-use std::alloc::Global;
+use std::alloc::{AllocError, Global};
 
 /// The strings that a class stands for, before case is ignored ("CharSet").
 #[derive(Debug, Drop)]
@@ -123,11 +123,10 @@ fn without(set: &CodePointSet, other: CodePointSet) -> Result<CodePointSet, Erro
     outside.inverted()
 }
 
-/// The set of the code points of intervals. `OutOfMemory` is the only error.
-fn set_of(alloc: Global, intervals: &[Interval]) -> Result<CodePointSet, Error>
+/// The set of the code points of intervals.
+fn set_of(alloc: Global, intervals: &[Interval]) -> Result<CodePointSet, AllocError>
     requires { IntervalsRise (ends_of intervals.now) }
-    ensures ok { IfOk result (λ s. in_set s ≡ in_intervals (ends_of intervals.now)) }
-    ensures err { IfErr result (λ e. e ≡ Error.OutOfMemory) }
+    ensures { IfOk result (λ s. in_set s ≡ in_intervals (ends_of intervals.now)) }
 {
     let intervals = Vec::from_slice(alloc, intervals)?;
     Ok(CodePointSet::from_sorted_disjoint_intervals(intervals))
@@ -155,7 +154,7 @@ fn property_set(alloc: Global, tables: &Tables, key: &[CodePoint]) -> Result<Cod
 {
     if let Some(text) = text_of(alloc, key)? {
         if let Some(set) = tables.property(text.as_str()) {
-            return set_of(alloc, set.intervals());
+            return Ok(set_of(alloc, set.intervals())?);
         }
     }
     Ok(CodePointSet::new(alloc))
@@ -320,162 +319,4 @@ fn joined(alloc: Global, values: Vec<ClassValue>) -> Result<ClassValue, Error>
         value = last;
     }
     Ok(value)
-}
-
-#[cfg(test)]
-pub(crate) mod tests {
-    use super::*;
-    use regress_front_tables::CODE_POINT_MAX;
-    use std::test::Fail;
-
-    /// The code points from one to another.
-    pub(crate) fn range(first: CodePoint, last: CodePoint) -> Class
-        requires ordered { first ≤ last }
-        requires bounded { is_code_point last }
-        ensures { ClassIsOfPoints (class_view result) }
-    {
-        Class::Range { first, last }
-    }
-
-    /// The code points of a text.
-    fn points(alloc: Global, text: &str) -> Result<Vec<CodePoint>, Error>
-        ensures { IfOk result (λ points. All is_code_point points.items) }
-    {
-        let mut points = Vec::new(alloc);
-        for letter in text.chars() {
-            let point = CodePoint::from(letter);
-            if point <= CODE_POINT_MAX {
-                points.push(point)?;
-            }
-        }
-        Ok(points)
-    }
-
-    /// `\p{..}`
-    pub(crate) fn property(alloc: Global, key: &str) -> Result<Class, Error>
-        ensures { IfOk result (λ class. ClassIsOfPoints (class_view class)) }
-    {
-        Ok(Class::Property(points(alloc, key)?))
-    }
-
-    /// `\q{..}`
-    pub(crate) fn strings(alloc: Global, texts: &[&str]) -> Result<Class, Error>
-        ensures { IfOk result (λ class. ClassIsOfPoints (class_view class)) }
-    {
-        let mut strings = Vec::new(alloc);
-        for text in texts {
-            strings.push(points(alloc, text)?)?;
-        }
-        Ok(Class::Strings(strings))
-    }
-
-    /// The complement of a class.
-    pub(crate) fn complement(alloc: Global, class: Class) -> Result<Class, Error>
-        requires { ClassIsOfPoints (class_view class) }
-        ensures { IfOk result (λ class. ClassIsOfPoints (class_view class)) }
-    {
-        Ok(Class::Complement(Box::new(alloc, class)?))
-    }
-
-    /// `&&`
-    fn intersection(alloc: Global, a: Class, b: Class) -> Result<Class, Error>
-        requires a { ClassIsOfPoints (class_view a) }
-        requires b { ClassIsOfPoints (class_view b) }
-        ensures { IfOk result (λ class. ClassIsOfPoints (class_view class)) }
-    {
-        Ok(Class::Intersection(Box::new(alloc, a)?, vec![in alloc; b]?))
-    }
-
-    /// `--`
-    fn difference(alloc: Global, a: Class, b: Class) -> Result<Class, Error>
-        requires a { ClassIsOfPoints (class_view a) }
-        requires b { ClassIsOfPoints (class_view b) }
-        ensures { IfOk result (λ class. ClassIsOfPoints (class_view class)) }
-    {
-        Ok(Class::Difference(Box::new(alloc, a)?, vec![in alloc; b]?))
-    }
-
-    /// Two classes side by side.
-    fn union(alloc: Global, a: Class, b: Class) -> Result<Class, Error>
-        requires a { ClassIsOfPoints (class_view a) }
-        requires b { ClassIsOfPoints (class_view b) }
-        ensures { IfOk result (λ class. ClassIsOfPoints (class_view class)) }
-    {
-        Ok(Class::Union(vec![in alloc; a, b]?))
-    }
-
-    #[test]
-    fn intersection_holds_what_both_hold(rt: HostRuntime) -> Result<(), Fail> {
-        let tables = Tables::small(rt.alloc())?;
-        let vowels = union(rt.alloc(), range(0x61, 0x61), range(0x65, 0x65))?;
-        let class = intersection(rt.alloc(), range(0x61, 0x7A), vowels)?;
-        let value = class_value(rt.alloc(), &tables, false, &class)?;
-        assert!(rt; value.singles.contains(0x61));
-        assert!(rt; value.singles.contains(0x65));
-        assert!(rt; !value.singles.contains(0x62));
-        assert!(rt; value.strings.is_empty());
-        Ok(())
-    }
-
-    #[test]
-    fn difference_holds_the_rest(rt: HostRuntime) -> Result<(), Fail> {
-        let tables = Tables::small(rt.alloc())?;
-        let class = difference(rt.alloc(), Class::Words, Class::Digits)?;
-        let value = class_value(rt.alloc(), &tables, false, &class)?;
-        assert!(rt; value.singles.contains(0x61));
-        assert!(rt; value.singles.contains(0x5F));
-        assert!(rt; !value.singles.contains(0x35));
-        Ok(())
-    }
-
-    #[test]
-    fn strings_are_compared_whole(rt: HostRuntime) -> Result<(), Fail> {
-        let tables = Tables::small(rt.alloc())?;
-        let some = strings(rt.alloc(), &["ab", "cd", "e", ""])?;
-        let others = strings(rt.alloc(), &["a", "cd", ""])?;
-        let class = difference(rt.alloc(), some, others)?;
-        let value = class_value(rt.alloc(), &tables, false, &class)?;
-        assert_eq!(rt; value.strings.len(), 1);
-        assert_eq!(rt; value.strings[0].as_slice(), [0x61, 0x62].as_slice());
-        assert!(rt; value.singles.contains(0x65));
-        Ok(())
-    }
-
-    #[test]
-    fn complement_of_a_property(rt: HostRuntime) -> Result<(), Fail> {
-        let tables = Tables::small(rt.alloc())?;
-        let class = complement(rt.alloc(), property(rt.alloc(), "ASCII")?)?;
-        let value = class_value(rt.alloc(), &tables, false, &class)?;
-        assert!(rt; !value.singles.contains(0x61));
-        assert!(rt; value.singles.contains(0xE9));
-        let none = property(rt.alloc(), "None")?;
-        assert!(rt;
-            !class_value(rt.alloc(), &tables, false, &none)?
-                .singles
-                .contains(0x61)
-        );
-        Ok(())
-    }
-
-    #[test]
-    fn sequences_are_found_by_their_key(rt: HostRuntime) -> Result<(), Fail> {
-        let tables = Tables::small(rt.alloc())?;
-        let key = points(rt.alloc(), "Emoji_Keycap_Sequence")?;
-        let value = sequence_value(rt.alloc(), &tables, &key)?;
-        assert_eq!(rt; value.strings.len(), 12);
-        Ok(())
-    }
-
-    #[test]
-    fn words_hold_what_folds_to_them(rt: HostRuntime) -> Result<(), Fail> {
-        let tables = Tables::small(rt.alloc())?;
-        let folded = class_value(rt.alloc(), &tables, true, &Class::Words)?;
-        assert!(rt; folded.singles.contains(0x17F));
-        assert!(rt; folded.singles.contains(0x212A));
-        let plain = class_value(rt.alloc(), &tables, false, &Class::Words)?;
-        assert!(rt; !plain.singles.contains(0x17F));
-        let spaces = class_value(rt.alloc(), &tables, false, &Class::Spaces)?;
-        assert!(rt; spaces.singles.contains(0xFEFF));
-        Ok(())
-    }
 }

@@ -10,12 +10,12 @@ ghost use Rattle.regress_front_tree.specs.Scopes.{settings_of};
 ghost use Rattle.regress_front_tree.specs.Parsed.{IsTreeOf};
 
 use crate::alike::lowered_trees_are_alike;
-use regress_front_nodes::ir::Regex;
 use crate::lawful::whole_trees_are_well_formed;
 use crate::lowering::{Lowering, Scope};
 use regress_front_nodes::Node;
-use regress_front_tables::{CodePoint, Error, Flags, Tables};
+use regress_front_nodes::ir::Regex;
 use regress_front_syntax::parse;
+use regress_front_tables::{CodePoint, Error, Flags, Tables};
 use std::alloc::Global;
 
 /// What holds where no modifier has changed it and no lookbehind stands around ("RegExp Records").
@@ -34,8 +34,13 @@ fn first_scope(flags: Flags) -> Scope
 /// Reads a pattern, given as code points, under flags: the tree that it is rewritten and emitted from ("ParsePattern",
 /// "RegExpInitialize").
 ///
-/// Asks that all are code points, as `are_code_points` tells. Refused as `Syntax` where the text spells no pattern, under the
-/// name of a limit that it passes, and as `OutOfMemory`.
+/// Asks that all are code points, as `are_code_points` tells. It errs with `Syntax` where the text spells no pattern, with the
+/// name of a limit that the pattern passes, and with `OutOfMemory`.
+///
+/// ```rust
+/// let regex = try_parse(alloc, &[0x61, 0x2A], Flags::from("i"), &tables)?; // /a*/i
+/// println!(rt; "{regex}"); // a `Cat` of a `Loop` over a `CharSet` of `A` and `a`, and the `Goal`
+/// ```
 pub fn try_parse<'u>(
     alloc: Global,
     pattern: &[CodePoint],
@@ -59,170 +64,4 @@ pub fn try_parse<'u>(
         flags,
         tables,
     })
-}
-
-#[cfg(test)]
-mod tests {
-    use super::*;
-    use regress_front_tables::are_code_points;
-    use std::alloc::AllocError;
-    use std::test::Fail;
-
-    /// A pattern of each construct, its flags, and how many nodes its tree has, with the goal and the `Cat` above it.
-    const CONSTRUCTS: [(&str, &str, usize); 24] = [
-        ("abc", "", 6),
-        ("a|b|c|d|e", "", 11),
-        ("(a)(?<n>b)(?:c)", "", 8),
-        ("a*b+?c{2,3}d{4}?", "", 11),
-        ("^a$", "m", 6),
-        (r"\b\B", "iu", 5),
-        ("(?=a)(?!b)", "", 7),
-        ("(?<=ab|c)(?<!(d)e)", "", 14),
-        (r"(a)\1", "i", 6),
-        (r"(?<n>a)|(?<n>b)\k<n>", "", 11),
-        (".", "", 3),
-        (".", "s", 3),
-        (r"[a-z\d-]", "", 3),
-        ("[^a-z]", "i", 3),
-        (r"\D\s\w", "iu", 6),
-        (r"\p{ASCII}\P{ASCII}", "u", 5),
-        ("(?i-ms:a)", "", 3),
-        (r"[[a-z]&&[^b]]", "v", 3),
-        (r"[\w--\d]", "v", 3),
-        (r"[\q{abc|d|}x]", "iv", 7),
-        (r"\p{Emoji_Keycap_Sequence}", "v", 5),
-        (r"\x41\u{42}\cA\0", "u", 7),
-        ("é", "i", 3),
-        ("", "", 3),
-    ];
-
-    fn points(alloc: Global, text: &str) -> Result<Vec<CodePoint>, AllocError> {
-        text.chars().map(CodePoint::from).collect(alloc)
-    }
-
-    /// Why a pattern is refused; `None` where it is accepted.
-    fn refusal(alloc: Global, pattern: &str, flags: &str) -> Result<Option<Error>, Fail> {
-        let tables = Tables::small(alloc)?;
-        let points = points(alloc, pattern)?;
-        if !are_code_points(&points) {
-            return Err("a character is no code point".into());
-        }
-        Ok(try_parse(alloc, &points, Flags::from(flags), &tables).err())
-    }
-
-    /// Why a piece of text, so many times, is refused as a pattern; `None` where it is accepted.
-    fn refusal_of_many(alloc: Global, piece: &str, count: usize) -> Result<Option<Error>, Fail> {
-        let pattern = piece.repeat(alloc, count)?;
-        refusal(alloc, pattern.as_str(), "")
-    }
-
-    /// A text between so many openings and as many endings.
-    fn nested(
-        alloc: Global,
-        opening: &str,
-        inner: &str,
-        ending: &str,
-        depth: usize,
-    ) -> Result<String, AllocError> {
-        let mut pattern = opening.repeat(alloc, depth)?;
-        pattern.push_str(inner)?;
-        pattern.push_str(ending.repeat(alloc, depth)?.as_str())?;
-        Ok(pattern)
-    }
-
-    /// So many classes with `v`, one inside another, inside so many groups.
-    fn classes_in_groups(
-        alloc: Global,
-        groups: usize,
-        classes: usize,
-    ) -> Result<String, AllocError> {
-        let inner = nested(alloc, "[", "a", "]", classes)?;
-        nested(alloc, "(?:", inner.as_str(), ")", groups)
-    }
-
-    /// 10,000 characters, each the one behind the one before.
-    fn letters(alloc: Global) -> Result<String, AllocError> {
-        (0x4E00..0x7510).filter_map(char::from_u32).collect(alloc)
-    }
-
-    /// How many nodes the tree of a pattern has: it is printed with a line for each.
-    fn node_count(alloc: Global, pattern: &str, flags: &str) -> Result<usize, Error> {
-        let tables = Tables::small(alloc).map_err(|_| Error::OutOfMemory)?;
-        let points = points(alloc, pattern)?;
-        if !are_code_points(&points) {
-            return Err(Error::Syntax {
-                text: "a character is no code point",
-            });
-        }
-        let regex = try_parse(alloc, &points, Flags::from(flags), &tables)?;
-        Ok(regex.to_string(alloc)?.lines().count())
-    }
-
-    #[test]
-    fn each_construct_is_read(rt: HostRuntime) -> Result<(), Fail> {
-        for (pattern, flags, nodes) in CONSTRUCTS {
-            assert_eq!(rt;
-                node_count(rt.alloc(), pattern, flags)?,
-                nodes,
-                "at {pattern}"
-            );
-        }
-        Ok(())
-    }
-
-    // A run may refuse one request for memory, each in turn (`rt try --test --fail-alloc N`): then the pattern that asked for it
-    // is refused for that alone, and has its whole tree when it is read again.
-    #[test]
-    fn refused_memory_is_told_and_turns_no_tree(rt: HostRuntime) -> Result<(), Fail> {
-        for (pattern, flags, nodes) in CONSTRUCTS {
-            let count = match node_count(rt.alloc(), pattern, flags) {
-                Err(Error::OutOfMemory) => node_count(rt.alloc(), pattern, flags)?,
-                outcome => outcome?,
-            };
-            assert_eq!(rt; count, nodes, "at {pattern}");
-        }
-        Ok(())
-    }
-
-    #[test]
-    fn groups_and_classes_nest_to_256(rt: HostRuntime) -> Result<(), Fail> {
-        for (groups, classes, expected) in [
-            (256, 0, None),
-            (257, 0, Some(Error::TooDeep)),
-            (128, 128, None),
-            (128, 129, Some(Error::TooDeep)),
-        ] {
-            let pattern = classes_in_groups(rt.alloc(), groups, classes)?;
-            let refused = refusal(rt.alloc(), pattern.as_str(), "v")?;
-            assert_eq!(rt; refused, expected, "at {groups} and {classes}");
-        }
-        Ok(())
-    }
-
-    #[test]
-    fn groups_end_at_65535(rt: HostRuntime) -> Result<(), Fail> {
-        assert_eq!(rt; refusal_of_many(rt.alloc(), "()", 65_535)?, None);
-        let refused = refusal_of_many(rt.alloc(), "()", 65_536)?;
-        assert_eq!(rt; refused, Some(Error::TooManyGroups));
-        Ok(())
-    }
-
-    #[test]
-    fn quantifiers_end_at_65535(rt: HostRuntime) -> Result<(), Fail> {
-        assert_eq!(rt; refusal_of_many(rt.alloc(), "a*", 65_535)?, None);
-        let refused = refusal_of_many(rt.alloc(), "a*", 65_536)?;
-        assert_eq!(rt; refused, Some(Error::TooManyLoops));
-        Ok(())
-    }
-
-    #[test]
-    fn large_patterns_are_read(rt: HostRuntime) -> Result<(), Fail> {
-        assert_eq!(rt; refusal_of_many(rt.alloc(), "a", 100_000)?, None);
-        let letters = letters(rt.alloc())?;
-        let class = nested(rt.alloc(), "[", letters.as_str(), "]", 1)?;
-        assert_eq!(rt; node_count(rt.alloc(), class.as_str(), "")?, 3);
-        let bounds = "a{99999999999999999999,88888888888888888888}";
-        assert_eq!(rt; node_count(rt.alloc(), bounds, "")?, 4);
-        Ok(())
-    }
 }
