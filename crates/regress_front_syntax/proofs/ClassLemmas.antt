@@ -11,10 +11,10 @@ use Rattle.regress_meaning.specs.ReadingClass.{closes_class, read_member, dashed
 use Rattle.regress_meaning.specs.Laws.{LeavesLess}
 use Rattle.regress_front_core.specs.declared.error.Error.{Error}
 use Rattle.regress_front_core.specs.declared.error.Error.TheVariants.{Syntax, TooDeep, TooManyGroups, TooManyLoops, TooLarge, OutOfMemory}
-use Rattle.regress_front_tokens.specs.declared.syntax.Class.{Class as ClassValue, Class-F, fold-roll-Class}
-use Rattle.regress_front_tokens.specs.declared.syntax.Class.TheVariants.{Range, Union, rolls-Range}
+use Rattle.regress_front_tokens.specs.declared.syntax.Class.{Class as ClassValue}
+use Rattle.regress_front_tokens.specs.declared.syntax.Class.TheVariants.{Union}
 use Rattle.regress_front_tokens.specs.Readings.{IsRead}
-use Rattle.regress_front_tokens.specs.Trees.{class_view, node_class, union_of}
+use Rattle.regress_front_tokens.specs.Trees.{class_view, union_of}
 use Rattle.regress_front_tokens.proofs.ClassViews.{class_view-Union}
 use Rattle.regress_front_syntax.specs.Classes.{point_of, union_before, members_at, AddsDashed}
 
@@ -144,9 +144,6 @@ union_before-push (k ∷ ks) a s = ap (union k) (union_before-push ks a s)
 pub union_of-before : (ks : List Class) → union_of ks ≡ union_before ks no_string
 union_of-before [] = refl
 union_of-before (k ∷ ks) = ap (union k) (union_of-before ks)
-
-pub class_view-Range : (first last : ℕ) → class_view (Range first last) ≡ range first last
-class_view-Range first last = ap class_view (sym (rolls-Range first last)) ∙ fold-roll-Class Class node_class (Class-F.Range first last)
 
 -- nothing was read before
 pub before-none : (o : Option (Class × List ℕ)) → o ≡ option_map (before []) o

@@ -1,19 +1,18 @@
 -- How the contents of a class with `v` are read, and how deep they nest.
 use Rattle.std.specs.Prelude.{if◌then◌else◌}
-use Rattle.std.proofs.Common.{◌≡◌, ℕ, suc, zero, ◌+◌, ◌*◌, ◌<◌, ◌≤◌, Bool, true, false, not, ◌&&◌, ◌==◌, nat_le, max, List, [], ◌∷◌, ◌++◌, length, map, drop, count_by, fold, Option, Some, None, option_map, option_and_then, Result, Ok, Err, refl, sym, ap, ◌∙◌, arith, subst, length-drop, le_refl, eqb-true, ◌-◌, cond}
+use Rattle.std.proofs.Common.{◌≡◌, ℕ, suc, zero, ◌+◌, ◌*◌, ◌<◌, ◌≤◌, Bool, true, false, not, ◌&&◌, ◌==◌, nat_le, max, List, [], ◌∷◌, ◌++◌, length, map, drop, count_by, fold, Option, Some, None, option_map, option_and_then, Result, Ok, Err, refl, sym, ap, ◌∙◌, arith, subst, length-drop, le_refl, eqb-true, ◌-◌}
 use Rattle.std.proofs.Math.Nat.{le-max_left, le-max_right, max-le, le_trans}
-use Rattle.std.proofs.lemmas.List.Sums.{sum_by-cons}
 use Rattle.std.proofs.lemmas.List.{drop-drop}
 use Rattle.std.proofs.lemmas.Option.{same_Some}
 use Rattle.regress_meaning.specs.Text.{is_at}
-use Rattle.regress_meaning.specs.Class.{Class, no_string, range, strings, union, intersection, difference, nested, may_hold_strings}
+use Rattle.regress_meaning.specs.Class.{Class, no_string, range, union, intersection, difference, nested, may_hold_strings}
 use Rattle.regress_meaning.specs.Pattern.{Pattern, class}
 use Rattle.regress_meaning.specs.Tokens.{Mode, Reads, guard}
 use Rattle.regress_meaning.specs.Grammar.{class_of}
 use Rattle.regress_meaning.specs.Limits.{class_depth, depth, opens_nesting, greatest_depth}
 use Rattle.regress_meaning.specs.Laws.{ContentsBySteps}
 use Rattle.regress_meaning.specs.Reading.{single, no_term, of_class, class_opening}
-use Rattle.regress_meaning.specs.ReadingClass.{closes_class, two_at, opens_strings, SetItem, one_point, any_class, item_class, read_set_atom, read_set_character, behind_bracket, read_range, union_from, read_operand, read_intersection, read_difference, set_strings_at, operand_at, contents_at, union_at, intersection_at, difference_at, read_class}
+use Rattle.regress_meaning.specs.ReadingClass.{closes_class, two_at, SetItem, one_point, any_class, item_class, read_set_character, behind_bracket, read_range, union_from, read_operand, read_intersection, read_difference, operand_at, contents_at, union_at, intersection_at, difference_at, read_class}
 use Rattle.regress_front_core.specs.declared.error.Error.{Error}
 use Rattle.regress_front_core.specs.declared.error.Error.TheVariants.{Syntax, TooDeep, TooManyGroups, TooManyLoops, TooLarge, OutOfMemory}
 use Rattle.regress_front_tokens.specs.Cursors.{unread, SameText}
@@ -23,22 +22,12 @@ use Rattle.regress_front_tokens.specs.Trees.{class_view, union_of}
 use Rattle.regress_front_tokens.specs.declared.syntax.Class.{Class as ClassValue}
 use Rattle.regress_front_syntax.specs.Classes.{item_view, item_depth, members_at, union_before}
 use Rattle.regress_front_syntax.specs.Parsing.{IsNested, IsBracketAnswer}
-use Rattle.regress_front_syntax.proofs.SetLemmas.{on_true, on_false, on_some, on_none, on_guard}
+use Rattle.regress_meaning.proofs.Inversion.{and_then-some, map-some, guard-some}
+use Rattle.regress_meaning.proofs.ReadSteps.{on_true, on_false, on_some, on_guard}
+use Rattle.regress_front_syntax.proofs.AnswerLemmas.{count-less, count-opening}
 use Rattle.regress_front_syntax.proofs.ClassLemmas.{before, with_member}
 
 -- the parts of what was read
-
-then-some : {A B : Type 0} (f : A → Option B) (o : Option A) {y : B} → option_and_then f o ≡ Some y → (x : A) × (o ≡ Some x) × (f x ≡ Some y)
-then-some f None e = cc
-then-some f (Some x) e = (x, refl, e)
-
-map-some : {A B : Type 0} (f : A → B) (o : Option A) {y : B} → option_map f o ≡ Some y → (x : A) × (o ≡ Some x) × (f x ≡ y)
-map-some f None e = cc
-map-some f (Some x) e = (x, refl, (cc))
-
-guard-some : {A : Type 0} (b : Bool) {o : Option A} {y : A} → guard b o ≡ Some y → (b ≡ true) × (o ≡ Some y)
-guard-some true e = (refl, e)
-guard-some false e = cc
 
 -- the two parts of an answer
 pair-some : {A : Type 0} {a b : A} {r q : List ℕ} → ◌≡◌ {A = Option (A × List ℕ)} (Some (a, r)) (Some (b, q)) → (a ≡ b) × (r ≡ q)
@@ -53,7 +42,7 @@ rests-there e h = λ y q k. h y q (sym e ∙ k)
 
 pub rests-then : {X Y : Type 0} {small : X → ℕ} {large : Y → ℕ} (f : X × List ℕ → Option (Y × List ℕ)) (part : Option (X × List ℕ))
     → ((x : X × List ℕ) (y : Y) (q : List ℕ) → f x ≡ Some (y, q) → small x.0 ≤ large y) → Rests small large part (option_and_then f part)
-rests-then f part h = λ y q e. let (x, read, k) = then-some f part e in (x.0, x.1, read, h x y q k)
+rests-then f part h = λ y q e. let (x, read, k) = and_then-some f part e in (x.0, x.1, read, h x y q k)
 
 rests-none : {X Y : Type 0} {small : X → ℕ} {large : Y → ℕ} {part : Option (X × List ℕ)} (whole : Option (Y × List ℕ)) → Rests small large part whole → part ≡ None → whole ≡ None
 rests-none None h e = refl
@@ -96,12 +85,6 @@ IsNested-flat view size nesting here there t u (Err f) r e shallow flat h = IsRe
 
 -- A later place of a text has no more openings behind it.
 
-count-less : (test : ℕ → Bool) (c : ℕ) (t : List ℕ) → count_by test t ≤ count_by test (c ∷ t)
-count-less test c t = let e = sum_by-cons (λ x. cond (test x) 1 0) c t in omega arith
-
-pub count-opening : (test : ℕ → Bool) (c : ℕ) (t : List ℕ) → test c ≡ true → count_by test (c ∷ t) ≡ suc (count_by test t)
-count-opening test c t h = let e = sum_by-cons (λ x. cond (test x) 1 0) c t in let one : ◌≡◌ {A = ℕ} (cond {A = ℕ} (test c) 1 0) 1 = ap (λ b. cond {A = ℕ} b 1 0) h in omega arith
-
 count-drop : (test : ℕ → Bool) (n : ℕ) (xs : List ℕ) → count_by test (drop n xs) ≤ count_by test xs
 count-drop test zero xs = le_refl (count_by test xs)
 count-drop test (suc n) [] = le_refl 0
@@ -131,7 +114,7 @@ range-depth m (one_point c) t a r e = go (is_at (λ c. c == 0x2D) t) e
       | false ↦ Some (class_of c, t)
     ]) (Some (a, r)) → class_depth a ≡ 0
     go true h =
-        let (x, read, k) = then-some _ (read_set_character m (drop 1 t)) h in
+        let (x, read, k) = and_then-some _ (read_set_character m (drop 1 t)) h in
         let (ordered, given) = guard-some (nat_le c x.0) k in
         ap class_depth (sym (pair-some given).0)
     go false h = ap class_depth (sym (pair-some h).0)
@@ -142,12 +125,9 @@ range-depth m (any_class s) t a r e =
 pub union_from-is : (m : Mode) (rest : Reads Class) (i : SetItem) (t u : List ℕ) (a : Class) → read_range m i t ≡ Some (a, u) → union_from m rest i t ≡ option_map (with_member a) (rest u)
 union_from-is m rest i t u a e = on_some _ e refl
 
-pub union_from-none : (m : Mode) (rest : Reads Class) (i : SetItem) (t : List ℕ) → read_range m i t ≡ None → union_from m rest i t ≡ None
-union_from-none m rest i t e = on_none _ e
-
 union_from-deep : (m : Mode) (rest : Reads Class) (i : SetItem) (t : List ℕ) (y : Class) (q : List ℕ) → union_from m rest i t ≡ Some (y, q) → item_depth i ≤ class_depth y
 union_from-deep m rest i t y q e =
-    let (x, read, k) = then-some _ (read_range m i t) e in
+    let (x, read, k) = and_then-some _ (read_range m i t) e in
     let (z, further, given) = map-some (with_member x.0) (rest x.1) k in
     let same : union x.0 z.0 ≡ y = ap (λ (w : Class × List ℕ). w.0) given in
     let first : item_depth i ≤ class_depth (union x.0 z.0) = subst (λ n. n ≤ class_depth (union x.0 z.0)) (range-depth m i t x.0 x.1 read) (le-max_left (class_depth x.0) (class_depth z.0)) in
@@ -182,9 +162,6 @@ module _ (m : Mode) (t : List ℕ) (steps : ContentsBySteps m t) where
   pub union-more : (i : SetItem) (u v : List ℕ) (a : Class) → closes_class t ≡ false → operand_at m t ≡ Some (i, u) → read_range m i u ≡ Some (a, v) → union_at m t ≡ option_map (with_member a) (union_at m v)
   union-more i u v a h e k = steps.union_step ∙ on_false _ h (on_some _ e (union_from-is m (λ v. union_at m v) i u v a k))
 
-  pub union-no_range : (i : SetItem) (u : List ℕ) → closes_class t ≡ false → operand_at m t ≡ Some (i, u) → read_range m i u ≡ None → union_at m t ≡ None
-  union-no_range i u h e k = steps.union_step ∙ on_false _ h (on_some _ e (union_from-none m (λ v. union_at m v) i u k))
-
   pub union-rests : closes_class t ≡ false → Rests item_depth class_depth (operand_at m t) (union_at m t)
   union-rests h = rests-there (steps.union_step ∙ on_false _ h refl) (rests-then _ (operand_at m t) (λ x y q e. union_from-deep m (λ v. union_at m v) x.0 x.1 y q e))
 
@@ -210,7 +187,7 @@ intersection-deep m (suc n) a t y q e = go (two_at 0x26 0x26 t && not (is_at (λ
           ]) (read_operand m n (drop 2 t))
           | false ↦ None
         ]) (Some (y, q)) → class_depth a ≤ class_depth y
-    go true deeper h = let (x, read, k) = then-some _ (read_operand m n (drop 2 t)) h in last x (closes_class x.1) deeper k
+    go true deeper h = let (x, read, k) = and_then-some _ (read_operand m n (drop 2 t)) h in last x (closes_class x.1) deeper k
     go false deeper h = cc
 
 pub intersection_at-deep : (m : Mode) (a : Class) (t : List ℕ) (y : Class) (q : List ℕ) → intersection_at m a t ≡ Some (y, q) → class_depth a ≤ class_depth y
@@ -259,7 +236,7 @@ difference-deep m (suc n) a t y q e = go (two_at 0x2D 0x2D t) (λ z v k. differe
           ]) (read_operand m n (drop 2 t))
           | false ↦ None
         ]) (Some (y, q)) → class_depth a ≤ class_depth y
-    go true deeper h = let (x, read, k) = then-some _ (read_operand m n (drop 2 t)) h in last x (closes_class x.1) deeper k
+    go true deeper h = let (x, read, k) = and_then-some _ (read_operand m n (drop 2 t)) h in last x (closes_class x.1) deeper k
     go false deeper h = cc
 
 pub difference_at-deep : (m : Mode) (a : Class) (t : List ℕ) (y : Class) (q : List ℕ) → difference_at m a t ≡ Some (y, q) → class_depth a ≤ class_depth y
@@ -319,8 +296,6 @@ pushed-shallow op f old new x a n deep e v h k =
 -- contents, by what stands behind their first operand
 
 module _ (m : Mode) (t : List ℕ) (steps : ContentsBySteps m t) where
-  pub contents-closes : closes_class t ≡ true → contents_at m t ≡ Some (no_string, t)
-  contents-closes h = steps.contents_step ∙ on_true _ h refl
 
   pub contents-rests : closes_class t ≡ false → Rests item_depth class_depth (operand_at m t) (contents_at m t)
   contents-rests h = rests-there (steps.contents_step ∙ on_false _ h refl) (rests-then _ (operand_at m t) (λ x y q e. go x (two_at 0x26 0x26 x.1) (two_at 0x2D 0x2D x.1) y q e))
@@ -344,12 +319,6 @@ module _ (m : Mode) (t : List ℕ) (steps : ContentsBySteps m t) where
   pub contents-union : (i : SetItem) (u : List ℕ) → closes_class t ≡ false → operand_at m t ≡ Some (i, u) → two_at 0x26 0x26 u ≡ false → two_at 0x2D 0x2D u ≡ false
       → contents_at m t ≡ union_from m (λ v. union_at m v) i u
   contents-union i u h e k l = steps.contents_step ∙ on_false _ h (on_some _ e (on_false _ k (on_false _ l refl)))
-
-  pub operand-strings : is_at (λ c. c == 0x5B) t ≡ false → opens_strings t ≡ true → operand_at m t ≡ option_map (λ (ss, r). (any_class (strings ss), r)) (set_strings_at m (drop 3 t))
-  operand-strings h k = steps.operand_step ∙ on_false _ h (on_true _ k refl)
-
-  pub operand-atom : is_at (λ c. c == 0x5B) t ≡ false → opens_strings t ≡ false → operand_at m t ≡ read_set_atom m t
-  operand-atom h k = steps.operand_step ∙ on_false _ h (on_false _ k refl)
 
 -- classes in brackets
 

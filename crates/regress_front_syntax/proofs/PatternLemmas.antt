@@ -1,7 +1,7 @@
 -- What the answer for a whole text says of what the text spells.
 use Rattle.std.specs.Prelude.{count_by, IfOk, IfErr}
 use Rattle.std.proofs.lemmas.Bool.{eqb-true}
-use Rattle.std.proofs.Common.{◌≡◌, ℕ, zero, suc, ◌-◌, ◌≤◌, ◌<◌, ◌↔◌, Bool, true, false, not, ◌&&◌, ◌||◌, ◌==◌, List, [], ◌∷◌, ◌++◌, length, drop, Option, Some, None, option_and_then, option_map, unwrap_or, Result, Ok, Err, slice_get, is_some, suc-ne-zero, refl, ap, ◌∙◌, length-append, arith}
+use Rattle.std.proofs.Common.{◌≡◌, ℕ, zero, suc, ◌-◌, ◌≤◌, ◌<◌, ◌↔◌, Bool, true, false, not, ◌&&◌, ◌==◌, List, [], ◌∷◌, ◌++◌, length, drop, Option, Some, None, option_and_then, option_map, unwrap_or, Result, Ok, Err, slice_get, is_some, suc-ne-zero, refl, ap, ◌∙◌, length-append, arith}
 use Rattle.std.specs.Prelude.{if◌then◌else◌}
 use Rattle.regress_meaning.specs.Text.{is_at}
 use Rattle.regress_meaning.specs.Table.{Table}
@@ -17,17 +17,13 @@ use Rattle.regress_front_core.specs.declared.error.Error.TheVariants.{Syntax as 
 use Rattle.regress_front_tokens.specs.declared.syntax.Syntax.{Syntax}
 use Rattle.regress_front_tokens.specs.Trees.{tree}
 use Rattle.regress_front_core.specs.Refusals.{MayRefuse}
-use Rattle.regress_front_syntax.specs.Parsing.{IsCoherent, IsRefusal, IsWholeAnswer, whole_at}
+use Rattle.regress_front_syntax.specs.Parsing.{IsRefusal, IsWholeAnswer, whole_at}
 use Rattle.regress_front_syntax.proofs.AnswerLemmas.{at, count-less, count-opening}
 
 -- a text with no first code point is empty
 pub empty-text : (t : List ℕ) → is_some (slice_get t 0) ≡ false → t ≡ []
 empty-text [] e = refl
 empty-text (c ∷ t) e = absurd (cc)
-
-empty-length : (t : List ℕ) → (length t == 0) ≡ true → t ≡ []
-empty-length [] h = refl
-empty-length (c ∷ t) h = absurd (suc-ne-zero (length t) (eqb-true (suc (length t)) 0 h))
 
 left-length : (t : List ℕ) → is_some (slice_get t 0) ≡ true → (length t == 0) ≡ false
 left-length [] e = absurd (cc)
@@ -88,13 +84,6 @@ module _ (table : Table) (o : Options) (t : List ℕ) where
   -- the mode in which the text is read
   abbrev pub text_mode : Mode
   text_mode = mode_of table o t (scanned_names table o t)
-
-  pub text_mode-coherent : IsCoherent text_mode
-  text_mode-coherent h = or_right o.unicode h
-    where
-      or_right : (b : Bool) {c : Bool} → c ≡ true → (b || c) ≡ true
-      or_right true e = refl
-      or_right false e = e
 
   module _ (decides : (p : Pattern) → Spells table o t p ↔ (read_pattern table o t ≡ Some p)) where
     read-spells : (p : Pattern) → whole_at text_mode t ≡ Some p → Spells table o t p

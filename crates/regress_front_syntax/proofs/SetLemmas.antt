@@ -1,5 +1,5 @@
 -- How a class with `v` is read: its code points and the strings of `\q{..}`.
-use Rattle.std.proofs.Common.{◌≡◌, ℕ, ◌<◌, Bool, true, false, not, ◌&&◌, ◌||◌, ◌==◌, nat_eq, nat_le, slice_get, List, [], ◌∷◌, ◌++◌, length, drop, Option, Some, None, option_map, option_and_then, Err, refl, sym, ap, ◌∙◌, arith, append-nil, eqb-true}
+use Rattle.std.proofs.Common.{◌≡◌, ℕ, ◌<◌, Bool, true, false, not, ◌&&◌, ◌==◌, nat_eq, nat_le, slice_get, List, [], ◌∷◌, ◌++◌, length, drop, Option, Some, None, option_map, option_and_then, Err, refl, sym, ap, ◌∙◌, arith, eqb-true}
 use Rattle.std.proofs.lemmas.List.{append_assoc}
 use lib.Chars.{codes}
 use Rattle.regress_meaning.specs.Text.{◌∈◌, is_at}
@@ -12,25 +12,7 @@ use Rattle.std.specs.Option.{option_eq, ok_or}
 use Rattle.regress_front_core.specs.declared.error.Error.{Error}
 use Rattle.regress_front_tokens.specs.Readings.{IsRead}
 use Rattle.regress_front_syntax.specs.Classes.{only_point, mark_at}
-
--- The case of an `elim` on a test that is known; the other case is an argument, since nothing else tells it.
-pub on_true : {A : Type 0} {b : Bool} {x z : A} (y : A) → b ≡ true → x ≡ z → elim b [ true ↦ x | false ↦ y ] ≡ z
-on_true {x = x} y e h = ap (λ b. elim b [ true ↦ x | false ↦ y ]) e ∙ h
-
-pub on_false : {A : Type 0} {b : Bool} {y z : A} (x : A) → b ≡ false → y ≡ z → elim b [ true ↦ x | false ↦ y ] ≡ z
-on_false {y = y} x e h = ap (λ b. elim b [ true ↦ x | false ↦ y ]) e ∙ h
-
-pub on_some : {A B : Type 0} (f : A → Option B) {o : Option A} {x : A} {z : Option B} → o ≡ Some x → f x ≡ z → option_and_then f o ≡ z
-on_some f e h = ap (option_and_then f) e ∙ h
-
-pub on_none : {A B : Type 0} (f : A → Option B) {o : Option A} → o ≡ None → option_and_then f o ≡ None
-on_none f e = ap (option_and_then f) e
-
-pub on_guard : {A : Type 0} {b : Bool} (o : Option A) → b ≡ true → guard b o ≡ o
-on_guard o e = ap (λ b. guard b o) e
-
-pub off_guard : {A : Type 0} {b : Bool} (o : Option A) → b ≡ false → guard b o ≡ None
-off_guard o e = ap (λ b. guard b o) e
+use Rattle.regress_meaning.proofs.ReadSteps.{on_true, on_false, on_some, on_none, on_guard, off_guard}
 
 -- escapes
 
@@ -158,35 +140,12 @@ after xs p = (xs ++ p.0, p.1)
 abbrev pub with_one : {A : Type 0} → A → List A × List ℕ → List A × List ℕ
 with_one x p = (x ∷ p.0, p.1)
 
--- nothing was read before
-pub after-none : {A : Type 0} (o : Option (List A × List ℕ)) → o ≡ option_map (after []) o
-after-none None = refl
-after-none (Some p) = refl
-
 -- one more was read
 pub after-more : {A : Type 0} (xs : List A) (x : A) (o : Option (List A × List ℕ)) → option_map (after xs) (option_map (with_one x) o) ≡ option_map (after (xs ++ x ∷ [])) o
 after-more xs x None = refl
 after-more xs x (Some p) = ap (λ ys. Some (ys, p.1)) (sym (append_assoc xs (x ∷ []) p.0))
 
--- nothing is read behind
-pub after-all : {A : Type 0} (xs : List A) (o : Option (List A × List ℕ)) (r : List ℕ) → o ≡ Some ([], r) → option_map (after xs) o ≡ Some (xs, r)
-after-all xs o r e = ap (option_map (after xs)) e ∙ ap (λ ys. Some (ys, r)) (append-nil xs)
-
 module _ (m : Mode) (t : List ℕ) (steps : ContentsBySteps m t) where
-  pub string-ended : is_at (λ c. c ∈ "|}") t ≡ true → set_string_at m t ≡ Some ([], t)
-  string-ended h = steps.string_step ∙ on_true _ h refl
-
-  pub string-more : (c : ℕ) (u : List ℕ) → is_at (λ c. c ∈ "|}") t ≡ false → read_set_character m t ≡ Some (c, u) → set_string_at m t ≡ option_map (with_one c) (set_string_at m u)
-  string-more c u h e = steps.string_step ∙ on_false _ h (on_some _ e refl)
-
-  pub string-stopped : is_at (λ c. c ∈ "|}") t ≡ false → read_set_character m t ≡ None → set_string_at m t ≡ None
-  string-stopped h e = steps.string_step ∙ on_false _ h (on_none _ e)
-
-  pub strings-stopped : set_string_at m t ≡ None → set_strings_at m t ≡ None
-  strings-stopped e = steps.strings_step ∙ on_none _ e
-
-  pub strings-last : (cs u : List ℕ) → set_string_at m t ≡ Some (cs, u) → is_at (λ c. c == 0x7D) u ≡ true → set_strings_at m t ≡ Some (cs ∷ [], drop 1 u)
-  strings-last cs u e h = steps.strings_step ∙ on_some _ e (on_true _ h refl)
 
   pub strings-more : (cs u : List ℕ) → set_string_at m t ≡ Some (cs, u) → is_at (λ c. c == 0x7D) u ≡ false → is_at (λ c. c == 0x7C) u ≡ true
       → set_strings_at m t ≡ option_map (with_one cs) (set_strings_at m (drop 1 u))
@@ -200,12 +159,3 @@ bar-less (c ∷ t) h = omega arith
 pub bar-no_brace : (t : List ℕ) → is_at (λ c. c == 0x7C) t ≡ true → is_at (λ c. c == 0x7D) t ≡ false
 bar-no_brace [] h = refl
 bar-no_brace (c ∷ t) h = rw (eqb-true c 0x7C h) refl
-
-pub brace-behind : (t : List ℕ) → is_at (λ c. c ∈ "|}") t ≡ true → is_at (λ c. c == 0x7C) t ≡ false → is_at (λ c. c == 0x7D) t ≡ true
-brace-behind [] h k = cc
-brace-behind (c ∷ t) h k = go (0x7C == c) (0x7D == c) refl refl h
-  where
-    go : (a b : Bool) → (0x7C == c) ≡ a → (0x7D == c) ≡ b → (a || (b || false)) ≡ true → (c == 0x7D) ≡ true
-    go true b e f h = let bar : (c == 0x7C) ≡ true = rw (← eqb-true 0x7C c e) refl in cc
-    go false true e f h = rw (← eqb-true 0x7D c f) refl
-    go false false e f h = cc

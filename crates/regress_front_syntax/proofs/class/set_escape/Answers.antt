@@ -7,7 +7,8 @@ use Rattle.regress_front_tokens.specs.Escapes.{mode_view, escape_view}
 use Rattle.regress_front_syntax.specs.Classes.{item_view, mark_at}
 use Rattle.regress_front_tokens.specs.Cursors.{unread}
 use Rattle.regress_front_syntax.proofs.ClassLemmas.{IsRead-stopped}
-use Rattle.regress_front_syntax.proofs.SetLemmas.{on_some, on_none, set_escape-backspace, set_escape-mark, set_escape-other}
+use Rattle.regress_meaning.proofs.ReadSteps.{on_some, on_none}
+use Rattle.regress_front_syntax.proofs.SetLemmas.{set_escape-backspace, set_escape-mark, set_escape-other}
 use Rattle.regress_front_syntax.proofs.class.set_escape.Goals as goal
 
 pub returns-then-eat-clause-read : goal.returns-then-eat-clause-read

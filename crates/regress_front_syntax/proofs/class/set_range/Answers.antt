@@ -6,9 +6,11 @@ use Rattle.regress_front_tokens.specs.Escapes.{mode_view}
 use Rattle.regress_front_tokens.specs.Trees.{class_view}
 use Rattle.regress_front_syntax.specs.Classes.{item_view}
 use Rattle.regress_front_tokens.specs.Cursors.{unread}
-use Rattle.regress_front_syntax.proofs.ClassLemmas.{class_view-Range, IsRead-stopped}
-use Rattle.regress_front_syntax.proofs.SetLemmas.{on_guard, off_guard, set_range-alone, set_range-class, set_range-no_last, set_range-last}
+use Rattle.regress_front_syntax.proofs.ClassLemmas.{IsRead-stopped}
+use Rattle.regress_meaning.proofs.ReadSteps.{on_guard, off_guard}
+use Rattle.regress_front_syntax.proofs.SetLemmas.{set_range-alone, set_range-class, set_range-no_last, set_range-last}
 use Rattle.regress_front_syntax.proofs.class.set_range.Goals as goal
+use Rattle.regress_front_tokens.proofs.ClassViews.{class_view-Range}
 
 pub returns-then-not-eat-clause-read : goal.returns-then-not-eat-clause-read
 returns-then-not-eat-clause-read c =

@@ -3,8 +3,9 @@ use Rattle.regress_meaning.specs.Grammar.{class_of}
 use Rattle.std.specs.Option.{option_zip}
 use Rattle.regress_front_tokens.specs.Escapes.{mode_view, escape_view}
 use Rattle.regress_front_syntax.specs.Classes.{point_of}
-use Rattle.regress_front_syntax.proofs.ClassLemmas.{AddsDashed-range, AddsDashed-loose, class_view-Range}
+use Rattle.regress_front_syntax.proofs.ClassLemmas.{AddsDashed-range, AddsDashed-loose}
 use Rattle.regress_front_syntax.proofs.class_ranges.push_dashed.Goals as goal
+use Rattle.regress_front_tokens.proofs.ClassViews.{class_view-Range}
 
 pub returns-in-Some : goal.returns-in-Some
 returns-in-Some c =
