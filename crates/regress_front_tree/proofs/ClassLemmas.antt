@@ -1,10 +1,10 @@
 -- Sets and strings that classes stand for.
-use Rattle.std.proofs.Common.{◌≡◌, ℕ, zero, suc, ◌+◌, ◌<◌, ◌≤◌, Bool, true, false, not, cond, ◌&&◌, ◌||◌, ◌==◌, List, [], ◌∷◌, ◌++◌, length, take, get_or, map, filter, All, refl, sym, ap, subst, ◌∙◌, inl, inr, arith, Vec, Global, String, Some, None, chars, string_bytes, append-nil}
+use Rattle.std.proofs.Common.{◌≡◌, ℕ, zero, suc, ◌+◌, ◌<◌, Bool, true, false, not, cond, ◌&&◌, ◌||◌, ◌==◌, List, [], ◌∷◌, ◌++◌, length, take, get_or, map, filter, All, refl, sym, ap, subst, ◌∙◌, inl, inr, arith, Vec, Global, String, Some, None, chars, string_bytes, append-nil}
 use Rattle.std.proofs.Math.Path.{fun_ext}
 use Rattle.std.specs.List.{list_any}
 use Rattle.std.specs.Str.{all_scalars}
 use Rattle.std.specs.Char.{IsScalar}
-use Rattle.std.proofs.lemmas.Bool.{and_parts, eqb-true, cases_Bool, or_cases, false≢true, and_left, and_right, false_from_ne_true, both_ways, cond-false, cond-true, cases_eq, or_left, or_right, and_from, eq-eqb, agree_below_at}
+use Rattle.std.proofs.lemmas.Bool.{and_parts, eqb-true, cases_Bool, or_cases, false≢true, and_left, and_right, false_from_ne_true, both_ways, cond-false, cond-true, or_right, and_from, eq-eqb, agree_below_at}
 use Rattle.std.proofs.lemmas.Str.{IsUtf8-string_bytes, scalars-chars}
 use lib.Pointwise.{bytes_decides}
 use Rattle.std.proofs.lemmas.Bool.Decides.{nat_tests}
@@ -12,8 +12,8 @@ use Rattle.std.proofs.lemmas.List.{take_more, map-append, get_or-map, length-map
 use Rattle.std.proofs.lemmas.List.Elements.{filter-append, All-get_or, All-head, All-tail}
 use Rattle.std.proofs.lemmas.List.Folds.{list_any-append}
 use Rattle.regress_meaning.specs.Text.{between, same_text}
-use Rattle.regress_meaning.specs.Table.{last_code_point, some_below, closure}
-use Rattle.regress_meaning.specs.TableParts.{in_intervals, IntervalsRise, is_code_point, entry, ascii_lower}
+use Rattle.regress_meaning.specs.Table.{closure}
+use Rattle.regress_meaning.specs.TableParts.{in_intervals, is_code_point, entry, ascii_lower}
 use Rattle.regress_front_tables.specs.Entries.{entry_of}
 use Rattle.regress_meaning.specs.Class.{Strings, among, of_list, only, is_ascii_word, is_word}
 use Rattle.regress_front_tables.specs.declared.tables.Tables.{Tables}
@@ -23,21 +23,10 @@ use Rattle.regress_front_sets.specs.declared.code_point_set.CodePointSet.{CodePo
 use Rattle.regress_front_sets.specs.Intervals.{ends_of}
 use Rattle.regress_front_sets.specs.Sets.{in_set}
 use Rattle.regress_front_tree.specs.ClassValues.{lists}
-use Rattle.std.proofs.Math.Bool.{or-false}
+use Rattle.std.proofs.Math.Bool.{or-false, and-true}
 use Rattle.regress_meaning.proofs.TableLemmas.{same_bool, some_below-from, some_below-true}
-use Rattle.regress_front_sets.proofs.IntervalLemmas.{between-true, IntervalsRise-first, IntervalsRise-rest}
 
 -- ---- sets
-
--- what lies in intervals that rise is a code point
-pub in_intervals-bounded : (xs : List (ℕ × ℕ)) (c : ℕ) → IntervalsRise xs → in_intervals xs c ≡ true → c ≤ last_code_point
-unfolding in_intervals
-in_intervals-bounded [] c h e = absurd (false≢true e)
-in_intervals-bounded (i ∷ xs) c h e =
-    elim (or_cases _ _ e) [
-      | inl here ↦ let bounds : (i.0 ≤ c) × (c ≤ i.1) = between-true i.0 i.1 c here in omega (arith, bounds.1, (IntervalsRise-first i xs h).1)
-      | inr later ↦ in_intervals-bounded xs c (IntervalsRise-rest i xs h) later
-    ]
 
 -- what is no member of the complement of one set, and of another
 pub difference-by_complements : (a b inside : Bool) → (a ≡ true → inside ≡ true) → (inside && not ((inside && not a) || b)) ≡ (a && not b)
@@ -62,10 +51,6 @@ same_text-long : (c : ℕ) (s : List ℕ) → (length s == 1) ≡ false → same
 same_text-long c [] h = refl
 same_text-long c (x ∷ []) h = absurd (false≢true (sym h))
 same_text-long c (x ∷ y ∷ s) h = and_right _ _ refl
-
-and-true : (b : Bool) → (b && true) ≡ b
-and-true true = refl
-and-true false = refl
 
 -- one more string of one code point
 pub of_list-single : (ss : List (List ℕ)) (s : List ℕ) (test : ℕ → Bool) (d : ℕ) → length s ≡ 1 → ((c : ℕ) → test c ≡ ((of_list ss).singles c || (c == get_or s 0 d)))

@@ -1,7 +1,6 @@
 pub mod BracketLemmas
 pub mod ClassLemmas
 pub mod ClassValueLemmas
-pub mod ClassViewLaws
 pub mod AlikeLemmas
 pub mod StringLemmas
 pub mod SameLemmas

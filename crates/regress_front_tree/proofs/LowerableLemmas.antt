@@ -41,11 +41,6 @@ pub capture_of-told : (k : ℕ) (name : List ℕ) (p : Pattern) → capture_of k
 capture_of-told k [] p = refl
 capture_of-told k (c ∷ name) p = refl
 
--- a group's name is a text
-pub name-IsLowerable : (k : ℕ) (name : List ℕ) (p : Pattern) → IsLowerable (capture_of k name p) → all_scalars name ≡ true
-name-IsLowerable k [] p h = refl
-name-IsLowerable k (c ∷ name) p h = All-head IsText (c ∷ name) (names_of p) h.names
-
 pub contents-IsLowerable : (k : ℕ) (name : List ℕ) (p : Pattern) → IsLowerable (capture_of k name p) → IsLowerable p
 contents-IsLowerable k [] p h = record { points = h.points.1; names = All-tail IsText [] (names_of p) h.names }
 contents-IsLowerable k (c ∷ name) p h = record { points = h.points.1; names = All-tail IsText (c ∷ name) (names_of p) h.names }

@@ -1,18 +1,17 @@
 -- A lowered tree is alike its pattern.
-use Rattle.std.proofs.Common.{◌≡◌, ℕ, suc, ◌+◌, ◌-◌, Bool, true, false, ◌&&◌, ◌==◌, not, List, [], ◌∷◌, ◌++◌, length, Option, Some, None, if◌then◌else◌, map, filter, reverse, nat_le, nat_lt, slice_get, unwrap_or, All, IfSome, refl, sym, ap, ◌∙◌, arith}
+use Rattle.std.proofs.Common.{◌≡◌, ℕ, suc, ◌+◌, ◌-◌, Bool, true, false, ◌&&◌, ◌==◌, not, List, [], ◌∷◌, ◌++◌, length, if◌then◌else◌, map, filter, reverse, slice_get, unwrap_or, All, refl, sym, ap, ◌∙◌, arith}
 use Rattle.std.specs.List.{flat_map, list_any, list_all}
-use Rattle.std.proofs.lemmas.Bool.{cond_both}
 use Rattle.std.proofs.lemmas.Bool.Decides.{nat_tests}
 use Rattle.std.proofs.lemmas.List.{append-nil}
-use Rattle.std.proofs.lemmas.List.Elements.{All-nil, All-cons, All-head, All-tail, All-append, All-filter}
+use Rattle.std.proofs.lemmas.List.Elements.{All-nil, All-cons, All-append, All-filter}
 use Rattle.std.proofs.lemmas.Grind.{flat_map-append}
 use Rattle.regress_meaning.specs.Table.{Table}
 use Rattle.regress_meaning.specs.TableParts.{is_code_point}
 use Rattle.regress_meaning.specs.Class.{Class, no_string, range, digits, spaces, words, property, sequences, strings, union, intersection, difference, complement, nested, value_of, among}
 use Rattle.regress_meaning.specs.Pattern as meaning
 use Rattle.regress_meaning.specs.Pattern.{Pattern, Settings}
-use Rattle.regress_meaning.specs.Laws.{LiesIn, IsInside}
-use Rattle.regress_meaning.specs.Meaning.{State, Direction, Forward, Backward, Context, step, same_all, closed, class_steps, captured, clear_from, cleared, repeat_group, references, outcomes}
+use Rattle.regress_meaning.specs.Laws.{IsInside}
+use Rattle.regress_meaning.specs.Meaning.{State, Direction, Forward, Backward, Context, step, same_all, closed, class_steps, captured, cleared, repeat_group, references, outcomes}
 use Rattle.regress_front_nodes.specs.Trees.{Tree, back, string_set, cat_of}
 use Rattle.regress_front_nodes.specs.TreeMeaning.{alternatives, node_outcomes}
 use Rattle.regress_front_nodes.specs.Alike.{distinct, GoAlike}
@@ -24,6 +23,7 @@ use Rattle.regress_front_nodes.proofs.CharacterLemmas.{takes-steps}
 use Rattle.regress_front_nodes.proofs.SequenceLemmas.{made-outcomes}
 use Rattle.regress_front_tree.proofs.AlikeLemmas.{AllAlike, Stays, terms-alike, arms-outcomes, arms-alike}
 use Rattle.regress_front_tree.proofs.StringLemmas.{among-All, each-string, like, like-sized, empty-agrees, no_empty-agrees, arms-of-class}
+use Rattle.regress_meaning.proofs.StepLaws.{Leads-cleared}
 
 -- what passes holds of what a filter keeps
 All-kept : (p : List ℕ → Bool) (P : List ℕ → Type 0) → ((r : List ℕ) → p r ≡ true → P r) → (ss : List (List ℕ)) → All P (filter p ss)
@@ -109,18 +109,8 @@ module _ (w : Context) (valid : All is_code_point w.text) (stays : Stays w valid
   references-are true e ks s = made-outcomes w (map (λ j. back (j + 1) e.icase) (reverse ks)) Backward s ∙ backs (reverse ks) e Backward s
 
   -- clearing groups leaves a state in the text
-  abbrev GroupLies : Option (ℕ × ℕ) → Type 0
-  GroupLies g = IfSome g (LiesIn (length w.text))
-
-  clear_from-lie : (i first last : ℕ) (gs : List (Option (ℕ × ℕ))) → All GroupLies gs → All GroupLies (clear_from i first last gs)
-  clear_from-lie i first last [] h = All-nil GroupLies
-  clear_from-lie i first last (g ∷ gs) h =
-      All-cons GroupLies _ (clear_from (i + 1) first last gs)
-      (cond_both (nat_le first i && nat_lt i last) None g GroupLies (λ e. tt) (λ e. All-head GroupLies g gs h))
-      (clear_from-lie (i + 1) first last gs (All-tail GroupLies g gs h))
-
   cleared-inside : (first last : ℕ) (s : State) → IsInside w.text s → IsInside w.text (cleared first last s)
-  cleared-inside first last s h = record { place = h.place; groups = clear_from-lie 0 first last s.groups h.groups }
+  cleared-inside first last s h = (Leads-cleared w Forward first last s).inside h
 
   mutual
     unfolding node_outcomes outcomes class_steps

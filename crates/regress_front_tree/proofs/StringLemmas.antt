@@ -1,21 +1,20 @@
 -- The strings of a class, the longer first, are alike one outcome for each length, falling.
-use Rattle.std.proofs.Common.{◌≡◌, ℕ, zero, suc, ◌+◌, ◌-◌, ◌<◌, ◌≤◌, Bool, true, false, ◌&&◌, ◌||◌, ◌==◌, not, List, [], ◌∷◌, ◌++◌, length, Option, Some, None, if◌then◌else◌, drop, max, nat_eq, nat_le, slice_range, All, refl, sym, ap, subst, ◌∙◌, arith, eqb-true, suc-ne-zero, length-drop}
+use Rattle.std.proofs.Common.{◌≡◌, ℕ, zero, suc, ◌+◌, ◌-◌, ◌<◌, ◌≤◌, Bool, true, false, ◌&&◌, ◌||◌, ◌==◌, not, List, [], ◌∷◌, ◌++◌, length, Option, Some, None, if◌then◌else◌, max, nat_eq, All, refl, sym, ap, subst, ◌∙◌, arith, eqb-true, suc-ne-zero}
 use Rattle.std.specs.List.{flat_map, list_any, list_all}
 use lib.Pointwise.{pointwise}
-use Rattle.std.proofs.lemmas.Bool.{leb-true}
 use Rattle.std.proofs.lemmas.Bool.Decides.{nat_tests}
-use Rattle.std.proofs.lemmas.List.{append_assoc, length-take}
+use Rattle.std.proofs.lemmas.List.{append_assoc}
 use Rattle.std.proofs.lemmas.List.Elements.{All-nil, All-cons, All-head, All-tail}
 use Rattle.regress_meaning.specs.Text.{same_text}
 use Rattle.regress_meaning.specs.Table.{canon}
 use Rattle.regress_meaning.specs.TableParts.{is_code_point}
 use Rattle.regress_meaning.specs.Class.{Strings, among, longest}
 use Rattle.regress_meaning.specs.Pattern.{Settings}
-use Rattle.regress_meaning.specs.Meaning.{State, Direction, Forward, Backward, Context, beside, stepped, step, same, same_all, closed, string_steps}
+use Rattle.regress_meaning.specs.Meaning.{State, Direction, Context, beside, stepped, step, same, same_all, closed, string_steps}
 use Rattle.regress_front_nodes.specs.Alike.{distinct, AreAlike}
 use Rattle.regress_front_tree.specs.Lowering.{LengthsFall, AreByLength}
 use Rattle.regress_front_nodes.proofs.DistinctLemmas.{joined-alike, same_state-self, repeat-left_out}
-use Rattle.regress_front_nodes.proofs.StepLemmas.{beside-length, sized-agree}
+use Rattle.regress_front_nodes.proofs.StepLemmas.{sized-agree}
 use Rattle.regress_meaning.proofs.TableLemmas.{same_bool}
 use Rattle.regress_front_nodes.proofs.NodeLemmas.{same_text-same}
 
@@ -29,13 +28,6 @@ pointwise-length f (c ∷ cs) (d ∷ ds) e = ap (λ n. suc n) (by_first (f c d) 
     by_first : (b : Bool) → (b && pointwise f cs ds) ≡ true → (pointwise f cs ds ≡ true → length cs ≡ length ds) → length cs ≡ length ds
     by_first true h rest = rest h
     by_first false h rest = absurd (cc)
-
-pointwise-other : (f : ℕ → ℕ → Bool) (cs ds : List ℕ) → length cs < length ds → pointwise f cs ds ≡ false
-pointwise-other f cs ds h = by_test (pointwise f cs ds) refl
-  where
-    by_test : (b : Bool) → pointwise f cs ds ≡ b → b ≡ false
-    by_test false e = refl
-    by_test true e = let same = pointwise-length f cs ds e in absurd (omega arith)
 
 pointwise-turned : (f g : ℕ → ℕ → Bool) → ((c d : ℕ) → f c d ≡ g d c) → (cs ds : List ℕ) → pointwise f cs ds ≡ pointwise g ds cs
 pointwise-turned f g turned [] [] = refl

@@ -14,7 +14,7 @@ use Rattle.regress_front_tokens.specs.Trees.{class_view}
 use Rattle.regress_front_tree.specs.ClassValues.{united, all_united, intersected, subtracted}
 use Rattle.regress_front_tree.proofs.ClassLemmas.{in_intervals-one}
 use Rattle.regress_front_tree.proofs.ClassValueLemmas.{value_of-more, union_points, fold-more, first_points, other_points, one_points}
-use Rattle.regress_front_tree.proofs.ClassViewLaws.{class_view-Range, class_view-Digits, class_view-Spaces, class_view-Words, class_view-Property, class_view-Sequences, class_view-Strings, class_view-Intersection, class_view-Difference, class_view-Complement, class_view-Nested}
+use Rattle.regress_front_tokens.proofs.ClassViews.{class_view-Range, class_view-Digits, class_view-Spaces, class_view-Words, class_view-Property, class_view-Sequences, class_view-Strings, class_view-Intersection, class_view-Difference, class_view-Complement, class_view-Nested}
 use Rattle.regress_front_tree.proofs.class_value.+class_value.Goals as goal
 use Rattle.regress_front_tree.proofs.class_value.+class_value.Goals.{class_value-in-Range+in_ok-singles-in-Range, class_value-in-Digits+in_ok-singles-in-Digits, class_value-in-Spaces+in_ok-singles-in-Spaces, class_value-in-Words+in_ok-singles-in-Words, class_value-in-Property+in_ok-singles-in-Property}
 

@@ -4,8 +4,9 @@ use Rattle.std.proofs.lemmas.Result.{IfOk-weaker}
 use Rattle.regress_front_sets.specs.Intervals.{ends_of}
 use Rattle.regress_front_sets.specs.Sets.{in_set}
 use Rattle.regress_meaning.specs.Table.{last_code_point}
-use Rattle.regress_front_tree.proofs.ClassLemmas.{difference-by_complements, in_intervals-bounded}
+use Rattle.regress_front_tree.proofs.ClassLemmas.{difference-by_complements}
 use Rattle.regress_front_tree.proofs.class_value.without.Goals as goal
+use Rattle.regress_front_sets.proofs.IntervalLemmas.{in_intervals-bounded}
 
 pub returns-clause-ok : goal.returns-clause-ok
 returns-clause-ok c = IfOk-weaker c.inverted-2.result _ _ (λ s members (d : ℕ).

@@ -8,8 +8,9 @@ use Rattle.regress_meaning.specs.Table.{last_code_point}
 use Rattle.regress_front_sets.specs.Intervals.{ends_of}
 use Rattle.regress_front_sets.specs.Sets.{in_set}
 use Rattle.regress_front_tree.specs.ClassValues.{lists}
-use Rattle.regress_front_tree.proofs.ClassLemmas.{filter-lists, intersection-by_complement, in_intervals-bounded}
+use Rattle.regress_front_tree.proofs.ClassLemmas.{filter-lists, intersection-by_complement}
 use Rattle.regress_front_tree.proofs.class_value.ClassValue.intersection.Goals as goal
+use Rattle.regress_front_sets.proofs.IntervalLemmas.{in_intervals-bounded}
 
 pub returns-clause-ok : goal.returns-clause-ok
 returns-clause-ok c =
