@@ -1,12 +1,8 @@
 pub mod AnswerLemmas
 pub mod ApartLemmas
-pub mod ClassLemmas
 pub mod GroupLemmas
 pub mod LoopLemmas
 pub mod MarkLemmas
-pub mod HoldLemmas
-pub mod SetLemmas
-pub mod ContentsLemmas
 pub mod OpeningLemmas
 pub mod PatternLemmas
 pub mod QuantifierLemmas

@@ -18,7 +18,8 @@ use Rattle.regress_front_tokens.specs.declared.syntax.Syntax.{Syntax}
 use Rattle.regress_front_tokens.specs.Escapes.{escape_view}
 use Rattle.regress_front_tokens.specs.Readings.{IsRead}
 use Rattle.regress_front_tokens.specs.Words.{stands_for_itself}
-use Rattle.regress_front_syntax.specs.Parsing.{Place, Leads, Grows, front_to, IsRefusal, IsAnswer, IsRepetition, IsBracketAnswer, character_opening}
+use Rattle.regress_front_syntax.specs.Parsing.{Place, Leads, Grows, front_to, IsRefusal, IsAnswer, IsRepetition, character_opening}
+use Rattle.regress_front_classes.specs.Nesting.{IsBracketAnswer}
 use Rattle.regress_front_syntax.proofs.AnswerLemmas.{at, Leads_drop, quantified-keeps, count-opening}
 
 -- A tree without parts.

@@ -1,4 +1,3 @@
-pub mod Classes
 pub mod Names
 pub mod Openings
 pub mod Parsing

@@ -1,35 +1,18 @@
 -- What an answer of the parser says of the reading function.
 use Rattle.std.specs.Prelude.{◌≡◌, ℕ, ◌+◌, ◌<◌, ◌≤◌, Bool, true, List, [], ◌∷◌, length, Option, Some, None, Result, Ok, Err, option_and_then, count_by, if◌then◌else◌}
-use Rattle.regress_meaning.specs.Class as meaning
-use Rattle.regress_meaning.specs.Pattern.{Pattern, names_of, character, class, repeated}
-use Rattle.regress_meaning.specs.Tokens.{Mode, Reads}
-use Rattle.regress_meaning.specs.Limits.{WithinLimits, class_depth, depth, quantifiers, opens_nesting, opens_group, opens_quantifier, greatest_depth, most_groups, most_quantifiers}
-use Rattle.regress_meaning.specs.Reading.{Front, Opening, quantified, closed, whole_tree, disjunction_at, read_term, single, no_term, class_opening}
+use Rattle.regress_meaning.specs.Pattern.{Pattern, names_of, character, repeated}
+use Rattle.regress_meaning.specs.Tokens.{Mode}
+use Rattle.regress_meaning.specs.Limits.{WithinLimits, depth, quantifiers, opens_nesting, opens_group, opens_quantifier, greatest_depth, most_groups, most_quantifiers}
+use Rattle.regress_meaning.specs.Reading.{Front, Opening, quantified, closed, whole_tree, disjunction_at, read_term, single, no_term}
 use Rattle.regress_front_core.specs.declared.error.Error.{Error}
 use Rattle.regress_front_core.specs.declared.error.Error.TheVariants.{Syntax as SyntaxError, TooDeep, TooManyGroups, TooManyLoops, TooLarge, OutOfMemory}
 use Rattle.regress_front_tokens.specs.declared.syntax.Syntax.{Syntax}
 use Rattle.regress_front_core.specs.declared.quantifier.Quantifier.{Quantifier}
-use Rattle.regress_front_tokens.specs.declared.syntax.Class.{Class}
 use Rattle.regress_front_syntax.specs.declared.parser.Parser.{Parser}
-use Rattle.regress_front_tokens.specs.Trees.{tree, class_view}
+use Rattle.regress_front_tokens.specs.Trees.{tree}
 use Rattle.regress_front_core.specs.Quantifiers.{most}
 use Rattle.regress_front_tokens.specs.Cursors.{unread}
 use Rattle.regress_front_tokens.specs.Words.{stands_for_itself}
-
--- What was answered for what holds brackets, as many as `size` tells open at once, where so many parentheses and brackets are
--- open: it was read at the front of the text and nests no deeper than it may; or there is none; or whatever is read there
--- nests too deeply, and so do as many openings as stand in the text.
-abbrev pub IsNested : {A B : Type 0} → (view : A → B) → (size : B → ℕ) → ℕ → Reads B → List ℕ → Result A Error → List ℕ → Type 0
-IsNested view size nesting reads text (Ok x) rest = (reads text ≡ Some (view x, rest)) × (nesting + size (view x) ≤ greatest_depth)
-IsNested view size nesting reads text (Err (SyntaxError message)) rest = reads text ≡ None
-IsNested {B = B} view size nesting reads text (Err TooDeep) rest =
-    ((y : B) (r : List ℕ) → reads text ≡ Some (y, r) → greatest_depth < nesting + size y) × (greatest_depth < nesting + count_by opens_nesting text)
-IsNested view size nesting reads text (Err OutOfMemory) rest = Unit {0}
-IsNested view size nesting reads text (Err _) rest = ⊥
-
--- The same for a class, its own bracket being open.
-abbrev pub IsClassAnswer : ℕ → Reads meaning.Class → List ℕ → Result Class Error → List ℕ → Type 0
-IsClassAnswer = IsNested class_view class_depth
 
 -- where something is read: inside so many parentheses, with so many groups opened and so many quantifiers read before, at the
 -- front of a text
@@ -139,17 +122,6 @@ Answers read nesting old new result = IsAnswer (place nesting old) (place nestin
 -- The same where it stood behind a mark that is still counted.
 abbrev pub AnswersBehind : ℕ → (List ℕ → ℕ → Option Front) → ℕ → (old new : Parser) → Result Syntax Error → Type 0
 AnswersBehind mark read nesting old new result = IsAnswer (place_behind mark nesting old) (place nesting new) (read (unread old.cursor) old.groups) result
-
--- What was answered for a class behind its opening bracket, so many parentheses and brackets being open around it: whether it
--- is negated, and its class.
-abbrev pub IsBracketAnswer : ℕ → Mode → List ℕ → Result (Bool × Class) Error → List ℕ → Type 0
-IsBracketAnswer nesting m text (Ok (negated, c)) rest =
-    (class_opening m text ≡ single (class negated (class_view c)) rest) × (nesting + class_depth (class_view c) + 1 ≤ greatest_depth)
-IsBracketAnswer nesting m text (Err (SyntaxError message)) rest = class_opening m text ≡ no_term
-IsBracketAnswer nesting m text (Err TooDeep) rest =
-    ((p : Pattern) (r : List ℕ) → class_opening m text ≡ single p r → greatest_depth < nesting + depth p) × (greatest_depth < nesting + count_by opens_nesting text + 1)
-IsBracketAnswer nesting m text (Err OutOfMemory) rest = Unit {0}
-IsBracketAnswer nesting m text (Err _) rest = ⊥
 
 -- the tree that a whole text is read as, with no group opened before it
 abbrev pub whole_at : Mode → List ℕ → Option Pattern

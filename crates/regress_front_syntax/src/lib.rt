@@ -2,8 +2,6 @@
 #![tactic(auto)]
 
 mod apart;
-mod class;
-mod class_ranges;
 mod group;
 mod parser;
 

@@ -1,0 +1,4 @@
+pub mod ClassLemmas
+pub mod ContentsLemmas
+pub mod HoldLemmas
+pub mod SetLemmas
