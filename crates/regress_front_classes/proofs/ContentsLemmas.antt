@@ -24,7 +24,7 @@ use Rattle.regress_front_classes.specs.Classes.{item_view, item_depth, members_a
 use Rattle.regress_front_classes.specs.Nesting.{IsNested, IsBracketAnswer}
 use Rattle.regress_meaning.proofs.Inversion.{and_then-some, map-some, guard-some}
 use Rattle.regress_meaning.proofs.ReadSteps.{on_true, on_false, on_some, on_guard}
-use Rattle.regress_front_syntax.proofs.AnswerLemmas.{count-less, count-opening}
+use Rattle.regress_front_tokens.proofs.CountLemmas.{count-less, count-opening}
 use Rattle.regress_front_classes.proofs.ClassLemmas.{before, with_member}
 
 -- the parts of what was read

@@ -1,7 +1,5 @@
 -- How answers for the parts of a text make an answer for the whole.
-use Rattle.std.proofs.Common.{cond, ◌≡◌, ◌==◌, ℕ, suc, ◌+◌, ◌≤◌, Bool, true, false, ◌&&◌, nat_le, List, [], ◌∷◌, drop, Option, Some, None, option_and_then, Result, Ok, Err, refl, sym, ap, subst, ◌∙◌, arith}
-use Rattle.std.specs.Prelude.{count_by}
-use Rattle.std.proofs.lemmas.List.Sums.{sum_by-cons}
+use Rattle.std.proofs.Common.{◌≡◌, ◌==◌, ℕ, ◌+◌, ◌≤◌, Bool, true, false, ◌&&◌, nat_le, List, [], ◌∷◌, drop, Option, Some, None, option_and_then, Result, Ok, Err, refl, sym, subst, ◌∙◌, arith}
 use Rattle.regress_meaning.specs.Text.{is_at}
 use Rattle.regress_meaning.specs.Pattern.{Pattern}
 use Rattle.regress_meaning.specs.Tokens.{Bounds, bounds_at, guard}
@@ -10,6 +8,7 @@ use Rattle.regress_meaning.specs.Reading.{Front, bounded, quantified, closed, cl
 use Rattle.regress_front_core.specs.declared.error.Error.{Error}
 use Rattle.regress_front_core.specs.declared.error.Error.TheVariants.{Syntax as SyntaxError, TooDeep, TooManyGroups, TooManyLoops, TooLarge, OutOfMemory}
 use Rattle.regress_front_tokens.specs.declared.syntax.Syntax.{Syntax}
+use Rattle.regress_front_tokens.proofs.CountLemmas.{count-less}
 use Rattle.regress_front_syntax.specs.Parsing.{Place, Leads, Grows, IsRefusal, IsAnswer, contents_of}
 
 -- a place, by its parts
@@ -46,13 +45,6 @@ Leads_trans {a} {b} {c} x y = record {
   grouped = (let p = x.grouped in let q = y.grouped in omega arith);
   looped = (let p = x.looped in let q = y.looped in omega arith);
 }
-
--- one more code point counts no less
-pub count-less : (test : ℕ → Bool) (c : ℕ) (t : List ℕ) → count_by test t ≤ count_by test (c ∷ t)
-count-less test c t = let e = sum_by-cons (λ x. cond (test x) 1 0) c t in omega arith
-
-pub count-opening : (test : ℕ → Bool) (c : ℕ) (t : List ℕ) → test c ≡ true → count_by test (c ∷ t) ≡ suc (count_by test t)
-count-opening test c t h = let e = sum_by-cons (λ x. cond (test x) 1 0) c t in let one : ◌≡◌ {A = ℕ} (cond {A = ℕ} (test c) 1 0) 1 = ap (λ b. cond {A = ℕ} b 1 0) h in omega arith
 
 -- behind one more code point
 pub Leads_mark : (n k r c : ℕ) (t : List ℕ) → Leads (at n k r (c ∷ t)) (at n k r t)

@@ -9,7 +9,8 @@ use Rattle.regress_meaning.specs.Limits.{opens_nesting, opens_group, opens_quant
 use Rattle.regress_front_tokens.specs.declared.cursor.Cursor.{Cursor}
 use Rattle.regress_front_tokens.specs.Cursors.{unread, SameText}
 use Rattle.regress_front_syntax.specs.Parsing.{Leads}
-use Rattle.regress_front_syntax.proofs.AnswerLemmas.{at, count-less, count-opening}
+use Rattle.regress_front_tokens.proofs.CountLemmas.{count-less, count-opening}
+use Rattle.regress_front_syntax.proofs.AnswerLemmas.{at}
 
 -- a fact of each
 abbrev Each : (ℕ → Type 0) → List ℕ → Type 0

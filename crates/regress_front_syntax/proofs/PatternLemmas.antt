@@ -18,7 +18,8 @@ use Rattle.regress_front_tokens.specs.declared.syntax.Syntax.{Syntax}
 use Rattle.regress_front_tokens.specs.Trees.{tree}
 use Rattle.regress_front_core.specs.Refusals.{MayRefuse}
 use Rattle.regress_front_syntax.specs.Parsing.{IsRefusal, IsWholeAnswer, whole_at}
-use Rattle.regress_front_syntax.proofs.AnswerLemmas.{at, count-less, count-opening}
+use Rattle.regress_front_tokens.proofs.CountLemmas.{count-less, count-opening}
+use Rattle.regress_front_syntax.proofs.AnswerLemmas.{at}
 
 -- a text with no first code point is empty
 pub empty-text : (t : List ℕ) → is_some (slice_get t 0) ≡ false → t ≡ []

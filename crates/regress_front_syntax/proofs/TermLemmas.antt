@@ -20,7 +20,8 @@ use Rattle.regress_front_tokens.specs.Readings.{IsRead}
 use Rattle.regress_front_tokens.specs.Words.{stands_for_itself}
 use Rattle.regress_front_syntax.specs.Parsing.{Place, Leads, Grows, front_to, IsRefusal, IsAnswer, IsRepetition, character_opening}
 use Rattle.regress_front_classes.specs.Nesting.{IsBracketAnswer}
-use Rattle.regress_front_syntax.proofs.AnswerLemmas.{at, Leads_drop, quantified-keeps, count-opening}
+use Rattle.regress_front_tokens.proofs.CountLemmas.{count-opening}
+use Rattle.regress_front_syntax.proofs.AnswerLemmas.{at, Leads_drop, quantified-keeps}
 
 -- A tree without parts.
 pub record IsLeaf (p : Pattern) : Type 0 where

@@ -7,3 +7,4 @@ pub mod ScanLemmas
 pub mod SpanLemmas
 pub mod TokenLemmas
 pub mod TreeLaws
+pub mod CountLemmas
