@@ -41,8 +41,8 @@ fn nested(alloc: Global, opening: &str, closing: &str, pairs: usize) -> Result<S
     Ok(text)
 }
 
-/// Flags, a pattern of one alternative, and its terms.
-const TREES: [(&str, &str, &str); 45] = [
+/// Flags, a pattern of one alternative with terms, and its terms.
+const TERMS_READ: [(&str, &str, &str); 19] = [
     (
         "",
         r"^$\b\B",
@@ -102,6 +102,40 @@ const TREES: [(&str, &str, &str); 45] = [
     ),
     (
         "",
+        "(?:a)",
+        "[Group(Disjunction([Alternative([Character(97)])]))]",
+    ),
+    (
+        "",
+        "(?i-ms:a)",
+        "[Modified { on: Modifiers { icase: true, multiline: false, dot_all: false }, off: Modifiers { icase: false, multiline: true, dot_all: true }, contents: Disjunction([Alternative([Character(97)])]) }]",
+    ),
+    (
+        "u",
+        "(?=a)",
+        "[Look { negated: false, backward: false, contents: Disjunction([Alternative([Character(97)])]) }]",
+    ),
+    (
+        "u",
+        "(?!a)",
+        "[Look { negated: true, backward: false, contents: Disjunction([Alternative([Character(97)])]) }]",
+    ),
+    (
+        "u",
+        "(?<=a)",
+        "[Look { negated: false, backward: true, contents: Disjunction([Alternative([Character(97)])]) }]",
+    ),
+    (
+        "u",
+        "(?<!a)",
+        "[Look { negated: true, backward: true, contents: Disjunction([Alternative([Character(97)])]) }]",
+    ),
+];
+
+/// Flags, a pattern of one alternative with escapes, and its terms.
+const ESCAPES_READ: [(&str, &str, &str); 14] = [
+    (
+        "",
         r"\cj\c1\-",
         "[Character(10), Character(92), Character(99), Character(49), Character(45)]",
     ),
@@ -142,36 +176,10 @@ const TREES: [(&str, &str, &str); 45] = [
         "[Character(107), Character(60), Character(98), Character(62)]",
     ),
     ("", r"\p\P", "[Character(112), Character(80)]"),
-    (
-        "",
-        "(?:a)",
-        "[Group(Disjunction([Alternative([Character(97)])]))]",
-    ),
-    (
-        "",
-        "(?i-ms:a)",
-        "[Modified { on: Modifiers { icase: true, multiline: false, dot_all: false }, off: Modifiers { icase: false, multiline: true, dot_all: true }, contents: Disjunction([Alternative([Character(97)])]) }]",
-    ),
-    (
-        "u",
-        "(?=a)",
-        "[Look { negated: false, backward: false, contents: Disjunction([Alternative([Character(97)])]) }]",
-    ),
-    (
-        "u",
-        "(?!a)",
-        "[Look { negated: true, backward: false, contents: Disjunction([Alternative([Character(97)])]) }]",
-    ),
-    (
-        "u",
-        "(?<=a)",
-        "[Look { negated: false, backward: true, contents: Disjunction([Alternative([Character(97)])]) }]",
-    ),
-    (
-        "u",
-        "(?<!a)",
-        "[Look { negated: true, backward: true, contents: Disjunction([Alternative([Character(97)])]) }]",
-    ),
+];
+
+/// Flags, a pattern of one alternative with classes, and its terms.
+const CLASSES_READ: [(&str, &str, &str); 12] = [
     (
         "",
         "[^a]",
@@ -230,8 +238,8 @@ const TREES: [(&str, &str, &str); 45] = [
     ),
 ];
 
-/// Flags, a text that is no pattern, and what its error says.
-const ERRORS: [(&str, &str, &str); 62] = [
+/// Flags, a text that is no pattern for its terms, and what its error says.
+const TERMS_REFUSED: [(&str, &str, &str); 14] = [
     ("", "a**", "Nothing to repeat"),
     ("", "(?<=a)*", "Nothing to repeat"),
     ("u", "(?=a)*", "Nothing to repeat"),
@@ -239,6 +247,17 @@ const ERRORS: [(&str, &str, &str); 62] = [
     ("", "x{5,3}", "Invalid quantifier"),
     ("", "(a", "Unbalanced parenthesis"),
     ("", "a)", "Unbalanced parenthesis"),
+    ("", "(?ii:a)", "Invalid modifiers"),
+    ("", "(?i-i:a)", "Invalid modifiers"),
+    ("", "(?-:a)", "Invalid modifiers"),
+    ("", "(?i", "Invalid modifiers"),
+    ("", "(?x:a)", "Invalid group"),
+    ("u", "]", "Unexpected character"),
+    ("u", "a{", "Unexpected character"),
+];
+
+/// Flags, a text that is no pattern for its names, and what its error says.
+const NAMES_REFUSED: [(&str, &str, &str); 12] = [
     ("", "(?<a>x)(?<a>y)", "Duplicate capture group name"),
     ("", "(?<a>(?<a>x))", "Duplicate capture group name"),
     (
@@ -259,12 +278,11 @@ const ERRORS: [(&str, &str, &str); 62] = [
     ("", r"(?<\uD800>c)", "Invalid group name"),
     ("", "(?<>a)", "Invalid group name"),
     ("", r"(?<b>c)\k", "Invalid group name"),
+];
+
+/// Flags, a text that is no pattern for its escapes, and what its error says.
+const ESCAPES_REFUSED: [(&str, &str, &str); 17] = [
     ("", r"(?<b>c)\k<a>", "Invalid backreference"),
-    ("", "(?ii:a)", "Invalid modifiers"),
-    ("", "(?i-i:a)", "Invalid modifiers"),
-    ("", "(?-:a)", "Invalid modifiers"),
-    ("", "(?i", "Invalid modifiers"),
-    ("", "(?x:a)", "Invalid group"),
     ("", "\\", "Invalid escape"),
     ("u", r"\c1", "Invalid escape"),
     ("u", r"\-", "Invalid escape"),
@@ -281,8 +299,10 @@ const ERRORS: [(&str, &str, &str); 62] = [
     ("u", r"\pASCII}", "Invalid property"),
     ("u", r"\p{Emoji_Keycap_Sequence}", "Invalid property"),
     ("v", r"\P{Emoji_Keycap_Sequence}", "Invalid property"),
-    ("u", "]", "Unexpected character"),
-    ("u", "a{", "Unexpected character"),
+];
+
+/// Flags, a text that is no pattern for its classes, and what its error says.
+const CLASSES_REFUSED: [(&str, &str, &str); 19] = [
     ("", "[a", "Unbalanced bracket"),
     ("v", "[a&&b", "Unbalanced bracket"),
     ("v", "[[a]", "Unbalanced bracket"),
@@ -305,8 +325,8 @@ const ERRORS: [(&str, &str, &str); 62] = [
 ];
 
 #[test]
-fn trees_are_read(rt: HostRuntime) -> Result<(), Fail> {
-    for (flags, pattern, expected) in TREES {
+fn terms_are_read(rt: HostRuntime) -> Result<(), Fail> {
+    for (flags, pattern, expected) in TERMS_READ {
         let text = terms(rt.alloc(), flags, pattern)?;
         assert!(rt; text.as_str() == expected, "at {pattern}: {text}");
     }
@@ -314,8 +334,56 @@ fn trees_are_read(rt: HostRuntime) -> Result<(), Fail> {
 }
 
 #[test]
-fn errors_have_their_text(rt: HostRuntime) -> Result<(), Fail> {
-    for (flags, pattern, text) in ERRORS {
+fn escapes_are_read(rt: HostRuntime) -> Result<(), Fail> {
+    for (flags, pattern, expected) in ESCAPES_READ {
+        let text = terms(rt.alloc(), flags, pattern)?;
+        assert!(rt; text.as_str() == expected, "at {pattern}: {text}");
+    }
+    Ok(())
+}
+
+#[test]
+fn classes_are_read(rt: HostRuntime) -> Result<(), Fail> {
+    for (flags, pattern, expected) in CLASSES_READ {
+        let text = terms(rt.alloc(), flags, pattern)?;
+        assert!(rt; text.as_str() == expected, "at {pattern}: {text}");
+    }
+    Ok(())
+}
+
+#[test]
+fn errors_of_terms_have_their_text(rt: HostRuntime) -> Result<(), Fail> {
+    for (flags, pattern, text) in TERMS_REFUSED {
+        let expected = Some(Error::Syntax { text });
+        let refused = refusal(rt.alloc(), flags, pattern, 1)?;
+        assert!(rt; refused == expected, "at {pattern}: {refused:?}");
+    }
+    Ok(())
+}
+
+#[test]
+fn errors_of_names_have_their_text(rt: HostRuntime) -> Result<(), Fail> {
+    for (flags, pattern, text) in NAMES_REFUSED {
+        let expected = Some(Error::Syntax { text });
+        let refused = refusal(rt.alloc(), flags, pattern, 1)?;
+        assert!(rt; refused == expected, "at {pattern}: {refused:?}");
+    }
+    Ok(())
+}
+
+#[test]
+fn errors_of_escapes_have_their_text(rt: HostRuntime) -> Result<(), Fail> {
+    for (flags, pattern, text) in ESCAPES_REFUSED {
+        let expected = Some(Error::Syntax { text });
+        let refused = refusal(rt.alloc(), flags, pattern, 1)?;
+        assert!(rt; refused == expected, "at {pattern}: {refused:?}");
+    }
+    Ok(())
+}
+
+#[test]
+fn errors_of_classes_have_their_text(rt: HostRuntime) -> Result<(), Fail> {
+    for (flags, pattern, text) in CLASSES_REFUSED {
         let expected = Some(Error::Syntax { text });
         let refused = refusal(rt.alloc(), flags, pattern, 1)?;
         assert!(rt; refused == expected, "at {pattern}: {refused:?}");
