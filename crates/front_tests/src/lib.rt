@@ -6,8 +6,12 @@ mod bytes;
 #[cfg(test)]
 mod core_values;
 #[cfg(test)]
+mod nodes;
+#[cfg(test)]
 mod sets;
 #[cfg(test)]
 mod syntax;
 #[cfg(test)]
 mod tables;
+#[cfg(test)]
+mod tree;

@@ -76,36 +76,3 @@ fn write_below<W: fmt::Write>(node: &Node, depth: usize, f: &mut fmt::Formatter<
         _ => Ok(()),
     }
 }
-
-#[cfg(test)]
-mod tests {
-    use super::*;
-    use regress_front_tables::Error;
-    use std::alloc::Global;
-    use std::test::Fail;
-
-    fn text_of(alloc: Global, regex: &Regex) -> Result<String, Error> {
-        Ok(regex.to_string(alloc)?)
-    }
-
-    #[test]
-    fn each_node_has_its_line(rt: HostRuntime) -> Result<(), Fail> {
-        let tables = Tables::small(rt.alloc())?;
-        let arms = Node::Alt(
-            Box::new(rt.alloc(), Node::Empty)?,
-            Box::new(rt.alloc(), Node::MatchAny)?,
-        );
-        let node = Node::Cat(vec![in rt.alloc(); arms, Node::Goal]?);
-        let regex = Regex {
-            node,
-            flags: Flags::default(),
-            tables: &tables,
-        };
-        let text = text_of(rt.alloc(), &regex)?;
-        assert_eq!(rt;
-            text.as_str(),
-            "Cat\n  Alt\n    Empty\n    MatchAny\n  Goal\n"
-        );
-        Ok(())
-    }
-}

@@ -20,17 +20,3 @@ pub(crate) fn text_of(alloc: Global, points: &[CodePoint]) -> Result<Option<Stri
     }
     Ok(Some(text))
 }
-
-#[cfg(test)]
-mod tests {
-    use super::*;
-    use std::test::Fail;
-
-    #[test]
-    fn a_surrogate_is_in_no_text(rt: HostRuntime) -> Result<(), Fail> {
-        let text = text_of(rt.alloc(), &[0x61, 0x3C0])?.ok_or("no text")?;
-        assert_eq!(rt; text.as_str(), "a\u{3c0}");
-        assert!(rt; text_of(rt.alloc(), &[0x61, 0xD800])?.is_none());
-        Ok(())
-    }
-}

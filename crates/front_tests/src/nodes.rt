@@ -1,0 +1,383 @@
+//! Tests of `regress_front_nodes`.
+ghost use Rattle.std.specs.Prelude.{◌≡◌, ◌≤◌, All};
+ghost use Rattle.regress_front_nodes.specs.Trees.{tree};
+ghost use Rattle.regress_front_nodes.specs.Forms.{nesting};
+
+use regress_front::ir::Regex;
+use regress_front::{
+    AnchorType, BracketContents, CODE_POINT_MAX, CodePoint, CodePointSet, Error, Flags, IP,
+    Interval, LoopID, Node, Piece, Quantifier, Tables, Walk, lower_code_point_sequence, walk,
+    walk_mut,
+};
+use std::alloc::Global;
+use std::test::Fail;
+
+const GREEDY: Quantifier = Quantifier {
+    min: 0,
+    max: None,
+    greedy: true,
+};
+
+const ALL: Interval = Interval {
+    first: 0,
+    last: CODE_POINT_MAX,
+};
+
+const NOT_ZERO: Interval = Interval {
+    first: 1,
+    last: CODE_POINT_MAX,
+};
+
+fn bracket(alloc: Global, invert: bool, interval: Option<Interval>) -> Result<Node, Error> {
+    let mut cps = CodePointSet::new(alloc);
+    if let Some(interval) = interval {
+        cps.add(interval)?;
+    }
+    Ok(Node::Bracket(BracketContents { invert, cps }))
+}
+
+fn look(alloc: Global, backwards: bool, contents: Node) -> Result<Node, Error> {
+    Ok(Node::LookaroundAssertion {
+        negate: false,
+        backwards,
+        start_group: 0,
+        end_group: 0,
+        contents: Box::new(alloc, contents)?,
+    })
+}
+
+fn group(alloc: Global, contents: Node) -> Result<Node, Error> {
+    Ok(Node::CaptureGroup {
+        id: 0,
+        contents: Box::new(alloc, contents)?,
+        name: None,
+    })
+}
+
+fn repeated(alloc: Global, loopee: Node) -> Result<Node, Error> {
+    Ok(Node::Loop {
+        loopee: Box::new(alloc, loopee)?,
+        quant: GREEDY,
+        enclosed_groups: 0..0,
+    })
+}
+
+/// A node of each kind below a `Cat`.
+fn each_kind(alloc: Global) -> Result<Node, Error> {
+    let mut parts = vec![in alloc;
+        Node::Empty,
+        Node::Char { c: 0x61 },
+        Node::ByteSequence(Vec::from_array(alloc, [0x61, 0x62])?),
+        Node::ByteSet(Vec::from_array(alloc, [0x41, 0x61])?),
+        Node::CharSet(Vec::from_array(alloc, [0x4B, 0x212A])?),
+    ]?;
+    parts.push(Node::Alt(
+        Box::new(alloc, Node::MatchAny)?,
+        Box::new(alloc, Node::MatchAnyExceptLineTerminator)?,
+    ))?;
+    parts.push(Node::Anchor {
+        anchor_type: AnchorType::StartOfLine,
+        multiline: true,
+    })?;
+    parts.push(Node::Anchor {
+        anchor_type: AnchorType::EndOfLine,
+        multiline: false,
+    })?;
+    parts.push(Node::WordBoundary {
+        invert: true,
+        unicode_icase: false,
+    })?;
+    parts.push(group(alloc, Node::Empty)?)?;
+    parts.push(Node::BackRef {
+        group: 1,
+        icase: true,
+    })?;
+    parts.push(bracket(alloc, true, Some(ALL))?)?;
+    parts.push(Node::StringSet {
+        alternatives: vec![in alloc; Vec::from_array(alloc, [0x61])?.into_boxed_slice()]?,
+        icase: false,
+    })?;
+    parts.push(look(alloc, true, Node::Empty)?)?;
+    parts.push(repeated(alloc, Node::Empty)?)?;
+    parts.push(Node::Loop1CharBody {
+        loopee: Box::new(alloc, Node::MatchAny)?,
+        quant: GREEDY,
+    })?;
+    parts.push(Node::Goal)?;
+    Ok(Node::Cat(parts))
+}
+
+/// How a tree is printed.
+fn printed(alloc: Global, node: Node) -> Result<String, Error> {
+    let tables = Tables::small(alloc).map_err(|_| Error::OutOfMemory)?;
+    let regex = Regex {
+        node,
+        flags: Flags::default(),
+        tables: &tables,
+    };
+    Ok(regex.to_string(alloc)?)
+}
+
+const EACH_KIND: &str = "Cat
+  Empty
+  Char { c: 97 }
+  ByteSequence([97, 98])
+  ByteSet([65, 97])
+  CharSet([75, 8490])
+  Alt
+    MatchAny
+    MatchAnyExceptLineTerminator
+  Anchor { anchor_type: StartOfLine, multiline: true }
+  Anchor { anchor_type: EndOfLine, multiline: false }
+  WordBoundary { invert: true, unicode_icase: false }
+  CaptureGroup 0
+    Empty
+  BackRef { group: 1, icase: true }
+  Bracket(BracketContents { invert: true, cps: CodePointSet { intervals: [Interval { first: 0, last: 1114111 }] } })
+  StringSet { alternatives: [[97]], icase: false }
+  LookaroundAssertion { negate: false, backwards: true }
+    Empty
+  Loop Quantifier { min: 0, max: None, greedy: true }
+    Empty
+  Loop1CharBody Quantifier { min: 0, max: None, greedy: true }
+    MatchAny
+  Goal
+";
+
+#[test]
+fn each_node_has_its_line(rt: HostRuntime) -> Result<(), Fail> {
+    let text = printed(rt.alloc(), each_kind(rt.alloc())?)?;
+    assert!(rt; text.as_str() == EACH_KIND);
+    Ok(())
+}
+
+#[test]
+fn a_copy_is_printed_alike(rt: HostRuntime) -> Result<(), Fail> {
+    let Node::Cat(mut parts) = each_kind(rt.alloc())? else {
+        return Err("no parts".into());
+    };
+    parts.retain(|part| !matches!(part, Node::CaptureGroup { .. }));
+    let node = Node::Cat(parts);
+    let copy = node.try_duplicate(rt.alloc(), 1)?.ok_or("no copy")?;
+    let copied = printed(rt.alloc(), copy)?;
+    assert!(rt; copied.as_str() == printed(rt.alloc(), node)?.as_str());
+    assert!(rt; copied.as_str().lines().count() + 2 == EACH_KIND.lines().count());
+    Ok(())
+}
+
+#[test]
+fn no_copy_is_made_too_deep_or_of_a_group(rt: HostRuntime) -> Result<(), Fail> {
+    let node = repeated(rt.alloc(), Node::MatchAny)?;
+    assert!(rt; node.try_duplicate(rt.alloc(), 1279)?.is_some());
+    assert!(rt; node.try_duplicate(rt.alloc(), 1280)?.is_none());
+    assert!(rt; Node::MatchAny.try_duplicate(rt.alloc(), 1280)?.is_some());
+    assert!(rt; Node::MatchAny.try_duplicate(rt.alloc(), 1281)?.is_none());
+    let group = group(rt.alloc(), Node::MatchAny)?;
+    assert!(rt; group.try_duplicate(rt.alloc(), 0)?.is_none());
+    assert!(rt;
+        repeated(rt.alloc(), group)?
+            .try_duplicate(rt.alloc(), 0)?
+            .is_none()
+    );
+    Ok(())
+}
+
+#[test]
+fn brackets_are_empty_where_nothing_is_held(rt: HostRuntime) -> Result<(), Fail> {
+    for (invert, interval, is_empty) in [
+        (false, None, true),
+        (true, None, false),
+        (true, Some(ALL), true),
+        (false, Some(ALL), false),
+        (true, Some(NOT_ZERO), false),
+    ] {
+        let node = bracket(rt.alloc(), invert, interval)?;
+        assert!(rt; node.match_always_fails() == is_empty);
+        assert!(rt; node.matches_exactly_one_char() != is_empty);
+        assert!(rt; matches!(&node, Node::Bracket(contents) if contents.is_empty() == is_empty));
+    }
+    Ok(())
+}
+
+fn walk_in(in_lookbehind: bool) -> Walk {
+    Walk {
+        skip_children: false,
+        depth: 0,
+        in_lookbehind,
+        unicode: false,
+    }
+}
+
+#[test]
+fn parts_are_turned_in_a_lookbehind(rt: HostRuntime) -> Result<(), Fail> {
+    let mut node = Node::Cat(vec![in rt.alloc(); Node::MatchAny, Node::Empty, Node::Goal]?);
+    node.reverse_cats(&walk_in(false));
+    assert!(rt; matches!(&node, Node::Cat(parts) if matches!(&parts[0], Node::MatchAny)));
+    node.reverse_cats(&walk_in(true));
+    assert!(rt; matches!(&node, Node::Cat(parts) if matches!(&parts[0], Node::Goal)));
+    Ok(())
+}
+
+#[test]
+fn forms_are_told(rt: HostRuntime) -> Result<(), Fail> {
+    let empty = Node::Empty;
+    let none = Node::Cat(Vec::new(rt.alloc()));
+    let one = Node::ByteSequence(Vec::from_array(rt.alloc(), [0xE2, 0x82, 0xAC])?);
+    let two = Node::ByteSequence(Vec::from_array(rt.alloc(), [0x61, 0x62])?);
+    let fails = Node::make_always_fails(rt.alloc());
+    let set = Node::CharSet(Vec::from_array(rt.alloc(), [0x61])?);
+    assert!(rt; empty.is_empty() && !none.is_empty() && none.is_cat() && !empty.is_cat());
+    assert!(rt; one.matches_exactly_one_char() && !two.matches_exactly_one_char());
+    assert!(rt; Node::Char { c: 0xD800 }.matches_exactly_one_char());
+    assert!(rt; Node::MatchAny.matches_exactly_one_char());
+    assert!(rt; !empty.matches_exactly_one_char() && !fails.matches_exactly_one_char());
+    assert!(rt;
+        fails.match_always_fails() && Node::ByteSet(Vec::new(rt.alloc())).match_always_fails()
+    );
+    assert!(rt; set.matches_exactly_one_char() && !set.match_always_fails());
+    assert!(rt; !empty.match_always_fails());
+    Ok(())
+}
+
+/// What a walk told at each visit: the kind of the node, the nodes above, whether it is read backwards.
+#[derive(Clone, Copy, Debug, PartialEq)]
+struct Told {
+    kind: char,
+    depth: usize,
+    in_lookbehind: bool,
+}
+
+fn kind(node: &Node) -> char {
+    match node {
+        Node::Cat(_) => 'c',
+        Node::LookaroundAssertion { .. } => 'l',
+        Node::MatchAny => 'a',
+        Node::Goal => 'g',
+        _ => 'o',
+    }
+}
+
+fn visit_of(kind: char, depth: usize, in_lookbehind: bool) -> Option<Told> {
+    Some(Told {
+        kind,
+        depth,
+        in_lookbehind,
+    })
+}
+
+/// The visits of a walk that passes over what stands below the nodes of one kind.
+fn visits(postorder: bool, node: &Node, passed: char) -> [Option<Told>; 5] {
+    let mut visits = [None; 5];
+    let mut count = 0;
+    walk(
+        postorder,
+        true,
+        node,
+        &mut |node: &Node, walk: &mut Walk| {
+            if count < 5 {
+                visits[count] = visit_of(kind(node), walk.depth, walk.in_lookbehind);
+                count += 1;
+            }
+            walk.skip_children = kind(node) == passed;
+        },
+    );
+    visits
+}
+
+#[test]
+fn nodes_are_visited_in_order(rt: HostRuntime) -> Result<(), Fail> {
+    let outer = look(rt.alloc(), true, look(rt.alloc(), false, Node::MatchAny)?)?;
+    let node = Node::Cat(vec![in rt.alloc(); outer, Node::Goal]?);
+    let all = visit_of('c', 0, false);
+    let behind = visit_of('l', 1, false);
+    let ahead = visit_of('l', 2, true);
+    let any = visit_of('a', 3, false);
+    let goal = visit_of('g', 1, false);
+    assert!(rt; visits(false, &node, '-') == [all, behind, ahead, any, goal]);
+    assert!(rt; visits(true, &node, 'c') == [any, ahead, behind, goal, all]);
+    assert!(rt; visits(false, &node, 'l') == [all, behind, goal, None, None]);
+    Ok(())
+}
+
+/// Turns `a` into `b`, and leaves all else.
+fn turn(node: &mut Node)
+    ensures { nesting (tree node.new) ≤ nesting (tree node.old) }
+{
+    if let Node::Char { c } = node {
+        if *c == 0x61 {
+            *c = 0x62;
+        }
+    }
+}
+
+/// Turns each `a` into `b`, and passes over what stands below a lookaround.
+fn turn_all(postorder: bool, node: &mut Node) {
+    walk_mut(
+        postorder,
+        true,
+        node,
+        &mut |node: &mut Node, walk: &mut Walk|
+            ensures { nesting (tree node.new) ≤ nesting (tree node.old) }
+        {
+            turn(node);
+            walk.skip_children = matches!(node, Node::LookaroundAssertion { .. });
+        },
+    );
+}
+
+/// `a(?=a)(a)`, each `a` turned into `b`.
+fn turned(alloc: Global, postorder: bool) -> Result<String, Error> {
+    let inner = look(alloc, false, Node::Char { c: 0x61 })?;
+    let group = group(alloc, Node::Char { c: 0x61 })?;
+    let mut node = Node::Cat(vec![in alloc; Node::Char { c: 0x61 }, inner, group]?);
+    turn_all(postorder, &mut node);
+    printed(alloc, node)
+}
+
+#[test]
+fn what_is_passed_over_stays(rt: HostRuntime) -> Result<(), Fail> {
+    let passed =
+        "Cat\n  Char { c: 98 }\n  LookaroundAssertion { negate: false, backwards: false }\n    Char { c: 97 }\n  CaptureGroup 0\n    Char { c: 98 }\n";
+    assert!(rt; turned(rt.alloc(), false)?.as_str() == passed);
+    let all = passed.replace(rt.alloc(), "97", "98")?;
+    assert!(rt; turned(rt.alloc(), true)?.as_str() == all.as_str());
+    Ok(())
+}
+
+/// The nodes of a text's pieces, with the small table.
+fn pieces(alloc: Global, cps: &[CodePoint], icase: bool, unicode: bool) -> Result<String, Fail>
+    requires { All (λ c. c ≤ 0x10_FFFF) cps.now }
+{
+    let tables = Tables::small(alloc)?;
+    let pieces = lower_code_point_sequence(alloc, cps, icase, unicode, &tables)?;
+    let nodes = Piece::into_nodes(alloc, pieces)?;
+    Ok(format!(in alloc; "{nodes:?}")?)
+}
+
+#[test]
+fn pieces_are_sets_and_literals(rt: HostRuntime) -> Result<(), Fail> {
+    let letters = pieces(rt.alloc(), &[0x61, 0x62, 0x21, 0x3F], true, true)?;
+    assert!(rt;
+        letters.as_str() == "[ByteSet([65, 97]), ByteSet([66, 98]), ByteSequence([33, 63])]"
+    );
+    let literal = pieces(rt.alloc(), &[0x61, 0xE9, 0x63], false, true)?;
+    assert!(rt; literal.as_str() == "[ByteSequence([97, 195, 169, 99])]");
+    let none = pieces(rt.alloc(), &[], true, true)?;
+    assert!(rt; none.as_str() == "[]");
+    let surrogate = pieces(rt.alloc(), &[0x61, 0xD83D, 0x62, 0x63], false, false)?;
+    assert!(rt;
+        surrogate.as_str() == "[ByteSequence([97]), Char { c: 55357 }, ByteSequence([98, 99])]"
+    );
+    let folded = pieces(rt.alloc(), &[0x31, 0x6B], true, true)?;
+    assert!(rt; folded.as_str() == "[ByteSequence([49]), CharSet([75, 107, 8490])]");
+    let upper = pieces(rt.alloc(), &[0x6B], true, false)?;
+    assert!(rt; upper.as_str() == "[ByteSet([75, 107])]");
+    Ok(())
+}
+
+#[test]
+fn numbers_of_loops_and_of_instructions_are_wide_enough(rt: HostRuntime) {
+    let last: LoopID = 65_535;
+    let far: IP = 4_294_967_295;
+    assert!(rt; u32::from(last) == 0xFFFF && far as u64 == 0xFFFF_FFFF);
+}

@@ -1,0 +1,317 @@
+//! Tests of `regress_front_tree`.
+
+use regress_front::{CodePoint, Error, Flags, Node, Tables, are_code_points, try_parse};
+use std::alloc::{AllocError, Global};
+use std::test::Fail;
+
+/// A pattern of each construct, its flags, and how many nodes its tree has, with the goal and the `Cat` above it.
+const CONSTRUCTS: [(&str, &str, usize); 24] = [
+    ("abc", "", 6),
+    ("a|b|c|d|e", "", 11),
+    ("(a)(?<n>b)(?:c)", "", 8),
+    ("a*b+?c{2,3}d{4}?", "", 11),
+    ("^a$", "m", 6),
+    (r"\b\B", "iu", 5),
+    ("(?=a)(?!b)", "", 7),
+    ("(?<=ab|c)(?<!(d)e)", "", 14),
+    (r"(a)\1", "i", 6),
+    (r"(?<n>a)|(?<n>b)\k<n>", "", 11),
+    (".", "", 3),
+    (".", "s", 3),
+    (r"[a-z\d-]", "", 3),
+    ("[^a-z]", "i", 3),
+    (r"\D\s\w", "iu", 6),
+    (r"\p{ASCII}\P{ASCII}", "u", 5),
+    ("(?i-ms:a)", "", 3),
+    (r"[[a-z]&&[^b]]", "v", 3),
+    (r"[\w--\d]", "v", 3),
+    (r"[\q{abc|d|}x]", "iv", 7),
+    (r"\p{Emoji_Keycap_Sequence}", "v", 5),
+    (r"\x41\u{42}\cA\0", "u", 7),
+    ("é", "i", 3),
+    ("", "", 3),
+];
+
+/// Patterns, their flags, and their trees but for the goal behind them.
+const TREES: [(&str, &str, &str); 18] = [
+    (
+        "(?<=a(?=bc))",
+        "",
+        "LookaroundAssertion { negate: false, backwards: true, start_group: 0, end_group: 0, contents: Cat([LookaroundAssertion { negate: false, backwards: false, start_group: 0, end_group: 0, contents: Cat([Char { c: 98 }, Char { c: 99 }]) }, Char { c: 97 }]) }",
+    ),
+    (
+        "(?<=a|b)",
+        "",
+        "LookaroundAssertion { negate: false, backwards: true, start_group: 0, end_group: 0, contents: Alt(Char { c: 97 }, Char { c: 98 }) }",
+    ),
+    (
+        r"()(?s-i:.\1).\1",
+        "i",
+        "Cat([CaptureGroup { id: 0, contents: Empty, name: None }, Cat([MatchAny, BackRef { group: 1, icase: false }]), MatchAnyExceptLineTerminator, BackRef { group: 1, icase: true }])",
+    ),
+    ("(?i:a)", "", "CharSet([65, 97])"),
+    ("(?-i:a)a", "i", "Cat([Char { c: 97 }, CharSet([65, 97])])"),
+    (
+        "^$",
+        "im",
+        "Cat([Anchor { anchor_type: StartOfLine, multiline: true }, Anchor { anchor_type: EndOfLine, multiline: true }])",
+    ),
+    (
+        r"\B",
+        "i",
+        "WordBoundary { invert: true, unicode_icase: false }",
+    ),
+    (
+        r"\b",
+        "iu",
+        "WordBoundary { invert: false, unicode_icase: true }",
+    ),
+    (
+        "(.)(?!(.)(.))",
+        "",
+        "Cat([CaptureGroup { id: 0, contents: MatchAnyExceptLineTerminator, name: None }, LookaroundAssertion { negate: true, backwards: false, start_group: 1, end_group: 3, contents: Cat([CaptureGroup { id: 1, contents: MatchAnyExceptLineTerminator, name: None }, CaptureGroup { id: 2, contents: MatchAnyExceptLineTerminator, name: None }]) }])",
+    ),
+    (
+        "(.){2,}",
+        "",
+        "Loop { loopee: CaptureGroup { id: 0, contents: MatchAnyExceptLineTerminator, name: None }, quant: Quantifier { min: 2, max: None, greedy: true }, enclosed_groups: 0..1 }",
+    ),
+    (
+        "(?<$_1>.)",
+        "",
+        "CaptureGroup { id: 0, contents: MatchAnyExceptLineTerminator, name: Some(\"$_1\") }",
+    ),
+    (
+        r"(?:(?<n>)|()(?<n>))\k<n>(?<=\k<n>)",
+        "",
+        "Cat([Alt(CaptureGroup { id: 0, contents: Empty, name: Some(\"n\") }, Cat([CaptureGroup { id: 1, contents: Empty, name: None }, CaptureGroup { id: 2, contents: Empty, name: Some(\"n\") }])), Cat([BackRef { group: 1, icase: false }, BackRef { group: 3, icase: false }]), LookaroundAssertion { negate: false, backwards: true, start_group: 3, end_group: 3, contents: Cat([BackRef { group: 3, icase: false }, BackRef { group: 1, icase: false }]) }])",
+    ),
+    (
+        "a|b|c|d|e",
+        "",
+        "Alt(Alt(Alt(Char { c: 97 }, Char { c: 98 }), Alt(Char { c: 99 }, Char { c: 100 })), Char { c: 101 })",
+    ),
+    ("", "", "Empty"),
+    ("(?:)", "", "Empty"),
+    (
+        r"[\q{de|abc|f|}]",
+        "v",
+        "Alt(Alt(StringSet { alternatives: [[97, 98, 99], [100, 101]], icase: false }, Bracket(BracketContents { invert: false, cps: CodePointSet { intervals: [Interval { first: 102, last: 102 }] } })), StringSet { alternatives: [[]], icase: false })",
+    ),
+    (
+        r"[\q{f}]",
+        "v",
+        "Bracket(BracketContents { invert: false, cps: CodePointSet { intervals: [Interval { first: 102, last: 102 }] } })",
+    ),
+    (
+        "(?=a)*b",
+        "",
+        "Cat([Loop { loopee: LookaroundAssertion { negate: false, backwards: false, start_group: 0, end_group: 0, contents: Char { c: 97 } }, quant: Quantifier { min: 0, max: None, greedy: true }, enclosed_groups: 0..0 }, Char { c: 98 }])",
+    ),
+];
+
+/// Patterns of one character, their flags, which characters they match, and which not.
+const CHARACTERS: [(&str, &str, &str, &str); 14] = [
+    ("s", "iu", "sS\u{17f}", "t"),
+    ("0", "iu", "0", "1"),
+    ("s", "u", "s", "S\u{17f}"),
+    ("[[a-z]&&[ae]]", "v", "ae", "b"),
+    (r"[\w--\d]", "v", "a_", "5"),
+    (r"\P{ASCII}", "u", "\u{e9}", "a"),
+    (r"\w", "iu", "a\u{17f}\u{212a}", "-"),
+    (r"\w", "u", "a", "\u{17f}\u{212a}"),
+    (r"\s", "", " \u{feff}", "a"),
+    (r"\W", "iu", "-", "s\u{17f}"),
+    (r"\W", "u", "-\u{17f}", "s"),
+    ("[[^A-Z]]", "iv", "Aa0", ""),
+    ("[^a]", "i", "b", "aA"),
+    (r"[\w-z]", "", "a-z", "!"),
+];
+
+/// Patterns that the standard refuses, and their flags.
+const REFUSED: [(&str, &str); 6] = [
+    (r"[\w-z]", "u"),
+    ("(?=a)*b", "u"),
+    ("x{5,3}", ""),
+    (r"\p{Nothing}", "u"),
+    (r"[^\q{ab}]", "v"),
+    ("(?<n>)(?<n>)", ""),
+];
+
+fn points(alloc: Global, text: &str) -> Result<Vec<CodePoint>, AllocError> {
+    text.chars().map(CodePoint::from).collect(alloc)
+}
+
+/// The tree of a pattern.
+fn node_of(alloc: Global, pattern: &str, flags: &str) -> Result<Node, Error> {
+    let tables = Tables::small(alloc).map_err(|_| Error::OutOfMemory)?;
+    let points = points(alloc, pattern)?;
+    if !are_code_points(&points) {
+        return Err(Error::Syntax {
+            text: "a character is no code point",
+        });
+    }
+    Ok(try_parse(alloc, &points, Flags::from(flags), &tables)?.node)
+}
+
+/// How many nodes the tree of a pattern has: it is printed with a line for each.
+fn node_count(alloc: Global, pattern: &str, flags: &str) -> Result<usize, Error> {
+    let tables = Tables::small(alloc).map_err(|_| Error::OutOfMemory)?;
+    let points = points(alloc, pattern)?;
+    if !are_code_points(&points) {
+        return Err(Error::Syntax {
+            text: "a character is no code point",
+        });
+    }
+    let regex = try_parse(alloc, &points, Flags::from(flags), &tables)?;
+    Ok(regex.to_string(alloc)?.lines().count())
+}
+
+#[test]
+fn each_construct_is_read(rt: HostRuntime) -> Result<(), Fail> {
+    for (pattern, flags, nodes) in CONSTRUCTS {
+        assert!(rt;
+            node_count(rt.alloc(), pattern, flags)? == nodes,
+            "at {pattern}"
+        );
+    }
+    Ok(())
+}
+
+// A run may refuse one request for memory, each in turn (`rt try --test --fail-alloc N`): then the pattern that asked for it
+// is refused for that alone, and has its whole tree when it is read again.
+#[test]
+fn refused_memory_is_told_and_turns_no_tree(rt: HostRuntime) -> Result<(), Fail> {
+    for (pattern, flags, nodes) in CONSTRUCTS {
+        let count = match node_count(rt.alloc(), pattern, flags) {
+            Err(Error::OutOfMemory) => node_count(rt.alloc(), pattern, flags)?,
+            outcome => outcome?,
+        };
+        assert!(rt; count == nodes, "at {pattern}");
+    }
+    Ok(())
+}
+
+#[test]
+fn trees_are_as_the_standard_compiles(rt: HostRuntime) -> Result<(), Fail> {
+    for (pattern, flags, tree) in TREES {
+        let node = node_of(rt.alloc(), pattern, flags)?;
+        let told = format!(in rt.alloc(); "{node:?}")?;
+        let whole = format!(in rt.alloc(); "Cat([{tree}, Goal])")?;
+        assert!(rt; told.as_str() == whole.as_str(), "at {pattern}: {told}");
+    }
+    Ok(())
+}
+
+/// Whether the tree of one character matches this one.
+fn matches_character(tree: &Node, c: char) -> bool {
+    let c = u32::from(c);
+    match tree {
+        Node::Cat(parts) => parts.first().is_some_and(|part| is_one_of(part, c)),
+        _ => false,
+    }
+}
+
+fn is_one_of(node: &Node, c: CodePoint) -> bool {
+    match node {
+        Node::Char { c: own } => *own == c,
+        Node::CharSet(points) => points.contains(&c),
+        Node::Bracket(contents) => contents.invert != contents.cps.contains(c),
+        _ => false,
+    }
+}
+
+#[test]
+fn characters_are_closed_where_case_is_ignored(rt: HostRuntime) -> Result<(), Fail> {
+    for (pattern, flags, members, others) in CHARACTERS {
+        let node = node_of(rt.alloc(), pattern, flags)?;
+        assert!(rt;
+            members.chars().all(|c| matches_character(&node, c)),
+            "at {pattern}"
+        );
+        assert!(rt;
+            !others.chars().any(|c| matches_character(&node, c)),
+            "at {pattern}"
+        );
+    }
+    Ok(())
+}
+
+/// Why a pattern is refused; `None` where it is accepted.
+fn refusal(alloc: Global, pattern: &str, flags: &str) -> Option<Error> {
+    node_of(alloc, pattern, flags).err()
+}
+
+/// Why a piece of text, so many times, is refused as a pattern; `None` where it is accepted.
+fn refusal_of_many(alloc: Global, piece: &str, count: usize) -> Result<Option<Error>, AllocError> {
+    let pattern = piece.repeat(alloc, count)?;
+    Ok(refusal(alloc, pattern.as_str(), ""))
+}
+
+#[test]
+fn what_is_no_pattern_is_refused(rt: HostRuntime) {
+    for (pattern, flags) in REFUSED {
+        let refused = refusal(rt.alloc(), pattern, flags);
+        assert!(rt;
+            matches!(refused, Some(Error::Syntax { .. })),
+            "at {pattern}"
+        );
+    }
+}
+
+/// A text between so many openings and as many endings.
+fn nested(
+    alloc: Global,
+    opening: &str,
+    inner: &str,
+    ending: &str,
+    depth: usize,
+) -> Result<String, AllocError> {
+    let mut pattern = opening.repeat(alloc, depth)?;
+    pattern.push_str(inner)?;
+    pattern.push_str(ending.repeat(alloc, depth)?.as_str())?;
+    Ok(pattern)
+}
+
+#[test]
+fn groups_and_classes_nest_to_256(rt: HostRuntime) -> Result<(), Fail> {
+    for (groups, classes, expected) in [
+        (256, 0, None),
+        (257, 0, Some(Error::TooDeep)),
+        (128, 128, None),
+        (128, 129, Some(Error::TooDeep)),
+    ] {
+        let inner = nested(rt.alloc(), "[", "a", "]", classes)?;
+        let pattern = nested(rt.alloc(), "(?:", inner.as_str(), ")", groups)?;
+        let refused = refusal(rt.alloc(), pattern.as_str(), "v");
+        assert!(rt; refused == expected, "at {groups} and {classes}");
+    }
+    Ok(())
+}
+
+#[test]
+fn groups_and_quantifiers_end_at_65535(rt: HostRuntime) -> Result<(), Fail> {
+    for (piece, count, expected) in [
+        ("()", 65_535, None),
+        ("()", 65_536, Some(Error::TooManyGroups)),
+        ("a*", 65_535, None),
+        ("a*", 65_536, Some(Error::TooManyLoops)),
+        ("a", 100_000, None),
+    ] {
+        let refused = refusal_of_many(rt.alloc(), piece, count)?;
+        assert!(rt; refused == expected, "at {piece}");
+    }
+    Ok(())
+}
+
+#[test]
+fn large_patterns_are_read(rt: HostRuntime) -> Result<(), Fail> {
+    let letters: String = (0x4E00..0x7510)
+        .filter_map(char::from_u32)
+        .collect(rt.alloc())?;
+    let class = nested(rt.alloc(), "[", letters.as_str(), "]", 1)?;
+    assert!(rt; node_count(rt.alloc(), class.as_str(), "")? == 3);
+    let bounds = "a{99999999999999999999,88888888888888888888}";
+    assert!(rt; node_count(rt.alloc(), bounds, "")? == 4);
+    Ok(())
+}
