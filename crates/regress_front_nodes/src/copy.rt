@@ -6,17 +6,16 @@ ghost use Rattle.regress_front_nodes.specs.Copies.{IsCopy, IsBoxedCopy, AreCopie
 
 use crate::node::{BracketContents, Node, NodeList};
 use regress_front_tables::{CodePointSet, Error};
-use std::alloc::Global;
+use std::alloc::{AllocError, Global};
 
 /// No node is copied to a place below more nodes than this.
 const DEEPEST_COPY: usize = 1280;
 
 impl BracketContents {
-    /// A class of the same code points. It errs where memory is refused.
-    fn copy(&self, alloc: Global) -> Result<BracketContents, Error>
-        ensures same { IfOk result (λ copy. (copy.invert ≡ self.now.invert)
+    /// A class of the same code points.
+    fn copy(&self, alloc: Global) -> Result<BracketContents, AllocError>
+        ensures { IfOk result (λ copy. (copy.invert ≡ self.now.invert)
             × (copy.cps.intervals.items ≡ self.now.cps.intervals.items)) }
-        ensures refused { IfErr result (λ e. e ≡ Error.OutOfMemory) }
     {
         let intervals = self.cps.intervals().to_vec(alloc)?;
         Ok(BracketContents {
@@ -31,10 +30,24 @@ impl Node {
     ///
     /// `None` where some node of it would stand below more than 1280, or is a capture group, since no group may stand
     /// twice. It errs where memory is refused, with `Error::OutOfMemory`.
-    #[cycle(copy)]
+    ///
+    /// ```rust
+    /// let twice = match node.try_duplicate(alloc, depth)? {
+    ///     Some(copy) => Node::Cat(vec![in alloc; node, copy]?),
+    ///     None => node,
+    /// };
+    /// ```
     pub fn try_duplicate(&self, alloc: Global, depth: usize) -> Result<Option<Node>, Error>
         ensures copied { IfOk result (IsCopy depth (tree self.now)) }
         ensures refused { IfErr result (λ e. e ≡ Error.OutOfMemory) }
+    {
+        Ok(self.duplicate(alloc, depth)?)
+    }
+
+    /// The same, where only memory can fail.
+    #[cycle(copy)]
+    fn duplicate(&self, alloc: Global, depth: usize) -> Result<Option<Node>, AllocError>
+        ensures { IfOk result (IsCopy depth (tree self.now)) }
     {
         if depth > DEEPEST_COPY {
             return Ok(None);
@@ -60,11 +73,10 @@ impl Node {
         )
     }
 
-    /// An equal node, of one without parts. It errs where memory is refused.
-    fn copy_of_leaf(&self, alloc: Global) -> Result<Node, Error>
+    /// An equal node, of one without parts.
+    fn copy_of_leaf(&self, alloc: Global) -> Result<Node, AllocError>
         requires { is_leaf (tree self.now) ≡ true }
-        ensures copied { IfOk result (λ n. tree n ≡ tree self.now) }
-        ensures refused { IfErr result (λ e. e ≡ Error.OutOfMemory) }
+        ensures { IfOk result (λ n. tree n ≡ tree self.now) }
     {
         match self {
             Node::Empty => Ok(Node::Empty),
@@ -107,13 +119,12 @@ impl Node {
 
     /// An equal node, of one that has parts and stands below no more than 1280 others.
     ///
-    /// `None` where some node of it would stand below more, or is a capture group. It errs where memory is refused.
+    /// `None` where some node of it would stand below more, or is a capture group.
     #[cycle(copy)]
-    fn copy_of_parts(&self, alloc: Global, depth: usize) -> Result<Option<Node>, Error>
+    fn copy_of_parts(&self, alloc: Global, depth: usize) -> Result<Option<Node>, AllocError>
         requires shallow { depth ≤ deepest_copy }
         requires inner { is_leaf (tree self.now) ≡ false }
-        ensures copied { IfOk result (IsCopy depth (tree self.now)) }
-        ensures refused { IfErr result (λ e. e ≡ Error.OutOfMemory) }
+        ensures { IfOk result (IsCopy depth (tree self.now)) }
     {
         match self {
             Node::Cat(parts) => Ok(copies(parts, alloc, depth)?.map(Node::Cat)),
@@ -163,11 +174,10 @@ impl Node {
 
 /// A copy in a box, to stand below `depth` nodes.
 #[cycle(copy)]
-fn boxed_copy(node: &Node, alloc: Global, depth: usize) -> Result<Option<Box<Node>>, Error>
-    ensures copied { IfOk result (IsBoxedCopy depth (tree node.now)) }
-    ensures refused { IfErr result (λ e. e ≡ Error.OutOfMemory) }
+fn boxed_copy(node: &Node, alloc: Global, depth: usize) -> Result<Option<Box<Node>>, AllocError>
+    ensures { IfOk result (IsBoxedCopy depth (tree node.now)) }
 {
-    match node.try_duplicate(alloc, depth)? {
+    match node.duplicate(alloc, depth)? {
         Some(copy) => Ok(Some(Box::new(alloc, copy)?)),
         None => Ok(None),
     }
@@ -175,14 +185,13 @@ fn boxed_copy(node: &Node, alloc: Global, depth: usize) -> Result<Option<Box<Nod
 
 /// Copies of the parts of a `Cat` that stands below `depth` nodes.
 #[cycle(copy)]
-fn copies(parts: &[Node], alloc: Global, depth: usize) -> Result<Option<NodeList>, Error>
+fn copies(parts: &[Node], alloc: Global, depth: usize) -> Result<Option<NodeList>, AllocError>
     requires { depth ≤ deepest_copy }
-    ensures copied { IfOk result (AreCopies depth (map tree parts.now)) }
-    ensures refused { IfErr result (λ e. e ≡ Error.OutOfMemory) }
+    ensures { IfOk result (AreCopies depth (map tree parts.now)) }
 {
     let mut copies = Vec::new(alloc);
     for part in parts {
-        match part.try_duplicate(alloc, depth + 1)? {
+        match part.duplicate(alloc, depth + 1)? {
             Some(copy) => copies.push(copy)?,
             None => return Ok(None),
         }

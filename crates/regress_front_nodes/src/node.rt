@@ -9,8 +9,7 @@ ghost use Rattle.regress_front_nodes.specs.Forms.{is_empty, is_cat, turned};
 ghost use Rattle.regress_front_nodes.specs.Singles.{bracket_is_empty, always_fails, takes_one, is_one_character, IsOneFurther};
 
 use crate::visit::Walk;
-use regress_front_tables::{CaptureGroupID, CaptureGroupName, CodePoint, CodePointSet};
-use regress_front_tables::Quantifier;
+use regress_front_tables::{CaptureGroupID, CaptureGroupName, CodePoint, CodePointSet, Quantifier};
 use std::alloc::Global;
 use std::boxed::BoxedSlice;
 use std::ops::Range;
@@ -34,7 +33,12 @@ pub struct BracketContents {
 }
 
 impl BracketContents {
-    /// Whether no code point matches.
+    /// Whether no code point matches: `[]` and, inverted, a set of all code points.
+    ///
+    /// ```rust
+    /// let none = BracketContents { invert: false, cps: CodePointSet::new(alloc) };
+    /// assert!(rt; none.is_empty());
+    /// ```
     pub fn is_empty(&self) -> bool
         ensures { result ≡ bracket_is_empty self.now.invert (ends_of self.now.cps.intervals.items) }
     {
@@ -148,7 +152,12 @@ impl Node {
 
     /// Turns the parts of a `Cat` that stands in a lookbehind, so that they stand in the order in which they are read.
     ///
-    /// Only this node is turned, and none below it. Any other node stays as it is.
+    /// Only this node is turned, and none below it. Any other node stays as it is. `w` tells whether it stands in a
+    /// lookbehind, as a walk tells it.
+    ///
+    /// ```rust
+    /// walk_mut(true, unicode, &mut node, &mut |node: &mut Node, w: &mut Walk| node.reverse_cats(w));
+    /// ```
     pub fn reverse_cats(&mut self, w: &Walk)
         ensures { tree self.new ≡ (if w.now.in_lookbehind then turned (tree self.old) else tree self.old) }
     {
@@ -159,14 +168,14 @@ impl Node {
         }
     }
 
-    /// Whether it is `Empty`.
+    /// Whether it is `Empty`: `Node::Empty.is_empty()`. A `Cat` without parts is not.
     pub fn is_empty(&self) -> bool
         ensures { result ≡ is_empty (tree self.now) }
     {
         matches!(self, Node::Empty)
     }
 
-    /// Whether it is a `Cat`.
+    /// Whether it is a `Cat`, also one without parts: `Node::Cat(Vec::new(alloc)).is_cat()`.
     pub fn is_cat(&self) -> bool
         ensures { result ≡ is_cat (tree self.now) }
     {
@@ -174,7 +183,8 @@ impl Node {
     }
 
     /// Whether it is a character, a literal of one character, or a set that holds some character. Then whatever it
-    /// matches is exactly one character.
+    /// matches is exactly one character, so a repetition of it may be a `Loop1CharBody`:
+    /// `Node::MatchAny.matches_exactly_one_char()`.
     pub fn matches_exactly_one_char(&self) -> bool
         ensures form { result ≡ takes_one (tree self.now) }
         ensures steps { IsTrue result → (context : Context) (dir : Direction) (s : State) →
@@ -188,7 +198,8 @@ impl Node {
         }
     }
 
-    /// Whether it is a set that holds no character. Then it matches nothing.
+    /// Whether it is a set that holds no character. Then it matches nothing:
+    /// `Node::make_always_fails(alloc).match_always_fails()`.
     pub fn match_always_fails(&self) -> bool
         ensures form { result ≡ always_fails (tree self.now) }
         ensures nothing { IsTrue result → (context : Context) (dir : Direction) (s : State) →

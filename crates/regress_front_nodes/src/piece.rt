@@ -10,7 +10,7 @@ ghost use Rattle.regress_front_nodes.specs.WellFormed.{AreLawful};
 
 use crate::node::{Node, NodeList};
 use regress_front_tables::{CodePoint, Error, Tables, expand_code_point};
-use std::alloc::Global;
+use std::alloc::{AllocError, Global};
 use std::mem;
 
 /// What one code point of a string may be, or some one after another.
@@ -45,7 +45,8 @@ impl From<Piece> for Node {
 impl Piece {
     ghost use Rattle.regress_front_nodes.specs.Pieces.{piece_tree};
 
-    /// The nodes of pieces, in their order. Where memory is refused the error is `OutOfMemory`, and there is no other.
+    /// The nodes of pieces, in their order: `Node::Cat(Piece::into_nodes(alloc, pieces)?)` matches the string of the pieces.
+    /// Where memory is refused the error is `OutOfMemory`, and there is no other.
     pub fn into_nodes(alloc: Global, pieces: Vec<Piece>) -> Result<NodeList, Error>
         ensures nodes { IfOk result (λ nodes. map tree nodes.items ≡ map piece_tree pieces.items) }
         ensures refused { IsOkUnless result Error.OutOfMemory }
@@ -69,11 +70,10 @@ struct OpenPieces {
 impl OpenPieces {
     ghost use Rattle.regress_front_nodes.specs.Pieces.{piece_tree, before, completed};
 
-    /// Ends the literal. `OutOfMemory` is the only error.
-    fn close(&mut self, alloc: Global) -> Result<(), Error>
+    /// Ends the literal.
+    fn close(&mut self, alloc: Global) -> Result<(), AllocError>
         ensures pieces { OnOk result (map piece_tree self.new.pieces.items ≡ completed self.old []) }
         ensures literal { OnOk result (self.new.literal.items ≡ []) }
-        ensures refused { IsOkUnless result Error.OutOfMemory }
     {
         if !self.literal.is_empty() {
             let literal = mem::replace(&mut self.literal, Vec::new(alloc));
@@ -82,11 +82,10 @@ impl OpenPieces {
         Ok(())
     }
 
-    /// Adds a code point that stands for itself alone. `OutOfMemory` is the only error.
-    fn add_one(&mut self, alloc: Global, cp: CodePoint) -> Result<(), Error>
+    /// Adds a code point that stands for itself alone.
+    fn add_one(&mut self, alloc: Global, cp: CodePoint) -> Result<(), AllocError>
         requires { cp ≤ 0x10_FFFF }
-        ensures added { OnOk result ((ts : List Tree) → completed self.new ts ≡ completed self.old (before (cp ∷ []) ts)) }
-        ensures refused { IsOkUnless result Error.OutOfMemory }
+        ensures { OnOk result ((ts : List Tree) → completed self.new ts ≡ completed self.old (before (cp ∷ []) ts)) }
     {
         match char::from_u32(cp) {
             Some(letter) => {
@@ -102,11 +101,10 @@ impl OpenPieces {
         Ok(())
     }
 
-    /// Adds a code point, given as all that it stands for. `OutOfMemory` is the only error.
-    fn add(&mut self, alloc: Global, members: Vec<CodePoint>) -> Result<(), Error>
+    /// Adds a code point, given as all that it stands for.
+    fn add(&mut self, alloc: Global, members: Vec<CodePoint>) -> Result<(), AllocError>
         requires { All (λ c. c ≤ 0x10_FFFF) members.items }
-        ensures added { OnOk result ((ts : List Tree) → completed self.new ts ≡ completed self.old (before members.items ts)) }
-        ensures refused { IsOkUnless result Error.OutOfMemory }
+        ensures { OnOk result ((ts : List Tree) → completed self.new ts ≡ completed self.old (before members.items ts)) }
     {
         if members.len() == 1 {
             return self.add_one(alloc, members[0]);
@@ -121,10 +119,9 @@ impl OpenPieces {
     }
 }
 
-/// The code points as bytes; `None` where one is not ASCII. `OutOfMemory` is the only error.
-fn ascii_bytes(alloc: Global, cps: &[CodePoint]) -> Result<Option<Vec<u8>>, Error>
-    ensures bytes { IfOk result (λ o. MatchOption o (list_all (λ c. nat_lt c 0x80) cps.now ≡ false) (λ bs. (list_all (λ c. nat_lt c 0x80) cps.now ≡ true) × (bs.items ≡ cps.now))) }
-    ensures refused { IsOkUnless result Error.OutOfMemory }
+/// The code points as bytes; `None` where one is not ASCII.
+fn ascii_bytes(alloc: Global, cps: &[CodePoint]) -> Result<Option<Vec<u8>>, AllocError>
+    ensures { IfOk result (λ o. MatchOption o (list_all (λ c. nat_lt c 0x80) cps.now ≡ false) (λ bs. (list_all (λ c. nat_lt c 0x80) cps.now ≡ true) × (bs.items ≡ cps.now))) }
 {
     let mut bytes = Vec::new(alloc);
     for cp in cps {
@@ -144,6 +141,11 @@ ghost use Rattle.regress_front_nodes.specs.Pieces.{piece_tree, pieces_of};
 ///
 /// Asks that all are code points, as `are_code_points` tells. Where memory is refused the error is `OutOfMemory`, and there is
 /// no other.
+///
+/// ```rust
+/// let pieces = lower_code_point_sequence(alloc, &[0x61, 0x21], true, true, &tables)?;
+/// let nodes = Piece::into_nodes(alloc, pieces)?; // a `ByteSet` of `A` and `a`, then a `ByteSequence` of `!`
+/// ```
 pub fn lower_code_point_sequence(
     alloc: Global,
     cps: &[CodePoint],

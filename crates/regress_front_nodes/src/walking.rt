@@ -19,6 +19,15 @@ pub(crate) struct Mode {
 ///
 /// In preorder the nodes below a node for which `func` set `skip_children` are passed over. Whatever else it writes to the
 /// `Walk` is dropped. `unicode` is handed on to each visit.
+///
+/// ```rust
+/// let mut loops: u64 = 0;
+/// walk(false, unicode, &node, &mut |node: &Node, _walk: &mut Walk| {
+///     if matches!(node, Node::Loop { .. }) {
+///         loops = loops.saturating_add(1);
+///     }
+/// });
+/// ```
 pub fn walk<F>(postorder: bool, unicode: bool, node: &Node, func: &mut F)
 where
     F: FnMut(&Node, &mut Walk),

@@ -18,6 +18,14 @@ use crate::walking::Mode;
 ///
 /// In preorder it is what `func` leaves of a node that is walked on below it, so there `func` may leave no node deeper than
 /// it was; else the walk might not end.
+///
+/// ```rust
+/// walk_mut(true, unicode, &mut node, &mut |node: &mut Node, _walk: &mut Walk| {
+///     if node.match_always_fails() {
+///         *node = Node::make_always_fails(alloc);
+///     }
+/// });
+/// ```
 pub fn walk_mut<F>(postorder: bool, unicode: bool, node: &mut Node, func: &mut F)
 where
     F: FnMut(&mut Node, &mut Walk),

@@ -5,13 +5,11 @@ ghost use Rattle.regress_front_tree.specs.Lowering.{HasArms};
 ghost use Rattle.regress_front_tree.specs.Pairing.{in_pairs};
 
 use regress_front_nodes::{Node, NodeList};
-use regress_front_tables::Error;
-use std::alloc::Global;
+use std::alloc::{AllocError, Global};
 
-/// Neighbours as one node each, in order; the last of an odd number stays as it is. `OutOfMemory` is the only error.
-fn in_pairs(alloc: Global, arms: NodeList) -> Result<NodeList, Error>
-    ensures ok { IfOk result (λ pairs. map tree pairs.items ≡ in_pairs (map tree arms.items)) }
-    ensures err { IfErr result (λ e. e ≡ Error.OutOfMemory) }
+/// Neighbours as one node each, in order; the last of an odd number stays as it is.
+fn in_pairs(alloc: Global, arms: NodeList) -> Result<NodeList, AllocError>
+    ensures { IfOk result (λ pairs. map tree pairs.items ≡ in_pairs (map tree arms.items)) }
 {
     let mut pairs = Vec::new(alloc);
     let mut arms = arms.into_iter();
@@ -26,11 +24,10 @@ fn in_pairs(alloc: Global, arms: NodeList) -> Result<NodeList, Error>
 }
 
 /// A tree of alternatives, the earlier preferred ("Disjunction"). It is as low as can be, since neighbours are paired, and
-/// then the pairs, until one node is left. `OutOfMemory` is the only error.
-pub(crate) fn alternatives(alloc: Global, mut arms: NodeList) -> Result<Node, Error>
+/// then the pairs, until one node is left.
+pub(crate) fn alternatives(alloc: Global, mut arms: NodeList) -> Result<Node, AllocError>
     requires { 0 < length arms.items }
-    ensures ok { IfOk result (λ node. HasArms (map tree arms.items) (tree node)) }
-    ensures err { IfErr result (λ e. e ≡ Error.OutOfMemory) }
+    ensures { IfOk result (λ node. HasArms (map tree arms.items) (tree node)) }
 {
     'rounds: while arms.len() > 1 {
         arms = in_pairs(alloc, arms)?;

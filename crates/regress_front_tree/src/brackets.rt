@@ -18,8 +18,8 @@ ghost use Rattle.regress_front_tree.specs.ClassValues.{lists};
 use crate::arms::alternatives;
 use crate::class_value::class_value;
 use regress_front_nodes::{BracketContents, Node, NodeList};
-use regress_front_tables::{CodePoint, CodePointSet, Error, Tables, closure, expand_code_point};
 use regress_front_syntax::Class;
+use regress_front_tables::{CodePoint, CodePointSet, Error, Tables, closure, expand_code_point};
 use std::alloc::{AllocError, Global};
 use std::boxed::BoxedSlice;
 
@@ -101,10 +101,8 @@ pub(crate) fn class_node(
     let characters = Node::Bracket(BracketContents { invert: false, cps });
     let has_empty = has_empty(&value.strings);
     let strings = by_length(alloc, value.strings)?;
-    alternatives(
-        alloc,
-        class_arms(alloc, icase, strings, characters, has_empty)?,
-    )
+    let arms = class_arms(alloc, icase, strings, characters, has_empty)?;
+    Ok(alternatives(alloc, arms)?)
 }
 
 /// Whether the empty string is one of these.
@@ -114,22 +112,21 @@ fn has_empty(strings: &[Vec<CodePoint>]) -> bool
     strings.iter().any(|string| string.is_empty())
 }
 
-/// The strings but the empty one, the longest first. `OutOfMemory` is the only error.
+/// The strings but the empty one, the longest first.
 fn by_length(
     alloc: Global,
     strings: Vec<Vec<CodePoint>>,
-) -> Result<Vec<BoxedSlice<CodePoint>>, Error>
+) -> Result<Vec<BoxedSlice<CodePoint>>, AllocError>
     requires { All (All is_code_point) (lists strings.items) }
-    ensures ok { IfOk result (λ sorted. AreByLength (map boxed_slice_items sorted.items) (lists strings.items)) }
-    ensures err { IfErr result (λ e. e ≡ Error.OutOfMemory) }
+    ensures { IfOk result (λ sorted. AreByLength (map boxed_slice_items sorted.items) (lists strings.items)) }
 {
     let mut longer = strings;
     longer.retain(|string| !string.is_empty());
     longer.sort_by(|a, b| b.len().cmp(&a.len()))?;
-    Ok(boxed(alloc, longer)?)
+    boxed(alloc, longer)
 }
 
-/// The same strings, in slices of their own. `OutOfMemory` is the only error.
+/// The same strings, in slices of their own.
 fn boxed(
     alloc: Global,
     strings: Vec<Vec<CodePoint>>,
@@ -143,16 +140,15 @@ fn boxed(
 }
 
 /// The arms of a class: its longer strings, if there are any, its single characters, and the empty string, if it is one of
-/// its strings. `OutOfMemory` is the only error.
+/// its strings.
 fn class_arms(
     alloc: Global,
     icase: bool,
     strings: Vec<BoxedSlice<CodePoint>>,
     characters: Node,
     has_empty: bool,
-) -> Result<NodeList, Error>
-    ensures ok { IfOk result (λ arms. map tree arms.items ≡ class_arms icase (map boxed_slice_items strings.items) (tree characters) has_empty) }
-    ensures err { IfErr result (λ e. e ≡ Error.OutOfMemory) }
+) -> Result<NodeList, AllocError>
+    ensures { IfOk result (λ arms. map tree arms.items ≡ class_arms icase (map boxed_slice_items strings.items) (tree characters) has_empty) }
 {
     let mut arms = Vec::new(alloc);
     if !strings.is_empty() {

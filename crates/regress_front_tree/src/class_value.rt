@@ -10,12 +10,12 @@ ghost use Rattle.regress_front_tables.specs.TableViews.{table};
 ghost use Rattle.regress_front_tokens.specs.Trees.{class_view, union_of};
 
 use crate::text::text_of;
+use regress_front_syntax::Class;
 use regress_front_tables::{
     CodePoint, CodePointSet, Error, Interval, Tables, add_icase_code_points, digits, whitespace,
     word_chars,
 };
-use regress_front_syntax::Class;
-use std::alloc::Global;
+use std::alloc::{AllocError, Global};
 
 /// The strings that a class stands for, before case is ignored ("CharSet").
 #[derive(Debug, Drop)]
@@ -123,11 +123,10 @@ fn without(set: &CodePointSet, other: CodePointSet) -> Result<CodePointSet, Erro
     outside.inverted()
 }
 
-/// The set of the code points of intervals. `OutOfMemory` is the only error.
-fn set_of(alloc: Global, intervals: &[Interval]) -> Result<CodePointSet, Error>
+/// The set of the code points of intervals.
+fn set_of(alloc: Global, intervals: &[Interval]) -> Result<CodePointSet, AllocError>
     requires { IntervalsRise (ends_of intervals.now) }
-    ensures ok { IfOk result (λ s. in_set s ≡ in_intervals (ends_of intervals.now)) }
-    ensures err { IfErr result (λ e. e ≡ Error.OutOfMemory) }
+    ensures { IfOk result (λ s. in_set s ≡ in_intervals (ends_of intervals.now)) }
 {
     let intervals = Vec::from_slice(alloc, intervals)?;
     Ok(CodePointSet::from_sorted_disjoint_intervals(intervals))
@@ -155,7 +154,7 @@ fn property_set(alloc: Global, tables: &Tables, key: &[CodePoint]) -> Result<Cod
 {
     if let Some(text) = text_of(alloc, key)? {
         if let Some(set) = tables.property(text.as_str()) {
-            return set_of(alloc, set.intervals());
+            return Ok(set_of(alloc, set.intervals())?);
         }
     }
     Ok(CodePointSet::new(alloc))

@@ -14,10 +14,10 @@ ghost use Rattle.regress_front_tree.specs.Scopes.{settings_of, name_told, IsLowe
 
 use crate::arms::alternatives;
 use crate::brackets::{character_node, class_node, negated_class_node};
-use regress_front_nodes::{AnchorType, Node, NodeList};
 use crate::text::text_of;
-use regress_front_tables::{CaptureGroupID, CaptureGroupName, CodePoint, Error, Tables};
+use regress_front_nodes::{AnchorType, Node, NodeList};
 use regress_front_syntax::{Class, Modifiers, Quantifier, Syntax};
+use regress_front_tables::{CaptureGroupID, CaptureGroupName, CodePoint, Error, Tables};
 use std::alloc::Global;
 use std::ops::Range;
 
@@ -179,7 +179,7 @@ impl<'t> Lowering<'t> {
         if arms.is_empty() {
             return Ok(Node::Empty);
         }
-        alternatives(self.alloc, self.each(arms, scope)?)
+        Ok(alternatives(self.alloc, self.each(arms, scope)?)?)
     }
 
     /// The node of a capturing group, which counts as opened before its contents. `OutOfMemory` is the only error.

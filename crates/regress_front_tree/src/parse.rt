@@ -10,12 +10,12 @@ ghost use Rattle.regress_front_tree.specs.Scopes.{settings_of};
 ghost use Rattle.regress_front_tree.specs.Parsed.{IsTreeOf};
 
 use crate::alike::lowered_trees_are_alike;
-use regress_front_nodes::ir::Regex;
 use crate::lawful::whole_trees_are_well_formed;
 use crate::lowering::{Lowering, Scope};
 use regress_front_nodes::Node;
-use regress_front_tables::{CodePoint, Error, Flags, Tables};
+use regress_front_nodes::ir::Regex;
 use regress_front_syntax::parse;
+use regress_front_tables::{CodePoint, Error, Flags, Tables};
 use std::alloc::Global;
 
 /// What holds where no modifier has changed it and no lookbehind stands around ("RegExp Records").

@@ -37,14 +37,14 @@ returns-clause-ok c = λ e is.
     let strings = map boxed_slice_items c.in_ok-strings.strings.items in
     let characters = bracket false (ends_of cps.intervals.items) in
     let has_empty = c.has_empty-has_empty.ensures ∙ ap (λ ss. among (lists ss) []) c.deref.ensures.value ∙ ap (λ (ss : List (List ℕ)). among ss []) others in
-    let arms : map tree c.in_ok-class_arms.field-0.items ≡ class_arms e.icase strings characters (among (class_value tables c.args.unicode e (class_view c.args.class.now)).others []) =
-    c.in_ok-class_arms.ensures.ok
+    let arms : map tree c.in_ok-arms.arms.items ≡ class_arms e.icase strings characters (among (class_value tables c.args.unicode e (class_view c.args.class.now)).others []) =
+    c.in_ok-arms.ensures
     ∙ ap (λ (t : Tree). class_arms c.args.icase strings t c.has_empty-has_empty.result) (tree-Bracket (record { invert = false; cps = cps }))
     ∙ (λ i. class_arms (sym is i) strings characters (has_empty i)) in
-    IfOk-weaker c.alternatives.result _ _ (λ node has_arms. record {
+    record {
       strings = strings;
       characters = characters;
-      by_length = subst (AreByLength strings) others c.in_ok-strings.ensures.ok;
+      by_length = subst (AreByLength strings) others c.in_ok-strings.ensures;
       takes = takes-bracket false cps _ members;
-      arms = subst (λ (ts : List Tree). HasArms ts (tree node)) arms has_arms;
-    }) c.alternatives.ensures.ok
+      arms = subst (λ (ts : List Tree). HasArms ts (tree c.in_ok-alternatives.field-0)) arms c.in_ok-alternatives.ensures;
+    }

@@ -55,13 +55,13 @@ class_value-returns-clause-ok t c =
     elim c.match-class.branch [
       | class_value-in-Range+in_ok-singles-in-Range w ↦
           ap (λ (s : _). only (in_set s)) w.singles-is
-          ∙ rw (w.in-Range.is, class_view-Range) (ap only (w.in_ok-singles-in-Range.ensures.ok ∙ in_intervals-one w.in-Range.first w.in-Range.last))
+          ∙ rw (w.in-Range.is, class_view-Range) (ap only (w.in_ok-singles-in-Range.ensures ∙ in_intervals-one w.in-Range.first w.in-Range.last))
       | class_value-in-Digits+in_ok-singles-in-Digits w ↦
           ap (λ (s : _). only (in_set s)) w.singles-is
-          ∙ rw (w.in-Digits.is, class_view-Digits) (ap only (w.in_ok-singles-in-Digits.ensures.ok ∙ fun_ext w.digits.ensures.members))
+          ∙ rw (w.in-Digits.is, class_view-Digits) (ap only (w.in_ok-singles-in-Digits.ensures ∙ fun_ext w.digits.ensures.members))
       | class_value-in-Spaces+in_ok-singles-in-Spaces w ↦
           ap (λ (s : _). only (in_set s)) w.singles-is
-          ∙ rw (w.in-Spaces.is, class_view-Spaces) (ap only (w.in_ok-singles-in-Spaces.ensures.ok ∙ fun_ext w.whitespace.ensures.members))
+          ∙ rw (w.in-Spaces.is, class_view-Spaces) (ap only (w.in_ok-singles-in-Spaces.ensures ∙ fun_ext w.whitespace.ensures.members))
       | class_value-in-Words+in_ok-singles-in-Words w ↦
           ap (λ (s : _). only (in_set s)) w.singles-is
           ∙ rw (w.in-Words.is, class_view-Words) (ap only w.in_ok-singles-in-Words.ensures.ok)

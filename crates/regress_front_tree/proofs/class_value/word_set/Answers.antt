@@ -11,7 +11,7 @@ use Rattle.regress_front_tree.proofs.class_value.word_set.Goals as goal
 pub returns-then-folded-clause-ok : goal.returns-then-folded-clause-ok
 returns-then-folded-clause-ok c =
     let tables = c.args.tables.now in
-    let words : in_set c.in_ok-words.words ≡ is_ascii_word = c.in_ok-words.ensures.ok ∙ fun_ext c.word_chars.ensures.members in
+    let words : in_set c.in_ok-words.words ≡ is_ascii_word = c.in_ok-words.ensures ∙ fun_ext c.word_chars.ensures.members in
     IfOk-weaker c.add_icase_code_points.result _ _ (λ s members. fun_ext (λ (d : ℕ).
     members d ∙ ap (λ (test : ℕ → Bool). closure (table tables).fold test d) words ∙ folded-words tables d (c.fold_is_idempotent.ensures.fold tables)
     ∙ ap (λ (folded : Bool). is_word (table tables) folded d) (sym c.if-folded.true)))
@@ -20,5 +20,5 @@ returns-then-folded-clause-ok c =
 pub returns-else-folded-clause-ok : goal.returns-else-folded-clause-ok
 returns-else-folded-clause-ok c =
     let tables = c.args.tables.now in
-    c.in_ok-words.ensures.ok ∙ fun_ext (λ (d : ℕ).
+    c.in_ok-words.ensures ∙ fun_ext (λ (d : ℕ).
     c.word_chars.ensures.members d ∙ plain-words tables d ∙ ap (λ (folded : Bool). is_word (table tables) folded d) (sym c.if-folded.false))

@@ -14,19 +14,19 @@ unreachable-requires c =
     i.not-MatchAnyExceptLineTerminator i.not-Anchor i.not-WordBoundary i.not-BackRef i.not-Bracket i.not-StringSet in
     false≢true (sym none ∙ c.requires)
 
-pub returns-in_ok-clone-in-ByteSequence-clause-copied : goal.returns-in_ok-clone-in-ByteSequence-clause-copied
-returns-in_ok-clone-in-ByteSequence-clause-copied c =
+pub returns-in_ok-clone-in-ByteSequence : goal.returns-in_ok-clone-in-ByteSequence
+returns-in_ok-clone-in-ByteSequence c =
     rw (c.in-ByteSequence.is, tree-ByteSequence, tree-ByteSequence) (ap bytes (each_same _ _ c.in_ok-clone-in-ByteSequence.ensures.cases.0))
 
-pub returns-in_ok-clone-in-ByteSet-clause-copied : goal.returns-in_ok-clone-in-ByteSet-clause-copied
-returns-in_ok-clone-in-ByteSet-clause-copied c =
+pub returns-in_ok-clone-in-ByteSet : goal.returns-in_ok-clone-in-ByteSet
+returns-in_ok-clone-in-ByteSet c =
     rw (c.in-ByteSet.is, tree-ByteSet, tree-ByteSet) (ap byte_set (each_same _ _ c.in_ok-clone-in-ByteSet.ensures.cases.0))
 
-pub returns-in_ok-clone-in-CharSet-clause-copied : goal.returns-in_ok-clone-in-CharSet-clause-copied
-returns-in_ok-clone-in-CharSet-clause-copied c =
+pub returns-in_ok-clone-in-CharSet : goal.returns-in_ok-clone-in-CharSet
+returns-in_ok-clone-in-CharSet c =
     rw (c.in-CharSet.is, tree-CharSet, tree-CharSet) (ap char_set (each_same _ _ c.in_ok-clone-in-CharSet.ensures.cases.0))
 
-pub returns-in_ok-clone-in-StringSet-clause-copied : goal.returns-in_ok-clone-in-StringSet-clause-copied
-returns-in_ok-clone-in-StringSet-clause-copied c =
+pub returns-in_ok-clone-in-StringSet : goal.returns-in_ok-clone-in-StringSet
+returns-in_ok-clone-in-StringSet c =
     rw (c.in-StringSet.is, tree-StringSet, tree-StringSet)
     (ap (λ strings. string_set strings c.in-StringSet.icase) (map-AllZip _ _ (λ x y h. each_same _ _ h.0) _ _ c.in_ok-clone-in-StringSet.ensures.cases.0))

@@ -103,7 +103,7 @@ disjunction-alternatives-requires t c =
     omega (arith, eqb-false (length c.args.arms.now) 0 (sym c.if-is_empty.ensures), nodes-length c.args.self.now c.each.new.self c.args.scope c.args.arms.now c.in_ok-each.field-0.items c.in_ok-each.ensures.ok)
 
 pub disjunction-returns-clause-ok : goal.disjunction-returns-clause-ok
-disjunction-returns-clause-ok t c = IfOk-weaker c.alternatives.result _ _ (λ node h. of_arms c.in_ok-each.ensures.ok h) c.alternatives.ensures.ok
+disjunction-returns-clause-ok t c = of_arms c.in_ok-each.ensures.ok c.in_ok-alternatives.ensures
 
 pub capture-lower-requires : goal.capture-lower-requires
 capture-lower-requires t c = (search (rules, the_lemmas), contents-IsLowerable c.args.id c.args.name.now (parsed.tree c.args.contents.now) c.requires)
