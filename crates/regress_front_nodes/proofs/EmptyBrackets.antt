@@ -9,7 +9,7 @@ use Rattle.regress_front_sets.specs.Intervals.{gap, gaps_from, inverse}
 use Rattle.regress_front_nodes.specs.TreeMeaning.{bracket_has}
 use Rattle.regress_front_nodes.specs.Singles.{bracket_is_empty}
 use Rattle.regress_meaning.proofs.TableLemmas.{some_below-from}
-use Rattle.regress_front_sets.proofs.IntervalLemmas.{between-within, between-outside}
+use Rattle.regress_front_sets.proofs.IntervalLemmas.{between-within, between-outside, IntervalsRise-first, IntervalsRise-rest}
 
 some_below-none : (n : ℕ) (test : ℕ → Bool) → ((d : ℕ) → d < n → test d ≡ false) → some_below n test ≡ false
 unfolding some_below
@@ -28,21 +28,9 @@ abbrev pub BeginsFrom : ℕ → List (ℕ × ℕ) → Type 0
 BeginsFrom a [] = Unit {0}
 BeginsFrom a (i ∷ xs) = a ≤ i.0
 
-rise-tail : (i : ℕ × ℕ) (xs : List (ℕ × ℕ)) → IntervalsRise (i ∷ xs) → IntervalsRise xs
-rise-tail i [] h = tt
-rise-tail i (j ∷ xs) h = h.2
-
 rise-next : (i : ℕ × ℕ) (xs : List (ℕ × ℕ)) → IntervalsRise (i ∷ xs) → BeginsFrom (i.1 + 1) xs
 rise-next i [] h = tt
 rise-next i (j ∷ xs) h = omega (arith, h.1)
-
-rise-order : (i : ℕ × ℕ) (xs : List (ℕ × ℕ)) → IntervalsRise (i ∷ xs) → i.0 ≤ i.1
-rise-order i [] h = h.0
-rise-order i (j ∷ xs) h = h.0
-
-rise-last : (i : ℕ × ℕ) (xs : List (ℕ × ℕ)) → IntervalsRise (i ∷ xs) → i.1 ≤ last_code_point
-rise-last i [] h = h.1
-rise-last i (j ∷ xs) h = omega (arith, h.1, rise-order j xs h.2, rise-last j xs h.2)
 
 -- below the first interval is no member
 misses-below : (xs : List (ℕ × ℕ)) (a c : ℕ) → IntervalsRise xs → BeginsFrom a xs → c < a → in_intervals xs c ≡ false
@@ -50,7 +38,7 @@ unfolding in_intervals
 misses-below [] a c rise from l = refl
 misses-below (i ∷ xs) a c rise from l =
     rw (between-outside i.0 i.1 c (inl (omega (arith, from))))
-    (misses-below xs (i.1 + 1) c (rise-tail i xs rise) (rise-next i xs rise) (omega (arith, from, rise-order i xs rise)))
+    (misses-below xs (i.1 + 1) c (IntervalsRise-rest i xs rise) (rise-next i xs rise) (omega (arith, from, (IntervalsRise-first i xs rise).0)))
 
 -- no gap: each number from a on is a member
 covers : (xs : List (ℕ × ℕ)) (a c : ℕ) → length (gaps_from a xs) ≡ 0 → a ≤ c → c < code_points → in_intervals xs c ≡ true
@@ -80,11 +68,11 @@ misses [] a rise from some =
     ]
 misses (i ∷ xs) a rise from some =
     elim (cases_lt a i.0) [
-      | inl l ↦ (a, omega arith, omega (arith, rise-order i xs rise, rise-last i xs rise, l), misses-below (i ∷ xs) (a + 1) a rise (omega (arith, l)) (omega arith))
+      | inl l ↦ (a, omega arith, omega (arith, (IntervalsRise-first i xs rise).0, (IntervalsRise-first i xs rise).1, l), misses-below (i ∷ xs) (a + 1) a rise (omega (arith, l)) (omega arith))
       | inr m ↦
           let e : length (gap a i.0) ≡ 0 = rw (le-ltb a i.0 m) refl in
-          let r = misses xs (i.1 + 1) (rise-tail i xs rise) (rise-next i xs rise) (omega (arith, some, e, length-append (gap a i.0) (gaps_from (i.1 + 1) xs))) in
-          (r.0, omega (arith, r.1, m, from, rise-order i xs rise), r.2, rw (between-outside i.0 i.1 r.0 (inr (omega (arith, r.1)))) r.3)
+          let r = misses xs (i.1 + 1) (IntervalsRise-rest i xs rise) (rise-next i xs rise) (omega (arith, some, e, length-append (gap a i.0) (gaps_from (i.1 + 1) xs))) in
+          (r.0, omega (arith, r.1, m, from, (IntervalsRise-first i xs rise).0), r.2, rw (between-outside i.0 i.1 r.0 (inr (omega (arith, r.1)))) r.3)
     ]
 
 -- an inverted bracket is empty where nothing is left out
@@ -107,8 +95,8 @@ pub plain_is_empty : (xs : List (ℕ × ℕ)) → IntervalsRise xs → (length x
 unfolding in_intervals
 plain_is_empty [] rise = rw (some_below-none code_points (bracket_has false []) (λ d l. refl)) refl
 plain_is_empty (i ∷ xs) rise =
-    rw (some_below-from code_points i.0 (bracket_has false (i ∷ xs)) (omega (arith, rise-order i xs rise, rise-last i xs rise))
-    (or_left _ _ (between-within i.0 i.1 i.0 (omega arith) (rise-order i xs rise)))) (none (length xs))
+    rw (some_below-from code_points i.0 (bracket_has false (i ∷ xs)) (omega (arith, (IntervalsRise-first i xs rise).0, (IntervalsRise-first i xs rise).1))
+    (or_left _ _ (between-within i.0 i.1 i.0 (omega arith) ((IntervalsRise-first i xs rise).0)))) (none (length xs))
   where
     none : (n : ℕ) → (suc n == 0) ≡ false
     none n = grind (arith, nat_tests)

@@ -16,6 +16,7 @@ use Rattle.regress_front_nodes.specs.Trees.{Tree, char, bytes, byte_set, char_se
 use Rattle.regress_front_nodes.specs.WellFormed.{AreLawful}
 use Rattle.regress_front_nodes.specs.declared.piece.Piece.{Piece}
 use Rattle.regress_front_nodes.specs.Pieces.{passing_below, expansion, bytes_before, before, piece_tree, pieces_of}
+use Rattle.regress_meaning.proofs.TableLemmas.{same_bool}
 
 -- each number is below all behind it
 abbrev Rises : List ℕ → Type 0
@@ -26,13 +27,6 @@ Rises-from_pairs : (cs : List ℕ) → AllPairs (λ x y. x < y) cs → Rises cs
 Rises-from_pairs [] h = tt
 Rises-from_pairs (c ∷ cs) h =
     (λ k d l. h zero (suc k) d (omega arith) (omega arith), Rises-from_pairs cs (λ i j d a b. h (suc i) (suc j) d (omega arith) (omega arith)))
-
--- two tests that pass alike are equal
-alike : (a b : Bool) → (a ≡ true → b ≡ true) → (b ≡ true → a ≡ true) → a ≡ b
-alike true true f g = refl
-alike true false f g = sym (f refl)
-alike false true f g = g refl
-alike false false f g = refl
 
 -- what a list whose members lie above d holds lies above it
 held-above : (cs : List ℕ) (c d : ℕ) → All (λ e. d < e) cs → holds cs c ≡ true → d < c
@@ -70,7 +64,7 @@ rising-same (c ∷ cs) (d ∷ ds) h k e =
         omega arith
 
     rest : (x : ℕ) → holds cs x ≡ holds ds x
-    rest x = alike (holds cs x) (holds ds x) there back
+    rest x = same_bool (holds cs x) (holds ds x) there back
       where
         there : holds cs x ≡ true → holds ds x ≡ true
         there p =

@@ -25,10 +25,7 @@ use Rattle.regress_front_nodes.specs.Characters.{Takes}
 use Rattle.regress_front_tree.specs.Lowering.{AreByLength, LengthsFall}
 use Rattle.regress_front_tree.specs.ClassValues.{lists}
 use Rattle.regress_front_tree.proofs.ClassLemmas.{among-lists, filter-lists}
-
-or-false : (b : Bool) → (b || false) ≡ b
-or-false true = refl
-or-false false = refl
+use Rattle.std.proofs.Math.Bool.{or-false}
 
 -- ---- strings of a class
 

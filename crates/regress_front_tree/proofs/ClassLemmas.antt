@@ -23,23 +23,11 @@ use Rattle.regress_front_sets.specs.declared.code_point_set.CodePointSet.{CodePo
 use Rattle.regress_front_sets.specs.Intervals.{ends_of}
 use Rattle.regress_front_sets.specs.Sets.{in_set}
 use Rattle.regress_front_tree.specs.ClassValues.{lists}
+use Rattle.std.proofs.Math.Bool.{or-false}
+use Rattle.regress_meaning.proofs.TableLemmas.{same_bool, some_below-from, some_below-true}
+use Rattle.regress_front_sets.proofs.IntervalLemmas.{between-true, IntervalsRise-first, IntervalsRise-rest}
 
 -- ---- sets
-
-between-true : (a b c : ℕ) → between a b c ≡ true → (a ≤ c) × (c ≤ b)
-between-true a b c h = grind (arith, nat_tests)
-
-rise-ordered : (i : ℕ × ℕ) (xs : List (ℕ × ℕ)) → IntervalsRise (i ∷ xs) → i.0 ≤ i.1
-rise-ordered i [] h = h.0
-rise-ordered i (j ∷ xs) h = h.0
-
-rise-first : (i : ℕ × ℕ) (xs : List (ℕ × ℕ)) → IntervalsRise (i ∷ xs) → i.1 ≤ last_code_point
-rise-first i [] h = h.1
-rise-first i (j ∷ xs) h = omega (arith, h.1, rise-first j xs h.2, rise-ordered j xs h.2)
-
-rise-rest : (i : ℕ × ℕ) (xs : List (ℕ × ℕ)) → IntervalsRise (i ∷ xs) → IntervalsRise xs
-rise-rest i [] h = tt
-rise-rest i (j ∷ xs) h = h.2
 
 -- what lies in intervals that rise is a code point
 pub in_intervals-bounded : (xs : List (ℕ × ℕ)) (c : ℕ) → IntervalsRise xs → in_intervals xs c ≡ true → c ≤ last_code_point
@@ -47,8 +35,8 @@ unfolding in_intervals
 in_intervals-bounded [] c h e = absurd (false≢true e)
 in_intervals-bounded (i ∷ xs) c h e =
     elim (or_cases _ _ e) [
-      | inl here ↦ let bounds : (i.0 ≤ c) × (c ≤ i.1) = between-true i.0 i.1 c here in omega (arith, bounds.1, rise-first i xs h)
-      | inr later ↦ in_intervals-bounded xs c (rise-rest i xs h) later
+      | inl here ↦ let bounds : (i.0 ≤ c) × (c ≤ i.1) = between-true i.0 i.1 c here in omega (arith, bounds.1, (IntervalsRise-first i xs h).1)
+      | inr later ↦ in_intervals-bounded xs c (IntervalsRise-rest i xs h) later
     ]
 
 -- what is no member of the complement of one set, and of another
@@ -78,10 +66,6 @@ same_text-long c (x ∷ y ∷ s) h = and_right _ _ refl
 and-true : (b : Bool) → (b && true) ≡ b
 and-true true = refl
 and-true false = refl
-
-or-false : (b : Bool) → (b || false) ≡ b
-or-false true = refl
-or-false false = refl
 
 -- one more string of one code point
 pub of_list-single : (ss : List (List ℕ)) (s : List ℕ) (test : ℕ → Bool) (d : ℕ) → length s ≡ 1 → ((c : ℕ) → test c ≡ ((of_list ss).singles c || (c == get_or s 0 d)))
@@ -165,29 +149,6 @@ entry-all {A} P (f ∷ es) key x h e =
     ]
 
 -- ---- word characters
-
-same_bool : (a b : Bool) → (a ≡ true → b ≡ true) → (b ≡ true → a ≡ true) → a ≡ b
-same_bool true b h k = sym (h refl)
-same_bool false true h k = k refl
-same_bool false false h k = refl
-
-some_below-from : (n d : ℕ) (test : ℕ → Bool) → d < n → test d ≡ true → some_below n test ≡ true
-unfolding some_below
-some_below-from zero d test l e = absurd (omega arith)
-some_below-from (suc n) d test l e =
-    elim (cases_eq d n) [
-      | inl p ↦ or_left _ _ (ap test (sym p) ∙ e)
-      | inr ne ↦ or_right _ _ (some_below-from n d test (omega arith) e)
-    ]
-
-some_below-true : (n : ℕ) (test : ℕ → Bool) → some_below n test ≡ true → (d : ℕ) × (d < n) × (test d ≡ true)
-unfolding some_below
-some_below-true zero test e = absurd (false≢true e)
-some_below-true (suc n) test e =
-    elim (or_cases _ _ e) [
-      | inl h ↦ (n, omega arith, h)
-      | inr h ↦ let r = some_below-true n test h in (r.0, omega (arith, r.1), r.2)
-    ]
 
 word-below : (d : ℕ) → is_ascii_word d ≡ true → d < 0x80
 word-below d h = grind (arith, nat_tests)

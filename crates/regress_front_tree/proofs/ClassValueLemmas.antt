@@ -16,14 +16,7 @@ use Rattle.std.proofs.lemmas.List.Elements.{All-nil, All-cons, All-head, All-tai
 use Rattle.regress_front_tree.specs.ClassValues.{strings_of, united, all_united}
 use Rattle.regress_front_tree.specs.declared.class_value.ClassValue.{ClassValue}
 use Rattle.regress_front_tree.proofs.ClassLemmas.{entry-all}
-
-or-false : (b : Bool) → (b || false) ≡ b
-or-false true = refl
-or-false false = refl
-
-or_assoc : (x y z : Bool) → ((x || y) || z) ≡ (x || (y || z))
-or_assoc true y z = refl
-or_assoc false y z = refl
+use Rattle.std.proofs.Math.Bool.{or-false, or_assoc}
 
 pub united-none : (v : Strings) → united v (record { singles = λ c. false; others = [] }) ≡ v
 united-none v =

@@ -20,6 +20,7 @@ use Rattle.regress_front_tree.specs.Lowering.{HasArms, one_arm, two_halves, clas
 use Rattle.regress_front_tree.proofs.SameLemmas.{same-push, same-made, same-arms}
 use Rattle.regress_front_tree.proofs.GroupLemmas.{Fits, same-fits, Leaf, leaf, cat-fits, back-fits, takes-leaf, no_part-leaf, class-leaves, All-turned, back-leaves, capture-fits}
 use Rattle.regress_front_tree.proofs.NumberLemmas.{numbered-from, IsNumberedFrom, sequence-numbered, capture-numbered, choice-names, choice-numbers, choice-quantifiers, choice-numbered}
+use Rattle.regress_front_nodes.proofs.NodeLemmas.{same_text-same}
 
 -- how many nodes there are
 
@@ -71,14 +72,10 @@ takes-size _ e = absurd (cc)
 
 -- where no string is longer or shorter than one, a class is its characters
 
-text-self : (cs : List ℕ) → same_text cs cs ≡ true
-text-self [] = refl
-text-self (c ∷ cs) = let e : nat_eq c c ≡ true = grind (arith, nat_tests) in rw (e, text-self cs) refl
-
 no-strings : (strings : List (List ℕ)) → ((s : List ℕ) → among strings s ≡ (not (length s == 0) && among [] s)) → strings ≡ []
 no-strings [] members = refl
 no-strings (s ∷ ss) members =
-    let found : among (s ∷ ss) s ≡ true = rw (text-self s) refl in
+    let found : among (s ∷ ss) s ≡ true = rw (same_text-same s) refl in
     let missing : (not (length s == 0) && false) ≡ true = sym (members s) ∙ found in
     absurd (neither (not (length s == 0)) missing)
   where

@@ -16,6 +16,8 @@ use Rattle.regress_front_nodes.specs.Alike.{distinct, AreAlike}
 use Rattle.regress_front_tree.specs.Lowering.{LengthsFall, AreByLength}
 use Rattle.regress_front_nodes.proofs.DistinctLemmas.{joined-alike, same_state-self, repeat-left_out}
 use Rattle.regress_front_nodes.proofs.StepLemmas.{beside-length, sized-agree}
+use Rattle.regress_meaning.proofs.TableLemmas.{same_bool}
+use Rattle.regress_front_nodes.proofs.NodeLemmas.{same_text-same}
 
 -- lists that agree one by one are of one length
 pointwise-length : (f : ℕ → ℕ → Bool) (cs ds : List ℕ) → pointwise f cs ds ≡ true → length cs ≡ length ds
@@ -41,11 +43,7 @@ pointwise-turned f g turned [] (d ∷ ds) = refl
 pointwise-turned f g turned (c ∷ cs) [] = refl
 pointwise-turned f g turned (c ∷ cs) (d ∷ ds) = rw (turned c d, pointwise-turned f g turned cs ds) refl
 
--- a text is itself, and no other
-same_text-self : (cs : List ℕ) → same_text cs cs ≡ true
-same_text-self [] = refl
-same_text-self (c ∷ cs) = let e : nat_eq c c ≡ true = grind (arith, nat_tests) in rw (e, same_text-self cs) refl
-
+-- a text is no other
 same_text-is : (cs ds : List ℕ) → same_text cs ds ≡ true → cs ≡ ds
 same_text-is [] [] e = refl
 same_text-is [] (d ∷ ds) e = absurd (cc)
@@ -78,15 +76,8 @@ any-among p (r ∷ ss) h = by_first (p r) refl h (any-among p ss)
     behind s e false = e
 
     by_first : (b : Bool) → p r ≡ b → (b || list_any p ss) ≡ true → (list_any p ss ≡ true → (s : List ℕ) × (among ss s ≡ true) × (p s ≡ true)) → (s : List ℕ) × (among (r ∷ ss) s ≡ true) × (p s ≡ true)
-    by_first true e h rest = (r, rw (same_text-self r) refl, e)
+    by_first true e h rest = (r, rw (same_text-same r) refl, e)
     by_first false e h rest = let (s, found, passes) = rest h in (s, behind s found (same_text s r), passes)
-
--- two tests are equal where each passes what the other does
-both_ways : (a b : Bool) → (a ≡ true → b ≡ true) → (b ≡ true → a ≡ true) → a ≡ b
-both_ways true true f g = refl
-both_ways true false f g = sym (f refl)
-both_ways false true f g = g refl
-both_ways false false f g = refl
 
 -- no string is longer than the longest
 among-longest : (ss : List (List ℕ)) (s : List ℕ) → among ss s ≡ true → length s ≤ longest ss
@@ -100,7 +91,7 @@ among-longest (r ∷ ss) s h = by_first (same_text s r) refl h (among-longest ss
 -- what holds of each string of a list holds of all
 All-among : (P : List ℕ → Type 0) (ss : List (List ℕ)) → ((r : List ℕ) → among ss r ≡ true → P r) → All P ss
 All-among P [] h = All-nil P
-All-among P (r ∷ ss) h = All-cons P r ss (h r (rw (same_text-self r) refl)) (All-among P ss (λ t found. h t (behind t (same_text t r) found)))
+All-among P (r ∷ ss) h = All-cons P r ss (h r (rw (same_text-same r) refl)) (All-among P ss (λ t found. h t (behind t (same_text t r) found)))
   where
     behind : (t : List ℕ) (b : Bool) → among ss t ≡ true → (b || among ss t) ≡ true
     behind t true e = refl
@@ -255,7 +246,7 @@ module _ (w : Context) (valid : All is_code_point w.text) (dir : Direction) (s :
   -- some string of the node passes where some string of the class does, but for the empty one
   any-agree : (e : Settings) (strings others : List (List ℕ)) → ((r : List ℕ) → among strings r ≡ (not (length r == 0) && among others r)) → (cs : List ℕ) → 1 ≤ length cs
       → list_any (λ r. like e r cs) strings ≡ list_any (same_all w.table w.unicode e.icase cs) others
-  any-agree e strings others members cs long = both_ways (list_any (λ r. like e r cs) strings) (list_any (same_all w.table w.unicode e.icase cs) others) there back
+  any-agree e strings others members cs long = same_bool (list_any (λ r. like e r cs) strings) (list_any (same_all w.table w.unicode e.icase cs) others) there back
     where
       second : (a b : Bool) → (a && b) ≡ true → b ≡ true
       second true b h = h
