@@ -34,8 +34,13 @@ fn first_scope(flags: Flags) -> Scope
 /// Reads a pattern, given as code points, under flags: the tree that it is rewritten and emitted from ("ParsePattern",
 /// "RegExpInitialize").
 ///
-/// Asks that all are code points, as `are_code_points` tells. Refused as `Syntax` where the text spells no pattern, under the
-/// name of a limit that it passes, and as `OutOfMemory`.
+/// Asks that all are code points, as `are_code_points` tells. It errs with `Syntax` where the text spells no pattern, with the
+/// name of a limit that the pattern passes, and with `OutOfMemory`.
+///
+/// ```rust
+/// let regex = try_parse(alloc, &[0x61, 0x2A], Flags::from("i"), &tables)?; // /a*/i
+/// println!(rt; "{regex}"); // a `Cat` of a `Loop` over a `CharSet` of `A` and `a`, and the `Goal`
+/// ```
 pub fn try_parse<'u>(
     alloc: Global,
     pattern: &[CodePoint],
