@@ -10,6 +10,8 @@ mod nodes;
 #[cfg(test)]
 mod sets;
 #[cfg(test)]
+mod syntax;
+#[cfg(test)]
 mod tables;
 #[cfg(test)]
 mod tree;

@@ -237,7 +237,6 @@ filter-alike : (p : State → Bool) (ss ts : List State) → AreAlike ss ts → 
 filter-alike p ss ts k = sym (filter-distinct p ss) ∙ ap (filter p) k ∙ filter-distinct p ts
 
 module _ (w : Context) where
-
   pub looked-alike : (negated : Bool) (s : State) (ss ts : List State) → AreAlike ss ts → looked negated s ss ≡ looked negated s ts
   unfolding distinct
   looked-alike negated s [] [] k = refl

@@ -1,0 +1,491 @@
+//! Tests of `regress_front_syntax`: trees as `Debug` writes them, the texts of errors, and limits.
+
+use regress_front_syntax::{Syntax, parse};
+use regress_front_tables::{CodePoint, Error, Flags, Tables};
+use std::alloc::{AllocError, Global};
+use std::test::Fail;
+
+/// The code points of a text, so many times.
+fn points(alloc: Global, text: &str, times: usize) -> Result<Vec<CodePoint>, AllocError> {
+    let text = text.repeat(alloc, times)?;
+    text.chars().map(CodePoint::from).collect(alloc)
+}
+
+fn parsed(alloc: Global, flags: &str, points: &[CodePoint]) -> Result<Syntax, Error> {
+    let tables = Tables::small(alloc).map_err(|_| Error::OutOfMemory)?;
+    parse(alloc, points, Flags::from(flags), &tables)
+}
+
+/// The terms of a pattern's only alternative, written out.
+fn terms(alloc: Global, flags: &str, pattern: &str) -> Result<String, Fail> {
+    let points = points(alloc, pattern, 1)?;
+    let Syntax::Disjunction(arms) = parsed(alloc, flags, &points)? else {
+        return Err("a pattern is a disjunction".into());
+    };
+    match arms.as_slice() {
+        [Syntax::Alternative(terms)] => Ok(format!(in alloc; "{terms:?}")?),
+        _ => Err("more than one alternative".into()),
+    }
+}
+
+/// Why a text, so many times, is refused as a pattern; `None` where it is accepted.
+fn refusal(alloc: Global, flags: &str, text: &str, times: usize) -> Result<Option<Error>, Fail> {
+    let points = points(alloc, text, times)?;
+    Ok(parsed(alloc, flags, &points).err())
+}
+
+/// So many pairs of brackets, each in the one before.
+fn nested(alloc: Global, opening: &str, closing: &str, pairs: usize) -> Result<String, AllocError> {
+    let mut text = opening.repeat(alloc, pairs)?;
+    text.push_str(closing.repeat(alloc, pairs)?.as_str())?;
+    Ok(text)
+}
+
+/// Flags, a pattern of one alternative with terms, and its terms.
+const TERMS_READ: [(&str, &str, &str); 19] = [
+    (
+        "",
+        r"^$\b\B",
+        "[LineStart, LineEnd, WordBoundary { negated: false }, WordBoundary { negated: true }]",
+    ),
+    ("", r".\d\n", "[Any, ClassEscape(Digits), Character(10)]"),
+    ("", r"\S", "[ClassEscape(Complement(Spaces))]"),
+    (
+        "",
+        "]}a{",
+        "[Character(93), Character(125), Character(97), Character(123)]",
+    ),
+    (
+        "",
+        "a{,3}",
+        "[Character(97), Character(123), Character(44), Character(51), Character(125)]",
+    ),
+    (
+        "",
+        "a{2,3",
+        "[Character(97), Character(123), Character(50), Character(44), Character(51)]",
+    ),
+    (
+        "",
+        "a*",
+        "[Loop { loopee: Character(97), quant: Quantifier { min: 0, max: None, greedy: true }, enclosed_groups: 0..0 }]",
+    ),
+    (
+        "",
+        "a+?",
+        "[Loop { loopee: Character(97), quant: Quantifier { min: 1, max: None, greedy: false }, enclosed_groups: 0..0 }]",
+    ),
+    (
+        "",
+        "a??",
+        "[Loop { loopee: Character(97), quant: Quantifier { min: 0, max: Some(1), greedy: false }, enclosed_groups: 0..0 }]",
+    ),
+    (
+        "",
+        "a{2}",
+        "[Loop { loopee: Character(97), quant: Quantifier { min: 2, max: Some(2), greedy: true }, enclosed_groups: 0..0 }]",
+    ),
+    (
+        "",
+        "a{2,}",
+        "[Loop { loopee: Character(97), quant: Quantifier { min: 2, max: None, greedy: true }, enclosed_groups: 0..0 }]",
+    ),
+    (
+        "",
+        "a{02,3}?",
+        "[Loop { loopee: Character(97), quant: Quantifier { min: 2, max: Some(3), greedy: false }, enclosed_groups: 0..0 }]",
+    ),
+    (
+        "",
+        "a{18446744073709551614}",
+        "[Loop { loopee: Character(97), quant: Quantifier { min: 18446744073709551614, max: Some(18446744073709551614), greedy: true }, enclosed_groups: 0..0 }]",
+    ),
+    (
+        "",
+        "(?:a)",
+        "[Group(Disjunction([Alternative([Character(97)])]))]",
+    ),
+    (
+        "",
+        "(?i-ms:a)",
+        "[Modified { on: Modifiers { icase: true, multiline: false, dot_all: false }, off: Modifiers { icase: false, multiline: true, dot_all: true }, contents: Disjunction([Alternative([Character(97)])]) }]",
+    ),
+    (
+        "u",
+        "(?=a)",
+        "[Look { negated: false, backward: false, contents: Disjunction([Alternative([Character(97)])]) }]",
+    ),
+    (
+        "u",
+        "(?!a)",
+        "[Look { negated: true, backward: false, contents: Disjunction([Alternative([Character(97)])]) }]",
+    ),
+    (
+        "u",
+        "(?<=a)",
+        "[Look { negated: false, backward: true, contents: Disjunction([Alternative([Character(97)])]) }]",
+    ),
+    (
+        "u",
+        "(?<!a)",
+        "[Look { negated: true, backward: true, contents: Disjunction([Alternative([Character(97)])]) }]",
+    ),
+];
+
+/// Flags, a pattern of one alternative with escapes, and its terms.
+const ESCAPES_READ: [(&str, &str, &str); 14] = [
+    (
+        "",
+        r"\cj\c1\-",
+        "[Character(10), Character(92), Character(99), Character(49), Character(45)]",
+    ),
+    ("u", r"\cJ\/", "[Character(10), Character(47)]"),
+    (
+        "",
+        r"\0\08\400\8",
+        "[Character(0), Character(0), Character(56), Character(32), Character(48), Character(56)]",
+    ),
+    (
+        "",
+        r"\377\3777",
+        "[Character(255), Character(255), Character(55)]",
+    ),
+    (
+        "",
+        r"\x41\x4g",
+        "[Character(65), Character(120), Character(52), Character(103)]",
+    ),
+    ("u", r"\x41\u{41}", "[Character(65), Character(65)]"),
+    ("", r"\uD83D\uDE00", "[Character(55357), Character(56832)]"),
+    ("u", r"\uD83D\uDE00", "[Character(128512)]"),
+    ("u", r"\uD83D\u0041", "[Character(55357), Character(65)]"),
+    ("u", r"\uDE00\uDE00", "[Character(56832), Character(56832)]"),
+    (
+        "u",
+        r"\u{D83D}\u{DE00}",
+        "[Character(55357), Character(56832)]",
+    ),
+    (
+        "u",
+        r"\u{00000000000010FFFF}a",
+        "[Character(1114111), Character(97)]",
+    ),
+    (
+        "",
+        r"\k<b>",
+        "[Character(107), Character(60), Character(98), Character(62)]",
+    ),
+    ("", r"\p\P", "[Character(112), Character(80)]"),
+];
+
+/// Flags, a pattern of one alternative with classes, and its terms.
+const CLASSES_READ: [(&str, &str, &str); 12] = [
+    (
+        "",
+        "[^a]",
+        "[Class { negated: true, class: Union([Range { first: 97, last: 97 }]) }]",
+    ),
+    (
+        "",
+        "[a-c-]",
+        "[Class { negated: false, class: Union([Range { first: 97, last: 99 }, Range { first: 45, last: 45 }]) }]",
+    ),
+    (
+        "",
+        r"[\d-x]",
+        "[Class { negated: false, class: Union([Digits, Range { first: 45, last: 45 }, Range { first: 120, last: 120 }]) }]",
+    ),
+    (
+        "",
+        r"[\b\cj\c_\c!\1]",
+        "[Class { negated: false, class: Union([Range { first: 8, last: 8 }, Range { first: 10, last: 10 }, Range { first: 31, last: 31 }, Range { first: 92, last: 92 }, Range { first: 99, last: 99 }, Range { first: 33, last: 33 }, Range { first: 1, last: 1 }]) }]",
+    ),
+    (
+        "",
+        "[[a]",
+        "[Class { negated: false, class: Union([Range { first: 91, last: 91 }, Range { first: 97, last: 97 }]) }]",
+    ),
+    (
+        "u",
+        r"[\-]",
+        "[Class { negated: false, class: Union([Range { first: 45, last: 45 }]) }]",
+    ),
+    ("v", "[]", "[Class { negated: false, class: Union([]) }]"),
+    (
+        "v",
+        r"[\q{ab|c|}\w]",
+        "[Class { negated: false, class: Union([Strings([[97, 98], [99], []]), Words]) }]",
+    ),
+    (
+        "v",
+        r"[[^a]\-]",
+        "[Class { negated: false, class: Union([Nested { negated: true, contents: Union([Range { first: 97, last: 97 }]) }, Range { first: 45, last: 45 }]) }]",
+    ),
+    (
+        "v",
+        r"[\w&&\d&&[a]]",
+        "[Class { negated: false, class: Intersection(Words, [Digits, Nested { negated: false, contents: Union([Range { first: 97, last: 97 }]) }]) }]",
+    ),
+    (
+        "v",
+        r"[\w--\d--_]",
+        "[Class { negated: false, class: Difference(Words, [Digits, Range { first: 95, last: 95 }]) }]",
+    ),
+    (
+        "v",
+        r"[^a--\q{ab}]",
+        "[Class { negated: true, class: Difference(Range { first: 97, last: 97 }, [Strings([[97, 98]])]) }]",
+    ),
+];
+
+/// Flags, a text that is no pattern for its terms, and what its error says.
+const TERMS_REFUSED: [(&str, &str, &str); 14] = [
+    ("", "a**", "Nothing to repeat"),
+    ("", "(?<=a)*", "Nothing to repeat"),
+    ("u", "(?=a)*", "Nothing to repeat"),
+    ("", "{1}", "Invalid quantifier"),
+    ("", "x{5,3}", "Invalid quantifier"),
+    ("", "(a", "Unbalanced parenthesis"),
+    ("", "a)", "Unbalanced parenthesis"),
+    ("", "(?ii:a)", "Invalid modifiers"),
+    ("", "(?i-i:a)", "Invalid modifiers"),
+    ("", "(?-:a)", "Invalid modifiers"),
+    ("", "(?i", "Invalid modifiers"),
+    ("", "(?x:a)", "Invalid group"),
+    ("u", "]", "Unexpected character"),
+    ("u", "a{", "Unexpected character"),
+];
+
+/// Flags, a text that is no pattern for its names, and what its error says.
+const NAMES_REFUSED: [(&str, &str, &str); 12] = [
+    ("", "(?<a>x)(?<a>y)", "Duplicate capture group name"),
+    ("", "(?<a>(?<a>x))", "Duplicate capture group name"),
+    (
+        "",
+        "(?:(?<a>x)|(?<b>y))(?<b>z)",
+        "Duplicate capture group name",
+    ),
+    (
+        "",
+        "(?=(?<a>x))*(?i:(?<a>y))",
+        "Duplicate capture group name",
+    ),
+    ("", "(?<1>a)", "Invalid group name"),
+    ("", "(?<a-b>c)", "Invalid group name"),
+    ("", "(?<ab", "Invalid group name"),
+    ("", r"(?<a\x62>c)", "Invalid group name"),
+    ("", r"(?<\u{110000}>c)", "Invalid group name"),
+    ("", r"(?<\uD800>c)", "Invalid group name"),
+    ("", "(?<>a)", "Invalid group name"),
+    ("", r"(?<b>c)\k", "Invalid group name"),
+];
+
+/// Flags, a text that is no pattern for its escapes, and what its error says.
+const ESCAPES_REFUSED: [(&str, &str, &str); 17] = [
+    ("", r"(?<b>c)\k<a>", "Invalid backreference"),
+    ("", "\\", "Invalid escape"),
+    ("u", r"\c1", "Invalid escape"),
+    ("u", r"\-", "Invalid escape"),
+    ("u", r"\08", "Invalid escape"),
+    ("v", r"\x4", "Invalid escape"),
+    ("u", r"\u{110000}", "Invalid escape"),
+    ("u", r"\u{}", "Invalid escape"),
+    ("u", r"\u{41", "Invalid escape"),
+    ("u", r"\1", "Invalid backreference"),
+    ("u", r"(a)(b)\3", "Invalid backreference"),
+    ("u", r"\p{=Grek}", "Invalid property"),
+    ("u", r"\p{Script=}", "Invalid property"),
+    ("u", r"\p{ASCII", "Invalid property"),
+    ("u", r"\pASCII}", "Invalid property"),
+    ("u", r"\p{Emoji_Keycap_Sequence}", "Invalid property"),
+    ("v", r"\P{Emoji_Keycap_Sequence}", "Invalid property"),
+];
+
+/// Flags, a text that is no pattern for its classes, and what its error says.
+const CLASSES_REFUSED: [(&str, &str, &str); 19] = [
+    ("", "[a", "Unbalanced bracket"),
+    ("v", "[a&&b", "Unbalanced bracket"),
+    ("v", "[[a]", "Unbalanced bracket"),
+    ("v", r"[\q{a", "Unbalanced bracket"),
+    ("", "[c-a]", "Invalid class"),
+    ("u", r"[\d-x]", "Invalid class"),
+    ("u", r"[\w-z]", "Invalid class"),
+    ("u", r"[\1]", "Invalid backreference"),
+    ("", r"(?<a>b)[\k<a>]", "Invalid escape"),
+    ("v", "[a&&&b]", "Invalid class"),
+    ("v", "[a--b&&c]", "Invalid class"),
+    ("v", "[a-z&&[ae]]", "Invalid class"),
+    ("v", "[(]", "Invalid class"),
+    ("v", r"[a-\d]", "Invalid class"),
+    ("v", "[b-a]", "Invalid class"),
+    ("v", "[a!!]", "Invalid class"),
+    ("v", r"[^\q{ab}]", "Invalid class"),
+    ("v", r"[[^\q{ab}]]", "Invalid class"),
+    ("v", r"[\a]", "Invalid escape"),
+];
+
+#[test]
+fn terms_are_read(rt: HostRuntime) -> Result<(), Fail> {
+    for (flags, pattern, expected) in TERMS_READ {
+        let text = terms(rt.alloc(), flags, pattern)?;
+        assert!(rt; text.as_str() == expected, "at {pattern}: {text}");
+    }
+    Ok(())
+}
+
+#[test]
+fn escapes_are_read(rt: HostRuntime) -> Result<(), Fail> {
+    for (flags, pattern, expected) in ESCAPES_READ {
+        let text = terms(rt.alloc(), flags, pattern)?;
+        assert!(rt; text.as_str() == expected, "at {pattern}: {text}");
+    }
+    Ok(())
+}
+
+#[test]
+fn classes_are_read(rt: HostRuntime) -> Result<(), Fail> {
+    for (flags, pattern, expected) in CLASSES_READ {
+        let text = terms(rt.alloc(), flags, pattern)?;
+        assert!(rt; text.as_str() == expected, "at {pattern}: {text}");
+    }
+    Ok(())
+}
+
+#[test]
+fn errors_of_terms_have_their_text(rt: HostRuntime) -> Result<(), Fail> {
+    for (flags, pattern, text) in TERMS_REFUSED {
+        let expected = Some(Error::Syntax { text });
+        let refused = refusal(rt.alloc(), flags, pattern, 1)?;
+        assert!(rt; refused == expected, "at {pattern}: {refused:?}");
+    }
+    Ok(())
+}
+
+#[test]
+fn errors_of_names_have_their_text(rt: HostRuntime) -> Result<(), Fail> {
+    for (flags, pattern, text) in NAMES_REFUSED {
+        let expected = Some(Error::Syntax { text });
+        let refused = refusal(rt.alloc(), flags, pattern, 1)?;
+        assert!(rt; refused == expected, "at {pattern}: {refused:?}");
+    }
+    Ok(())
+}
+
+#[test]
+fn errors_of_escapes_have_their_text(rt: HostRuntime) -> Result<(), Fail> {
+    for (flags, pattern, text) in ESCAPES_REFUSED {
+        let expected = Some(Error::Syntax { text });
+        let refused = refusal(rt.alloc(), flags, pattern, 1)?;
+        assert!(rt; refused == expected, "at {pattern}: {refused:?}");
+    }
+    Ok(())
+}
+
+#[test]
+fn errors_of_classes_have_their_text(rt: HostRuntime) -> Result<(), Fail> {
+    for (flags, pattern, text) in CLASSES_REFUSED {
+        let expected = Some(Error::Syntax { text });
+        let refused = refusal(rt.alloc(), flags, pattern, 1)?;
+        assert!(rt; refused == expected, "at {pattern}: {refused:?}");
+    }
+    Ok(())
+}
+
+#[test]
+fn alternatives_are_read(rt: HostRuntime) -> Result<(), Fail> {
+    let points = points(rt.alloc(), "ab|", 1)?;
+    let syntax = parsed(rt.alloc(), "", &points)?;
+    let text = format!(in rt.alloc(); "{syntax:?}")?;
+    assert!(rt;
+        text.as_str()
+            == "Disjunction([Alternative([Character(97), Character(98)]), Alternative([])])"
+    );
+    Ok(())
+}
+
+#[test]
+fn odd_patterns_are_accepted(rt: HostRuntime) -> Result<(), Fail> {
+    for pattern in [
+        "",
+        "a{99999999999999999999,88888888888888888888}",
+        "(?i-:a)",
+        "(?=a)*",
+        "(?<a>x)|(?<a>y)",
+        "(?:(?<a>x)|(?<b>y))(?<c>z)",
+        "{a}",
+    ] {
+        assert!(rt;
+            refusal(rt.alloc(), "", pattern, 1)?.is_none(),
+            "at {pattern}"
+        );
+    }
+    Ok(())
+}
+
+#[test]
+fn groups_are_numbered_and_named(rt: HostRuntime) -> Result<(), Fail> {
+    for (flags, pattern, expected) in [
+        ("", r"\2()()", "[Reference([1])"),
+        ("", r"\3()()", "[Character(3)"),
+        ("", r"\18446744073709551617()", "[Character(1)"),
+        ("", r"\k<b>()(?<b>)", "[Reference([1])"),
+        ("", r"\k<a>(?:(?<a>)|(?<a>))", "[Reference([0, 1])"),
+        ("", r"\k<abc>(?<a\u0062\u{63}>)", "[Reference([0])"),
+        ("", r"\k<$_1>(?<$_1>)", "[Reference([0])"),
+        ("", r"\2[(](a)[\](?<b>](c)", "[Reference([1])"),
+        ("", r"\2\((a)\[(b)]", "[Reference([1])"),
+        ("", r"\2(?<a>b)\k<\u{61}>(c)", "[Reference([1])"),
+        ("", r"\2(?:d)(?=e)(?<!f)(a)", "[Character(2)"),
+    ] {
+        let text = terms(rt.alloc(), flags, pattern)?;
+        assert!(rt; text.as_str().starts_with(expected), "at {pattern}: {text}");
+    }
+    let name = terms(rt.alloc(), "", "\\k<a\u{200C}>(?<a\u{200C}>)")?;
+    assert!(rt; name.as_str().starts_with("[Reference([0])"));
+    let looped = terms(rt.alloc(), "", "(){1}")?;
+    assert!(rt; looped.as_str().ends_with("enclosed_groups: 0..1 }]"));
+    Ok(())
+}
+
+#[test]
+fn groups_end_at_65535(rt: HostRuntime) -> Result<(), Fail> {
+    assert!(rt; refusal(rt.alloc(), "", "()", 65_535)?.is_none());
+    let refused = refusal(rt.alloc(), "", "()", 65_536)?;
+    assert!(rt; refused == Some(Error::TooManyGroups));
+    Ok(())
+}
+
+#[test]
+fn quantifiers_end_at_65535(rt: HostRuntime) -> Result<(), Fail> {
+    assert!(rt; refusal(rt.alloc(), "", "a*", 65_535)?.is_none());
+    let refused = refusal(rt.alloc(), "", "a*", 65_536)?;
+    assert!(rt; refused == Some(Error::TooManyLoops));
+    Ok(())
+}
+
+#[test]
+fn parentheses_and_brackets_nest_to_256(rt: HostRuntime) -> Result<(), Fail> {
+    for (opening, closing) in [("(", ")"), ("[", "]")] {
+        let deepest = nested(rt.alloc(), opening, closing, 256)?;
+        assert!(rt; refusal(rt.alloc(), "v", deepest.as_str(), 1)?.is_none());
+        let deeper = nested(rt.alloc(), opening, closing, 257)?;
+        let refused = refusal(rt.alloc(), "v", deeper.as_str(), 1)?;
+        assert!(rt; refused == Some(Error::TooDeep));
+    }
+    Ok(())
+}
+
+#[test]
+fn many_names_stand_apart(rt: HostRuntime) -> Result<(), Fail> {
+    let mut pattern = String::new(rt.alloc());
+    for number in 0..1000 {
+        let group = format!(in rt.alloc(); "(?<n{number}>)")?;
+        pattern.push_str(group.as_str())?;
+    }
+    assert!(rt; refusal(rt.alloc(), "", pattern.as_str(), 1)?.is_none());
+    pattern.push_str("(?<n512>)")?;
+    let refused = refusal(rt.alloc(), "", pattern.as_str(), 1)?;
+    let text = "Duplicate capture group name";
+    assert!(rt; refused == Some(Error::Syntax { text }));
+    Ok(())
+}
