@@ -296,7 +296,6 @@ pushed-shallow op f old new x a n deep e v h k =
 -- contents, by what stands behind their first operand
 
 module _ (m : Mode) (t : List ℕ) (steps : ContentsBySteps m t) where
-
   pub contents-rests : closes_class t ≡ false → Rests item_depth class_depth (operand_at m t) (contents_at m t)
   contents-rests h = rests-there (steps.contents_step ∙ on_false _ h refl) (rests-then _ (operand_at m t) (λ x y q e. go x (two_at 0x26 0x26 x.1) (two_at 0x2D 0x2D x.1) y q e))
     where

@@ -146,7 +146,6 @@ after-more xs x None = refl
 after-more xs x (Some p) = ap (λ ys. Some (ys, p.1)) (sym (append_assoc xs (x ∷ []) p.0))
 
 module _ (m : Mode) (t : List ℕ) (steps : ContentsBySteps m t) where
-
   pub strings-more : (cs u : List ℕ) → set_string_at m t ≡ Some (cs, u) → is_at (λ c. c == 0x7D) u ≡ false → is_at (λ c. c == 0x7C) u ≡ true
       → set_strings_at m t ≡ option_map (with_one cs) (set_strings_at m (drop 1 u))
   strings-more cs u e h k = steps.strings_step ∙ on_some _ e (on_false _ h (on_true _ k refl))

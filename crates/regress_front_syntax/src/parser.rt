@@ -16,8 +16,8 @@ ghost use Rattle.regress_front_tokens.specs.Cursors.{unread};
 ghost use Rattle.regress_front_tokens.specs.Words.{stands_for_itself};
 
 use crate::apart::names_are_apart;
-use regress_front_classes::bracketed_class;
 use crate::group::{Opening, read_opening};
+use regress_front_classes::bracketed_class;
 use regress_front_tables::{
     CodePoint, Error, Flags, MAX_CAPTURE_GROUPS, MAX_LOOPS, MAX_NESTING_DEPTH, Quantifier, Tables,
 };
