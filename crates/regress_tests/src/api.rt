@@ -73,13 +73,3 @@ fn what_is_not_ascii_takes_k_by_case(rt: HostRuntime) -> Result<(), Fail> {
     }
     Ok(())
 }
-
-#[test]
-fn matches_and_regexes_are_printed(rt: HostRuntime) -> Result<(), Fail> {
-    let tables = Tables::small(rt.alloc())?;
-    let regex = Regex::new(rt.alloc(), "a", &tables)?;
-    let matches = regex.find_iter("a")?;
-    assert!(rt; !format!(in rt.alloc(); "{matches:?}")?.is_empty());
-    assert!(rt; !format!(in rt.alloc(); "{regex:?}")?.is_empty());
-    Ok(())
-}
