@@ -1,0 +1,441 @@
+-- Entering a repetition.
+use Rattle.std.specs.Prelude.{nat_le, nat_lt, slice_set, slice_get, filter}
+use Rattle.std.proofs.Common.{◌≡◌, ◌⊎◌, inl, inr, ℕ, zero, suc, ◌+◌, ◌-◌, ◌<◌, ◌≤◌, ◌≢◌, ◌==◌, ◌&&◌, not, Bool, true, false, List, [], ◌∷◌, ◌++◌, length, Option, Some, None, if◌then◌else◌, get_or, set, flat_map, refl, sym, ap, ap₂, ◌∙◌, subst, arith, option_map, get_or-set_same, get_or-set_other, length-set}
+use Rattle.std.proofs.lemmas.Bool.{cases_lt}
+use Rattle.std.proofs.lemmas.Bool.Decides.{nat_tests}
+use Rattle.regress_meaning.specs.Meaning.{State, Direction, Forward, Context, iterations, cleared, clear_from, moved}
+use Rattle.regress_meaning.specs.Offsets.{Reading, offset, offset_range}
+use Rattle.regress_meaning.specs.Laws.{OffsetsRise}
+use Rattle.regress_front_nodes.specs.Trees.{Tree}
+use Rattle.regress_front_nodes.specs.Trees as tree
+use Rattle.regress_front_nodes.specs.TreeMeaning.{node_outcomes}
+use Rattle.regress_front_nodes.specs.WellFormed.{group_ids, AreNumbered}
+use Rattle.regress_front_nodes.specs.TreeMeaning.{direction}
+use Rattle.regress_engine_code.specs.Instructions.{LoopFields, Program, Instruction, Stands, StandFrom}
+use Rattle.regress_engine_code.specs.Instructions as code
+use Rattle.regress_engine_code.specs.Layout.{Spot, next, Target, resets}
+use Rattle.regress_meaning.specs.Inputs.{Input, context_of}
+use Rattle.regress_meaning.proofs.StepLaws.{Leads-cleared, Leads as Progresses}
+use Rattle.regress_engine_runs.specs.States.{Whole, Marks, unset, range_of, onward}
+use Rattle.regress_engine_runs.specs.Runs.{ordered, count_of, one_more, choices, is_idle, fields_of, successors}
+use Rattle.regress_engine_runs.specs.Stand.{StandsFor, AreOf}
+use Rattle.regress_engine_runs.proofs.RunLemmas.{Expands, Expands-same, Expands-then, steps}
+use Rattle.regress_engine_runs.proofs.Leading.{Leads, flat_map-filter, leads_at_once, first_expand, leads_beside, leads_on, leads_weaker}
+use Rattle.regress_engine_runs.proofs.Places.{occurs, AreFree, Arrives, Keeps-again, IsAhead-then}
+use Rattle.regress_engine_runs.proofs.Looks.{is_within, outside_none, inside_one}
+use Rattle.regress_engine_runs.proofs.Entering.{Enters, standing, stays}
+
+-- ---- groups are reset
+
+-- groups from first on, so many, have nothing in them; all others are as before
+pub record AreReset (first n : ℕ) (old new : List Marks) : Type 0 where
+  pub count : length new ≡ length old
+  pub within : (k : ℕ) → first ≤ k → k < first + n → get_or new k unset ≡ unset
+  pub outside : (k : ℕ) → (k < first) ⊎ (first + n ≤ k) → get_or new k unset ≡ get_or old k unset
+
+set-unset : (ms : List Marks) (k : ℕ) → get_or (set ms k unset) k unset ≡ unset
+set-unset [] k = refl
+set-unset (m ∷ ms) zero = refl
+set-unset (m ∷ ms) (suc k) = set-unset ms k
+
+reset-first : (first n : ℕ) (old new : List Marks) → AreReset (suc first) n (set old first unset) new → AreReset first (suc n) old new
+reset-first first n old new h = record {
+  count = h.count ∙ length-set old first unset;
+  within = λ k low high. by_place k high (cases_lt first k) low;
+  outside = λ k o. h.outside k (beyond k o) ∙ get_or-set_other old first k unset unset (apart k o);
+}
+  where
+    by_place : (k : ℕ) → k < first + suc n → (first < k) ⊎ (k ≤ first) → first ≤ k → get_or new k unset ≡ unset
+    by_place k high (inl o) low = h.within k o (omega (arith, high))
+    by_place k high (inr o) low =
+        let e : k ≡ first = omega arith in
+        h.outside k (inl (omega arith)) ∙ ap (λ j. get_or (set old first unset) j unset) e ∙ set-unset old first
+
+    beyond : (k : ℕ) → (k < first) ⊎ (first + suc n ≤ k) → (k < suc first) ⊎ (suc first + n ≤ k)
+    beyond k (inl o) = inl (omega arith)
+    beyond k (inr o) = inr (omega arith)
+
+    apart : (k : ℕ) → (k < first) ⊎ (first + suc n ≤ k) → k ≢ first
+    apart k (inl o) e = absurd (omega arith)
+    apart k (inr o) e = absurd (omega arith)
+
+module _ (program : Program) (input : Input) where
+  -- instructions that reset groups lead behind them
+  pub resetting : (dir : Direction) (n first address : ℕ) (w : Whole) → w.at ≡ address → StandFrom program address (resets first n)
+      → (marks : List Marks) × Expands program input dir (w ∷ []) (record w { at = address + n; groups = marks } ∷ [])
+      × AreReset first n w.groups marks
+  resetting dir zero first address w at here =
+      let e : w.at ≡ address + 0 = omega (arith, at) in (
+        w.groups,
+        subst (λ a. Expands program input dir (w ∷ []) (record w { at = a } ∷ [])) e (Expands-same program input dir (w ∷ [])),
+        record { count = refl; within = λ k low high. absurd (omega arith); outside = λ k o. refl },
+      )
+  resetting dir (suc n) first address w at (here, rest) =
+      let v : Whole = onward (record w { groups = slice_set w.groups first unset }) in
+      let found = resetting dir n (suc first) (suc address) v (ap suc at) rest in
+      let e : suc address + n ≡ address + suc n = omega arith in (
+        found.0,
+        subst (λ a. Expands program input dir (w ∷ []) (record w { at = a; groups = found.0 } ∷ [])) e
+            (Expands-then program input (w ∷ []) (v ∷ []) (record w { at = suc address + n; groups = found.0 } ∷ [])
+            (steps program input (code.reset_group first) w (subst (λ a. Stands program a (code.reset_group first)) (sym at) here) refl) found.1),
+        reset-first first n w.groups found.0 found.2,
+      )
+
+-- ---- and cleared
+
+within-true : (first last k : ℕ) → first ≤ k → k < last → is_within first last k ≡ true
+within-true first last k low high = grind (arith, nat_tests)
+
+within-false : (first last k : ℕ) → (k < first) ⊎ (last ≤ k) → is_within first last k ≡ false
+within-false first last k (inl o) = grind (arith, nat_tests)
+within-false first last k (inr o) = grind (arith, nat_tests)
+
+none-both : (b : Bool) → let none : Option (ℕ × ℕ) = None in none ≡ (if b then none else none)
+none-both true = refl
+none-both false = refl
+
+get_or-clear : (i first last : ℕ) (gs : List (Option (ℕ × ℕ))) (k : ℕ)
+    → get_or (clear_from i first last gs) k None ≡ (if is_within first last (i + k) then None else get_or gs k None)
+get_or-clear i first last [] k = none-both (is_within first last (i + k))
+get_or-clear i first last (g ∷ gs) zero =
+    let e : i + 0 ≡ i = omega arith in ap (λ j. if is_within first last j then None else g) (sym e)
+get_or-clear i first last (g ∷ gs) (suc k) =
+    let e : i + suc k ≡ (i + 1) + k = omega arith in
+    get_or-clear (i + 1) first last gs k ∙ ap (λ j. if is_within first last j then None else get_or gs k None) (sym e)
+
+-- a state whose groups are reset stands for one whose groups are cleared
+pub cleared-stands : (input : Input) (reading : Reading) (first last : ℕ) (s : State) (o : ℕ) (old new : List Marks) → first ≤ last
+    → AreOf reading s o old → AreReset first (last - first) old new → AreOf reading (cleared first last s) o new
+cleared-stands input reading first last s o old new order stands h = record {
+  place = stands.place;
+  count = h.count ∙ stands.count ∙ sym goes.count;
+  groups = λ k. by_place k (cases_lt k first) (cases_lt k last);
+  inside = goes.inside stands.inside;
+}
+  where
+    goes : Progresses reading.points Forward s (cleared first last s)
+    goes = Leads-cleared (context_of reading input) Forward first last s
+
+    told : (k : ℕ) (b : Bool) → is_within first last k ≡ b
+        → get_or (clear_from 0 first last s.groups) k None ≡ (if b then None else get_or s.groups k None)
+    told k b e =
+        let f : 0 + k ≡ k = omega arith in
+        get_or-clear 0 first last s.groups k ∙ ap (λ j. if is_within first last j then None else get_or s.groups k None) f
+        ∙ ap (λ (c : Bool). if c then None else get_or s.groups k None) e
+
+    outside : (k : ℕ) → (k < first) ⊎ (last ≤ k)
+        → range_of (get_or new k unset) ≡ option_map (offset_range reading) (get_or (clear_from 0 first last s.groups) k None)
+    outside k out =
+        ap range_of (h.outside k (beyond out)) ∙ stands.groups k ∙ ap (option_map (offset_range reading)) (sym (told k false (within-false first last k out)))
+      where
+        beyond : (k < first) ⊎ (last ≤ k) → (k < first) ⊎ (first + (last - first) ≤ k)
+        beyond (inl x) = inl x
+        beyond (inr x) = inr (omega arith)
+
+    by_place : (k : ℕ) → (k < first) ⊎ (first ≤ k) → (k < last) ⊎ (last ≤ k)
+        → range_of (get_or new k unset) ≡ option_map (offset_range reading) (get_or (clear_from 0 first last s.groups) k None)
+    by_place k (inl x) y = outside k (inl x)
+    by_place k (inr x) (inr y) = outside k (inr y)
+    by_place k (inr x) (inl y) =
+        ap range_of (h.within k x (omega arith)) ∙ ap (option_map (offset_range reading)) (sym (told k true (within-true first last k x y)))
+
+-- ---- what is admitted
+
+ordered-out : (greedy : Bool) (s t : Whole) → ordered greedy false true s t ≡ t ∷ []
+ordered-out true s t = refl
+ordered-out false s t = refl
+
+ordered-more : (greedy : Bool) (s t : Whole) → ordered greedy true false s t ≡ s ∷ []
+ordered-more true s t = refl
+ordered-more false s t = refl
+
+pub lt-true : (a b : ℕ) → a < b → nat_lt a b ≡ true
+lt-true a b h = grind (arith, nat_tests)
+
+pub lt-false : (a b : ℕ) → b ≤ a → nat_lt a b ≡ false
+lt-false a b h = grind (arith, nat_tests)
+
+pub le-true : (a b : ℕ) → a ≤ b → nat_le a b ≡ true
+le-true a b h = grind (arith, nat_tests)
+
+pub le-false : (a b : ℕ) → b < a → nat_le a b ≡ false
+le-false a b h = grind (arith, nat_tests)
+
+pub eq-same : (a b : ℕ) → a ≡ b → (a == b) ≡ true
+eq-same a b h = grind (arith, nat_tests)
+
+pub eq-apart : (a b : ℕ) → a ≢ b → (a == b) ≡ false
+eq-apart a b h = grind (arith, nat_tests)
+
+-- offsets are equal where places are
+same_offset : (reading : Reading) → OffsetsRise reading → (p q : ℕ) → p ≤ length reading.points → q ≤ length reading.points
+    → (offset reading p == offset reading q) ≡ (p == q)
+same_offset reading rise p q low high = by_place (cases_lt p q) (cases_lt q p)
+  where
+    by_place : (p < q) ⊎ (q ≤ p) → (q < p) ⊎ (p ≤ q) → (offset reading p == offset reading q) ≡ (p == q)
+    by_place (inl x) y =
+        eq-apart (offset reading p) (offset reading q) (λ e. absurd (omega (arith, e, rise p q x high))) ∙ sym (eq-apart p q (λ e. absurd (omega (arith, e))))
+    by_place (inr x) (inl y) =
+        eq-apart (offset reading p) (offset reading q) (λ e. absurd (omega (arith, e, rise q p y low))) ∙ sym (eq-apart p q (λ e. absurd (omega (arith, e))))
+    by_place (inr x) (inr y) =
+        let e : p ≡ q = omega arith in
+        eq-same (offset reading p) (offset reading q) (ap (offset reading) e) ∙ sym (eq-same p q e)
+
+-- ---- a repetition
+
+module _ (target : Target) (input : Input) (reading : Reading) (rise : OffsetsRise reading) (b : Bool) (a : Tree) (first last least most : ℕ) (greedy : Bool) (p m : Spot) where
+  abbrev pub dir : Direction
+  dir = direction b
+
+  abbrev pub context : Context
+  context = context_of reading input
+
+  abbrev pub fields : LoopFields
+  fields = record { loop_id = p.loops; least = least; most = most; greedy = greedy; exit = suc m.address }
+
+  abbrev pub gone : ℕ → ℕ
+  gone k = occurs k a
+
+  -- what is repeated
+  abbrev pub body : State → List State
+  body s = node_outcomes context a dir (cleared first last s)
+
+  -- where its contents begin
+  abbrev pub inner : Spot
+  inner = record { address = suc p.address + (last - first); loops = suc p.loops }
+
+  -- how the repetition lies
+  pub record IsRepetition : Type 0 where
+    pub begin : Stands target.program p.address (code.enter_loop fields)
+    pub reset : StandFrom target.program (suc p.address) (resets first (last - first))
+    pub end : Stands target.program m.address (code.loop_again p.address)
+    pub numbered : AreNumbered first last (group_ids a)
+    pub bounds : least ≤ most
+    pub rises : suc p.loops ≤ m.loops
+    pub contents : Enters target input reading b a inner m
+
+  -- a state has room for its loops and groups
+  record HasRoom (w : Whole) : Type 0 where
+    loops : m.loops ≤ length w.loops
+    groups : (k : ℕ) → 0 < occurs k a → k < length w.groups
+
+  -- it arrived behind the repetition, or at the end of an iteration
+  abbrev Out : State → Whole → State → Whole → Type 0
+  Out s w = Arrives reading dir (suc m.address) gone p.loops m.loops s.place w
+
+  abbrev Again : State → Whole → State → Whole → Type 0
+  Again s w u v = Arrives reading dir m.address gone p.loops m.loops s.place w u v × (get_or v.loops p.loops (0, 0) ≡ (suc (count_of p.loops w), w.offset))
+
+  -- a group that occurs is one of those that are reset, and one that doesn't is none
+  occurring : AreNumbered first last (group_ids a) → (k : ℕ) → 0 < occurs k a → (first ≤ k) × (k < last)
+  occurring h k some = by_place (cases_lt k first) (cases_lt k last)
+    where
+      by_place : (k < first) ⊎ (first ≤ k) → (k < last) ⊎ (last ≤ k) → (first ≤ k) × (k < last)
+      by_place (inl x) y = absurd (omega (arith, some, outside_none first last a h k (within-false first last k (inl x))))
+      by_place (inr x) (inr y) = absurd (omega (arith, some, outside_none first last a h k (within-false first last k (inr y))))
+      by_place (inr x) (inl y) = (x, y)
+
+  missing : AreNumbered first last (group_ids a) → (k : ℕ) → occurs k a ≡ 0 → (k < first) ⊎ (first + (last - first) ≤ k)
+  missing h k none = by_place (cases_lt k first) (cases_lt k last)
+    where
+      by_place : (k < first) ⊎ (first ≤ k) → (k < last) ⊎ (last ≤ k) → (k < first) ⊎ (first + (last - first) ≤ k)
+      by_place (inl x) y = inl x
+      by_place (inr x) (inr y) = inr (omega arith)
+      by_place (inr x) (inl y) = absurd (omega (arith, none, inside_one first last a h k (within-true first last k x y)))
+
+  -- one iteration
+  iteration : IsRepetition → (s : State) (w : Whole) → StandsFor reading s w → HasRoom w
+      → Leads target.program input dir (Again s w) (one_more p.loops p.address w ∷ []) (body s)
+  iteration h s w stands room =
+      let v : Whole = one_more p.loops p.address w in
+      let entry : ℕ × ℕ = (suc (count_of p.loops w), w.offset) in
+      let found = resetting target.program input dir (last - first) first (suc p.address) v refl h.reset in
+      let marks : List Marks = found.0 in
+      let made : AreReset first (last - first) w.groups marks = found.2 in
+      let z : Whole = record v { at = suc p.address + (last - first); groups = marks } in
+      let own : p.loops < length w.loops = omega (arith, h.rises, room.loops) in
+      let kept : get_or v.loops p.loops (0, 0) ≡ entry = get_or-set_same w.loops p.loops entry (0, 0) own in
+      let size : length v.loops ≡ length w.loops = length-set w.loops p.loops entry in
+      let t : State = cleared first last s in
+      let may : AreFree gone m.loops z.loops z.groups = record {
+        loops = omega (arith, size, room.loops);
+        here = λ k some. omega (arith, room.groups k some, made.count);
+        free = λ k some. let o = occurring h.numbered k some in let low = o.0 in let high = o.1 in made.within k low (omega (arith, low, high));
+      } in
+      let R : State → Whole → Type 0 = Arrives reading dir m.address gone (suc p.loops) m.loops s.place z in
+      let inside = h.contents t z refl (cleared-stands input reading first last s w.offset w.groups marks h.numbered.order stands made) may in
+      first_expand target.program input (Again s w) (v ∷ []) (z ∷ []) (body s) found.1
+      (leads_weaker target.program input R (Again s w) (λ u x r. (
+        record {
+          at = r.at;
+          stands = r.stands;
+          keeps = record {
+            loops = λ k o. r.keeps.loops k (beyond k o) ∙ get_or-set_other w.loops p.loops k entry (0, 0) (apart h.rises k o);
+            loop_count = r.keeps.loop_count ∙ size;
+            groups = λ k none. r.keeps.groups k none ∙ made.outside k (missing h.numbered k none);
+            group_count = r.keeps.group_count ∙ made.count;
+          };
+          ahead = r.ahead;
+        },
+        r.keeps.loops p.loops (inl (omega arith)) ∙ kept,
+      )) (z ∷ []) (body s) inside)
+    where
+      beyond : (k : ℕ) → (k < p.loops) ⊎ (m.loops ≤ k) → (k < suc p.loops) ⊎ (m.loops ≤ k)
+      beyond k (inl o) = inl (omega arith)
+      beyond k (inr o) = inr o
+
+      apart : suc p.loops ≤ m.loops → (k : ℕ) → (k < p.loops) ⊎ (m.loops ≤ k) → k ≢ p.loops
+      apart r k (inl o) e = absurd (omega arith)
+      apart r k (inr o) e = absurd (omega arith)
+
+  -- the end of an iteration: it is dropped where it was idle
+  at_end : IsRepetition → (v : Whole) → v.at ≡ m.address → (idle : Bool) → is_idle fields v ≡ idle
+      → Expands target.program input dir (v ∷ []) (if idle then [] else choices fields p.address v)
+  at_end h v at idle e =
+      let goes : Expands target.program input dir (v ∷ []) (successors target.program input (code.loop_again p.address) dir v) =
+      steps target.program input (code.loop_again p.address) v (standing target input reading v at h.end) refl in
+      let found : fields_of (slice_get target.program.instructions p.address) ≡ Some fields = ap fields_of h.begin in
+      subst (λ c. Expands target.program input dir (v ∷ []) (if c then [] else choices fields p.address v)) e
+      (subst (λ (o : Option LoopFields). Expands target.program input dir (v ∷ []) (elim o [ None ↦ [] | Some f ↦ if is_idle f v then [] else choices f p.address v ])) found goes)
+
+  -- behind an iteration that led to a state, what that one leads to is led to by the first
+  gone_on : (s u x : State) (w v z : Whole) → Again s w u v → Out u v x z → Out s w x z
+  gone_on s u x w v z (r, entry) o = record {
+    at = o.at;
+    stands = o.stands;
+    keeps = Keeps-again gone p.loops m.loops w v z r.keeps o.keeps;
+    ahead = IsAhead-then dir s.place u.place x.place r.ahead o.ahead;
+  }
+
+  room_after : (s u : State) (w v : Whole) → HasRoom w → Again s w u v → HasRoom v
+  room_after s u w v room (r, entry) = record {
+    loops = omega (arith, room.loops, r.keeps.loop_count);
+    groups = λ k some. omega (arith, room.groups k some, r.keeps.group_count);
+  }
+
+  -- the states by what is admitted
+  choices-are : (w : Whole) (more out : Bool) → nat_lt (count_of p.loops w) most ≡ more → nat_le least (count_of p.loops w) ≡ out
+      → ordered greedy more out (one_more p.loops p.address w) (record w { at = suc m.address }) ≡ choices fields p.address w
+  choices-are w more out e f =
+      ap₂ (λ c d. ordered greedy c d (one_more p.loops p.address w) (record w { at = suc m.address })) (sym e) (sym f)
+
+  -- the way out
+  out : (s : State) (w : Whole) → StandsFor reading s w → Leads target.program input dir (Out s w) (record w { at = suc m.address } ∷ []) (s ∷ [])
+  out s w stands =
+      let v : Whole = record w { at = suc m.address } in
+      leads_at_once target.program input (Out s w) (s ∷ []) (v ∷ []) (stays target input reading dir (suc m.address) gone p.loops m.loops s w v refl stands refl refl, tt)
+
+  -- both, in the order of preference
+  both : (g : Bool) (s : State) (w : Whole) (more : List State) → Leads target.program input dir (Out s w) (one_more p.loops p.address w ∷ []) more
+      → StandsFor reading s w
+      → Leads target.program input dir (Out s w) (ordered g true true (one_more p.loops p.address w) (record w { at = suc m.address }))
+      (if g then more ++ s ∷ [] else s ∷ more)
+  both true s w more h stands =
+      leads_beside target.program input (Out s w) (one_more p.loops p.address w ∷ []) (record w { at = suc m.address } ∷ []) more (s ∷ []) h (out s w stands)
+  both false s w more h stands =
+      leads_beside target.program input (Out s w) (record w { at = suc m.address } ∷ []) (one_more p.loops p.address w ∷ []) (s ∷ []) more (out s w stands) h
+
+  -- an iteration past the least number is idle where it took nothing
+  idle-is : (s u : State) (w v : Whole) → StandsFor reading s w → Again s w u v → least ≤ count_of p.loops w
+      → is_idle fields v ≡ not (moved s u)
+  idle-is s u w v stands (r, entry) past =
+      let same : (w.offset == v.offset) ≡ (s.place == u.place) =
+      ap₂ (λ x y. x == y) stands.place r.stands.place ∙ same_offset reading rise s.place u.place stands.inside.place r.stands.inside.place in
+      ap (λ (x : ℕ × ℕ). nat_lt least x.0 && (x.1 == v.offset)) entry
+      ∙ ap (λ c. c && (w.offset == v.offset)) (lt-true least (suc (count_of p.loops w)) (omega (arith, past)))
+      ∙ same ∙ twice (s.place == u.place)
+    where
+      twice : (c : Bool) → c ≡ not (not c)
+      twice true = refl
+      twice false = refl
+
+  -- and up to it never
+  idle-not : (s u : State) (w v : Whole) → Again s w u v → count_of p.loops w < least → is_idle fields v ≡ false
+  idle-not s u w v (r, entry) before =
+      ap (λ (x : ℕ × ℕ). nat_lt least x.0 && (x.1 == v.offset)) entry
+      ∙ ap (λ c. c && (w.offset == v.offset)) (lt-false least (suc (count_of p.loops w)) (omega (arith, before)))
+
+  -- past the least number the next step follows only where the iteration moved
+  dropped_or_on : IsRepetition → (s u : State) (w x : Whole) → StandsFor reading s w → Again s w u x → least ≤ count_of p.loops w
+      → (more : List State) → Leads target.program input dir (Out s w) (choices fields p.address x) more → (c : Bool) → moved s u ≡ c
+      → Leads target.program input dir (Out s w) (x ∷ []) (if c then more else [])
+  dropped_or_on h s u w x stands r past more on true e =
+      first_expand target.program input (Out s w) (x ∷ []) (choices fields p.address x) more
+      (at_end h x r.0.at false (idle-is s u w x stands r past ∙ ap not e)) on
+  dropped_or_on h s u w x stands r past more on false e =
+      first_expand target.program input (Out s w) (x ∷ []) [] []
+      (at_end h x r.0.at true (idle-is s u w x stands r past ∙ ap not e)) (leads_at_once target.program input (Out s w) [] [] tt)
+
+  -- From a state with so many iterations begun the choices lead to the iterations that are left.
+  again : IsRepetition → (left need : ℕ) (s : State) (w : Whole) → count_of p.loops w + left ≡ most → need ≡ least - count_of p.loops w
+      → StandsFor reading s w → HasRoom w
+      → Leads target.program input dir (Out s w) (choices fields p.address w) (iterations body greedy left need s)
+  unfolding iterations
+  again h zero need s w all few stands room =
+      let e : choices fields p.address w ≡ record w { at = suc m.address } ∷ [] =
+      sym (choices-are w false true (lt-false (count_of p.loops w) most (omega (arith, all))) (le-true least (count_of p.loops w) (omega (arith, all, h.bounds))))
+      ∙ ordered-out greedy (one_more p.loops p.address w) (record w { at = suc m.address }) in
+      subst (λ xs. Leads target.program input dir (Out s w) xs (s ∷ [])) (sym e) (out s w stands)
+  again h (suc left) (suc need) s w all few stands room =
+      let v : Whole = one_more p.loops p.address w in
+      let before : count_of p.loops w < least = omega (arith, few) in
+      let e : choices fields p.address w ≡ v ∷ [] =
+      sym (choices-are w true false (lt-true (count_of p.loops w) most (omega (arith, all))) (le-false least (count_of p.loops w) before))
+      ∙ ordered-more greedy v (record w { at = suc m.address }) in
+      subst (λ xs. Leads target.program input dir (Out s w) xs (flat_map (iterations body greedy left need) (body s))) (sym e)
+      (leads_on target.program input (Again s w) (Out s w) (iterations body greedy left need) (v ∷ []) (body s) (iteration h s w stands room)
+      (λ u x r.
+      let count : count_of p.loops x ≡ suc (count_of p.loops w) = ap (λ (y : ℕ × ℕ). y.0) r.1 in
+      first_expand target.program input (Out s w) (x ∷ []) (choices fields p.address x) (iterations body greedy left need u)
+      (at_end h x r.0.at false (idle-not s u w x r before))
+      (leads_weaker target.program input (Out u x) (Out s w) (λ y z o. gone_on s u y w x z r o) (choices fields p.address x) (iterations body greedy left need u)
+      (again h left need u x (omega (arith, all, count)) (omega (arith, few, count)) r.0.stands (room_after s u w x room r)))))
+  again h (suc left) zero s w all few stands room =
+      let v : Whole = one_more p.loops p.address w in
+      let past : least ≤ count_of p.loops w = omega (arith, few) in
+      let on : State → List State = iterations body greedy left zero in
+      let e : choices fields p.address w ≡ ordered greedy true true v (record w { at = suc m.address }) =
+      sym (choices-are w true true (lt-true (count_of p.loops w) most (omega (arith, all))) (le-true least (count_of p.loops w) past)) in
+      let f : flat_map on (filter (moved s) (body s)) ≡ flat_map (λ u. if moved s u then on u else []) (body s) =
+      flat_map-filter on (moved s) (body s) in
+      let more : Leads target.program input dir (Out s w) (v ∷ []) (flat_map (λ u. if moved s u then on u else []) (body s)) =
+      leads_on target.program input (Again s w) (Out s w) (λ u. if moved s u then on u else []) (v ∷ []) (body s) (iteration h s w stands room)
+      (λ u x r.
+      let count : count_of p.loops x ≡ suc (count_of p.loops w) = ap (λ (y : ℕ × ℕ). y.0) r.1 in
+      dropped_or_on h s u w x stands r past (on u)
+      (leads_weaker target.program input (Out u x) (Out s w) (λ y z o. gone_on s u y w x z r o) (choices fields p.address x) (on u)
+      (again h left zero u x (omega (arith, all, count)) (omega (arith, few, count)) r.0.stands (room_after s u w x room r)))
+      (moved s u) refl) in
+      subst (λ xs. Leads target.program input dir (Out s w) xs (if greedy then flat_map on (filter (moved s) (body s)) ++ s ∷ [] else s ∷ flat_map on (filter (moved s) (body s)))) (sym e)
+      (both greedy s w (flat_map on (filter (moved s) (body s))) (subst (Leads target.program input dir (Out s w) (v ∷ [])) (sym f) more) stands)
+
+  -- entering the repetition
+  pub repeating : IsRepetition → Enters target input reading b (tree.loop a first last least most greedy) p (next m)
+  unfolding node_outcomes
+  repeating h s w at stands may =
+      let own : p.loops < length w.loops = omega (arith, h.rises, may.loops) in
+      let v : Whole = record w { loops = slice_set w.loops p.loops (0, w.offset) } in
+      let none : count_of p.loops v ≡ 0 = ap (λ (y : ℕ × ℕ). y.0) (get_or-set_same w.loops p.loops (0, w.offset) (0, 0) own) in
+      let size : length v.loops ≡ length w.loops = length-set w.loops p.loops (0, w.offset) in
+      let room : HasRoom v = record { loops = omega (arith, may.loops, size); groups = may.here } in
+      let us : List State = iterations body greedy most least s in
+      let step : Expands target.program input dir (w ∷ []) (choices fields w.at v) =
+      steps target.program input (code.enter_loop fields) w (standing target input reading w at h.begin) refl in
+      first_expand target.program input (Out s w) (w ∷ []) (choices fields p.address v) us
+      (subst (λ a. Expands target.program input dir (w ∷ []) (choices fields a v)) at step)
+      (leads_weaker target.program input (Out s v) (Out s w) (λ u x o. record {
+        at = o.at;
+        stands = o.stands;
+        keeps = record {
+          loops = λ k out. o.keeps.loops k out ∙ get_or-set_other w.loops p.loops k (0, w.offset) (0, 0) (apart h.rises k out);
+          loop_count = o.keeps.loop_count ∙ size;
+          groups = o.keeps.groups;
+          group_count = o.keeps.group_count;
+        };
+        ahead = o.ahead;
+      }) (choices fields p.address v) us
+      (again h most least s v (omega (arith, none)) (omega (arith, none)) stands room))
+    where
+      apart : suc p.loops ≤ m.loops → (k : ℕ) → (k < p.loops) ⊎ (m.loops ≤ k) → k ≢ p.loops
+      apart r k (inl o) e = absurd (omega arith)
+      apart r k (inr o) e = absurd (omega arith)

@@ -1,0 +1,5 @@
+pub mod States
+pub mod Runs
+pub mod Computed
+pub mod Meets
+pub mod Stand

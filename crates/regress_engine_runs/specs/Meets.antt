@@ -1,0 +1,33 @@
+-- The states that a run comes to, whether it ends or not.
+use Rattle.std.specs.Prelude.{◌≡◌, ℕ, ◌≤◌, Bool, true, List, [], ◌∷◌, ◌++◌, length, Option}
+use Rattle.regress_meaning.specs.Meaning.{Direction, Forward}
+use Rattle.regress_meaning.specs.Offsets.{Reading, offset}
+use Rattle.regress_meaning.specs.Inputs.{Input}
+use Rattle.regress_front_nodes.specs.TreeMeaning.{direction}
+use Rattle.regress_engine_code.specs.Instructions.{Instruction, Program, Stands}
+use Rattle.regress_engine_code.specs.Instructions as code
+use Rattle.regress_engine_runs.specs.States.{Whole, onward, first_state}
+use Rattle.regress_engine_runs.specs.Runs.{is_plain, successors, after_look, Runs}
+
+module _ (program : Program) (input : Input) where
+  -- A run over states meets a state.
+  pub data Meets : Direction → List Whole → Whole → Type 0 where
+    -- the one that is first
+    now : {dir : Direction} {s : Whole} {ss : List Whole} → Meets dir (s ∷ ss) s
+    -- one that is met where its successors have taken its place
+    later : {dir : Direction} {i : Instruction} {s t : Whole} {ss : List Whole}
+        → Stands program s.at i → is_plain i ≡ true → Meets dir (successors program input i dir s ++ ss) t → Meets dir (s ∷ ss) t
+    -- at a lookaround one that is met inside
+    inside : {dir : Direction} {negated backward : Bool} {first last continuation : ℕ} {s t : Whole} {ss : List Whole}
+        → Stands program s.at (code.look negated backward first last continuation)
+        → Meets (direction backward) (onward s ∷ []) t → Meets dir (s ∷ ss) t
+    -- or where what follows it has taken its place
+    behind : {dir : Direction} {negated backward : Bool} {first last continuation : ℕ} {s t : Whole} {ss : List Whole} {q : Option Whole}
+        → Stands program s.at (code.look negated backward first last continuation)
+        → Runs program input (direction backward) (onward s ∷ []) q → Meets dir (after_look negated first last continuation s q ++ ss) t
+        → Meets dir (s ∷ ss) t
+
+-- A program never gets stuck: from each place of the text, at each state that its run meets an instruction stands.
+abbrev pub NeverStuck : Program → Input → Reading → Type 0
+NeverStuck program input reading = (p : ℕ) → p ≤ length reading.points → (t : Whole)
+    → Meets program input Forward (first_state program (offset reading p) ∷ []) t → (i : Instruction) × Stands program t.at i

@@ -1,0 +1,7 @@
+//! What a program does, and that it does what its tree means. The definitions stand in `specs/`. Nothing here runs: each
+//! function is a law of theirs, stated by its contract.
+#![tactic(auto)]
+
+mod laws;
+
+pub use laws::{layouts_never_get_stuck, layouts_run_as_trees, runs_are_determined};
