@@ -2,6 +2,7 @@ pub mod RunLemmas
 pub mod RunViews
 pub mod Computed
 pub mod OneAnswer
+pub mod UndoLemmas
 pub mod Leading
 pub mod Places
 pub mod Entering

@@ -3,3 +3,4 @@ pub mod Runs
 pub mod Computed
 pub mod Meets
 pub mod Stand
+pub mod UndoStack

@@ -1,0 +1,92 @@
+-- Steps of one whole state and a stack of records, against the run that they stand for.
+use Rattle.std.specs.Prelude.{slice_set, option_map, unwrap_or}
+use Rattle.std.proofs.Common.{◌≡◌, ℕ, ◌+◌, ◌<◌, true, List, [], ◌∷◌, ◌++◌, Option, Some, None, get_or, refl, sym, ap, ◌∙◌, subst, arith, append_assoc}
+use Rattle.std.proofs.lemmas.List.{set-set, set-get_or}
+use Rattle.regress_meaning.specs.Meaning.{Direction}
+use Rattle.regress_front_nodes.specs.TreeMeaning.{direction}
+use Rattle.regress_engine_code.specs.Instructions.{Instruction, Program, Stands}
+use Rattle.regress_engine_code.specs.Instructions as code
+use Rattle.regress_meaning.specs.Inputs.{Input}
+use Rattle.regress_engine_runs.specs.States.{Whole, Marks, onward}
+use Rattle.regress_engine_runs.specs.Runs.{Run, successors, is_plain, after_look}
+use Rattle.regress_engine_runs.specs.UndoStack.{Frame, Undo, Work, outermost, inside, old_loop, old_group, first_do, stands_for, Comes, alone, within, steps_left}
+use Rattle.regress_engine_runs.proofs.Computed.{runs-computed}
+use Rattle.regress_engine_runs.proofs.RunViews.{run_goes, run_none, run_found, run_looks}
+
+-- what is written is undone
+pub loop_undone : (loops : List (ℕ × ℕ)) (id : ℕ) (x : ℕ × ℕ) → slice_set (slice_set loops id x) id (get_or loops id (0, 0)) ≡ loops
+loop_undone loops id x = set-set loops id x (get_or loops id (0, 0)) ∙ set-get_or loops id (0, 0)
+
+-- so a record before a write keeps what the stack stands for
+pub loop_recorded : (stack : List Undo) (loops : List (ℕ × ℕ)) (groups : List Marks) (id : ℕ) (x : ℕ × ℕ)
+    → stands_for (old_loop id (get_or loops id (0, 0)) ∷ stack) (slice_set loops id x) groups ≡ stands_for stack loops groups
+unfolding stands_for
+loop_recorded stack loops groups id x = ap (λ ls. stands_for stack ls groups) (loop_undone loops id x)
+
+pub group_recorded : (stack : List Undo) (loops : List (ℕ × ℕ)) (groups : List Marks) (k : ℕ) (m d : Marks)
+    → stands_for (old_group k (get_or groups k d) ∷ stack) loops (slice_set groups k m) ≡ stands_for stack loops groups
+unfolding stands_for
+group_recorded stack loops groups k m d = ap (λ gs. stands_for stack loops gs) (set-set groups k m (get_or groups k d) ∙ set-get_or groups k d)
+
+module _ (program : Program) (input : Input) where
+  -- A plain step: the successors take the place of the state, and fewer steps are left.
+  pub work_goes : {dir : Direction} {s : Whole} {work : Work} {n : ℕ} {r : Option Whole} (i : Instruction) → Stands program s.at i → is_plain i ≡ true
+      → Comes program input dir (s ∷ []) work n r → (m : ℕ) × (m < n) × Comes program input dir (successors program input i dir s) work m r
+  work_goes i here plain (alone run) = let k = run_goes program input i here plain run in (k.0, omega (arith, k.1), alone k.2)
+  work_goes i here plain (within {n = n} same run outer) =
+      let k = run_goes program input i here plain run in (k.0 + n, omega (arith, k.1), within same k.2 outer)
+
+  -- what is to do first is done first
+  pub work_first : {dir : Direction} (ss ts : List Whole) (work : Work) (n : ℕ) (r : Option Whole) → Comes program input dir ss (first_do ts work) n r
+      → Comes program input dir (ss ++ ts) work n r
+  work_first {dir = dir} ss ts (outermost us) n r (alone run) = alone (subst (λ xs. Run program input dir xs n r) (sym (append_assoc ss ts us)) run)
+  work_first {dir = dir} ss ts (inside us f s rest) n r (within {m = m} {q = q} same run outer) =
+      within same (subst (λ xs. Run program input dir xs m q) (sym (append_assoc ss ts us)) run) outer
+
+  -- The stack is popped at a frame: its contents have no answer.
+  pub frame_exhausted : {dir : Direction} (f : Frame) (s : Whole) (work : Work) (n : ℕ) (r : Option Whole) → Comes program input dir [] (inside [] f s work) n r
+      → Comes program input f.outside (after_look f.negated f.first f.last f.continuation s None) work n r
+  frame_exhausted f s work n r (within {n = k} {q = q} same run outer) =
+      let none = run_none program input run in
+      let e : k ≡ n = omega (arith, none.0) in
+      subst (λ j. Comes program input f.outside (after_look f.negated f.first f.last f.continuation s None) work j r) e
+      (subst (λ x. Comes program input f.outside (after_look f.negated f.first f.last f.continuation s x) work k r) none.1 outer)
+
+  -- A state at a goal inside a frame: its contents have this answer.
+  pub frame_found : {dir : Direction} (t : Whole) (ts : List Whole) (f : Frame) (s : Whole) (work : Work) (n : ℕ) (r : Option Whole) → Stands program t.at code.goal
+      → Comes program input dir (t ∷ []) (inside ts f s work) n r
+      → (m : ℕ) × (m < n) × Comes program input f.outside (after_look f.negated f.first f.last f.continuation s (Some t)) work m r
+  frame_found t ts f s work n r here (within {n = k} {q = q} same run outer) =
+      let found = run_found program input here run in
+      (k, omega (arith, found.0), subst (λ x. Comes program input f.outside (after_look f.negated f.first f.last f.continuation s x) work k r) found.1 outer)
+
+  -- A state at a goal outside of all: it is the answer.
+  pub all_found : {dir : Direction} (t : Whole) (ts : List Whole) (n : ℕ) (r : Option Whole) → Stands program t.at code.goal
+      → Comes program input dir (t ∷ []) (outermost ts) n r → r ≡ Some t
+  all_found t ts n r here (alone run) = (run_found program input here run).1
+
+  -- A lookaround begins: a frame is pushed, and its contents come first.
+  pub frame_pushed : {dir : Direction} (s : Whole) (work : Work) (n : ℕ) (r : Option Whole) (f : Frame) → dir ≡ f.outside
+      → Stands program s.at (code.look f.negated f.backward f.first f.last f.continuation) → Comes program input dir (s ∷ []) work n r
+      → (m : ℕ) × (m < n) × Comes program input (direction f.backward) (onward s ∷ []) (inside [] f s work) m r
+  frame_pushed s (outermost ts) n r f same here (alone run) =
+      let (q, m, k, count, inner, outer) =
+      run_looks program input (code.look f.negated f.backward f.first f.last f.continuation) here refl (λ e. grind arith) run in
+      (m + k, omega (arith, count), within refl inner (subst (λ d. Comes program input d (after_look f.negated f.first f.last f.continuation s q) (outermost ts) k r) same (alone outer)))
+  frame_pushed s (inside ts g t rest) n r f same here (within {n = l} {q = p} turned run beyond) =
+      let (q, m, k, count, inner, outer) =
+      run_looks program input (code.look f.negated f.backward f.first f.last f.continuation) here refl (λ e. grind arith) run in (
+        m + (k + l),
+        omega (arith, count),
+        within refl inner (subst (λ d. Comes program input d (after_look f.negated f.first f.last f.continuation s q) (inside ts g t rest) (k + l) r) same (within turned outer beyond)),
+      )
+
+  -- what is computed is the number of steps
+  pub steps-left : {dir : Direction} {ss : List Whole} {work : Work} {n : ℕ} {r : Option Whole} → Comes program input dir ss work n r → (f : ℕ) → n < f
+      → steps_left program input f dir ss work ≡ n
+  unfolding steps_left
+  steps-left (alone run) f few = ap (λ (o : Option (ℕ × Option Whole)). unwrap_or (option_map (λ (x : ℕ × Option Whole). x.0) o) 0) (runs-computed program input run f few)
+  steps-left (within {f = g} {s = s} {rest = rest} {m = m} {n = k} {q = q} same run outer) f few =
+      ap (λ (o : Option (ℕ × Option Whole)). unwrap_or (option_map (λ (x : ℕ × Option Whole). x.0 + steps_left program input f g.outside
+      (after_look g.negated g.first g.last g.continuation s x.1) rest) o) 0) (runs-computed program input run f (omega arith))
+      ∙ ap (λ j. m + j) (steps-left outer f (omega arith))
