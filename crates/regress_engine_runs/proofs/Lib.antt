@@ -19,3 +19,4 @@ pub mod Strings
 pub mod Enter
 pub mod WholeTree
 pub mod Stuck
+pub mod ItemLemmas

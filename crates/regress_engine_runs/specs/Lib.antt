@@ -4,3 +4,4 @@ pub mod Computed
 pub mod Meets
 pub mod Stand
 pub mod UndoStack
+pub mod Items

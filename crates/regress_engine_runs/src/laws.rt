@@ -1,15 +1,18 @@
 //! Laws of runs, each the contract of a function with an empty body.
-ghost use Rattle.std.specs.Prelude.{◌≡◌, ℕ, false, List, Option};
+ghost use Rattle.std.specs.Prelude.{◌≡◌, ◌↔◌, ◌+◌, ◌<◌, ◌≤◌, ℕ, false, List, length, map, Option, None, Some, option_map, slice_get};
 ghost use Rattle.regress_meaning.specs.Meaning.{Direction};
-ghost use Rattle.regress_meaning.specs.Offsets.{Reading};
-ghost use Rattle.regress_meaning.specs.Inputs.{Input, Tells};
+ghost use Rattle.regress_meaning.specs.Matches.{Item};
+ghost use Rattle.regress_meaning.specs.Offsets.{Reading, Begins, offset, told};
+ghost use Rattle.regress_meaning.specs.Inputs.{Input, Tells, context_of};
 ghost use Rattle.regress_front_nodes.specs.Trees.{Tree};
 ghost use Rattle.regress_front_nodes.specs.WellFormed.{IsWellFormed};
+ghost use Rattle.regress_front_nodes.specs.NodeMatches.{node_first_match, node_match_list};
 ghost use Rattle.regress_front_nodes.specs.ByteInputs.{TellsBytes};
 ghost use Rattle.regress_engine_code.specs.Instructions.{Program};
 ghost use Rattle.regress_engine_code.specs.Layout.{Target, IsLayout};
 ghost use Rattle.regress_engine_runs.specs.States.{Whole};
 ghost use Rattle.regress_engine_runs.specs.Runs.{Run};
+ghost use Rattle.regress_engine_runs.specs.Items.{Answers, Finds, Lists, begins_at};
 ghost use Rattle.regress_engine_runs.specs.Meets.{NeverStuck};
 ghost use Rattle.regress_engine_runs.specs.Stand.{IsMadeFor, RunsAsTree};
 
@@ -27,4 +30,23 @@ pub fn layouts_never_get_stuck()
 /// A run has one number of steps and one answer.
 pub fn runs_are_determined()
     ensures { (program : Program) → (input : Input) → (dir : Direction) → (ss : List Whole) → (n m : ℕ) → (r q : Option Whole) → Run program input dir ss n r → Run program input dir ss m q → (n ≡ m) × (r ≡ q) }
+{}
+
+/// What a search over runs finds from a place on is the tree's first match from there on, told in offsets; searches that go
+/// on one behind another list the tree's matches; and the first match is the head of that list.
+pub fn searches_find_matches()
+    ensures first { (program : Program) → (input : Input) → (reading : Reading) → Tells reading input → (n : ℕ) → (t : Tree) → RunsAsTree program input reading n t → (p : ℕ) → p ≤ length reading.points → (o : Option Item) → Finds program input (offset reading p) o ↔ (o ≡ option_map (told reading) (node_first_match (context_of reading input) n t p)) }
+    ensures all { (program : Program) → (input : Input) → (reading : Reading) → Tells reading input → (n : ℕ) → (t : Tree) → RunsAsTree program input reading n t → (p : ℕ) → p ≤ length reading.points → (items : List Item) → Lists program input (Some (offset reading p)) items ↔ (items ≡ map (told reading) (node_match_list (context_of reading input) n t p)) }
+    ensures asked { (program : Program) → (input : Input) → (reading : Reading) → Tells reading input → (n : ℕ) → (t : Tree) → RunsAsTree program input reading n t → offset reading (length reading.points) ≡ length input.units → (at p : ℕ) → Begins reading at p → (items : List Item) → Lists program input (begins_at input at) items ↔ (items ≡ map (told reading) (node_match_list (context_of reading input) n t p)) }
+    ensures head { (reading : Reading) → (input : Input) → (n : ℕ) → (t : Tree) → (p : ℕ) → slice_get (map (told reading) (node_match_list (context_of reading input) n t p)) 0 ≡ option_map (told reading) (node_first_match (context_of reading input) n t p) }
+{}
+
+/// So searches over the runs of a layout list the matches of its tree, told in offsets.
+pub fn layouts_list_matches()
+    ensures { (target : Target) → (input : Input) → (reading : Reading) → Tells reading input → (target.program.units ≡ false → TellsBytes reading input) → IsMadeFor target input → (n : ℕ) → (t : Tree) → IsWellFormed n t → IsLayout target n t → (p : ℕ) → p ≤ length reading.points → (items : List Item) → Lists target.program input (Some (offset reading p)) items ↔ (items ≡ map (told reading) (node_match_list (context_of reading input) n t p)) }
+{}
+
+/// A search may skip places from which no run has an answer.
+pub fn searches_may_skip()
+    ensures { (program : Program) → (input : Input) → (reading : Reading) → Tells reading input → (k p : ℕ) → p + k ≤ length reading.points → ((x : ℕ) → p ≤ x → x < p + k → Answers program input (offset reading x) None) → (o : Option Item) → Finds program input (offset reading (p + k)) o → Finds program input (offset reading p) o }
 {}
