@@ -20,3 +20,5 @@ pub mod Enter
 pub mod WholeTree
 pub mod Stuck
 pub mod ItemLemmas
+pub mod Emitted
+mod Rows

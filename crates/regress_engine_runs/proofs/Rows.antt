@@ -1,0 +1,274 @@
+-- Runs of programs, by example, in programs of bytes and of units. Offsets count bytes of ASCII.
+use Rattle.std.proofs.Common.{◌≡◌, ℕ, Bool, true, false, List, [], ◌∷◌, map, Option, Some, None, refl, option_map}
+use Prim.Native.Char.{Char, code}
+use Prim.Native.String.{String}
+use lib.Chars.{codes}
+use lib.Utf8.{encode}
+use Rattle.std.specs.Str.{chars}
+use Rattle.regress_meaning.specs.Table.{canon}
+use Rattle.regress_meaning.specs.TableParts.{is_code_point, table_of, small_parts, image, in_intervals, entry}
+use Rattle.regress_meaning.specs.Class.{is_word}
+use Rattle.regress_meaning.specs.Tokens.{greatest}
+use Rattle.regress_meaning.specs.Meaning.{Forward}
+use Rattle.regress_front_nodes.specs.Trees.{Tree, cat_of, char, cat, no_part, alt, capture, back, look, loop, goal, line_start, line_end, bytes, char_set, string_set, single_loop}
+use Rattle.regress_engine_code.specs.Instructions.{Program}
+use Rattle.std.proofs.Common.{All, arith}
+use Rattle.std.specs.Prelude.{◌&&◌, if◌then◌else◌, nat_le, nat_lt}
+use Rattle.std.specs.List.{list_all}
+use Rattle.std.proofs.lemmas.Bool.{and_parts, leb-true}
+use Rattle.std.proofs.lemmas.Bool.Decides.{nat_tests}
+use Rattle.std.proofs.lemmas.List.Elements.{All-nil, All-cons}
+use Rattle.regress_meaning.specs.Table.{last_code_point}
+use Rattle.regress_front_nodes.specs.WellFormed.{IsWellFormed}
+use Rattle.regress_engine_code.specs.Layout.{Spot, Target, IsLayout}
+use Rattle.regress_meaning.specs.Inputs.{Input, ascii_input}
+use Rattle.regress_meaning.specs.Steps.{copied}
+use Rattle.regress_engine_runs.specs.States.{Whole, range_of, first_state}
+use Rattle.regress_engine_runs.specs.Runs.{taken}
+use Rattle.regress_engine_runs.specs.Computed.{run}
+use Rattle.regress_front_nodes.specs.Pieces.{pieces_of, expansion}
+use Rattle.regress_engine_code.specs.Counts.{count}
+use Rattle.regress_engine_runs.proofs.Emitted.{emitted}
+
+-- what the examples compute with
+computation : Unit {0}
+unfolding run copied taken emitted pieces_of expansion count encode chars is_word canon image in_intervals entry
+computation = tt
+
+-- an ASCII text as an input
+abbrev ascii : String → Input
+ascii text = ascii_input (table_of small_parts) false (codes text)
+
+-- what a program without instructions is made for
+abbrev blank : Bool → Target
+blank units = record { program = record { instructions = []; brackets = []; loops = 0; groups = 0; units = units }; table = table_of small_parts; unicode = false }
+
+-- the program of a tree with so many loops and groups, of bytes or of units
+abbrev made_of : Bool → ℕ → ℕ → Tree → Program
+made_of units loops groups t =
+    record { instructions = emitted (blank units) false (cat t (cat goal no_part)) 0 0; brackets = []; loops = loops; groups = groups; units = units }
+
+abbrev program_of : ℕ → ℕ → Tree → Program
+program_of loops groups t = made_of false loops groups t
+
+-- where a state is and what its groups took
+abbrev told : Whole → ℕ × List (Option (ℕ × ℕ))
+told w = (w.offset, map range_of w.groups)
+
+-- the answer from an offset
+abbrev answer : ℕ → ℕ → Tree → String → ℕ → Option (Option (ℕ × List (Option (ℕ × ℕ))))
+answer loops groups t text o = option_map (λ (x : ℕ × Option Whole). option_map told x.1) (run (program_of loops groups t) (ascii text) 2000 Forward (first_state (program_of loops groups t) o ∷ []))
+
+abbrev found : ℕ → List (Option (ℕ × ℕ)) → Option (Option (ℕ × List (Option (ℕ × ℕ))))
+found e groups = Some (Some (e, groups))
+
+abbrev nothing : Option (Option (ℕ × List (Option (ℕ × ℕ))))
+nothing = Some None
+
+abbrev letter : Char → Tree
+letter c = char (code c)
+
+-- ^(?:(?:a|ab){2}){1,2}$ on aab
+abbrev nested : Tree
+nested = cat_of (line_start false ∷ loop (loop (alt (letter "a") (cat_of (letter "a" ∷ letter "b" ∷ []))) 0 0 2 2 true) 0 0 1 2 true ∷ line_end false ∷ [])
+
+nested_loops : answer 2 0 nested "aab" 0 ≡ found 3 []
+unfolding computation
+nested_loops = refl
+
+-- (z)((a+)?(b+)?(c))* on zaacbbbcac
+abbrev resetting : Tree
+resetting =
+    cat_of (capture 0 None (letter "z") ∷ loop (capture 1 None (cat_of (
+    loop (capture 2 None (loop (letter "a") 3 3 1 greatest true)) 2 3 0 1 true
+    ∷ loop (capture 3 None (loop (letter "b") 4 4 1 greatest true)) 3 4 0 1 true
+    ∷ capture 4 None (letter "c") ∷ []))) 1 5 0 greatest true ∷ [])
+
+iterations_reset_groups : answer 5 5 resetting "zaacbbbcac" 0 ≡ found 10 (Some (0, 1) ∷ Some (8, 10) ∷ Some (8, 9) ∷ None ∷ Some (9, 10) ∷ [])
+unfolding computation
+iterations_reset_groups = refl
+
+-- (a|a\1)$ on aa, from 0 and from 1
+abbrev inside_itself : Tree
+inside_itself = cat_of (capture 0 None (alt (letter "a") (cat_of (letter "a" ∷ back 1 false ∷ []))) ∷ line_end false ∷ [])
+
+an_open_group_is_unset : answer 0 1 inside_itself "aa" 0 ≡ nothing
+unfolding computation
+an_open_group_is_unset = refl
+
+an_open_group_is_unset_later : answer 0 1 inside_itself "aa" 1 ≡ found 2 (Some (1, 2) ∷ [])
+unfolding computation
+an_open_group_is_unset_later = refl
+
+abbrev digit : Tree
+digit = char_set (codes "0123456789")
+
+-- (?<=(\d+)(\d+))$ on 1053
+abbrev behind : Tree
+behind = cat_of (look false true 0 2 (cat_of (capture 1 None (loop digit 2 2 1 greatest true) ∷ capture 0 None (loop digit 2 2 1 greatest true) ∷ [])) ∷ line_end false ∷ [])
+
+a_lookbehind_reads_backward : answer 2 2 behind "1053" 4 ≡ found 4 (Some (0, 1) ∷ Some (1, 4) ∷ [])
+unfolding computation
+a_lookbehind_reads_backward = refl
+
+-- (?:a|(a))\1$ on aa
+abbrev one_arm : Tree
+one_arm = cat_of (alt (letter "a") (capture 0 None (letter "a")) ∷ back 1 false ∷ line_end false ∷ [])
+
+an_unset_group_repeats_nothing : answer 0 1 one_arm "aa" 0 ≡ found 2 (Some (0, 1) ∷ [])
+unfolding computation
+an_unset_group_repeats_nothing = refl
+
+-- (a*)* on b
+abbrev empty_iterations : Tree
+empty_iterations = loop (capture 0 None (loop (letter "a") 1 1 0 greatest true)) 0 1 0 greatest true
+
+an_empty_iteration_is_dropped : answer 2 1 empty_iterations "b" 0 ≡ found 0 (None ∷ [])
+unfolding computation
+an_empty_iteration_is_dropped = refl
+
+-- (?:a?){2,}b on ab
+abbrev needed : Tree
+needed = cat_of (loop (loop (letter "a") 0 0 0 1 true) 0 0 2 greatest true ∷ letter "b" ∷ [])
+
+an_empty_iteration_may_be_needed : answer 2 0 needed "ab" 0 ≡ found 2 []
+unfolding computation
+an_empty_iteration_may_be_needed = refl
+
+-- the same with a* as a one-character loop, greedy and lazy
+abbrev single : Bool → Tree
+single greedy = cat_of (capture 0 None (single_loop (letter "a") 1 greatest greedy) ∷ letter "a" ∷ [])
+
+a_one_character_loop_gives_back : answer 0 1 (single true) "aaab" 0 ≡ found 3 (Some (0, 2) ∷ [])
+unfolding computation
+a_one_character_loop_gives_back = refl
+
+a_lazy_one_takes_few : answer 0 1 (single false) "aaab" 0 ≡ found 2 (Some (0, 1) ∷ [])
+unfolding computation
+a_lazy_one_takes_few = refl
+
+-- literals and sets of strings, in programs of bytes and of units
+abbrev literally : Bool → Tree → List ℕ → ℕ → Option (Option ℕ)
+literally units t text o =
+    let program : Program = made_of units 0 0 t in
+    let input : Input = ascii_input (table_of small_parts) false text in
+    option_map (λ (x : ℕ × Option Whole). option_map (λ (w : Whole). w.offset) x.1) (run program input 2000 Forward (first_state program o ∷ []))
+
+-- (?:ab|a)b on ab
+abbrev arms : Tree
+arms = cat_of (string_set (codes "ab" ∷ codes "a" ∷ []) false ∷ bytes (codes "b") ∷ [])
+
+an_arm_is_left : (units : Bool) → literally units arms (codes "ab") 0 ≡ Some (Some 2)
+unfolding computation
+an_arm_is_left true = refl
+an_arm_is_left false = refl
+
+-- behind ab, a lone surrogate and d; in bytes no text holds it
+abbrev torn : Tree
+torn = cat_of (look false true 0 0 (string_set ((0x61 ∷ 0x62 ∷ 0xD800 ∷ 0x64 ∷ []) ∷ []) false) ∷ bytes (codes "e") ∷ [])
+
+pieces_are_turned : literally true torn (0x61 ∷ 0x62 ∷ 0xD800 ∷ 0x64 ∷ 0x65 ∷ []) 4 ≡ Some (Some 5)
+unfolding computation
+pieces_are_turned = refl
+
+-- a literal of 17 characters in a lookbehind
+abbrev long_behind : Tree
+long_behind = look false true 0 0 (bytes (codes "abcdefghijklmnopq"))
+
+chunks_are_turned : (units : Bool) → literally units long_behind (codes "abcdefghijklmnopqr") 17 ≡ Some (Some 17)
+unfolding computation
+chunks_are_turned true = refl
+chunks_are_turned false = refl
+
+-- a{2,} as a loop of a literal
+a_literal_again : (units : Bool) → literally units (single_loop (bytes (codes "a")) 2 greatest true) (codes "aaab") 0 ≡ Some (Some 3)
+unfolding computation
+a_literal_again true = refl
+a_literal_again false = refl
+
+-- how many instructions they have
+abbrev counted_of : Bool → Tree → ℕ
+counted_of units t = count units (table_of small_parts) false t
+
+counted_chunks : (counted_of false long_behind ≡ 4) × (counted_of true long_behind ≡ 19)
+unfolding computation
+counted_chunks = (refl, refl)
+
+counted_arms : (counted_of false arms ≡ 5) × (counted_of true arms ≡ 6) × (counted_of false (string_set [] false) ≡ 1)
+unfolding computation
+counted_arms = (refl, refl, refl)
+
+counted_pieces : counted_of false torn ≡ 6
+unfolding computation
+counted_pieces = refl
+
+-- ---- trees that lie in their programs
+
+abbrev spot : ℕ → Spot
+spot k = record { address = k; loops = 0 }
+
+-- (a|a\1)$ lies in its program
+a_layout : IsLayout (record { program = program_of 0 1 inside_itself; table = table_of small_parts; unicode = false }) 1 (cat inside_itself (cat goal no_part))
+unfolding computation
+a_layout = record {
+  lies = (
+    spot 8,
+    (spot 7, (spot 6, refl, (spot 3, refl, (refl, refl), refl, (spot 5, (refl, refl), (spot 6, (refl, refl), refl))), (refl, refl)), (spot 8, (refl, refl), refl)),
+    (spot 9, (refl, refl), refl),
+  );
+  groups = refl;
+}
+
+-- an example of it: (?:ab|a)bcc{0,3}, in programs of units and of bytes
+abbrev example : Tree
+example =
+    cat (string_set (codes "ab" ∷ codes "a" ∷ []) false) (cat (bytes (codes "bc")) (cat (single_loop (bytes (codes "c")) 0 3 true) (cat goal no_part)))
+
+abbrev example_target : Bool → Target
+example_target units = record {
+  program = record { instructions = emitted (blank units) false example 0 0; brackets = []; loops = 0; groups = 0; units = units };
+  table = table_of small_parts;
+  unicode = false;
+}
+
+example_lies : (units : Bool) → IsLayout (example_target units) 0 example
+unfolding computation
+example_lies true = record {
+  lies = (
+    spot 5,
+    (spot 3, ((refl, (refl, tt)), refl), refl, refl, ((refl, tt), refl)),
+    (spot 7, ((refl, (refl, tt)), refl), (spot 9, (refl, ((refl, tt), refl)), (spot 10, (refl, refl), refl))),
+  );
+  groups = refl;
+}
+example_lies false = record {
+  lies = (
+    spot 4,
+    (spot 2, ((refl, tt), refl), refl, refl, ((refl, tt), refl)),
+    (spot 5, ((refl, tt), refl), (spot 7, (refl, ((refl, tt), refl)), (spot 8, (refl, refl), refl))),
+  );
+  groups = refl;
+}
+
+all_points : (cs : List ℕ) → list_all (λ c. nat_le c last_code_point) cs ≡ true → All is_code_point cs
+all_points [] e = All-nil is_code_point
+all_points (c ∷ cs) e =
+    let parts = and_parts (nat_le c last_code_point) (list_all (λ d. nat_le d last_code_point) cs) e in
+    All-cons is_code_point c cs (leb-true c last_code_point parts.0) (all_points cs parts.1)
+
+example_formed : IsWellFormed 0 example
+unfolding computation
+example_formed = record {
+  one_goal = refl;
+  ended = refl;
+  numbered = record { order = omega arith; once = λ k. by_test (nat_le 0 k) k };
+  lawful = (
+    All-cons (All is_code_point) (codes "ab") (codes "a" ∷ []) (all_points (codes "ab") refl)
+        (All-cons (All is_code_point) (codes "a") [] (all_points (codes "a") refl) (All-nil (All is_code_point))),
+    ((omega arith, (codes "bc", (refl, refl))), ((refl, omega arith, (omega arith, (codes "c", (refl, refl)))), (tt, tt))),
+  );
+}
+  where
+    by_test : (b : Bool) (k : ℕ) → let none : ℕ = 0 in none ≡ (if b && nat_lt k 0 then 1 else 0)
+    by_test true k = grind (arith, nat_tests)
+    by_test false k = refl
