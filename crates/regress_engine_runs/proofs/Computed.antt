@@ -1,10 +1,10 @@
 -- What is computed is a run, and a run is what is computed: so it has one answer and one number of steps.
 use Rattle.std.proofs.Common.{◌≡◌, ℕ, zero, suc, ◌+◌, ◌<◌, true, List, [], ◌∷◌, ◌++◌, Option, Some, None, option_and_then, option_map, refl, sym, ap, ◌∙◌, subst, arith, slice_get}
 use Rattle.regress_meaning.specs.Meaning.{Direction}
+use Rattle.regress_meaning.specs.Inputs.{Input}
 use Rattle.regress_front_nodes.specs.TreeMeaning.{direction}
 use Rattle.regress_engine_code.specs.Instructions.{Instruction, Program, Stands}
 use Rattle.regress_engine_code.specs.Instructions as code
-use Rattle.regress_meaning.specs.Inputs.{Input}
 use Rattle.regress_engine_runs.specs.States.{Whole, onward}
 use Rattle.regress_engine_runs.specs.Runs.{Run, ends, finds, goes, looks, successors, is_plain, after_look}
 use Rattle.regress_engine_runs.specs.Computed.{Counted, more_steps, run, run_at}

@@ -3,20 +3,20 @@ use Rattle.std.specs.Prelude.{nat_eq, is_some, chars}
 use Rattle.std.specs.List.{list_all}
 use Rattle.std.proofs.Common.{◌≡◌, ℕ, suc, ◌+◌, ◌≤◌, ◌==◌, ◌&&◌, ◌||◌, not, Bool, true, false, List, [], ◌∷◌, length, Option, Some, None, if◌then◌else◌, option_map, option_and_then, refl, sym, ap, ap₂, ◌∙◌, subst, arith}
 use Rattle.regress_meaning.specs.Text.{holds, same_text}
-use Rattle.regress_meaning.specs.Meaning.{State, Direction, Forward, Backward, Context, beside, before, after, step, is_line_end, is_some_and}
+use Rattle.regress_meaning.specs.Meaning.{State, Direction, Forward, Backward, Context, beside, before, after, step, is_line_end, is_some_and, differ}
 use Rattle.regress_meaning.specs.Offsets.{Reading, offset}
+use Rattle.regress_meaning.specs.Inputs.{Input, Tells, neighbour, point_told, context_of}
+use Rattle.regress_meaning.specs.Steps.{passed, only_if, point}
 use Rattle.regress_front_nodes.specs.Trees.{Tree}
 use Rattle.regress_front_nodes.specs.Trees as tree
-use Rattle.regress_front_nodes.specs.TreeMeaning.{node_outcomes, bracket_has}
+use Rattle.regress_front_nodes.specs.TreeMeaning.{node_outcomes, bracket_has, direction}
 use Rattle.regress_front_nodes.specs.WellFormed.{AreLawful, goals}
-use Rattle.regress_front_nodes.specs.TreeMeaning.{direction}
+use Rattle.regress_front_nodes.specs.ByteInputs.{TellsBytes, placed}
+use Rattle.regress_front_nodes.specs.Singles.{takes_one}
 use Rattle.regress_engine_code.specs.Instructions.{LoopFields, Program, Instruction, Stands, StandFrom}
 use Rattle.regress_engine_code.specs.Instructions as code
 use Rattle.regress_engine_code.specs.Layout.{Spot, next, Target, Lies, IsBracket, literal_code}
-use Rattle.regress_meaning.specs.Inputs.{Input, Tells, neighbour, point_told, context_of}
-use Rattle.regress_meaning.specs.Steps.{passed, only_if, point}
-use Rattle.regress_meaning.specs.Meaning.{differ}
-use Rattle.regress_front_nodes.specs.ByteInputs.{TellsBytes, placed}
+use Rattle.regress_engine_code.proofs.LiteralLemmas.{one-character, literal-alone}
 use Rattle.regress_engine_runs.specs.States.{Whole}
 use Rattle.regress_engine_runs.specs.Runs.{moved_to}
 use Rattle.regress_engine_runs.specs.Stand.{StandsFor, IsMadeFor}
@@ -29,10 +29,8 @@ use Rattle.regress_engine_runs.proofs.Neighbours.{point-before, point-after, non
 use Rattle.regress_engine_runs.proofs.Leaves.{taking, testing, empty-enters, byte_set-enters}
 use Rattle.regress_engine_runs.proofs.Backs.{referring}
 use Rattle.regress_engine_runs.proofs.SingleLoops.{repeating_one}
-use Rattle.regress_engine_code.proofs.LiteralLemmas.{one-character, literal-alone}
 use Rattle.regress_engine_runs.proofs.Literals.{spelling, alone-step, one-placed}
 use Rattle.regress_engine_runs.proofs.Strings.{choosing}
-use Rattle.regress_front_nodes.specs.Singles.{takes_one}
 
 module _ (target : Target) (input : Input) (reading : Reading) (tells : Tells reading input) (told : target.program.units ≡ false → TellsBytes reading input)
     (made : IsMadeFor target input) where

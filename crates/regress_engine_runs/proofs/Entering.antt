@@ -2,14 +2,13 @@
 use Rattle.std.proofs.Common.{◌≡◌, ℕ, suc, ◌+◌, ◌≤◌, Bool, [], ◌∷◌, ◌++◌, refl, sym, ap, subst, arith}
 use Rattle.regress_meaning.specs.Meaning.{State, Direction, Context}
 use Rattle.regress_meaning.specs.Offsets.{Reading}
+use Rattle.regress_meaning.specs.Inputs.{Input, context_of}
 use Rattle.regress_front_nodes.specs.Trees.{Tree}
 use Rattle.regress_front_nodes.specs.Trees as tree
-use Rattle.regress_front_nodes.specs.TreeMeaning.{node_outcomes}
-use Rattle.regress_front_nodes.specs.TreeMeaning.{direction}
+use Rattle.regress_front_nodes.specs.TreeMeaning.{node_outcomes, direction}
 use Rattle.regress_engine_code.specs.Instructions.{Program, Instruction, Stands}
 use Rattle.regress_engine_code.specs.Instructions as code
 use Rattle.regress_engine_code.specs.Layout.{Spot, next, Target}
-use Rattle.regress_meaning.specs.Inputs.{Input, context_of}
 use Rattle.regress_engine_runs.specs.States.{Whole, onward}
 use Rattle.regress_engine_runs.specs.Stand.{StandsFor}
 use Rattle.regress_engine_runs.proofs.RunLemmas.{steps}

@@ -7,14 +7,13 @@ use Rattle.std.proofs.lemmas.List.Elements.{All-set}
 use Rattle.regress_meaning.specs.Meaning.{State, Direction, Forward, Backward, Context, captured}
 use Rattle.regress_meaning.specs.Offsets.{Reading, offset, offset_range}
 use Rattle.regress_meaning.specs.Laws.{IsAhead, LiesIn, IsInside}
+use Rattle.regress_meaning.specs.Inputs.{Input, context_of}
 use Rattle.regress_front_nodes.specs.Trees.{Tree}
 use Rattle.regress_front_nodes.specs.Trees as tree
-use Rattle.regress_front_nodes.specs.TreeMeaning.{node_outcomes}
-use Rattle.regress_front_nodes.specs.TreeMeaning.{direction}
+use Rattle.regress_front_nodes.specs.TreeMeaning.{node_outcomes, direction}
 use Rattle.regress_engine_code.specs.Instructions.{Program, Instruction, Stands}
 use Rattle.regress_engine_code.specs.Instructions as code
 use Rattle.regress_engine_code.specs.Layout.{Spot, next, Target}
-use Rattle.regress_meaning.specs.Inputs.{Input, context_of}
 use Rattle.regress_engine_runs.specs.States.{Whole, Marks, unset, range_of, begun, ended, onward}
 use Rattle.regress_engine_runs.specs.Stand.{StandsFor}
 use Rattle.regress_engine_runs.proofs.RunLemmas.{steps}

@@ -6,18 +6,18 @@ use Rattle.std.proofs.lemmas.Bool.{cases_lt}
 use Rattle.regress_meaning.specs.Meaning.{State, Forward, Context}
 use Rattle.regress_meaning.specs.Matches.{Item, item_at, next_place}
 use Rattle.regress_meaning.specs.Offsets.{Reading, offset, offset_range, told, Begins}
+use Rattle.regress_meaning.specs.Inputs.{Input, Tells, point_told, context_of}
+use Rattle.regress_meaning.proofs.MatchLaws.{IsFrom, next_place-past}
 use Rattle.regress_front_nodes.specs.Trees.{Tree}
 use Rattle.regress_front_nodes.specs.TreeMeaning.{node_outcomes}
+use Rattle.regress_front_nodes.specs.NodeMatches.{node_attempt, node_first_match, node_match_list}
+use Rattle.regress_front_nodes.proofs.MatchLemmas.{first_match-found, first_match-more, first_match_past, matches_go, matches_end, attempt-is, first_match-from, first_match-inside}
 use Rattle.regress_engine_code.specs.Instructions.{Program}
-use Rattle.regress_meaning.specs.Inputs.{Input, Tells, point_told, context_of}
 use Rattle.regress_engine_runs.specs.States.{Marks, unset, range_of, Whole}
 use Rattle.regress_engine_runs.specs.Stand.{StandsFor, IsFirst, RunsAsTree}
+use Rattle.regress_engine_runs.specs.Items.{item_of, Answers, Finds, found, later, nowhere, goes_on, begins_at, Lists, over, no_item, next_item}
 use Rattle.regress_engine_runs.proofs.Computed.{one_run}
 use Rattle.regress_engine_runs.proofs.Loops.{le-true, le-false, eq-same, eq-apart}
-use Rattle.regress_front_nodes.specs.NodeMatches.{node_attempt, node_first_match, node_match_list}
-use Rattle.regress_engine_runs.specs.Items.{item_of, Answers, Finds, found, later, nowhere, goes_on, begins_at, Lists, over, no_item, next_item}
-use Rattle.regress_meaning.proofs.MatchLaws.{IsFrom, next_place-past}
-use Rattle.regress_front_nodes.proofs.MatchLemmas.{first_match-found, first_match-more, first_match_past, matches_go, matches_end, attempt-is, first_match-from, first_match-inside}
 
 -- marks that tell the same ranges, one by one, are the groups told
 groups-told : (reading : Reading) (ms : List Marks) (gs : List (Option (ℕ × ℕ))) → length ms ≡ length gs

@@ -2,10 +2,10 @@
 use Rattle.std.proofs.Common.{◌≡◌, Bool, true, false, List, [], ◌∷◌, ◌++◌, if◌then◌else◌, filter, map, flat_map, refl, ap, subst}
 use Rattle.std.proofs.lemmas.List.Concat.{flat_map_single}
 use Rattle.regress_meaning.specs.Meaning.{State, Direction}
-use Rattle.regress_engine_code.specs.Instructions.{Program}
 use Rattle.regress_meaning.specs.Inputs.{Input}
-use Rattle.regress_engine_runs.specs.States.{Whole}
 use Rattle.regress_front_nodes.proofs.StepLemmas.{flat_map-self}
+use Rattle.regress_engine_code.specs.Instructions.{Program}
+use Rattle.regress_engine_runs.specs.States.{Whole}
 use Rattle.regress_engine_runs.proofs.RunLemmas.{Expands, Expands-same, Expands-then, Expands-left, Expands-right}
 
 -- the two lists are of one length, and each two items belong together

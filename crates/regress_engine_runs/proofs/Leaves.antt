@@ -4,15 +4,14 @@ use Rattle.std.proofs.Common.{◌≡◌, inl, inr, ℕ, suc, ◌≤◌, Bool, tr
 use Rattle.regress_meaning.specs.Text.{holds}
 use Rattle.regress_meaning.specs.Meaning.{State, Direction, Context, beside, step, stepped, keep_if}
 use Rattle.regress_meaning.specs.Offsets.{Reading, offset}
+use Rattle.regress_meaning.specs.Inputs.{Input, Tells, neighbour, point_told, context_of}
+use Rattle.regress_meaning.specs.Steps.{passed, only_if}
 use Rattle.regress_front_nodes.specs.Trees.{Tree}
 use Rattle.regress_front_nodes.specs.Trees as tree
-use Rattle.regress_front_nodes.specs.TreeMeaning.{node_outcomes}
-use Rattle.regress_front_nodes.specs.TreeMeaning.{direction}
+use Rattle.regress_front_nodes.specs.TreeMeaning.{node_outcomes, direction}
 use Rattle.regress_engine_code.specs.Instructions.{Instruction, Stands}
 use Rattle.regress_engine_code.specs.Instructions as code
 use Rattle.regress_engine_code.specs.Layout.{Spot, next, Target}
-use Rattle.regress_meaning.specs.Inputs.{Input, Tells, neighbour, point_told, context_of}
-use Rattle.regress_meaning.specs.Steps.{passed, only_if}
 use Rattle.regress_engine_runs.specs.States.{Whole, Marks, onward}
 use Rattle.regress_engine_runs.specs.Runs.{moved_to, successors, is_plain}
 use Rattle.regress_engine_runs.specs.Stand.{StandsFor, AreOf}

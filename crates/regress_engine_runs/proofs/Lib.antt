@@ -13,6 +13,7 @@ pub mod Neighbours
 pub mod Leaves
 pub mod Copies
 pub mod Backs
+pub mod GivingBack
 pub mod SingleLoops
 pub mod Literals
 pub mod Strings

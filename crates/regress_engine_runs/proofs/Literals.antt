@@ -1,34 +1,31 @@
 -- Entering a literal: its bytes in chunks, or its characters.
 use Rattle.std.specs.Prelude.{nat_le, nat_eq, slice_range, chars}
-use Rattle.std.proofs.Common.{◌≡◌, ◌⊎◌, inl, inr, ℕ, zero, suc, ◌+◌, ◌-◌, ◌<◌, ◌≤◌, ◌&&◌, Bool, true, false, List, [], ◌∷◌, ◌++◌, length, map, reverse, take, drop, min, Option, Some, None, if◌then◌else◌, option_map, option_and_then, refl, sym, ap, ap₂, ◌∙◌, subst, arith, length-append, length-drop, length-take}
-use Rattle.regress_meaning.specs.Text.{same_text}
 use Rattle.std.specs.List.{list_all}
-use Rattle.std.proofs.lemmas.Bool.{leb-true}
-use Rattle.std.proofs.lemmas.List.{length-map}
+use Rattle.std.proofs.Common.{◌≡◌, ◌⊎◌, inl, inr, ℕ, zero, suc, ◌+◌, ◌-◌, ◌<◌, ◌≤◌, ◌&&◌, Bool, true, false, List, [], ◌∷◌, ◌++◌, length, map, reverse, take, drop, min, Option, Some, None, if◌then◌else◌, option_map, option_and_then, refl, sym, ap, ap₂, ◌∙◌, subst, arith, length-append, length-drop, length-take}
+use Rattle.std.proofs.lemmas.Bool.{leb-true, cases_lt}
+use Rattle.std.proofs.lemmas.List.{length-map, drop-drop, reverse-append, take-append-drop}
+use Rattle.regress_meaning.specs.Text.{same_text}
 use Rattle.regress_meaning.specs.Meaning.{State, Direction, Forward, Backward, Context, beside, step, stepped}
 use Rattle.regress_meaning.specs.Offsets.{Reading, offset}
 use Rattle.regress_meaning.specs.Laws.{IsAhead}
-use Rattle.regress_front_nodes.specs.Trees as tree
-use Rattle.regress_front_nodes.specs.TreeMeaning.{node_outcomes}
-use Rattle.regress_front_nodes.specs.WellFormed.{AreCharacters}
-use Rattle.regress_front_nodes.specs.TreeMeaning.{direction}
-use Rattle.regress_front_nodes.specs.Forms.{in_reading_order}
-use Rattle.regress_front_nodes.proofs.SequenceLemmas.{in_reading_order-map}
 use Rattle.regress_meaning.specs.Inputs.{Tells, neighbour, point_told, context_of, Input}
 use Rattle.regress_meaning.specs.Steps.{literal, passed}
+use Rattle.regress_front_nodes.specs.Trees as tree
+use Rattle.regress_front_nodes.specs.TreeMeaning.{node_outcomes, direction}
+use Rattle.regress_front_nodes.specs.WellFormed.{AreCharacters}
+use Rattle.regress_front_nodes.specs.Forms.{in_reading_order}
 use Rattle.regress_front_nodes.specs.ByteInputs.{TellsBytes, placed}
+use Rattle.regress_front_nodes.proofs.SequenceLemmas.{in_reading_order-map}
+use Rattle.regress_engine_code.specs.Instructions.{Program, Instruction, Stands, StandFrom}
+use Rattle.regress_engine_code.specs.Instructions as code
+use Rattle.regress_engine_code.specs.Layout.{Spot, Target, AreAll, chunks, most_bytes, literal_code}
 use Rattle.regress_engine_runs.specs.States.{Whole}
 use Rattle.regress_engine_runs.specs.Runs.{moved_to, successors, is_plain}
 use Rattle.regress_engine_runs.specs.Stand.{StandsFor}
 use Rattle.regress_engine_runs.proofs.Leading.{Pairwise, leads_at_once, first_expand}
 use Rattle.regress_engine_runs.proofs.Places.{occurs, Arrives, Keeps-all}
 use Rattle.regress_engine_runs.proofs.Entering.{Enters}
-use Rattle.regress_engine_code.specs.Instructions.{Program, Instruction, Stands, StandFrom}
-use Rattle.regress_engine_code.specs.Instructions as code
-use Rattle.regress_engine_code.specs.Layout.{Spot, Target, AreAll, chunks, most_bytes, literal_code}
 use Rattle.regress_engine_runs.proofs.RunLemmas.{Expands, Expands-same, Expands-then, steps}
-use Rattle.std.proofs.lemmas.Bool.{cases_lt}
-use Rattle.std.proofs.lemmas.List.{drop-drop, reverse-append, take-append-drop}
 use Rattle.regress_engine_runs.proofs.Loops.{le-true, le-false}
 use Rattle.regress_engine_runs.proofs.Neighbours.{Beside, neighbours}
 

@@ -6,16 +6,15 @@ use Rattle.std.proofs.lemmas.Bool.Decides.{nat_tests}
 use Rattle.regress_meaning.specs.Meaning.{State, Direction, Forward, Context, iterations, cleared, clear_from, moved}
 use Rattle.regress_meaning.specs.Offsets.{Reading, offset, offset_range}
 use Rattle.regress_meaning.specs.Laws.{OffsetsRise}
+use Rattle.regress_meaning.specs.Inputs.{Input, context_of}
+use Rattle.regress_meaning.proofs.StepLaws.{Leads-cleared, Leads as Progresses}
 use Rattle.regress_front_nodes.specs.Trees.{Tree}
 use Rattle.regress_front_nodes.specs.Trees as tree
-use Rattle.regress_front_nodes.specs.TreeMeaning.{node_outcomes}
+use Rattle.regress_front_nodes.specs.TreeMeaning.{node_outcomes, direction}
 use Rattle.regress_front_nodes.specs.WellFormed.{group_ids, AreNumbered}
-use Rattle.regress_front_nodes.specs.TreeMeaning.{direction}
 use Rattle.regress_engine_code.specs.Instructions.{LoopFields, Program, Instruction, Stands, StandFrom}
 use Rattle.regress_engine_code.specs.Instructions as code
 use Rattle.regress_engine_code.specs.Layout.{Spot, next, Target, resets}
-use Rattle.regress_meaning.specs.Inputs.{Input, context_of}
-use Rattle.regress_meaning.proofs.StepLaws.{Leads-cleared, Leads as Progresses}
 use Rattle.regress_engine_runs.specs.States.{Whole, Marks, unset, range_of, onward}
 use Rattle.regress_engine_runs.specs.Runs.{ordered, count_of, one_more, choices, is_idle, fields_of, successors}
 use Rattle.regress_engine_runs.specs.Stand.{StandsFor, AreOf}

@@ -1,10 +1,10 @@
 -- That a run is computed has one proof at most, so a struct may keep it in a ghost field.
-use Rattle.std.proofs.Common.{◌≡◌, ℕ, suc, ◌+◌, List, Option, Some, sym, ◌∙◌, arith}
-use Rattle.std.specs.Coded.{codes}
 use mathlib.Core.HLevel.{Σ_prop_path, Π_prop}
+use Rattle.std.specs.Coded.{codes}
+use Rattle.std.proofs.Common.{◌≡◌, ℕ, suc, ◌+◌, List, Option, Some, sym, ◌∙◌, arith}
 use Rattle.regress_meaning.specs.Meaning.{Direction}
-use Rattle.regress_engine_code.specs.Instructions.{Program}
 use Rattle.regress_meaning.specs.Inputs.{Input}
+use Rattle.regress_engine_code.specs.Instructions.{Program}
 use Rattle.regress_engine_runs.specs.States.{Whole}
 use Rattle.regress_engine_runs.specs.Computed.{run, IsComputed}
 

@@ -1,13 +1,13 @@
 -- What a tree may be entered with, and what a state keeps and reaches behind it.
 use Rattle.std.proofs.Common.{◌≡◌, ◌⊎◌, inl, inr, ℕ, ◌+◌, ◌<◌, ◌≤◌, ◌==◌, Bool, List, [], ◌∷◌, length, if◌then◌else◌, get_or, refl, ap, ◌∙◌, arith}
 use Rattle.std.proofs.lemmas.List.Sums.{sum_by-append}
+use Rattle.regress_meaning.specs.Meaning.{State, Direction, Forward, Backward}
+use Rattle.regress_meaning.specs.Laws.{IsAhead}
+use Rattle.regress_meaning.specs.Offsets.{Reading}
 use Rattle.regress_front_nodes.specs.Trees.{Tree}
 use Rattle.regress_front_nodes.specs.Trees as tree
 use Rattle.regress_front_nodes.specs.WellFormed.{group_ids}
 use Rattle.regress_front_nodes.proofs.CountLemmas.{times, count-cons}
-use Rattle.regress_meaning.specs.Meaning.{State, Direction, Forward, Backward}
-use Rattle.regress_meaning.specs.Laws.{IsAhead}
-use Rattle.regress_meaning.specs.Offsets.{Reading}
 use Rattle.regress_engine_code.specs.Layout.{Spot, next, Target, AreArms, Lies}
 use Rattle.regress_engine_runs.specs.States.{Whole, Marks, unset}
 use Rattle.regress_engine_runs.specs.Stand.{StandsFor}

@@ -1,38 +1,36 @@
 -- Runs of programs, by example, in programs of bytes and of units. Offsets count bytes of ASCII.
-use Rattle.std.proofs.Common.{◌≡◌, ℕ, Bool, true, false, List, [], ◌∷◌, map, Option, Some, None, refl, option_map}
 use Prim.Native.Char.{Char, code}
 use Prim.Native.String.{String}
 use lib.Chars.{codes}
 use lib.Utf8.{encode}
 use Rattle.std.specs.Str.{chars}
-use Rattle.regress_meaning.specs.Table.{canon}
+use Rattle.std.specs.Prelude.{◌&&◌, if◌then◌else◌, nat_le, nat_lt}
+use Rattle.std.specs.List.{list_all}
+use Rattle.std.proofs.Common.{◌≡◌, ℕ, Bool, true, false, List, [], ◌∷◌, map, Option, Some, None, refl, option_map, All, arith}
+use Rattle.std.proofs.lemmas.Bool.{and_parts, leb-true}
+use Rattle.std.proofs.lemmas.Bool.Decides.{nat_tests}
+use Rattle.std.proofs.lemmas.List.Elements.{All-nil, All-cons}
+use Rattle.regress_meaning.specs.Table.{canon, last_code_point}
 use Rattle.regress_meaning.specs.TableParts.{is_code_point, table_of, small_parts, image, in_intervals, entry}
 use Rattle.regress_meaning.specs.Class.{is_word}
 use Rattle.regress_meaning.specs.Tokens.{greatest}
 use Rattle.regress_meaning.specs.Meaning.{Forward}
-use Rattle.regress_front_nodes.specs.Trees.{Tree, cat_of, char, cat, no_part, alt, capture, back, look, loop, goal, line_start, line_end, bytes, char_set, string_set, single_loop}
-use Rattle.regress_engine_code.specs.Instructions.{Program}
-use Rattle.std.proofs.Common.{All, arith}
-use Rattle.std.specs.Prelude.{◌&&◌, if◌then◌else◌, nat_le, nat_lt}
-use Rattle.std.specs.List.{list_all}
-use Rattle.std.proofs.lemmas.Bool.{and_parts, leb-true}
-use Rattle.std.proofs.lemmas.Bool.Decides.{nat_tests}
-use Rattle.std.proofs.lemmas.List.Elements.{All-nil, All-cons}
-use Rattle.regress_meaning.specs.Table.{last_code_point}
-use Rattle.regress_front_nodes.specs.WellFormed.{IsWellFormed}
-use Rattle.regress_engine_code.specs.Layout.{Spot, Target, IsLayout}
 use Rattle.regress_meaning.specs.Inputs.{Input, ascii_input}
 use Rattle.regress_meaning.specs.Steps.{copied}
-use Rattle.regress_engine_runs.specs.States.{Whole, range_of, first_state}
-use Rattle.regress_engine_runs.specs.Runs.{taken}
-use Rattle.regress_engine_runs.specs.Computed.{run}
+use Rattle.regress_front_nodes.specs.Trees.{Tree, cat_of, char, cat, no_part, alt, capture, back, look, loop, goal, line_start, line_end, bytes, char_set, string_set, single_loop}
+use Rattle.regress_front_nodes.specs.WellFormed.{IsWellFormed}
 use Rattle.regress_front_nodes.specs.Pieces.{pieces_of, expansion}
+use Rattle.regress_engine_code.specs.Instructions.{Program}
+use Rattle.regress_engine_code.specs.Layout.{Spot, Target, IsLayout}
 use Rattle.regress_engine_code.specs.Counts.{count}
+use Rattle.regress_engine_runs.specs.States.{Whole, range_of, first_state}
+use Rattle.regress_engine_runs.specs.Runs.{after_times, as_far, one_by_one, back_to}
+use Rattle.regress_engine_runs.specs.Computed.{run}
 use Rattle.regress_engine_runs.proofs.Emitted.{emitted}
 
 -- what the examples compute with
 computation : Unit {0}
-unfolding run copied taken emitted pieces_of expansion count encode chars is_word canon image in_intervals entry
+unfolding run copied after_times as_far one_by_one back_to emitted pieces_of expansion count encode chars is_word canon image in_intervals entry
 computation = tt
 
 -- an ASCII text as an input

@@ -6,24 +6,23 @@ use Rattle.regress_meaning.specs.Text.{holds}
 use Rattle.regress_meaning.specs.TableParts.{is_code_point}
 use Rattle.regress_meaning.specs.Meaning.{State, Direction, Forward, Backward, Context, step, same_all}
 use Rattle.regress_meaning.specs.Offsets.{Reading}
+use Rattle.regress_meaning.specs.Inputs.{Input, Tells, context_of}
 use Rattle.regress_front_nodes.specs.Trees.{Tree, cat_of}
 use Rattle.regress_front_nodes.specs.Trees as tree
-use Rattle.regress_front_nodes.specs.TreeMeaning.{node_outcomes}
-use Rattle.regress_front_nodes.specs.TreeMeaning.{direction}
+use Rattle.regress_front_nodes.specs.TreeMeaning.{node_outcomes, direction}
 use Rattle.regress_front_nodes.specs.Forms.{in_reading_order}
 use Rattle.regress_front_nodes.specs.Pieces.{pieces_of}
+use Rattle.regress_front_nodes.specs.ByteInputs.{TellsBytes}
 use Rattle.regress_front_nodes.proofs.PieceOutcomes.{pieces-outcomes, back-outcomes}
 use Rattle.regress_engine_code.specs.Instructions.{Program, Instruction, Stands, StandFrom}
 use Rattle.regress_engine_code.specs.Instructions as code
 use Rattle.regress_engine_code.specs.Layout.{Spot, next, later, Target, AreAll, AreArms, piece_code, pieces_code}
-use Rattle.regress_meaning.specs.Inputs.{Input, Tells, context_of}
-use Rattle.regress_front_nodes.specs.ByteInputs.{TellsBytes}
+use Rattle.regress_engine_code.proofs.StringLemmas.{IsPiece, all-pieces, ordered-pieces}
+use Rattle.regress_engine_code.proofs.LayoutLemmas.{stand-parts}
 use Rattle.regress_engine_runs.specs.States.{Whole}
 use Rattle.regress_engine_runs.specs.Stand.{IsMadeFor}
-use Rattle.regress_engine_code.proofs.StringLemmas.{IsPiece, all-pieces, ordered-pieces}
 use Rattle.regress_engine_runs.proofs.RunLemmas.{steps}
 use Rattle.regress_engine_runs.proofs.Leading.{Leads, leads_at_once, first_expand, leads_weaker}
-use Rattle.regress_engine_code.proofs.LayoutLemmas.{stand-parts}
 use Rattle.regress_engine_runs.proofs.Places.{occurs, Arrives, Keeps-less, MayEnter-part, arms-rise}
 use Rattle.regress_engine_runs.proofs.Entering.{Enters, standing, one_after_another, first_or_second}
 use Rattle.regress_engine_runs.proofs.Leaves.{taking, empty-enters, byte_set-enters}

@@ -1,32 +1,76 @@
 -- Steps of one whole state and a stack of records, against the run that they stand for.
 use Rattle.std.specs.Prelude.{slice_set, option_map, unwrap_or}
-use Rattle.std.proofs.Common.{◌≡◌, ℕ, ◌+◌, ◌<◌, true, List, [], ◌∷◌, ◌++◌, Option, Some, None, get_or, refl, sym, ap, ◌∙◌, subst, arith, append_assoc}
+use Rattle.std.proofs.Common.{◌≡◌, ℕ, ◌+◌, ◌-◌, ◌⊎◌, inl, inr, zero, suc, ◌<◌, true, List, [], ◌∷◌, ◌++◌, Option, Some, None, get_or, refl, sym, ap, ◌∙◌, subst, arith, append_assoc}
 use Rattle.std.proofs.lemmas.List.{set-set, set-get_or}
 use Rattle.regress_meaning.specs.Meaning.{Direction}
+use Rattle.regress_meaning.specs.Inputs.{Input}
 use Rattle.regress_front_nodes.specs.TreeMeaning.{direction}
 use Rattle.regress_engine_code.specs.Instructions.{Instruction, Program, Stands}
 use Rattle.regress_engine_code.specs.Instructions as code
-use Rattle.regress_meaning.specs.Inputs.{Input}
 use Rattle.regress_engine_runs.specs.States.{Whole, Marks, onward}
-use Rattle.regress_engine_runs.specs.Runs.{Run, successors, is_plain, after_look}
-use Rattle.regress_engine_runs.specs.UndoStack.{Frame, Undo, Work, outermost, inside, old_loop, old_group, first_do, stands_for, Comes, alone, within, steps_left}
+use Rattle.regress_engine_runs.specs.Runs.{against, gap, given_back, one_by_one, advance, Run, successors, is_plain, after_look}
+use Rattle.regress_engine_runs.specs.UndoStack.{MovesOn, give_back, take_on, whole, at_each, Frame, Undo, Work, outermost, inside, old_loop, old_group, first_do, stands_for, Comes, alone, within, steps_left}
 use Rattle.regress_engine_runs.proofs.Computed.{runs-computed}
+use Rattle.regress_engine_runs.proofs.GivingBack.{back_to-end, given_back-more}
 use Rattle.regress_engine_runs.proofs.RunViews.{run_goes, run_none, run_found, run_looks}
 
 -- what is written is undone
 pub loop_undone : (loops : List (ℕ × ℕ)) (id : ℕ) (x : ℕ × ℕ) → slice_set (slice_set loops id x) id (get_or loops id (0, 0)) ≡ loops
 loop_undone loops id x = set-set loops id x (get_or loops id (0, 0)) ∙ set-get_or loops id (0, 0)
 
--- so a record before a write keeps what the stack stands for
-pub loop_recorded : (stack : List Undo) (loops : List (ℕ × ℕ)) (groups : List Marks) (id : ℕ) (x : ℕ × ℕ)
-    → stands_for (old_loop id (get_or loops id (0, 0)) ∷ stack) (slice_set loops id x) groups ≡ stands_for stack loops groups
-unfolding stands_for
-loop_recorded stack loops groups id x = ap (λ ls. stands_for stack ls groups) (loop_undone loops id x)
+-- states before states and then the work
+first_do-both : (ss ts : List Whole) (work : Work) → first_do (ss ++ ts) work ≡ first_do ss (first_do ts work)
+first_do-both ss ts (outermost us) = ap outermost (append_assoc ss ts us)
+first_do-both ss ts (inside us f s rest) = ap (λ xs. inside xs f s rest) (append_assoc ss ts us)
 
-pub group_recorded : (stack : List Undo) (loops : List (ℕ × ℕ)) (groups : List Marks) (k : ℕ) (m d : Marks)
-    → stands_for (old_group k (get_or groups k d) ∷ stack) loops (slice_set groups k m) ≡ stands_for stack loops groups
-unfolding stands_for
-group_recorded stack loops groups k m d = ap (λ gs. stands_for stack loops gs) (set-set groups k m (get_or groups k d) ∙ set-get_or groups k d)
+module _ (program : Program) (input : Input) (dir : Direction) (stack : List Undo) (loops : List (ℕ × ℕ)) (groups : List Marks) where
+  -- so a record before a write keeps what the stack stands for
+  pub loop_recorded : (id : ℕ) (x : ℕ × ℕ)
+      → stands_for program input dir (old_loop id (get_or loops id (0, 0)) ∷ stack) (slice_set loops id x) groups ≡ stands_for program input dir stack loops groups
+  unfolding stands_for
+  loop_recorded id x = ap (λ ls. stands_for program input dir stack ls groups) (loop_undone loops id x)
+
+  pub group_recorded : (k : ℕ) (m d : Marks)
+      → stands_for program input dir (old_group k (get_or groups k d) ∷ stack) loops (slice_set groups k m) ≡ stands_for program input dir stack loops groups
+  unfolding stands_for
+  group_recorded k m d = ap (λ gs. stands_for program input dir stack loops gs) (set-set groups k m (get_or groups k d) ∙ set-get_or groups k d)
+
+  -- a record of what may be given back, of which nothing is left but the last
+  pub given_back_last : (at near far : ℕ) → gap dir near far ≡ 0
+      → stands_for program input dir (give_back at near far ∷ stack) loops groups ≡ first_do (whole at far loops groups ∷ []) (stands_for program input dir stack loops groups)
+  unfolding stands_for
+  given_back_last at near far e =
+      ap (λ os. first_do (at_each program input at loops groups os) (stands_for program input dir stack loops groups)) (back_to-end input (gap dir near far) dir near far e)
+
+  -- else one character is given back, and the rest later
+  pub given_back_one : MovesOn input → (at near far c q : ℕ) → 0 < gap dir near far → input.next (against dir) far ≡ Some (c, q)
+      → stands_for program input dir (give_back at near far ∷ stack) loops groups
+      ≡ first_do (whole at far loops groups ∷ []) (stands_for program input dir (give_back at near q ∷ stack) loops groups)
+  unfolding stands_for
+  given_back_one moves at near far c q some e =
+      ap (λ os. first_do (at_each program input at loops groups os) (stands_for program input dir stack loops groups)) (given_back-more input moves dir near far c q some e)
+      ∙ first_do-both (whole at far loops groups ∷ []) (at_each program input at loops groups (given_back input dir near q)) (stands_for program input dir stack loops groups)
+
+  -- a record of what may be taken on: nothing more may be taken, or nothing more is there
+  pub taken_on_last : (at offset left : ℕ) (i : Instruction) → Stands program (at - 1) i → (left ≡ 0) ⊎ (advance program input i dir groups offset ≡ None)
+      → stands_for program input dir (take_on at offset left ∷ stack) loops groups ≡ first_do (whole at offset loops groups ∷ []) (stands_for program input dir stack loops groups)
+  unfolding stands_for one_by_one
+  taken_on_last at offset zero i here way = ap (λ x. first_do (at_each program input at loops groups (elim x [ None ↦ [] | Some i ↦ one_by_one program input 0 i dir groups offset ])) (stands_for program input dir stack loops groups)) here
+  taken_on_last at offset (suc left) i here (inl e) = absurd (omega (arith, e))
+  taken_on_last at offset (suc left) i here (inr e) =
+      ap (λ x. first_do (at_each program input at loops groups (elim x [ None ↦ [] | Some i ↦ one_by_one program input (suc left) i dir groups offset ])) (stands_for program input dir stack loops groups)) here
+      ∙ ap (λ x. first_do (at_each program input at loops groups (offset ∷ elim x [ None ↦ [] | Some q ↦ one_by_one program input left i dir groups q ])) (stands_for program input dir stack loops groups)) e
+
+  -- else one more is taken later
+  pub taken_on_one : (at offset left q : ℕ) (i : Instruction) → Stands program (at - 1) i → advance program input i dir groups offset ≡ Some q
+      → stands_for program input dir (take_on at offset (suc left) ∷ stack) loops groups
+      ≡ first_do (whole at offset loops groups ∷ []) (stands_for program input dir (take_on at q left ∷ stack) loops groups)
+  unfolding stands_for one_by_one
+  taken_on_one at offset left q i here e =
+      ap (λ x. first_do (at_each program input at loops groups (elim x [ None ↦ [] | Some i ↦ one_by_one program input (suc left) i dir groups offset ])) (stands_for program input dir stack loops groups)) here
+      ∙ ap (λ x. first_do (at_each program input at loops groups (offset ∷ elim x [ None ↦ [] | Some q ↦ one_by_one program input left i dir groups q ])) (stands_for program input dir stack loops groups)) e
+      ∙ first_do-both (whole at offset loops groups ∷ []) (at_each program input at loops groups (one_by_one program input left i dir groups q)) (stands_for program input dir stack loops groups)
+      ∙ ap (λ x. first_do (whole at offset loops groups ∷ []) (first_do (at_each program input at loops groups (elim x [ None ↦ [] | Some i ↦ one_by_one program input left i dir groups q ])) (stands_for program input dir stack loops groups))) (sym here)
 
 module _ (program : Program) (input : Input) where
   -- A plain step: the successors take the place of the state, and fewer steps are left.

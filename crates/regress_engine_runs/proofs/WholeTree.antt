@@ -7,17 +7,16 @@ use Rattle.std.proofs.lemmas.Bool.Decides.{nat_tests}
 use Rattle.regress_meaning.specs.Meaning.{State, Direction, Forward}
 use Rattle.regress_meaning.specs.Offsets.{Reading, offset, offset_range}
 use Rattle.regress_meaning.specs.Laws.{LiesIn}
+use Rattle.regress_meaning.specs.Inputs.{Input, Tells, context_of}
 use Rattle.regress_front_nodes.specs.Trees.{Tree}
 use Rattle.regress_front_nodes.specs.Trees as tree
-use Rattle.regress_front_nodes.specs.TreeMeaning.{node_outcomes}
+use Rattle.regress_front_nodes.specs.TreeMeaning.{node_outcomes, direction}
 use Rattle.regress_front_nodes.specs.WellFormed.{AreLawful, AreNumbered, IsWellFormed, goals, last_part, group_ids}
-use Rattle.regress_front_nodes.specs.TreeMeaning.{direction}
+use Rattle.regress_front_nodes.specs.ByteInputs.{TellsBytes}
 use Rattle.regress_front_nodes.proofs.StepLemmas.{flat_map-self}
 use Rattle.regress_engine_code.specs.Instructions.{Program, Stands}
 use Rattle.regress_engine_code.specs.Instructions as code
 use Rattle.regress_engine_code.specs.Layout.{Spot, Target, Lies, IsLayout}
-use Rattle.regress_meaning.specs.Inputs.{Input, Tells, context_of}
-use Rattle.regress_front_nodes.specs.ByteInputs.{TellsBytes}
 use Rattle.regress_engine_runs.specs.States.{Whole, unset, range_of, first_state}
 use Rattle.regress_engine_runs.specs.Runs.{Runs, ends, finds}
 use Rattle.regress_engine_runs.specs.Stand.{StandsFor, IsMadeFor, IsFirst, RunsAsTree}

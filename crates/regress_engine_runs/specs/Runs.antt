@@ -1,8 +1,8 @@
 -- What a program does: how its instructions lead from state to state, and what a run of it answers. It sees a text through
 -- an input.
-use Rattle.std.specs.Prelude.{◌≡◌, ℕ, zero, suc, ◌+◌, Bool, true, false, not, ◌&&◌, ◌==◌, List, [], ◌∷◌, ◌++◌, Option, Some, None, if◌then◌else◌, slice_get, slice_set, get_or, map, reverse, drop, nat_lt, nat_le, nat_eq, option_and_then}
+use Rattle.std.specs.Prelude.{◌≡◌, ℕ, zero, suc, ◌+◌, ◌-◌, Bool, true, false, not, ◌&&◌, ◌==◌, List, [], ◌∷◌, ◌++◌, Option, Some, None, if◌then◌else◌, slice_get, slice_set, get_or, map, nat_lt, nat_le, nat_eq, option_and_then}
 use Rattle.regress_meaning.specs.Text.{holds}
-use Rattle.regress_meaning.specs.Meaning.{Direction, is_line_end}
+use Rattle.regress_meaning.specs.Meaning.{Direction, Forward, Backward, is_line_end}
 use Rattle.regress_meaning.specs.Inputs.{Input}
 use Rattle.regress_meaning.specs.Steps.{passed, only_if, literal, repeated, begins_line, ends_line, at_boundary}
 use Rattle.regress_front_nodes.specs.TreeMeaning.{direction, bracket_has}
@@ -59,6 +59,27 @@ is_plain code.goal = false
 is_plain (code.look negated backward first last continuation) = false
 is_plain _ = true
 
+-- the other direction
+abbrev pub against : Direction → Direction
+against Forward = Backward
+against Backward = Forward
+
+-- how many units the second offset lies ahead of the first
+abbrev pub gap : Direction → (near far : ℕ) → ℕ
+gap Forward near far = far - near
+gap Backward near far = near - far
+
+module _ (input : Input) where
+  -- the offsets from a far one back to a near one, character by character; the number bounds how many follow the first
+  unfoldable pub back_to : ℕ → Direction → (near far : ℕ) → List ℕ
+  back_to zero dir near far = far ∷ []
+  back_to (suc n) dir near far =
+      if gap dir near far == 0 then far ∷ [] else far ∷ elim (input.next (against dir) far) [ None ↦ [] | Some x ↦ back_to n dir near x.1 ]
+
+  -- all of them
+  abbrev pub given_back : Direction → (near far : ℕ) → List ℕ
+  given_back dir near far = back_to (gap dir near far) dir near far
+
 module _ (program : Program) (input : Input) where
   -- the offset to which an instruction leads that changes nothing but the offset
   abbrev pub advance : Instruction → Direction → List Marks → ℕ → Option ℕ
@@ -78,19 +99,29 @@ module _ (program : Program) (input : Input) where
   advance (code.back k icase) dir groups o = repeated input dir icase (range_of (get_or groups k unset)) o
   advance _ dir groups o = None
 
-  -- the states behind one iteration of an instruction that takes one character, behind two and so on, at most so many
-  unfoldable pub taken : ℕ → Instruction → Direction → Whole → List Whole
-  taken zero i dir s = []
-  taken (suc n) i dir s = elim (advance i dir s.groups s.offset) [
-    | None ↦ []
-    | Some o ↦ let t : Whole = record s { offset = o } in t ∷ taken n i dir t
-  ]
+  -- the offset behind so many iterations of an instruction that takes one character, where there are so many
+  unfoldable pub after_times : ℕ → Instruction → Direction → List Marks → ℕ → Option ℕ
+  after_times zero i dir groups o = Some o
+  after_times (suc n) i dir groups o = option_and_then (after_times n i dir groups) (advance i dir groups o)
 
-  -- the states behind each number of iterations from least to most, behind that instruction; the most first where greedy
-  abbrev pub counted : (least most : ℕ) → (greedy : Bool) → Instruction → Direction → Whole → List Whole
-  counted least most greedy i dir s =
-      let all = drop least (s ∷ taken most i dir s) in
-      map (λ (t : Whole). record t { at = s.at + 2 }) (if greedy then reverse all else all)
+  -- the offset behind as many as there are, at most so many
+  unfoldable pub as_far : ℕ → Instruction → Direction → List Marks → ℕ → ℕ
+  as_far zero i dir groups o = o
+  as_far (suc n) i dir groups o = elim (advance i dir groups o) [ None ↦ o | Some q ↦ as_far n i dir groups q ]
+
+  -- the offsets behind none, behind one, behind two and so on, at most so many
+  unfoldable pub one_by_one : ℕ → Instruction → Direction → List Marks → ℕ → List ℕ
+  one_by_one zero i dir groups o = o ∷ []
+  one_by_one (suc n) i dir groups o = o ∷ elim (advance i dir groups o) [ None ↦ [] | Some q ↦ one_by_one n i dir groups q ]
+
+  -- The offsets behind each number of iterations from least to most. Where greedy it goes as far as it can, and then gives
+  -- back one character after another; else it takes one after another.
+  abbrev pub counted : (least most : ℕ) → (greedy : Bool) → Instruction → Direction → List Marks → ℕ → List ℕ
+  counted least most greedy i dir groups o = elim (after_times least i dir groups o) [
+    | None ↦ []
+    | Some near ↦ if greedy then given_back input dir near (as_far (most - least) i dir groups near)
+        else one_by_one (most - least) i dir groups near
+  ]
 
   -- The states to which an instruction leads from a state, the most preferred first.
   abbrev pub successors : Instruction → Direction → Whole → List Whole
@@ -108,7 +139,7 @@ module _ (program : Program) (input : Input) where
   ]
   successors (code.single_loop least most greedy) dir s = elim (slice_get program.instructions (suc s.at)) [
     | None ↦ []
-    | Some i ↦ counted least most greedy i dir s
+    | Some i ↦ map (λ o. record s { at = suc (suc s.at); offset = o }) (counted least most greedy i dir s.groups s.offset)
   ]
   successors i dir s = moved_to s (advance i dir s.groups s.offset)
 

@@ -1,11 +1,11 @@
 -- How one state and a stack of records stand for what a run has still to do.
-use Rattle.std.specs.Prelude.{◌≡◌, ℕ, ◌+◌, Bool, List, [], ◌∷◌, ◌++◌, Option, option_map, unwrap_or, slice_set, map}
-use Rattle.regress_meaning.specs.Meaning.{Direction}
+use Rattle.std.specs.Prelude.{◌≡◌, ℕ, ◌+◌, ◌-◌, ◌<◌, Bool, List, [], ◌∷◌, ◌++◌, Option, Some, None, option_map, unwrap_or, slice_get, slice_set, map}
+use Rattle.regress_meaning.specs.Meaning.{Direction, Forward, Backward}
 use Rattle.regress_meaning.specs.Inputs.{Input}
 use Rattle.regress_front_nodes.specs.TreeMeaning.{direction}
 use Rattle.regress_engine_code.specs.Instructions.{Program}
 use Rattle.regress_engine_runs.specs.States.{Marks, Whole}
-use Rattle.regress_engine_runs.specs.Runs.{Run, after_look, one_more}
+use Rattle.regress_engine_runs.specs.Runs.{Run, after_look, one_more, given_back, one_by_one}
 use Rattle.regress_engine_runs.specs.Computed.{run}
 
 -- A lookaround whose contents are under way: its instruction, where it stands and at which offset, and which way was read
@@ -30,8 +30,10 @@ pub data Undo : Type 0 where
   resume : (at offset : ℕ) → Undo
   -- begin one more iteration of the repetition that begins at an address
   iterate : (id begin offset : ℕ) → Undo
-  -- go on at an address, at each of these offsets
-  several : (at : ℕ) → (offsets : List ℕ) → Undo
+  -- go on at an address, at the offsets from a far one back to a near one
+  give_back : (at near far : ℕ) → Undo
+  -- go on at an address, at an offset and behind each further iteration of the instruction before, at most so many
+  take_on : (at offset left : ℕ) → Undo
   -- there is no other way through the contents of a lookaround
   frame : Frame → Undo
 
@@ -50,18 +52,39 @@ first_do ss (inside ts f s rest) = inside (ss ++ ts) f s rest
 abbrev pub whole : (at offset : ℕ) → List (ℕ × ℕ) → List Marks → Whole
 whole at offset loops groups = record { at = at; offset = offset; loops = loops; groups = groups }
 
--- What a stack stands for where the state has these loops and groups: what is above is undone before what is below.
-unfoldable pub stands_for : List Undo → List (ℕ × ℕ) → List Marks → Work
-stands_for [] loops groups = outermost []
-stands_for (old_loop id x ∷ stack) loops groups = stands_for stack (slice_set loops id x) groups
-stands_for (old_group k m ∷ stack) loops groups = stands_for stack loops (slice_set groups k m)
-stands_for (resume at offset ∷ stack) loops groups = first_do (whole at offset loops groups ∷ []) (stands_for stack loops groups)
-stands_for (iterate id begin offset ∷ stack) loops groups =
-    first_do (one_more id begin (whole begin offset loops groups) ∷ []) (stands_for stack loops groups)
-stands_for (several at offsets ∷ stack) loops groups = first_do (map (λ o. whole at o loops groups) offsets) (stands_for stack loops groups)
-stands_for (frame f ∷ stack) loops groups = inside [] f (whole f.at f.offset loops groups) (stands_for stack loops groups)
+-- the second offset is past the first, in a direction
+abbrev pub IsPast : Direction → ℕ → ℕ → Type 0
+IsPast Forward o q = o < q
+IsPast Backward o q = q < o
+
+-- An input moves on: behind the code point beside an offset is an offset past that one, at a place or not.
+abbrev pub MovesOn : Input → Type 0
+MovesOn input = (dir : Direction) (o c q : ℕ) → input.next dir o ≡ Some (c, q) → IsPast dir o q
 
 module _ (program : Program) (input : Input) where
+  -- the states with these data, at each of some offsets
+  abbrev pub at_each : (at : ℕ) → List (ℕ × ℕ) → List Marks → List ℕ → List Whole
+  at_each at loops groups offsets = map (λ o. whole at o loops groups) offsets
+
+  -- the offsets behind no, one, two and more iterations of the instruction before an address, at most so many
+  abbrev pub taken_on : Direction → (at left : ℕ) → List Marks → ℕ → List ℕ
+  taken_on dir at left groups o = elim (slice_get program.instructions (at - 1)) [ None ↦ [] | Some i ↦ one_by_one program input left i dir groups o ]
+
+  -- What a stack stands for where the state has these loops and groups and is read in a direction: what is above is undone
+  -- before what is below.
+  unfoldable pub stands_for : Direction → List Undo → List (ℕ × ℕ) → List Marks → Work
+  stands_for dir [] loops groups = outermost []
+  stands_for dir (old_loop id x ∷ stack) loops groups = stands_for dir stack (slice_set loops id x) groups
+  stands_for dir (old_group k m ∷ stack) loops groups = stands_for dir stack loops (slice_set groups k m)
+  stands_for dir (resume at offset ∷ stack) loops groups = first_do (whole at offset loops groups ∷ []) (stands_for dir stack loops groups)
+  stands_for dir (iterate id begin offset ∷ stack) loops groups =
+      first_do (one_more id begin (whole begin offset loops groups) ∷ []) (stands_for dir stack loops groups)
+  stands_for dir (give_back at near far ∷ stack) loops groups =
+      first_do (at_each at loops groups (given_back input dir near far)) (stands_for dir stack loops groups)
+  stands_for dir (take_on at offset left ∷ stack) loops groups =
+      first_do (at_each at loops groups (taken_on dir at left groups offset)) (stands_for dir stack loops groups)
+  stands_for dir (frame f ∷ stack) loops groups = inside [] f (whole f.at f.offset loops groups) (stands_for f.outside stack loops groups)
+
   -- Some states and then the work come to an answer in so many steps: inside a lookaround the states run first, and by their
   -- answer the work outside goes on.
   pub data Comes : Direction → List Whole → Work → ℕ → Option Whole → Type 0 where
@@ -72,7 +95,7 @@ module _ (program : Program) (input : Input) where
 
   -- one state in a direction and a stack come to an answer in so many steps
   abbrev pub IsUnderWay : Direction → Whole → List Undo → ℕ → Option Whole → Type 0
-  IsUnderWay dir s stack n r = Comes dir (s ∷ []) (stands_for stack s.loops s.groups) n r
+  IsUnderWay dir s stack n r = Comes dir (s ∷ []) (stands_for dir stack s.loops s.groups) n r
 
   -- The number of those steps, computed, where it is less than the first number: a measure that no code holds.
   unfoldable pub steps_left : ℕ → Direction → List Whole → Work → ℕ
