@@ -20,6 +20,7 @@ pub mod Strings
 pub mod Enter
 pub mod WholeTree
 pub mod Stuck
+pub mod ClosedLemmas
 pub mod ItemLemmas
 pub mod Emitted
 mod Rows

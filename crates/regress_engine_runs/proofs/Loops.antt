@@ -82,10 +82,10 @@ module _ (program : Program) (input : Input) where
 
 -- ---- and cleared
 
-within-true : (first last k : ℕ) → first ≤ k → k < last → is_within first last k ≡ true
+pub within-true : (first last k : ℕ) → first ≤ k → k < last → is_within first last k ≡ true
 within-true first last k low high = grind (arith, nat_tests)
 
-within-false : (first last k : ℕ) → (k < first) ⊎ (last ≤ k) → is_within first last k ≡ false
+pub within-false : (first last k : ℕ) → (k < first) ⊎ (last ≤ k) → is_within first last k ≡ false
 within-false first last k (inl o) = grind (arith, nat_tests)
 within-false first last k (inr o) = grind (arith, nat_tests)
 

@@ -12,6 +12,7 @@ ghost use Rattle.regress_engine_code.specs.Instructions.{Program};
 ghost use Rattle.regress_engine_code.specs.Layout.{Target, IsLayout};
 ghost use Rattle.regress_engine_runs.specs.States.{Whole};
 ghost use Rattle.regress_engine_runs.specs.Runs.{Run};
+ghost use Rattle.regress_engine_runs.specs.Closed.{IsClosed};
 ghost use Rattle.regress_engine_runs.specs.Items.{Answers, Finds, Lists, begins_at};
 ghost use Rattle.regress_engine_runs.specs.Meets.{NeverStuck};
 ghost use Rattle.regress_engine_runs.specs.Stand.{IsMadeFor, RunsAsTree};
@@ -25,6 +26,12 @@ pub fn layouts_run_as_trees()
 /// outside of lookarounds, is that of an instruction.
 pub fn layouts_never_get_stuck()
     ensures { (target : Target) → (input : Input) → (reading : Reading) → Tells reading input → (target.program.units ≡ false → TellsBytes reading input) → IsMadeFor target input → (n : ℕ) → (t : Tree) → IsWellFormed n t → IsLayout target n t → NeverStuck target.program input reading }
+{}
+
+/// A program that is a layout is closed: its brackets, groups and loops are there where an instruction names them, the end of
+/// an iteration names the beginning of a repetition, and what a one-character loop repeats takes one character.
+pub fn layouts_are_closed()
+    ensures { (target : Target) → (n : ℕ) → (t : Tree) → IsWellFormed n t → IsLayout target n t → IsClosed target.program }
 {}
 
 /// A run has one number of steps and one answer.

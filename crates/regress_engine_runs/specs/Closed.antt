@@ -1,0 +1,35 @@
+-- Programs in which is what their instructions name.
+use Rattle.std.specs.Prelude.{◌≡◌, ℕ, suc, ◌<◌, ◌≤◌, Bool, true, false, length}
+use Rattle.regress_front_nodes.specs.Singles.{is_one_character}
+use Rattle.regress_engine_code.specs.Instructions.{LoopFields, Instruction, Program, Stands}
+use Rattle.regress_engine_code.specs.Instructions as code
+
+-- by itself an instruction takes one character
+abbrev pub takes_character : Instruction → Bool
+takes_character (code.char c) = true
+takes_character (code.char_set cs) = true
+takes_character (code.byte_set bs) = true
+takes_character (code.byte_seq bs) = is_one_character bs
+takes_character code.any = true
+takes_character code.any_in_line = true
+takes_character (code.bracket k) = true
+takes_character (code.ascii_bracket cs) = true
+takes_character _ = false
+
+-- An instruction at an address fits its program: brackets, groups and loops are there, an iteration ends for a repetition
+-- that begins where it says, and what a one-character loop repeats takes one character.
+abbrev pub Fits : Program → (at : ℕ) → Instruction → Type 0
+Fits program at (code.bracket k) = k < length program.brackets
+Fits program at (code.back k icase) = k < program.groups
+Fits program at (code.enter_loop f) = (f.loop_id < program.loops) × (f.least ≤ f.most)
+Fits program at (code.loop_again begin) = (f : LoopFields) × Stands program begin (code.enter_loop f)
+Fits program at (code.single_loop least most greedy) = (i : Instruction) × Stands program (suc at) i × (takes_character i ≡ true) × (least ≤ most)
+Fits program at (code.begin_group k) = k < program.groups
+Fits program at (code.end_group k) = k < program.groups
+Fits program at (code.reset_group k) = k < program.groups
+Fits program at (code.look negated backward first last continuation) = (k : ℕ) → first ≤ k → k < last → k < program.groups
+Fits program at _ = Unit {0}
+
+-- A program is closed: each of its instructions fits it.
+abbrev pub IsClosed : Program → Type 0
+IsClosed program = (at : ℕ) (i : Instruction) → Stands program at i → Fits program at i
