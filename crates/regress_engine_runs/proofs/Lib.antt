@@ -14,6 +14,7 @@ pub mod Leaves
 pub mod Copies
 pub mod Backs
 pub mod GivingBack
+pub mod InputsMove
 pub mod SingleLoops
 pub mod Literals
 pub mod Strings

@@ -1,9 +1,10 @@
 //! Laws of runs, each the contract of a function with an empty body.
-ghost use Rattle.std.specs.Prelude.{◌≡◌, ◌↔◌, ◌+◌, ◌<◌, ◌≤◌, ℕ, false, List, length, map, Option, None, Some, option_map, slice_get};
+ghost use Rattle.std.specs.Prelude.{◌≡◌, ◌↔◌, ◌+◌, ◌<◌, ◌≤◌, ℕ, Bool, false, List, length, map, Option, None, Some, option_map, slice_get};
+ghost use Rattle.regress_meaning.specs.Table.{Table};
 ghost use Rattle.regress_meaning.specs.Meaning.{Direction};
 ghost use Rattle.regress_meaning.specs.Matches.{Item};
 ghost use Rattle.regress_meaning.specs.Offsets.{Reading, Begins, offset, told};
-ghost use Rattle.regress_meaning.specs.Inputs.{Input, Tells, context_of};
+ghost use Rattle.regress_meaning.specs.Inputs.{Input, Tells, ascii_input, context_of, ucs2_input, utf16_input, utf8_input};
 ghost use Rattle.regress_front_nodes.specs.Trees.{Tree};
 ghost use Rattle.regress_front_nodes.specs.WellFormed.{IsWellFormed};
 ghost use Rattle.regress_front_nodes.specs.NodeMatches.{node_first_match, node_match_list};
@@ -16,6 +17,7 @@ ghost use Rattle.regress_engine_runs.specs.Closed.{IsClosed};
 ghost use Rattle.regress_engine_runs.specs.Items.{Answers, Finds, Lists, begins_at};
 ghost use Rattle.regress_engine_runs.specs.Meets.{NeverStuck};
 ghost use Rattle.regress_engine_runs.specs.Stand.{IsMadeFor, RunsAsTree};
+ghost use Rattle.regress_engine_runs.specs.UndoStack.{MovesOn};
 
 /// The run of a layout ends, from each place of a text, and its answer is the tree's most preferred outcome there.
 pub fn layouts_run_as_trees()
@@ -56,4 +58,12 @@ pub fn layouts_list_matches()
 /// A search may skip places from which no run has an answer.
 pub fn searches_may_skip()
     ensures { (program : Program) → (input : Input) → (reading : Reading) → Tells reading input → (k p : ℕ) → p + k ≤ length reading.points → ((x : ℕ) → p ≤ x → x < p + k → Answers program input (offset reading x) None) → (o : Option Item) → Finds program input (offset reading (p + k)) o → Finds program input (offset reading p) o }
+{}
+
+/// Each of the four inputs moves on at each offset, whether it is a place's or not.
+pub fn inputs_move_on()
+    ensures utf8 { (table : Table) → (unicode : Bool) → (bytes : List ℕ) → MovesOn (utf8_input table unicode bytes) }
+    ensures ascii { (table : Table) → (unicode : Bool) → (bytes : List ℕ) → MovesOn (ascii_input table unicode bytes) }
+    ensures utf16 { (table : Table) → (unicode : Bool) → (units : List ℕ) → MovesOn (utf16_input table unicode units) }
+    ensures ucs2 { (table : Table) → (unicode : Bool) → (units : List ℕ) → MovesOn (ucs2_input table unicode units) }
 {}

@@ -5,6 +5,6 @@
 mod laws;
 
 pub use laws::{
-    layouts_are_closed, layouts_list_matches, layouts_never_get_stuck, layouts_run_as_trees,
-    runs_are_determined, searches_find_matches, searches_may_skip,
+    inputs_move_on, layouts_are_closed, layouts_list_matches, layouts_never_get_stuck,
+    layouts_run_as_trees, runs_are_determined, searches_find_matches, searches_may_skip,
 };
