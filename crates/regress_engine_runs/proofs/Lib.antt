@@ -18,6 +18,7 @@ pub mod InputsMove
 pub mod SingleLoops
 pub mod Literals
 pub mod Strings
+pub mod SizeLemmas
 pub mod Enter
 pub mod WholeTree
 pub mod Stuck

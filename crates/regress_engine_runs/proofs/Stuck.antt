@@ -12,7 +12,7 @@ use Rattle.regress_engine_runs.proofs.RunViews.{run_goes, run_looks}
 
 module _ (program : Program) (input : Input) where
   -- where the first state of a run is an instruction stands
-  first_stands : {dir : Direction} {s : Whole} {ss : List Whole} {n : ℕ} {r : Option Whole} → Run program input dir (s ∷ ss) n r
+  pub first_stands : {dir : Direction} {s : Whole} {ss : List Whole} {n : ℕ} {r : Option Whole} → Run program input dir (s ∷ ss) n r
       → (i : Instruction) × Stands program s.at i
   first_stands (finds here) = (code.goal, here)
   first_stands (goes {i = i} here plain run) = (i, here)

@@ -12,6 +12,7 @@ use Rattle.regress_engine_runs.specs.Runs.{after_times, as_far, counted, against
 use Rattle.regress_engine_runs.specs.UndoStack.{taken_on, MovesOn, give_back, take_on, whole, at_each, Frame, Undo, Work, outermost, inside, old_loop, old_group, first_do, stands_for, Comes, alone, within, steps_left}
 use Rattle.regress_engine_runs.proofs.Computed.{runs-computed}
 use Rattle.regress_engine_runs.proofs.GivingBack.{back_to-end, given_back-more}
+use Rattle.regress_engine_runs.proofs.Stuck.{first_stands}
 use Rattle.regress_engine_runs.proofs.RunViews.{run_goes, run_none, run_found, run_looks}
 
 -- what is written is undone
@@ -77,6 +78,12 @@ module _ (program : Program) (input : Input) (dir : Direction) (stack : List Und
       ∙ ap (λ x. first_do (whole at offset loops groups ∷ []) (first_do (at_each program input at loops groups (elim x [ None ↦ [] | Some i ↦ one_by_one program input left i dir groups q ])) (stands_for program input dir stack loops groups))) (sym here)
 
 module _ (program : Program) (input : Input) where
+  -- Where what is to be done comes to an answer, an instruction stands at the state that is first.
+  pub work_stands : {dir : Direction} {s : Whole} {work : Work} {n : ℕ} {r : Option Whole} → Comes program input dir (s ∷ []) work n r
+      → (i : Instruction) × Stands program s.at i
+  work_stands (alone run) = first_stands program input run
+  work_stands (within same run outer) = first_stands program input run
+
   -- A plain step: the successors take the place of the state, and fewer steps are left.
   pub work_goes : {dir : Direction} {s : Whole} {work : Work} {n : ℕ} {r : Option Whole} (i : Instruction) → Stands program s.at i → is_plain i ≡ true
       → Comes program input dir (s ∷ []) work n r → (m : ℕ) × (m < n) × Comes program input dir (successors program input i dir s) work m r

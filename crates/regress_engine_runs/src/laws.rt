@@ -1,16 +1,18 @@
 //! Laws of runs, each the contract of a function with an empty body.
-ghost use Rattle.std.specs.Prelude.{◌≡◌, ◌↔◌, ◌+◌, ◌<◌, ◌≤◌, ℕ, Bool, false, List, length, map, Option, None, Some, option_map, slice_get};
+ghost use Rattle.std.specs.Prelude.{◌≡◌, ◌↔◌, ◌+◌, ◌*◌, ◌<◌, ◌≤◌, ℕ, Bool, false, List, length, map, Option, None, Some, option_map, slice_get};
 ghost use Rattle.regress_meaning.specs.Table.{Table};
 ghost use Rattle.regress_meaning.specs.Meaning.{Direction};
 ghost use Rattle.regress_meaning.specs.Matches.{Item};
 ghost use Rattle.regress_meaning.specs.Offsets.{Reading, Begins, offset, told};
 ghost use Rattle.regress_meaning.specs.Inputs.{Input, Tells, ascii_input, context_of, ucs2_input, utf16_input, utf8_input};
 ghost use Rattle.regress_front_nodes.specs.Trees.{Tree};
+ghost use Rattle.regress_front_nodes.specs.Sizes.{loops, size};
 ghost use Rattle.regress_front_nodes.specs.WellFormed.{IsWellFormed};
 ghost use Rattle.regress_front_nodes.specs.NodeMatches.{node_first_match, node_match_list};
 ghost use Rattle.regress_front_nodes.specs.ByteInputs.{TellsBytes};
 ghost use Rattle.regress_engine_code.specs.Instructions.{Program};
 ghost use Rattle.regress_engine_code.specs.Layout.{Target, IsLayout};
+ghost use Rattle.regress_engine_code.specs.Counts.{count};
 ghost use Rattle.regress_engine_runs.specs.States.{Whole};
 ghost use Rattle.regress_engine_runs.specs.Runs.{Run};
 ghost use Rattle.regress_engine_runs.specs.Closed.{IsClosed};
@@ -66,4 +68,9 @@ pub fn inputs_move_on()
     ensures ascii { (table : Table) → (unicode : Bool) → (bytes : List ℕ) → MovesOn (ascii_input table unicode bytes) }
     ensures utf16 { (table : Table) → (unicode : Bool) → (units : List ℕ) → MovesOn (utf16_input table unicode units) }
     ensures ucs2 { (table : Table) → (unicode : Bool) → (units : List ℕ) → MovesOn (ucs2_input table unicode units) }
+{}
+
+/// A well-formed tree of n groups has at most three instructions for each node of its size, and for each loop n more.
+pub fn counts_are_bounded()
+    ensures { (units : Bool) → (table : Table) → (unicode : Bool) → (n : ℕ) → (t : Tree) → IsWellFormed n t → count units table unicode t ≤ 3 * size t + loops t * n }
 {}
