@@ -1,3 +1,4 @@
 pub mod Instructions
 pub mod Layout
 pub mod Counts
+pub mod InsnViews

@@ -1,6 +1,8 @@
 //! Programs: what their instructions are, how a tree lies in one, and how many instructions it has.
 #![tactic(auto)]
 
+mod insn;
 mod laws;
 
+pub use insn::{Insn, LoopFields, MAX_BYTE_SEQ_LENGTH, StartPredicate};
 pub use laws::layouts_are_counted;
