@@ -2,3 +2,4 @@ pub mod Instructions
 pub mod Layout
 pub mod Counts
 pub mod InsnViews
+pub mod Written
