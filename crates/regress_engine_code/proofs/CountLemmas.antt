@@ -48,7 +48,7 @@ in_order-length : {A : Type 0} (b : Bool) (xs : List A) → length (in_reading_o
 in_order-length true xs = length-reverse xs
 in_order-length false xs = refl
 
-literal-length : (program : Program) (b : Bool) (bs : List ℕ) → length (literal_code program b bs) ≡ literal_count program.units bs
+pub literal-length : (program : Program) (b : Bool) (bs : List ℕ) → length (literal_code program b bs) ≡ literal_count program.units bs
 literal-length program b bs = by_units program.units
   where
     by_units : (u : Bool) → length (in_reading_order b (if u then map code.char (chars bs) else map code.byte_seq (chunks (length bs) bs))) ≡ literal_count u bs

@@ -28,7 +28,7 @@ stand-joined program (x ∷ xs) ys address (here, rest) k =
 pub at-same : (p q : Spot) → q ≡ p → q.address ≡ p.address
 at-same p q e = ap (λ (m : Spot). m.address) e
 
-resets-length : (first n : ℕ) → length (resets first n) ≡ n
+pub resets-length : (first n : ℕ) → length (resets first n) ≡ n
 resets-length first zero = refl
 resets-length first (suc n) = ap suc (resets-length (suc first) n)
 

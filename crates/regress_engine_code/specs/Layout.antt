@@ -38,12 +38,30 @@ abbrev pub literal_code : Program → Bool → List ℕ → List Instruction
 literal_code program backward bs =
     in_reading_order backward (if program.units then map code.char (chars bs) else map code.byte_seq (chunks (length bs) bs))
 
+-- One of some code points: nothing matches where there is none, and the last of fewer than four fills the places left.
+abbrev pub char_set_code : List ℕ → Instruction
+char_set_code [] = code.fail
+char_set_code (a ∷ []) = code.char_set (a ∷ a ∷ a ∷ a ∷ [])
+char_set_code (a ∷ b ∷ []) = code.char_set (a ∷ b ∷ b ∷ b ∷ [])
+char_set_code (a ∷ b ∷ c ∷ []) = code.char_set (a ∷ b ∷ c ∷ c ∷ [])
+char_set_code cs = code.char_set cs
+
+-- One of some ASCII characters, in a program of bytes: nothing matches where there is none, and one alone stands twice.
+abbrev pub ascii_set_code : List ℕ → Instruction
+ascii_set_code [] = code.fail
+ascii_set_code (a ∷ []) = code.byte_set (a ∷ a ∷ [])
+ascii_set_code bs = code.byte_set bs
+
+-- one of some ASCII characters: in units they are code points
+abbrev pub byte_set_code : (units : Bool) → List ℕ → Instruction
+byte_set_code units bs = if units then char_set_code bs else ascii_set_code bs
+
 -- of one piece of a string
 abbrev pub piece_code : Program → Bool → Tree → List Instruction
 piece_code program backward (tree.bytes bs) = literal_code program backward bs
 piece_code program backward (tree.char c) = code.char c ∷ []
-piece_code program backward (tree.byte_set bs) = (if program.units then code.char_set bs else code.byte_set bs) ∷ []
-piece_code program backward (tree.char_set cs) = code.char_set cs ∷ []
+piece_code program backward (tree.byte_set bs) = byte_set_code program.units bs ∷ []
+piece_code program backward (tree.char_set cs) = char_set_code cs ∷ []
 piece_code program backward _ = []
 
 -- of pieces one after another
@@ -95,8 +113,8 @@ module _ (target : Target) where
   Lies backward tree.goal p q = IsOne code.goal p q
   Lies backward (tree.char c) p q = IsOne (code.char c) p q
   Lies backward (tree.bytes bs) p q = AreAll (literal_code target.program backward bs) p q
-  Lies backward (tree.byte_set bs) p q = IsOne (if target.program.units then code.char_set bs else code.byte_set bs) p q
-  Lies backward (tree.char_set cs) p q = IsOne (code.char_set cs) p q
+  Lies backward (tree.byte_set bs) p q = IsOne (byte_set_code target.program.units bs) p q
+  Lies backward (tree.char_set cs) p q = IsOne (char_set_code cs) p q
   Lies backward (tree.cat a b) p q = (m : Spot) × Lies backward a p m × Lies backward b m q
   Lies backward tree.no_part p q = q ≡ p
   Lies backward (tree.alt a b) p q = (m : Spot) × Stands target.program p.address (code.alt (suc m.address)) × Lies backward a (next p) m

@@ -1,6 +1,10 @@
 //! Programs: what their instructions are, how a tree lies in one, and how many instructions it has.
 #![tactic(auto)]
 
+mod code;
+mod insn;
 mod laws;
+mod leaves;
 
+pub use insn::{Insn, LoopFields, MAX_BYTE_SEQ_LENGTH, StartPredicate};
 pub use laws::layouts_are_counted;

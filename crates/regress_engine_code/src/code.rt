@@ -1,0 +1,124 @@
+//! A program while it is written.
+ghost use Rattle.std.specs.Prelude.{◌≡◌, ◌+◌, ◌-◌, ◌<◌, [], ◌∷◌, ◌++◌, length, map, IfOk, IfErr, OnOk};
+ghost use Rattle.regress_engine_code.specs.Instructions.{fail};
+ghost use Rattle.regress_engine_code.specs.InsnViews.{instruction};
+ghost use Rattle.regress_engine_code.specs.Layout.{resets};
+ghost use Rattle.regress_engine_code.specs.Written.{written, with, changed, bracket_ends, MayRefuse};
+
+use crate::insn::Insn;
+use regress_front_core::{CaptureGroupID, Error, LoopID};
+use regress_front_nodes::BracketContents;
+use std::alloc::Global;
+
+/// The instructions and brackets of a program so far, and how many loops begin in them.
+#[derive(Debug, Drop)]
+pub(crate) struct Code {
+    pub(crate) insns: Vec<Insn>,
+    pub(crate) brackets: Vec<BracketContents>,
+    pub(crate) loops: LoopID,
+}
+
+impl Code {
+    /// Nothing is written yet.
+    pub(crate) fn new(alloc: Global) -> Code
+        ensures { written result ≡ record { instructions = []; brackets = []; loops = 0 } }
+    {
+        Code {
+            insns: Vec::new(alloc),
+            brackets: Vec::new(alloc),
+            loops: 0,
+        }
+    }
+
+    /// Writes an instruction behind the others. `OutOfMemory` is the only error.
+    pub(crate) fn push(&mut self, insn: Insn) -> Result<(), Error>
+        ensures ok { OnOk result (written self.new ≡ with (written self.old) (instruction insn ∷ [])) }
+        ensures err { IfErr result (MayRefuse 0 0) }
+    {
+        self.insns.push(insn)?;
+        Ok(())
+    }
+
+    /// Writes instructions behind the others. `OutOfMemory` is the only error.
+    pub(crate) fn append(&mut self, mut insns: Vec<Insn>) -> Result<(), Error>
+        ensures ok { OnOk result (written self.new ≡ with (written self.old) (map instruction insns.items)) }
+        ensures err { IfErr result (MayRefuse 0 0) }
+    {
+        self.insns.append(&mut insns)?;
+        Ok(())
+    }
+
+    /// Resets groups, from the first up to before the last. `OutOfMemory` is the only error.
+    pub(crate) fn push_resets(
+        &mut self,
+        first: CaptureGroupID,
+        last: CaptureGroupID,
+    ) -> Result<(), Error>
+        ensures ok { OnOk result (written self.new ≡ with (written self.old) (resets first (last - first))) }
+        ensures err { IfErr result (MayRefuse 0 0) }
+    {
+        for group in first..last {
+            self.push(Insn::ResetCaptureGroup(group))?;
+        }
+        Ok(())
+    }
+
+    /// The address of the next instruction. It errs with `TooLarge` where that is past `u32::MAX`.
+    pub(crate) fn next_address(&self) -> Result<u32, Error>
+        ensures ok { IfOk result (λ address. address ≡ length (written self.now).instructions) }
+        ensures err { IfErr result (MayRefuse (length (written self.now).instructions) 0) }
+    {
+        u32::try_from(self.insns.len()).map_err(|_| Error::TooLarge)
+    }
+
+    /// The address of the instruction behind the next `more`. It errs with `TooLarge` where that is past `u32::MAX`.
+    pub(crate) fn address_behind(&self, more: usize) -> Result<u32, Error>
+        ensures ok { IfOk result (λ address. address ≡ length (written self.now).instructions + more) }
+        ensures err { IfErr result (MayRefuse (length (written self.now).instructions + more) 0) }
+    {
+        u32::try_from(self.insns.len().saturating_add(more)).map_err(|_| Error::TooLarge)
+    }
+
+    /// Keeps a place for an instruction that is written later, and answers its address. It errs with `TooLarge` where that is
+    /// past `u32::MAX`, and with `OutOfMemory`.
+    pub(crate) fn reserve(&mut self) -> Result<u32, Error>
+        ensures address { IfOk result (λ address. address ≡ length (written self.old).instructions) }
+        ensures kept { OnOk result (written self.new ≡ with (written self.old) (fail ∷ [])) }
+        ensures err { IfErr result (MayRefuse (length (written self.old).instructions) 0) }
+    {
+        let address = self.next_address()?;
+        self.push(Insn::JustFail)?;
+        Ok(address)
+    }
+
+    /// Writes an instruction in the place of the one at an address.
+    pub(crate) fn change(&mut self, address: u32, insn: Insn)
+        requires { address < length (written self.old).instructions }
+        ensures { written self.new ≡ changed (written self.old) address (instruction insn) }
+    {
+        self.insns[address as usize] = insn;
+    }
+
+    /// Adds a bracket, and answers its index. `OutOfMemory` is the only error.
+    pub(crate) fn add_bracket(&mut self, contents: BracketContents) -> Result<usize, Error>
+        ensures index { IfOk result (λ index. index ≡ length (written self.old).brackets) }
+        ensures added { OnOk result (written self.new
+            ≡ record (written self.old) { brackets = (written self.old).brackets ++ bracket_ends contents ∷ [] }) }
+        ensures err { IfErr result (MayRefuse 0 0) }
+    {
+        let index = self.brackets.len();
+        self.brackets.push(contents)?;
+        Ok(index)
+    }
+
+    /// The number of the next loop. It errs with `TooLarge` where 65535 loops begin already.
+    pub(crate) fn next_loop(&mut self) -> Result<LoopID, Error>
+        ensures id { IfOk result (λ id. id ≡ (written self.old).loops) }
+        ensures counted { OnOk result (written self.new ≡ record (written self.old) { loops = (written self.old).loops + 1 }) }
+        ensures err { IfErr result (MayRefuse 0 ((written self.old).loops + 1)) }
+    {
+        let id = self.loops;
+        self.loops = id.checked_add(1).ok_or(Error::TooLarge)?;
+        Ok(id)
+    }
+}

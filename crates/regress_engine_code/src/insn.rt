@@ -1,0 +1,167 @@
+//! The instructions of a program.
+
+use regress_front_bytes::{AsciiBitmap, ByteArraySet, ByteBitmap};
+use regress_front_core::{CaptureGroupID, LoopID, MAX_CHAR_SET_LENGTH};
+use regress_front_tables::CodePoint;
+
+/// At most this many bytes are compared by one instruction.
+pub const MAX_BYTE_SEQ_LENGTH: usize = 16;
+
+/// A repetition, as the instruction that enters it has it.
+#[derive(Debug, Clone, Copy)]
+pub struct LoopFields {
+    /// Its number among the loops of the program, from 0 in the order of their instructions.
+    pub loop_id: LoopID,
+    /// At least so many iterations.
+    pub min_iters: usize,
+    /// At most so many; `usize::MAX` is no limit.
+    pub max_iters: usize,
+    /// Whether one more iteration is preferred to leaving.
+    pub greedy: bool,
+    /// The address behind it.
+    pub exit: u32,
+}
+
+/// An instruction. Addresses are indices of instructions, and capture groups are counted from 0.
+///
+/// Where nothing else is said, the next instruction is at the next address. What takes characters takes those ahead, and in
+/// a lookbehind those behind, but the characters themselves always stand in the order of the text.
+#[derive(Debug, Clone, Copy)]
+pub enum Insn {
+    /// The end: of the whole program, or of what a lookaround holds.
+    Goal,
+    /// One code point.
+    Char(CodePoint),
+    /// `^`: the text starts here, or in `multiline` a line.
+    StartOfLine {
+        multiline: bool,
+    },
+    /// `$`: the text ends here, or in `multiline` a line.
+    EndOfLine {
+        multiline: bool,
+    },
+    /// Any character.
+    MatchAny,
+    /// Any character but a line terminator.
+    MatchAnyExceptLineTerminator,
+    /// A repetition begins.
+    EnterLoop(LoopFields),
+    /// An iteration ends, of the repetition that begins at the address `begin`.
+    LoopAgain {
+        begin: u32,
+    },
+    /// The next instruction, which takes exactly one character, from `min_iters` to `max_iters` times, where `usize::MAX` is no
+    /// limit. It goes on behind that instruction.
+    Loop1CharBody {
+        min_iters: usize,
+        max_iters: usize,
+        greedy: bool,
+    },
+    /// Goes on at the address `target`.
+    Jump {
+        target: u32,
+    },
+    /// Goes on at the next address, or else at the address `secondary`.
+    Alt {
+        secondary: u32,
+    },
+    /// A group begins.
+    BeginCaptureGroup(CaptureGroupID),
+    /// A group ends.
+    EndCaptureGroup(CaptureGroupID),
+    /// A group has taken nothing.
+    ResetCaptureGroup(CaptureGroupID),
+    /// What the group took, once more.
+    BackRef {
+        group: u32,
+        icase: bool,
+    },
+    /// One character of the bracket with this index.
+    Bracket(usize),
+    /// One of these ASCII characters.
+    AsciiBracket(AsciiBitmap),
+    /// What stands ahead matches, or negated does not: the instructions behind this one, up to their `Goal`. The groups inside
+    /// are those from `start_group` up to before `end_group`. It goes on at the address `continuation`.
+    Lookahead {
+        negate: bool,
+        start_group: CaptureGroupID,
+        end_group: CaptureGroupID,
+        continuation: u32,
+    },
+    /// The same of what stands behind.
+    Lookbehind {
+        negate: bool,
+        start_group: CaptureGroupID,
+        end_group: CaptureGroupID,
+        continuation: u32,
+    },
+    /// A word starts or ends here; inverted, none does.
+    WordBoundary {
+        invert: bool,
+    },
+    /// The same in Unicode mode where case is ignored: more characters are of a word.
+    WordBoundaryUnicodeICase {
+        invert: bool,
+    },
+    /// One of these code points. Where there are fewer, the last stands in the places that are left.
+    CharSet([CodePoint; MAX_CHAR_SET_LENGTH]),
+    /// One of two ASCII characters.
+    ByteSet2(ByteArraySet<[u8; 2]>),
+    /// One of three ASCII characters.
+    ByteSet3(ByteArraySet<[u8; 3]>),
+    /// One of four ASCII characters.
+    ByteSet4(ByteArraySet<[u8; 4]>),
+    /// This byte.
+    ByteSeq1([u8; 1]),
+    /// These bytes.
+    ByteSeq2([u8; 2]),
+    /// These bytes.
+    ByteSeq3([u8; 3]),
+    /// These bytes.
+    ByteSeq4([u8; 4]),
+    /// These bytes.
+    ByteSeq5([u8; 5]),
+    /// These bytes.
+    ByteSeq6([u8; 6]),
+    /// These bytes.
+    ByteSeq7([u8; 7]),
+    /// These bytes.
+    ByteSeq8([u8; 8]),
+    /// These bytes.
+    ByteSeq9([u8; 9]),
+    /// These bytes.
+    ByteSeq10([u8; 10]),
+    /// These bytes.
+    ByteSeq11([u8; 11]),
+    /// These bytes.
+    ByteSeq12([u8; 12]),
+    /// These bytes.
+    ByteSeq13([u8; 13]),
+    /// These bytes.
+    ByteSeq14([u8; 14]),
+    /// These bytes.
+    ByteSeq15([u8; 15]),
+    /// These bytes.
+    ByteSeq16([u8; 16]),
+    /// Nothing matches.
+    JustFail,
+}
+
+/// Where a match may begin, told by the bytes there.
+#[derive(Debug, Drop)]
+pub enum StartPredicate {
+    /// Anywhere.
+    Arbitrary,
+    /// At this byte.
+    ByteSet1([u8; 1]),
+    /// At one of two bytes.
+    ByteSet2([u8; 2]),
+    /// At one of three bytes.
+    ByteSet3([u8; 3]),
+    /// At these bytes.
+    ByteSeq(Vec<u8>),
+    /// At one of some bytes.
+    ByteBracket(ByteBitmap),
+    /// At the start of the text alone.
+    StartAnchored,
+}
