@@ -14,7 +14,7 @@ use Rattle.regress_front_nodes.specs.WellFormed.{AreLawful, AreNumbered, IsWellF
 use Rattle.regress_front_nodes.proofs.SequenceLemmas.{in_reading_order-map}
 use Rattle.regress_engine_code.specs.Instructions.{Instruction, Program, Stands, StandFrom}
 use Rattle.regress_engine_code.specs.Instructions as code
-use Rattle.regress_engine_code.specs.Layout.{Spot, next, later, Target, chunks, literal_code, piece_code, pieces_code, string_code, resets, IsBracket, IsOne, AreAll, AreArms, Lies, IsLayout}
+use Rattle.regress_engine_code.specs.Layout.{char_set_code, ascii_set_code, byte_set_code, Spot, next, later, Target, chunks, literal_code, piece_code, pieces_code, string_code, resets, IsBracket, IsOne, AreAll, AreArms, Lies, IsLayout}
 use Rattle.regress_engine_code.proofs.LayoutLemmas.{at-same}
 use Rattle.regress_engine_code.proofs.LiteralLemmas.{one-character, literal-alone}
 use Rattle.regress_engine_runs.specs.Closed.{takes_character, Fits, IsClosed}
@@ -25,6 +25,24 @@ use Rattle.regress_engine_runs.proofs.Loops.{within-true, within-false}
 all_of : {A : Type 0} (P : A → Type 0) → ((x : A) → P x) → (xs : List A) → All P xs
 all_of P each [] = All-nil P
 all_of P each (x ∷ xs) = All-cons P x xs (each x) (all_of P each xs)
+
+-- the instruction of a set that has members takes one character
+char_set-takes-one : (cs : List ℕ) → takes_one (tree.char_set cs) ≡ true → takes_character (char_set_code cs) ≡ true
+char_set-takes-one [] is = absurd (grind arith)
+char_set-takes-one (a ∷ []) is = refl
+char_set-takes-one (a ∷ b ∷ []) is = refl
+char_set-takes-one (a ∷ b ∷ c ∷ []) is = refl
+char_set-takes-one (a ∷ b ∷ c ∷ d ∷ cs) is = refl
+
+byte_set-takes-one : (u : Bool) (bs : List ℕ) → takes_one (tree.byte_set bs) ≡ true → takes_character (byte_set_code u bs) ≡ true
+byte_set-takes-one true [] is = absurd (grind arith)
+byte_set-takes-one false [] is = absurd (grind arith)
+byte_set-takes-one true (a ∷ []) is = refl
+byte_set-takes-one false (a ∷ []) is = refl
+byte_set-takes-one true (a ∷ b ∷ []) is = refl
+byte_set-takes-one true (a ∷ b ∷ c ∷ []) is = refl
+byte_set-takes-one true (a ∷ b ∷ c ∷ d ∷ bs) is = refl
+byte_set-takes-one false (a ∷ b ∷ bs) is = refl
 
 module _ (program : Program) where
   -- it fits at each address
@@ -77,15 +95,27 @@ module _ (program : Program) where
   one-always : (i : Instruction) → AlwaysFits i → All AlwaysFits (i ∷ [])
   one-always i fit = All-cons AlwaysFits i [] fit (All-nil AlwaysFits)
 
-  set-fits : (bs : List ℕ) (u : Bool) (at : ℕ) → Fits program at (if u then code.char_set bs else code.byte_set bs)
-  set-fits bs true at = tt
-  set-fits bs false at = tt
+  char_set-fits : (cs : List ℕ) (at : ℕ) → Fits program at (char_set_code cs)
+  char_set-fits [] at = tt
+  char_set-fits (a ∷ []) at = tt
+  char_set-fits (a ∷ b ∷ []) at = tt
+  char_set-fits (a ∷ b ∷ c ∷ []) at = tt
+  char_set-fits (a ∷ b ∷ c ∷ d ∷ cs) at = tt
+
+  ascii_set-fits : (bs : List ℕ) (at : ℕ) → Fits program at (ascii_set_code bs)
+  ascii_set-fits [] at = tt
+  ascii_set-fits (a ∷ []) at = tt
+  ascii_set-fits (a ∷ b ∷ bs) at = tt
+
+  set-fits : (bs : List ℕ) (u : Bool) (at : ℕ) → Fits program at (byte_set_code u bs)
+  set-fits bs true at = char_set-fits bs at
+  set-fits bs false at = ascii_set-fits bs at
 
   piece-fits : (b : Bool) (t : Tree) → All AlwaysFits (piece_code program b t)
   piece-fits b (tree.bytes bs) = literal-fits b bs
   piece-fits b (tree.char c) = one-always (code.char c) (λ at. tt)
-  piece-fits b (tree.byte_set bs) = one-always (if program.units then code.char_set bs else code.byte_set bs) (set-fits bs program.units)
-  piece-fits b (tree.char_set cs) = one-always (code.char_set cs) (λ at. tt)
+  piece-fits b (tree.byte_set bs) = one-always (byte_set_code program.units bs) (set-fits bs program.units)
+  piece-fits b (tree.char_set cs) = one-always (char_set_code cs) (char_set-fits cs)
   piece-fits b _ = All-nil AlwaysFits
 
   pieces-fit : (b : Bool) (ts : List Tree) → All AlwaysFits (pieces_code program b ts)
@@ -152,12 +182,8 @@ module _ (target : Target) where
   takes-one n (tree.char c) b p q h is lawful = (code.char c, h.0, refl)
   takes-one n tree.any b p q h is lawful = (code.any, h.0, refl)
   takes-one n tree.any_in_line b p q h is lawful = (code.any_in_line, h.0, refl)
-  takes-one n (tree.byte_set bs) b p q h is lawful = (if target.program.units then code.char_set bs else code.byte_set bs, h.0, by_units target.program.units)
-    where
-      by_units : (u : Bool) → takes_character (if u then code.char_set bs else code.byte_set bs) ≡ true
-      by_units true = refl
-      by_units false = refl
-  takes-one n (tree.char_set cs) b p q h is lawful = (code.char_set cs, h.0, refl)
+  takes-one n (tree.byte_set bs) b p q h is lawful = (byte_set_code target.program.units bs, h.0, byte_set-takes-one target.program.units bs is)
+  takes-one n (tree.char_set cs) b p q h is lawful = (char_set_code cs, h.0, char_set-takes-one cs is)
   takes-one n (tree.bracket inverted intervals) b p q (i, has, h) is lawful = (i, h.0, bracket-takes inverted intervals i has)
   takes-one n (tree.bytes bs) b p q (stand, end) is lawful =
       let alone = one-character bs is in
@@ -223,10 +249,10 @@ module _ (target : Target) where
   all-fit n (tree.back k icase) b p q h lawful count groups loops =
       let low = lawful.0 in let high = lawful.1 in single (code.back (k - 1) icase) p q h (omega (arith, low, high, count))
   all-fit n (tree.byte_set bs) b p q h lawful count groups loops =
-      single (if target.program.units then code.char_set bs else code.byte_set bs) p q h (set-fits target.program bs target.program.units p.address)
+      single (byte_set_code target.program.units bs) p q h (set-fits target.program bs target.program.units p.address)
   all-fit n tree.goal b p q h lawful count groups loops = single code.goal p q h tt
   all-fit n (tree.char c) b p q h lawful count groups loops = single (code.char c) p q h tt
-  all-fit n (tree.char_set cs) b p q h lawful count groups loops = single (code.char_set cs) p q h tt
+  all-fit n (tree.char_set cs) b p q h lawful count groups loops = single (char_set_code cs) p q h (char_set-fits target.program cs p.address)
   all-fit n tree.any b p q h lawful count groups loops = single code.any p q h tt
   all-fit n tree.any_in_line b p q h lawful count groups loops = single code.any_in_line p q h tt
   all-fit n (tree.line_start multiline) b p q h lawful count groups loops = single (code.line_start multiline) p q h tt

@@ -1,11 +1,11 @@
 -- The instructions of a tree, as a list, for the examples: what an emitter writes. Brackets are left out.
-use Rattle.std.specs.Prelude.{ℕ, suc, ◌+◌, ◌-◌, Bool, List, [], ◌∷◌, ◌++◌, length, if◌then◌else◌}
+use Rattle.std.specs.Prelude.{ℕ, suc, ◌+◌, ◌-◌, Bool, List, [], ◌∷◌, ◌++◌, length}
 use Rattle.regress_front_nodes.specs.Trees.{Tree}
 use Rattle.regress_front_nodes.specs.Trees as tree
 use Rattle.regress_front_nodes.specs.Sizes.{loops}
 use Rattle.regress_engine_code.specs.Instructions.{Instruction}
 use Rattle.regress_engine_code.specs.Instructions as code
-use Rattle.regress_engine_code.specs.Layout.{Target, resets, literal_code, string_code}
+use Rattle.regress_engine_code.specs.Layout.{char_set_code, byte_set_code, Target, resets, literal_code, string_code}
 
 module _ (target : Target) where
   -- the arms of a set of strings, from an address on
@@ -25,8 +25,8 @@ module _ (target : Target) where
   emitted b tree.goal at l = code.goal ∷ []
   emitted b (tree.char c) at l = code.char c ∷ []
   emitted b (tree.bytes bs) at l = literal_code target.program b bs
-  emitted b (tree.byte_set bs) at l = (if target.program.units then code.char_set bs else code.byte_set bs) ∷ []
-  emitted b (tree.char_set cs) at l = code.char_set cs ∷ []
+  emitted b (tree.byte_set bs) at l = byte_set_code target.program.units bs ∷ []
+  emitted b (tree.char_set cs) at l = char_set_code cs ∷ []
   emitted b (tree.cat s t) at l = let x = emitted b s at l in x ++ emitted b t (at + length x) (l + loops s)
   emitted b (tree.alt s t) at l =
       let x = emitted b s (suc at) l in

@@ -15,7 +15,7 @@ use Rattle.regress_front_nodes.specs.ByteInputs.{TellsBytes, placed}
 use Rattle.regress_front_nodes.specs.Singles.{takes_one}
 use Rattle.regress_engine_code.specs.Instructions.{LoopFields, Program, Instruction, Stands, StandFrom}
 use Rattle.regress_engine_code.specs.Instructions as code
-use Rattle.regress_engine_code.specs.Layout.{Spot, next, Target, Lies, IsBracket, literal_code}
+use Rattle.regress_engine_code.specs.Layout.{Spot, next, Target, Lies, IsBracket, literal_code, char_set_code, byte_set_code}
 use Rattle.regress_engine_code.proofs.LiteralLemmas.{one-character, literal-alone}
 use Rattle.regress_engine_runs.specs.States.{Whole}
 use Rattle.regress_engine_runs.specs.Runs.{moved_to}
@@ -26,7 +26,8 @@ use Rattle.regress_engine_runs.proofs.Groups.{in_group}
 use Rattle.regress_engine_runs.proofs.Looks.{looking}
 use Rattle.regress_engine_runs.proofs.Loops.{repeating}
 use Rattle.regress_engine_runs.proofs.Neighbours.{point-before, point-after, none-before, none-after}
-use Rattle.regress_engine_runs.proofs.Leaves.{taking, testing, empty-enters, byte_set-enters}
+use Rattle.regress_engine_runs.proofs.Leaves.{taking, testing, empty-enters, byte_set-enters, char_set-enters}
+use Rattle.regress_engine_runs.proofs.Sets.{char_set-takes, byte_set-takes}
 use Rattle.regress_engine_runs.proofs.Backs.{referring}
 use Rattle.regress_engine_runs.proofs.SingleLoops.{repeating_one}
 use Rattle.regress_engine_runs.proofs.Literals.{spelling, alone-step, one-placed}
@@ -112,14 +113,12 @@ module _ (target : Target) (input : Input) (reading : Reading) (tells : Tells re
       (repeating_one target input reading tells b tree.any_in_line code.any_in_line (λ c. not (is_line_end c)) least most greedy p order here h.0 (λ gs place room. refl) (λ s room. refl))
   single-enters n (tree.char_set cs) b least most greedy p q here h one order lawful =
       subst (λ r. Enters target input reading b (tree.single_loop (tree.char_set cs) least most greedy) p r) (sym h.1)
-      (repeating_one target input reading tells b (tree.char_set cs) (code.char_set cs) (holds cs) least most greedy p order here h.0 (λ gs place room. refl) (λ s room. refl))
+      (repeating_one target input reading tells b (tree.char_set cs) (char_set_code cs) (holds cs) least most greedy p order here h.0
+      (λ gs place room. char_set-takes target.program input (direction b) cs gs (offset reading place)) (λ s room. refl))
   single-enters n (tree.byte_set bs) b least most greedy p q here h one order lawful =
-      subst (λ r. Enters target input reading b (tree.single_loop (tree.byte_set bs) least most greedy) p r) (sym h.1) (by_units target.program.units h.0)
-    where
-      by_units : (u : Bool) → Stands target.program (suc p.address) (if u then code.char_set bs else code.byte_set bs)
-          → Enters target input reading b (tree.single_loop (tree.byte_set bs) least most greedy) p (next (next p))
-      by_units true k = repeating_one target input reading tells b (tree.byte_set bs) (code.char_set bs) (holds bs) least most greedy p order here k (λ gs place room. refl) (λ s room. refl)
-      by_units false k = repeating_one target input reading tells b (tree.byte_set bs) (code.byte_set bs) (holds bs) least most greedy p order here k (λ gs place room. refl) (λ s room. refl)
+      subst (λ r. Enters target input reading b (tree.single_loop (tree.byte_set bs) least most greedy) p r) (sym h.1)
+      (repeating_one target input reading tells b (tree.byte_set bs) (byte_set_code target.program.units bs) (holds bs) least most greedy p order here h.0
+      (λ gs place room. byte_set-takes target.program input (direction b) target.program.units bs gs (offset reading place)) (λ s room. refl))
   single-enters n (tree.bracket inverted intervals) b least most greedy p q here (i, is, h) one order lawful =
       subst (λ r. Enters target input reading b (tree.single_loop (tree.bracket inverted intervals) least most greedy) p r) (sym h.1) (by_instruction i is h.0)
     where
@@ -177,7 +176,7 @@ module _ (target : Target) (input : Input) (reading : Reading) (tells : Tells re
       (taking target input reading tells b (tree.char c) (code.char c) (nat_eq c) p h.0 refl (λ w. refl) (λ s. refl))
   enters n (tree.char_set cs) b p q h lawful once ended =
       subst (λ r. Enters target input reading b (tree.char_set cs) p r) (sym h.1)
-      (taking target input reading tells b (tree.char_set cs) (code.char_set cs) (holds cs) p h.0 refl (λ w. refl) (λ s. refl))
+      (char_set-enters target input reading tells b cs p h.0)
   enters n (tree.byte_set bs) b p q h lawful once ended =
       subst (λ r. Enters target input reading b (tree.byte_set bs) p r) (sym h.1) (byte_set-enters target input reading tells b bs p target.program.units h.0)
   enters n tree.any b p q h lawful once ended =

@@ -10,8 +10,7 @@ use Rattle.regress_front_nodes.specs.Trees.{Tree}
 use Rattle.regress_front_nodes.specs.Trees as tree
 use Rattle.regress_front_nodes.specs.TreeMeaning.{node_outcomes, direction}
 use Rattle.regress_engine_code.specs.Instructions.{Instruction, Stands}
-use Rattle.regress_engine_code.specs.Instructions as code
-use Rattle.regress_engine_code.specs.Layout.{Spot, next, Target}
+use Rattle.regress_engine_code.specs.Layout.{Spot, next, Target, char_set_code, byte_set_code}
 use Rattle.regress_engine_runs.specs.States.{Whole, Marks, onward}
 use Rattle.regress_engine_runs.specs.Runs.{moved_to, successors, is_plain}
 use Rattle.regress_engine_runs.specs.Stand.{StandsFor, AreOf}
@@ -20,6 +19,7 @@ use Rattle.regress_engine_runs.proofs.Leading.{Leads, Pairwise, leads_at_once, f
 use Rattle.regress_engine_runs.proofs.Places.{occurs, Arrives, Keeps-all}
 use Rattle.regress_engine_runs.proofs.Entering.{Enters, standing, stays}
 use Rattle.regress_engine_runs.proofs.Neighbours.{Beside, neighbours, all-one}
+use Rattle.regress_engine_runs.proofs.Sets.{char_set-leads, char_set-plain, byte_set-leads, byte_set-plain}
 
 module _ (target : Target) (input : Input) (reading : Reading) (tells : Tells reading input) where
   abbrev context : Context
@@ -115,8 +115,14 @@ module _ (target : Target) (input : Input) (reading : Reading) (tells : Tells re
       (leads_at_once target.program input Q (s ∷ []) (w ∷ []) (stays target input reading (direction b) p.address (λ k. occurs k t) p.loops p.loops s w w at stands refl refl, tt)))
 
   -- a set of ASCII characters
-  pub byte_set-enters : (b : Bool) (bs : List ℕ) (p : Spot) (units : Bool) → Stands target.program p.address (if units then code.char_set bs else code.byte_set bs)
+  pub byte_set-enters : (b : Bool) (bs : List ℕ) (p : Spot) (units : Bool) → Stands target.program p.address (byte_set_code units bs)
       → Enters target input reading b (tree.byte_set bs) p (next p)
   unfolding node_outcomes
-  byte_set-enters b bs p true h = taking b (tree.byte_set bs) (code.char_set bs) (holds bs) p h refl (λ w. refl) (λ s. refl)
-  byte_set-enters b bs p false h = taking b (tree.byte_set bs) (code.byte_set bs) (holds bs) p h refl (λ w. refl) (λ s. refl)
+  byte_set-enters b bs p units h =
+      taking b (tree.byte_set bs) (byte_set_code units bs) (holds bs) p h (byte_set-plain units bs) (byte_set-leads target.program input (direction b) units bs) (λ s. refl)
+
+  -- a set of code points
+  pub char_set-enters : (b : Bool) (cs : List ℕ) (p : Spot) → Stands target.program p.address (char_set_code cs) → Enters target input reading b (tree.char_set cs) p (next p)
+  unfolding node_outcomes
+  char_set-enters b cs p h =
+      taking b (tree.char_set cs) (char_set_code cs) (holds cs) p h (char_set-plain cs) (char_set-leads target.program input (direction b) cs) (λ s. refl)

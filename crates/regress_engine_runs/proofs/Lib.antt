@@ -10,6 +10,7 @@ pub mod Groups
 pub mod Looks
 pub mod Loops
 pub mod Neighbours
+pub mod Sets
 pub mod Leaves
 pub mod Copies
 pub mod Backs

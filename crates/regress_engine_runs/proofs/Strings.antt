@@ -2,7 +2,6 @@
 use Rattle.std.proofs.Common.{◌≡◌, ℕ, suc, ◌+◌, ◌≤◌, nat_eq, Bool, true, false, List, [], ◌∷◌, ◌++◌, length, reverse, All, refl, sym, ap, ◌∙◌, subst, arith, length-append}
 use Rattle.std.proofs.lemmas.List.{append-nil}
 use Rattle.std.proofs.lemmas.List.Elements.{All-head, All-tail}
-use Rattle.regress_meaning.specs.Text.{holds}
 use Rattle.regress_meaning.specs.TableParts.{is_code_point}
 use Rattle.regress_meaning.specs.Meaning.{State, Direction, Forward, Backward, Context, step, same_all}
 use Rattle.regress_meaning.specs.Offsets.{Reading}
@@ -25,7 +24,7 @@ use Rattle.regress_engine_runs.proofs.RunLemmas.{steps}
 use Rattle.regress_engine_runs.proofs.Leading.{Leads, leads_at_once, first_expand, leads_weaker}
 use Rattle.regress_engine_runs.proofs.Places.{occurs, Arrives, Keeps-less, MayEnter-part, arms-rise}
 use Rattle.regress_engine_runs.proofs.Entering.{Enters, standing, one_after_another, first_or_second}
-use Rattle.regress_engine_runs.proofs.Leaves.{taking, empty-enters, byte_set-enters}
+use Rattle.regress_engine_runs.proofs.Leaves.{taking, empty-enters, byte_set-enters, char_set-enters}
 use Rattle.regress_engine_runs.proofs.Literals.{spelling}
 
 -- no group is in a piece
@@ -80,7 +79,7 @@ module _ (target : Target) (input : Input) (reading : Reading) (tells : Tells re
       subst (λ r. Enters target input reading b (tree.byte_set bs) p r) (one-further p q end) (byte_set-enters target input reading tells b bs p target.program.units stand.0)
   piece-enters b (tree.char_set cs) p q is (stand, end) =
       subst (λ r. Enters target input reading b (tree.char_set cs) p r) (one-further p q end)
-      (taking target input reading tells b (tree.char_set cs) (code.char_set cs) (holds cs) p stand.0 refl (λ w. refl) (λ s. refl))
+      (char_set-enters target input reading tells b cs p stand.0)
   piece-enters b _ p q is lies = absurd is
 
   -- pieces one after another
