@@ -1,4 +1,4 @@
-//! Tests of `regress` and of the program's library, by their public calls alone. The library itself is empty.
+//! Tests of `regress`, by its public calls alone. The library itself is empty.
 #![tactic(auto)]
 
 #[cfg(test)]
@@ -8,8 +8,8 @@ mod example;
 #[cfg(test)]
 mod matches;
 #[cfg(test)]
-mod program;
-#[cfg(test)]
 mod rows;
 #[cfg(test)]
 mod table;
+#[cfg(test)]
+mod told;

@@ -1,6 +1,7 @@
 //! Tests of matches and their groups.
 
-use regress::{Match, Regex, Tables};
+use crate::told::compiled;
+use regress::{Groups, Match, Range, Tables};
 use std::alloc::{AllocError, Global};
 use std::sync::ArcSlice;
 use std::test::Fail;
@@ -22,18 +23,48 @@ fn match_of(
     Ok(Match::new(1..6, captures, ArcSlice::from_vec(group_names)?))
 }
 
+/// Whether a group has this range.
+fn is_at(group: Option<Range>, expected: &Option<(usize, usize)>) -> bool {
+    group.map(|range| (range.start, range.end)) == *expected
+}
+
+/// Whether the groups have these ranges, from the whole match on.
+fn has_groups(found: &Match, expected: &[Option<(usize, usize)>]) -> bool {
+    for (index, range) in expected.iter().enumerate() {
+        if !is_at(found.group(index), range) {
+            return false;
+        }
+    }
+    true
+}
+
+/// Whether the groups of these names have these ranges.
+fn has_named(found: &Match, expected: &[(&str, Option<(usize, usize)>)]) -> bool {
+    for (name, range) in expected {
+        if !is_at(found.named_group(name), range) {
+            return false;
+        }
+    }
+    true
+}
+
+/// Whether a match tells these ends of itself.
+fn has_ends(found: &Match, start: usize, end: usize) -> bool {
+    found.range() == (start..end) && found.start() == start && found.end() == end
+}
+
+/// The groups of a match with two captures, and past them.
+const GROUPS: &[Option<(usize, usize)>] = &[Some((1, 6)), Some((1, 3)), None, None];
+
+/// The same, once the captures are gone.
+const WITHOUT_CAPTURES: &[Option<(usize, usize)>] = &[Some((1, 6)), None];
+
 #[test]
 fn a_match_is_read(rt: HostRuntime) -> Result<(), Fail> {
     let mut found = match_of(rt.alloc(), &[Some((1, 3)), None], &["", ""])?;
-    assert!(rt; found.range() == (1..6));
-    assert!(rt; found.start() == 1);
-    assert!(rt; found.end() == 6);
-    assert!(rt; found.group(0) == Some(1..6));
-    assert!(rt; found.group(1) == Some(1..3));
-    assert!(rt; found.group(2).is_none());
-    assert!(rt; found.group(3).is_none());
+    assert!(rt; has_ends(&found, 1, 6) && has_groups(&found, GROUPS));
     found.captures.clear();
-    assert!(rt; found.group(1).is_none());
+    assert!(rt; has_groups(&found, WITHOUT_CAPTURES));
     Ok(())
 }
 
@@ -45,48 +76,73 @@ fn a_part_of_the_text_is_read(rt: HostRuntime) -> Result<(), Fail> {
     Ok(())
 }
 
+/// The captures of a match, and their names.
+const CAPTURES: &[Option<(usize, usize)>] = &[Some((1, 2)), None, Some((2, 4)), Some((4, 6))];
+
+const NAMES: &[&str] = &["", "year", "day", "year"];
+
+/// Names, and their groups in that match.
+const NAMED: &[(&str, Option<(usize, usize)>)] = &[
+    ("day", Some((2, 4))),
+    ("year", None),
+    ("month", None),
+    ("", None),
+];
+
 #[test]
 fn the_first_group_of_a_name_is_found(rt: HostRuntime) -> Result<(), Fail> {
-    let mut found = match_of(
-        rt.alloc(),
-        &[Some((1, 2)), None, Some((2, 4)), Some((4, 6))],
-        &["", "year", "day", "year"],
-    )?;
-    assert!(rt; found.named_group("day") == Some(2..4));
-    assert!(rt; found.named_group("year").is_none());
-    assert!(rt; found.named_group("month").is_none());
-    assert!(rt; found.named_group("").is_none());
+    let mut found = match_of(rt.alloc(), CAPTURES, NAMES)?;
+    assert!(rt; has_named(&found, NAMED));
     found.captures.clear();
-    assert!(rt; found.named_group("day").is_none());
+    assert!(rt; has_named(&found, &[("day", None)]));
     Ok(())
 }
+
+/// Whether these groups come next.
+fn come(groups: &mut Groups<'_>, expected: &[Option<(usize, usize)>]) -> bool {
+    for range in expected {
+        let Some(group) = groups.next() else {
+            return false;
+        };
+        if !is_at(group, range) {
+            return false;
+        }
+    }
+    true
+}
+
+/// Whether exactly these groups are left, and then nothing comes.
+fn are_left(groups: &mut Groups<'_>, expected: &[Option<(usize, usize)>]) -> bool {
+    groups.len() == expected.len()
+        && come(groups, expected)
+        && groups.next().is_none()
+        && groups.next().is_none()
+}
+
+const WHOLE: &[Option<(usize, usize)>] = &[Some((1, 6))];
+
+const FIRST: &[Option<(usize, usize)>] = &[Some((1, 3))];
+
+const LAST: &[Option<(usize, usize)>] = &[None];
 
 #[test]
 fn the_whole_match_and_then_each_capture(rt: HostRuntime) -> Result<(), Fail> {
     let found = match_of(rt.alloc(), &[Some((1, 3)), None], &["", ""])?;
     let mut groups = found.groups();
-    assert!(rt; groups.len() == 3);
-    assert!(rt; groups.next() == Some(Some(1..6)));
+    assert!(rt; groups.len() == 3 && come(&mut groups, WHOLE));
     let mut same = groups.clone()?;
-    for mut rest in [groups, same] {
-        assert!(rt; rest.next() == Some(Some(1..3)));
-        assert!(rt; rest.len() == 1);
-        assert!(rt; rest.next() == Some(None));
-        assert!(rt; rest.next().is_none());
-        assert!(rt; rest.next().is_none());
-    }
+    assert!(rt; come(&mut groups, FIRST) && are_left(&mut groups, LAST));
+    assert!(rt; come(&mut same, FIRST) && are_left(&mut same, LAST));
     Ok(())
 }
+
+const OF_THE_FIRST: &[Option<(usize, usize)>] = &[Some((0, 1)), None];
 
 #[test]
 fn groups_of_the_first_match(rt: HostRuntime) -> Result<(), Fail> {
     let tables = Tables::small(rt.alloc())?;
-    let regex = Regex::new(rt.alloc(), "(a)|b", &tables)?;
+    let regex = compiled(rt.alloc(), "(a)|b", "", &tables)?;
     let found = regex.find("ba")?.ok_or("no match")?;
-    let mut groups = found.groups();
-    assert!(rt; groups.len() == 2);
-    assert!(rt; groups.next() == Some(Some(0..1)));
-    assert!(rt; groups.next() == Some(None));
-    assert!(rt; groups.next().is_none());
+    assert!(rt; are_left(&mut found.groups(), OF_THE_FIRST));
     Ok(())
 }

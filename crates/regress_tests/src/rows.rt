@@ -1,62 +1,124 @@
 //! Patterns and texts whose answers are known from the standard, told as a user would ask for them.
 
-use regress::{Error, Flags, Range, Regex, Tables, are_code_points, is_start};
+use crate::told::{
+    are_refused, compiled, first_match, first_of, match_first, match_so, matches_from, refusal,
+};
+use regress::{Error, Flags, Range, Regex, Tables, are_code_points};
 use std::alloc::{AllocError, Global};
 use std::test::Fail;
 
-const UNBALANCED: Error = Error::Syntax {
-    text: "Unbalanced parenthesis",
-};
+/// Patterns, their flags, texts, and the first match in each.
+const FIRST_MATCHES: &[(&str, &str, &str, &str)] = &[
+    // A search goes back into a group.
+    ("(a|ab)(c|bcd)", "", "abcd", "0..4 0..1 1..4"),
+    // The first arm at the first place is preferred.
+    ("(?:bc|(b))|(a)", "", "xbca", "1..3 - -"),
+    ("b|bc", "", "abc", "1..2"),
+    ("ac", "", "abc", ""),
+    // Groups are numbered where they open.
+    ("((a)(?:b))(c)", "", "abc", "0..3 0..2 0..1 2..3"),
+    // A group without a part is none.
+    ("(a)|b", "", "b", "0..1 -"),
+    // What is empty matches at the front.
+    ("a|", "", "b", "0..0"),
+    ("", "", "", "0..0"),
+    ("()", "", "b", "0..0 0..0"),
+    // A backslash takes the meaning of syntax.
+    (r"\((\\|\/)\)", "", r"(\)", "0..3 1..2"),
+    (r"\^\$\.\*\+\?\[\]\{\}\|", "", "^$.*+?[]{}|", "0..11"),
+    // Answers are told in bytes.
+    ("é(漢)(?:(😀)|(b))", "", "aaé漢😀b", "2..11 4..7 7..11 -"),
+    // Flags that nothing asks change nothing.
+    ("(😀)|b", "msuv", "\na😀", "2..6 2..6"),
+    // The examples of "RepeatMatcher", and the notes below it.
+    ("(a|ab)(c|bcd)(d*)", "", "abcd", "0..4 0..1 1..4 4..4"),
+    (
+        "(z)((a+)?(b+)?(c))*",
+        "",
+        "zaacbbbcac",
+        "0..10 0..1 8..10 8..9 - 9..10",
+    ),
+];
 
-/// The range of the first match and then those of the groups, in bytes; nothing where there is no match.
-fn ranges(alloc: Global, regex: &Regex<'_>, text: &str) -> Result<Vec<Option<Range>>, Error> {
-    let mut ranges = Vec::new(alloc);
-    if let Some(found) = regex.find(text)? {
-        for number in 0..=found.captures.len() {
-            ranges.push(found.group(number))?;
-        }
-    }
-    Ok(ranges)
+#[test]
+fn first_matches_are_those_of_the_standard(rt: HostRuntime) -> Result<(), Fail> {
+    match_first(rt.alloc(), FIRST_MATCHES)
 }
 
-/// What `ranges` tells of a pattern without flags.
-fn found(alloc: Global, pattern: &str, text: &str) -> Result<Vec<Option<Range>>, Fail> {
+/// Patterns, their flags, texts, and all matches in each.
+const ALL_MATCHES: &[(&str, &str, &str, &str)] = &[
+    // An empty iteration past the least is none.
+    ("(a*)*", "", "b", "0..0 -|1..1 -"),
+    ("(a|b*)*", "", "abb", "0..3 1..3|3..3 -"),
+    ("(?:)*", "", "a", "0..0|1..1"),
+    ("(?:(?:)+)+", "", "a", "0..0|1..1"),
+    // Matches follow one another.
+    ("a*", "", "baa", "0..0|1..3|3..3"),
+    ("(?:)", "", "é", "0..0|2..2"),
+    ("a", "", "", ""),
+    ("a*", "", "", "0..0"),
+];
+
+#[test]
+fn all_matches_are_those_of_the_standard(rt: HostRuntime) -> Result<(), Fail> {
+    match_so(rt.alloc(), ALL_MATCHES)
+}
+
+/// The range of the first group with a name in the first match.
+fn named(alloc: Global, pattern: &str, text: &str, name: &str) -> Result<Option<Range>, Fail> {
     let tables = Tables::small(alloc)?;
     let regex = Regex::new(alloc, pattern, &tables)?;
-    Ok(ranges(alloc, &regex, text)?)
+    Ok(regex.find(text)?.ok_or("no match")?.named_group(name))
 }
 
-/// What `ranges` tells of all matches, one after another.
-fn all_found(alloc: Global, pattern: &str, text: &str) -> Result<Vec<Option<Range>>, Fail> {
-    let tables = Tables::small(alloc)?;
-    let regex = Regex::new(alloc, pattern, &tables)?;
-    let mut ranges = Vec::new(alloc);
-    for found in regex.find_iter(text)? {
-        for group in found?.groups() {
-            ranges.push(group)?;
+/// Patterns, texts, names, and the group of the name in the first match.
+const NAMED: &[(&str, &str, &str, Option<(usize, usize)>)] = &[
+    (r"(?<\u0061>x)", "x", "a", Some((0, 1))),
+    (r"(.)(?<é>.)", "aé", "é", Some((1, 3))),
+    (r"(?<a>x)", "x", "b", None),
+    (r"(x)", "x", "", None),
+    // Names go by the order of opening.
+    (r"(?<=(?<a>x)(?<b>y))z", "xyz", "a", Some((0, 1))),
+    (r"(?<=(?<a>x)(?<b>y))z", "xyz", "b", Some((1, 2))),
+    (r"(?<a>(?<b>x)y)", "xy", "a", Some((0, 2))),
+    (r"(?<a>(?<b>x)y)", "xy", "b", Some((0, 1))),
+    // A name means its first group.
+    (r"(?<n>a)|(?<n>b)", "a", "n", Some((0, 1))),
+    (r"(?<n>a)|(?<n>b)", "b", "n", None),
+];
+
+#[test]
+fn groups_are_found_by_their_names(rt: HostRuntime) -> Result<(), Fail> {
+    for (pattern, text, name, expected) in NAMED {
+        let group = named(rt.alloc(), pattern, text, name)?;
+        if group.map(|range| (range.start, range.end)) != *expected {
+            return Err(Fail::new(*pattern));
         }
     }
-    Ok(ranges)
+    Ok(())
 }
 
-/// Why a pattern is refused under flags; `None` where it is accepted.
-fn refusal(alloc: Global, pattern: &str, flags: &str) -> Result<Option<Error>, Fail> {
-    let tables = Tables::small(alloc)?;
-    Ok(Regex::with_flags(alloc, pattern, Flags::from(flags), &tables).err())
+#[test]
+fn a_match_is_told_in_bytes(rt: HostRuntime) -> Result<(), Fail> {
+    let tables = Tables::small(rt.alloc())?;
+    let found = Regex::new(rt.alloc(), "漢(😀)", &tables)?.find("aé漢😀b")?;
+    let found = found.ok_or("no match")?;
+    assert!(rt;
+        found.range() == (3..10)
+            && (found.start(), found.end()) == (3, 10)
+            && found.group(1) == Some(6..10)
+            && found.group(2).is_none()
+    );
+    Ok(())
 }
 
-/// What a call answers; `None` where it was refused memory, and any other error is a failure.
-fn unless_refused<T: Drop>(outcome: Result<T, Error>) -> Result<Option<T>, Fail> {
-    match outcome {
-        Ok(value) => Ok(Some(value)),
-        Err(Error::OutOfMemory) => Ok(None),
-        Err(other) => Err(other.into()),
-    }
-}
-
-/// The small table, asked for once more where memory is refused.
-fn small_tables(alloc: Global) -> Result<Tables, Fail> {
-    Ok(Tables::small(alloc).or_else(|_| Tables::small(alloc))?)
+#[test]
+fn what_is_no_pattern_is_refused(rt: HostRuntime) -> Result<(), Fail> {
+    let unbalanced = &[("(a", ""), ("(?:a", ""), ("a)", "")];
+    are_refused(rt.alloc(), "Unbalanced parenthesis", unbalanced)?;
+    are_refused(rt.alloc(), "Invalid escape", &[(r"\", "")])?;
+    let nothing = &[("a**", ""), ("*a", ""), ("(?:+)", ""), ("|?", "")];
+    are_refused(rt.alloc(), "Nothing to repeat", nothing)
 }
 
 /// A text between so many openings and as many endings.
@@ -84,188 +146,65 @@ fn letters(alloc: Global) -> Result<String, AllocError> {
     (0x4E00..0x7510).filter_map(char::from_u32).collect(alloc)
 }
 
-#[test]
-fn goes_back_into_a_group(rt: HostRuntime) -> Result<(), Fail> {
-    let ranges = found(rt.alloc(), "(a|ab)(c|bcd)", "abcd")?;
-    assert_eq!(rt;
-        ranges.as_slice(),
-        [Some(0..4), Some(0..1), Some(1..4)].as_slice()
-    );
-    Ok(())
-}
-
-#[test]
-fn prefers_the_first_arm_at_the_first_place(rt: HostRuntime) -> Result<(), Fail> {
-    let ranges = found(rt.alloc(), "(?:bc|(b))|(a)", "xbca")?;
-    assert_eq!(rt; ranges.as_slice(), [Some(1..3), None, None].as_slice());
-    let ranges = found(rt.alloc(), "b|bc", "abc")?;
-    assert_eq!(rt; ranges.as_slice(), [Some(1..2)].as_slice());
-    assert!(rt; found(rt.alloc(), "ac", "abc")?.is_empty());
-    Ok(())
-}
-
-#[test]
-fn groups_are_numbered_where_they_open(rt: HostRuntime) -> Result<(), Fail> {
-    let ranges = found(rt.alloc(), "((a)(?:b))(c)", "abc")?;
-    assert_eq!(rt;
-        ranges.as_slice(),
-        [Some(0..3), Some(0..2), Some(0..1), Some(2..3)].as_slice()
-    );
-    Ok(())
-}
-
-/// The range of the first group with a name in the first match.
-fn named(alloc: Global, pattern: &str, text: &str, name: &str) -> Result<Option<Range>, Fail> {
-    let tables = Tables::small(alloc)?;
-    let regex = Regex::new(alloc, pattern, &tables)?;
-    Ok(regex.find(text)?.ok_or("no match")?.named_group(name))
-}
-
-#[test]
-fn groups_are_found_by_their_names(rt: HostRuntime) -> Result<(), Fail> {
-    let alloc = rt.alloc();
-    assert_eq!(rt; named(alloc, r"(?<\u0061>x)", "x", "a")?, Some(0..1));
-    assert_eq!(rt; named(alloc, r"(.)(?<é>.)", "aé", "é")?, Some(1..3));
-    assert_eq!(rt; named(alloc, r"(?<a>x)", "x", "b")?, None);
-    assert_eq!(rt; named(alloc, r"(x)", "x", "")?, None);
-    Ok(())
-}
-
-#[test]
-fn names_go_by_the_order_of_opening(rt: HostRuntime) -> Result<(), Fail> {
-    let alloc = rt.alloc();
-    assert_eq!(rt;
-        named(alloc, r"(?<=(?<a>x)(?<b>y))z", "xyz", "a")?,
-        Some(0..1)
-    );
-    assert_eq!(rt;
-        named(alloc, r"(?<=(?<a>x)(?<b>y))z", "xyz", "b")?,
-        Some(1..2)
-    );
-    assert_eq!(rt; named(alloc, r"(?<a>(?<b>x)y)", "xy", "a")?, Some(0..2));
-    assert_eq!(rt; named(alloc, r"(?<a>(?<b>x)y)", "xy", "b")?, Some(0..1));
-    Ok(())
-}
-
-#[test]
-fn a_name_means_its_first_group(rt: HostRuntime) -> Result<(), Fail> {
-    let alloc = rt.alloc();
-    assert_eq!(rt; named(alloc, r"(?<n>a)|(?<n>b)", "a", "n")?, Some(0..1));
-    assert_eq!(rt; named(alloc, r"(?<n>a)|(?<n>b)", "b", "n")?, None);
-    Ok(())
-}
-
-#[test]
-fn a_group_without_a_part_is_none(rt: HostRuntime) -> Result<(), Fail> {
-    let ranges = found(rt.alloc(), "(a)|b", "b")?;
-    assert_eq!(rt; ranges.as_slice(), [Some(0..1), None].as_slice());
-    Ok(())
-}
-
-#[test]
-fn what_is_empty_matches_at_the_front(rt: HostRuntime) -> Result<(), Fail> {
-    assert_eq!(rt;
-        found(rt.alloc(), "a|", "b")?.as_slice(),
-        [Some(0..0)].as_slice()
-    );
-    assert_eq!(rt;
-        found(rt.alloc(), "", "")?.as_slice(),
-        [Some(0..0)].as_slice()
-    );
-    assert_eq!(rt;
-        found(rt.alloc(), "()", "b")?.as_slice(),
-        [Some(0..0), Some(0..0)].as_slice()
-    );
-    Ok(())
-}
-
-#[test]
-fn a_backslash_takes_the_meaning_of_syntax(rt: HostRuntime) -> Result<(), Fail> {
-    let ranges = found(rt.alloc(), r"\((\\|\/)\)", r"(\)")?;
-    assert_eq!(rt; ranges.as_slice(), [Some(0..3), Some(1..2)].as_slice());
-    let ranges = found(rt.alloc(), r"\^\$\.\*\+\?\[\]\{\}\|", "^$.*+?[]{}|")?;
-    assert_eq!(rt; ranges.as_slice(), [Some(0..11)].as_slice());
-    Ok(())
-}
-
-#[test]
-fn answers_are_told_in_bytes(rt: HostRuntime) -> Result<(), Fail> {
-    let ranges = found(rt.alloc(), "é(漢)(?:(😀)|(b))", "aaé漢😀b")?;
-    assert_eq!(rt;
-        ranges.as_slice(),
-        [Some(2..11), Some(4..7), Some(7..11), None].as_slice()
-    );
-    let tables = Tables::small(rt.alloc())?;
-    let found = Regex::new(rt.alloc(), "漢(😀)", &tables)?.find("aé漢😀b")?;
-    let found = found.ok_or("no match")?;
-    assert_eq!(rt; found.range(), 3..10);
-    assert_eq!(rt; (found.start(), found.end()), (3, 10));
-    assert_eq!(rt; found.group(1), Some(6..10));
-    assert_eq!(rt; found.group(2), None);
-    Ok(())
-}
-
-#[test]
-fn what_is_no_pattern_is_refused(rt: HostRuntime) -> Result<(), Fail> {
-    assert_eq!(rt; refusal(rt.alloc(), "(a", "")?, Some(UNBALANCED));
-    assert_eq!(rt; refusal(rt.alloc(), "(?:a", "")?, Some(UNBALANCED));
-    assert_eq!(rt; refusal(rt.alloc(), "a)", "")?, Some(UNBALANCED));
-    let bare = Error::Syntax {
-        text: "Invalid escape",
-    };
-    assert_eq!(rt; refusal(rt.alloc(), r"\", "")?, Some(bare));
-    Ok(())
-}
-
-#[test]
-fn nesting_ends_at_256(rt: HostRuntime) -> Result<(), Fail> {
-    let pattern = nested(rt.alloc(), "(?:", "a", ")", 257)?;
-    assert_eq!(rt;
-        refusal(rt.alloc(), pattern.as_str(), "")?,
-        Some(Error::TooDeep)
-    );
-    let pattern = nested(rt.alloc(), "(?:", "a", ")", 256)?;
-    let ranges = found(rt.alloc(), pattern.as_str(), "ba")?;
-    assert_eq!(rt; ranges.as_slice(), [Some(1..2)].as_slice());
-    Ok(())
-}
+/// Groups that are not counted, classes with `v` inside them, and what is told of the pattern.
+const NESTED: &[(usize, usize, Option<Error>)] = &[
+    (257, 0, Some(Error::TooDeep)),
+    (256, 0, None),
+    (128, 129, Some(Error::TooDeep)),
+    (128, 128, None),
+];
 
 #[test]
 fn groups_and_classes_nest_to_256_together(rt: HostRuntime) -> Result<(), Fail> {
-    let pattern = classes_in_groups(rt.alloc(), 128, 129)?;
-    assert_eq!(rt;
-        refusal(rt.alloc(), pattern.as_str(), "v")?,
-        Some(Error::TooDeep)
-    );
-    let pattern = classes_in_groups(rt.alloc(), 128, 128)?;
-    let tables = Tables::small(rt.alloc())?;
-    let regex = Regex::with_flags(rt.alloc(), pattern.as_str(), Flags::from("v"), &tables)?;
-    let ranges = ranges(rt.alloc(), &regex, "ba")?;
-    assert_eq!(rt; ranges.as_slice(), [Some(1..2)].as_slice());
+    for (groups, classes, expected) in NESTED {
+        let pattern = classes_in_groups(rt.alloc(), *groups, *classes)?;
+        if refusal(rt.alloc(), pattern.as_str(), "v")? != *expected {
+            return Err(Fail::new(*groups));
+        }
+        if expected.is_none() {
+            let told = first_match(rt.alloc(), pattern.as_str(), "v", "ba")?;
+            assert!(rt; told.as_str() == "1..2");
+        }
+    }
     Ok(())
+}
+
+/// Why a piece of text, so many times, is refused as a pattern; `None` where it is accepted.
+fn refusal_of_many(alloc: Global, piece: &str, count: usize) -> Result<Option<Error>, Fail> {
+    let pattern = piece.repeat(alloc, count)?;
+    refusal(alloc, pattern.as_str(), "")
 }
 
 #[test]
 fn groups_end_at_65535(rt: HostRuntime) -> Result<(), Fail> {
-    let pattern = "()".repeat(rt.alloc(), 65_536)?;
-    assert_eq!(rt;
-        refusal(rt.alloc(), pattern.as_str(), "")?,
-        Some(Error::TooManyGroups)
-    );
-    let pattern = "()".repeat(rt.alloc(), 65_535)?;
-    assert_eq!(rt; refusal(rt.alloc(), pattern.as_str(), "")?, None);
+    let refused = refusal_of_many(rt.alloc(), "()", 65_536)?;
+    let accepted = refusal_of_many(rt.alloc(), "()", 65_535)?;
+    assert!(rt; refused == Some(Error::TooManyGroups) && accepted.is_none());
+    Ok(())
+}
+
+#[test]
+fn quantifiers_end_at_65535(rt: HostRuntime) -> Result<(), Fail> {
+    let refused = refusal_of_many(rt.alloc(), "a*", 65_536)?;
+    let accepted = refusal_of_many(rt.alloc(), "a*", 65_535)?;
+    assert!(rt; refused == Some(Error::TooManyLoops) && accepted.is_none());
+    Ok(())
+}
+
+#[test]
+fn patterns_of_many_arms_are_read_and_matched(rt: HostRuntime) -> Result<(), Fail> {
+    let mut arms = "b|".repeat(rt.alloc(), 99_999)?;
+    arms.push_str("a")?;
+    let told = first_match(rt.alloc(), arms.as_str(), "", "xa")?;
+    assert!(rt; told.as_str() == "1..2");
     Ok(())
 }
 
 #[test]
 fn long_patterns_are_read_and_matched(rt: HostRuntime) -> Result<(), Fail> {
-    let mut arms = "b|".repeat(rt.alloc(), 99_999)?;
-    arms.push_str("a")?;
-    let ranges = found(rt.alloc(), arms.as_str(), "xa")?;
-    assert_eq!(rt; ranges.as_slice(), [Some(1..2)].as_slice());
     let sequence = "a".repeat(rt.alloc(), 100_000)?;
-    let ranges = found(rt.alloc(), sequence.as_str(), sequence.as_str())?;
-    assert_eq!(rt; ranges.as_slice(), [Some(0..100_000)].as_slice());
+    let told = first_match(rt.alloc(), sequence.as_str(), "", sequence.as_str())?;
+    assert!(rt; told.as_str() == "0..100000");
     Ok(())
 }
 
@@ -273,46 +212,50 @@ fn long_patterns_are_read_and_matched(rt: HostRuntime) -> Result<(), Fail> {
 fn large_classes_are_read_and_matched(rt: HostRuntime) -> Result<(), Fail> {
     let letters = letters(rt.alloc())?;
     let class = nested(rt.alloc(), "[", letters.as_str(), "]", 1)?;
-    let ranges = found(
-        rt.alloc(),
-        class.as_str(),
-        "\u{4DFF}\u{7510}\u{750F}\u{4E00}",
-    )?;
-    assert_eq!(rt; ranges.as_slice(), [Some(6..9)].as_slice());
-    let ranges = found(rt.alloc(), class.as_str(), "\u{4E00}")?;
-    assert_eq!(rt; ranges.as_slice(), [Some(0..3)].as_slice());
+    let text = "\u{4DFF}\u{7510}\u{750F}\u{4E00}";
+    let last = first_match(rt.alloc(), class.as_str(), "", text)?;
+    let first = first_match(rt.alloc(), class.as_str(), "", "\u{4E00}")?;
+    assert!(rt; last.as_str() == "6..9" && first.as_str() == "0..3");
     Ok(())
 }
 
-#[test]
-fn flags_that_nothing_asks_change_nothing(rt: HostRuntime) -> Result<(), Fail> {
-    let tables = Tables::small(rt.alloc())?;
-    let regex = Regex::with_flags(rt.alloc(), "(😀)|b", Flags::from("msuv"), &tables)?;
-    let ranges = ranges(rt.alloc(), &regex, "\na😀")?;
-    assert_eq!(rt; ranges.as_slice(), [Some(2..6), Some(2..6)].as_slice());
-    Ok(())
+/// The first match of a pattern that is given as code points.
+fn match_of_points(alloc: Global, points: &[u32], text: &str) -> Result<String, Fail> {
+    let tables = Tables::small(alloc)?;
+    if !are_code_points(points) {
+        return Err("no code points".into());
+    }
+    let regex = Regex::from_unicode(alloc, points, Flags::default(), &tables)?;
+    Ok(first_of(alloc, &regex, text)?)
 }
 
 #[test]
 fn patterns_are_given_as_points(rt: HostRuntime) -> Result<(), Fail> {
-    let tables = Tables::small(rt.alloc())?;
-    let points = [0x28, 0x1_F600, 0x29, 0x7C, 0x62].as_slice();
-    assert!(rt; are_code_points(points));
-    let regex = Regex::from_unicode(rt.alloc(), points, Flags::default(), &tables)?;
-    let ranges = ranges(rt.alloc(), &regex, "é😀b")?;
-    assert_eq!(rt; ranges.as_slice(), [Some(2..6), Some(2..6)].as_slice());
+    let points = &[0x28, 0x1_F600, 0x29, 0x7C, 0x62];
+    let told = match_of_points(rt.alloc(), points, "é😀b")?;
+    assert!(rt; told.as_str() == "2..6 2..6");
     Ok(())
 }
 
 #[test]
 fn a_lone_surrogate_is_a_character(rt: HostRuntime) -> Result<(), Fail> {
-    let tables = Tables::small(rt.alloc())?;
-    let points = [0xD800, 0x7C, 0x62].as_slice();
-    assert!(rt; are_code_points(points));
-    let regex = Regex::from_unicode(rt.alloc(), points, Flags::default(), &tables)?;
-    let ranges = ranges(rt.alloc(), &regex, "𐀀b")?;
-    assert_eq!(rt; ranges.as_slice(), [Some(4..5)].as_slice());
+    let told = match_of_points(rt.alloc(), &[0xD800, 0x7C, 0x62], "𐀀b")?;
+    assert!(rt; told.as_str() == "4..5");
     Ok(())
+}
+
+/// What a call answers; `None` where it was refused memory, and any other error is a failure.
+fn unless_refused<T: Drop>(outcome: Result<T, Error>) -> Result<Option<T>, Fail> {
+    match outcome {
+        Ok(value) => Ok(Some(value)),
+        Err(Error::OutOfMemory) => Ok(None),
+        Err(other) => Err(other.into()),
+    }
+}
+
+/// The small table, asked for once more where memory is refused.
+fn small_tables(alloc: Global) -> Result<Tables, Fail> {
+    Ok(Tables::small(alloc).or_else(|_| Tables::small(alloc))?)
 }
 
 // A run may refuse one request for memory, each in turn (`rt try --test --fail-alloc N`): then the call that made it tells
@@ -320,7 +263,7 @@ fn a_lone_surrogate_is_a_character(rt: HostRuntime) -> Result<(), Fail> {
 #[test]
 fn refused_memory_is_told_and_turns_no_answer(rt: HostRuntime) -> Result<(), Fail> {
     let tables = small_tables(rt.alloc())?;
-    let compile = || Regex::with_flags(rt.alloc(), "(a|ab)(c|b(?:c)d)", Flags::from("m"), &tables);
+    let compile = || compiled(rt.alloc(), "(a|ab)(c|b(?:c)d)", "m", &tables);
     let regex = match unless_refused(compile())? {
         Some(regex) => regex,
         None => compile()?,
@@ -330,72 +273,9 @@ fn refused_memory_is_told_and_turns_no_answer(rt: HostRuntime) -> Result<(), Fai
         None => regex.find("é😀abcd")?,
     };
     let found = found.ok_or("no match")?;
-    assert_eq!(rt; found.range(), 6..10);
-    assert_eq!(rt;
-        found.captures.as_slice(),
-        [Some(6..7), Some(7..10)].as_slice()
-    );
-    Ok(())
-}
-
-// The examples of "RepeatMatcher", and the notes below it.
-#[test]
-fn repetitions_take_as_much_as_they_can(rt: HostRuntime) -> Result<(), Fail> {
-    let ranges = found(rt.alloc(), "(a|ab)(c|bcd)(d*)", "abcd")?;
-    assert_eq!(rt;
-        ranges.as_slice(),
-        [Some(0..4), Some(0..1), Some(1..4), Some(4..4)].as_slice()
-    );
-    let ranges = found(rt.alloc(), "(z)((a+)?(b+)?(c))*", "zaacbbbcac")?;
-    assert_eq!(rt;
-        ranges.as_slice(),
-        [
-            Some(0..10),
-            Some(0..1),
-            Some(8..10),
-            Some(8..9),
-            None,
-            Some(9..10)
-        ]
-        .as_slice()
-    );
-    Ok(())
-}
-
-#[test]
-fn an_empty_iteration_past_the_least_is_none(rt: HostRuntime) -> Result<(), Fail> {
-    assert_eq!(rt;
-        all_found(rt.alloc(), "(a*)*", "b")?.as_slice(),
-        [Some(0..0), None, Some(1..1), None].as_slice()
-    );
-    assert_eq!(rt;
-        all_found(rt.alloc(), "(a|b*)*", "abb")?.as_slice(),
-        [Some(0..3), Some(1..3), Some(3..3), None].as_slice()
-    );
-    for pattern in ["(?:)*", "(?:(?:)+)+"] {
-        assert_eq!(rt;
-            all_found(rt.alloc(), pattern, "a")?.as_slice(),
-            [Some(0..0), Some(1..1)].as_slice(),
-            "{pattern}"
-        );
-    }
-    Ok(())
-}
-
-#[test]
-fn matches_follow_one_another(rt: HostRuntime) -> Result<(), Fail> {
-    assert_eq!(rt;
-        all_found(rt.alloc(), "a*", "baa")?.as_slice(),
-        [Some(0..0), Some(1..3), Some(3..3)].as_slice()
-    );
-    assert_eq!(rt;
-        all_found(rt.alloc(), "(?:)", "é")?.as_slice(),
-        [Some(0..0), Some(2..2)].as_slice()
-    );
-    assert!(rt; all_found(rt.alloc(), "a", "")?.is_empty());
-    assert_eq!(rt;
-        all_found(rt.alloc(), "a*", "")?.as_slice(),
-        [Some(0..0)].as_slice()
+    assert!(rt;
+        found.range() == (6..10)
+            && found.captures.as_slice() == [Some(6..7), Some(7..10)].as_slice()
     );
     Ok(())
 }
@@ -403,43 +283,36 @@ fn matches_follow_one_another(rt: HostRuntime) -> Result<(), Fail> {
 #[test]
 fn a_search_begins_at_an_offset(rt: HostRuntime) -> Result<(), Fail> {
     let tables = Tables::small(rt.alloc())?;
-    let regex = Regex::new(rt.alloc(), "a*", &tables)?;
-    assert!(rt; is_start("baa", 1));
-    let mut matches = regex.find_from("baa", 1)?;
-    assert_eq!(rt; matches.next().ok_or("no match")??.range(), 1..3);
-    assert_eq!(rt; matches.next().ok_or("no match")??.range(), 3..3);
-    assert!(rt; matches.next().is_none());
-    assert!(rt; matches.next().is_none());
-    assert!(rt; is_start("baa", 4));
-    assert!(rt; regex.find_from("baa", 4)?.next().is_none());
+    let regex = compiled(rt.alloc(), "a*", "", &tables)?;
+    let within = matches_from(rt.alloc(), &regex, "baa", 1)?;
+    let past = matches_from(rt.alloc(), &regex, "baa", 4)?;
+    assert!(rt; within.as_str() == "1..3|3..3" && past.is_empty());
     Ok(())
 }
 
-#[test]
-fn quantifiers_end_at_65535(rt: HostRuntime) -> Result<(), Fail> {
-    let pattern = "a*".repeat(rt.alloc(), 65_536)?;
-    assert_eq!(rt;
-        refusal(rt.alloc(), pattern.as_str(), "")?,
-        Some(Error::TooManyLoops)
-    );
-    let pattern = "a*".repeat(rt.alloc(), 65_535)?;
-    assert_eq!(rt; refusal(rt.alloc(), pattern.as_str(), "")?, None);
-    Ok(())
-}
+/// The matches of `(a+)|b*` in `aabb`.
+const WHOLE: &[(usize, usize)] = &[(0, 2), (2, 4), (4, 4)];
 
-#[test]
-fn a_quantifier_needs_an_atom(rt: HostRuntime) -> Result<(), Fail> {
-    for pattern in ["a**", "*a", "(?:+)", "|?"] {
-        let nothing = Error::Syntax {
-            text: "Nothing to repeat",
-        };
-        assert_eq!(rt;
-            refusal(rt.alloc(), pattern, "")?,
-            Some(nothing),
-            "{pattern}"
-        );
+/// How many matches come before the end or before a refusal, and whether one came; a match that is another one than is due,
+/// or anything after a refusal, is a failure.
+fn count_matches(regex: &Regex<'_>) -> Result<(usize, bool), Fail> {
+    let matches = match regex.find_iter("aabb") {
+        Ok(matches) => matches,
+        Err(Error::OutOfMemory) => return Ok((0, true)),
+        Err(other) => return Err(other.into()),
+    };
+    let mut count: usize = 0;
+    let mut is_refused = false;
+    for item in matches {
+        let found = unless_refused(item)?;
+        let range = found.map(|found| (found.start(), found.end()));
+        if is_refused || range.is_some() && range.as_ref() != WHOLE.get(count) {
+            return Err("a match that is not due".into());
+        }
+        is_refused = range.is_none();
+        count = count.saturating_add(usize::from(range.is_some()));
     }
-    Ok(())
+    Ok((count, is_refused))
 }
 
 // With each request for memory refused in turn, as above: the matches before the refusal are the first of the list, then
@@ -447,34 +320,15 @@ fn a_quantifier_needs_an_atom(rt: HostRuntime) -> Result<(), Fail> {
 #[test]
 fn refused_memory_ends_the_iteration(rt: HostRuntime) -> Result<(), Fail> {
     let tables = small_tables(rt.alloc())?;
-    let compile = || Regex::new(rt.alloc(), "(a+)|b*", &tables);
+    let compile = || compiled(rt.alloc(), "(a+)|b*", "", &tables);
     let regex = match unless_refused(compile())? {
         Some(regex) => regex,
         None => compile()?,
     };
-    let mut whole = [0..2, 2..4, 4..4].into_iter();
-    let mut is_refused = false;
-    match regex.find_iter("aabb") {
-        Ok(mut matches) => {
-            while let Some(item) = matches.next() {
-                match unless_refused(item)? {
-                    Some(found) => assert_eq!(rt; Some(found.range()), whole.next()),
-                    None => is_refused = true,
-                }
-            }
-        }
-        Err(refusal) => {
-            assert_eq!(rt; refusal, Error::OutOfMemory);
-            is_refused = true;
-        }
-    }
-    assert!(rt; is_refused || whole.next().is_none());
+    let (count, is_refused) = count_matches(&regex)?;
+    assert!(rt; is_refused || count == WHOLE.len());
     if is_refused {
-        let mut whole = [0..2, 2..4, 4..4].into_iter();
-        for found in regex.find_iter("aabb")? {
-            assert_eq!(rt; Some(found?.range()), whole.next());
-        }
-        assert!(rt; whole.next().is_none());
+        assert!(rt; count_matches(&regex)? == (WHOLE.len(), false));
     }
     Ok(())
 }

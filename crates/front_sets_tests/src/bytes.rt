@@ -59,19 +59,27 @@ fn sets_are_joined_and_turned(rt: HostRuntime) {
     assert!(rt; !turned && set.contains(0xFF));
 }
 
+/// Whether a searcher answers this index.
+fn finds<S: ByteSearcher>(searcher: &S, bytes: &[u8], expected: Option<usize>) -> bool {
+    first(searcher, bytes) == expected
+}
+
 #[test]
 fn the_first_member_is_found(rt: HostRuntime) {
-    assert!(rt; first(&ByteBitmap::new(&[0x80, b'c']), b"abc") == Some(2));
-    assert!(rt; first(&ByteBitmap::new(&[0x80, b'c']), b"ab") == None);
-    assert!(rt; first(b"c", b"abcabc") == Some(2));
-    assert!(rt; first(b"cb", b"abcabc") == Some(1));
-    assert!(rt; first(b"xyc", b"abcabc") == Some(2));
-    assert!(rt; first(&ByteArraySet(*b"wxyc"), b"aaac") == Some(3));
-    assert!(rt; first(b"c", b"ab") == None);
-    assert!(rt; first(b"cb", b"") == None);
-    assert!(rt; first(&ByteArraySet(*b"xyz"), b"abc") == None);
-    assert!(rt; first(&EmptyString, b"abc") == Some(0));
-    assert!(rt; first(&EmptyString, b"") == Some(0));
+    let set = ByteBitmap::new(&[0x80, b'c']);
+    assert!(rt; finds(&set, b"abc", Some(2)) && finds(&set, b"ab", None));
+    assert!(rt;
+        finds(b"c", b"abcabc", Some(2))
+            && finds(b"cb", b"abcabc", Some(1))
+            && finds(b"xyc", b"abcabc", Some(2))
+            && finds(&ByteArraySet(*b"wxyc"), b"aaac", Some(3))
+    );
+    assert!(rt;
+        finds(b"c", b"ab", None)
+            && finds(b"cb", b"", None)
+            && finds(&ByteArraySet(*b"xyz"), b"abc", None)
+    );
+    assert!(rt; finds(&EmptyString, b"abc", Some(0)) && finds(&EmptyString, b"", Some(0)));
 }
 
 #[test]

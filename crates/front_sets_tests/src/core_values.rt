@@ -1,23 +1,27 @@
 //! Tests of `regress_front_core`.
 use regress_front_core::{Error, Flags, GroupData, LoopData, Quantifier};
-use std::alloc::{AllocError, AllocFailed};
+use std::alloc::{AllocError, AllocFailed, Global};
 use std::test::Fail;
+
+const SYNTAX: Error = Error::Syntax {
+    text: "Unbalanced parenthesis",
+};
+
+const TEXTS: &[(Error, &str)] = &[
+    (SYNTAX, "Unbalanced parenthesis"),
+    (Error::TooDeep, "pattern is nested too deeply"),
+    (Error::TooManyGroups, "too many capture groups"),
+    (Error::TooManyLoops, "too many quantifiers"),
+    (Error::TooLarge, "program is too large"),
+    (Error::OutOfMemory, "out of memory"),
+];
 
 #[test]
 fn each_error_has_its_text(rt: HostRuntime) -> Result<(), Fail> {
-    let syntax = Error::Syntax {
-        text: "Unbalanced parenthesis",
-    };
-    for (error, expected) in [
-        (syntax, "Unbalanced parenthesis"),
-        (Error::TooDeep, "pattern is nested too deeply"),
-        (Error::TooManyGroups, "too many capture groups"),
-        (Error::TooManyLoops, "too many quantifiers"),
-        (Error::TooLarge, "program is too large"),
-        (Error::OutOfMemory, "out of memory"),
-    ] {
-        let text = error.to_string(rt.alloc())?;
-        assert!(rt; text.as_str() == expected);
+    for (error, expected) in TEXTS {
+        if error.to_string(rt.alloc())?.as_str() != *expected {
+            return Err(Fail::new(*expected));
+        }
     }
     Ok(())
 }
@@ -30,19 +34,26 @@ fn refused_memory_is_an_error(rt: HostRuntime) {
     assert!(rt; refused && with_value);
 }
 
+/// Fails unless flags are written so, and turn nothing off.
+fn are_written(alloc: Global, flags: Flags, expected: &str) -> Result<(), Fail> {
+    if !flags.no_opt && flags.to_string(alloc)?.as_str() == expected {
+        Ok(())
+    } else {
+        Err(Fail::new("other letters"))
+    }
+}
+
+/// Letters, and how the flags that they set are written.
+const LETTERS: &[(&str, &str)] = &[("vusim", "misuv"), ("iv", "iv"), ("gy", ""), ("", "")];
+
 #[test]
 fn letters_are_written_in_one_order(rt: HostRuntime) -> Result<(), Fail> {
-    for (letters, expected) in [("vusim", "misuv"), ("iv", "iv"), ("gy", ""), ("", "")] {
-        let flags = Flags::from(letters);
-        assert!(rt; !flags.no_opt);
-        let text = flags.to_string(rt.alloc())?;
-        assert!(rt; text.as_str() == expected);
+    for (letters, expected) in LETTERS {
+        are_written(rt.alloc(), Flags::from(*letters), expected)?;
     }
-    let text = Flags::new([0x76, 0x1_F600, 0x69, 0x69].into_iter()).to_string(rt.alloc())?;
-    assert!(rt; text.as_str() == "iv");
-    let text = Flags::default().to_string(rt.alloc())?;
-    assert!(rt; text.as_str() == "");
-    Ok(())
+    let points = Flags::new([0x76, 0x1_F600, 0x69, 0x69].into_iter());
+    are_written(rt.alloc(), points, "iv")?;
+    are_written(rt.alloc(), Flags::default(), "")
 }
 
 #[test]

@@ -1,6 +1,6 @@
 use Rattle.std.proofs.Common.{◌≡◌, Some, arith}
 use Rattle.std.proofs.Math.Utf8.{encode}
-use Rattle.front_tests.proofs.bytes.first_bytes_tell_the_length.Goals as goal
+use Rattle.front_sets_tests.proofs.bytes.first_bytes_tell_the_length.Goals as goal
 
 pub prove-unreachable-requires : goal.prove-unreachable-requires
 unfolding encode

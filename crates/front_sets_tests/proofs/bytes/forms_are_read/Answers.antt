@@ -1,6 +1,6 @@
 use Rattle.std.proofs.Common.{lit≤, refl}
 use Rattle.std.proofs.Math.Utf8.{encode}
-use Rattle.front_tests.proofs.bytes.forms_are_read.Goals as goal
+use Rattle.front_sets_tests.proofs.bytes.forms_are_read.Goals as goal
 
 pub utf8_w2-requires : goal.utf8_w2-requires
 unfolding encode
