@@ -8,8 +8,8 @@ use Rattle.std.proofs.lemmas.Option.{unwrap_or-slice_get, slice_get-get_or, slic
 use Rattle.std.specs.Option.{unwrap_or, MatchOption}
 use Rattle.std.proofs.lemmas.Bool.{eqb-true, eqb-false}
 use Rattle.std.proofs.lemmas.List.{map-set, set_past, length-map}
-use Rattle.regress_front_nodes.specs.Trees.{Tree, capture}
-use Rattle.regress_front_nodes.specs.WellFormed.{name_by_number}
+use Rattle.regress_front.specs.Trees.{Tree, capture}
+use Rattle.regress_front.specs.WellFormed.{name_by_number}
 use Rattle.regress.specs.GroupNames.{characters_of, renamed}
 
 -- what changes nothing

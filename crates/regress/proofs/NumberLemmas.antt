@@ -5,8 +5,8 @@ use Rattle.std.proofs.Common.{◌≡◌, ℕ, ◌+◌, ◌-◌, ◌<◌, ◌≤�
 use Rattle.std.proofs.lemmas.Bool.{cases_lt, cond_both, eq-eqb, eqb-true}
 use Rattle.std.proofs.lemmas.Bool.Decides.{nat_tests}
 use Rattle.std.proofs.lemmas.List.{drop_more}
-use Rattle.regress_front_nodes.specs.Trees.{tree, cat_of}
-use Rattle.regress_front_nodes.specs.WellFormed.{AreNumbered, group_ids}
+use Rattle.regress_front.specs.Trees.{tree, cat_of}
+use Rattle.regress_front.specs.WellFormed.{AreNumbered, group_ids}
 use Rattle.regress_front_nodes.specs.declared.node.Node.{Node}
 use Rattle.regress.specs.GroupNames.{bound_of}
 

@@ -1,10 +1,15 @@
--- The matches that an iterator has still to yield.
-use Rattle.std.specs.Prelude.{◌≡◌, ℕ, List, Option}
+-- The matches that an iterator has still to yield, and what a caller may do with each.
+use Rattle.std.specs.Prelude.{◌≡◌, ℕ, List, Option, Some, Result, Ok}
+use Rattle.std.specs.Iterator.{Yields}
 use Rattle.regress_meaning.specs.Flags.{is_unicode}
 use Rattle.regress_meaning.specs.Matches.{Item}
-use Rattle.regress_front_core.specs.FlagWords.{options}
-use Rattle.regress_front_tables.specs.TableViews.{table}
+use Rattle.regress_meaning.specs.Offsets.{of_utf8, Begins}
+use Rattle.regress_front_core.specs.declared.error.Error.{Error}
+use Rattle.regress_front.specs.FlagWords.{options}
+use Rattle.regress_front.specs.TableViews.{table}
+use Rattle.regress_match.specs.declared.found.Match.{Match}
 use Rattle.regress_match.specs.GroupNames.{shared_names}
+use Rattle.regress_match.specs.TextRanges.{LiesInText}
 use Rattle.regress_match.specs.Iterating as iterating
 use Rattle.regress_match.specs.Iterating.{coming_on, steps_on, producer_of, position_of}
 use Rattle.regress_evaluator.specs.declared.search.CompiledPattern.{CompiledPattern}
@@ -47,3 +52,16 @@ steps_left ms = steps_on (places_behind (search_of ms)) (place_of ms)
 -- The search is over.
 abbrev pub HasEnded : Matches → Type 0
 HasEnded ms = iterating.HasEnded ms.inner
+
+-- A search in the text may begin at the offset.
+abbrev pub IsStart : List ℕ → ℕ → Type 0
+IsStart bytes at = (place : ℕ) × Begins (of_utf8 bytes) at place
+
+-- A search in the text may begin at both ends of the match.
+abbrev pub BeginsAndEndsAtStarts : List ℕ → Match → Type 0
+BeginsAndEndsAtStarts bytes m = IsStart bytes m.range.start × IsStart bytes m.range.end
+
+-- The fact holds of each match that calls from here on give.
+abbrev pub HoldsOfEach : (Matches → Option (Result Match Error) → Matches → Type 0) → (Match → Type 0) → Matches → Type 0
+HoldsOfEach next_gives Q ms = (given : List (Result Match Error)) (old new : Matches) (r : Option (Result Match Error)) (m : Match)
+    → Yields next_gives ms given old → next_gives old r new → r ≡ Some (Ok m) → Q m

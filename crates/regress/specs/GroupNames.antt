@@ -4,8 +4,8 @@ use Rattle.std.specs.Option.{unwrap_or}
 use Rattle.std.specs.String.{string_bytes}
 use Rattle.std.specs.declared.alloc.Global.{Global}
 use Rattle.std.specs.declared.string.String.{String}
-use Rattle.regress_front_nodes.specs.Trees.{Tree}
-use Rattle.regress_front_nodes.specs.WellFormed.{name_by_number}
+use Rattle.regress_front.specs.Trees.{Tree}
+use Rattle.regress_front.specs.WellFormed.{name_by_number}
 
 -- one more than the greatest number, and 0 for none
 abbrev pub bound_of : List ℕ → ℕ

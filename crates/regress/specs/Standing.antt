@@ -4,11 +4,11 @@ use Rattle.regress_meaning.specs.Table.{Table}
 use Rattle.regress_meaning.specs.Pattern.{Pattern, names_of}
 use Rattle.regress_meaning.specs.Flags.{Options, is_unicode, first_settings}
 use Rattle.regress_meaning.specs.Meaning.{Forward, outcomes}
-use Rattle.regress_front_tables.specs.TableViews.{table}
-use Rattle.regress_front_core.specs.FlagWords.{options}
-use Rattle.regress_front_nodes.specs.Trees.{tree}
-use Rattle.regress_front_nodes.specs.TreeMeaning.{node_outcomes}
-use Rattle.regress_front_nodes.specs.Alike.{IsAlike}
+use Rattle.regress_front.specs.TableViews.{table}
+use Rattle.regress_front.specs.FlagWords.{options}
+use Rattle.regress_front.specs.Trees.{tree}
+use Rattle.regress_front.specs.TreeMeaning.{node_outcomes}
+use Rattle.regress_front.specs.Alike.{IsAlike}
 use Rattle.regress.specs.declared.api.Regex.{Regex}
 use Rattle.regress_match.specs.GroupNames.{shared_names}
 

@@ -7,17 +7,15 @@ ghost use Rattle.regress_meaning.specs.Grammar.{Spells};
 ghost use Rattle.regress_meaning.specs.Limits.{WithinLimits};
 ghost use Rattle.regress_meaning.specs.Matches.{match_list};
 ghost use Rattle.regress_meaning.specs.Offsets.{of_utf8, told, Begins};
-ghost use Rattle.regress_front_tables.specs.TableViews.{table};
+ghost use Rattle.regress_front.specs.TableViews.{table};
 ghost use Rattle.regress_match.specs.Views.{item_of};
-ghost use Rattle.regress_front_core.specs.FlagWords.{options};
-ghost use Rattle.regress_front_core.specs.Refusals.{MayRefuse};
+ghost use Rattle.regress_front.specs.FlagWords.{options};
+ghost use Rattle.regress_front.specs.Refusals.{MayRefuse};
 
 use crate::matches::Matches;
 use crate::numbers::group_names;
 use crate::text::code_points;
-use regress_front_nodes::Node;
-use regress_front_tables::{CaptureGroupName, Error, Flags, Tables};
-use regress_front_tree::try_parse;
+use regress_front::{CaptureGroupName, Error, Flags, Node, Tables, try_parse};
 use regress_match::Match;
 use std::alloc::Global;
 use std::sync::ArcSlice;
@@ -45,10 +43,10 @@ pub struct Regex<'u> {
 
 impl<'u> Regex<'u> {
     ghost use Rattle.regress.specs.Standing.{StandsFor, plain};
-    ghost use Rattle.regress.specs.Coming.{searched, sought_names, coming};
+    ghost use Rattle.regress.specs.Coming.{searched, sought_names, coming, BeginsAndEndsAtStarts, HoldsOfEach};
     ghost use Rattle.regress_match.specs.GroupNames.{shared_names};
     ghost use Rattle.regress_match.specs.GroupViews.{names_of_match};
-    ghost use Rattle.regress_match.specs.TextRanges.{LiesBetween};
+    ghost use Rattle.regress_match.specs.TextRanges.{LiesBetween, LiesInText};
 
     /// Compiles a pattern without flags.
     ///
@@ -125,6 +123,7 @@ impl<'u> Regex<'u> {
             IfOk result (λ found. option_map item_of found ≡ option_map (told (of_utf8 text.now)) (slice_get (match_list t o p (chars text.now) 0) 0)) }
         ensures inside { IfOk result (λ found. IfSome found (λ m. (m.range.start ≤ m.range.end) × IsCharBoundary text.now m.range.start × IsCharBoundary text.now m.range.end)) }
         ensures groups_inside { IfOk result (λ found. IfSome found (λ m. All (λ g. IfSome g (LiesBetween text.now)) m.captures.items)) }
+        ensures starts { IfOk result (λ found. IfSome found (BeginsAndEndsAtStarts text.now)) }
         ensures named { IfOk result (λ found. IfSome found (λ m. names_of_match m ≡ shared_names self.now.group_names)) }
         ensures refused { IsOkUnless result Error.OutOfMemory }
     {
@@ -144,6 +143,8 @@ impl<'u> Regex<'u> {
         ensures matches { (t : Table) → (o : Options) → (p : Pattern) → StandsFor self.now t o p →
             IfOk result (λ ms. coming ms ≡ map (told (of_utf8 text.now)) (match_list t o p (chars text.now) 0)) }
         ensures over { IfOk result (λ ms. searched ms ≡ text.now) }
+        ensures inside { IfOk result (HoldsOfEach ⟦<Matches<'r, 't> as Iterator>⟧.next_gives (LiesInText text.now)) }
+        ensures starts { IfOk result (HoldsOfEach ⟦<Matches<'r, 't> as Iterator>⟧.next_gives (BeginsAndEndsAtStarts text.now)) }
         ensures named { IfOk result (λ ms. sought_names ms ≡ shared_names self.now.group_names) }
         ensures refused { IsOkUnless result Error.OutOfMemory }
     {
@@ -168,6 +169,8 @@ impl<'u> Regex<'u> {
             (place : ℕ) → Begins (of_utf8 text.now) start place →
             IfOk result (λ ms. coming ms ≡ map (told (of_utf8 text.now)) (match_list t o p (chars text.now) place)) }
         ensures over { IfOk result (λ ms. searched ms ≡ text.now) }
+        ensures inside { IfOk result (HoldsOfEach ⟦<Matches<'r, 't> as Iterator>⟧.next_gives (LiesInText text.now)) }
+        ensures starts { IfOk result (HoldsOfEach ⟦<Matches<'r, 't> as Iterator>⟧.next_gives (BeginsAndEndsAtStarts text.now)) }
         ensures named { IfOk result (λ ms. sought_names ms ≡ shared_names self.now.group_names) }
         ensures refused { IsOkUnless result Error.OutOfMemory }
     {

@@ -10,8 +10,7 @@ mod text;
 
 pub use api::{Regex, is_start};
 pub use matches::Matches;
-pub use regress_front_bytes::are_code_points;
-pub use regress_front_tables::{
-    Error, Flags, TableError, TableLaw, TableParts, Tables, flags_are_read_back,
+pub use regress_front::{
+    Error, Flags, TableError, TableLaw, TableParts, Tables, are_code_points, flags_are_read_back,
 };
 pub use regress_match::{Groups, Match, Range};

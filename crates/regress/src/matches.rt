@@ -7,7 +7,7 @@ ghost use Rattle.regress_match.specs.TextRanges.{IsMatchIn};
 
 use crate::api::Regex;
 use regress_evaluator::{CompiledPattern, Search};
-use regress_front_tables::Error;
+use regress_front::Error;
 use regress_match::Match;
 use std::iter::FusedIterator;
 

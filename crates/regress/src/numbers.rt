@@ -1,11 +1,10 @@
 //! The numbers of a tree's groups, and their names.
 ghost use Rattle.std.specs.Prelude.{◌≡◌, ◌<◌, [], ℕ, length, map, Some, slice_get, option_map, unwrap_or, IfOk, OnOk};
-ghost use Rattle.regress_front_nodes.specs.Trees.{tree, cat_of};
-ghost use Rattle.regress_front_nodes.specs.WellFormed.{group_ids};
+ghost use Rattle.regress_front.specs.Trees.{tree, cat_of};
+ghost use Rattle.regress_front.specs.WellFormed.{group_ids};
 ghost use Rattle.regress.specs.GroupNames.{bound_of, characters_of, renamed};
 
-use regress_front_nodes::Node;
-use regress_front_tables::CaptureGroupName;
+use regress_front::{CaptureGroupName, Node};
 use std::alloc::{AllocError, Global};
 
 /// One more than the greatest number of a group in a tree; 0 where there is none.

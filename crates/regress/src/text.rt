@@ -1,7 +1,7 @@
 //! Texts as code points.
 ghost use Rattle.std.specs.Prelude.{◌≡◌, chars, IfOk};
 
-use regress_front_tables::CodePoint;
+use regress_front::CodePoint;
 use std::alloc::{AllocError, Global};
 
 /// The code points of a text. Fails only where memory is refused.

@@ -15,11 +15,6 @@ use Rattle.regress_evaluator.specs.declared.tasks.Task.TheVariants.{Expand, Emit
 use Rattle.regress_evaluator.specs.StateViews.{state_of}
 use Rattle.regress_evaluator.specs.Repeating.{moved_on, expansions, tasks_of}
 
--- one state more, below the others
-pub expansions-push : (next : List evaluator.State) (s : evaluator.State) (left need : ℕ)
-    → expansions (next ++ s ∷ []) left need ≡ Expand s left need ∷ expansions next left need
-expansions-push next s left need = ap (map (λ (t : evaluator.State). Expand t left need)) (reverse-append next (s ∷ []))
-
 -- one state more, above the others
 expansions-cons : (s : evaluator.State) (next : List evaluator.State) (left need : ℕ)
     → expansions (s ∷ next) left need ≡ expansions next left need ++ Expand s left need ∷ []

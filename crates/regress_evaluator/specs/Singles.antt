@@ -2,7 +2,7 @@
 use Rattle.std.specs.Prelude.{ℕ, Bool, true, not, nat_eq}
 use Rattle.regress_meaning.specs.Text.{holds}
 use Rattle.regress_meaning.specs.Meaning.{is_line_end}
-use Rattle.regress_front_sets.specs.Intervals.{ends_of}
+use Rattle.regress_front_sets.specs.Sets.{ends_in}
 use Rattle.regress_front_nodes.specs.TreeMeaning.{bracket_has}
 use Rattle.regress_evaluator.specs.declared.singles.Single.{Single}
 use Rattle.regress_evaluator.specs.declared.singles.Single.TheVariants.{Char, ByteSet, CharSet, Any, AnyInLine, Bracket}
@@ -14,4 +14,4 @@ passes (ByteSet bytes) c = holds bytes.now c
 passes (CharSet points) c = holds points.now c
 passes Any c = true
 passes AnyInLine c = not (is_line_end c)
-passes (Bracket contents) c = bracket_has contents.now.invert (ends_of contents.now.cps.intervals.items) c
+passes (Bracket contents) c = bracket_has contents.now.invert (ends_in contents.now.cps) c

@@ -9,10 +9,10 @@ use Rattle.regress_front_nodes.specs.declared.node.Node.TheVariants as N
 use Rattle.regress_front_nodes.specs.declared.visit.Walk.{Walk}
 use Rattle.regress_front_nodes.specs.Trees.{tree, cat_of, empty, cat}
 use Rattle.regress_front_nodes.specs.Forms.{nesting, shell}
-use Rattle.regress_front_nodes.specs.Walks.{below, direction}
+use Rattle.regress_front_nodes.specs.Walks.{below, backward_below}
 use Rattle.regress_front_nodes.specs.Changes.{ChangingWalks, Changes, no_node, skipped, first_above, first_below}
 use Rattle.regress_front_nodes.proofs.TreeLaws.{tree-Cat, tree-Alt, tree-CaptureGroup, tree-LookaroundAssertion, tree-Loop, tree-Loop1CharBody}
-use Rattle.regress_front_nodes.proofs.WalkLemmas.{below-Cat, direction-Cat, below-Alt, direction-Alt, below-CaptureGroup, direction-CaptureGroup, below-LookaroundAssertion, direction-LookaroundAssertion, below-Loop, direction-Loop, below-Loop1CharBody, direction-Loop1CharBody}
+use Rattle.regress_front_nodes.proofs.WalkLemmas.{below-Cat, backward_below-Cat, below-Alt, backward_below-Alt, below-CaptureGroup, backward_below-CaptureGroup, below-LookaroundAssertion, backward_below-LookaroundAssertion, below-Loop, backward_below-Loop, below-Loop1CharBody, backward_below-Loop1CharBody}
 
 -- ---- a part nests less deep than the whole
 
@@ -101,37 +101,37 @@ module _ {F : Type 0} (g : Mut F (MutBor Node × (MutBor Walk × Unit {0})) (Uni
     Goes inner ns ns' = ChangingWalks g postorder unicode depth inner f ns ns' f'
 
     abbrev GoesBelow : Node → Node → Type 0
-    GoesBelow n n' = Goes (direction n behind) (below n) (below n')
+    GoesBelow n n' = Goes (backward_below n behind) (below n) (below n')
 
-    below-both : (n n' : Node) (ns ns' : List Node) (inner : Bool) → below n ≡ ns → below n' ≡ ns' → direction n behind ≡ inner
+    below-both : (n n' : Node) (ns ns' : List Node) (inner : Bool) → below n ≡ ns → below n' ≡ ns' → backward_below n behind ≡ inner
         → Goes inner ns ns' → GoesBelow n n'
     below-both n n' ns ns' inner e e' d w = rw (e, e', d) w
 
     pub changes-Cat : (parts parts' : Vec Node Global) → Goes behind parts.items parts'.items → GoesBelow (N.Cat parts) (N.Cat parts')
-    changes-Cat parts parts' = below-both _ _ _ _ _ (below-Cat parts) (below-Cat parts') (direction-Cat parts behind)
+    changes-Cat parts parts' = below-both _ _ _ _ _ (below-Cat parts) (below-Cat parts') (backward_below-Cat parts behind)
 
     pub changes-Alt : (a b a' b' : Box Node Global) → Goes behind (a.value ∷ b.value ∷ []) (a'.value ∷ b'.value ∷ [])
         → GoesBelow (N.Alt a b) (N.Alt a' b')
-    changes-Alt a b a' b' = below-both _ _ _ _ _ (below-Alt a b) (below-Alt a' b') (direction-Alt a b behind)
+    changes-Alt a b a' b' = below-both _ _ _ _ _ (below-Alt a b) (below-Alt a' b') (backward_below-Alt a b behind)
 
     pub changes-CaptureGroup : (id : ℕ) (a a' : Box Node Global) (name : Option (String Global)) → Goes behind (a.value ∷ []) (a'.value ∷ [])
         → GoesBelow (N.CaptureGroup id a name) (N.CaptureGroup id a' name)
     changes-CaptureGroup id a a' name =
-        below-both _ _ _ _ _ (below-CaptureGroup id a name) (below-CaptureGroup id a' name) (direction-CaptureGroup id a name behind)
+        below-both _ _ _ _ _ (below-CaptureGroup id a name) (below-CaptureGroup id a' name) (backward_below-CaptureGroup id a name behind)
 
     pub changes-LookaroundAssertion : (negate backwards : Bool) (start end : ℕ) (a a' : Box Node Global)
         → Goes backwards (a.value ∷ []) (a'.value ∷ [])
         → GoesBelow (N.LookaroundAssertion negate backwards start end a) (N.LookaroundAssertion negate backwards start end a')
     changes-LookaroundAssertion negate backwards start end a a' =
         below-both _ _ _ _ _ (below-LookaroundAssertion negate backwards start end a)
-        (below-LookaroundAssertion negate backwards start end a') (direction-LookaroundAssertion negate backwards start end a behind)
+        (below-LookaroundAssertion negate backwards start end a') (backward_below-LookaroundAssertion negate backwards start end a behind)
 
     pub changes-Loop : (a a' : Box Node Global) (quant : Quantifier) (groups : Range ℕ) → Goes behind (a.value ∷ []) (a'.value ∷ [])
         → GoesBelow (N.Loop a quant groups) (N.Loop a' quant groups)
     changes-Loop a a' quant groups =
-        below-both _ _ _ _ _ (below-Loop a quant groups) (below-Loop a' quant groups) (direction-Loop a quant groups behind)
+        below-both _ _ _ _ _ (below-Loop a quant groups) (below-Loop a' quant groups) (backward_below-Loop a quant groups behind)
 
     pub changes-Loop1CharBody : (a a' : Box Node Global) (quant : Quantifier) → Goes behind (a.value ∷ []) (a'.value ∷ [])
         → GoesBelow (N.Loop1CharBody a quant) (N.Loop1CharBody a' quant)
     changes-Loop1CharBody a a' quant =
-        below-both _ _ _ _ _ (below-Loop1CharBody a quant) (below-Loop1CharBody a' quant) (direction-Loop1CharBody a quant behind)
+        below-both _ _ _ _ _ (below-Loop1CharBody a quant) (below-Loop1CharBody a' quant) (backward_below-Loop1CharBody a quant behind)

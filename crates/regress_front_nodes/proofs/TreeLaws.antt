@@ -4,7 +4,7 @@ use Rattle.std.specs.declared.boxed.BoxedSlice.{BoxedSlice}
 use Rattle.std.specs.Box.{boxed_slice_items}
 use Rattle.std.specs.String.{string_bytes}
 use Rattle.std.specs.declared.ops.Range.{Range}
-use Rattle.regress_front_sets.specs.Intervals.{ends_of}
+use Rattle.regress_front_sets.specs.Sets.{ends_in}
 use Rattle.regress_front_core.specs.declared.quantifier.Quantifier.{Quantifier}
 use Rattle.regress_front_core.specs.Quantifiers.{most}
 use Rattle.regress_front_nodes.specs.declared.node.AnchorType.{AnchorType}
@@ -56,7 +56,7 @@ tree-CaptureGroup id contents name = ap tree (sym (N.rolls-CaptureGroup id conte
 pub tree-BackRef : (group : ℕ) (icase : Bool) → tree (N.BackRef group icase) ≡ back group icase
 tree-BackRef group icase = ap tree (sym (N.rolls-BackRef group icase)) ∙ fold-roll-Node Tree node_tree (Node-F.BackRef group icase)
 
-pub tree-Bracket : (contents : BracketContents) → tree (N.Bracket contents) ≡ bracket contents.invert (ends_of contents.cps.intervals.items)
+pub tree-Bracket : (contents : BracketContents) → tree (N.Bracket contents) ≡ bracket contents.invert (ends_in contents.cps)
 tree-Bracket contents = ap tree (sym (N.rolls-Bracket contents)) ∙ fold-roll-Node Tree node_tree (Node-F.Bracket contents)
 
 pub tree-StringSet : (alternatives : Vec (BoxedSlice ℕ Global) Global) (icase : Bool)

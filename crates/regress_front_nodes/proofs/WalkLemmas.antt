@@ -7,45 +7,45 @@ use Rattle.regress_front_core.specs.declared.quantifier.Quantifier.{Quantifier}
 use Rattle.regress_front_nodes.specs.declared.node.Node.{Node, Node-F, roll-Node, out-roll-Node}
 use Rattle.regress_front_nodes.specs.declared.node.Node.TheVariants as N
 use Rattle.regress_front_nodes.specs.declared.visit.Walk.{Walk}
-use Rattle.regress_front_nodes.specs.Walks.{below, below_of, direction, direction_of, told, Walks, no_node, skipped, first_above, first_below}
+use Rattle.regress_front_nodes.specs.Walks.{below, below_of, backward_below, backward_below_of, told, Walks, no_node, skipped, first_above, first_below}
 use Rattle.regress_meaning.specs.Tokens.{greatest}
 use Rattle.regress_front_nodes.proofs.KindLemmas.{by_kind}
 
 pub below-Cat : (parts : Vec Node Global) → below (N.Cat parts) ≡ parts.items
 below-Cat parts = ap below (sym (N.rolls-Cat parts)) ∙ ap below_of (out-roll-Node (Node-F.Cat parts))
 
-pub direction-Cat : (parts : Vec Node Global) (behind : Bool) → direction (N.Cat parts) behind ≡ behind
-direction-Cat parts behind = ap (λ n. direction n behind) (sym (N.rolls-Cat parts)) ∙ ap (λ m. direction_of m behind) (out-roll-Node (Node-F.Cat parts))
+pub backward_below-Cat : (parts : Vec Node Global) (behind : Bool) → backward_below (N.Cat parts) behind ≡ behind
+backward_below-Cat parts behind = ap (λ n. backward_below n behind) (sym (N.rolls-Cat parts)) ∙ ap (λ m. backward_below_of m behind) (out-roll-Node (Node-F.Cat parts))
 
 pub below-Alt : (a : Box Node Global) (b : Box Node Global) → below (N.Alt a b) ≡ a.value ∷ b.value ∷ []
 below-Alt a b = ap below (sym (N.rolls-Alt a b)) ∙ ap below_of (out-roll-Node (Node-F.Alt a b))
 
-pub direction-Alt : (a : Box Node Global) (b : Box Node Global) (behind : Bool) → direction (N.Alt a b) behind ≡ behind
-direction-Alt a b behind = ap (λ n. direction n behind) (sym (N.rolls-Alt a b)) ∙ ap (λ m. direction_of m behind) (out-roll-Node (Node-F.Alt a b))
+pub backward_below-Alt : (a : Box Node Global) (b : Box Node Global) (behind : Bool) → backward_below (N.Alt a b) behind ≡ behind
+backward_below-Alt a b behind = ap (λ n. backward_below n behind) (sym (N.rolls-Alt a b)) ∙ ap (λ m. backward_below_of m behind) (out-roll-Node (Node-F.Alt a b))
 
 pub below-CaptureGroup : (id : ℕ) (contents : Box Node Global) (name : Option (String Global)) → below (N.CaptureGroup id contents name) ≡ contents.value ∷ []
 below-CaptureGroup id contents name = ap below (sym (N.rolls-CaptureGroup id contents name)) ∙ ap below_of (out-roll-Node (Node-F.CaptureGroup id contents name))
 
-pub direction-CaptureGroup : (id : ℕ) (contents : Box Node Global) (name : Option (String Global)) (behind : Bool) → direction (N.CaptureGroup id contents name) behind ≡ behind
-direction-CaptureGroup id contents name behind = ap (λ n. direction n behind) (sym (N.rolls-CaptureGroup id contents name)) ∙ ap (λ m. direction_of m behind) (out-roll-Node (Node-F.CaptureGroup id contents name))
+pub backward_below-CaptureGroup : (id : ℕ) (contents : Box Node Global) (name : Option (String Global)) (behind : Bool) → backward_below (N.CaptureGroup id contents name) behind ≡ behind
+backward_below-CaptureGroup id contents name behind = ap (λ n. backward_below n behind) (sym (N.rolls-CaptureGroup id contents name)) ∙ ap (λ m. backward_below_of m behind) (out-roll-Node (Node-F.CaptureGroup id contents name))
 
 pub below-LookaroundAssertion : (negate : Bool) (backwards : Bool) (start : ℕ) (end : ℕ) (contents : Box Node Global) → below (N.LookaroundAssertion negate backwards start end contents) ≡ contents.value ∷ []
 below-LookaroundAssertion negate backwards start end contents = ap below (sym (N.rolls-LookaroundAssertion negate backwards start end contents)) ∙ ap below_of (out-roll-Node (Node-F.LookaroundAssertion negate backwards start end contents))
 
-pub direction-LookaroundAssertion : (negate : Bool) (backwards : Bool) (start : ℕ) (end : ℕ) (contents : Box Node Global) (behind : Bool) → direction (N.LookaroundAssertion negate backwards start end contents) behind ≡ backwards
-direction-LookaroundAssertion negate backwards start end contents behind = ap (λ n. direction n behind) (sym (N.rolls-LookaroundAssertion negate backwards start end contents)) ∙ ap (λ m. direction_of m behind) (out-roll-Node (Node-F.LookaroundAssertion negate backwards start end contents))
+pub backward_below-LookaroundAssertion : (negate : Bool) (backwards : Bool) (start : ℕ) (end : ℕ) (contents : Box Node Global) (behind : Bool) → backward_below (N.LookaroundAssertion negate backwards start end contents) behind ≡ backwards
+backward_below-LookaroundAssertion negate backwards start end contents behind = ap (λ n. backward_below n behind) (sym (N.rolls-LookaroundAssertion negate backwards start end contents)) ∙ ap (λ m. backward_below_of m behind) (out-roll-Node (Node-F.LookaroundAssertion negate backwards start end contents))
 
 pub below-Loop : (loopee : Box Node Global) (quant : Quantifier) (groups : Range ℕ) → below (N.Loop loopee quant groups) ≡ loopee.value ∷ []
 below-Loop loopee quant groups = ap below (sym (N.rolls-Loop loopee quant groups)) ∙ ap below_of (out-roll-Node (Node-F.Loop loopee quant groups))
 
-pub direction-Loop : (loopee : Box Node Global) (quant : Quantifier) (groups : Range ℕ) (behind : Bool) → direction (N.Loop loopee quant groups) behind ≡ behind
-direction-Loop loopee quant groups behind = ap (λ n. direction n behind) (sym (N.rolls-Loop loopee quant groups)) ∙ ap (λ m. direction_of m behind) (out-roll-Node (Node-F.Loop loopee quant groups))
+pub backward_below-Loop : (loopee : Box Node Global) (quant : Quantifier) (groups : Range ℕ) (behind : Bool) → backward_below (N.Loop loopee quant groups) behind ≡ behind
+backward_below-Loop loopee quant groups behind = ap (λ n. backward_below n behind) (sym (N.rolls-Loop loopee quant groups)) ∙ ap (λ m. backward_below_of m behind) (out-roll-Node (Node-F.Loop loopee quant groups))
 
 pub below-Loop1CharBody : (loopee : Box Node Global) (quant : Quantifier) → below (N.Loop1CharBody loopee quant) ≡ loopee.value ∷ []
 below-Loop1CharBody loopee quant = ap below (sym (N.rolls-Loop1CharBody loopee quant)) ∙ ap below_of (out-roll-Node (Node-F.Loop1CharBody loopee quant))
 
-pub direction-Loop1CharBody : (loopee : Box Node Global) (quant : Quantifier) (behind : Bool) → direction (N.Loop1CharBody loopee quant) behind ≡ behind
-direction-Loop1CharBody loopee quant behind = ap (λ n. direction n behind) (sym (N.rolls-Loop1CharBody loopee quant)) ∙ ap (λ m. direction_of m behind) (out-roll-Node (Node-F.Loop1CharBody loopee quant))
+pub backward_below-Loop1CharBody : (loopee : Box Node Global) (quant : Quantifier) (behind : Bool) → backward_below (N.Loop1CharBody loopee quant) behind ≡ behind
+backward_below-Loop1CharBody loopee quant behind = ap (λ n. backward_below n behind) (sym (N.rolls-Loop1CharBody loopee quant)) ∙ ap (λ m. backward_below_of m behind) (out-roll-Node (Node-F.Loop1CharBody loopee quant))
 
 -- nothing stands below a node of no kind that has parts
 pub nothing_below : (n : Node) → ((parts : Vec Node Global) → n ≡ N.Cat parts → ⊥) → ((a : Box Node Global) (b : Box Node Global) → n ≡ N.Alt a b → ⊥) → ((id : ℕ) (contents : Box Node Global) (name : Option (String Global)) → n ≡ N.CaptureGroup id contents name → ⊥) → ((negate : Bool) (backwards : Bool) (start : ℕ) (end : ℕ) (contents : Box Node Global) → n ≡ N.LookaroundAssertion negate backwards start end contents → ⊥) → ((loopee : Box Node Global) (quant : Quantifier) (groups : Range ℕ) → n ≡ N.Loop loopee quant groups → ⊥) → ((loopee : Box Node Global) (quant : Quantifier) → n ≡ N.Loop1CharBody loopee quant → ⊥) → below n ≡ []

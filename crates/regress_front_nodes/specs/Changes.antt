@@ -6,7 +6,7 @@ use Rattle.regress_front_nodes.specs.declared.node.Node.{Node}
 use Rattle.regress_front_nodes.specs.declared.visit.Walk.{Walk}
 use Rattle.regress_front_nodes.specs.Trees.{tree}
 use Rattle.regress_front_nodes.specs.Forms.{nesting, shell}
-use Rattle.regress_front_nodes.specs.Walks.{below, direction, told}
+use Rattle.regress_front_nodes.specs.Walks.{below, backward_below, told}
 
 -- the second node is the first with these nodes right below it
 pub record IsWith (n : Node) (ns : List Node) (n' : Node) : Type 0 where
@@ -42,9 +42,9 @@ module _ {F : Type 0} (g : Mut F (MutBor Node × (MutBor Walk × Unit {0})) (Uni
     -- a node is visited, and then all that stands below it
     first_above : {depth : ℕ} {behind : Bool} {f f' f'' f''' : F} {n n' n'' : Node} {ms ns ns' : List Node} {w : Walk} → postorder ≡ false
         → Changes g f n (told unicode depth behind) f' n' w → w.skip_children ≡ false
-        → ChangingWalks (suc depth) (direction n' behind) f' (below n') ms f'' → IsWith n' ms n''
+        → ChangingWalks (suc depth) (backward_below n' behind) f' (below n') ms f'' → IsWith n' ms n''
         → ChangingWalks depth behind f'' ns ns' f''' → ChangingWalks depth behind f (n ∷ ns) (n'' ∷ ns') f'''
     -- all below a node are visited, and then the node
     first_below : {depth : ℕ} {behind : Bool} {f f' f'' f''' : F} {n n' n'' : Node} {ms ns ns' : List Node} {w : Walk} → postorder ≡ true
-        → ChangingWalks (suc depth) (direction n behind) f (below n) ms f' → IsWith n ms n' → Changes g f' n' (told unicode depth behind) f'' n'' w
+        → ChangingWalks (suc depth) (backward_below n behind) f (below n) ms f' → IsWith n ms n' → Changes g f' n' (told unicode depth behind) f'' n'' w
         → ChangingWalks depth behind f'' ns ns' f''' → ChangingWalks depth behind f (n ∷ ns) (n'' ∷ ns') f'''

@@ -5,7 +5,7 @@ use Rattle.std.specs.declared.alloc.Global.{Global}
 use Rattle.std.specs.Box.{boxed_slice_items}
 use Rattle.std.specs.String.{string_bytes}
 use Rattle.std.specs.declared.ops.Range.{Range}
-use Rattle.regress_front_sets.specs.Intervals.{ends_of}
+use Rattle.regress_front_sets.specs.Sets.{ends_in}
 use Rattle.regress_front_core.specs.declared.quantifier.Quantifier.{Quantifier}
 use Rattle.regress_front_core.specs.Quantifiers.{most}
 use Rattle.regress_front_nodes.specs.declared.node.AnchorType.{AnchorType}
@@ -30,7 +30,7 @@ pub record NodesStandForTrees : Type 0 where
   pub of_word_boundary : (invert folded : Bool) → tree (N.WordBoundary invert folded) ≡ boundary invert folded
   pub of_capture_group : (id : ℕ) (contents : Box Node Global) (name : Option (String Global)) → tree (N.CaptureGroup id contents name) ≡ capture id (option_map (λ text. chars (string_bytes text)) name) (tree contents.value)
   pub of_back_ref : (group : ℕ) (icase : Bool) → tree (N.BackRef group icase) ≡ back group icase
-  pub of_bracket : (contents : BracketContents) → tree (N.Bracket contents) ≡ bracket contents.invert (ends_of contents.cps.intervals.items)
+  pub of_bracket : (contents : BracketContents) → tree (N.Bracket contents) ≡ bracket contents.invert (ends_in contents.cps)
   pub of_string_set : (alternatives : Vec (BoxedSlice ℕ Global) Global) (icase : Bool) → tree (N.StringSet alternatives icase) ≡ string_set (map boxed_slice_items alternatives.items) icase
   pub of_lookaround_assertion : (negate backwards : Bool) (start end : ℕ) (contents : Box Node Global) → tree (N.LookaroundAssertion negate backwards start end contents) ≡ look negate backwards start end (tree contents.value)
   pub of_loop : (loopee : Box Node Global) (quant : Quantifier) (groups : Range ℕ) → tree (N.Loop loopee quant groups) ≡ loop (tree loopee.value) groups.start groups.end quant.min (most quant) quant.greedy

@@ -2,7 +2,7 @@
 use Rattle.std.specs.Prelude.{ℕ, Bool, List, [], ◌∷◌, Option, chars, map, option_map}
 use Rattle.std.specs.Box.{boxed_slice_items}
 use Rattle.std.specs.String.{string_bytes}
-use Rattle.regress_front_sets.specs.Intervals.{ends_of}
+use Rattle.regress_front_sets.specs.Sets.{ends_in}
 use Rattle.regress_front_core.specs.Quantifiers.{most}
 use Rattle.regress_front_nodes.specs.declared.node.AnchorType.{AnchorType}
 use Rattle.regress_front_nodes.specs.declared.node.AnchorType.TheVariants.{StartOfLine, EndOfLine}
@@ -81,7 +81,7 @@ node_tree (Node-F.Anchor anchor_type multiline) = anchor_of anchor_type multilin
 node_tree (Node-F.WordBoundary invert unicode_icase) = boundary invert unicode_icase
 node_tree (Node-F.CaptureGroup id contents name) = capture id (option_map (λ text. chars (string_bytes text)) name) contents.value
 node_tree (Node-F.BackRef group icase) = back group icase
-node_tree (Node-F.Bracket contents) = bracket contents.invert (ends_of contents.cps.intervals.items)
+node_tree (Node-F.Bracket contents) = bracket contents.invert (ends_in contents.cps)
 node_tree (Node-F.StringSet alternatives icase) = string_set (map boxed_slice_items alternatives.items) icase
 node_tree (Node-F.LookaroundAssertion negate backwards start_group end_group contents) =
     look negate backwards start_group end_group contents.value

@@ -17,16 +17,18 @@ below_of (Node-F.Loop loopee quant groups) = loopee.value ∷ []
 below_of (Node-F.Loop1CharBody loopee quant) = loopee.value ∷ []
 below_of _ = []
 
+-- the same, of a node
 abbrev pub below : Node → List Node
 below n = below_of (out-Node n)
 
 -- whether what stands below a node is read backwards, where the node itself is or is not
-abbrev pub direction_of : Node-F Node → Bool → Bool
-direction_of (Node-F.LookaroundAssertion negate backwards start_group end_group contents) behind = backwards
-direction_of _ behind = behind
+abbrev pub backward_below_of : Node-F Node → Bool → Bool
+backward_below_of (Node-F.LookaroundAssertion negate backwards start_group end_group contents) behind = backwards
+backward_below_of _ behind = behind
 
-abbrev pub direction : Node → Bool → Bool
-direction n = direction_of (out-Node n)
+-- the same, of a node
+abbrev pub backward_below : Node → Bool → Bool
+backward_below n = backward_below_of (out-Node n)
 
 -- what a visit is told, below so many nodes
 abbrev pub told : (unicode : Bool) → ℕ → (behind : Bool) → Walk
@@ -51,9 +53,9 @@ module _ {F : Type 0} (g : Mut F (Bor Node × (MutBor Walk × Unit {0})) (Unit {
         → Visits g f n (told unicode depth behind) f' w → w.skip_children ≡ true → Walks depth behind f' ns f'' → Walks depth behind f (n ∷ ns) f''
     -- a node is visited, and then all below it
     first_above : {depth : ℕ} {behind : Bool} {f f' f'' f''' : F} {n : Node} {ns : List Node} {w : Walk} → postorder ≡ false
-        → Visits g f n (told unicode depth behind) f' w → w.skip_children ≡ false → Walks (suc depth) (direction n behind) f' (below n) f''
+        → Visits g f n (told unicode depth behind) f' w → w.skip_children ≡ false → Walks (suc depth) (backward_below n behind) f' (below n) f''
         → Walks depth behind f'' ns f''' → Walks depth behind f (n ∷ ns) f'''
     -- all below a node are visited, and then the node
     first_below : {depth : ℕ} {behind : Bool} {f f' f'' f''' : F} {n : Node} {ns : List Node} {w : Walk} → postorder ≡ true
-        → Walks (suc depth) (direction n behind) f (below n) f' → Visits g f' n (told unicode depth behind) f'' w
+        → Walks (suc depth) (backward_below n behind) f (below n) f' → Visits g f' n (told unicode depth behind) f'' w
         → Walks depth behind f'' ns f''' → Walks depth behind f (n ∷ ns) f'''

@@ -1,5 +1,6 @@
 //! Copies of nodes.
 ghost use Rattle.std.specs.Prelude.{◌≡◌, ◌≤◌, true, false, map, IfOk, IfErr};
+ghost use Rattle.regress_front_sets.specs.Sets.{intervals_of};
 ghost use Rattle.regress_front_nodes.specs.Trees.{tree};
 ghost use Rattle.regress_front_nodes.specs.Forms.{deepest_copy, is_leaf};
 ghost use Rattle.regress_front_nodes.specs.Copies.{IsCopy, IsBoxedCopy, AreCopies};
@@ -15,7 +16,7 @@ impl BracketContents {
     /// A class of the same code points.
     fn copy(&self, alloc: Global) -> Result<BracketContents, AllocError>
         ensures { IfOk result (λ copy. (copy.invert ≡ self.now.invert)
-            × (copy.cps.intervals.items ≡ self.now.cps.intervals.items)) }
+            × (intervals_of copy.cps ≡ intervals_of self.now.cps)) }
     {
         let intervals = self.cps.intervals().to_vec(alloc)?;
         Ok(BracketContents {

@@ -2,7 +2,7 @@
 ghost use Rattle.std.specs.Prelude.{◌≡◌, ◌≤◌, ◌<◌, ◌+◌, [], length, All, IsTrue, IfOk, IfErr, None, if◌then◌else◌};
 ghost use Rattle.regress_meaning.specs.TableParts.{is_code_point};
 ghost use Rattle.regress_meaning.specs.Meaning.{Context, Direction, State};
-ghost use Rattle.regress_front_sets.specs.Intervals.{ends_of};
+ghost use Rattle.regress_front_sets.specs.Sets.{ends_in};
 ghost use Rattle.regress_front_nodes.specs.Trees.{tree, char_set};
 ghost use Rattle.regress_front_nodes.specs.TreeMeaning.{node_outcomes};
 ghost use Rattle.regress_front_nodes.specs.Forms.{is_empty, is_cat, turned};
@@ -40,7 +40,7 @@ impl BracketContents {
     /// assert!(rt; none.is_empty());
     /// ```
     pub fn is_empty(&self) -> bool
-        ensures { result ≡ bracket_is_empty self.now.invert (ends_of self.now.cps.intervals.items) }
+        ensures { result ≡ bracket_is_empty self.now.invert (ends_in self.now.cps) }
     {
         if self.invert {
             self.cps.inverted_interval_count() == 0

@@ -1,7 +1,7 @@
 //! Walks over the nodes of a tree.
 ghost use Rattle.std.specs.Prelude.{◌≡◌, ℕ, suc, min, false, [], ◌∷◌};
 ghost use Rattle.regress_meaning.specs.Tokens.{greatest};
-ghost use Rattle.regress_front_nodes.specs.Walks.{Walks, below, direction};
+ghost use Rattle.regress_front_nodes.specs.Walks.{Walks, below, backward_below};
 
 use crate::node::Node;
 use crate::visit::Walk;
@@ -71,7 +71,7 @@ where
     F: FnMut(&Node, &mut Walk),
     requires { F.IsAlwaysCallable func.old }
     ensures visited { (d : ℕ) → depth ≡ min d greatest →
-        Walks F.FnMut mode.postorder mode.unicode (suc d) (direction node.now in_lookbehind) func.old (below node.now) func.new }
+        Walks F.FnMut mode.postorder mode.unicode (suc d) (backward_below node.now in_lookbehind) func.old (below node.now) func.new }
     ensures callable { F.IsAlwaysCallable func.new }
 {
     let deeper = depth.saturating_add(1);

@@ -4,7 +4,7 @@ ghost use Rattle.regress_meaning.specs.Tokens.{greatest};
 ghost use Rattle.regress_front_nodes.specs.Trees.{tree};
 ghost use Rattle.regress_front_nodes.specs.Forms.{nesting, shell};
 ghost use Rattle.regress_front_nodes.specs.Changes.{ChangingWalks, LeavesNoneDeeper};
-ghost use Rattle.regress_front_nodes.specs.Walks.{below, direction};
+ghost use Rattle.regress_front_nodes.specs.Walks.{below, backward_below};
 
 use crate::node::Node;
 use crate::visit::Walk;
@@ -72,7 +72,7 @@ where
     requires callable { F.IsAlwaysCallable func.old }
     requires no_deeper { mode.postorder ≡ false → LeavesNoneDeeper F.FnMut }
     ensures visited { (d : ℕ) → depth ≡ min d greatest →
-        ChangingWalks F.FnMut mode.postorder mode.unicode (suc d) (direction node.old in_lookbehind) func.old (below node.old) (below node.new) func.new }
+        ChangingWalks F.FnMut mode.postorder mode.unicode (suc d) (backward_below node.old in_lookbehind) func.old (below node.old) (below node.new) func.new }
     ensures kept { shell (tree node.new) ≡ shell (tree node.old) }
     ensures callable { F.IsAlwaysCallable func.new }
 {

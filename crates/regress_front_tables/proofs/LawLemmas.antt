@@ -1,6 +1,5 @@
 -- Of a law that is kept nothing is told, and what is told of the first that isn't.
-use Rattle.std.proofs.Common.{◌≡◌, ℕ, zero, suc, ◌+◌, ◌<◌, Result, Ok, Err, IfErr, IsOkUnless, refl, sym, ap, subst, ◌∙◌, inl, inr, arith}
-use Rattle.std.proofs.lemmas.Bool.{cases_eq}
+use Rattle.std.proofs.Common.{◌≡◌, ℕ, ◌<◌, Result, Ok, Err, IfErr, IsOkUnless, refl, arith}
 use Rattle.std.proofs.lemmas.List.Elements.{All-contains}
 use Rattle.regress_meaning.specs.TableParts.{TableParts, IsLawful, BothMaps, HasAsciiCase, IsIdempotentAt, HasSmallClass, AvoidsSurrogates, KeepsIdentifierAt, KeepsRange, KeepsOrder, KeepsCanonical, is_code_point}
 use Rattle.regress_front_tables.specs.declared.tables.law.TableError.{TableError}
@@ -35,39 +34,6 @@ tells_nothing ClassSize parts kept c told = told.holds (kept.0 c, kept.1 c)
 tells_nothing Surrogate parts kept c told = told.holds (kept.0 c, kept.1 c)
 tells_nothing Canonical parts kept c told = let none = out_of_place-none parts kept in cc
 tells_nothing Identifier parts kept c told = told.holds (kept c)
-
--- the law with that rank
-abbrev law_at : ℕ → TableLaw
-law_at zero = Range
-law_at (suc zero) = Order
-law_at (suc (suc zero)) = AsciiCase
-law_at (suc (suc (suc zero))) = Idempotent
-law_at (suc (suc (suc (suc zero)))) = ClassSize
-law_at (suc (suc (suc (suc (suc zero))))) = Surrogate
-law_at (suc (suc (suc (suc (suc (suc zero)))))) = Canonical
-law_at (suc (suc (suc (suc (suc (suc (suc n))))))) = Identifier
-
-law_at-rank : (law : TableLaw) → law_at (rank law) ≡ law
-law_at-rank Range = refl
-law_at-rank Order = refl
-law_at-rank AsciiCase = refl
-law_at-rank Idempotent = refl
-law_at-rank ClassSize = refl
-law_at-rank Surrogate = refl
-law_at-rank Canonical = refl
-law_at-rank Identifier = refl
-
--- none is kept at first
-pub KeepsFirst-none : (parts : TableParts) → KeepsFirst 0 parts
-KeepsFirst-none parts law l = absurd (omega arith)
-
--- one more law is kept
-pub KeepsFirst-more : (law : TableLaw) (parts : TableParts) → KeepsFirst (rank law) parts → Keeps law parts → KeepsFirst (rank law + 1) parts
-KeepsFirst-more law parts first kept other l =
-    elim (cases_eq (rank other) (rank law)) [
-      | inl e ↦ subst (λ x. Keeps x parts) (sym (law_at-rank law) ∙ ap law_at (sym e) ∙ law_at-rank other) kept
-      | inr ne ↦ first other (omega arith)
-    ]
 
 -- what is told of a law after others that are kept
 pub IsFirstBroken-from : (law : TableLaw) (parts : TableParts) → KeepsFirst (rank law) parts → (c : ℕ) → Tells law parts c → IsFirstBroken law parts c

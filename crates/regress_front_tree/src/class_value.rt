@@ -5,7 +5,7 @@ ghost use Rattle.regress_meaning.specs.Class as meaning;
 ghost use Rattle.regress_meaning.specs.Class.{Strings, intersection, difference, only, of_list, among, complement_of, is_word, value_of};
 ghost use Rattle.regress_meaning.specs.Points.{ClassIsOfPoints};
 ghost use Rattle.regress_front_sets.specs.Intervals.{ends_of};
-ghost use Rattle.regress_front_sets.specs.Sets.{in_set};
+ghost use Rattle.regress_front_sets.specs.Sets.{in_set, intervals_of};
 ghost use Rattle.regress_front_tables.specs.TableViews.{table};
 ghost use Rattle.regress_front_tokens.specs.Trees.{class_view, union_of};
 
@@ -58,7 +58,7 @@ impl ClassValue {
 
     /// How many intervals the code points take.
     fn interval_count(&self) -> usize
-        ensures { result ≡ length self.now.singles.intervals.items }
+        ensures { result ≡ length (intervals_of self.now.singles) }
     {
         self.singles.intervals().len()
     }

@@ -11,8 +11,3 @@ mod parse;
 mod text;
 
 pub use parse::try_parse;
-pub use regress_front_nodes::{
-    AnchorType, BracketContents, Node, NodeList, Piece, Quantifier, Walk,
-    alike_parts_make_alike_wholes, ir, lower_code_point_sequence, nodes_stand_for_trees,
-    pieces_match_their_string, walk, walk_mut,
-};

@@ -1,5 +1,5 @@
 //! One match after another, by whatever finds them.
-ghost use Rattle.std.specs.Prelude.{◌≡◌, ◌<◌, ℕ, List, Option, None, IfOk, IfSome, OnErr, IsOkUnless};
+ghost use Rattle.std.specs.Prelude.{◌≡◌, ◌<◌, ⊤, ℕ, List, Option, None, IfOk, IfSome, OnErr, IsOkUnless};
 ghost use Rattle.std.specs.Iterator.{at_most};
 ghost use Rattle.regress_meaning.specs.Matches.{Item};
 ghost use Rattle.regress_match.specs.declared.found.Match.{Match};
@@ -15,6 +15,12 @@ pub trait MatchProducer: Debug + Drop {
     /// Where in the text a search begins.
     type Position: Copy + Debug;
 
+    // The position is one of the text's, from which matches may be asked for.
+    ghost is_position: { Self → Self.Position → Type 0 } = { λ _ _. ⊤ };
+
+    // A search may start at the offset.
+    ghost is_start: { Self → ℕ → Type 0 } = { λ _ _. ⊤ };
+
     // The items from a position on, told in offsets.
     ghost items_from: { Self → Self.Position → List Item };
 
@@ -28,17 +34,25 @@ pub trait MatchProducer: Debug + Drop {
     ghost is_of_search: { Self → Match → Type 0 };
 
     /// The position at an offset; `None` for an offset past the end.
+    ///
+    /// Asks that a search may start at the offset.
     fn initial_position(&self, offset: usize) -> Option<Self::Position>
-        ensures { starts_at self.now offset result };
+        requires { is_start self.now offset }
+        ensures begins { starts_at self.now offset result }
+        ensures inside { IfSome result (is_position self.now) };
 
     /// The first match from a position on, and in `next` the position to go on from. Where there is no match, and where
     /// memory is refused, it is the last search.
+    ///
+    /// Asks that the position is one of the text's, as are those that `initial_position` and `next_match` give.
     fn next_match(
         &self,
         position: Self::Position,
         next: &mut Option<Self::Position>,
     ) -> Result<Option<Match>, Error>
+        requires { is_position self.now position }
         ensures found { IfOk result (λ found. Finds (items_from self.now) (is_of_search self.now) position found next.new) }
+        ensures inside { IfSome next.new (is_position self.now) }
         ensures nearer { IfSome next.new (λ p. left_behind self.now p < left_behind self.now position) }
         ensures last { OnErr result (next.new ≡ None) }
         ensures refused { IsOkUnless result Error.OutOfMemory };
@@ -56,12 +70,16 @@ impl<P: MatchProducer> Matches<P> {
 
     /// The matches of a producer from an offset on, in what holds its text.
     ///
+    /// Asks that a search may start at the offset.
+    ///
     /// ```rust
     /// let matches = Matches::new(producer, 0);
     /// ```
     pub fn new(producer: P, start: usize) -> Matches<P>
+        requires { P.is_start producer start }
         ensures over { producer_of result ≡ producer }
         ensures begins { P.starts_at producer start (position_of result) }
+        ensures inside { IfSome (position_of result) (P.is_position producer) }
     {
         let position = producer.initial_position(start);
         Matches { producer, position }
@@ -72,6 +90,8 @@ impl<P: MatchProducer> Iterator for Matches<P> {
     ghost use Rattle.regress_match.specs.Iterating.{producer_of, position_of, HasEnded, GivesMatch};
 
     type Item = Result<Match, Error>;
+
+    ghost can_next = { λ ms. IfSome (position_of ms) (P.is_position (producer_of ms)) };
 
     ghost next_gives = { λ old r new. (producer_of new ≡ producer_of old)
         × GivesMatch (λ ms. coming_on (P.items_from (producer_of ms)) (position_of ms)) HasEnded (P.is_of_search (producer_of old)) old r new };

@@ -13,9 +13,9 @@ use Rattle.regress_meaning.specs.Matches.{Item}
 use Rattle.regress_meaning.specs.Output.{line_of, lines_of}
 use Rattle.regress.specs.declared.api.Regex.{Regex}
 use Rattle.regress_front_core.specs.declared.flags.Flags.{Flags}
-use Rattle.regress_front_core.specs.FlagWords.{flags_of}
+use Rattle.regress_front.specs.FlagWords.{flags_of}
 use Rattle.regress.specs.Standing.{StandsFor}
-use Rattle.regress_front_core.specs.FlagWords.{options}
+use Rattle.regress_front.specs.FlagWords.{options}
 use Rattle.regress_program.specs.Running.{small, output, AppendsFront, Accepted, Searched}
 
 -- what stands behind an error

@@ -9,7 +9,7 @@ use Rattle.std.specs.declared.io.Error as io
 use Rattle.regress_meaning.specs.Flags.{options_of}
 use Rattle.regress_front_core.specs.declared.error.Error as library
 use Rattle.regress_front_core.specs.declared.error.Error.TheVariants as library_error
-use Rattle.regress_front_core.specs.Refusals.{MayRefuse}
+use Rattle.regress_front.specs.Refusals.{MayRefuse}
 use Rattle.regress_program.specs.declared.error.ToolError.{ToolError}
 use Rattle.regress_program.specs.declared.error.ToolError.TheVariants.{Pattern, Read, NotUtf8, Write, OutOfMemory}
 use Rattle.regress_program.specs.declared.words.Request.{Request}

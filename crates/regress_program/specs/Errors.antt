@@ -2,7 +2,7 @@
 use Rattle.std.specs.Prelude.{ℕ, List, codes}
 use Rattle.regress_front_core.specs.declared.error.Error as regress
 use Rattle.regress_front_core.specs.declared.error.Error.TheVariants as library
-use Rattle.regress_front_core.specs.ErrorTexts.{error_text}
+use Rattle.regress_front.specs.ErrorTexts.{error_text}
 use Rattle.regress_program.specs.declared.error.ToolError.{ToolError}
 use Rattle.regress_program.specs.declared.error.ToolError.TheVariants as program
 

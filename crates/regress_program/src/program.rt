@@ -9,7 +9,7 @@ ghost use Rattle.regress_meaning.specs.Flags.{Options, options_of};
 ghost use Rattle.regress_front_core.specs.declared.error.Error as library;
 ghost use Rattle.regress_front_core.specs.declared.error.Error.TheVariants as library_error;
 ghost use Rattle.regress.specs.Standing.{StandsFor};
-ghost use Rattle.regress_front_core.specs.Refusals.{MayRefuse};
+ghost use Rattle.regress_front.specs.Refusals.{MayRefuse};
 ghost use Rattle.regress_program.specs.Answering.{Asks, Runs};
 ghost use Rattle.regress_program.specs.Endings.{ending_of};
 ghost use Rattle.regress_program.specs.Words.{request_of};

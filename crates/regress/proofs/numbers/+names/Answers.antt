@@ -1,5 +1,5 @@
 use Rattle.std.proofs.Common.{option_map, arith}
-use Rattle.regress_front_nodes.specs.Trees.{tree}
+use Rattle.regress_front.specs.Trees.{tree}
 use Rattle.regress.specs.GroupNames.{characters_of}
 use Rattle.regress.proofs.NameLemmas.{renamed-capture, renamed-past}
 use Rattle.regress_front_nodes.proofs.TreeLaws.{tree-CaptureGroup}

@@ -1,5 +1,5 @@
 use Rattle.std.proofs.Common.{◌≡◌, ℕ, map, drop, slice_get, option_map}
-use Rattle.regress_front_nodes.specs.Trees.{tree, cat_of}
+use Rattle.regress_front.specs.Trees.{tree, cat_of}
 use Rattle.regress.specs.GroupNames.{characters_of, renamed}
 use Rattle.regress.proofs.numbers.+names.Given as goal
 

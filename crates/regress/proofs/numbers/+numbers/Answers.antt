@@ -1,6 +1,6 @@
 use Rattle.std.proofs.Common.{refl, arith}
-use Rattle.regress_front_nodes.specs.Trees.{tree}
-use Rattle.regress_front_nodes.specs.WellFormed.{group_ids}
+use Rattle.regress_front.specs.Trees.{tree}
+use Rattle.regress_front.specs.WellFormed.{group_ids}
 use Rattle.regress.proofs.NumberLemmas.{bound_of-append, bound-more}
 use Rattle.regress_front_nodes.proofs.TreeLaws.{tree-Alt}
 use Rattle.regress.proofs.numbers.+numbers.Goals as goal

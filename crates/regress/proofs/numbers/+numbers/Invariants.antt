@@ -1,6 +1,6 @@
 use Rattle.std.proofs.Common.{◌≡◌, map, max, drop}
-use Rattle.regress_front_nodes.specs.Trees.{cat_of, tree}
-use Rattle.regress_front_nodes.specs.WellFormed.{group_ids}
+use Rattle.regress_front.specs.Trees.{cat_of, tree}
+use Rattle.regress_front.specs.WellFormed.{group_ids}
 use Rattle.regress.specs.GroupNames.{bound_of}
 use Rattle.regress.proofs.numbers.+numbers.Given as goal
 

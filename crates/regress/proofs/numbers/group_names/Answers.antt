@@ -1,7 +1,7 @@
 use Rattle.std.proofs.Common.{◌≡◌, ◌<◌, length, map, option_map, slice_get, vec_len, ap, ◌∙◌, arith}
 use Rattle.std.proofs.lemmas.List.{with_items_is}
 use Rattle.std.specs.Vec.{with_items}
-use Rattle.regress_front_nodes.specs.Trees.{tree}
+use Rattle.regress_front.specs.Trees.{tree}
 use Rattle.regress.specs.GroupNames.{characters_of, renamed}
 use Rattle.regress.proofs.NameLemmas.{blank}
 use Rattle.regress.proofs.numbers.group_names.Goals as goal

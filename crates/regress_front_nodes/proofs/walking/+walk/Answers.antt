@@ -1,7 +1,7 @@
 use Rattle.std.proofs.Common.{suc, refl, ◌∙◌, arith}
 use Rattle.std.proofs.lemmas.List.{drop_all, drop_more}
 use Rattle.regress_front_nodes.specs.Walks.{no_node, skipped, first_above, first_below}
-use Rattle.regress_front_nodes.proofs.WalkLemmas.{Walks-then, below-Alt, direction-Alt, below-Cat, direction-Cat, nothing_below, told-at, counted-more}
+use Rattle.regress_front_nodes.proofs.WalkLemmas.{Walks-then, below-Alt, backward_below-Alt, below-Cat, backward_below-Cat, nothing_below, told-at, counted-more}
 use Rattle.regress_front_nodes.proofs.walking.+walk.Goals as goal
 
 pub visit-returns-then-mode-clause-visited : goal.visit-returns-then-mode-clause-visited
@@ -27,7 +27,7 @@ visit_below-returns-in-Alt-clause-visited g t c = λ d counted.
     let deeper = c.saturating_add-deeper.ensures ∙ counted-more d c.args.depth counted in
     let first = rw c.deref.ensures at (c.visit-in-Alt.ensures.visited (suc d) deeper) in
     let second = rw c.deref-in-Alt.ensures at (c.visit-in-Alt-2.ensures.visited (suc d) deeper) in
-    rw (c.in-Alt.is, below-Alt, direction-Alt) (Walks-then g.F.FnMut c.args.mode.postorder c.args.mode.unicode first second)
+    rw (c.in-Alt.is, below-Alt, backward_below-Alt) (Walks-then g.F.FnMut c.args.mode.postorder c.args.mode.unicode first second)
 
 pub visit_below-returns-in_default : goal.visit_below-returns-in_default
 visit_below-returns-in_default g t c = record {
@@ -50,5 +50,5 @@ pub visit_below-returns-after-loop-part-clause-visited : goal.visit_below-return
 visit_below-returns-after-loop-part-clause-visited g t c = λ d counted.
     let deeper = c.saturating_add-deeper.ensures ∙ counted-more d c.args.depth counted in
     let none = drop_all c.loop-part.part-index c.deref-part-items.result.now (omega (arith, c.loop-part-test.false)) in
-    rw (c.in-Cat.is, below-Cat, direction-Cat, ← c.deref-part-items.ensures.value)
+    rw (c.in-Cat.is, below-Cat, backward_below-Cat, ← c.deref-part-items.ensures.value)
     (c.loop-part.invariant.1 (suc d) c.loop-part.func deeper (rw none no_node))

@@ -3,8 +3,8 @@ use Rattle.std.specs.String.{string_bytes}
 use Rattle.std.proofs.lemmas.List.{length-map}
 use Rattle.std.proofs.lemmas.Simd.{map-map}
 use Rattle.regress_meaning.specs.Pattern.{names_of}
-use Rattle.regress_front_nodes.specs.Trees.{tree}
-use Rattle.regress_front_nodes.specs.WellFormed.{group_ids}
+use Rattle.regress_front.specs.Trees.{tree}
+use Rattle.regress_front.specs.WellFormed.{group_ids}
 use Rattle.regress.specs.GroupNames.{characters_of}
 use Rattle.regress.proofs.NumberLemmas.{bound-numbered}
 use Rattle.regress.proofs.NameLemmas.{names-told}
