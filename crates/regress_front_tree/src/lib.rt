@@ -8,7 +8,6 @@ mod class_value;
 mod lawful;
 mod lowering;
 mod parse;
-mod text;
 
 pub use parse::try_parse;
 pub use regress_front_nodes::{

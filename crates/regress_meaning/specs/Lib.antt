@@ -19,3 +19,4 @@ pub mod Laws
 pub mod ReadingClass
 pub mod Scan
 pub mod Reading
+pub mod Named
