@@ -1,5 +1,5 @@
 -- What holds of each tree that is rewritten and emitted.
-use Rattle.std.specs.Prelude.{◌≡◌, ℕ, ◌+◌, ◌<◌, ◌≤◌, true, ◌&&◌, ◌==◌, Option, Some, None, List, [], ◌∷◌, ◌++◌, length, if◌then◌else◌, nat_le, nat_lt, count_by, unwrap_or, All}
+use Rattle.std.specs.Prelude.{◌≡◌, ◌≢◌, ℕ, ◌+◌, ◌<◌, ◌≤◌, true, ◌&&◌, ◌==◌, Option, Some, None, List, [], ◌∷◌, ◌++◌, length, if◌then◌else◌, nat_le, nat_lt, count_by, unwrap_or, All, IfSome}
 use Rattle.std.specs.Option.{option_or}
 use Rattle.std.specs.Str.{IsUtf8}
 use Rattle.regress_meaning.specs.TableParts.{IntervalsRise, is_code_point}
@@ -51,7 +51,7 @@ AreFewBytes bs = (length bs ≤ most_members) × All (λ b. b < 0x80) bs
 abbrev pub AreFewCodePoints : List ℕ → Type 0
 AreFewCodePoints cs = (length cs ≤ most_members) × All is_code_point cs
 
--- Each node is as it has to be, in a tree of n capture groups.
+-- Each node is as it has to be, in a tree of n capture groups. A group without a name has none, never the empty text.
 abbrev pub AreLawful : ℕ → Tree → Type 0
 AreLawful n (char c) = is_code_point c
 AreLawful n (bytes bs) = AreCharacters bs
@@ -59,7 +59,7 @@ AreLawful n (byte_set bs) = AreFewBytes bs
 AreLawful n (char_set cs) = AreFewCodePoints cs
 AreLawful n (cat a b) = AreLawful n a × AreLawful n b
 AreLawful n (alt a b) = AreLawful n a × AreLawful n b
-AreLawful n (capture k name a) = AreLawful n a
+AreLawful n (capture k name a) = IfSome name (λ text. text ≢ []) × AreLawful n a
 AreLawful n (back k icase) = (1 ≤ k) × (k ≤ n)
 AreLawful n (bracket inverted intervals) = IntervalsRise intervals
 AreLawful n (string_set strings icase) = All (All is_code_point) strings

@@ -1,6 +1,6 @@
 -- Names that stand in a set, and in a tree.
-use Rattle.std.proofs.Common.{◌≡◌, ℕ, ◌+◌, ◌<◌, Bool, true, false, cond, not, ◌||◌, ◌&&◌, List, [], ◌∷◌, ◌++◌, map, drop, length, get_or, Bor, BTreeSet, refl, sym, ap, ◌∙◌, arith}
-use Rattle.std.specs.Prelude.{IsTrue, ◌↔◌, Some}
+use Rattle.std.proofs.Common.{◌≡◌, ℕ, ◌+◌, ◌<◌, Bool, true, false, cond, not, ◌||◌, ◌&&◌, ◌==◌, List, [], ◌∷◌, ◌++◌, map, drop, length, get_or, ◌⊎◌, inl, inr, Bor, BTreeSet, Ordering, String, Global, string_bytes, refl, sym, ap, subst, ◌∙◌, arith}
+use Rattle.std.specs.Prelude.{IsTrue, ◌↔◌, Option, None, Some}
 use Rattle.std.specs.List.{list_any}
 use Rattle.std.specs.Ordering.{is_eq, nat_cmp}
 use Rattle.std.specs.BTreeSet.{IsDisjoint, InsertsAll, UpdatesBy}
@@ -12,22 +12,58 @@ use Rattle.std.proofs.lemmas.List.Folds.{list_any-append}
 use Rattle.std.proofs.lemmas.Map.Text.{is_eq-slice_cmp}
 use Rattle.std.proofs.lemmas.Slice.Eq.{bytes_eq-Decides}
 use Rattle.std.proofs.lemmas.Bool.Decides.{same_from_decides, Decides-like}
+use Rattle.std.specs.String.{string_len}
+use Rattle.std.proofs.lemmas.Bool.Decides.{nat_tests}
 use Rattle.regress_meaning.specs.Text.{same_text}
 use Rattle.regress_meaning.specs.Class.{among}
-use Rattle.regress_meaning.specs.Pattern.{Pattern, names_of, nothing, sequence}
+use Rattle.regress_meaning.specs.Pattern.{Pattern, names_of, nothing, sequence, capture}
 use Rattle.regress_meaning.specs.Grammar.{is_name, share_a_name, names_apart}
 use Rattle.regress_front_tokens.specs.declared.syntax.Syntax.{Syntax}
-use Rattle.regress_front_tokens.specs.Trees.{tree, sequence_of, choice_of, capture_of}
+use Rattle.regress_front_tokens.specs.Trees.{tree, sequence_of, choice_of}
+use Rattle.regress_front_tokens.specs.Words.{code_points_of}
+use Rattle.regress_front_tables.proofs.EntryLemmas.{same_text-chars}
+use Rattle.std.proofs.lemmas.Str.{IsUtf8-string_bytes, encodes-chars, length-le-encodes}
+use Rattle.std.proofs.Math.Utf8.{encodes}
 use Rattle.regress_front_syntax.specs.Names.{has_name, IsNaming, AreJoined}
 
--- a query by order finds a name exactly if one by equality does
-found-same : (name : List ℕ) (keys : List (Bor (List ℕ))) → list_any (λ n. is_eq (slice_cmp nat_cmp name n.now)) keys ≡ list_any (λ n. same_text name n.now) keys
-found-same name [] = refl
-found-same name (k ∷ keys) = rw (is_eq-slice_cmp name k.now) (ap (λ b. same_text name k.now || b) (found-same name keys))
+-- what a query by order finds
+abbrev holds_key : Bor (String Global) → List (Bor (String Global)) → Bool
+holds_key key keys = list_any (λ n. is_eq (slice_cmp nat_cmp (string_bytes key.now) (string_bytes n.now))) keys
 
--- a reference to a name, to ask for it
-abbrev query : List ℕ → Bor (List ℕ)
-query name = record { ref_ptr = (0, 0); now = name }
+-- what one by equality finds
+abbrev holds_text : List ℕ → List (Bor (String Global)) → Bool
+holds_text name keys = list_any (λ n. same_text name (code_points_of n.now)) keys
+
+-- two texts are the same both ways
+flip-same : (a b : List ℕ) → same_text a b ≡ same_text b a
+flip-same a b = same_from_decides _ _ (bytes_eq-Decides a b) (Decides-like _ sym sym (bytes_eq-Decides b a))
+
+-- two names have the same bytes where they have the same code points
+same-bytes : (a b : String Global) → same_text (string_bytes a) (string_bytes b) ≡ same_text (code_points_of a) (code_points_of b)
+same-bytes a b =
+    flip-same (string_bytes a) (string_bytes b) ∙ sym (same_text-chars (string_bytes b) (string_bytes a) (IsUtf8-string_bytes b) (IsUtf8-string_bytes a))
+
+-- a query by order finds a name exactly if one by equality does
+found-same : (key : Bor (String Global)) (keys : List (Bor (String Global))) → holds_key key keys ≡ holds_text (code_points_of key.now) keys
+found-same key [] = refl
+found-same key (k ∷ keys) =
+    rw (is_eq-slice_cmp (string_bytes key.now) (string_bytes k.now), same-bytes key.now k.now)
+    (ap (λ b. same_text (code_points_of key.now) (code_points_of k.now) || b) (found-same key keys))
+
+-- the name is that of some key
+abbrev IsKey : List ℕ → Type 0
+IsKey name = (key : Bor (String Global)) × (code_points_of key.now ≡ name)
+
+-- a name that is held is one of the keys
+held-key : (name : List ℕ) (keys : List (Bor (String Global))) → IsKey name ⊎ (holds_text name keys ≡ false)
+held-key name [] = inr refl
+held-key name (k ∷ keys) = go (same_text name (code_points_of k.now)) refl (held-key name keys)
+  where
+    go : (b : Bool) → same_text name (code_points_of k.now) ≡ b → IsKey name ⊎ (holds_text name keys ≡ false)
+        → IsKey name ⊎ ((b || holds_text name keys) ≡ false)
+    go true e rest = inl (k, sym ((bytes_eq-Decides name (code_points_of k.now)).0 e))
+    go false e (inl h) = inl h
+    go false e (inr h) = inr h
 
 neither : (a b : Bool) → (a || b) ≡ false → (a ≡ false) × (b ≡ false)
 neither true b h = cc
@@ -109,39 +145,69 @@ meets h ts false named iff = true_from_ne_false (list_any h ts) (λ e.
 joined-apart : (r s a m : Bool) → ((r && not s) && not (not a || m)) ≡ (a && (r && not (m || s)))
 joined-apart r s a m = grind (arith)
 
+-- the order of names
+abbrev name_cmp : Bor (String Global) → Bor (String Global) → Ordering
+name_cmp x y = slice_cmp nat_cmp (string_bytes x.now) (string_bytes y.now)
+
 -- what `is_disjoint` says, by names
-pub disjoint-names : (a b : BTreeSet (Bor (List ℕ))) (apart : Bool) → (IsTrue apart ↔ IsDisjoint (λ x y. slice_cmp nat_cmp x.now y.now) a b)
+pub disjoint-names : (a b : BTreeSet (Bor (String Global))) (apart : Bool) → (IsTrue apart ↔ IsDisjoint name_cmp a b)
     → IsTrue apart ↔ ((name : List ℕ) → IsTrue (has_name a name) → has_name b name ≡ false)
 disjoint-names a b apart iff = (
-  λ yes name k. sym (found-same name b.keys) ∙ iff.0 yes (query name) (found-same name a.keys ∙ k),
-  λ h. iff.1 (λ q k. found-same q.now b.keys ∙ h q.now (sym (found-same q.now a.keys) ∙ k)),
+  λ yes name k. elim (held-key name a.keys) [
+    | inl (key, e) ↦ subst (λ (n : List ℕ). IsTrue (has_name a n) → has_name b n ≡ false) e (λ h. sym (found-same key b.keys) ∙ iff.0 yes key (found-same key a.keys ∙ h)) k
+    | inr none ↦ absurd (cc)
+  ],
+  λ h. iff.1 (λ q k. found-same q b.keys ∙ h (code_points_of q.now) (sym (found-same q a.keys) ∙ k)),
 )
 
 -- what `append` says, by names
-pub joined-names : (a b all : BTreeSet (Bor (List ℕ))) → InsertsAll (λ x y. slice_cmp nat_cmp x.now y.now) a b.keys all
+pub joined-names : (a b all : BTreeSet (Bor (String Global))) → InsertsAll name_cmp a b.keys all
     → (name : List ℕ) → has_name all name ≡ (has_name a name || has_name b name)
-joined-names a b all h name = cc (h.0 (query name), found-same name all.keys, found-same name a.keys, found-same name b.keys)
+joined-names a b all h name = by_key (held-key name all.keys) (held-key name a.keys) (held-key name b.keys)
+  where
+    of_key : (key : Bor (String Global)) → code_points_of key.now ≡ name → has_name all name ≡ (has_name a name || has_name b name)
+    of_key key e = subst (λ (n : List ℕ). has_name all n ≡ (has_name a n || has_name b n)) e (cc (h.0 key, found-same key all.keys, found-same key a.keys, found-same key b.keys))
+
+    by_key : IsKey name ⊎ (has_name all name ≡ false)
+        → IsKey name ⊎ (has_name a name ≡ false)
+        → IsKey name ⊎ (has_name b name ≡ false)
+        → has_name all name ≡ (has_name a name || has_name b name)
+    by_key (inl k) u v = of_key k.0 k.1
+    by_key (inr t) (inl k) v = of_key k.0 k.1
+    by_key (inr t) (inr u) (inl k) = of_key k.0 k.1
+    by_key (inr t) (inr u) (inr v) = rw (t, u, v) refl
 
 either-or : (s h : Bool) → cond s true h ≡ (s || h)
 either-or true h = refl
 either-or false h = refl
 
 -- what `insert` says, by names
-pub put-names : (old new : BTreeSet (Bor (List ℕ))) (key : Bor (List ℕ))
-    → UpdatesBy (λ x y. slice_cmp nat_cmp x.now y.now) (λ k. slice_cmp nat_cmp key.now k.now) old new true
-    → (name : List ℕ) → has_name new name ≡ (same_text name key.now || has_name old name)
-put-names old new key h name =
-    let found : same_text key.now name ≡ same_text name key.now = same_from_decides _ _ (bytes_eq-Decides key.now name) (Decides-like _ sym sym (bytes_eq-Decides name key.now)) in
-    sym (found-same name new.keys) ∙ h.0 (query name)
-    ∙ rw (is_eq-slice_cmp key.now name, found-same name old.keys, found) (either-or (same_text name key.now) (has_name old name))
+pub put-names : (old new : BTreeSet (Bor (String Global))) (key : Bor (String Global))
+    → UpdatesBy name_cmp (λ k. slice_cmp nat_cmp (string_bytes key.now) (string_bytes k.now)) old new true
+    → (name : List ℕ) → has_name new name ≡ (same_text name (code_points_of key.now) || has_name old name)
+put-names old new key h name = by_key (held-key name new.keys) (held-key name old.keys) (same_text name (code_points_of key.now)) refl
+  where
+    of_key : (q : Bor (String Global)) → code_points_of q.now ≡ name → has_name new name ≡ (same_text name (code_points_of key.now) || has_name old name)
+    of_key q e =
+        subst (λ (n : List ℕ). has_name new n ≡ (same_text n (code_points_of key.now) || has_name old n)) e
+        (sym (found-same q new.keys) ∙ h.0 q
+        ∙ rw (is_eq-slice_cmp (string_bytes key.now) (string_bytes q.now), same-bytes key.now q.now, found-same q old.keys, flip-same (code_points_of key.now) (code_points_of q.now))
+        (either-or (same_text (code_points_of q.now) (code_points_of key.now)) (has_name old (code_points_of q.now))))
+
+    by_key : IsKey name ⊎ (has_name new name ≡ false) → IsKey name ⊎ (has_name old name ≡ false) → (b : Bool) → same_text name (code_points_of key.now) ≡ b
+        → has_name new name ≡ (same_text name (code_points_of key.now) || has_name old name)
+    by_key (inl k) u b e = of_key k.0 k.1
+    by_key (inr t) (inl k) b e = of_key k.0 k.1
+    by_key (inr t) (inr u) true e = of_key key (sym ((bytes_eq-Decides name (code_points_of key.now)).0 e))
+    by_key (inr t) (inr u) false e = rw (t, e, u) refl
 
 -- what it answers, by names
-pub added-names : (names : BTreeSet (Bor (List ℕ))) (name : List ℕ) (added : Bool) → added ≡ not (list_any (λ n. is_eq (slice_cmp nat_cmp name n.now)) names.keys)
-    → has_name names name ≡ not added
+pub added-names : (names : BTreeSet (Bor (String Global))) (name : Bor (String Global)) (added : Bool)
+    → added ≡ not (list_any (λ n. is_eq (slice_cmp nat_cmp (string_bytes name.now) (string_bytes n.now))) names.keys) → has_name names (code_points_of name.now) ≡ not added
 added-names names name added h = sym (found-same name names.keys) ∙ sym (not-not _) ∙ ap not (sym h)
 
 -- names so far, and those of what is still to come, are those of the whole
-abbrev pub AreRest : (whole rest : Pattern) → BTreeSet (Bor (List ℕ)) → Type 0
+abbrev pub AreRest : (whole rest : Pattern) → BTreeSet (Bor (String Global)) → Type 0
 AreRest whole rest names =
     (name : List ℕ) → (has_name names name || (is_name name && among (names_of rest) name)) ≡ (is_name name && among (names_of whole) name)
 
@@ -150,7 +216,7 @@ regrouped true n a b = refl
 regrouped false true a b = refl
 regrouped false false a b = refl
 
-fewer : (whole rest p q : Pattern) (names more all : BTreeSet (Bor (List ℕ))) → names_of rest ≡ names_of p ++ names_of q → AreRest whole rest names
+fewer : (whole rest p q : Pattern) (names more all : BTreeSet (Bor (String Global))) → names_of rest ≡ names_of p ++ names_of q → AreRest whole rest names
     → ((name : List ℕ) → has_name all name ≡ (has_name names name || has_name more name))
     → ((name : List ℕ) → has_name more name ≡ (is_name name && among (names_of p) name))
     → AreRest whole q all
@@ -173,15 +239,15 @@ last true n = refl
 last false true = refl
 last false false = refl
 
-none-held : (names : BTreeSet (Bor (List ℕ))) → names.keys ≡ [] → (name : List ℕ) → has_name names name ≡ false
-none-held names empty name = ap (λ keys. list_any (λ n. same_text name n.now) keys) empty
+none-held : (names : BTreeSet (Bor (String Global))) → names.keys ≡ [] → (name : List ℕ) → has_name names name ≡ false
+none-held names empty name = ap (λ keys. holds_text name keys) empty
 
 -- terms still to come, behind names: they stand apart where the whole does
-abbrev pub AreTermsLeft : (whole rest : Pattern) → BTreeSet (Bor (List ℕ)) → Type 0
+abbrev pub AreTermsLeft : (whole rest : Pattern) → BTreeSet (Bor (String Global)) → Type 0
 AreTermsLeft whole rest names = AreRest whole rest names × (names_apart whole ≡ (names_apart rest && not (list_any (has_name names) (names_of rest))))
 
 -- before the first term
-pub terms-first : (whole : Pattern) (names : BTreeSet (Bor (List ℕ))) → names.keys ≡ [] → AreTermsLeft whole whole names
+pub terms-first : (whole : Pattern) (names : BTreeSet (Bor (String Global))) → names.keys ≡ [] → AreTermsLeft whole whole names
 terms-first whole names empty = (
   λ name. rw (none-held names empty name) refl,
   rw (none-passes (has_name names) (names_of whole) (λ name m. none-held names empty name)) (sym (and-true (names_apart whole))),
@@ -193,12 +259,12 @@ pub terms-split : (terms : List Syntax) (i : ℕ) (term : Syntax) → i < length
 terms-split terms i term within read = rw (drop_more terms i term within, ← read) refl
 
 -- a term that does not stand apart
-pub terms-none : (whole rest p q : Pattern) (names : BTreeSet (Bor (List ℕ))) → rest ≡ sequence p q → AreTermsLeft whole rest names
+pub terms-none : (whole rest p q : Pattern) (names : BTreeSet (Bor (String Global))) → rest ≡ sequence p q → AreTermsLeft whole rest names
     → names_apart p ≡ false → names_apart whole ≡ false
 terms-none whole rest p q names split left none = left.1 ∙ rw (split, none) refl
 
 -- one more term
-pub terms-more : (whole rest p q : Pattern) (names more all : BTreeSet (Bor (List ℕ))) (apart : Bool) → rest ≡ sequence p q → AreTermsLeft whole rest names
+pub terms-more : (whole rest p q : Pattern) (names more all : BTreeSet (Bor (String Global))) (apart : Bool) → rest ≡ sequence p q → AreTermsLeft whole rest names
     → IsNaming p (Some more) → AreJoined names more all apart
     → AreRest whole q all × (names_apart whole ≡ (apart && (names_apart q && not (list_any (has_name all) (names_of q)))))
 terms-more whole rest p q names more all apart split left naming joined =
@@ -216,11 +282,11 @@ terms-more whole rest p q names more all apart split left naming joined =
     )
 
 -- behind the last term
-pub terms-last : (whole : Pattern) (names : BTreeSet (Bor (List ℕ))) → AreTermsLeft whole nothing names → IsNaming whole (Some names)
+pub terms-last : (whole : Pattern) (names : BTreeSet (Bor (String Global))) → AreTermsLeft whole nothing names → IsNaming whole (Some names)
 terms-last whole names left = (left.1, λ name. last (has_name names name) (is_name name) ∙ left.0 name)
 
 -- alternatives still to come, behind names
-abbrev pub AreArmsLeft : (whole rest : Pattern) → BTreeSet (Bor (List ℕ)) → Type 0
+abbrev pub AreArmsLeft : (whole rest : Pattern) → BTreeSet (Bor (String Global)) → Type 0
 AreArmsLeft whole rest names = AreRest whole rest names × (names_apart whole ≡ names_apart rest)
 
 -- the alternatives from one on
@@ -237,16 +303,16 @@ choice-apart p [] = sym (and-true (names_apart p))
 choice-apart p (q ∷ ps) = refl
 
 -- before the first alternative
-pub arms-first : (whole : Pattern) (names : BTreeSet (Bor (List ℕ))) → names.keys ≡ [] → AreArmsLeft whole whole names
+pub arms-first : (whole : Pattern) (names : BTreeSet (Bor (String Global))) → names.keys ≡ [] → AreArmsLeft whole whole names
 arms-first whole names empty = (λ name. rw (none-held names empty name) refl, refl)
 
 -- an alternative that does not stand apart
-pub arms-none : (whole rest p : Pattern) (ps : List Pattern) (names : BTreeSet (Bor (List ℕ))) → rest ≡ choice_of (p ∷ ps) → AreArmsLeft whole rest names
+pub arms-none : (whole rest p : Pattern) (ps : List Pattern) (names : BTreeSet (Bor (String Global))) → rest ≡ choice_of (p ∷ ps) → AreArmsLeft whole rest names
     → names_apart p ≡ false → names_apart whole ≡ false
 arms-none whole rest p ps names split left none = left.1 ∙ ap names_apart split ∙ choice-apart p ps ∙ rw none refl
 
 -- one more alternative
-pub arms-more : (whole rest p : Pattern) (ps : List Pattern) (names more all : BTreeSet (Bor (List ℕ))) (apart : Bool) → rest ≡ choice_of (p ∷ ps)
+pub arms-more : (whole rest p : Pattern) (ps : List Pattern) (names more all : BTreeSet (Bor (String Global))) (apart : Bool) → rest ≡ choice_of (p ∷ ps)
     → AreArmsLeft whole rest names → IsNaming p (Some more) → AreJoined names more all apart → AreArmsLeft whole (choice_of ps) all
 arms-more whole rest p ps names more all apart split left naming joined = (
   fewer whole rest p (choice_of ps) names more all (ap names_of split ∙ choice-names p ps) left.0 joined.0 naming.1,
@@ -254,14 +320,41 @@ arms-more whole rest p ps names more all apart split left naming joined = (
 )
 
 -- behind the last alternative
-pub arms-last : (whole : Pattern) (names : BTreeSet (Bor (List ℕ))) → AreArmsLeft whole nothing names → IsNaming whole (Some names)
+pub arms-last : (whole : Pattern) (names : BTreeSet (Bor (String Global))) → AreArmsLeft whole nothing names → IsNaming whole (Some names)
 arms-last whole names left = (left.1, λ name. last (has_name names name) (is_name name) ∙ left.0 name)
 
+-- a text is a name where it is not empty
+pub is_name-text : (text : String Global) → is_name (code_points_of text) ≡ not (string_len text == 0)
+is_name-text text = go (string_bytes text) (code_points_of text) (encodes-chars (string_bytes text) (IsUtf8-string_bytes text)) ∙ ap (λ n. not (n == 0)) count
+  where
+    count : length (string_bytes text) ≡ string_len text
+    count = omega (arith, text.bytes.ok.0)
+
+    go : (bytes name : List ℕ) → encodes name ≡ bytes → is_name name ≡ not (length bytes == 0)
+    go [] [] e = refl
+    go [] (c ∷ name) e = let longer = length-le-encodes (c ∷ name) in let none = ap length e in absurd (omega arith)
+    go (b ∷ bytes) [] e = absurd (cc)
+    go (b ∷ bytes) (c ∷ name) e = grind (arith, nat_tests)
+
+-- a group without a name has those inside
+pub unnamed : (p : Pattern) (found : Option (BTreeSet (Bor (String Global)))) → IsNaming p found → IsNaming (capture 0 None p) found
+unnamed p None h = h
+unnamed p (Some names) h = (h.0, λ name. h.1 name ∙ unlike name)
+  where
+    unlike : (name : List ℕ) → (is_name name && among (names_of p) name) ≡ (is_name name && (same_text name [] || among (names_of p) name))
+    unlike [] = refl
+    unlike (c ∷ name) = refl
+
+-- the empty text is no name
+pub empty_name : (name : List ℕ) (p : Pattern) (found : Option (BTreeSet (Bor (String Global)))) → is_name name ≡ false → IsNaming p found → IsNaming (capture 0 (Some name) p) found
+empty_name [] p None e h = rw h refl
+empty_name [] p (Some names) e h = let inside = unnamed p (Some names) h in (rw h.0 refl, inside.1)
+empty_name (c ∷ name) p found e h = let full : is_name (c ∷ name) ≡ true = grind (arith, nat_tests) in absurd (cc)
+
 -- a group whose name stands inside it
-pub capture-taken : (name : List ℕ) (p : Pattern) (names : BTreeSet (Bor (List ℕ))) → is_name name ≡ true → IsNaming p (Some names) → has_name names name ≡ true
-    → names_apart (capture_of 0 name p) ≡ false
-capture-taken [] p names full naming taken = cc
-capture-taken (c ∷ name) p names full naming taken = rw (sym (naming.1 (c ∷ name)) ∙ taken) (and-false (names_apart p))
+pub capture-taken : (name : List ℕ) (p : Pattern) (names : BTreeSet (Bor (String Global))) → is_name name ≡ true → IsNaming p (Some names) → has_name names name ≡ true
+    → names_apart (capture 0 (Some name) p) ≡ false
+capture-taken name p names full naming taken = rw (sym (naming.1 name) ∙ taken) (and-false (names_apart p))
 
 put-name : (s n a h : Bool) → (s ≡ true → n ≡ true) → h ≡ (n && a) → (s || h) ≡ (n && (s || a))
 put-name true true a h f g = refl
@@ -269,11 +362,10 @@ put-name true false a h f g = sym (f refl)
 put-name false n a h f g = g
 
 -- a group whose name does not
-pub capture-added : (name : List ℕ) (p : Pattern) (names all : BTreeSet (Bor (List ℕ))) → is_name name ≡ true → IsNaming p (Some names) → has_name names name ≡ false
-    → ((other : List ℕ) → has_name all other ≡ (same_text other name || has_name names other)) → IsNaming (capture_of 0 name p) (Some all)
-capture-added [] p names all full naming free both = cc
-capture-added (c ∷ name) p names all full naming free both = (
-  rw (sym (naming.1 (c ∷ name)) ∙ free, naming.0) refl,
-  λ other. both other ∙ put-name (same_text other (c ∷ name)) (is_name other) (among (names_of p) other) (has_name names other)
-      (λ e. ap is_name ((bytes_eq-Decides other (c ∷ name)).0 e) ∙ full) (naming.1 other),
+pub capture-added : (name : List ℕ) (p : Pattern) (names all : BTreeSet (Bor (String Global))) → is_name name ≡ true → IsNaming p (Some names) → has_name names name ≡ false
+    → ((other : List ℕ) → has_name all other ≡ (same_text other name || has_name names other)) → IsNaming (capture 0 (Some name) p) (Some all)
+capture-added name p names all full naming free both = (
+  rw (sym (naming.1 name) ∙ free, naming.0) refl,
+  λ other. both other ∙ put-name (same_text other name) (is_name other) (among (names_of p) other) (has_name names other)
+      (λ e. ap is_name ((bytes_eq-Decides other name).0 e) ∙ full) (naming.1 other),
 )

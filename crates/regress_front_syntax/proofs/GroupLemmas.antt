@@ -1,6 +1,6 @@
 -- What is answered for a tree in parentheses, by what its opening is and by its contents.
-use Rattle.std.proofs.Common.{◌≡◌, ℕ, suc, ◌+◌, ◌≤◌, Bool, true, false, not, List, [], ◌∷◌, length, Option, Some, None, option_and_then, Err, refl, sym, ap, ◌∙◌, arith}
-use Rattle.regress_meaning.specs.Pattern.{Pattern, names_of}
+use Rattle.std.proofs.Common.{◌≡◌, ℕ, suc, ◌+◌, ◌≤◌, Bool, true, false, not, List, [], ◌∷◌, length, Option, Some, None, option_and_then, Err, refl, sym, ap, ◌∙◌, arith, option_map}
+use Rattle.regress_meaning.specs.Pattern.{Pattern, names_of, capture}
 use Rattle.regress_meaning.specs.Tokens.{Mode}
 use Rattle.regress_meaning.specs.Limits.{depth, quantifiers, most_groups}
 use Rattle.regress_meaning.specs.Reading.{Front, quantified, read_term, disjunction_at, ReadsBySteps}
@@ -9,8 +9,8 @@ use Rattle.regress_front_core.specs.declared.error.Error.{Error}
 use Rattle.regress_front_core.specs.declared.error.Error.TheVariants.{Syntax as SyntaxError, TooDeep, TooManyGroups, TooManyLoops, TooLarge, OutOfMemory}
 use Rattle.regress_front_syntax.specs.declared.group.Opening.{Opening}
 use Rattle.regress_front_syntax.specs.declared.group.Opening.TheVariants.{Capture, Group, Modified, Lookahead, Lookbehind}
-use Rattle.regress_front_tokens.specs.Trees.{capture_of}
-use Rattle.regress_front_syntax.specs.Openings.{group_of, opening_view, enclosed, is_lookbehind, may_repeat, opened_by, IsOpening}
+use Rattle.regress_front_tokens.specs.Words.{code_points_of}
+use Rattle.regress_front_syntax.specs.Openings.{opening_view, enclosed, is_lookbehind, may_repeat, opened_by, IsOpening}
 use Rattle.regress_front_syntax.specs.Parsing.{Place, Leads, Grows, front_to, IsRefusal, contents_of}
 use Rattle.regress_front_syntax.proofs.AnswerLemmas.{at, Within, Keeps, quantified-keeps, Some-keeps, wrapped, quantified-contents, closed-alone, Leads_trans}
 use Rattle.regress_front_syntax.proofs.StepLemmas.{contents-opened}
@@ -31,12 +31,12 @@ pub record Wraps (wrap : Pattern → Pattern) (k l : ℕ) : Type 0 where
   pub names : (p : Pattern) → l + length (names_of p) ≡ k + length (names_of (wrap p))
   pub loops : (p : Pattern) → quantifiers (wrap p) ≡ quantifiers p
 
-capture-wraps : (k : ℕ) (name : List ℕ) → Wraps (capture_of k name) k (suc k)
-capture-wraps k [] = record { deep = λ p. refl; names = λ p. omega arith; loops = λ p. refl }
-capture-wraps k (c ∷ name) = record { deep = λ p. refl; names = λ p. omega arith; loops = λ p. refl }
+capture-wraps : (k : ℕ) (name : Option (List ℕ)) → Wraps (capture k name) k (suc k)
+capture-wraps k None = record { deep = λ p. refl; names = λ p. omega arith; loops = λ p. refl }
+capture-wraps k (Some name) = record { deep = λ p. refl; names = λ p. omega arith; loops = λ p. refl }
 
 enclosed-wraps : (o : Opening) (k : ℕ) → Wraps (enclosed o k) k (opened_by o k)
-enclosed-wraps (Capture name) k = capture-wraps k name.items
+enclosed-wraps (Capture name) k = capture-wraps k (option_map code_points_of name)
 enclosed-wraps Group k = record { deep = λ p. refl; names = λ p. refl; loops = λ p. refl }
 enclosed-wraps (Modified on off) k = record { deep = λ p. refl; names = λ p. refl; loops = λ p. refl }
 enclosed-wraps (Lookahead negated) k = record { deep = λ p. refl; names = λ p. refl; loops = λ p. refl }
@@ -59,16 +59,11 @@ finish-keeps true allowed k = Some-keeps
 finish-keeps false allowed k = quantified-keeps allowed k
 
 module _ (m : Mode) where
-  capture-read : (read : List ℕ → ℕ → Option Front) (k : ℕ) (name t : List ℕ)
-      → read_term m read k (group_of name t) ≡ option_and_then (λ (f : Front). quantified true k (wrapped (capture_of k name) f)) (contents_of (read t (suc k)))
-  unfolding read_term
-  capture-read read k [] t = quantified-contents true k (capture_of k []) (read t (suc k))
-  capture-read read k (c ∷ name) t = quantified-contents true k (capture_of k (c ∷ name)) (read t (suc k))
-
   enclosed-read : (read : List ℕ → ℕ → Option Front) (k : ℕ) (o : Opening) (t : List ℕ)
       → read_term m read k (opening_view o t) ≡ option_and_then (λ (f : Front). finish (is_lookbehind o) (may_repeat m.unicode o) k (wrapped (enclosed o k) f)) (contents_of (read t (opened_by o k)))
   unfolding read_term
-  enclosed-read read k (Capture name) t = capture-read read k name.items t
+  enclosed-read read k (Capture None) t = quantified-contents true k (capture k None) (read t (suc k))
+  enclosed-read read k (Capture (Some name)) t = quantified-contents true k (capture k (Some (code_points_of name))) (read t (suc k))
   enclosed-read read k Group t = quantified-contents true k (enclosed Group k) (read t k)
   enclosed-read read k (Modified on off) t = quantified-contents true k (enclosed (Modified on off) k) (read t k)
   enclosed-read read k (Lookahead negated) t = quantified-contents (not m.unicode) k (enclosed (Lookahead negated) k) (read t k)

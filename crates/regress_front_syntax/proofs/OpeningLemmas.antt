@@ -5,8 +5,7 @@ use Rattle.std.specs.List.{list_any}
 use Rattle.std.proofs.lemmas.List.Folds.{list_any-append}
 use Rattle.std.proofs.lemmas.Bool.{or_parts, eq-eqb, eqb-true}
 use Rattle.regress_meaning.specs.Text.{holds, ◌∈◌, is_at, span, span_up_to}
-use Rattle.regress_meaning.specs.Table.{Table}
-use Rattle.regress_meaning.specs.Tokens.{Mode, Reads, guard, begins_name, name_point, name_rest, name_at}
+use Rattle.regress_meaning.specs.Tokens.{Mode, Reads, name_at}
 use Rattle.regress_meaning.specs.Grammar.{is_flag, all_differ}
 use Rattle.regress_meaning.specs.Reading as meaning
 use Rattle.regress_meaning.specs.Reading.{of_letters, modifiers_at, angle_opening, question_opening, parenthesis_opening}
@@ -14,38 +13,17 @@ use Rattle.regress_front_core.specs.declared.error.Error.{Error}
 use Rattle.regress_front_core.specs.declared.error.Error.TheVariants.{Syntax, TooDeep, TooManyGroups, TooManyLoops, TooLarge, OutOfMemory}
 use Rattle.regress_front_syntax.specs.declared.group.Opening.{Opening}
 use Rattle.regress_front_tokens.specs.Readings.{IsRead}
-use Rattle.regress_front_syntax.specs.Openings.{group_of, switched_off, IsOpening}
+use Rattle.regress_front_syntax.specs.Openings.{switched_off, IsOpening}
 use Rattle.regress_front_tokens.proofs.SpanLemmas.{span-joined}
-
--- a name that was read is not empty
-abbrev IsNamed : Option (List ℕ × List ℕ) → Type 0
-IsNamed None = Unit {0}
-IsNamed (Some x) = meaning.named_group x.0 x.1 ≡ group_of x.0 x.1
-
-named-cons : (c : ℕ) (o : Option (List ℕ × List ℕ)) → IsNamed (option_map (λ (cs, s). (c ∷ cs, s)) o)
-named-cons c None = tt
-named-cons c (Some x) = refl
-
-named-guard : (b : Bool) (o : Option (List ℕ × List ℕ)) → IsNamed o → IsNamed (guard b o)
-named-guard true o h = h
-named-guard false o h = tt
-
-named-at : (table : Table) (t : List ℕ) → IsNamed (name_at table t)
-unfolding name_at
-named-at table t = go (name_point t)
-  where
-    go : (o : Option (ℕ × List ℕ)) → IsNamed (option_and_then (λ (c, r). guard (begins_name table c) (option_map (λ (cs, s). (c ∷ cs, s)) (name_rest table (length r) r))) o)
-    go None = tt
-    go (Some x) = named-guard (begins_name table x.0) _ (named-cons x.0 (name_rest table (length x.1) x.1))
 
 module _ (m : Mode) (t : List ℕ) where
   pub angle-look : is_at (λ c. c ∈ "=!") t ≡ true → angle_opening m t ≡ meaning.lookbehind (is_at (λ c. c == 0x21) t) (drop 1 t)
   unfolding angle_opening
   angle-look h = rw h refl
 
-  pub angle-name : (name r : List ℕ) → is_at (λ c. c ∈ "=!") t ≡ false → name_at m.table t ≡ Some (name, r) → angle_opening m t ≡ group_of name r
+  pub angle-name : (name r : List ℕ) → is_at (λ c. c ∈ "=!") t ≡ false → name_at m.table t ≡ Some (name, r) → angle_opening m t ≡ meaning.named_group name r
   unfolding angle_opening
-  angle-name name r h e = let named : meaning.named_group name r ≡ group_of name r = rw e at (named-at m.table t) in rw (h, e) named
+  angle-name name r h e = rw (h, e) refl
 
   pub angle-none : is_at (λ c. c ∈ "=!") t ≡ false → name_at m.table t ≡ None → angle_opening m t ≡ meaning.no_term
   unfolding angle_opening

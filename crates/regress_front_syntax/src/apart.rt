@@ -1,17 +1,19 @@
 //! Names that stand twice in a pattern.
-ghost use Rattle.std.specs.Prelude.{◌≡◌, map, IfOk, IfErr};
+ghost use Rattle.std.specs.Prelude.{◌≡◌, Some, map, IfOk, IfErr};
+ghost use Rattle.regress_meaning.specs.Pattern.{capture};
 ghost use Rattle.regress_meaning.specs.Grammar.{names_apart};
-ghost use Rattle.regress_front_tokens.specs.Trees.{tree, sequence_of, choice_of, capture_of};
+ghost use Rattle.regress_front_tokens.specs.Trees.{tree, sequence_of, choice_of};
+ghost use Rattle.regress_front_tokens.specs.Words.{code_points_of};
 ghost use Rattle.regress_front_syntax.specs.Names.{AreJoined, IsNaming};
 
-use regress_front_tables::{CodePoint, Error};
+use regress_front_tables::{CaptureGroupName, Error};
 use regress_front_tokens::Syntax;
 use std::alloc::Global;
 use std::collections::BTreeSet;
 use std::mem::swap;
 
-/// Names of groups, each as code points.
-type Names<'s> = BTreeSet<&'s [CodePoint], Global>;
+/// Names of groups.
+type Names<'s> = BTreeSet<&'s CaptureGroupName, Global>;
 
 /// The names of both, and whether no name stands in both. `OutOfMemory` is the only error.
 fn joined<'s>(mut names: Names<'s>, mut more: Names<'s>) -> Result<(Names<'s>, bool), Error>
@@ -37,8 +39,13 @@ fn names_in<'s>(alloc: Global, syntax: &'s Syntax) -> Result<Option<Names<'s>>, 
     match syntax {
         Syntax::Alternative(terms) => names_in_terms(alloc, terms),
         Syntax::Disjunction(arms) => names_in_arms(alloc, arms),
-        Syntax::Capture { name, contents, .. } => names_in_capture(alloc, name, contents),
-        Syntax::Group(contents)
+        Syntax::Capture {
+            name: Some(name),
+            contents,
+            ..
+        } => names_in_named(alloc, name, contents),
+        Syntax::Capture { contents, .. }
+        | Syntax::Group(contents)
         | Syntax::Modified { contents, .. }
         | Syntax::Look { contents, .. }
         | Syntax::Loop {
@@ -85,14 +92,14 @@ fn names_in_arms<'s>(alloc: Global, arms: &'s [Syntax]) -> Result<Option<Names<'
     Ok(Some(names))
 }
 
-/// The same of a capturing group, whose name is empty where it has none.
+/// The same of a capturing group with a name; the empty text is none.
 #[cycle(naming)]
-fn names_in_capture<'s>(
+fn names_in_named<'s>(
     alloc: Global,
-    name: &'s [CodePoint],
+    name: &'s CaptureGroupName,
     contents: &'s Syntax,
 ) -> Result<Option<Names<'s>>, Error>
-    ensures ok { IfOk result (IsNaming (capture_of 0 name.now (tree contents.now))) }
+    ensures ok { IfOk result (IsNaming (capture 0 (Some (code_points_of name.now)) (tree contents.now))) }
     ensures err { IfErr result (λ e. e ≡ Error.OutOfMemory) }
 {
     if name.is_empty() {

@@ -10,15 +10,15 @@ ghost use Rattle.regress_front_tokens.specs.Cursors.{unread, SameText};
 ghost use Rattle.regress_front_tokens.specs.Escapes.{mode_view};
 ghost use Rattle.regress_front_syntax.specs.Openings.{switched_off, IsOpening};
 
-use regress_front_tables::{CodePoint, Error};
+use regress_front_tables::{CaptureGroupID, CaptureGroupName, CodePoint, Error};
 use regress_front_tokens::{Cursor, Mode, Modifiers, Syntax, is_one_of};
 use std::alloc::Global;
 
 /// What an opening parenthesis begins, up to the contents.
 #[derive(Debug, Drop)]
 pub(crate) enum Opening<'p> {
-    /// A capturing group, with its name as code points, empty where it has none.
-    Capture(Vec<CodePoint>),
+    /// A capturing group, with its name, if it has one.
+    Capture(Option<CaptureGroupName>),
     /// `(?:`
     Group,
     /// `(?ims-ims:`, with the letters before the dash and behind it.
@@ -111,7 +111,7 @@ impl Opening<'_> {
     }
 
     /// The tree of contents behind the opening; `id` is the number of the group, if it captures.
-    pub(crate) fn enclose(self, id: u16, contents: Box<Syntax>) -> Syntax
+    pub(crate) fn enclose(self, id: CaptureGroupID, contents: Box<Syntax>) -> Syntax
         ensures { tree result ≡ enclosed self.entry id (tree contents.value) }
     {
         match self {
@@ -149,7 +149,7 @@ pub(crate) fn read_opening<'p>(
     if cursor.eat('?') {
         return question_opening(cursor, alloc, mode);
     }
-    Ok(Opening::Capture(Vec::new(alloc)))
+    Ok(Opening::Capture(None))
 }
 
 /// Behind `(?`: what it opens.
@@ -193,7 +193,7 @@ fn angle_opening<'p>(
         return Ok(Opening::Lookbehind { negated });
     }
     let name = cursor.name(alloc, mode.tables)?;
-    Ok(Opening::Capture(name))
+    Ok(Opening::Capture(Some(name)))
 }
 
 /// Behind `(?`: letters that are switched on, perhaps a dash and letters that are switched off, and `:`. Each letter is one

@@ -13,7 +13,7 @@ use Rattle.regress_meaning.specs.TableParts.{entry}
 use Rattle.regress_front_tables.specs.Entries.{entry_of}
 
 -- two texts have the same code points where they have the same bytes
-same_text-chars : (a b : List ℕ) → IsUtf8 a → IsUtf8 b → same_text (chars b) (chars a) ≡ pointwise nat_eq a b
+pub same_text-chars : (a b : List ℕ) → IsUtf8 a → IsUtf8 b → same_text (chars b) (chars a) ≡ pointwise nat_eq a b
 same_text-chars a b a_text b_text =
     let points = slice_eq-Decides Decides-eqb (chars b) (chars a) (same_text (chars b) (chars a)) refl in
     let bytes = slice_eq-Decides Decides-eqb a b (pointwise nat_eq a b) refl in

@@ -1,8 +1,10 @@
 -- The equations of `class_view`, one for each variant.
 use Rattle.std.proofs.Common.{◌≡◌, ℕ, Bool, map, fold, Box, Global, sym, ap, ◌∙◌}
 use Rattle.std.specs.Global.{Vec}
+use Rattle.std.specs.declared.string.String.{String}
 use Rattle.regress_meaning.specs.Class as meaning
 use Rattle.regress_front_tokens.specs.Trees.{class_view, node_class, union_of}
+use Rattle.regress_front_tokens.specs.Words.{code_points_of}
 use Rattle.regress_front_tokens.specs.declared.syntax.Class.{Class, Class-F, fold-roll-Class}
 use Rattle.regress_front_tokens.specs.declared.syntax.Class.TheVariants.{Range, Digits, Spaces, Words, Property, Sequences, Complement, Strings, Union, Intersection, Difference, Nested, rolls-Range, rolls-Digits, rolls-Spaces, rolls-Words, rolls-Property, rolls-Sequences, rolls-Complement, rolls-Strings, rolls-Union, rolls-Intersection, rolls-Difference, rolls-Nested}
 
@@ -18,10 +20,10 @@ class_view-Spaces = ap class_view (sym rolls-Spaces) ∙ fold-roll-Class meaning
 pub class_view-Words : class_view Words ≡ meaning.words
 class_view-Words = ap class_view (sym rolls-Words) ∙ fold-roll-Class meaning.Class node_class Class-F.Words
 
-pub class_view-Property : (key : Vec ℕ) → class_view (Property key) ≡ meaning.property key.items
+pub class_view-Property : (key : String Global) → class_view (Property key) ≡ meaning.property (code_points_of key)
 class_view-Property key = ap class_view (sym (rolls-Property key)) ∙ fold-roll-Class meaning.Class node_class (Class-F.Property key)
 
-pub class_view-Sequences : (key : Vec ℕ) → class_view (Sequences key) ≡ meaning.sequences key.items
+pub class_view-Sequences : (key : String Global) → class_view (Sequences key) ≡ meaning.sequences (code_points_of key)
 class_view-Sequences key = ap class_view (sym (rolls-Sequences key)) ∙ fold-roll-Class meaning.Class node_class (Class-F.Sequences key)
 
 pub class_view-Complement : (contents : Box Class Global) → class_view (Complement contents) ≡ meaning.complement (class_view contents.value)

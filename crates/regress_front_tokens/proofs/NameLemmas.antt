@@ -1,17 +1,19 @@
 -- How a group's name is read, one code point after another, and what a property's key is read from.
-use Rattle.std.proofs.Common.{◌≡◌, ℕ, zero, suc, ◌<◌, ◌≤◌, ◌==◌, ◌&&◌, not, Bool, true, false, nat_lt, ◌+◌, cond, List, [], ◌∷◌, ◌++◌, length, take, drop, get_or, Option, Some, None, refl, ap, ◌∙◌, arith, append_assoc, append-nil, lit<, subst}
+use Rattle.std.proofs.Common.{◌≡◌, ℕ, zero, suc, ◌<◌, ◌≤◌, ◌==◌, ◌&&◌, ◌||◌, ◌⊎◌, inl, inr, not, Bool, true, false, nat_lt, ◌+◌, cond, List, [], ◌∷◌, ◌++◌, length, take, drop, get_or, Option, Some, None, refl, sym, ap, ◌∙◌, arith, append_assoc, append-nil, lit<, subst}
 use Rattle.std.specs.Prelude.{if◌then◌else◌, option_map, option_and_then}
-use Rattle.std.proofs.lemmas.Bool.{and_parts, false_from_ne_true}
-use Rattle.std.proofs.lemmas.List.Elements.{filter_more}
-use Rattle.regress_meaning.specs.Text.{is_at, span}
+use Rattle.std.proofs.lemmas.Bool.{and_parts, or_cases}
+use Rattle.std.proofs.lemmas.List.Elements.{filter_more, filter-append}
+use Rattle.regress_meaning.specs.Text.{◌∈◌, is_at, span}
 use Rattle.regress_meaning.specs.Table.{Table}
+use Rattle.regress_meaning.specs.TableParts.{TableParts, IsLawful, IntervalsRise, in_intervals, is_surrogate, table_of}
+use Rattle.regress_front_sets.proofs.IntervalLemmas.{in_intervals-bounded}
 use Rattle.regress_meaning.specs.Class.{is_ascii_word}
 use Rattle.regress_meaning.specs.Tokens.{Mode, guard, begins_name, continues_name, unicode_escape, name_point, name_rest, name_at, key_at}
 use Rattle.std.specs.List.{list_all}
-use lib.Utf8.{scalar, low_scalar}
+use lib.Utf8.{scalar, low_scalar, encode}
 use Rattle.std.specs.Char.{IsScalar}
-use Rattle.std.specs.Str.{IsAscii}
-use Rattle.std.proofs.lemmas.Str.{IsAscii-append}
+use Rattle.std.specs.Str.{IsAscii, IsUtf8, chars}
+use Rattle.std.proofs.lemmas.Str.{IsAscii-append, IsUtf8-encode, chars-append, chars-nil, chars_past_char}
 use Rattle.std.proofs.lemmas.Bool.Decides.{nat_tests}
 use Rattle.regress_front_tokens.proofs.ModeLemmas.{any_mode}
 use Rattle.regress_front_tokens.proofs.SpanLemmas.{span-passes}
@@ -151,14 +153,9 @@ pub characters-ascii : (cs : List ℕ) → IsAscii cs → characters_of cs ≡ c
 characters-ascii [] h = refl
 characters-ascii (c ∷ cs) h = rw (low_scalar c (omega (arith, h 0))) (ap (λ t. c ∷ t) (characters-ascii cs (λ i. h (suc i))))
 
--- one code point more, which is a character
-pub characters-more : (cs : List ℕ) (k d : ℕ) → k < length cs → IsScalar (get_or cs k d) → characters_of (take (k + 1) cs) ≡ characters_of (take k cs) ++ get_or cs k d ∷ []
-characters-more cs k d inside h = filter_more scalar cs k d inside ∙ ap (λ b. characters_of (take k cs) ++ cond b (get_or cs k d ∷ []) []) h
-
--- one code point more, which is none
-pub characters-no_more : (cs : List ℕ) (k d : ℕ) → k < length cs → (IsScalar (get_or cs k d) → ⊥) → characters_of (take (k + 1) cs) ≡ characters_of (take k cs)
-characters-no_more cs k d inside h =
-    filter_more scalar cs k d inside ∙ ap (λ b. characters_of (take k cs) ++ cond b (get_or cs k d ∷ []) []) (false_from_ne_true _ h) ∙ append-nil _
+-- one code point more
+pub characters-next : (cs : List ℕ) (k d : ℕ) → k < length cs → characters_of (take (k + 1) cs) ≡ characters_of (take k cs) ++ characters_of (get_or cs k d ∷ [])
+characters-next cs k d inside = filter_more scalar cs k d inside
 
 -- what is found behind a test
 guarded : {A : Type 0} {x : A} (b : Bool) (o : Option A) → guard b o ≡ Some x → o ≡ Some x
@@ -189,3 +186,57 @@ key-ascii (c ∷ t) {p = p} e = by_end (is_at (λ d. d == 0x7D) name.1) (guarded
     by_end : (b : Bool) → (if b then Some (name.0, drop 1 name.1) else guard (is_at (λ d. d == 0x3D) name.1 && nat_lt 0 (length value.0) && is_at (λ d. d == 0x7D) value.1) (Some (name.0 ++ 0x3D ∷ value.0, drop 1 value.1))) ≡ Some p → IsAscii p.0
     by_end true h = the_ascii name.0 (drop 1 name.1) names h
     by_end false h = the_ascii (name.0 ++ 0x3D ∷ value.0) (drop 1 value.1) (IsAscii-append name.0 (0x3D ∷ value.0) names values) (guarded _ _ h)
+
+-- what a lawful table lets stand in an identifier is a scalar value
+identifier-scalar : (intervals : List (ℕ × ℕ)) (c : ℕ) → IntervalsRise intervals → in_intervals intervals c ≡ true → is_surrogate c ≡ false → scalar c ≡ true
+identifier-scalar intervals c rise held none = let within = in_intervals-bounded intervals c rise held in grind (arith, nat_tests)
+
+-- and so is each code point of a name
+continues-scalar : (parts : TableParts) → IsLawful parts → (c : ℕ) → continues_name (table_of parts) c ≡ true → scalar c ≡ true
+continues-scalar parts lawful c h = by_last (or_cases (begins || continues || c == 0x200C) (c == 0x200D) h)
+  where
+    table : Table
+    table = table_of parts
+
+    begins : Bool
+    begins = begins_name table c
+
+    continues : Bool
+    continues = table.is_id_continue c
+
+    by_start : ((c ∈ "$_") ≡ true) ⊎ (table.is_id_start c ≡ true) → scalar c ≡ true
+    by_start (inl k) = grind (arith, nat_tests)
+    by_start (inr k) = identifier-scalar parts.id_start c lawful.canonical.0 k ((lawful.identifier c).0 k).1
+
+    by_first : (begins ≡ true) ⊎ (continues ≡ true) → scalar c ≡ true
+    by_first (inl k) = by_start (or_cases (c ∈ "$_") (table.is_id_start c) k)
+    by_first (inr k) = identifier-scalar parts.id_continue c lawful.canonical.1 k ((lawful.identifier c).1 k).1
+
+    by_joiner : ((begins || continues) ≡ true) ⊎ ((c == 0x200C) ≡ true) → scalar c ≡ true
+    by_joiner (inl k) = by_first (or_cases begins continues k)
+    by_joiner (inr k) = grind (arith, nat_tests)
+
+    by_last : ((begins || continues || c == 0x200C) ≡ true) ⊎ ((c == 0x200D) ≡ true) → scalar c ≡ true
+    by_last (inl k) = by_joiner (or_cases (begins || continues) (c == 0x200C) k)
+    by_last (inr k) = grind (arith, nat_tests)
+
+-- a name goes on with a character
+pub name_pushed : (parts : TableParts) → IsLawful parts → (old new : List ℕ) (c : ℕ) → new ≡ old ++ characters_of (c ∷ []) → continues_name (table_of parts) c ≡ true
+    → new ≡ old ++ (c ∷ [])
+name_pushed parts lawful old new c e goes = e ∙ ap (λ b. old ++ cond b (c ∷ []) []) (continues-scalar parts lawful c goes)
+
+-- one character more of a text
+pub code_points-push : (text : List ℕ) (c : ℕ) → IsUtf8 text → IsScalar c → chars (text ++ encode c) ≡ chars text ++ (c ∷ [])
+code_points-push text c valid is_scalar =
+    chars-append text (encode c) valid
+    ∙ ap (λ (t : List ℕ). chars text ++ t) (chars_past_char _ [] c (IsUtf8-encode c is_scalar) (sym (append-nil _)) ∙ ap (λ (t : List ℕ). c ∷ t) chars-nil)
+
+-- a key as a text
+pub key-text : (t key : List ℕ) {p : List ℕ × List ℕ} → key_at t ≡ Some p → key ≡ characters_of p.0 → key_at t ≡ Some (key, p.1)
+key-text t key {p = p} e made = e ∙ ap (λ (k : List ℕ). Some (k, p.1)) (sym (made ∙ characters-ascii p.0 (key-ascii t e)))
+
+-- the characters of a name and a value, put together
+pub key-parts : (name value a b c : List ℕ) → a ≡ characters_of name → b ≡ a ++ (0x3D ∷ []) → c ≡ b ++ characters_of value → c ≡ characters_of (name ++ (0x3D ∷ value))
+key-parts name value a b c e f g =
+    g ∙ ap (λ (t : List ℕ). t ++ characters_of value) (f ∙ ap (λ (t : List ℕ). t ++ (0x3D ∷ [])) e)
+    ∙ append_assoc (characters_of name) (0x3D ∷ []) (characters_of value) ∙ sym (filter-append scalar name (0x3D ∷ value))

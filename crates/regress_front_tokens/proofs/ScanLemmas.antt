@@ -1,5 +1,5 @@
 -- The scan for groups, one step after another.
-use Rattle.std.proofs.Common.{◌≡◌, ℕ, zero, suc, ◌+◌, ◌-◌, ◌≤◌, ◌==◌, not, Bool, true, false, List, [], ◌∷◌, ◌++◌, length, drop, map, Option, Some, None, refl, sym, ap, subst, ◌∙◌, arith, append_assoc, eq-eqb}
+use Rattle.std.proofs.Common.{◌≡◌, ℕ, zero, suc, ◌+◌, ◌-◌, ◌≤◌, ◌==◌, not, Bool, true, false, List, [], ◌∷◌, ◌++◌, length, drop, map, Option, Some, None, String, Global, refl, sym, ap, subst, ◌∙◌, arith, append_assoc, eq-eqb}
 use Rattle.std.specs.Prelude.{if◌then◌else◌, option_map, unwrap_or}
 use Rattle.std.specs.Global.{Vec}
 use Rattle.std.proofs.lemmas.List.{map_push}
@@ -11,6 +11,7 @@ use Rattle.regress_meaning.specs.Grammar.{opens_name, holds_a_name}
 use Rattle.regress_meaning.specs.Scan.{opened_groups, group_names}
 use Rattle.regress_meaning.proofs.ScanWords.{Behind, here, past, behind_trans, name-ends}
 use Rattle.regress_front_tokens.specs.Escapes.{texts}
+use Rattle.regress_front_tokens.specs.Words.{code_points_of}
 
 -- whether a scan stands in a class behind c
 abbrev pub class_behind : Bool → ℕ → Bool
@@ -123,7 +124,7 @@ opened-shorter table named c t r names e =
     omega (arith, behind.whole)
 
 -- The names found so far, with those from t on, are all of them.
-module _ (table : Table) (named : Bool) (all : List (List ℕ)) (old : Vec (Vec ℕ)) (c : ℕ) (t r : List ℕ) (next : t ≡ c ∷ r) where
+module _ (table : Table) (named : Bool) (all : List (List ℕ)) (old : Vec (String Global)) (c : ℕ) (t r : List ℕ) (next : t ≡ c ∷ r) where
   pub found-in_class : all ≡ texts old ++ group_names table named true 0 t → all ≡ texts old ++ group_names table named (class_behind true c) 0 (skipped c r)
   found-in_class h = h ∙ ap (λ (found : List (List ℕ)). texts old ++ found) (ap (group_names table named true 0) next ∙ names-in_class table named c r)
 
@@ -131,8 +132,8 @@ module _ (table : Table) (named : Bool) (all : List (List ℕ)) (old : Vec (Vec 
     pub found-nothing : all ≡ texts old ++ group_names table named false 0 t → opened_groups table named c r ≡ ([], u) → all ≡ texts old ++ group_names table named (class_behind false c) 0 u
     found-nothing h e = h ∙ ap (λ (found : List (List ℕ)). texts old ++ found) (ap (group_names table named false 0) next ∙ names-outside table named c r u [] e)
 
-    pub found-name : (new : Vec (Vec ℕ)) (name : Vec ℕ) → all ≡ texts old ++ group_names table named false 0 t → opened_groups table named c r ≡ (name.items ∷ [], u) → new.items ≡ old.items ++ (name ∷ []) →
+    pub found-name : (new : Vec (String Global)) (name : String Global) → all ≡ texts old ++ group_names table named false 0 t → opened_groups table named c r ≡ (code_points_of name ∷ [], u) → new.items ≡ old.items ++ (name ∷ []) →
         all ≡ texts new ++ group_names table named (class_behind false c) 0 u
     found-name new name h e pushed =
-        h ∙ ap (λ (found : List (List ℕ)). texts old ++ found) (ap (group_names table named false 0) next ∙ names-outside table named c r u (name.items ∷ []) e)
-        ∙ sym (ap (λ (ns : List (Vec ℕ)). map (λ n. n.items) ns ++ group_names table named (class_behind false c) 0 u) pushed ∙ rw (map_push, append_assoc) refl)
+        h ∙ ap (λ (found : List (List ℕ)). texts old ++ found) (ap (group_names table named false 0) next ∙ names-outside table named c r u (code_points_of name ∷ []) e)
+        ∙ sym (ap (λ (ns : List (String Global)). map code_points_of ns ++ group_names table named (class_behind false c) 0 u) pushed ∙ rw (map_push, append_assoc) refl)

@@ -1,8 +1,9 @@
 -- The equations of `tree`, one for each variant.
-use Rattle.std.proofs.Common.{◌≡◌, ℕ, Bool, map, Vec, Box, Global, sym, ap, ◌∙◌}
+use Rattle.std.proofs.Common.{◌≡◌, ℕ, Bool, map, Vec, Box, Global, String, Option, option_map, sym, ap, ◌∙◌}
 use Rattle.std.specs.declared.ops.Range.{Range}
-use Rattle.regress_meaning.specs.Pattern.{Pattern, character, any, class, class_escape, grouped, modified, repeated, look, line_start, line_end, word_boundary}
-use Rattle.regress_front_tokens.specs.Trees.{tree, class_view, settings, capture_of, node_tree, sequence_of, choice_of}
+use Rattle.regress_meaning.specs.Pattern.{Pattern, character, any, class, class_escape, capture, grouped, modified, repeated, look, line_start, line_end, word_boundary}
+use Rattle.regress_front_tokens.specs.Trees.{tree, class_view, settings, node_tree, sequence_of, choice_of}
+use Rattle.regress_front_tokens.specs.Words.{code_points_of}
 use Rattle.regress_front_core.specs.Quantifiers.{most}
 use Rattle.regress_front_tokens.specs.declared.syntax.Class.{Class as ClassValue}
 use Rattle.regress_front_core.specs.declared.quantifier.Quantifier.{Quantifier}
@@ -28,7 +29,7 @@ tree-Alternative terms = ap tree (sym (rolls-Alternative terms)) ∙ fold-roll-S
 pub tree-Disjunction : (arms : Vec Syntax Global) → tree (Disjunction arms) ≡ choice_of (map tree arms.items)
 tree-Disjunction arms = ap tree (sym (rolls-Disjunction arms)) ∙ fold-roll-Syntax Pattern node_tree (Syntax-F.Disjunction arms)
 
-pub tree-Capture : (k : ℕ) (name : Vec ℕ Global) (contents : Box Syntax Global) → tree (Capture k name contents) ≡ capture_of k name.items (tree contents.value)
+pub tree-Capture : (k : ℕ) (name : Option (String Global)) (contents : Box Syntax Global) → tree (Capture k name contents) ≡ capture k (option_map code_points_of name) (tree contents.value)
 tree-Capture k name contents = ap tree (sym (rolls-Capture k name contents)) ∙ fold-roll-Syntax Pattern node_tree (Syntax-F.Capture k name contents)
 
 pub tree-Group : (contents : Box Syntax Global) → tree (Group contents) ≡ grouped (tree contents.value)

@@ -1,6 +1,8 @@
 -- What the parser's values of modes and escapes stand for.
 use Rattle.std.specs.Prelude.{◌≤◌, ℕ, not, ◌&&◌, ◌==◌, List, [], ◌∷◌, Option, None, length, map, drop, option_map, option_to_list}
 use Rattle.std.specs.Global.{Vec}
+use Rattle.std.specs.declared.alloc.Global.{Global}
+use Rattle.std.specs.declared.string.String.{String}
 use Rattle.regress_meaning.specs.Text.{is_at}
 use Rattle.regress_meaning.specs.Class.{is_ascii_word}
 use Rattle.regress_meaning.specs.Tokens as meaning
@@ -9,14 +11,15 @@ use Rattle.regress_front_tokens.specs.declared.mode.Mode.{Mode}
 use Rattle.regress_front_tokens.specs.declared.escape.Escape.{Escape}
 use Rattle.regress_front_tokens.specs.declared.escape.Escape.TheVariants.{Point, Set, Groups}
 use Rattle.regress_front_tokens.specs.Trees.{class_view}
+use Rattle.regress_front_tokens.specs.Words.{code_points_of}
 
--- the texts that names hold
-abbrev pub texts : Vec (Vec ℕ) → List (List ℕ)
-texts names = map (λ name. name.items) names.items
+-- the code points of names
+abbrev pub texts : Vec (String Global) → List (List ℕ)
+texts names = map code_points_of names.items
 
 -- the name of a group that was opened, if one was
-abbrev pub opened : Option (Vec ℕ) → List (List ℕ)
-opened name = option_to_list (option_map (λ n. n.items) name)
+abbrev pub opened : Option (String Global) → List (List ℕ)
+opened name = option_to_list (option_map code_points_of name)
 
 -- what a mode stands for
 abbrev pub mode_view : Mode → meaning.Mode

@@ -1,8 +1,9 @@
 -- The trees that the values of the parser stand for.
-use Rattle.std.specs.Prelude.{ℕ, List, [], ◌∷◌, None, Some, map, fold}
+use Rattle.std.specs.Prelude.{List, [], ◌∷◌, map, fold, option_map}
 use Rattle.regress_front_core.specs.Quantifiers.{most}
 use Rattle.regress_meaning.specs.Class as meaning
 use Rattle.regress_meaning.specs.Pattern.{Pattern, Settings, nothing, character, any, class, class_escape, sequence, choice, capture, grouped, modified, repeated, look, reference, line_start, line_end, word_boundary}
+use Rattle.regress_front_tokens.specs.Words.{code_points_of}
 use Rattle.regress_front_tokens.specs.declared.syntax.Modifiers.{Modifiers}
 use Rattle.regress_front_tokens.specs.declared.syntax.Class.{Class}
 use Rattle.regress_front_tokens.specs.declared.syntax.Class.TheOpen.{Class-F}
@@ -22,8 +23,8 @@ node_class (Class-F.Range first last) = meaning.range first last
 node_class Class-F.Digits = meaning.digits
 node_class Class-F.Spaces = meaning.spaces
 node_class Class-F.Words = meaning.words
-node_class (Class-F.Property key) = meaning.property key.items
-node_class (Class-F.Sequences key) = meaning.sequences key.items
+node_class (Class-F.Property key) = meaning.property (code_points_of key)
+node_class (Class-F.Sequences key) = meaning.sequences (code_points_of key)
 node_class (Class-F.Strings strings) = meaning.strings (map (λ s. s.items) strings.items)
 node_class (Class-F.Union members) = union_of members.items
 node_class (Class-F.Intersection a others) = fold meaning.intersection a.value others.items
@@ -50,11 +51,6 @@ choice_of [] = nothing
 choice_of (p ∷ []) = p
 choice_of (p ∷ q ∷ ps) = choice p (choice_of (q ∷ ps))
 
--- a capturing group, whose name is empty where it has none
-abbrev pub capture_of : ℕ → List ℕ → Pattern → Pattern
-capture_of k [] p = capture k None p
-capture_of k (c ∷ name) p = capture k (Some (c ∷ name)) p
-
 -- one value, with the tree of each part in its place
 abbrev pub node_tree : Syntax-F Pattern → Pattern
 node_tree (Syntax-F.Character c) = character c
@@ -63,7 +59,7 @@ node_tree (Syntax-F.Class negated c) = class negated (class_view c)
 node_tree (Syntax-F.ClassEscape c) = class_escape (class_view c)
 node_tree (Syntax-F.Alternative terms) = sequence_of terms.items
 node_tree (Syntax-F.Disjunction arms) = choice_of arms.items
-node_tree (Syntax-F.Capture k name contents) = capture_of k name.items contents.value
+node_tree (Syntax-F.Capture k name contents) = capture k (option_map code_points_of name) contents.value
 node_tree (Syntax-F.Group contents) = grouped contents.value
 node_tree (Syntax-F.Modified on off contents) = modified (settings on) (settings off) contents.value
 node_tree (Syntax-F.Loop loopee quant groups) = repeated loopee.value groups.start groups.end quant.min (most quant) quant.greedy

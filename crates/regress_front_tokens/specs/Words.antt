@@ -1,5 +1,8 @@
 -- The words of a pattern, as the parser's values hold them.
-use Rattle.std.specs.Prelude.{ℕ, Bool, false, not, ◌&&◌, ◌||◌, ◌==◌, List, [], ◌∷◌, ◌++◌, Option, Some, None, is_some, min, unwrap_or, option_map, option_and_then, filter, if◌then◌else◌}
+use Rattle.std.specs.Prelude.{ℕ, Bool, false, not, ◌&&◌, ◌||◌, ◌==◌, List, [], ◌∷◌, ◌++◌, Option, Some, None, is_some, min, unwrap_or, option_map, option_and_then, filter, chars, if◌then◌else◌}
+use Rattle.std.specs.String.{string_bytes}
+use Rattle.std.specs.declared.alloc.Global.{Global}
+use Rattle.std.specs.declared.string.String.{String}
 use denote.Ref.{Bor}
 use lib.Utf8.{scalar}
 use Rattle.regress_meaning.specs.Text.{◌∈◌}
@@ -39,6 +42,10 @@ stands_for_itself unicode [] = false
 stands_for_itself unicode (c ∷ t) =
     if unicode then not (c ∈ "^$\\.*+?()[]{}|") else (not (c ∈ "^$\\.*+?()[|{") || (c == 0x7B && not (is_some (bounds_at (c ∷ t)))))
 
--- the characters of a text, without what is none
+-- the code points of a text
+abbrev pub code_points_of : String Global → List ℕ
+code_points_of text = chars (string_bytes text)
+
+-- the characters among code points
 abbrev pub characters_of : List ℕ → List ℕ
 characters_of = filter scalar

@@ -1,13 +1,11 @@
 //! Escapes of a pattern: what stands behind a backslash.
-ghost use Rattle.std.specs.Prelude.{◌≡◌, ℕ, ◌==◌, Bool, true, IfOk, IfErr, option_map, chars};
-ghost use Rattle.std.specs.String.{string_bytes};
+ghost use Rattle.std.specs.Prelude.{◌≡◌, ℕ, ◌==◌, Bool, true, IfOk, IfErr, option_map};
 ghost use Rattle.regress_meaning.specs.Text.{◌∈◌, is_at};
 ghost use Rattle.regress_meaning.specs.Class.{is_digit, is_letter};
 ghost use Rattle.regress_meaning.specs.Tokens.{point, control, class_letter, control_letter, property_at, named_reference, octal_or_digit, decimal_escape, identity, escape_at, class_escape_at};
 ghost use Rattle.regress_front_tokens.specs.Readings.{Tells, IsReading, IsRead};
 ghost use Rattle.regress_front_tokens.specs.Escapes.{class_control, mode_view, escape_view, from_first, HasFewGroups};
 ghost use Rattle.regress_front_tokens.specs.Trees.{class_view};
-ghost use Rattle.regress_front_tokens.specs.Words.{characters_of};
 
 use crate::cursor::{Cursor, is_one_of};
 use crate::mode::{Mode, groups_of_name};
@@ -67,20 +65,6 @@ fn class_letter(alloc: Global, letter: CodePoint) -> Result<Option<Class>, Error
         Some('W') => Class::Complement(Box::new(alloc, Class::Words)?),
         _ => return Ok(None),
     }))
-}
-
-/// The text of a key, for a look-up in tables, without what is no character. `OutOfMemory` is the only error.
-fn key_text(alloc: Global, key: &[CodePoint]) -> Result<String, Error>
-    ensures ok { IfOk result (λ text. chars (string_bytes text) ≡ characters_of key.now) }
-    ensures err { IfErr result (λ e. e ≡ Error.OutOfMemory) }
-{
-    let mut text = String::new(alloc);
-    for point in key {
-        if let Some(letter) = char::from_u32(*point) {
-            text.push(letter)?;
-        }
-    }
-    Ok(text)
 }
 
 impl Cursor<'_> {
@@ -296,15 +280,14 @@ impl Cursor<'_> {
         let is_positive = self.is_at('p');
         self.next();
         let key = self.key(alloc)?;
-        let text = key_text(alloc, &key)?;
-        if mode.tables.property(text.as_str()).is_some() {
+        if mode.tables.property(&key).is_some() {
             let property = Class::Property(key);
             if is_positive {
                 return Ok(property);
             }
             return Ok(Class::Complement(Box::new(alloc, property)?));
         }
-        if is_positive && mode.sets && mode.tables.sequences(text.as_str()).is_some() {
+        if is_positive && mode.sets && mode.tables.sequences(&key).is_some() {
             return Ok(Class::Sequences(key));
         }
         Err(Error::Syntax {

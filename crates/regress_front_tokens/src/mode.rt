@@ -1,10 +1,11 @@
 //! What holds for a whole pattern while it is read.
-ghost use Rattle.std.specs.Prelude.{◌≡◌, ◌≤◌, length, IfOk, IfErr, map};
+ghost use Rattle.std.specs.Prelude.{◌≡◌, ◌≤◌, length, IfOk, IfErr, map, chars};
 ghost use Rattle.regress_meaning.specs.Tokens.{numbers_from, begins_name, continues_name};
 ghost use Rattle.regress_front_tables.specs.TableViews.{table};
+ghost use Rattle.regress_front_tokens.specs.Words.{code_points_of};
 
 use crate::cursor::is_one_of;
-use regress_front_tables::{CodePoint, Error, Tables};
+use regress_front_tables::{CaptureGroupName, CodePoint, Error, Tables};
 use std::alloc::Global;
 
 /// What holds for the whole pattern: how its escapes and classes are read ("Patterns", its grammar parameters).
@@ -18,8 +19,8 @@ pub struct Mode<'t> {
     pub sets: bool,
     /// Unicode mode, or some group has a name.
     pub named: bool,
-    /// The name of each capturing group as code points, empty where it has none.
-    pub names: Vec<Vec<CodePoint>>,
+    /// The name of each capturing group, empty where it has none.
+    pub names: Vec<CaptureGroupName>,
 }
 
 /// Whether a group's name may begin with the code point ("RegExpIdentifierStart").
@@ -41,16 +42,16 @@ pub(crate) fn continues_name(tables: &Tables, point: CodePoint) -> bool
 /// The numbers of the groups that have the name, from 0 ("GroupSpecifiersThatMatch"). `OutOfMemory` is the only error.
 pub(crate) fn groups_of_name(
     alloc: Global,
-    names: &[Vec<CodePoint>],
-    name: &[CodePoint],
+    names: &[CaptureGroupName],
+    name: &str,
 ) -> Result<Vec<u16>, Error>
     requires { length names.now ≤ 65535 }
-    ensures ok { IfOk result (λ groups. groups.items ≡ numbers_from 0 name.now (map (λ n. n.items) names.now)) }
+    ensures ok { IfOk result (λ groups. groups.items ≡ numbers_from 0 (chars name.now) (map code_points_of names.now)) }
     ensures err { IfErr result (λ e. e ≡ Error.OutOfMemory) }
 {
     let mut groups = Vec::new(alloc);
     for (group, other) in names.iter().enumerate() {
-        if name == other.as_slice() {
+        if other.as_str() == name {
             groups.push(group as u16)?;
         }
     }

@@ -1,16 +1,36 @@
 //! Names of groups, and keys of properties.
-ghost use Rattle.std.specs.Prelude.{◌≡◌};
+ghost use Rattle.std.specs.Prelude.{◌≡◌, ◌++◌, [], ◌∷◌, OnOk};
 ghost use Rattle.regress_meaning.specs.Text.{is_at};
 ghost use Rattle.regress_meaning.specs.Tokens.{name_point, name_at, key_at};
 ghost use Rattle.regress_meaning.specs.Class.{is_ascii_word};
 ghost use Rattle.regress_front_tables.specs.TableViews.{table};
 ghost use Rattle.regress_front_tokens.specs.Readings.{IsReading, IsRead, IsTried};
-ghost use Rattle.regress_front_tokens.specs.Words.{key_of};
+ghost use Rattle.regress_front_tokens.specs.Words.{key_of, characters_of, code_points_of};
 
 use crate::cursor::Cursor;
 use crate::mode::{begins_name, continues_name};
-use regress_front_tables::{CodePoint, Error, Tables, is_ascii_word};
-use std::alloc::Global;
+use regress_front_tables::{CaptureGroupName, CodePoint, Error, Tables, is_ascii_word};
+use std::alloc::{AllocError, Global};
+
+/// Adds a code point to a text, if it is a character.
+fn push_point(text: &mut String, point: CodePoint) -> Result<(), AllocError>
+    ensures { OnOk result (code_points_of text.new ≡ code_points_of text.old ++ characters_of (point ∷ [])) }
+{
+    if let Some(letter) = char::from_u32(point) {
+        text.push(letter)?;
+    }
+    Ok(())
+}
+
+/// Adds code points to a text, those that are characters.
+fn push_points(text: &mut String, points: &[CodePoint]) -> Result<(), AllocError>
+    ensures { OnOk result (code_points_of text.new ≡ code_points_of text.old ++ characters_of points.now) }
+{
+    for point in points {
+        push_point(text, *point)?;
+    }
+    Ok(())
+}
 
 impl<'p> Cursor<'p> {
     ghost use Rattle.regress_front_tokens.specs.Cursors.{unread, SameText};
@@ -44,20 +64,20 @@ impl<'p> Cursor<'p> {
         &mut self,
         alloc: Global,
         tables: &Tables,
-    ) -> Result<Option<Vec<CodePoint>>, Error>
-        ensures read { IsTried (λ name. name.items) (name_at (table tables.now)) (unread self.old) result (unread self.new) }
+    ) -> Result<Option<CaptureGroupName>, Error>
+        ensures read { IsTried code_points_of (name_at (table tables.now)) (unread self.old) result (unread self.new) }
         ensures kept { SameText self.old self.new }
     {
         regress_meaning::reading_leaves_less();
         let mut ahead = *self;
-        let mut name = Vec::new(alloc);
+        let mut name = CaptureGroupName::new(alloc);
         match ahead.name_point() {
-            Some(point) if begins_name(tables, point) => name.push(point)?,
+            Some(point) if begins_name(tables, point) => push_point(&mut name, point)?,
             _ => return Ok(None),
         }
         while !ahead.eat('>') {
             match ahead.name_point() {
-                Some(point) if continues_name(tables, point) => name.push(point)?,
+                Some(point) if continues_name(tables, point) => push_point(&mut name, point)?,
                 _ => return Ok(None),
             }
         }
@@ -66,8 +86,8 @@ impl<'p> Cursor<'p> {
     }
 
     /// Behind `<`: a group's name and `>` ("GroupName"). A syntax error where they don't stand here.
-    pub fn name(&mut self, alloc: Global, tables: &Tables) -> Result<Vec<CodePoint>, Error>
-        ensures read { IsRead (λ name. name.items) (name_at (table tables.now)) (unread self.old) result (unread self.new) }
+    pub fn name(&mut self, alloc: Global, tables: &Tables) -> Result<CaptureGroupName, Error>
+        ensures read { IsRead code_points_of (name_at (table tables.now)) (unread self.old) result (unread self.new) }
         ensures kept { SameText self.old self.new }
     {
         self.try_name(alloc, tables)?.ok_or(Error::Syntax {
@@ -105,8 +125,8 @@ impl<'p> Cursor<'p> {
 
     /// Behind `\p`: a property's key, the text between braces: a name, or a name, `=` and a value
     /// ("UnicodePropertyValueExpression"). A syntax error where none stands here.
-    pub(crate) fn key(&mut self, alloc: Global) -> Result<Vec<CodePoint>, Error>
-        ensures read { IsRead (λ key. key.items) key_at (unread self.old) result (unread self.new) }
+    pub(crate) fn key(&mut self, alloc: Global) -> Result<String, Error>
+        ensures read { IsRead code_points_of key_at (unread self.old) result (unread self.new) }
         ensures kept { SameText self.old self.new }
     {
         let Some((name, value)) = self.key_parts() else {
@@ -114,10 +134,11 @@ impl<'p> Cursor<'p> {
                 text: "Invalid property",
             });
         };
-        let mut key = Vec::from_slice(alloc, name)?;
+        let mut key = String::new(alloc);
+        push_points(&mut key, name)?;
         if let Some(value) = value {
-            key.push(CodePoint::from('='))?;
-            key.extend_from_slice(value)?;
+            key.push('=')?;
+            push_points(&mut key, value)?;
         }
         Ok(key)
     }

@@ -8,7 +8,7 @@ ghost use Rattle.regress_front_tokens.specs.Escapes.{mode_view, texts, opened};
 
 use crate::cursor::Cursor;
 use crate::mode::Mode;
-use regress_front_tables::{CodePoint, Error, Flags, Tables};
+use regress_front_tables::{CaptureGroupName, CodePoint, Error, Flags, Tables};
 use std::alloc::Global;
 
 /// Whether a scan stands in a class behind the code point. Brackets inside a class are not paired.
@@ -48,7 +48,7 @@ fn group_names(
     points: &[CodePoint],
     tables: &Tables,
     named: bool,
-) -> Result<Vec<Vec<CodePoint>>, Error>
+) -> Result<Vec<CaptureGroupName>, Error>
     ensures ok { IfOk result (λ names. texts names ≡ group_names (table tables.now) named false 0 points.now) }
     ensures err { IfErr result (λ e. e ≡ Error.OutOfMemory) }
 {
@@ -123,13 +123,13 @@ impl Cursor<'_> {
         &mut self,
         alloc: Global,
         tables: &Tables,
-    ) -> Result<Option<Vec<CodePoint>>, Error>
+    ) -> Result<Option<CaptureGroupName>, Error>
         ensures ok { IfOk result (λ name. opened_groups (table tables.now) false 0x28 (unread self.old) ≡ (opened name, unread self.new)) }
         ensures err { IfErr result (λ e. e ≡ Error.OutOfMemory) }
     {
         let mut ahead = *self;
         if !ahead.eat('?') {
-            return Ok(Some(Vec::new(alloc)));
+            return Ok(Some(CaptureGroupName::new(alloc)));
         }
         if !ahead.eat('<') || ahead.is_at_any("=!") {
             return Ok(None);
@@ -149,7 +149,7 @@ impl Cursor<'_> {
         tables: &Tables,
         named: bool,
         point: CodePoint,
-    ) -> Result<Option<Vec<CodePoint>>, Error>
+    ) -> Result<Option<CaptureGroupName>, Error>
         ensures ok { IfOk result (λ name. opened_groups (table tables.now) named point (unread self.old) ≡ (opened name, unread self.new)) }
         ensures err { IfErr result (λ e. e ≡ Error.OutOfMemory) }
     {

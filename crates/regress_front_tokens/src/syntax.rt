@@ -1,6 +1,6 @@
 //! The syntax tree of a pattern, as the parser makes it.
 
-use regress_front_tables::{CodePoint, Quantifier};
+use regress_front_tables::{CaptureGroupID, CaptureGroupName, CodePoint, Quantifier};
 use std::ops::Range;
 
 /// What modifiers switch on, or off ("RegularExpressionModifiers").
@@ -26,9 +26,9 @@ pub enum Class {
     /// `\w`
     Words,
     /// A property of code points, by its key.
-    Property(Vec<CodePoint>),
+    Property(String),
     /// A property of strings, by its key.
-    Sequences(Vec<CodePoint>),
+    Sequences(String),
     /// `\q{..}`
     Strings(Vec<Vec<CodePoint>>),
     /// Members side by side.
@@ -61,10 +61,10 @@ pub enum Syntax {
     Alternative(Vec<Syntax>),
     /// Alternatives, at least one.
     Disjunction(Vec<Syntax>),
-    /// A capturing group: its number from 0, its name as code points, empty where it has none, and its contents.
+    /// A capturing group: its number from 0, its name, if it has one, and its contents.
     Capture {
-        id: u16,
-        name: Vec<CodePoint>,
+        id: CaptureGroupID,
+        name: Option<CaptureGroupName>,
         contents: Box<Syntax>,
     },
     /// `(?:..)`

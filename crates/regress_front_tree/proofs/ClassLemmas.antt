@@ -76,12 +76,6 @@ pub lists-more : (strings : List (Vec ℕ Global)) (k : ℕ) (s : Vec ℕ Global
 lists-more strings k s inside is =
     ap lists (take_more strings k s inside ∙ ap (λ (s : Vec ℕ Global). take k strings ++ s ∷ []) (sym is)) ∙ map-append (λ (s : Vec ℕ Global). s.items) (take k strings) (s ∷ [])
 
--- one code point that is no scalar value
-pub all_scalars-false : (cs : List ℕ) (k d : ℕ) → k < length cs → (IsScalar (get_or cs k d) → ⊥) → all_scalars cs ≡ false
-all_scalars-false [] k d inside h = absurd (omega arith)
-all_scalars-false (c ∷ cs) zero d inside h = and_left _ _ (false_from_ne_true _ h)
-all_scalars-false (c ∷ cs) (suc k) d inside h = and_right _ _ (all_scalars-false cs k d (omega arith) h)
-
 -- a test of strings, and the same of them as lists
 pub among-lists : (strings : List (Vec ℕ Global)) (s : List ℕ) → list_any (λ (t : Vec ℕ Global). same_text s t.items) strings ≡ among (lists strings) s
 among-lists [] s = refl
@@ -112,16 +106,6 @@ string-points strings k s points inside is =
     subst (All is_code_point) at (All-get_or (All is_code_point) (lists strings) k [] (omega (arith, length-map strings (λ (s : Vec ℕ Global). s.items))) points)
 
 -- ---- keys
-
--- what is no text is no key
-pub entry-no_text : {Z A B : Type 0} (shown : A → B) (es : List (String Z × A)) (key : List ℕ) → all_scalars key ≡ false → entry key (map (entry_of shown) es) ≡ None
-unfolding entry
-entry-no_text shown [] key h = refl
-entry-no_text shown (e ∷ es) key h =
-    let other : same_text key (chars (string_bytes e.0)) ≡ false = false_from_ne_true _ (λ same.
-    let is : key ≡ chars (string_bytes e.0) = (bytes_decides key (chars (string_bytes e.0))).0 same in
-    both_ways (all_scalars key) h (ap all_scalars is ∙ scalars-chars (string_bytes e.0) (IsUtf8-string_bytes e.0))) in
-    cond-false _ _ _ other ∙ entry-no_text shown es key h
 
 -- what holds of each entry holds of the one under a key
 pub entry-all : {A : Type 0} (P : A → Type 0) (es : List (List ℕ × A)) (key : List ℕ) (x : A) → All (λ e. P e.1) es → entry key es ≡ Some x → P x

@@ -1,5 +1,5 @@
 -- Which groups and names a tree has, and how many loops: of parts side by side, and of what has no groups.
-use Rattle.std.specs.Prelude.{if◌then◌else◌, count_by, cond}
+use Rattle.std.specs.Prelude.{if◌then◌else◌, count_by, cond, IfSome, ◌≢◌}
 use Rattle.std.proofs.Common.{◌≡◌, ℕ, zero, suc, ◌+◌, ◌-◌, ◌<◌, ◌≤◌, Bool, true, false, ◌==◌, List, [], ◌∷◌, ◌++◌, length, Option, None, unwrap_or, map, reverse, slice_get, All, refl, sym, ap, ap₂, ◌∙◌, ◌⊎◌, inl, inr, arith}
 use Rattle.std.specs.Option.{option_or}
 use Rattle.std.proofs.lemmas.Bool.{cases_lt}
@@ -183,11 +183,11 @@ back-leaves {n = n} icase (j ∷ js) h =
 
 -- a group
 
-pub capture-fits : {n k j count : ℕ} {numbers : List ℕ} {names : List (List ℕ)} {t : Tree} (name : Option (List ℕ)) → j ≡ k
+pub capture-fits : {n k j count : ℕ} {numbers : List ℕ} {names : List (List ℕ)} {t : Tree} (name : Option (List ℕ)) → IfSome name (λ text. text ≢ []) → j ≡ k
     → Fits n (suc k) numbers names count t → Fits n k (j ∷ numbers) (unwrap_or name [] ∷ names) count (capture j name t)
-capture-fits {k = k} {j = j} {numbers = numbers} {names = names} {t = t} name e a = record {
+capture-fits {k = k} {j = j} {numbers = numbers} {names = names} {t = t} name full e a = record {
   ids = λ i. count-cons i j (group_ids t) ∙ ap (λ x. cond (j == i) 1 0 + x) (a.ids i) ∙ sym (count-cons i j numbers);
-  lawful = a.lawful;
+  lawful = (full, a.lawful);
   no_goal = a.no_goal;
   looped = a.looped;
   named = by_place;

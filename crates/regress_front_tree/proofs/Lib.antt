@@ -8,7 +8,6 @@ pub mod GroupLemmas
 pub mod NumberLemmas
 pub mod LoweredLemmas
 pub mod LoweredAlike
-pub mod NameTexts
 pub mod ArmLemmas
 pub mod LowerableLemmas
 pub mod LoweringLemmas

@@ -123,7 +123,7 @@ module _ (w : Context) (valid : All is_code_point w.text) (stays : Stays w valid
     lowered-alike {b} {e} (of_class_escape {c = c} {t = t} h) s inside = class-outcomes (direction b) e c t h s inside
     lowered-alike {b} {e} (of_terms {ps = ps} {ts = ts} h) s inside = terms-alike w valid stays b e ps ts (all-alike h) s inside
     lowered-alike {b} {e} (of_arms {ps = ps} {ts = ts} {t = t} h arms) s inside = arms-alike w valid (direction b) e ps ts t (all-alike h) arms s inside
-    lowered-alike {b} {e} (of_capture {j = j} {p = p} {t = t} h) s inside = changed-alike (captured j s.place) (node_outcomes w t (direction b) s) (outcomes w p (direction b) e s) (lowered-alike h s inside)
+    lowered-alike {b} {e} (of_capture {j = j} {p = p} {t = t} full h) s inside = changed-alike (captured j s.place) (node_outcomes w t (direction b) s) (outcomes w p (direction b) e s) (lowered-alike h s inside)
     lowered-alike (of_group h) s inside = lowered-alike h s inside
     lowered-alike (of_modified h) s inside = lowered-alike h s inside
     lowered-alike {b} {e} (of_repeated {first = first} {last = last} {least = least} {most = most} {greedy = greedy} {p = p} {t = t} h) s inside =

@@ -106,8 +106,8 @@ module _ (table : Table) (unicode : Bool) where
     counted (of_arms {ps = ps} h a) few =
         let e = ap length (choice-names ps) in
         omega (arith, few, e, all-counted h (omega (arith, few, e)))
-    counted (of_capture {name = None} h) few = omega (arith, few, counted h (omega (arith, few)))
-    counted (of_capture {name = Some name} h) few = omega (arith, few, counted h (omega (arith, few)))
+    counted (of_capture {name = None} full h) few = omega (arith, few, counted h (omega (arith, few)))
+    counted (of_capture {name = Some name} full h) few = omega (arith, few, counted h (omega (arith, few)))
     counted (of_group h) few = counted h few
     counted (of_modified h) few = counted h few
     counted (of_repeated h) few = counted h few
@@ -152,12 +152,12 @@ module _ (table : Table) (unicode : Bool) where
         let names = subst (λ ns. Fits n k (group_numbers arms) ns (quantifiers terms) (cat_of ts)) (choice-names ps) numbers in
         let loops = subst (λ c. Fits n k (group_numbers arms) (names_of arms) c (cat_of ts)) (choice-quantifiers ps) names in
         same-fits (same-arms a) loops
-    fits {n = n} {k = k} (of_capture {j = j} {name = None} {p = p} {t = t} h) m =
+    fits {n = n} {k = k} (of_capture {j = j} {name = None} {p = p} {t = t} full h) m =
         let (first, opened, inner) = capture-numbered j None p m in
-        capture-fits None first (subst (λ i. FitsPart n i p t) opened (fits h inner))
-    fits {n = n} {k = k} (of_capture {j = j} {name = Some name} {p = p} {t = t} h) m =
+        capture-fits None full first (subst (λ i. FitsPart n i p t) opened (fits h inner))
+    fits {n = n} {k = k} (of_capture {j = j} {name = Some name} {p = p} {t = t} full h) m =
         let (first, opened, inner) = capture-numbered j (Some name) p m in
-        capture-fits (Some name) first (subst (λ i. FitsPart n i p t) opened (fits h inner))
+        capture-fits (Some name) full first (subst (λ i. FitsPart n i p t) opened (fits h inner))
     fits (of_group h) m = fits h (record { in_order = m.in_order; fitting = m.fitting; few = m.few })
     fits (of_modified h) m = fits h (record { in_order = m.in_order; fitting = m.fitting; few = m.few })
     fits (of_repeated {first = first} {last = last} {t = t} h) m =
@@ -229,7 +229,7 @@ module _ (table : Table) (unicode : Bool) where
       sized (of_arms {ps = p ∷ ps} {ts = ts} h a) plain =
           let rest = all-sized h (choice-plain (p ∷ ps) plain) in
           omega (arith, arms-size a, choice-weight p ps, rest.0, rest.1)
-      sized (of_capture h) plain = omega (arith, sized h plain)
+      sized (of_capture full h) plain = omega (arith, sized h plain)
       sized (of_group h) plain = sized h plain
       sized (of_modified h) plain = sized h plain
       sized (of_repeated h) plain = omega (arith, sized h plain)

@@ -1,7 +1,5 @@
 -- How patterns are lowered one after another, and what takes one character.
-use Rattle.std.proofs.Common.{◌≡◌, ℕ, suc, ◌+◌, ◌<◌, Bool, true, false, not, ◌||◌, ◌==◌, List, [], ◌∷◌, ◌++◌, length, get_or, map, take, Option, None, Some, option_map, MatchOption, String, Global, chars, string_bytes, refl, sym, ap, ◌∙◌}
-use Rattle.std.specs.Str.{all_scalars}
-use Rattle.std.proofs.lemmas.Bool.{false≢true}
+use Rattle.std.proofs.Common.{◌≡◌, ℕ, suc, ◌+◌, ◌<◌, Bool, true, false, not, ◌||◌, ◌==◌, List, [], ◌∷◌, ◌++◌, length, get_or, map, take, refl, sym, ap, ◌∙◌}
 use Rattle.std.proofs.lemmas.List.{take_more, map_push, length-map}
 use Rattle.regress_meaning.specs.Table.{Table}
 use Rattle.regress_meaning.specs.Pattern.{Pattern, Settings, nothing, modified}
@@ -15,7 +13,7 @@ use Rattle.regress_front_tree.specs.declared.lowering.Scope.{Scope}
 use Rattle.regress_front_nodes.specs.Trees.{Tree, tree, empty, any, any_in_line}
 use Rattle.regress_front_nodes.specs.Characters.{Takes}
 use Rattle.regress_front_tree.specs.Lowering.{Lowers, LowersAll, no_pattern, and_next, of_terms, of_modified}
-use Rattle.regress_front_tree.specs.Scopes.{settings_of, name_told, LowersInScope, LowersAllInScope, IsSamePattern}
+use Rattle.regress_front_tree.specs.Scopes.{settings_of, LowersInScope, LowersAllInScope, IsSamePattern}
 
 -- one more pattern at the end
 pub LowersAll-more : (table : Table) (unicode b : Bool) (e : Settings) (k l n : ℕ) (ps : List Pattern) (ts : List Tree) (p : Pattern) (t : Tree)
@@ -69,10 +67,3 @@ pub LowersInScope-modified : (old new : Lowering) (s inside : Scope) (on off : S
     → settings_of inside ≡ with on off (settings_of s) → inside.backward ≡ s.backward
     → LowersInScope old inside p t new → LowersInScope old s (modified on off p) t new
 LowersInScope-modified old new s inside on off p t e b h = of_modified (rw (e, b) at h)
-
--- a name that isn't empty, and its text
-pub name_told-text : (name : List ℕ) (text : Option (String Global)) → all_scalars name ≡ true → (length name == 0) ≡ false
-    → MatchOption text (all_scalars name ≡ false) (λ t. chars (string_bytes t) ≡ name) → option_map (λ t. chars (string_bytes t)) text ≡ name_told name
-name_told-text [] text scalars some h = absurd cc
-name_told-text (c ∷ name) None scalars some h = absurd (false≢true (sym h ∙ scalars))
-name_told-text (c ∷ name) (Some t) scalars some h = ap Some h

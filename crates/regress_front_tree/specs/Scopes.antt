@@ -1,8 +1,8 @@
 -- Where a part of a pattern stands when it is lowered, and what is asked of it.
-use Rattle.std.specs.Prelude.{◌≡◌, ℕ, true, List, [], ◌∷◌, Option, None, Some, All}
-use Rattle.std.specs.Str.{all_scalars}
-use Rattle.regress_meaning.specs.Pattern.{Pattern, Settings, names_of}
+use Rattle.std.specs.Prelude.{◌≡◌, List}
+use Rattle.regress_meaning.specs.Pattern.{Pattern, Settings}
 use Rattle.regress_meaning.specs.Points.{IsOfPoints}
+use Rattle.regress_meaning.specs.Named.{HoldsNoEmptyName}
 use Rattle.regress_front_tables.specs.TableViews.{table}
 use Rattle.regress_front_tree.specs.declared.lowering.Lowering.{Lowering}
 use Rattle.regress_front_tree.specs.declared.lowering.Scope.{Scope}
@@ -13,15 +13,10 @@ use Rattle.regress_front_tree.specs.Lowering.{Lowers, LowersAll}
 abbrev pub settings_of : Scope → Settings
 settings_of s = record { icase = s.icase; multiline = s.multiline; dot_all = s.dot_all }
 
--- The tree is of code points, and its names are texts.
+-- The tree is of code points, and no name in it is empty.
 pub record IsLowerable (p : Pattern) : Type 0 where
   pub points : IsOfPoints p
-  pub names : All (λ name. all_scalars name ≡ true) (names_of p)
-
--- a group's name, where it has one
-abbrev pub name_told : List ℕ → Option (List ℕ)
-name_told [] = None
-name_told (c ∷ name) = Some (c ∷ name)
+  pub names : HoldsNoEmptyName p
 
 -- In the scope the pattern is lowered to the tree, and its groups are counted: from the one state to the other.
 abbrev pub LowersInScope : Lowering → Scope → Pattern → Tree → Lowering → Type 0

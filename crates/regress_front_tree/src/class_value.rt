@@ -1,5 +1,5 @@
 //! What a class stands for: a set of code points, and strings of other lengths.
-ghost use Rattle.std.specs.Prelude.{◌≡◌, ◌≤◌, ℕ, false, [], ◌==◌, ◌&&◌, ◌||◌, not, length, map, fold, All, unwrap_or, IfOk, IfErr, OnOk};
+ghost use Rattle.std.specs.Prelude.{◌≡◌, ◌≤◌, ℕ, false, [], ◌==◌, ◌&&◌, ◌||◌, not, length, map, fold, chars, All, unwrap_or, IfOk, IfErr, OnOk};
 ghost use Rattle.regress_meaning.specs.TableParts.{is_code_point, in_intervals, IntervalsRise};
 ghost use Rattle.regress_meaning.specs.Class as meaning;
 ghost use Rattle.regress_meaning.specs.Class.{Strings, intersection, difference, only, of_list, among, complement_of, is_word, value_of};
@@ -9,7 +9,6 @@ ghost use Rattle.regress_front_sets.specs.Sets.{in_set, intervals_of};
 ghost use Rattle.regress_front_tables.specs.TableViews.{table};
 ghost use Rattle.regress_front_tokens.specs.Trees.{class_view, union_of};
 
-use crate::text::text_of;
 use regress_front_syntax::Class;
 use regress_front_tables::{
     CodePoint, CodePointSet, Error, Interval, Tables, add_icase_code_points, digits, whitespace,
@@ -148,29 +147,25 @@ fn word_set(alloc: Global, tables: &Tables, folded: bool) -> Result<CodePointSet
 }
 
 /// The code points with a property; none where no property has that key. `OutOfMemory` is the only error.
-fn property_set(alloc: Global, tables: &Tables, key: &[CodePoint]) -> Result<CodePointSet, Error>
-    ensures ok { IfOk result (λ s. in_set s ≡ unwrap_or ((table tables.now).property key.now) (λ c. false)) }
+fn property_set(alloc: Global, tables: &Tables, key: &str) -> Result<CodePointSet, Error>
+    ensures ok { IfOk result (λ s. in_set s ≡ unwrap_or ((table tables.now).property (chars key.now)) (λ c. false)) }
     ensures err { IfErr result (λ e. e ≡ Error.OutOfMemory) }
 {
-    if let Some(text) = text_of(alloc, key)? {
-        if let Some(set) = tables.property(text.as_str()) {
-            return Ok(set_of(alloc, set.intervals())?);
-        }
+    match tables.property(key) {
+        Some(set) => Ok(set_of(alloc, set.intervals())?),
+        None => Ok(CodePointSet::new(alloc)),
     }
-    Ok(CodePointSet::new(alloc))
 }
 
 /// The strings with a property; none where no property has that key. `OutOfMemory` is the only error.
-fn sequence_value(alloc: Global, tables: &Tables, key: &[CodePoint]) -> Result<ClassValue, Error>
-    ensures ok { IfOk result (λ value. strings_of value ≡ of_list (unwrap_or ((table tables.now).sequences key.now) [])) }
+fn sequence_value(alloc: Global, tables: &Tables, key: &str) -> Result<ClassValue, Error>
+    ensures ok { IfOk result (λ value. strings_of value ≡ of_list (unwrap_or ((table tables.now).sequences (chars key.now)) [])) }
     ensures err { IfErr result (λ e. e ≡ Error.OutOfMemory) }
 {
-    if let Some(text) = text_of(alloc, key)? {
-        if let Some(strings) = tables.sequences(text.as_str()) {
-            return ClassValue::of_strings(alloc, strings);
-        }
+    match tables.sequences(key) {
+        Some(strings) => ClassValue::of_strings(alloc, strings),
+        None => Ok(ClassValue::of_points(alloc, CodePointSet::new(alloc))),
     }
-    Ok(ClassValue::of_points(alloc, CodePointSet::new(alloc)))
 }
 
 /// The strings that a class stands for, before case is ignored ("CompileToCharSet"). Folded: in Unicode mode, with case

@@ -8,6 +8,5 @@ mod class_value;
 mod lawful;
 mod lowering;
 mod parse;
-mod text;
 
 pub use parse::try_parse;

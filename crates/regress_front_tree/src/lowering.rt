@@ -1,24 +1,22 @@
 //! The second pass: from the syntax tree of a pattern to nodes.
-ghost use Rattle.std.specs.Prelude.{◌≡◌, Bool, true, map, option_map, chars, All, IfOk, IfErr};
-ghost use Rattle.std.specs.Str.{all_scalars};
-ghost use Rattle.std.specs.String.{string_bytes};
+ghost use Rattle.std.specs.Prelude.{◌≡◌, Bool, map, option_map, All, IfOk, IfErr};
 ghost use Rattle.regress_meaning.specs.Pattern as meaning;
 ghost use Rattle.regress_meaning.specs.Meaning.{with};
 ghost use Rattle.regress_meaning.specs.Points.{ClassIsOfPoints};
 ghost use Rattle.regress_front_tokens.specs.Trees as parsed;
-ghost use Rattle.regress_front_tokens.specs.Trees.{settings, class_view, choice_of, capture_of};
+ghost use Rattle.regress_front_tokens.specs.Trees.{settings, class_view, choice_of};
+ghost use Rattle.regress_front_tokens.specs.Words.{code_points_of};
 ghost use Rattle.regress_front_core.specs.Quantifiers.{most};
 ghost use Rattle.regress_front_nodes.specs.Trees.{tree, anchor_of};
 ghost use Rattle.regress_front_nodes.specs.Forms.{cat_made, in_reading_order};
-ghost use Rattle.regress_front_tree.specs.Scopes.{settings_of, name_told, IsLowerable, LowersInScope, LowersAllInScope, IsSamePattern};
+ghost use Rattle.regress_front_tree.specs.Scopes.{settings_of, IsLowerable, LowersInScope, LowersAllInScope, IsSamePattern};
 
 use crate::arms::alternatives;
 use crate::brackets::{character_node, class_node, negated_class_node};
-use crate::text::text_of;
 use regress_front_nodes::{AnchorType, Node, NodeList};
 use regress_front_syntax::{Class, Modifiers, Quantifier, Syntax};
-use regress_front_tables::{CaptureGroupID, CaptureGroupName, CodePoint, Error, Tables};
-use std::alloc::Global;
+use regress_front_tables::{CaptureGroupID, CaptureGroupName, Error, Tables};
+use std::alloc::{AllocError, Global};
 use std::ops::Range;
 
 /// What holds where a part of a pattern stands.
@@ -72,16 +70,17 @@ fn sequence(mut parts: NodeList, backward: bool) -> Node
     parts.pop().unwrap_or(Node::Empty)
 }
 
-/// A group's name as a text; `None` where it has none. `OutOfMemory` is the only error.
-fn group_name(alloc: Global, name: &[CodePoint]) -> Result<Option<CaptureGroupName>, Error>
-    requires { all_scalars name.now ≡ true }
-    ensures ok { IfOk result (λ text. option_map (λ t. chars (string_bytes t)) text ≡ name_told name.now) }
-    ensures err { IfErr result (λ e. e ≡ Error.OutOfMemory) }
+/// A copy of a group's name, if it has one.
+fn name_copy(
+    alloc: Global,
+    name: &Option<CaptureGroupName>,
+) -> Result<Option<CaptureGroupName>, AllocError>
+    ensures { IfOk result (λ copy. option_map code_points_of copy ≡ option_map code_points_of name.now) }
 {
-    if name.is_empty() {
-        return Ok(None);
+    match name {
+        Some(name) => Ok(Some(CaptureGroupName::from_str(alloc, name)?)),
+        None => Ok(None),
     }
-    text_of(alloc, name)
 }
 
 /// What holds for the whole pattern, and how many groups were opened so far.
@@ -187,16 +186,16 @@ impl<'t> Lowering<'t> {
     fn capture(
         &mut self,
         id: CaptureGroupID,
-        name: &[CodePoint],
+        name: &Option<CaptureGroupName>,
         contents: &Syntax,
         scope: Scope,
     ) -> Result<Node, Error>
-        requires { IsLowerable (capture_of id name.now (parsed.tree contents.now)) }
-        ensures ok { IfOk result (λ node. LowersInScope self.old scope (capture_of id name.now (parsed.tree contents.now)) (tree node) self.new) }
+        requires { IsLowerable (meaning.capture id (option_map code_points_of name.now) (parsed.tree contents.now)) }
+        ensures ok { IfOk result (λ node. LowersInScope self.old scope (meaning.capture id (option_map code_points_of name.now) (parsed.tree contents.now)) (tree node) self.new) }
         ensures kept { IsSamePattern self.old self.new }
         ensures err { IfErr result (λ e. e ≡ Error.OutOfMemory) }
     {
-        let name = group_name(self.alloc, name)?;
+        let name = name_copy(self.alloc, name)?;
         self.groups = self.groups.saturating_add(1);
         let contents = Box::new(self.alloc, self.lower(contents, scope)?)?;
         Ok(Node::CaptureGroup { id, contents, name })

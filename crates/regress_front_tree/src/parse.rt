@@ -53,7 +53,7 @@ pub fn try_parse<'u>(
     ensures refused { IfErr result (MayRefuse (table tables.now) (options flags) pattern.now) }
 {
     regress_meaning::spelled_trees_hold_code_points();
-    regress_meaning::spelled_names_are_names();
+    regress_meaning::spelled_names_are_not_empty();
     lowered_trees_are_alike();
     whole_trees_are_well_formed();
     let syntax = parse(alloc, pattern, flags, tables)?;

@@ -28,7 +28,8 @@ one_more table name names h k = All-cons (IsName table) name names h k
 both : (table : Table) (xs ys : List (List ℕ)) → AreNames table xs → AreNames table ys → AreNames table (xs ++ ys)
 both table xs ys h k = All-append (IsName table) xs ys h k
 
-begins-continues : (table : Table) (c : ℕ) → begins_name table c ≡ true → continues_name table c ≡ true
+-- what may begin a name may stand in it
+pub begins-continues : (table : Table) (c : ℕ) → begins_name table c ≡ true → continues_name table c ≡ true
 begins-continues table c e =
     or_left (begins_name table c || table.is_id_continue c || c == 0x200C) (c == 0x200D)
     (or_left (begins_name table c || table.is_id_continue c) (c == 0x200C)

@@ -21,3 +21,4 @@ pub mod Steps
 pub mod ReadingClass
 pub mod Scan
 pub mod Reading
+pub mod Named

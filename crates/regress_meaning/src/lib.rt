@@ -15,6 +15,7 @@ ghost use Rattle.regress_meaning.specs.Scan.{scanned_names};
 ghost use Rattle.regress_meaning.specs.Reading.{read_pattern, ReadsBySteps};
 ghost use Rattle.regress_meaning.specs.Numbering.{IsNumbered};
 ghost use Rattle.regress_meaning.specs.Points.{IsOfPoints, ClassHoldsNoStrings, HoldsNoStrings};
+ghost use Rattle.regress_meaning.specs.Named.{HoldsNoEmptyName};
 ghost use Rattle.regress_meaning.specs.Limits.{quantifiers};
 ghost use Rattle.regress_meaning.specs.Weights.{weight};
 ghost use Rattle.regress_meaning.specs.Meaning.{State, Direction, Context, outcomes};
@@ -45,6 +46,11 @@ pub fn spelled_trees_hold_code_points()
 /// In a tree that a text spells each code point of a group's name may stand in a name, by the table.
 pub fn spelled_names_are_names()
     ensures { (table : Table) → (o : Options) → (text : List ℕ) → (p : Pattern) → Spells table o text p → All (All (λ c. continues_name table c ≡ true)) (names_of p) }
+{}
+
+/// In a tree that a text spells no group has the empty text for its name: one without a name has none.
+pub fn spelled_names_are_not_empty()
+    ensures { (table : Table) → (o : Options) → (text : List ℕ) → (p : Pattern) → Spells table o text p → HoldsNoEmptyName p }
 {}
 
 /// A tree that a text spells is small: for each code point of the text it takes at most two nodes more than it has groups,

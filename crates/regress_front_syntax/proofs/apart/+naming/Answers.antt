@@ -1,7 +1,9 @@
 use Rattle.std.proofs.Common.{◌+◌, not, map, drop, refl, ap, sym, ◌∙◌, arith}
 use Rattle.std.proofs.lemmas.List.{drop_all}
+use Rattle.std.proofs.lemmas.Result.{IfOk-weaker}
 use Rattle.regress_front_tokens.specs.Trees.{tree, sequence_of, choice_of}
-use Rattle.regress_front_syntax.proofs.ApartLemmas.{added-names, put-names, terms-first, terms-split, terms-none, terms-more, terms-last, arms-first, arms-split, arms-none, arms-more, arms-last, capture-taken, capture-added}
+use Rattle.regress_front_tokens.specs.Words.{code_points_of}
+use Rattle.regress_front_syntax.proofs.ApartLemmas.{added-names, put-names, terms-first, terms-split, terms-none, terms-more, terms-last, arms-first, arms-split, arms-none, arms-more, arms-last, is_name-text, empty_name, capture-taken, capture-added}
 use Rattle.regress_front_syntax.proofs.apart.+naming.Goals as goal
 
 pub names_in_arms-loop-arm-init : goal.names_in_arms-loop-arm-init
@@ -28,16 +30,21 @@ pub names_in_arms-returns-clause-ok : goal.names_in_arms-returns-clause-ok
 names_in_arms-returns-clause-ok t c =
     arms-last (choice_of (map tree c.args.arms.now)) c.loop-arm.names (rw (drop_all c.loop-arm.arm-index c.args.arms.now (omega arith)) at c.loop-arm.invariant)
 
-pub names_in_capture-returns-then-not-branch-clause-ok : goal.names_in_capture-returns-then-not-branch-clause-ok
-names_in_capture-returns-then-not-branch-clause-ok t c =
-    capture-taken c.args.name.now (tree c.args.contents.now) c.in-Some.names (ap not (sym c.if-is_empty.ensures)) (rw c.in-Some.is at c.in_ok-names.ensures.ok)
-    (added-names c.in-Some.names c.args.name.now c.in_ok-insert.field-0 c.in_ok-insert.ensures.added ∙ ap not c.if-not-branch.true)
+pub names_in_named-returns-then-is_empty-clause-ok : goal.names_in_named-returns-then-is_empty-clause-ok
+names_in_named-returns-then-is_empty-clause-ok t c =
+    let unnamed = is_name-text c.args.name.now ∙ ap not (sym c.is_empty.ensures ∙ c.if-is_empty.true) in
+    IfOk-weaker c.names_in.result _ _ (λ found h. empty_name (code_points_of c.args.name.now) (tree c.args.contents.now) found unnamed h) c.names_in.ensures.ok
 
-pub names_in_capture-returns-clause-ok : goal.names_in_capture-returns-clause-ok
-names_in_capture-returns-clause-ok t c =
-    capture-added c.args.name.now (tree c.args.contents.now) c.in-Some.names c.insert.new.self (ap not (sym c.if-is_empty.ensures))
+pub names_in_named-returns-then-not-branch-clause-ok : goal.names_in_named-returns-then-not-branch-clause-ok
+names_in_named-returns-then-not-branch-clause-ok t c =
+    capture-taken (code_points_of c.args.name.now) (tree c.args.contents.now) c.in-Some.names (is_name-text c.args.name.now ∙ ap not (sym c.is_empty.ensures ∙ c.if-is_empty.false)) (rw c.in-Some.is at c.in_ok-names.ensures.ok)
+    (added-names c.in-Some.names c.args.name c.in_ok-insert.field-0 c.in_ok-insert.ensures.added ∙ ap not c.if-not-branch.true)
+
+pub names_in_named-returns-clause-ok : goal.names_in_named-returns-clause-ok
+names_in_named-returns-clause-ok t c =
+    capture-added (code_points_of c.args.name.now) (tree c.args.contents.now) c.in-Some.names c.insert.new.self (is_name-text c.args.name.now ∙ ap not (sym c.is_empty.ensures ∙ c.if-is_empty.false))
     (rw c.in-Some.is at c.in_ok-names.ensures.ok)
-    (added-names c.in-Some.names c.args.name.now c.in_ok-insert.field-0 c.in_ok-insert.ensures.added ∙ ap not c.if-not-branch.false)
+    (added-names c.in-Some.names c.args.name c.in_ok-insert.field-0 c.in_ok-insert.ensures.added ∙ ap not c.if-not-branch.false)
     (put-names c.in-Some.names c.insert.new.self c.args.name c.in_ok-insert.ensures.updates)
 
 pub names_in_terms-loop-term-init : goal.names_in_terms-loop-term-init

@@ -14,4 +14,4 @@ returns-then-eat-clause-read c =
 
 pub returns-clause-read : goal.returns-clause-read
 returns-clause-read c =
-    rw (c.new.ensures.items, c.if-eat.ensures.read) (parenthesis-group (mode_view c.args.mode.now) (unread c.args.cursor.now) (sym c.if-eat.ensures.found))
+    rw c.if-eat.ensures.read (parenthesis-group (mode_view c.args.mode.now) (unread c.args.cursor.now) (sym c.if-eat.ensures.found))

@@ -4,6 +4,7 @@ use Rattle.regress_meaning.specs.Scan.{scanned_names}
 use Rattle.regress_front_core.specs.FlagWords.{options}
 use Rattle.regress_front_tables.specs.TableViews.{table}
 use Rattle.regress_front_tokens.specs.Escapes.{texts}
+use Rattle.regress_front_tokens.specs.Words.{code_points_of}
 use Rattle.regress_front_syntax.proofs.PatternLemmas.{groups-passed}
 use Rattle.regress_front_syntax.proofs.parser.limited_mode.Goals as goal
 
@@ -15,4 +16,4 @@ returns-then-len-gt-MAX_CAPTURE_GROUPS-clause-refused c =
     let names : texts c.in_ok-mode.mode.names ≡ scanned_names tb o t = ap (λ m. m.names) c.in_ok-mode.ensures.ok in
     let many = c.if-len-gt-MAX_CAPTURE_GROUPS.true in
     let count = c.len.ensures in
-    groups-passed tb o t (c.names_are_found_by_a_scan.ensures tb o t) (omega (arith, many, count, ap length names, length-map c.in_ok-mode.mode.names.items (λ name. name.items)))
+    groups-passed tb o t (c.names_are_found_by_a_scan.ensures tb o t) (omega (arith, many, count, ap length names, length-map c.in_ok-mode.mode.names.items code_points_of))

@@ -21,7 +21,7 @@ use Rattle.regress_front_tree.proofs.class_value.+class_value.Goals.{class_value
 pub class_value-returns-in-Sequences-clause-ok : goal.class_value-returns-in-Sequences-clause-ok
 unfolding value_of
 class_value-returns-in-Sequences-clause-ok t c =
-    rw (c.in-Sequences.is, class_view-Sequences, ← c.deref-in-Sequences.ensures.value) c.sequence_value.ensures.ok
+    rw (c.in-Sequences.is, class_view-Sequences, ← c.deref-in-Sequences.ensures) c.sequence_value.ensures.ok
 
 pub class_value-returns-in-Strings-clause-ok : goal.class_value-returns-in-Strings-clause-ok
 unfolding value_of
@@ -67,7 +67,7 @@ class_value-returns-clause-ok t c =
           ∙ rw (w.in-Words.is, class_view-Words) (ap only w.in_ok-singles-in-Words.ensures.ok)
       | class_value-in-Property+in_ok-singles-in-Property w ↦
           ap (λ (s : _). only (in_set s)) w.singles-is
-          ∙ rw (w.in-Property.is, class_view-Property, ← w.deref.ensures.value) (ap only w.in_ok-singles-in-Property.ensures.ok)
+          ∙ rw (w.in-Property.is, class_view-Property, ← w.deref.ensures) (ap only w.in_ok-singles-in-Property.ensures.ok)
     ]
 
 pub union_value-loop-member-init : goal.union_value-loop-member-init

@@ -1,7 +1,7 @@
 use Rattle.std.proofs.Common.{◌≡◌, false, List, [], ◌∷◌, map, ap, ◌∙◌}
 use Rattle.regress_meaning.specs.Flags.{is_unicode, first_settings}
 use Rattle.regress_meaning.specs.Meaning.{State, Forward, Context}
-use Rattle.regress_front_tables.specs.TableViews.{table, parts}
+use Rattle.regress_front_tables.specs.TableViews.{table}
 use Rattle.regress_front_core.specs.FlagWords.{options}
 use Rattle.regress_front_tokens.specs.Trees as parsed
 use Rattle.regress_front_nodes.specs.declared.node.Node.{Node}
@@ -11,7 +11,6 @@ use Rattle.regress_front_nodes.specs.TreeMeaning.{node_outcomes}
 use Rattle.regress_front_nodes.specs.Alike.{distinct}
 use Rattle.regress_front_tree.specs.Lowering.{Lowers}
 use Rattle.regress_front_nodes.proofs.StepLemmas.{flat_map-self}
-use Rattle.regress_front_tree.proofs.NameTexts.{names-scalars}
 use Rattle.regress_front_nodes.proofs.TreeLaws.{tree-Cat, tree-Goal}
 use Rattle.regress_front_tree.proofs.parse.try_parse.Goals as goals
 
@@ -24,10 +23,9 @@ pub lower-requires : goals.lower-requires
 lower-requires c =
     let spelled = c.in_ok-syntax.ensures.accepted.0 in
     let p = parsed.tree c.in_ok-syntax.syntax in
-    let points = c.spelled_trees_hold_code_points.ensures (table c.args.tables.now) (options c.args.flags) c.args.pattern.now p c.requires spelled in
     record {
-      points = points;
-      names = names-scalars (parts c.args.tables.now) c.args.tables.now.lawful p points (c.spelled_names_are_names.ensures (table c.args.tables.now) (options c.args.flags) c.args.pattern.now p spelled);
+      points = c.spelled_trees_hold_code_points.ensures (table c.args.tables.now) (options c.args.flags) c.args.pattern.now p c.requires spelled;
+      names = c.spelled_names_are_not_empty.ensures (table c.args.tables.now) (options c.args.flags) c.args.pattern.now p spelled;
     }
 
 pub returns-clause-accepted : goals.returns-clause-accepted

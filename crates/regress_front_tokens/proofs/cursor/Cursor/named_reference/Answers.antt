@@ -1,7 +1,7 @@
 use Rattle.std.proofs.Common.{◌≡◌, ℕ, ◌==◌, length, vec_len, sym, ap, ◌∙◌, arith}
-use Rattle.std.specs.Global.{Vec}
 use Rattle.regress_meaning.specs.Tokens.{named_reference, name_at}
 use Rattle.regress_front_tokens.specs.Cursors.{unread}
+use Rattle.regress_front_tokens.specs.Words.{code_points_of}
 use Rattle.regress_front_tokens.specs.Escapes.{mode_view, escape_view}
 use Rattle.std.proofs.lemmas.Result.{err_from_is_err_and}
 use Rattle.regress_front_tokens.proofs.EscapeLemmas.{IsRead-fails, named-no_angle, named-no_name, named-no_group, named-groups}
@@ -15,21 +15,21 @@ returns-in_err-name-clause-read c =
     let p = err_from_is_err_and c.from_residual.result c.from_residual.ensures.1 in
     let m = mode_view c.args.mode.now in
     rw (p.1, p.2)
-    (IsRead-fails {A = Vec ℕ} (λ name. name.items) (name_at m.table) (unread c.eat.new.self) c.in_err-name.field-0.0 _ escape_view (named_reference m) _ _ c.in_err-name.ensures.read
+    (IsRead-fails code_points_of (name_at m.table) (unread c.eat.new.self) c.in_err-name.field-0.0 _ escape_view (named_reference m) _ _ c.in_err-name.ensures.read
     (λ none. named-no_name m _ c.if-not-eat.ensures.found (rw c.if-not-eat.ensures.read at none)))
 
 pub returns-then-is_empty-clause-read : goal.returns-then-is_empty-clause-read
 returns-then-is_empty-clause-read c =
     let groups = c.in_ok-groups.groups in
     let count : length groups.items ≡ vec_len groups = omega (arith, groups.ok.0) in
-    let numbers = rw (c.deref.ensures.value, c.deref-2.ensures.value) at c.in_ok-groups.ensures.ok in
-    named-no_group (mode_view c.args.mode.now) _ c.in_ok-name.name.items _ groups.items c.if-not-eat.ensures.found (rw c.if-not-eat.ensures.read at c.in_ok-name.ensures.read) numbers
+    let numbers = rw (c.deref.ensures.value, c.deref-2.ensures) at c.in_ok-groups.ensures.ok in
+    named-no_group (mode_view c.args.mode.now) _ (code_points_of c.in_ok-name.name) _ groups.items c.if-not-eat.ensures.found (rw c.if-not-eat.ensures.read at c.in_ok-name.ensures.read) numbers
     (ap (λ n. n == 0) count ∙ sym c.is_empty.ensures ∙ c.if-is_empty.true)
 
 pub returns-clause-read : goal.returns-clause-read
 returns-clause-read c =
     let groups = c.in_ok-groups.groups in
     let count : length groups.items ≡ vec_len groups = omega (arith, groups.ok.0) in
-    let numbers = rw (c.deref.ensures.value, c.deref-2.ensures.value) at c.in_ok-groups.ensures.ok in
-    named-groups (mode_view c.args.mode.now) _ c.in_ok-name.name.items _ groups.items c.if-not-eat.ensures.found (rw c.if-not-eat.ensures.read at c.in_ok-name.ensures.read) numbers
+    let numbers = rw (c.deref.ensures.value, c.deref-2.ensures) at c.in_ok-groups.ensures.ok in
+    named-groups (mode_view c.args.mode.now) _ (code_points_of c.in_ok-name.name) _ groups.items c.if-not-eat.ensures.found (rw c.if-not-eat.ensures.read at c.in_ok-name.ensures.read) numbers
     (ap (λ n. n == 0) count ∙ sym c.is_empty.ensures ∙ c.if-is_empty.false)

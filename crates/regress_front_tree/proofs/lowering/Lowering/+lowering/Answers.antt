@@ -1,15 +1,16 @@
-use Rattle.std.proofs.Common.{◌≡◌, ◌&&◌, [], length, refl, sym, arith, rules, add-one}
+use Rattle.std.proofs.Common.{◌≡◌, ◌&&◌, [], length, refl, sym, arith, rules, add-one, option_map}
 use Rattle.std.proofs.lemmas.Bool.{eqb-true, eqb-false}
 use Rattle.std.proofs.lemmas.List.{take_all, nil_from_length}
 use Rattle.std.proofs.lemmas.Result.{IfOk-weaker}
 use Rattle.regress_front_tokens.specs.declared.syntax.Syntax.TheViews.{the_lemmas}
 use Rattle.regress_front_tokens.specs.Trees as parsed
+use Rattle.regress_front_tokens.specs.Words.{code_points_of}
 use Rattle.regress_front_nodes.specs.Trees.{tree}
 use Rattle.regress_front_tree.specs.Lowering.{no_pattern, of_character, of_any, of_class_escape, of_terms, of_arms, of_capture, of_group, of_repeated, of_look, of_line_start, of_line_end, of_word_boundary}
 use Rattle.regress_front_tree.specs.Scopes.{settings_of, IsLowerable}
 use Rattle.regress_front_tokens.proofs.TreeLaws as law
 use Rattle.regress_front_nodes.proofs.TreeLaws.{tree-Empty, tree-MatchAny, tree-MatchAnyExceptLineTerminator, tree-WordBoundary, tree-CaptureGroup, tree-LookaroundAssertion, tree-Loop}
-use Rattle.regress_front_tree.proofs.LowerableLemmas.{IsLowerable-terms, IsLowerable-arms, capture_of-told, contents-IsLowerable, each_is}
+use Rattle.regress_front_tree.proofs.LowerableLemmas.{IsLowerable-terms, IsLowerable-arms, contents-IsLowerable, each_is}
 use Rattle.regress_front_tree.proofs.LoweringLemmas.{each_more, nodes-length, Lowers-nothing, LowersInScope-modified, IsSamePattern-chain, Takes-any, Takes-any_in_line}
 use Rattle.regress_front_tree.proofs.lowering.Lowering.+lowering.Goals as goal
 use Rattle.regress_front_tree.proofs.lowering.Lowering.+lowering.Goals.{lower-then-self, lower-else-self}
@@ -106,12 +107,12 @@ pub disjunction-returns-clause-ok : goal.disjunction-returns-clause-ok
 disjunction-returns-clause-ok t c = of_arms c.in_ok-each.ensures.ok c.in_ok-alternatives.ensures
 
 pub capture-lower-requires : goal.capture-lower-requires
-capture-lower-requires t c = (search (rules, the_lemmas), contents-IsLowerable c.args.id c.args.name.now (parsed.tree c.args.contents.now) c.requires)
+capture-lower-requires t c = (search (rules, the_lemmas), contents-IsLowerable c.args.id (option_map code_points_of c.args.name.now) (parsed.tree c.args.contents.now) c.requires)
 
 pub capture-returns-clause-ok : goal.capture-returns-clause-ok
 capture-returns-clause-ok t c =
-    rw (tree-CaptureGroup, c.in_ok-name.ensures.ok, capture_of-told, c.in_ok-contents.ensures.ok)
-    (of_capture (rw (c.saturating_add-self.ensures, add-one) at c.in_ok-lower.ensures.ok))
+    rw (tree-CaptureGroup, c.in_ok-name.ensures, c.in_ok-contents.ensures.ok)
+    (of_capture c.requires.names.0 (rw (c.saturating_add-self.ensures, add-one) at c.in_ok-lower.ensures.ok))
 
 pub repetition-returns-clause-ok : goal.repetition-returns-clause-ok
 repetition-returns-clause-ok t c = rw (tree-Loop, c.in_ok-loopee.ensures.ok) (of_repeated c.in_ok-lower.ensures.ok)
