@@ -83,6 +83,26 @@ fn the_first_member_is_found(rt: HostRuntime) {
 }
 
 #[test]
+fn each_searcher_finds_its_first(rt: HostRuntime) {
+    let in_two = first(b"cb", b"abc");
+    prove!(in_two == Some(1));
+    let in_three = first(b"xyc", b"abc");
+    prove!(in_three == Some(2));
+    let in_four = first(&ByteArraySet(*b"wxyc"), b"ac");
+    prove!(in_four == Some(1));
+    let empty = first(&EmptyString, b"");
+    prove!(empty == Some(0));
+    assert!(rt; in_two == Some(1) && in_three == Some(2) && in_four == Some(1));
+}
+
+#[test]
+fn a_bitmap_finds_its_first(rt: HostRuntime) {
+    let in_bitmap = first(&ByteBitmap::new(&[0x80, b'c']), b"ac");
+    prove!(in_bitmap == Some(1));
+    assert!(rt; in_bitmap == Some(1));
+}
+
+#[test]
 fn arrays_are_sets(rt: HostRuntime) {
     let [ab, abc, abcd] = [
         ByteArraySet(*b"ab").contains(b'b'),
