@@ -1,0 +1,5 @@
+//! What callers of `regress` write, by its public calls alone. The library itself is empty.
+#![tactic(auto)]
+
+#[cfg(test)]
+mod loops;

@@ -1,0 +1,79 @@
+//! What callers do with matches. What they ask of a match and of a start is said by the calls that give them; inside a loop one
+//! line of proof names that clause.
+
+use regress::{Error, Match, Regex, Tables};
+use std::alloc::Global;
+use std::test::Fail;
+
+/// The text of each match.
+fn parts<'t>(alloc: Global, regex: &Regex<'_>, text: &'t str) -> Result<Vec<&'t str>, Error> {
+    let mut parts = Vec::new(alloc);
+    for found in regex.find_iter(text)? {
+        let found = found?;
+        parts.push(found.as_str(text))?;
+    }
+    Ok(parts)
+}
+
+/// The text that a group took, of each match in which it took part.
+fn parts_of_group<'t>(
+    alloc: Global,
+    regex: &Regex<'_>,
+    text: &'t str,
+    group: usize,
+) -> Result<Vec<&'t str>, Error> {
+    let mut parts = Vec::new(alloc);
+    for found in regex.find_iter(text)? {
+        if let Some(range) = found?.group(group) {
+            if let Some(part) = text.get(range) {
+                parts.push(part)?;
+            }
+        }
+    }
+    Ok(parts)
+}
+
+/// The match behind the first, by a search of its own.
+fn second(regex: &Regex<'_>, text: &str) -> Result<Option<Match>, Error> {
+    let Some(first) = regex.find(text)? else {
+        return Ok(None);
+    };
+    regex.find_from(text, first.end())?.next().transpose()
+}
+
+/// Of each match, where the first match behind it begins.
+fn starts_behind(
+    alloc: Global,
+    regex: &Regex<'_>,
+    text: &str,
+) -> Result<Vec<Option<usize>>, Error> {
+    let mut starts = Vec::new(alloc);
+    for found in regex.find_iter(text)? {
+        let found = found?;
+        let behind = regex.find_from(text, found.end())?.next().transpose()?;
+        starts.push(behind.map(|found| found.start()))?;
+    }
+    Ok(starts)
+}
+
+#[test]
+fn parts_of_a_text(rt: HostRuntime) -> Result<(), Fail> {
+    let tables = Tables::small(rt.alloc())?;
+    let regex = Regex::new(rt.alloc(), "(é+)|a", &tables)?;
+    assert!(rt; parts(rt.alloc(), &regex, "xaéé é")?.as_slice() == ["a", "éé", "é"].as_slice());
+    assert!(rt;
+        parts_of_group(rt.alloc(), &regex, "xaéé é", 1)?.as_slice() == ["éé", "é"].as_slice()
+    );
+    Ok(())
+}
+
+#[test]
+fn what_stands_behind_a_match(rt: HostRuntime) -> Result<(), Fail> {
+    let tables = Tables::small(rt.alloc())?;
+    let regex = Regex::new(rt.alloc(), "é", &tables)?;
+    let found = second(&regex, "éaé")?.ok_or("no match")?;
+    assert!(rt; found.range() == (3..5));
+    let starts = starts_behind(rt.alloc(), &regex, "éaé")?;
+    assert!(rt; starts.as_slice() == [Some(3), None].as_slice());
+    Ok(())
+}
