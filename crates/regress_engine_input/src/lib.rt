@@ -1,16 +1,23 @@
 //! What an executor sees of a text: four inputs behind one trait.
 #![tactic(auto)]
 
+mod ascii_input;
+mod bytes;
 pub mod cursor;
 mod element;
 mod indexing;
 mod position;
 mod ucs2_input;
 mod units;
+mod utf16_input;
+mod utf8_input;
 
+pub use ascii_input::AsciiInput;
 pub use cursor::{Backward, Direction, Forward};
 pub use element::{CodeUnit, ElementType};
 pub use indexing::InputIndexer;
 pub use position::{DefPosition, IndexPosition, PositionType};
 pub use std::ops::Range;
 pub use ucs2_input::Ucs2Input;
+pub use utf8_input::Utf8Input;
+pub use utf16_input::Utf16Input;
