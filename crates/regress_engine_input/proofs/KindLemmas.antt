@@ -1,15 +1,14 @@
 -- What holds of each kind of input.
-use Rattle.std.proofs.Common.{◌≡◌, ◌⊎◌, inl, inr, ℕ, ◌<◌, ◌≤◌, Bool, true, false, List, length, Some, ap, arith}
-use Rattle.std.proofs.lemmas.Bool.{cases_lt}
+use Rattle.std.proofs.Common.{◌≡◌, ℕ, ◌≤◌, Bool, true, false, List, length, Some, arith}
 use Rattle.regress_meaning.specs.Table.{Table}
 use Rattle.regress_meaning.specs.Meaning.{Direction}
-use Rattle.regress_meaning.specs.Laws.{OffsetsRise}
-use Rattle.regress_meaning.specs.Offsets.{Reading, offset, of_utf16}
+use Rattle.regress_meaning.specs.Offsets.{offset, of_utf16}
 use Rattle.regress_meaning.specs.Inputs.{Tells}
 use Rattle.regress_meaning.specs.Steps.{repeated, same_units}
 use Rattle.regress_front_nodes.specs.ByteInputs.{TellsBytes}
 use Rattle.regress_match.proofs.TextLemmas.{offset_of_end, offset_is_boundary}
 use Rattle.regress_engine_input.specs.Views.{Kind, utf8, ascii, utf16, ucs2, AreOfKind, are_bytes, input_of_kind, reading_of_kind, IsReadable, outside_pairs}
+use Rattle.regress_engine_input.proofs.PlaceLemmas.{place-inside}
 use Rattle.regress_engine_input.proofs.UnitTexts.{single_offset, ascii_tells, ucs2_tells}
 use Rattle.regress_engine_input.proofs.Utf16Texts.{utf16_tells, utf16_end}
 use Rattle.regress_engine_input.proofs.Utf8Texts.{utf8_tells}
@@ -30,14 +29,6 @@ end utf8 units all = offset_of_end units all
 end ascii units all = single_offset units (length units) (omega arith)
 end utf16 units all = utf16_end units all
 end ucs2 units all = single_offset units (length units) (omega arith)
-
--- a place lies in the text
-place-inside : (reading : Reading) → OffsetsRise reading → (n : ℕ) → offset reading (length reading.points) ≡ n → (p : ℕ) → p ≤ length reading.points → offset reading p ≤ n
-place-inside reading rise n last p room = by_place (cases_lt p (length reading.points))
-  where
-    by_place : (p < length reading.points) ⊎ (length reading.points ≤ p) → offset reading p ≤ n
-    by_place (inl less) = let h = rise p (length reading.points) less (omega arith) in omega (arith, h, last)
-    by_place (inr full) = let same : p ≡ length reading.points = omega arith in let h = ap (offset reading) same in omega (arith, h, last)
 
 -- characters may be read at each place
 pub readable : (kind : Kind) (table : Table) (unicode : Bool) (units : List ℕ) → AreOfKind kind units → (p : ℕ) → p ≤ length (reading_of_kind kind units).points → IsReadable kind units (offset (reading_of_kind kind units) p)

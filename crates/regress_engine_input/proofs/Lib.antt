@@ -1,4 +1,5 @@
 pub mod Tests
+pub mod PlaceLemmas
 pub mod UnitTexts
 pub mod Utf16Texts
 pub mod Utf16Parts

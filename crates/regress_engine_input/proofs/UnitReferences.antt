@@ -9,10 +9,9 @@ use Rattle.std.proofs.lemmas.Str.{encodes-append, chars-encodes, scalars-chars}
 use Rattle.regress_meaning.specs.Table.{Table}
 use Rattle.regress_meaning.specs.Meaning.{Direction, Forward, Backward, beside}
 use Rattle.regress_meaning.specs.Offsets.{Reading, offset, of_utf8, of_ascii, of_ucs2}
-use Rattle.regress_meaning.specs.Steps.{literal, repeated}
+use Rattle.regress_meaning.specs.Steps.{literal, repeated, same_units}
 use Rattle.regress_front_nodes.specs.ByteInputs.{placed}
 use Rattle.regress_meaning.specs.Inputs.{Input, Tells, context_of, utf8_input, ascii_input, ucs2_input}
-use Rattle.regress_meaning.specs.Steps.{same_units}
 use Rattle.regress_engine_input.proofs.Utf8Parts.{offset-is, bytes-behind}
 use Rattle.regress_engine_input.proofs.Utf8Texts.{utf8_tells}
 use Rattle.regress_engine_input.proofs.UnitTexts.{single_offset, ascii_tells, ucs2_tells}

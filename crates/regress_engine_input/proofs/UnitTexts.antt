@@ -10,8 +10,7 @@ use Rattle.regress_meaning.specs.Table.{Table}
 use Rattle.regress_meaning.specs.Meaning.{Direction, Forward, Backward}
 use Rattle.regress_meaning.specs.Offsets.{offset, of_ascii, of_ucs2}
 use Rattle.regress_meaning.proofs.OffsetLemmas.{rise}
-use Rattle.regress_meaning.specs.Inputs.{Tells, point_told, neighbour}
-use Rattle.regress_meaning.specs.Inputs.{single_next, ascii_input, ucs2_input}
+use Rattle.regress_meaning.specs.Inputs.{Tells, point_told, neighbour, single_next, ascii_input, ucs2_input}
 
 each_one : (cs : List ℕ) → sum_by (λ (c : ℕ). 1) cs ≡ length cs
 each_one [] = refl

@@ -8,11 +8,10 @@ use Rattle.regress_meaning.specs.Table.{Table}
 use Rattle.regress_meaning.specs.Text.{same_text}
 use Rattle.regress_meaning.specs.Meaning.{Direction, Forward, Backward, beside}
 use Rattle.regress_meaning.specs.Offsets.{Reading, offset, of_utf16, characters}
-use Rattle.regress_meaning.specs.Steps.{literal, repeated}
+use Rattle.regress_meaning.specs.Steps.{literal, repeated, splits, unless_split, same_units}
 use Rattle.regress_front_nodes.specs.ByteInputs.{placed}
 use Rattle.regress_engine_input.proofs.Tests.{le-true}
 use Rattle.regress_meaning.specs.Inputs.{Input, context_of, utf16_input}
-use Rattle.regress_meaning.specs.Steps.{splits, unless_split, same_units}
 use Rattle.regress_engine_input.proofs.Standing.{and-left, and-right, stands_right, stands_left, right-split, split-right, left-split, split-left, placed-if, same_place}
 use Rattle.regress_engine_input.proofs.Utf16Texts.{IsShort, utf16_tells}
 use Rattle.regress_engine_input.proofs.Utf16Parts.{spells, spells-append, characters-append, characters-cut, splits-shift, splits-front, offset16, units-before, units-behind, place-outside}

@@ -13,8 +13,7 @@ use Rattle.regress_meaning.specs.Meaning.{Direction, Forward, Backward}
 use Rattle.regress_meaning.specs.Tokens.{is_high, is_low, joined}
 use Rattle.regress_meaning.specs.Offsets.{Reading, offset, of_utf16, characters}
 use Rattle.regress_meaning.proofs.OffsetLemmas.{rise}
-use Rattle.regress_meaning.specs.Inputs.{Tells, point_told, neighbour}
-use Rattle.regress_meaning.specs.Inputs.{pair_right, pair_left, unit_before, utf16_next, utf16_input}
+use Rattle.regress_meaning.specs.Inputs.{Tells, point_told, neighbour, pair_right, pair_left, unit_before, utf16_next, utf16_input}
 
 -- how many units a character takes
 abbrev pub wide : ℕ → ℕ

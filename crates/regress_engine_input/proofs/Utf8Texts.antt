@@ -16,8 +16,7 @@ use Rattle.regress_meaning.specs.Meaning.{Direction, Forward, Backward}
 use Rattle.regress_meaning.specs.Laws.{OffsetsRise}
 use Rattle.regress_meaning.specs.Offsets.{Reading, offset, of_utf8}
 use Rattle.regress_meaning.proofs.OffsetLemmas.{rise}
-use Rattle.regress_meaning.specs.Inputs.{Tells, point_told, neighbour}
-use Rattle.regress_meaning.specs.Inputs.{byte_at, onto_right, onto_left, bytes_right, bytes_left, utf8_next, utf8_input}
+use Rattle.regress_meaning.specs.Inputs.{Tells, point_told, neighbour, byte_at, onto_right, onto_left, bytes_right, bytes_left, utf8_next, utf8_input}
 use Rattle.regress_engine_input.proofs.Utf8Parts.{offset-next, bytes-here, scalar-here}
 use Rattle.regress_engine_input.proofs.Utf8Forms.{Form, form, form-right, form-left, Form-same}
 

@@ -3,11 +3,11 @@ ghost use Rattle.std.specs.Str.{IsAscii};
 ghost use Rattle.std.proofs.Props.{props};
 ghost use Rattle.std.proofs.Common.{rules};
 
-use crate::bytes::{byte_left, byte_right, bytes_beside, single_byte_left, single_byte_right};
+use crate::bytes::{bytes_beside, single_byte_left, single_byte_right};
 use crate::cursor::Direction;
 use crate::indexing::InputIndexer;
 use crate::position::{DefPosition, PositionType};
-use regress_front_tables::{ByteSearcher, Tables};
+use regress_front_tables::Tables;
 use std::ops::Range;
 
 /// A text of ASCII, each byte one character.
@@ -100,25 +100,8 @@ impl<'u, 't> InputIndexer for AsciiInput<'u, 't> {
     }
 
     #[inline]
-    fn next_right_pos(&self, pos: Self::Position) -> Option<Self::Position> {
-        let (_, behind) = single_byte_right(self.contents(), pos.offset())?;
-        Some(DefPosition::new(behind))
-    }
-
-    #[inline]
-    fn next_left_pos(&self, pos: Self::Position) -> Option<Self::Position> {
-        let (_, before) = single_byte_left(self.contents(), pos.offset())?;
-        Some(DefPosition::new(before))
-    }
-
-    #[inline]
-    fn peek_byte_right(&self, pos: Self::Position) -> Option<u8> {
-        byte_right(self.contents(), pos.offset())
-    }
-
-    #[inline]
-    fn peek_byte_left(&self, pos: Self::Position) -> Option<u8> {
-        byte_left(self.contents(), pos.offset())
+    fn bytes(&self) -> Option<&[u8]> {
+        Some(self.contents())
     }
 
     #[inline]
@@ -129,16 +112,6 @@ impl<'u, 't> InputIndexer for AsciiInput<'u, 't> {
     #[inline]
     fn pos_to_offset(&self, pos: Self::Position) -> usize {
         pos.offset()
-    }
-
-    #[inline]
-    fn find_bytes<Search: ByteSearcher>(
-        &self,
-        pos: Self::Position,
-        search: &Search,
-    ) -> Option<Self::Position> {
-        let index = search.find_in(&self.contents()[pos.offset()..])?;
-        self.try_move_right(pos, index)
     }
 
     #[inline]
@@ -155,16 +128,6 @@ impl<'u, 't> InputIndexer for AsciiInput<'u, 't> {
     {
         let part = &self.contents()[range.start.offset()..range.end.offset()];
         pos.move_to(bytes_beside(dir, self.contents(), part, pos.offset()))
-    }
-
-    #[inline]
-    fn match_bytes<Dir: Direction>(
-        &self,
-        dir: Dir,
-        pos: &mut Self::Position,
-        bytes: &[u8],
-    ) -> bool {
-        pos.move_to(bytes_beside(dir, self.contents(), bytes, pos.offset()))
     }
 
     ghost are_of_kind = { λ s. s.ascii };

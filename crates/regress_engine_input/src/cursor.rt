@@ -98,10 +98,10 @@ pub fn try_match_lit<const N: usize, Input: InputIndexer, Dir: Direction>(
     input: &Input,
     dir: Dir,
     pos: &mut Input::Position,
-    bytes: &[u8; N],
+    wanted: &[u8; N],
 ) -> bool
     requires { LiesIn (Input.view input.now) (Input.Position.offset pos.old) }
-    ensures { only_if result (Input.Position.offset pos.new) ≡ in_bytes (Input.view input.now).kind (literal (input_of (Input.view input.now)) (way Dir.FORWARD) bytes.now (Input.Position.offset pos.old)) }
+    ensures { only_if result (Input.Position.offset pos.new) ≡ in_bytes (Input.view input.now).kind (literal (input_of (Input.view input.now)) (way Dir.FORWARD) wanted.now (Input.Position.offset pos.old)) }
 {
-    input.match_bytes(dir, pos, bytes)
+    input.match_bytes(dir, pos, wanted)
 }

@@ -1,10 +1,11 @@
 //! Inputs, as an executor reads them.
-ghost use Rattle.std.specs.Prelude.{◌≡◌, ◌≤◌, ◌-◌, ℕ, option_map, length, slice_range, nat_le};
+ghost use Rattle.std.specs.Prelude.{Some, ◌≡◌, ◌≤◌, ◌-◌, ℕ, option_map, length, slice_range, nat_le};
 ghost use Rattle.regress_meaning.specs.Meaning.{Forward as forward, Backward as backward};
 ghost use Rattle.regress_meaning.specs.Steps.{point, only_if, literal};
 ghost use Rattle.regress_front_tables.specs.TableViews.{table};
 ghost use Rattle.regress_engine_input.specs.Views.{View, way, are_bytes, input_of, CanRead, LiesIn, behind, unit_beside, in_bytes, moved_right, found_from, units_repeated, AreOfKind};
 
+use crate::bytes::{byte_left, byte_right, bytes_beside};
 use crate::cursor::Direction;
 use crate::element::{CodeUnit, ElementType};
 use crate::position::PositionType;
@@ -57,14 +58,26 @@ pub trait InputIndexer: Debug + Copy {
         ensures position { Self.Position.offset pos.new ≡ behind (Self.Position.offset pos.old) ((input_of (view self.now)).next backward (Self.Position.offset pos.old)) };
 
     /// The position behind the character to the right of one, as `next_right` moves it; `None` at the end.
+    #[inline]
     fn next_right_pos(&self, pos: Self::Position) -> Option<Self::Position>
         requires { CanRead (view self.now) (Self.Position.offset pos) }
-        ensures { option_map Self.Position.offset result ≡ option_map (λ x. x.1) ((input_of (view self.now)).next forward (Self.Position.offset pos)) };
+        ensures { option_map Self.Position.offset result ≡ option_map (λ x. x.1) ((input_of (view self.now)).next forward (Self.Position.offset pos)) }
+    {
+        let mut behind = pos;
+        self.next_right(&mut behind)?;
+        Some(behind)
+    }
 
     /// The position before the character to the left of one, as `next_left` moves it; `None` at the start.
+    #[inline]
     fn next_left_pos(&self, pos: Self::Position) -> Option<Self::Position>
         requires { CanRead (view self.now) (Self.Position.offset pos) }
-        ensures { option_map Self.Position.offset result ≡ option_map (λ x. x.1) ((input_of (view self.now)).next backward (Self.Position.offset pos)) };
+        ensures { option_map Self.Position.offset result ≡ option_map (λ x. x.1) ((input_of (view self.now)).next backward (Self.Position.offset pos)) }
+    {
+        let mut before = pos;
+        self.next_left(&mut before)?;
+        Some(before)
+    }
 
     /// The character to the right of a position, as `next_right` answers it; `None` at the end.
     #[inline]
@@ -72,8 +85,8 @@ pub trait InputIndexer: Debug + Copy {
         requires { CanRead (view self.now) (Self.Position.offset pos) }
         ensures { option_map Self.Element.code result ≡ point (input_of (view self.now)) forward (Self.Position.offset pos) }
     {
-        let mut behind = pos;
-        self.next_right(&mut behind)
+        let mut moved = pos;
+        self.next_right(&mut moved)
     }
 
     /// The character to the left of a position, as `next_left` answers it; `None` at the start.
@@ -82,19 +95,31 @@ pub trait InputIndexer: Debug + Copy {
         requires { CanRead (view self.now) (Self.Position.offset pos) }
         ensures { option_map Self.Element.code result ≡ point (input_of (view self.now)) backward (Self.Position.offset pos) }
     {
-        let mut before = pos;
-        self.next_left(&mut before)
+        let mut moved = pos;
+        self.next_left(&mut moved)
     }
 
+    /// The bytes that hold the text, or `None` over units.
+    fn bytes(&self) -> Option<&[u8]>
+        ensures { option_map (λ bytes. bytes.now) result ≡ in_bytes (view self.now).kind (Some (view self.now).units) };
+
     /// The byte to the right of a position; `None` at the end, and over units, which are no bytes.
+    #[inline]
     fn peek_byte_right(&self, pos: Self::Position) -> Option<u8>
         requires { LiesIn (view self.now) (Self.Position.offset pos) }
-        ensures { result ≡ in_bytes (view self.now).kind (unit_beside (view self.now).units forward (Self.Position.offset pos)) };
+        ensures { result ≡ in_bytes (view self.now).kind (unit_beside (view self.now).units forward (Self.Position.offset pos)) }
+    {
+        byte_right(self.bytes()?, self.pos_to_offset(pos))
+    }
 
     /// The byte to the left of a position; `None` at the start, and over units, which are no bytes.
+    #[inline]
     fn peek_byte_left(&self, pos: Self::Position) -> Option<u8>
         requires { LiesIn (view self.now) (Self.Position.offset pos) }
-        ensures { result ≡ in_bytes (view self.now).kind (unit_beside (view self.now).units backward (Self.Position.offset pos)) };
+        ensures { result ≡ in_bytes (view self.now).kind (unit_beside (view self.now).units backward (Self.Position.offset pos)) }
+    {
+        byte_left(self.bytes()?, self.pos_to_offset(pos))
+    }
 
     /// The position at offset 0.
     #[inline]
@@ -143,13 +168,20 @@ pub trait InputIndexer: Debug + Copy {
 
     /// Where `search` finds something in the bytes from a position on; `None` where it finds nothing there, and over units,
     /// which are no bytes.
+    #[inline]
+    #[tactic(auto, using(crate::proofs::ByteReads::found_none, crate::proofs::ByteReads::found_some))]
     fn find_bytes<Search: ByteSearcher>(
         &self,
         pos: Self::Position,
         search: &Search,
     ) -> Option<Self::Position>
         requires { LiesIn (view self.now) (Self.Position.offset pos) }
-        ensures { option_map Self.Position.offset result ≡ found_from (view self.now) (Search.find_in search.now) (Self.Position.offset pos) };
+        ensures { option_map Self.Position.offset result ≡ found_from (view self.now) (Search.find_in search.now) (Self.Position.offset pos) }
+    {
+        let rest = &self.bytes()?[self.pos_to_offset(pos)..];
+        let index = search.find_in(rest)?;
+        self.try_move_right(pos, index)
+    }
 
     /// Whether the bytes or units of a range stand once more beside a position, to its right or to its left by the
     /// direction, and over UTF-16 end outside a pair. Where they do the position moves past them, else it may be any.
@@ -166,9 +198,22 @@ pub trait InputIndexer: Debug + Copy {
 
     /// Whether these bytes stand beside a position, to its right or to its left by the direction. Where they do the position
     /// moves past them, else it may be any. Over units, which are no bytes, they never do.
+    #[inline]
     fn match_bytes<Dir: Direction>(&self, dir: Dir, pos: &mut Self::Position, bytes: &[u8]) -> bool
         requires { LiesIn (view self.now) (Self.Position.offset pos.old) }
-        ensures { only_if result (Self.Position.offset pos.new) ≡ in_bytes (view self.now).kind (literal (input_of (view self.now)) (way Dir.FORWARD) bytes.now (Self.Position.offset pos.old)) };
+        ensures { only_if result (Self.Position.offset pos.new) ≡ in_bytes (view self.now).kind (literal (input_of (view self.now)) (way Dir.FORWARD) bytes.now (Self.Position.offset pos.old)) }
+    {
+        let Some(text) = self.bytes() else {
+            return false;
+        };
+        match bytes_beside(dir, text, bytes, self.pos_to_offset(*pos)) {
+            Some(end) => {
+                *pos = <Self::Position as PositionType>::new(end);
+                true
+            }
+            None => false,
+        }
+    }
 
     // the units are those of a text of the kind
     ghost are_of_kind: { (s : Self) → AreOfKind (view s).kind (view s).units };

@@ -7,7 +7,7 @@ use crate::cursor::Direction;
 use crate::indexing::InputIndexer;
 use crate::position::{DefPosition, PositionType};
 use crate::units::{single_left, single_right, units_beside};
-use regress_front_tables::{ByteSearcher, Tables};
+use regress_front_tables::Tables;
 use std::ops::Range;
 
 /// A text of 16-bit units, each one character.
@@ -91,24 +91,7 @@ impl<'u, 't> InputIndexer for Ucs2Input<'u, 't> {
     }
 
     #[inline]
-    fn next_right_pos(&self, pos: Self::Position) -> Option<Self::Position> {
-        let (_, behind) = single_right(self.units, pos.offset())?;
-        Some(DefPosition::new(behind))
-    }
-
-    #[inline]
-    fn next_left_pos(&self, pos: Self::Position) -> Option<Self::Position> {
-        let (_, before) = single_left(self.units, pos.offset())?;
-        Some(DefPosition::new(before))
-    }
-
-    #[inline]
-    fn peek_byte_right(&self, _pos: Self::Position) -> Option<u8> {
-        None
-    }
-
-    #[inline]
-    fn peek_byte_left(&self, _pos: Self::Position) -> Option<u8> {
+    fn bytes(&self) -> Option<&[u8]> {
         None
     }
 
@@ -120,15 +103,6 @@ impl<'u, 't> InputIndexer for Ucs2Input<'u, 't> {
     #[inline]
     fn pos_to_offset(&self, pos: Self::Position) -> usize {
         pos.offset()
-    }
-
-    #[inline]
-    fn find_bytes<Search: ByteSearcher>(
-        &self,
-        _pos: Self::Position,
-        _search: &Search,
-    ) -> Option<Self::Position> {
-        None
     }
 
     #[inline]
@@ -145,16 +119,6 @@ impl<'u, 't> InputIndexer for Ucs2Input<'u, 't> {
     {
         let part = &self.units[range.start.offset()..range.end.offset()];
         pos.move_to(units_beside(dir, self.units, part, pos.offset()))
-    }
-
-    #[inline]
-    fn match_bytes<Dir: Direction>(
-        &self,
-        _dir: Dir,
-        _pos: &mut Self::Position,
-        _bytes: &[u8],
-    ) -> bool {
-        false
     }
 
     ghost are_of_kind = { λ s. s.in_range };

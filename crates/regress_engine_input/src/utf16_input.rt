@@ -7,7 +7,7 @@ use crate::cursor::Direction;
 use crate::indexing::InputIndexer;
 use crate::position::{DefPosition, PositionType};
 use crate::units::{outside_pair, units_beside, utf16_left, utf16_right};
-use regress_front_tables::{ByteSearcher, Tables};
+use regress_front_tables::Tables;
 use std::ops::Range;
 
 /// A text of 16-bit units. A high unit (D800 to DBFF) before a low one (DC00 to DFFF) is one character, any other unit is one
@@ -92,24 +92,7 @@ impl<'u, 't> InputIndexer for Utf16Input<'u, 't> {
     }
 
     #[inline]
-    fn next_right_pos(&self, pos: Self::Position) -> Option<Self::Position> {
-        let (_, behind) = utf16_right(self.units, pos.offset())?;
-        Some(DefPosition::new(behind))
-    }
-
-    #[inline]
-    fn next_left_pos(&self, pos: Self::Position) -> Option<Self::Position> {
-        let (_, before) = utf16_left(self.units, pos.offset())?;
-        Some(DefPosition::new(before))
-    }
-
-    #[inline]
-    fn peek_byte_right(&self, _pos: Self::Position) -> Option<u8> {
-        None
-    }
-
-    #[inline]
-    fn peek_byte_left(&self, _pos: Self::Position) -> Option<u8> {
+    fn bytes(&self) -> Option<&[u8]> {
         None
     }
 
@@ -121,15 +104,6 @@ impl<'u, 't> InputIndexer for Utf16Input<'u, 't> {
     #[inline]
     fn pos_to_offset(&self, pos: Self::Position) -> usize {
         pos.offset()
-    }
-
-    #[inline]
-    fn find_bytes<Search: ByteSearcher>(
-        &self,
-        _pos: Self::Position,
-        _search: &Search,
-    ) -> Option<Self::Position> {
-        None
     }
 
     #[inline]
@@ -147,16 +121,6 @@ impl<'u, 't> InputIndexer for Utf16Input<'u, 't> {
         let part = &self.units[range.start.offset()..range.end.offset()];
         let found = units_beside(dir, self.units, part, pos.offset());
         pos.move_to(outside_pair(self.units, found))
-    }
-
-    #[inline]
-    fn match_bytes<Dir: Direction>(
-        &self,
-        _dir: Dir,
-        _pos: &mut Self::Position,
-        _bytes: &[u8],
-    ) -> bool {
-        false
     }
 
     ghost are_of_kind = { λ s. s.in_range };

@@ -3,11 +3,11 @@ ghost use Rattle.std.specs.Str.{IsUtf8};
 ghost use Rattle.std.proofs.Props.{props};
 ghost use Rattle.std.proofs.Common.{rules};
 
-use crate::bytes::{byte_left, byte_right, bytes_beside, utf8_left, utf8_right};
+use crate::bytes::{bytes_beside, utf8_left, utf8_right};
 use crate::cursor::Direction;
 use crate::indexing::InputIndexer;
 use crate::position::{DefPosition, PositionType};
-use regress_front_tables::{ByteSearcher, Tables};
+use regress_front_tables::Tables;
 use std::ops::Range;
 
 /// A text of UTF-8.
@@ -111,13 +111,8 @@ impl<'u, 't> InputIndexer for Utf8Input<'u, 't> {
     }
 
     #[inline]
-    fn peek_byte_right(&self, pos: Self::Position) -> Option<u8> {
-        byte_right(self.contents(), pos.offset())
-    }
-
-    #[inline]
-    fn peek_byte_left(&self, pos: Self::Position) -> Option<u8> {
-        byte_left(self.contents(), pos.offset())
+    fn bytes(&self) -> Option<&[u8]> {
+        Some(self.contents())
     }
 
     #[inline]
@@ -128,16 +123,6 @@ impl<'u, 't> InputIndexer for Utf8Input<'u, 't> {
     #[inline]
     fn pos_to_offset(&self, pos: Self::Position) -> usize {
         pos.offset()
-    }
-
-    #[inline]
-    fn find_bytes<Search: ByteSearcher>(
-        &self,
-        pos: Self::Position,
-        search: &Search,
-    ) -> Option<Self::Position> {
-        let index = search.find_in(&self.contents()[pos.offset()..])?;
-        self.try_move_right(pos, index)
     }
 
     #[inline]
@@ -154,16 +139,6 @@ impl<'u, 't> InputIndexer for Utf8Input<'u, 't> {
     {
         let part = &self.contents()[range.start.offset()..range.end.offset()];
         pos.move_to(bytes_beside(dir, self.contents(), part, pos.offset()))
-    }
-
-    #[inline]
-    fn match_bytes<Dir: Direction>(
-        &self,
-        dir: Dir,
-        pos: &mut Self::Position,
-        bytes: &[u8],
-    ) -> bool {
-        pos.move_to(bytes_beside(dir, self.contents(), bytes, pos.offset()))
     }
 
     ghost are_of_kind = { λ s. s.utf8 };
