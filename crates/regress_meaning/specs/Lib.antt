@@ -16,6 +16,8 @@ pub mod Numbering
 pub mod Points
 pub mod Weights
 pub mod Laws
+pub mod Inputs
+pub mod Steps
 pub mod ReadingClass
 pub mod Scan
 pub mod Reading
