@@ -1,5 +1,5 @@
 -- What an executor sees of a text, by the kind of its input.
-use Rattle.std.specs.Prelude.{ℕ, ◌+◌, ◌<◌, ◌≤◌, Bool, true, false, List, length, drop, Option, Some, None, slice_get, nat_le, option_and_then, All, if◌then◌else◌}
+use Rattle.std.specs.Prelude.{suc, ◌-◌, ℕ, ◌+◌, ◌<◌, ◌≤◌, Bool, true, false, List, length, drop, Option, Some, None, slice_get, nat_le, option_and_then, All, if◌then◌else◌}
 use Rattle.std.specs.Str.{IsUtf8, IsAscii, IsCharBoundary}
 use Rattle.regress_meaning.specs.Table.{Table}
 use Rattle.regress_meaning.specs.Meaning.{Direction, Forward, Backward}
@@ -85,6 +85,11 @@ behind o (Some x) = x.1
 abbrev pub unit_beside : List ℕ → Direction → ℕ → Option ℕ
 unit_beside units Forward o = slice_get units o
 unit_beside units Backward o = unit_before units o
+
+-- the offset past the unit beside one
+abbrev pub past_unit : Direction → ℕ → ℕ
+past_unit Forward o = suc o
+past_unit Backward o = o - 1
 
 -- what is found in bytes, and over units nothing
 abbrev pub in_bytes : {A : Type 0} → Kind → Option A → Option A

@@ -1,12 +1,20 @@
 //! Positions in an input.
-ghost use Rattle.std.specs.Prelude.{◌≡◌, ◌==◌, ℕ};
+ghost use Rattle.std.specs.Prelude.{◌≡◌, ◌==◌, ◌+◌, ◌-◌, ◌^◌, ◌<◌, ◌≤◌, ℕ};
 ghost use Rattle.regress_meaning.specs.Steps.{only_if};
 ghost use Rattle.std.proofs.Common.{rules};
 
 use std::fmt::Debug;
+use std::ops::{Add, AddAssign, Sub, SubAssign};
 
 /// A position in an input, which stands for an offset in its bytes or units.
-pub trait PositionType: Debug + Copy + Ord {
+pub trait PositionType: Debug
+    + Copy
+    + Ord
+    + Add<usize, Output = Self>
+    + Sub<usize, Output = Self>
+    + Sub<Self, Output = usize>
+    + AddAssign<usize>
+    + SubAssign<usize> {
     // the offset that it stands for
     ghost offset: { Self → ℕ };
 
@@ -60,4 +68,74 @@ impl PositionType for IndexPosition {
     }
 
     ghost eq_by_offset = { Prim.search rules };
+}
+
+impl Add<usize> for IndexPosition {
+    type Output = IndexPosition;
+
+    ghost can_add = { λ p n. p.offset + n < 2 ^ 64 };
+
+    ghost add_gives = { λ p n q. q.offset ≡ p.offset + n };
+
+    /// The position `rhs` bytes or units to the right.
+    #[inline]
+    fn add(self, rhs: usize) -> IndexPosition {
+        IndexPosition {
+            offset: self.offset + rhs,
+        }
+    }
+}
+
+impl Sub<usize> for IndexPosition {
+    type Output = IndexPosition;
+
+    ghost can_sub = { λ p n. n ≤ p.offset };
+
+    ghost sub_gives = { λ p n q. q.offset ≡ p.offset - n };
+
+    /// The position `rhs` bytes or units to the left.
+    #[inline]
+    fn sub(self, rhs: usize) -> IndexPosition {
+        IndexPosition {
+            offset: self.offset - rhs,
+        }
+    }
+}
+
+impl Sub<IndexPosition> for IndexPosition {
+    type Output = usize;
+
+    ghost can_sub = { λ p q. q.offset ≤ p.offset };
+
+    ghost sub_gives = { λ p q n. n ≡ p.offset - q.offset };
+
+    /// How many bytes or units lie between the two positions.
+    #[inline]
+    fn sub(self, rhs: IndexPosition) -> usize {
+        self.offset - rhs.offset
+    }
+}
+
+impl AddAssign<usize> for IndexPosition {
+    ghost can_add_assign = { λ p n. p.offset + n < 2 ^ 64 };
+
+    ghost add_assign_gives = { λ p n q. q.offset ≡ p.offset + n };
+
+    /// Moves the position to the right by `rhs` bytes or units.
+    #[inline]
+    fn add_assign(&mut self, rhs: usize) {
+        self.offset += rhs;
+    }
+}
+
+impl SubAssign<usize> for IndexPosition {
+    ghost can_sub_assign = { λ p n. n ≤ p.offset };
+
+    ghost sub_assign_gives = { λ p n q. q.offset ≡ p.offset - n };
+
+    /// Moves the position to the left by `rhs` bytes or units.
+    #[inline]
+    fn sub_assign(&mut self, rhs: usize) {
+        self.offset -= rhs;
+    }
 }

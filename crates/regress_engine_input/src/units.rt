@@ -3,7 +3,7 @@ ghost use Rattle.std.specs.Prelude.{◌≡◌, ◌≤◌, true, length};
 ghost use Rattle.regress_meaning.specs.Meaning.{Forward, Backward};
 ghost use Rattle.regress_meaning.specs.Tokens.{is_high, is_low, joined};
 ghost use Rattle.regress_meaning.specs.Inputs.{Input, single_next, utf16_next};
-ghost use Rattle.regress_meaning.specs.Steps.{literal, splits};
+ghost use Rattle.regress_meaning.specs.Steps.{literal, splits, unless_split};
 ghost use Rattle.regress_engine_input.specs.Views.{way};
 
 use crate::cursor::Direction;
@@ -103,7 +103,7 @@ pub(crate) fn utf16_left(units: &[u16], at: usize) -> Option<(u32, usize)>
 
 /// The offset behind some units that stand to the right of one, or `None` where they don't.
 #[inline]
-pub(crate) fn units_right(units: &[u16], part: &[u16], at: usize) -> Option<usize>
+fn units_right(units: &[u16], part: &[u16], at: usize) -> Option<usize>
     requires { at ≤ length units.now }
     ensures { (input : Input) → input.units ≡ units.now → result ≡ literal input Forward part.now at }
 {
@@ -116,7 +116,7 @@ pub(crate) fn units_right(units: &[u16], part: &[u16], at: usize) -> Option<usiz
 
 /// The offset before some units that stand to the left of one, or `None` where they don't.
 #[inline]
-pub(crate) fn units_left(units: &[u16], part: &[u16], at: usize) -> Option<usize>
+fn units_left(units: &[u16], part: &[u16], at: usize) -> Option<usize>
     requires { at ≤ length units.now }
     ensures { (input : Input) → input.units ≡ units.now → result ≡ literal input Backward part.now at }
 {
@@ -147,13 +147,23 @@ pub(crate) fn units_beside<Dir: Direction>(
 
 /// Whether an offset lies inside a pair.
 #[inline]
-pub(crate) fn lies_in_pair(units: &[u16], at: usize) -> bool
-    requires { at ≤ length units.now }
+fn lies_in_pair(units: &[u16], at: usize) -> bool
     ensures { result ≡ splits units.now at }
 {
     if at > 0 && at < units.len() {
         is_high_unit(units[at - 1]) && is_low_unit(units[at])
     } else {
         false
+    }
+}
+
+/// An offset, or `None` where it lies inside a pair.
+#[inline]
+pub(crate) fn outside_pair(units: &[u16], found: Option<usize>) -> Option<usize>
+    ensures { result ≡ unless_split units.now found }
+{
+    match found {
+        Some(at) if !lies_in_pair(units, at) => Some(at),
+        _ => None,
     }
 }

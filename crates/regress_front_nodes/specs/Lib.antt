@@ -1,4 +1,5 @@
 pub mod Alike
+pub mod ByteInputs
 pub mod Changes
 pub mod Characters
 pub mod Copies

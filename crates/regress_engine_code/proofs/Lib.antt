@@ -1,0 +1,4 @@
+pub mod LayoutLemmas
+pub mod LiteralLemmas
+pub mod StringLemmas
+pub mod CountLemmas

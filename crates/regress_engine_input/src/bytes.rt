@@ -1,0 +1,184 @@
+//! What stands beside an offset of bytes.
+ghost use Rattle.std.specs.Prelude.{◌≡◌, ◌≤◌, length};
+ghost use Rattle.regress_meaning.specs.Meaning.{Forward, Backward};
+ghost use Rattle.regress_meaning.specs.Inputs.{Input, byte_at, of_two, of_three, of_four, is_continuation, single_next, utf8_next};
+ghost use Rattle.regress_meaning.specs.Steps.{literal};
+ghost use Rattle.regress_engine_input.specs.Views.{way, unit_beside};
+
+use crate::cursor::Direction;
+use regress_front_bytes::is_utf8_continuation;
+
+/// The byte behind an offset.
+#[inline]
+pub(crate) fn byte_right(bytes: &[u8], at: usize) -> Option<u8>
+    ensures { result ≡ unit_beside bytes.now Forward at }
+{
+    bytes.get(at).copied()
+}
+
+/// The byte before an offset.
+#[inline]
+pub(crate) fn byte_left(bytes: &[u8], at: usize) -> Option<u8>
+    requires { at ≤ length bytes.now }
+    ensures { result ≡ unit_beside bytes.now Backward at }
+{
+    if at > 0 { Some(bytes[at - 1]) } else { None }
+}
+
+/// The byte behind an offset as a character, and the offset behind it.
+#[inline]
+pub(crate) fn single_byte_right(bytes: &[u8], at: usize) -> Option<(u8, usize)>
+    ensures { result ≡ single_next bytes.now Forward at }
+{
+    if at < bytes.len() {
+        Some((bytes[at], at + 1))
+    } else {
+        None
+    }
+}
+
+/// The byte before an offset as a character, and the offset before it.
+#[inline]
+pub(crate) fn single_byte_left(bytes: &[u8], at: usize) -> Option<(u8, usize)>
+    requires { at ≤ length bytes.now }
+    ensures { result ≡ single_next bytes.now Backward at }
+{
+    if at > 0 {
+        Some((bytes[at - 1], at - 1))
+    } else {
+        None
+    }
+}
+
+/// The offset behind some bytes that stand to the right of one, or `None` where they don't.
+#[inline]
+fn bytes_right(text: &[u8], part: &[u8], at: usize) -> Option<usize>
+    requires { at ≤ length text.now }
+    ensures { (input : Input) → input.units ≡ text.now → result ≡ literal input Forward part.now at }
+{
+    if part.len() <= text.len() - at && part == &text[at..at + part.len()] {
+        Some(at + part.len())
+    } else {
+        None
+    }
+}
+
+/// The offset before some bytes that stand to the left of one, or `None` where they don't.
+#[inline]
+fn bytes_left(text: &[u8], part: &[u8], at: usize) -> Option<usize>
+    requires { at ≤ length text.now }
+    ensures { (input : Input) → input.units ≡ text.now → result ≡ literal input Backward part.now at }
+{
+    if part.len() <= at && part == &text[at - part.len()..at] {
+        Some(at - part.len())
+    } else {
+        None
+    }
+}
+
+/// The offset past some bytes that stand beside one in a direction, or `None` where they don't.
+#[inline]
+pub(crate) fn bytes_beside<Dir: Direction>(
+    _dir: Dir,
+    text: &[u8],
+    part: &[u8],
+    at: usize,
+) -> Option<usize>
+    requires { at ≤ length text.now }
+    ensures { (input : Input) → input.units ≡ text.now → result ≡ literal input (way Dir.FORWARD) part.now at }
+{
+    if Dir::FORWARD {
+        bytes_right(text, part, at)
+    } else {
+        bytes_left(text, part, at)
+    }
+}
+
+/// The byte at an offset, 0 past the end.
+#[inline]
+fn byte(bytes: &[u8], at: usize) -> u8
+    ensures { result ≡ byte_at bytes.now at }
+{
+    if at < bytes.len() { bytes[at] } else { 0 }
+}
+
+/// Whether the byte is not the first of a character.
+#[inline]
+fn follows(b: u8) -> bool
+    ensures { result ≡ is_continuation b }
+{
+    is_utf8_continuation(b)
+}
+
+/// The character of two bytes.
+#[inline]
+fn two(w: u8, x: u8) -> u32
+    ensures { result ≡ of_two w x }
+{
+    u32::from(w) % 32 * 64 + u32::from(x) % 64
+}
+
+/// The character of three bytes.
+#[inline]
+fn three(w: u8, x: u8, y: u8) -> u32
+    ensures { result ≡ of_three w x y }
+{
+    (u32::from(w) % 16 * 64 + u32::from(x) % 64) * 64 + u32::from(y) % 64
+}
+
+/// The character of four bytes.
+#[inline]
+fn four(w: u8, x: u8, y: u8, z: u8) -> u32
+    ensures { result ≡ of_four w x y z }
+{
+    ((u32::from(w) % 8 * 64 + u32::from(x) % 64) * 64 + u32::from(y) % 64) * 64 + u32::from(z) % 64
+}
+
+/// The character behind an offset, and the offset behind it.
+#[inline]
+pub(crate) fn utf8_right(bytes: &[u8], at: usize) -> Option<(u32, usize)>
+    ensures { result ≡ utf8_next bytes.now Forward at }
+{
+    if at >= bytes.len() {
+        return None;
+    }
+    let w = bytes[at];
+    if w < 0x80 {
+        return Some((u32::from(w), at + 1));
+    }
+    let x = byte(bytes, at + 1);
+    if w < 0xE0 {
+        return Some((two(w, x), at + 2));
+    }
+    let y = byte(bytes, at + 2);
+    if w < 0xF0 {
+        return Some((three(w, x, y), at + 3));
+    }
+    Some((four(w, x, y, byte(bytes, at + 3)), at + 4))
+}
+
+/// The character before an offset, and the offset before it.
+#[inline]
+pub(crate) fn utf8_left(bytes: &[u8], at: usize) -> Option<(u32, usize)>
+    requires { at ≤ length bytes.now }
+    ensures { result ≡ utf8_next bytes.now Backward at }
+{
+    if at == 0 {
+        return None;
+    }
+    let last = at - 1;
+    let z = bytes[last];
+    if z < 0x80 {
+        return Some((u32::from(z), last));
+    }
+    let y = byte(bytes, last.saturating_sub(1));
+    if !follows(y) {
+        return Some((two(y, z), at.saturating_sub(2)));
+    }
+    let x = byte(bytes, last.saturating_sub(2));
+    if !follows(x) {
+        return Some((three(x, y, z), at.saturating_sub(3)));
+    }
+    let w = byte(bytes, last.saturating_sub(3));
+    Some((four(w, x, y, z), at.saturating_sub(4)))
+}
