@@ -8,7 +8,7 @@ ghost use Rattle.regress_front_nodes.specs.TreeMeaning.{bracket_has};
 ghost use Rattle.regress_engine_input.specs.Views.{View, way, input_of, CanRead};
 
 use crate::properties::{CharInput, CharProperties};
-use crate::step::next;
+use regress_engine_input::cursor::next;
 use regress_engine_input::{Direction, ElementType, InputIndexer};
 use regress_front_nodes::BracketContents;
 use regress_front_tables::{MAX_CHAR_SET_LENGTH, charset_contains};
