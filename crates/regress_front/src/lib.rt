@@ -30,9 +30,10 @@ pub use regress_front_nodes::{
     lower_code_point_sequence, nodes_stand_for_trees, pieces_match_their_string, walk, walk_mut,
 };
 pub use regress_front_sets::{
-    CODE_POINT_MAX, CharacterClassType, CodePoint, CodePointSet, DIGITS, Interval, LINE_TERMINATOR,
-    WHITESPACE, WORD_CHARS, add_utf8_first_bytes_to_bitmap, digits, equal_members_equal_intervals,
-    inverted_twice_is_the_same, is_ascii_word, line_terminator, whitespace, word_chars,
+    CODE_POINT_MAX, CharacterClassType, CodePoint, CodePointSet, CountedIntervals, DIGITS,
+    Interval, LINE_TERMINATOR, Probes, WHITESPACE, WORD_CHARS, add_utf8_first_bytes_to_bitmap,
+    bracket_index, digits, equal_members_equal_intervals, inverted_twice_is_the_same,
+    is_ascii_word, line_terminator, whitespace, word_chars,
 };
 pub use regress_front_syntax::{Class, Modifiers, Syntax, parse};
 pub use regress_front_tables::{

@@ -2,3 +2,4 @@ pub mod FirstByteLemmas
 pub mod IntervalLemmas
 pub mod SetLemmas
 pub mod ClassLemmas
+pub mod HalvingLemmas

@@ -46,3 +46,7 @@ gaps_from a (i ∷ intervals) = gap a i.0 ++ gaps_from (i.1 + 1) intervals
 -- the intervals of the code points that lie in none of these
 abbrev pub inverse : List (ℕ × ℕ) → List (ℕ × ℕ)
 inverse = gaps_from 0
+
+-- each interval ends before the next begins
+abbrev pub Ascend : List (ℕ × ℕ) → Type 0
+Ascend intervals = (j k : ℕ) → j < k → k < length intervals → (interval_at intervals j).1 < (interval_at intervals k).0

@@ -4,6 +4,7 @@ ghost use Rattle.regress_meaning.specs.TableParts.{IntervalsRise};
 ghost use Rattle.regress_front_sets.specs.Props.{IntervalsRise-prop};
 ghost use Rattle.regress_front_sets.specs.Intervals.{ends, ends_of, in_interval, IsRun, gap, inverse};
 
+use crate::halving::{CountedIntervals, bracket_index};
 use crate::interval::{CODE_POINT_MAX, CodePoint, Interval};
 pub use laws::{equal_members_equal_intervals, inverted_twice_is_the_same};
 use regress_front_core::Error;
@@ -53,9 +54,8 @@ impl CodePointSet {
     pub fn contains(&self, cp: CodePoint) -> bool
         ensures { result ≡ in_set self.now cp }
     {
-        self.intervals
-            .binary_search_by(|interval| interval.compare(cp))
-            .is_ok()
+        let mut intervals = CountedIntervals::new(&self.intervals);
+        bracket_index(&mut intervals, cp).is_some()
     }
 
     /// Adds each code point of an interval, as `set.add(Interval { first: 0x61, last: 0x7A })?`. Where memory is refused, with

@@ -4,6 +4,7 @@
 mod character_classes;
 mod code_point_set;
 mod first_bytes;
+mod halving;
 mod interval;
 
 pub use character_classes::{
@@ -12,6 +13,7 @@ pub use character_classes::{
 };
 pub use code_point_set::{CodePointSet, equal_members_equal_intervals, inverted_twice_is_the_same};
 pub use first_bytes::add_utf8_first_bytes_to_bitmap;
+pub use halving::{CountedIntervals, Probes, bracket_index};
 pub use interval::{CODE_POINT_MAX, CodePoint, Interval};
 pub use regress_front_bytes::{
     AsciiBitmap, ByteArraySet, ByteBitmap, ByteSearcher, ByteSet, CodePointRange, EmptyString,

@@ -1,14 +1,14 @@
-use Rattle.std.proofs.Common.{rules, of_calls, ap, ◌∙◌}
-use Rattle.std.proofs.lemmas.Fn.{always_returns_same}
+use Rattle.std.proofs.Common.{ap, ◌∙◌}
+use Rattle.std.specs.Option.{is_some}
 use Rattle.regress_meaning.specs.TableParts.{in_intervals}
-use Rattle.regress_front_sets.specs.Intervals.{interval_cmp, ends_of}
-use Rattle.regress_front_sets.proofs.SetLemmas.{in_intervals-search}
+use Rattle.regress_front_sets.specs.Intervals.{ends_of}
+use Rattle.regress_front_sets.proofs.HalvingLemmas.{Ascend-rise, in_intervals-position}
 use Rattle.regress_front_sets.proofs.code_point_set.CodePointSet.contains.Goals as goal
+
+pub new-intervals-requires : goal.new-intervals-requires
+new-intervals-requires c = Ascend-rise _ (rw (← c.deref.ensures.value) at c.args.self.now.canonical)
 
 pub returns : goal.returns
 returns c =
-    let items = c.deref.ensures.value in
-    let rise = rw (← items) at c.args.self.now.canonical in
-    let found = c.binary_search_by.ensures.position (λ i. interval_cmp i c.args.cp) (always_returns_same _ _ _ (λ a r f k. search (rules, of_calls))) in
-    c.is_ok.ensures.value ∙ in_intervals-search c.deref.result.now c.args.cp c.binary_search_by.result rise c.binary_search_by.ensures.bound found
-    ∙ ap (λ l. in_intervals (ends_of l) c.args.cp) items
+    let items = c.new-intervals.ensures.intervals ∙ c.deref.ensures.value in
+    c.is_some.ensures ∙ ap is_some c.bracket_index.ensures.index ∙ in_intervals-position _ c.args.cp ∙ ap (λ l. in_intervals (ends_of l) c.args.cp) items

@@ -1,0 +1,3 @@
+pub mod CaseLemmas
+pub mod MatcherLemmas
+pub mod ViewLemmas

@@ -1,0 +1,3 @@
+pub mod AsciiCase
+pub mod AsciiByTable
+pub mod References
