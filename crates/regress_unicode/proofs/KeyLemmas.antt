@@ -1,0 +1,56 @@
+-- Keys as texts.
+use Rattle.std.proofs.Common.{◌≡◌, ℕ, zero, suc, ◌<◌, Bool, true, nat_lt, List, [], ◌∷◌, ◌++◌, chars, refl, ◌∙◌, arith}
+use Rattle.std.specs.Str.{IsAscii}
+use Rattle.std.specs.List.{list_all, AllZip}
+use Rattle.std.proofs.lemmas.Str.{chars-IsAscii}
+use Rattle.std.proofs.lemmas.Bool.{and_parts}
+use Rattle.std.proofs.lemmas.Bool.Decides.{nat_tests}
+use Rattle.ucd_sets.specs.Names.{script_names, category_names as given_names}
+use Rattle.ucd_sets.specs.declared.set.Set.{Set}
+use Rattle.regress_unicode.specs.Names.{binary_names, category_names}
+use Rattle.regress_unicode.specs.Keys.{unicode_keys}
+use Rattle.regress_unicode.specs.Unicode.{Hold, IsHeld}
+
+-- the entry stands under the text of the key's bytes, and holds its set
+abbrev pub IsRead : List ℕ × List (ℕ × ℕ) → List ℕ × Set → Type 0
+IsRead e k = (e.0 ≡ chars k.0) × Hold e.1 k.1
+
+-- one more of each
+pub read-more : (entries : List (List ℕ × List (ℕ × ℕ))) (keys : List (List ℕ × Set)) (e : List ℕ × List (ℕ × ℕ)) (k : List ℕ × Set)
+    → AllZip IsRead entries keys → IsRead e k → AllZip IsRead (entries ++ e ∷ []) (keys ++ k ∷ [])
+read-more [] [] e k h here = (here, tt)
+read-more [] (l ∷ keys) e k h here = absurd h
+read-more (d ∷ entries) [] e k h here = absurd h
+read-more (d ∷ entries) (l ∷ keys) e k h here = (h.0, read-more entries keys e k h.1 here)
+
+-- the bytes are ASCII
+abbrev is_plain : List ℕ → Bool
+is_plain = list_all (λ b. nat_lt b 128)
+
+plain-below : (b : ℕ) → nat_lt b 128 ≡ true → b < 128
+plain-below b h = grind (arith, nat_tests)
+
+plain-ascii : (bs : List ℕ) → is_plain bs ≡ true → IsAscii bs
+plain-ascii [] h i = omega arith
+plain-ascii (b ∷ bs) h zero = plain-below b (and_parts _ _ h).0
+plain-ascii (b ∷ bs) h (suc i) = plain-ascii bs (and_parts _ _ h).1 i
+
+-- ASCII keys are their bytes
+read-held : (entries : List (List ℕ × List (ℕ × ℕ))) (keys : List (List ℕ × Set)) → AllZip IsRead entries keys → list_all (λ k. is_plain k.0) keys ≡ true
+    → AllZip IsHeld entries keys
+read-held [] [] h plain = tt
+read-held [] (k ∷ keys) h plain = absurd h
+read-held (e ∷ entries) [] h plain = absurd h
+read-held (e ∷ entries) (k ∷ keys) h plain =
+    let parts = and_parts _ _ plain in (
+      (h.0.0 ∙ chars-IsAscii k.0 (plain-ascii k.0 parts.0), h.0.1),
+      read-held entries keys h.1 parts.1,
+    )
+
+-- the keys of Unicode's properties are ASCII
+keys-plain : list_all (λ k. is_plain k.0) unicode_keys ≡ true
+unfolding unicode_keys binary_names category_names script_names given_names
+keys-plain = refl
+
+pub all-held : (entries : List (List ℕ × List (ℕ × ℕ))) → AllZip IsRead entries unicode_keys → AllZip IsHeld entries unicode_keys
+all-held entries h = read-held entries unicode_keys h keys-plain

@@ -1,0 +1,3 @@
+pub mod CaseLemmas
+pub mod KeyLemmas
+pub mod SetLemmas

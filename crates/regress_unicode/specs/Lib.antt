@@ -1,0 +1,4 @@
+pub mod Case
+pub mod Keys
+pub mod Names
+pub mod Unicode
