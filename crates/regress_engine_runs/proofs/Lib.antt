@@ -1,3 +1,4 @@
+pub mod SafeRuns
 pub mod RunLemmas
 pub mod RunViews
 pub mod Computed
