@@ -4,6 +4,7 @@ pub mod RunViews
 pub mod Computed
 pub mod OneAnswer
 pub mod UndoLemmas
+pub mod ReadLemmas
 pub mod Leading
 pub mod Places
 pub mod Entering
