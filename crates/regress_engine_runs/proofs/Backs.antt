@@ -147,9 +147,9 @@ module _ (target : Target) (input : Input) (reading : Reading) (tells : Tells re
       let us : List State = repeat_group context dir icase o s in
       let ws : List Whole = moved_to w (repeated input dir icase (option_map (offset_range reading) (unwrap_or o None)) w.offset) in
       let does : successors target.program input (code.back j icase) dir w ≡ ws = ap (λ g. moved_to w (repeated input dir icase g w.offset)) told in
-      first_expand target.program input Q (w ∷ []) ws us
-      (subst (Expands target.program input dir (w ∷ [])) does (steps target.program input (code.back j icase) w (standing target input reading w at here) refl))
-      (leads_at_once target.program input Q us ws (by_group dir (suc p.address) gone p.loops p.loops s w o (ap suc at) stands lies))
+      first_expand target.program input reading Q (w ∷ []) ws us
+      (subst (Expands target.program input reading dir (w ∷ [])) does (steps target.program input reading (code.back j icase) w (standing target input reading w at here) refl (λ e. (s.place, stands.inside.place, stands.place))))
+      (leads_at_once target.program input reading Q us ws (by_group dir (suc p.address) gone p.loops p.loops s w o (ap suc at) stands lies))
     where
       group-lies : (gs : List (Option (ℕ × ℕ))) (j : ℕ) → All (λ g. IfSome g (LiesIn size)) gs → IfSome (get_or gs j None) (LiesIn size)
       group-lies gs j h = by_place (cases_lt j (length gs))

@@ -19,7 +19,7 @@ module _ (target : Target) (input : Input) (reading : Reading) where
   -- Entering a tree at one spot leads to its outcomes, at another.
   abbrev pub Enters : Bool → Tree → Spot → Spot → Type 0
   Enters b t p q = (s : State) (w : Whole) → w.at ≡ p.address → StandsFor reading s w → MayEnter (λ k. occurs k t) q.loops w
-      → Leads target.program input (direction b) (Arrives reading (direction b) q.address (λ k. occurs k t) p.loops q.loops s.place w)
+      → Leads target.program input reading (direction b) (Arrives reading (direction b) q.address (λ k. occurs k t) p.loops q.loops s.place w)
       (w ∷ []) (node_outcomes (context_of reading input) t (direction b) s)
 
   -- it is where it is
@@ -39,9 +39,9 @@ module _ (target : Target) (input : Input) (reading : Reading) where
       let dir : Direction = direction b in
       let R : State → Whole → Type 0 = Arrives reading dir m.address (λ k. occurs k s) p.loops m.loops u.place w in
       let Q : State → Whole → Type 0 = Arrives reading dir q.address (λ k. occurs k s + occurs k t) p.loops q.loops u.place w in
-      leads_on target.program input R Q (node_outcomes (context_of reading input) t dir) (w ∷ []) (node_outcomes (context_of reading input) s dir u)
+      leads_on target.program input reading R Q (node_outcomes (context_of reading input) t dir) (w ∷ []) (node_outcomes (context_of reading input) s dir u)
       (first u w at stands (MayEnter-part (λ k. occurs k s) (λ k. occurs k s + occurs k t) m.loops q.loops w (λ k. omega arith) above may))
-      (λ x v a. leads_weaker target.program input (Arrives reading dir q.address (λ k. occurs k t) m.loops q.loops x.place v) Q
+      (λ x v a. leads_weaker target.program input reading (Arrives reading dir q.address (λ k. occurs k t) m.loops q.loops x.place v) Q
       (λ y z c. record {
         at = c.at;
         stands = c.stands;
@@ -66,12 +66,12 @@ module _ (target : Target) (input : Input) (reading : Reading) where
       let other : Whole = record w { at = suc m.address } in
       let Q : State → Whole → Type 0 = Arrives reading dir q.address (λ k. occurs k s + occurs k t) p.loops q.loops u.place w in
       let R : State → Whole → Type 0 = Arrives reading dir m.address (λ k. occurs k s) p.loops m.loops u.place w in
-      let left : Leads target.program input dir Q (onward w ∷ []) (node_outcomes context s dir u) =
-      leads_same target.program input R Q (onward w ∷ []) (node_outcomes context s dir u)
+      let left : Leads target.program input reading dir Q (onward w ∷ []) (node_outcomes context s dir u) =
+      leads_same target.program input reading R Q (onward w ∷ []) (node_outcomes context s dir u)
       (first u (onward w) (ap suc at) stands (MayEnter-part (λ k. occurs k s) (λ k. occurs k s + occurs k t) m.loops q.loops w (λ k. omega arith) above may))
       (λ x v a. let z : Whole = record v { at = q.address } in
-      first_expand target.program input Q (v ∷ []) (z ∷ []) (x ∷ []) (steps target.program input (code.jump q.address) v (standing v a.at jump) refl)
-      (leads_at_once target.program input Q (x ∷ []) (z ∷ []) (
+      first_expand target.program input reading Q (v ∷ []) (z ∷ []) (x ∷ []) (steps target.program input reading (code.jump q.address) v (standing v a.at jump) refl (λ e. absurd (grind arith)))
+      (leads_at_once target.program input reading Q (x ∷ []) (z ∷ []) (
         record {
           at = refl;
           stands = a.stands;
@@ -80,8 +80,8 @@ module _ (target : Target) (input : Input) (reading : Reading) where
         },
         tt,
       ))) in
-      let right : Leads target.program input dir Q (other ∷ []) (node_outcomes context t dir u) =
-      leads_weaker target.program input (Arrives reading dir q.address (λ k. occurs k t) m.loops q.loops u.place w) Q
+      let right : Leads target.program input reading dir Q (other ∷ []) (node_outcomes context t dir u) =
+      leads_weaker target.program input reading (Arrives reading dir q.address (λ k. occurs k t) m.loops q.loops u.place w) Q
       (λ y z c. record {
         at = c.at;
         stands = c.stands;
@@ -90,6 +90,6 @@ module _ (target : Target) (input : Input) (reading : Reading) where
       })
       (other ∷ []) (node_outcomes context t dir u)
       (second u other refl stands (MayEnter-part (λ k. occurs k t) (λ k. occurs k s + occurs k t) q.loops q.loops w (λ k. omega arith) (omega arith) may)) in
-      first_expand target.program input Q (w ∷ []) (onward w ∷ other ∷ []) (node_outcomes context s dir u ++ node_outcomes context t dir u)
-      (steps target.program input (code.alt (suc m.address)) w (standing w at alt) refl)
-      (leads_beside target.program input Q (onward w ∷ []) (other ∷ []) (node_outcomes context s dir u) (node_outcomes context t dir u) left right)
+      first_expand target.program input reading Q (w ∷ []) (onward w ∷ other ∷ []) (node_outcomes context s dir u ++ node_outcomes context t dir u)
+      (steps target.program input reading (code.alt (suc m.address)) w (standing w at alt) refl (λ e. absurd (grind arith)))
+      (leads_beside target.program input reading Q (onward w ∷ []) (other ∷ []) (node_outcomes context s dir u) (node_outcomes context t dir u) left right)

@@ -106,9 +106,9 @@ module _ (target : Target) (input : Input) (reading : Reading) where
       } in
       let R : State → Whole → Type 0 = Arrives reading dir m.address (λ j. occurs j a) p.loops m.loops s.place v in
       let Q : State → Whole → Type 0 = Arrives reading dir (suc m.address) gone p.loops m.loops s.place w in
-      first_expand target.program input Q (w ∷ []) (v ∷ []) (node_outcomes context (tree.capture k name a) dir s)
-      (steps target.program input (code.begin_group k) w (standing target input reading w at begin) refl)
-      (leads_to_one target.program input R Q (captured k s.place) (v ∷ []) (node_outcomes context a dir s)
+      first_expand target.program input reading Q (w ∷ []) (v ∷ []) (node_outcomes context (tree.capture k name a) dir s)
+      (steps target.program input reading (code.begin_group k) w (standing target input reading w at begin) refl (λ e. absurd (grind arith)))
+      (leads_to_one target.program input reading R Q (captured k s.place) (v ∷ []) (node_outcomes context a dir s)
       (inner s v (ap suc at) entered may_inner)
       (λ x u r.
       let last : Marks = ended dir u.offset (get_or u.groups k unset) in
@@ -118,9 +118,9 @@ module _ (target : Target) (input : Input) (reading : Reading) where
       r.keeps.groups k none ∙ get_or-set_same w.groups k mark unset here ∙ ap (begun dir w.offset) free in
       let range : range_of last ≡ Some (offset reading (min s.place x.place), offset reading (max s.place x.place)) =
       ended-tells reading dir s.place x.place w.offset u.offset (get_or u.groups k unset) r.ahead stands.place r.stands.place kept in
-      first_expand target.program input Q (u ∷ []) (z ∷ []) (captured k s.place x ∷ [])
-      (steps target.program input (code.end_group k) u (standing target input reading u r.at end) refl)
-      (leads_at_once target.program input Q (captured k s.place x ∷ []) (z ∷ []) (
+      first_expand target.program input reading Q (u ∷ []) (z ∷ []) (captured k s.place x ∷ [])
+      (steps target.program input reading (code.end_group k) u (standing target input reading u r.at end) refl (λ e. absurd (grind arith)))
+      (leads_at_once target.program input reading Q (captured k s.place x ∷ []) (z ∷ []) (
         record {
           at = ap suc r.at;
           stands = record {

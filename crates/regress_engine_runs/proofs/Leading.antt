@@ -3,6 +3,7 @@ use Rattle.std.proofs.Common.{◌≡◌, Bool, true, false, List, [], ◌∷◌,
 use Rattle.std.proofs.lemmas.List.Concat.{flat_map_single}
 use Rattle.regress_meaning.specs.Meaning.{State, Direction}
 use Rattle.regress_meaning.specs.Inputs.{Input}
+use Rattle.regress_meaning.specs.Offsets.{Reading}
 use Rattle.regress_front_nodes.proofs.StepLemmas.{flat_map-self}
 use Rattle.regress_engine_code.specs.Instructions.{Program}
 use Rattle.regress_engine_runs.specs.States.{Whole}
@@ -40,25 +41,25 @@ flat_map-filter f test (s ∷ ss) = by_test (test s) refl (flat_map-filter f tes
     by_test true e rest = rw e (ap (λ ts. f s ++ ts) rest)
     by_test false e rest = rw e rest
 
-module _ (program : Program) (input : Input) where
+module _ (program : Program) (input : Input) (reading : Reading) where
   -- The whole states expand to some that belong to the states, one by one.
   abbrev pub Leads : Direction → (State → Whole → Type 0) → List Whole → List State → Type 0
-  Leads dir R ws ss = (vs : List Whole) × Expands program input dir ws vs × Pairwise R ss vs
+  Leads dir R ws ss = (vs : List Whole) × Expands program input reading dir ws vs × Pairwise R ss vs
 
   pub leads_at_once : {dir : Direction} (R : State → Whole → Type 0) (ss : List State) (ws : List Whole) → Pairwise R ss ws → Leads dir R ws ss
-  leads_at_once {dir = dir} R ss ws h = (ws, Expands-same program input dir ws, h)
+  leads_at_once {dir = dir} R ss ws h = (ws, Expands-same program input reading dir ws, h)
 
   -- first a step
   pub first_expand : {dir : Direction} (R : State → Whole → Type 0) (us ws : List Whole) (ss : List State)
-      → Expands program input dir us ws → Leads dir R ws ss → Leads dir R us ss
-  first_expand R us ws ss e (vs, f, h) = (vs, Expands-then program input us ws vs e f, h)
+      → Expands program input reading dir us ws → Leads dir R ws ss → Leads dir R us ss
+  first_expand R us ws ss e (vs, f, h) = (vs, Expands-then program input reading us ws vs e f, h)
 
   -- side by side
   pub leads_beside : {dir : Direction} (R : State → Whole → Type 0) (us ws : List Whole) (ss ts : List State)
       → Leads dir R us ss → Leads dir R ws ts → Leads dir R (us ++ ws) (ss ++ ts)
   leads_beside R us ws ss ts (xs, e, h) (ys, f, k) = (
     xs ++ ys,
-    Expands-then program input (us ++ ws) (xs ++ ws) (xs ++ ys) (Expands-right program input us xs ws e) (Expands-left program input xs ws ys f),
+    Expands-then program input reading (us ++ ws) (xs ++ ws) (xs ++ ys) (Expands-right program input reading us xs ws e) (Expands-left program input reading xs ws ys f),
     Pairwise-append R ss xs ts ys h k,
   )
 

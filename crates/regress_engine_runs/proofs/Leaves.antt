@@ -84,9 +84,9 @@ module _ (target : Target) (input : Input) (reading : Reading) (tells : Tells re
       subst (λ us. Pairwise Q us (successors target.program input i dir w)) (sym (means s))
       (subst (Pairwise Q (stepped (list_all test) s (beside context dir 1 s.place))) made
       (taken-leads dir (suc p.address) (λ k. occurs k t) p.loops p.loops test s w (ap suc at) stands (neighbours context dir s.place stands.inside.place))) in
-      first_expand target.program input Q (w ∷ []) (successors target.program input i dir w) (node_outcomes context t dir s)
-      (steps target.program input i w (standing target input reading w at here) plain)
-      (leads_at_once target.program input Q (node_outcomes context t dir s) (successors target.program input i dir w) pairs)
+      first_expand target.program input reading Q (w ∷ []) (successors target.program input i dir w) (node_outcomes context t dir s)
+      (steps target.program input reading i w (standing target input reading w at here) plain (λ e. (s.place, stands.inside.place, stands.place)))
+      (leads_at_once target.program input reading Q (node_outcomes context t dir s) (successors target.program input i dir w) pairs)
 
   -- an instruction that keeps the state where a test passes
   pub testing : (b : Bool) (t : Tree) (i : Instruction) (p : Spot) → Stands target.program p.address i → is_plain i ≡ true
@@ -97,9 +97,9 @@ module _ (target : Target) (input : Input) (reading : Reading) (tells : Tells re
   testing b t i p here plain test does means s w at stands may =
       let dir : Direction = direction b in
       let Q : State → Whole → Type 0 = Arrives reading dir (suc p.address) (λ k. occurs k t) p.loops p.loops s.place w in
-      first_expand target.program input Q (w ∷ []) (moved_to w (only_if (test s) w.offset)) (node_outcomes context t dir s)
-      (subst (Expands target.program input dir (w ∷ [])) (does s w stands) (steps target.program input i w (standing target input reading w at here) plain))
-      (leads_at_once target.program input Q (node_outcomes context t dir s) (moved_to w (only_if (test s) w.offset))
+      first_expand target.program input reading Q (w ∷ []) (moved_to w (only_if (test s) w.offset)) (node_outcomes context t dir s)
+      (subst (Expands target.program input reading dir (w ∷ [])) (does s w stands) (steps target.program input reading i w (standing target input reading w at here) plain (λ e. (s.place, stands.inside.place, stands.place))))
+      (leads_at_once target.program input reading Q (node_outcomes context t dir s) (moved_to w (only_if (test s) w.offset))
       (subst (λ us. Pairwise Q us (moved_to w (only_if (test s) w.offset))) (sym (means s)) (by_test (test s))))
     where
       by_test : (c : Bool) → Pairwise (Arrives reading (direction b) (suc p.address) (λ k. occurs k t) p.loops p.loops s.place w) (keep_if c s)
@@ -111,8 +111,8 @@ module _ (target : Target) (input : Input) (reading : Reading) (tells : Tells re
   pub empty-enters : (b : Bool) (t : Tree) (p q : Spot) → q ≡ p → ((s : State) → node_outcomes context t (direction b) s ≡ s ∷ []) → Enters target input reading b t p q
   empty-enters b t p q e means = subst (λ r. Enters target input reading b t p r) (sym e) (λ s w at stands may.
       let Q : State → Whole → Type 0 = Arrives reading (direction b) p.address (λ k. occurs k t) p.loops p.loops s.place w in
-      subst (Leads target.program input (direction b) Q (w ∷ [])) (sym (means s))
-      (leads_at_once target.program input Q (s ∷ []) (w ∷ []) (stays target input reading (direction b) p.address (λ k. occurs k t) p.loops p.loops s w w at stands refl refl, tt)))
+      subst (Leads target.program input reading (direction b) Q (w ∷ [])) (sym (means s))
+      (leads_at_once target.program input reading Q (s ∷ []) (w ∷ []) (stays target input reading (direction b) p.address (λ k. occurs k t) p.loops p.loops s w w at stands refl refl, tt)))
 
   -- a set of ASCII characters
   pub byte_set-enters : (b : Bool) (bs : List ℕ) (p : Spot) (units : Bool) → Stands target.program p.address (byte_set_code units bs)

@@ -1,8 +1,10 @@
+pub mod SafeRuns
 pub mod RunLemmas
 pub mod RunViews
 pub mod Computed
 pub mod OneAnswer
 pub mod UndoLemmas
+pub mod ReadLemmas
 pub mod Leading
 pub mod Places
 pub mod Entering

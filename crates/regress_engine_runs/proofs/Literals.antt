@@ -21,6 +21,7 @@ use Rattle.regress_engine_code.specs.Instructions as code
 use Rattle.regress_engine_code.specs.Layout.{Spot, Target, AreAll, chunks, most_bytes, literal_code}
 use Rattle.regress_engine_runs.specs.States.{Whole}
 use Rattle.regress_engine_runs.specs.Runs.{moved_to, successors, is_plain}
+use Rattle.regress_engine_runs.specs.Meets.{reads_character, IsAtPlace}
 use Rattle.regress_engine_runs.specs.Stand.{StandsFor}
 use Rattle.regress_engine_runs.proofs.Leading.{Pairwise, leads_at_once, first_expand}
 use Rattle.regress_engine_runs.proofs.Places.{occurs, Arrives, Keeps-all}
@@ -48,28 +49,30 @@ abbrev further : Whole → ℕ → Option ℕ → List Whole
 further w address None = []
 further w address (Some o) = record w { at = address; offset = o } ∷ []
 
-module _ (program : Program) (input : Input) where
+module _ (program : Program) (input : Input) (reading : Reading) where
   -- instructions one after another, each of which takes a step, lead where all of them do
-  steps-run : {X : Type 0} (f : X → Instruction) (go : X → ℕ → Option ℕ) (dir : Direction) → ((x : X) → is_plain (f x) ≡ true)
+  steps-run : {X : Type 0} (f : X → Instruction) (go : X → ℕ → Option ℕ) (dir : Direction) (inv : ℕ → Type 0)
+      → ((x : X) (o : ℕ) → inv o → reads_character (f x) ≡ true → IsAtPlace reading o) → ((x : X) (o q : ℕ) → inv o → go x o ≡ Some q → inv q)
+      → ((x : X) → is_plain (f x) ≡ true)
       → ((x : X) (w : Whole) → successors program input (f x) dir w ≡ moved_to w (go x w.offset))
-      → (xs : List X) (address : ℕ) (w : Whole) → w.at ≡ address → StandFrom program address (map f xs)
-      → Expands program input dir (w ∷ []) (further w (address + length xs) (all_steps go xs w.offset))
-  steps-run f go dir plain does [] address w at here =
+      → (xs : List X) (address : ℕ) (w : Whole) → w.at ≡ address → inv w.offset → StandFrom program address (map f xs)
+      → Expands program input reading dir (w ∷ []) (further w (address + length xs) (all_steps go xs w.offset))
+  steps-run f go dir inv reads keeps plain does [] address w at known here =
       let e : w.at ≡ address + 0 = omega (arith, at) in
-      subst (λ a. Expands program input dir (w ∷ []) (record w { at = a } ∷ [])) e (Expands-same program input dir (w ∷ []))
-  steps-run f go dir plain does (x ∷ xs) address w at (here, rest) =
-      by_found (go x w.offset)
-      (subst (Expands program input dir (w ∷ [])) (does x w) (steps program input (f x) w (subst (λ a. Stands program a (f x)) (sym at) here) (plain x)))
-      (λ o. steps-run f go dir plain does xs (suc address) (record w { at = suc w.at; offset = o }) (ap suc at) rest)
+      subst (λ a. Expands program input reading dir (w ∷ []) (record w { at = a } ∷ [])) e (Expands-same program input reading dir (w ∷ []))
+  steps-run f go dir inv reads keeps plain does (x ∷ xs) address w at known (here, rest) =
+      by_found (go x w.offset) refl
+      (subst (Expands program input reading dir (w ∷ [])) (does x w) (steps program input reading (f x) w (subst (λ a. Stands program a (f x)) (sym at) here) (plain x) (reads x w.offset known)))
+      (λ o on. steps-run f go dir inv reads keeps plain does xs (suc address) (record w { at = suc w.at; offset = o }) (ap suc at) on rest)
     where
-      by_found : (o : Option ℕ) → Expands program input dir (w ∷ []) (moved_to w o)
-          → ((o : ℕ) → Expands program input dir (record w { at = suc w.at; offset = o } ∷ []) (further w (suc address + length xs) (all_steps go xs o)))
-          → Expands program input dir (w ∷ []) (further w (address + suc (length xs)) (option_and_then (all_steps go xs) o))
-      by_found None step on = step
-      by_found (Some o) step on =
+      by_found : (o : Option ℕ) → go x w.offset ≡ o → Expands program input reading dir (w ∷ []) (moved_to w o)
+          → ((o : ℕ) → inv o → Expands program input reading dir (record w { at = suc w.at; offset = o } ∷ []) (further w (suc address + length xs) (all_steps go xs o)))
+          → Expands program input reading dir (w ∷ []) (further w (address + suc (length xs)) (option_and_then (all_steps go xs) o))
+      by_found None e step on = step
+      by_found (Some o) found step on =
           let e : suc address + length xs ≡ address + suc (length xs) = omega arith in
-          subst (λ a. Expands program input dir (w ∷ []) (further w a (all_steps go xs o))) e
-          (Expands-then program input (w ∷ []) (record w { at = suc w.at; offset = o } ∷ []) (further w (suc address + length xs) (all_steps go xs o)) step (on o))
+          subst (λ a. Expands program input reading dir (w ∷ []) (further w a (all_steps go xs o))) e
+          (Expands-then program input reading (w ∷ []) (record w { at = suc w.at; offset = o } ∷ []) (further w (suc address + length xs) (all_steps go xs o)) step (on o (keeps x w.offset o known found)))
 
 -- ---- a literal in parts
 
@@ -306,6 +309,21 @@ module _ (input : Input) (reading : Reading) (tells : Tells reading input) where
           by_test true = refl
           by_test false = refl
 
+  -- behind a code point beside a place is a place
+  pub place-on : (dir : Direction) (test : ℕ → Bool) (o r : ℕ) → IsAtPlace reading o → passed test (input.next dir o) ≡ Some r → IsAtPlace reading r
+  place-on dir test o r (p, room, same) found =
+      by_beside (neighbours told_context dir p room) (sym (ap (λ x. passed test (input.next dir x)) same ∙ ap (passed test) (tells.next dir p room)) ∙ found)
+    where
+      by_beside : Beside told_context dir p → passed test (option_map (point_told reading) (neighbour reading.points dir p)) ≡ Some r → IsAtPlace reading r
+      by_beside (inl (none, none')) e =
+          let f = ap (λ x. passed test (option_map (point_told reading) x)) none in absurd (grind arith)
+      by_beside (inr (c, q, one, one', inside, ahead, apart)) e =
+          by_test (test c) (sym (ap (λ x. passed test (option_map (point_told reading) x)) one) ∙ e)
+        where
+          by_test : (b : Bool) → (if b then Some (offset reading q) else None) ≡ Some r → IsAtPlace reading r
+          by_test true e = (q, inside, let f : offset reading q ≡ r = cc in sym f)
+          by_test false e = absurd (grind arith)
+
   -- a step of the input over one code point
   abbrev point_step : Direction → ℕ → ℕ → Option ℕ
   point_step dir c o = passed (nat_eq c) (input.next dir o)
@@ -370,14 +388,16 @@ module _ (target : Target) (input : Input) (reading : Reading) where
       by_test false = tt
 
   -- steps that lead beyond a literal's characters
-  stepping : {X : Type 0} (b : Bool) (bs : List ℕ) (p q : Spot) (f : X → Instruction) (go : X → ℕ → Option ℕ) (xs : List X) → ((x : X) → is_plain (f x) ≡ true)
+  stepping : {X : Type 0} (b : Bool) (bs : List ℕ) (p q : Spot) (f : X → Instruction) (go : X → ℕ → Option ℕ) (xs : List X) (inv : ℕ → Type 0)
+      → ((x : X) (o : ℕ) → inv o → reads_character (f x) ≡ true → IsAtPlace reading o) → ((x : X) (o q : ℕ) → inv o → go x o ≡ Some q → inv q)
+      → ((place : ℕ) → place ≤ length reading.points → inv (offset reading place)) → ((x : X) → is_plain (f x) ≡ true)
       → ((x : X) (w : Whole) → successors target.program input (f x) (direction b) w ≡ moved_to w (go x w.offset))
       → literal_code target.program b bs ≡ map f xs
       → ((p : ℕ) → p ≤ length reading.points
       → all_steps go xs (offset reading p) ≡ option_map (offset reading) (placed (chars bs) (beside context (direction b) (length (chars bs)) p)))
       → AreAll target (literal_code target.program b bs) p q → Enters target input reading b (tree.bytes bs) p q
   unfolding node_outcomes step
-  stepping b bs p q f go xs plain does code-is told (stand, end) s w at stands may =
+  stepping b bs p q f go xs inv reads keeps begins plain does code-is told (stand, end) s w at stands may =
       let dir : Direction = direction b in
       let size : length (literal_code target.program b bs) ≡ length xs = ap length code-is ∙ length-map xs f in
       let place : p.address + length xs ≡ q.address = let e : q.address ≡ p.address + length (literal_code target.program b bs) = ap (λ (m : Spot). m.address) end in omega (arith, e, size) in
@@ -388,12 +408,12 @@ module _ (target : Target) (input : Input) (reading : Reading) where
       let Q : State → Whole → Type 0 = Arrives reading dir q.address (λ k. occurs k (tree.bytes bs)) p.loops q.loops s.place w in
       let us : List State = stepped (same_text cs) s (beside context dir (length cs) s.place) in
       let vs : List Whole = further w q.address (option_map (offset reading) (placed cs (beside context dir (length cs) s.place))) in
-      let run : Expands target.program input dir (w ∷ []) (further w (p.address + length xs) (all_steps go xs w.offset)) =
-      steps-run target.program input f go dir plain does xs p.address w at (subst (StandFrom target.program p.address) code-is stand) in
-      first_expand target.program input Q (w ∷ []) vs us
-      (subst (λ a. Expands target.program input dir (w ∷ []) (further w a (option_map (offset reading) (placed cs (beside context dir (length cs) s.place))))) place
-      (subst (λ o. Expands target.program input dir (w ∷ []) (further w (p.address + length xs) o)) found run))
-      (leads_at_once target.program input Q us vs
+      let run : Expands target.program input reading dir (w ∷ []) (further w (p.address + length xs) (all_steps go xs w.offset)) =
+      steps-run target.program input reading f go dir inv reads keeps plain does xs p.address w at (subst inv (sym stands.place) (begins s.place stands.inside.place)) (subst (StandFrom target.program p.address) code-is stand) in
+      first_expand target.program input reading Q (w ∷ []) vs us
+      (subst (λ a. Expands target.program input reading dir (w ∷ []) (further w a (option_map (offset reading) (placed cs (beside context dir (length cs) s.place))))) place
+      (subst (λ o. Expands target.program input reading dir (w ∷ []) (further w (p.address + length xs) o)) found run))
+      (leads_at_once target.program input reading Q us vs
       (placed-leads dir q.address (λ k. occurs k (tree.bytes bs)) p.loops q.loops cs s w (beside context dir (length cs) s.place) stands (beside-fits context dir (length cs) s.place stands.inside.place)))
 
   -- A literal: chunks of bytes in a program of bytes, characters in one of units.
@@ -406,12 +426,14 @@ module _ (target : Target) (input : Input) (reading : Reading) where
 
       by_units : (u : Bool) → target.program.units ≡ u → Enters target input reading b (tree.bytes bs) p q
       by_units true units =
-          stepping b bs p q code.char (point_step input reading tells (direction b)) (in_reading_order b (chars bs)) (λ c. refl) (λ c w. refl)
+          stepping b bs p q code.char (point_step input reading tells (direction b)) (in_reading_order b (chars bs)) (IsAtPlace reading)
+          (λ c o known e. known) (λ c o r known e. place-on input reading tells (direction b) (nat_eq c) o r known e) (λ place room. (place, room, refl)) (λ c. refl) (λ c w. refl)
           (ap (λ u. in_reading_order b (parts u)) units ∙ sym (in_reading_order-map code.char b (chars bs)))
           (points-stand input reading tells b (chars bs)) lies
       by_units false units =
           let ls : List (List ℕ) = chunks (length bs) bs in
-          stepping b bs p q code.byte_seq (literal input (direction b)) (in_reading_order b ls) (λ l. refl) (λ l w. refl)
+          stepping b bs p q code.byte_seq (literal input (direction b)) (in_reading_order b ls) (λ o. Unit {0})
+          (λ l o known e. absurd (grind arith)) (λ l o r known e. tt) (λ place room. tt) (λ l. refl) (λ l w. refl)
           (ap (λ u. in_reading_order b (parts u)) units ∙ sym (in_reading_order-map code.byte_seq b ls))
           (λ place inside. in_order-stands input b ls (offset reading place)
           ∙ ap (λ ds. literal input (direction b) ds (offset reading place)) (chunks-joined (length bs) bs (omega arith))

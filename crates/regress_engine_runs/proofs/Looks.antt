@@ -12,8 +12,8 @@ use Rattle.regress_engine_code.specs.Instructions.{Program, Stands}
 use Rattle.regress_engine_code.specs.Instructions as code
 use Rattle.regress_engine_code.specs.Layout.{Spot, next, Target}
 use Rattle.regress_engine_runs.specs.States.{Whole, Marks, unset, mixed, onward}
-use Rattle.regress_engine_runs.specs.Runs.{Runs, ends, finds}
 use Rattle.regress_engine_runs.specs.Stand.{StandsFor}
+use Rattle.regress_engine_runs.proofs.SafeRuns.{SafeRuns, ends, finds}
 use Rattle.regress_engine_runs.proofs.RunLemmas.{Expands, looks_around}
 use Rattle.regress_engine_runs.proofs.Leading.{Leads, Pairwise, leads_at_once, first_expand}
 use Rattle.regress_engine_runs.proofs.Places.{occurs, occurs-is, Arrives, IsAhead-same}
@@ -51,31 +51,31 @@ module _ (target : Target) (input : Input) (reading : Reading) where
       → Stands target.program w.at (code.look negated behind first last (suc m.address)) → Stands target.program m.address code.goal
       → AreNumbered first last (group_ids a) → StandsFor reading s w → (us : List State) (vs : List Whole)
       → Pairwise (Arrives reading (direction behind) m.address (λ k. occurs k a) p.loops m.loops s.place w) us vs
-      → Expands target.program input (direction behind) (onward w ∷ []) vs
-      → Leads target.program input dir (Arrives reading dir (suc m.address) (λ k. occurs k a) p.loops m.loops s.place w) (w ∷ [])
+      → Expands target.program input reading (direction behind) (onward w ∷ []) vs
+      → Leads target.program input reading dir (Arrives reading dir (suc m.address) (λ k. occurs k a) p.loops m.loops s.place w) (w ∷ [])
       (looked negated s us)
   by_answer dir true behind first last a p m s w here end numbered stands [] [] h e =
       let v : Whole = record w { at = suc m.address } in
       let Q : State → Whole → Type 0 = Arrives reading dir (suc m.address) (λ k. occurs k a) p.loops m.loops s.place w in
-      first_expand target.program input Q (w ∷ []) (v ∷ []) (s ∷ [])
-      (looks_around target.program input true behind first last (suc m.address) w None here (e [] None (0, ends)))
-      (leads_at_once target.program input Q (s ∷ []) (v ∷ []) (stays target input reading dir (suc m.address) (λ k. occurs k a) p.loops m.loops s w v refl stands refl refl, tt))
+      first_expand target.program input reading Q (w ∷ []) (v ∷ []) (s ∷ [])
+      (looks_around target.program input reading true behind first last (suc m.address) w None here (e [] None (0, ends)))
+      (leads_at_once target.program input reading Q (s ∷ []) (v ∷ []) (stays target input reading dir (suc m.address) (λ k. occurs k a) p.loops m.loops s w v refl stands refl refl, tt))
   by_answer dir false behind first last a p m s w here end numbered stands [] [] h e =
       let Q : State → Whole → Type 0 = Arrives reading dir (suc m.address) (λ k. occurs k a) p.loops m.loops s.place w in
-      first_expand target.program input Q (w ∷ []) [] []
-      (looks_around target.program input false behind first last (suc m.address) w None here (e [] None (0, ends)))
-      (leads_at_once target.program input Q [] [] tt)
+      first_expand target.program input reading Q (w ∷ []) [] []
+      (looks_around target.program input reading false behind first last (suc m.address) w None here (e [] None (0, ends)))
+      (leads_at_once target.program input reading Q [] [] tt)
   by_answer dir negated behind first last a p m s w here end numbered stands [] (v ∷ vs) h e = absurd h
   by_answer dir negated behind first last a p m s w here end numbered stands (u ∷ us) [] h e = absurd h
   by_answer dir true behind first last a p m s w here end numbered stands (u ∷ us) (v ∷ vs) (r, rest) e =
       let Q : State → Whole → Type 0 = Arrives reading dir (suc m.address) (λ k. occurs k a) p.loops m.loops s.place w in
-      let run : Runs target.program input (direction behind) (v ∷ (vs ++ [])) (Some v) = (1, finds (standing target input reading v r.at end)) in
-      first_expand target.program input Q (w ∷ []) [] []
-      (looks_around target.program input true behind first last (suc m.address) w (Some v) here (e [] (Some v) run))
-      (leads_at_once target.program input Q [] [] tt)
+      let run : SafeRuns target.program input reading (direction behind) (v ∷ (vs ++ [])) (Some v) = (1, finds (standing target input reading v r.at end)) in
+      first_expand target.program input reading Q (w ∷ []) [] []
+      (looks_around target.program input reading true behind first last (suc m.address) w (Some v) here (e [] (Some v) run))
+      (leads_at_once target.program input reading Q [] [] tt)
   by_answer dir false behind first last a p m s w here end numbered stands (u ∷ us) (v ∷ vs) (r, rest) e =
       let Q : State → Whole → Type 0 = Arrives reading dir (suc m.address) (λ k. occurs k a) p.loops m.loops s.place w in
-      let run : Runs target.program input (direction behind) (v ∷ (vs ++ [])) (Some v) = (1, finds (standing target input reading v r.at end)) in
+      let run : SafeRuns target.program input reading (direction behind) (v ∷ (vs ++ [])) (Some v) = (1, finds (standing target input reading v r.at end)) in
       let kept : mixed 0 first last v.groups w.groups ≡ v.groups =
       mixed-new 0 first last v.groups w.groups r.keeps.group_count
       (λ k t. let f : 0 + k ≡ k = omega arith in r.keeps.groups k (outside_none first last a numbered k (sym (ap (is_within first last) f) ∙ t))) in
@@ -83,9 +83,9 @@ module _ (target : Target) (input : Input) (reading : Reading) where
       let y : Whole = record w { at = suc m.address; groups = mixed 0 first last v.groups w.groups } in
       let same : y ≡ z = ap (λ (ms : List Marks). record w { at = suc m.address; groups = ms }) kept in
       let x : State = record s { groups = u.groups } in
-      subst (λ (t : Whole). Expands target.program input dir (w ∷ []) (t ∷ []) → Leads target.program input dir Q (w ∷ []) (x ∷ [])) (sym same)
-      (λ step. first_expand target.program input Q (w ∷ []) (z ∷ []) (x ∷ []) step
-      (leads_at_once target.program input Q (x ∷ []) (z ∷ []) (
+      subst (λ (t : Whole). Expands target.program input reading dir (w ∷ []) (t ∷ []) → Leads target.program input reading dir Q (w ∷ []) (x ∷ [])) (sym same)
+      (λ step. first_expand target.program input reading Q (w ∷ []) (z ∷ []) (x ∷ []) step
+      (leads_at_once target.program input reading Q (x ∷ []) (z ∷ []) (
         record {
           at = refl;
           stands = record {
@@ -104,7 +104,7 @@ module _ (target : Target) (input : Input) (reading : Reading) where
         },
         tt,
       )))
-      (looks_around target.program input false behind first last (suc m.address) w (Some v) here (e [] (Some v) run))
+      (looks_around target.program input reading false behind first last (suc m.address) w (Some v) here (e [] (Some v) run))
 
   pub looking : (b negated behind : Bool) (first last : ℕ) (a : Tree) (p m : Spot)
       → Stands target.program p.address (code.look negated behind first last (suc m.address)) → Stands target.program m.address code.goal

@@ -58,15 +58,15 @@ reset-first first n old new h = record {
     apart k (inl o) e = absurd (omega arith)
     apart k (inr o) e = absurd (omega arith)
 
-module _ (program : Program) (input : Input) where
+module _ (program : Program) (input : Input) (reading : Reading) where
   -- instructions that reset groups lead behind them
   pub resetting : (dir : Direction) (n first address : ℕ) (w : Whole) → w.at ≡ address → StandFrom program address (resets first n)
-      → (marks : List Marks) × Expands program input dir (w ∷ []) (record w { at = address + n; groups = marks } ∷ [])
+      → (marks : List Marks) × Expands program input reading dir (w ∷ []) (record w { at = address + n; groups = marks } ∷ [])
       × AreReset first n w.groups marks
   resetting dir zero first address w at here =
       let e : w.at ≡ address + 0 = omega (arith, at) in (
         w.groups,
-        subst (λ a. Expands program input dir (w ∷ []) (record w { at = a } ∷ [])) e (Expands-same program input dir (w ∷ [])),
+        subst (λ a. Expands program input reading dir (w ∷ []) (record w { at = a } ∷ [])) e (Expands-same program input reading dir (w ∷ [])),
         record { count = refl; within = λ k low high. absurd (omega arith); outside = λ k o. refl },
       )
   resetting dir (suc n) first address w at (here, rest) =
@@ -74,9 +74,9 @@ module _ (program : Program) (input : Input) where
       let found = resetting dir n (suc first) (suc address) v (ap suc at) rest in
       let e : suc address + n ≡ address + suc n = omega arith in (
         found.0,
-        subst (λ a. Expands program input dir (w ∷ []) (record w { at = a; groups = found.0 } ∷ [])) e
-            (Expands-then program input (w ∷ []) (v ∷ []) (record w { at = suc address + n; groups = found.0 } ∷ [])
-            (steps program input (code.reset_group first) w (subst (λ a. Stands program a (code.reset_group first)) (sym at) here) refl) found.1),
+        subst (λ a. Expands program input reading dir (w ∷ []) (record w { at = a; groups = found.0 } ∷ [])) e
+            (Expands-then program input reading (w ∷ []) (v ∷ []) (record w { at = suc address + n; groups = found.0 } ∷ [])
+            (steps program input reading (code.reset_group first) w (subst (λ a. Stands program a (code.reset_group first)) (sym at) here) refl (λ e. absurd (grind arith))) found.1),
         reset-first first n w.groups found.0 found.2,
       )
 
@@ -244,11 +244,11 @@ module _ (target : Target) (input : Input) (reading : Reading) (rise : OffsetsRi
 
   -- one iteration
   iteration : IsRepetition → (s : State) (w : Whole) → StandsFor reading s w → HasRoom w
-      → Leads target.program input dir (Again s w) (one_more p.loops p.address w ∷ []) (body s)
+      → Leads target.program input reading dir (Again s w) (one_more p.loops p.address w ∷ []) (body s)
   iteration h s w stands room =
       let v : Whole = one_more p.loops p.address w in
       let entry : ℕ × ℕ = (suc (count_of p.loops w), w.offset) in
-      let found = resetting target.program input dir (last - first) first (suc p.address) v refl h.reset in
+      let found = resetting target.program input reading dir (last - first) first (suc p.address) v refl h.reset in
       let marks : List Marks = found.0 in
       let made : AreReset first (last - first) w.groups marks = found.2 in
       let z : Whole = record v { at = suc p.address + (last - first); groups = marks } in
@@ -263,8 +263,8 @@ module _ (target : Target) (input : Input) (reading : Reading) (rise : OffsetsRi
       } in
       let R : State → Whole → Type 0 = Arrives reading dir m.address gone (suc p.loops) m.loops s.place z in
       let inside = h.contents t z refl (cleared-stands input reading first last s w.offset w.groups marks h.numbered.order stands made) may in
-      first_expand target.program input (Again s w) (v ∷ []) (z ∷ []) (body s) found.1
-      (leads_weaker target.program input R (Again s w) (λ u x r. (
+      first_expand target.program input reading (Again s w) (v ∷ []) (z ∷ []) (body s) found.1
+      (leads_weaker target.program input reading R (Again s w) (λ u x r. (
         record {
           at = r.at;
           stands = r.stands;
@@ -289,13 +289,13 @@ module _ (target : Target) (input : Input) (reading : Reading) (rise : OffsetsRi
 
   -- the end of an iteration: it is dropped where it was idle
   at_end : IsRepetition → (v : Whole) → v.at ≡ m.address → (idle : Bool) → is_idle fields v ≡ idle
-      → Expands target.program input dir (v ∷ []) (if idle then [] else choices fields p.address v)
+      → Expands target.program input reading dir (v ∷ []) (if idle then [] else choices fields p.address v)
   at_end h v at idle e =
-      let goes : Expands target.program input dir (v ∷ []) (successors target.program input (code.loop_again p.address) dir v) =
-      steps target.program input (code.loop_again p.address) v (standing target input reading v at h.end) refl in
+      let goes : Expands target.program input reading dir (v ∷ []) (successors target.program input (code.loop_again p.address) dir v) =
+      steps target.program input reading (code.loop_again p.address) v (standing target input reading v at h.end) refl (λ e. absurd (grind arith)) in
       let found : fields_of (slice_get target.program.instructions p.address) ≡ Some fields = ap fields_of h.begin in
-      subst (λ c. Expands target.program input dir (v ∷ []) (if c then [] else choices fields p.address v)) e
-      (subst (λ (o : Option LoopFields). Expands target.program input dir (v ∷ []) (elim o [ None ↦ [] | Some f ↦ if is_idle f v then [] else choices f p.address v ])) found goes)
+      subst (λ c. Expands target.program input reading dir (v ∷ []) (if c then [] else choices fields p.address v)) e
+      (subst (λ (o : Option LoopFields). Expands target.program input reading dir (v ∷ []) (elim o [ None ↦ [] | Some f ↦ if is_idle f v then [] else choices f p.address v ])) found goes)
 
   -- behind an iteration that led to a state, what that one leads to is led to by the first
   gone_on : (s u x : State) (w v z : Whole) → Again s w u v → Out u v x z → Out s w x z
@@ -319,20 +319,20 @@ module _ (target : Target) (input : Input) (reading : Reading) (rise : OffsetsRi
       ap₂ (λ c d. ordered greedy c d (one_more p.loops p.address w) (record w { at = suc m.address })) (sym e) (sym f)
 
   -- the way out
-  out : (s : State) (w : Whole) → StandsFor reading s w → Leads target.program input dir (Out s w) (record w { at = suc m.address } ∷ []) (s ∷ [])
+  out : (s : State) (w : Whole) → StandsFor reading s w → Leads target.program input reading dir (Out s w) (record w { at = suc m.address } ∷ []) (s ∷ [])
   out s w stands =
       let v : Whole = record w { at = suc m.address } in
-      leads_at_once target.program input (Out s w) (s ∷ []) (v ∷ []) (stays target input reading dir (suc m.address) gone p.loops m.loops s w v refl stands refl refl, tt)
+      leads_at_once target.program input reading (Out s w) (s ∷ []) (v ∷ []) (stays target input reading dir (suc m.address) gone p.loops m.loops s w v refl stands refl refl, tt)
 
   -- both, in the order of preference
-  both : (g : Bool) (s : State) (w : Whole) (more : List State) → Leads target.program input dir (Out s w) (one_more p.loops p.address w ∷ []) more
+  both : (g : Bool) (s : State) (w : Whole) (more : List State) → Leads target.program input reading dir (Out s w) (one_more p.loops p.address w ∷ []) more
       → StandsFor reading s w
-      → Leads target.program input dir (Out s w) (ordered g true true (one_more p.loops p.address w) (record w { at = suc m.address }))
+      → Leads target.program input reading dir (Out s w) (ordered g true true (one_more p.loops p.address w) (record w { at = suc m.address }))
       (if g then more ++ s ∷ [] else s ∷ more)
   both true s w more h stands =
-      leads_beside target.program input (Out s w) (one_more p.loops p.address w ∷ []) (record w { at = suc m.address } ∷ []) more (s ∷ []) h (out s w stands)
+      leads_beside target.program input reading (Out s w) (one_more p.loops p.address w ∷ []) (record w { at = suc m.address } ∷ []) more (s ∷ []) h (out s w stands)
   both false s w more h stands =
-      leads_beside target.program input (Out s w) (record w { at = suc m.address } ∷ []) (one_more p.loops p.address w ∷ []) (s ∷ []) more (out s w stands) h
+      leads_beside target.program input reading (Out s w) (record w { at = suc m.address } ∷ []) (one_more p.loops p.address w ∷ []) (s ∷ []) more (out s w stands) h
 
   -- an iteration past the least number is idle where it took nothing
   idle-is : (s u : State) (w v : Whole) → StandsFor reading s w → Again s w u v → least ≤ count_of p.loops w
@@ -356,38 +356,38 @@ module _ (target : Target) (input : Input) (reading : Reading) (rise : OffsetsRi
 
   -- past the least number the next step follows only where the iteration moved
   dropped_or_on : IsRepetition → (s u : State) (w x : Whole) → StandsFor reading s w → Again s w u x → least ≤ count_of p.loops w
-      → (more : List State) → Leads target.program input dir (Out s w) (choices fields p.address x) more → (c : Bool) → moved s u ≡ c
-      → Leads target.program input dir (Out s w) (x ∷ []) (if c then more else [])
+      → (more : List State) → Leads target.program input reading dir (Out s w) (choices fields p.address x) more → (c : Bool) → moved s u ≡ c
+      → Leads target.program input reading dir (Out s w) (x ∷ []) (if c then more else [])
   dropped_or_on h s u w x stands r past more on true e =
-      first_expand target.program input (Out s w) (x ∷ []) (choices fields p.address x) more
+      first_expand target.program input reading (Out s w) (x ∷ []) (choices fields p.address x) more
       (at_end h x r.0.at false (idle-is s u w x stands r past ∙ ap not e)) on
   dropped_or_on h s u w x stands r past more on false e =
-      first_expand target.program input (Out s w) (x ∷ []) [] []
-      (at_end h x r.0.at true (idle-is s u w x stands r past ∙ ap not e)) (leads_at_once target.program input (Out s w) [] [] tt)
+      first_expand target.program input reading (Out s w) (x ∷ []) [] []
+      (at_end h x r.0.at true (idle-is s u w x stands r past ∙ ap not e)) (leads_at_once target.program input reading (Out s w) [] [] tt)
 
   -- From a state with so many iterations begun the choices lead to the iterations that are left.
   again : IsRepetition → (left need : ℕ) (s : State) (w : Whole) → count_of p.loops w + left ≡ most → need ≡ least - count_of p.loops w
       → StandsFor reading s w → HasRoom w
-      → Leads target.program input dir (Out s w) (choices fields p.address w) (iterations body greedy left need s)
+      → Leads target.program input reading dir (Out s w) (choices fields p.address w) (iterations body greedy left need s)
   unfolding iterations
   again h zero need s w all few stands room =
       let e : choices fields p.address w ≡ record w { at = suc m.address } ∷ [] =
       sym (choices-are w false true (lt-false (count_of p.loops w) most (omega (arith, all))) (le-true least (count_of p.loops w) (omega (arith, all, h.bounds))))
       ∙ ordered-out greedy (one_more p.loops p.address w) (record w { at = suc m.address }) in
-      subst (λ xs. Leads target.program input dir (Out s w) xs (s ∷ [])) (sym e) (out s w stands)
+      subst (λ xs. Leads target.program input reading dir (Out s w) xs (s ∷ [])) (sym e) (out s w stands)
   again h (suc left) (suc need) s w all few stands room =
       let v : Whole = one_more p.loops p.address w in
       let before : count_of p.loops w < least = omega (arith, few) in
       let e : choices fields p.address w ≡ v ∷ [] =
       sym (choices-are w true false (lt-true (count_of p.loops w) most (omega (arith, all))) (le-false least (count_of p.loops w) before))
       ∙ ordered-more greedy v (record w { at = suc m.address }) in
-      subst (λ xs. Leads target.program input dir (Out s w) xs (flat_map (iterations body greedy left need) (body s))) (sym e)
-      (leads_on target.program input (Again s w) (Out s w) (iterations body greedy left need) (v ∷ []) (body s) (iteration h s w stands room)
+      subst (λ xs. Leads target.program input reading dir (Out s w) xs (flat_map (iterations body greedy left need) (body s))) (sym e)
+      (leads_on target.program input reading (Again s w) (Out s w) (iterations body greedy left need) (v ∷ []) (body s) (iteration h s w stands room)
       (λ u x r.
       let count : count_of p.loops x ≡ suc (count_of p.loops w) = ap (λ (y : ℕ × ℕ). y.0) r.1 in
-      first_expand target.program input (Out s w) (x ∷ []) (choices fields p.address x) (iterations body greedy left need u)
+      first_expand target.program input reading (Out s w) (x ∷ []) (choices fields p.address x) (iterations body greedy left need u)
       (at_end h x r.0.at false (idle-not s u w x r before))
-      (leads_weaker target.program input (Out u x) (Out s w) (λ y z o. gone_on s u y w x z r o) (choices fields p.address x) (iterations body greedy left need u)
+      (leads_weaker target.program input reading (Out u x) (Out s w) (λ y z o. gone_on s u y w x z r o) (choices fields p.address x) (iterations body greedy left need u)
       (again h left need u x (omega (arith, all, count)) (omega (arith, few, count)) r.0.stands (room_after s u w x room r)))))
   again h (suc left) zero s w all few stands room =
       let v : Whole = one_more p.loops p.address w in
@@ -397,16 +397,16 @@ module _ (target : Target) (input : Input) (reading : Reading) (rise : OffsetsRi
       sym (choices-are w true true (lt-true (count_of p.loops w) most (omega (arith, all))) (le-true least (count_of p.loops w) past)) in
       let f : flat_map on (filter (moved s) (body s)) ≡ flat_map (λ u. if moved s u then on u else []) (body s) =
       flat_map-filter on (moved s) (body s) in
-      let more : Leads target.program input dir (Out s w) (v ∷ []) (flat_map (λ u. if moved s u then on u else []) (body s)) =
-      leads_on target.program input (Again s w) (Out s w) (λ u. if moved s u then on u else []) (v ∷ []) (body s) (iteration h s w stands room)
+      let more : Leads target.program input reading dir (Out s w) (v ∷ []) (flat_map (λ u. if moved s u then on u else []) (body s)) =
+      leads_on target.program input reading (Again s w) (Out s w) (λ u. if moved s u then on u else []) (v ∷ []) (body s) (iteration h s w stands room)
       (λ u x r.
       let count : count_of p.loops x ≡ suc (count_of p.loops w) = ap (λ (y : ℕ × ℕ). y.0) r.1 in
       dropped_or_on h s u w x stands r past (on u)
-      (leads_weaker target.program input (Out u x) (Out s w) (λ y z o. gone_on s u y w x z r o) (choices fields p.address x) (on u)
+      (leads_weaker target.program input reading (Out u x) (Out s w) (λ y z o. gone_on s u y w x z r o) (choices fields p.address x) (on u)
       (again h left zero u x (omega (arith, all, count)) (omega (arith, few, count)) r.0.stands (room_after s u w x room r)))
       (moved s u) refl) in
-      subst (λ xs. Leads target.program input dir (Out s w) xs (if greedy then flat_map on (filter (moved s) (body s)) ++ s ∷ [] else s ∷ flat_map on (filter (moved s) (body s)))) (sym e)
-      (both greedy s w (flat_map on (filter (moved s) (body s))) (subst (Leads target.program input dir (Out s w) (v ∷ [])) (sym f) more) stands)
+      subst (λ xs. Leads target.program input reading dir (Out s w) xs (if greedy then flat_map on (filter (moved s) (body s)) ++ s ∷ [] else s ∷ flat_map on (filter (moved s) (body s)))) (sym e)
+      (both greedy s w (flat_map on (filter (moved s) (body s))) (subst (Leads target.program input reading dir (Out s w) (v ∷ [])) (sym f) more) stands)
 
   -- entering the repetition
   pub repeating : IsRepetition → Enters target input reading b (tree.loop a first last least most greedy) p (next m)
@@ -418,11 +418,11 @@ module _ (target : Target) (input : Input) (reading : Reading) (rise : OffsetsRi
       let size : length v.loops ≡ length w.loops = length-set w.loops p.loops (0, w.offset) in
       let room : HasRoom v = record { loops = omega (arith, may.loops, size); groups = may.here } in
       let us : List State = iterations body greedy most least s in
-      let step : Expands target.program input dir (w ∷ []) (choices fields w.at v) =
-      steps target.program input (code.enter_loop fields) w (standing target input reading w at h.begin) refl in
-      first_expand target.program input (Out s w) (w ∷ []) (choices fields p.address v) us
-      (subst (λ a. Expands target.program input dir (w ∷ []) (choices fields a v)) at step)
-      (leads_weaker target.program input (Out s v) (Out s w) (λ u x o. record {
+      let step : Expands target.program input reading dir (w ∷ []) (choices fields w.at v) =
+      steps target.program input reading (code.enter_loop fields) w (standing target input reading w at h.begin) refl (λ e. absurd (grind arith)) in
+      first_expand target.program input reading (Out s w) (w ∷ []) (choices fields p.address v) us
+      (subst (λ a. Expands target.program input reading dir (w ∷ []) (choices fields a v)) at step)
+      (leads_weaker target.program input reading (Out s v) (Out s w) (λ u x o. record {
         at = o.at;
         stands = o.stands;
         keeps = record {

@@ -2,16 +2,19 @@
 use Rattle.std.proofs.Common.{◌≡◌, ℕ, suc, ◌+◌, Bool, true, List, [], ◌∷◌, ◌++◌, Option, Some, sym, ap, ◌∙◌, subst, arith, append_assoc}
 use Rattle.regress_meaning.specs.Meaning.{Direction}
 use Rattle.regress_meaning.specs.Inputs.{Input}
+use Rattle.regress_meaning.specs.Offsets.{Reading}
 use Rattle.regress_front_nodes.specs.TreeMeaning.{direction}
 use Rattle.regress_engine_code.specs.Instructions.{Instruction, Program, Stands}
 use Rattle.regress_engine_code.specs.Instructions as code
 use Rattle.regress_engine_runs.specs.States.{Whole, onward}
-use Rattle.regress_engine_runs.specs.Runs.{Run, Runs, ends, finds, goes, looks, successors, is_plain, after_look}
+use Rattle.regress_engine_runs.specs.Runs.{successors, is_plain, after_look}
+use Rattle.regress_engine_runs.specs.Meets.{reads_character, IsAtPlace}
+use Rattle.regress_engine_runs.proofs.SafeRuns.{SafeRun, SafeRuns, ends, finds, goes, looks}
 
-module _ (program : Program) (input : Input) where
+module _ (program : Program) (input : Input) (reading : Reading) where
   -- In every run the second list may be replaced by the first.
   abbrev pub Expands : Direction → List Whole → List Whole → Type 0
-  Expands dir xs ys = (rest : List Whole) (r : Option Whole) → Runs program input dir (ys ++ rest) r → Runs program input dir (xs ++ rest) r
+  Expands dir xs ys = (rest : List Whole) (r : Option Whole) → SafeRuns program input reading dir (ys ++ rest) r → SafeRuns program input reading dir (xs ++ rest) r
 
   pub Expands-same : (dir : Direction) (xs : List Whole) → Expands dir xs xs
   Expands-same dir xs rest r h = h
@@ -22,25 +25,25 @@ module _ (program : Program) (input : Input) where
   -- before the same states
   pub Expands-right : {dir : Direction} (xs ys zs : List Whole) → Expands dir xs ys → Expands dir (xs ++ zs) (ys ++ zs)
   Expands-right {dir = dir} xs ys zs f rest r h =
-      let k : Runs program input dir (ys ++ (zs ++ rest)) r = subst (λ ss. Runs program input dir ss r) (append_assoc ys zs rest) h in
-      subst (λ ss. Runs program input dir ss r) (sym (append_assoc xs zs rest)) (f (zs ++ rest) r k)
+      let k : SafeRuns program input reading dir (ys ++ (zs ++ rest)) r = subst (λ ss. SafeRuns program input reading dir ss r) (append_assoc ys zs rest) h in
+      subst (λ ss. SafeRuns program input reading dir ss r) (sym (append_assoc xs zs rest)) (f (zs ++ rest) r k)
 
   -- what stands behind any states of a run may be replaced
-  replaced : (ys zs rest : List Whole) {dir : Direction} {ss : List Whole} {n : ℕ} {r : Option Whole} → Run program input dir ss n r
-      → Expands dir ys zs → (p : List Whole) → ss ≡ p ++ (zs ++ rest) → Runs program input dir (p ++ (ys ++ rest)) r
-  replaced ys zs rest {dir = dir} {n = n} {r = r} h f [] e = f rest r (n, subst (λ ss. Run program input dir ss n r) e h)
+  replaced : (ys zs rest : List Whole) {dir : Direction} {ss : List Whole} {n : ℕ} {r : Option Whole} → SafeRun program input reading dir ss n r
+      → Expands dir ys zs → (p : List Whole) → ss ≡ p ++ (zs ++ rest) → SafeRuns program input reading dir (p ++ (ys ++ rest)) r
+  replaced ys zs rest {dir = dir} {n = n} {r = r} h f [] e = f rest r (n, subst (λ ss. SafeRun program input reading dir ss n r) e h)
   replaced ys zs rest ends f (t ∷ p) e = absurd (grind arith)
   replaced ys zs rest (finds {dir = dir} {s = s} {ss = ss} here) f (t ∷ p) e =
       let first : s ≡ t = cc in
-      (1, subst (λ x. Run program input dir (x ∷ (p ++ (ys ++ rest))) 1 (Some s)) first (finds here))
-  replaced ys zs rest (goes {dir = dir} {i = i} {s = s} {ss = ss} {r = r} here plain run) f (t ∷ p) e =
+      (1, subst (λ x. SafeRun program input reading dir (x ∷ (p ++ (ys ++ rest))) 1 (Some s)) first (finds here))
+  replaced ys zs rest (goes {dir = dir} {i = i} {s = s} {ss = ss} {r = r} here plain places run) f (t ∷ p) e =
       let first : s ≡ t = cc in
       let others : ss ≡ p ++ (zs ++ rest) = cc in
       let new : List Whole = successors program input i dir s in
       let k = replaced ys zs rest run f (new ++ p) (ap (λ xs. new ++ xs) others ∙ sym (append_assoc new p (zs ++ rest))) in (
         suc k.0,
-        subst (λ x. Run program input dir (x ∷ (p ++ (ys ++ rest))) (suc k.0) r) first
-            (goes here plain (subst (λ xs. Run program input dir xs k.0 r) (append_assoc new p (ys ++ rest)) k.1)),
+        subst (λ x. SafeRun program input reading dir (x ∷ (p ++ (ys ++ rest))) (suc k.0) r) first
+            (goes here plain places (subst (λ xs. SafeRun program input reading dir xs k.0 r) (append_assoc new p (ys ++ rest)) k.1)),
       )
   replaced ys zs rest (looks {dir = dir} {negated = negated} {first = low} {last = high} {continuation = continuation} {s = s} {ss = ss} {m = m} {q = q} {r = r} here inner run) f (t ∷ p) e =
       let first : s ≡ t = cc in
@@ -48,24 +51,24 @@ module _ (program : Program) (input : Input) where
       let new : List Whole = after_look negated low high continuation s q in
       let k = replaced ys zs rest run f (new ++ p) (ap (λ xs. new ++ xs) others ∙ sym (append_assoc new p (zs ++ rest))) in (
         suc (m + k.0),
-        subst (λ x. Run program input dir (x ∷ (p ++ (ys ++ rest))) (suc (m + k.0)) r) first
-            (looks here inner (subst (λ xs. Run program input dir xs k.0 r) (append_assoc new p (ys ++ rest)) k.1)),
+        subst (λ x. SafeRun program input reading dir (x ∷ (p ++ (ys ++ rest))) (suc (m + k.0)) r) first
+            (looks here inner (subst (λ xs. SafeRun program input reading dir xs k.0 r) (append_assoc new p (ys ++ rest)) k.1)),
       )
 
   -- behind the same states
   pub Expands-left : {dir : Direction} (xs ys zs : List Whole) → Expands dir ys zs → Expands dir (xs ++ ys) (xs ++ zs)
   Expands-left {dir = dir} xs ys zs f rest r (n, h) =
       let k = replaced ys zs rest h f xs (append_assoc xs zs rest) in
-      subst (λ ss. Runs program input dir ss r) (sym (append_assoc xs ys rest)) k
+      subst (λ ss. SafeRuns program input reading dir ss r) (sym (append_assoc xs ys rest)) k
 
   -- a state expands to its successors
   pub steps : {dir : Direction} (i : Instruction) (s : Whole) → Stands program s.at i → is_plain i ≡ true
-      → Expands dir (s ∷ []) (successors program input i dir s)
-  steps i s here plain rest r (n, h) = (suc n, goes here plain h)
+      → (reads_character i ≡ true → IsAtPlace reading s.offset) → Expands dir (s ∷ []) (successors program input i dir s)
+  steps i s here plain places rest r (n, h) = (suc n, goes here plain places h)
 
   -- and one at a lookaround to what follows by the answer of its contents
   pub looks_around : {dir : Direction} (negated backward : Bool) (first last continuation : ℕ) (s : Whole) (q : Option Whole)
       → Stands program s.at (code.look negated backward first last continuation)
-      → Runs program input (direction backward) (onward s ∷ []) q
+      → SafeRuns program input reading (direction backward) (onward s ∷ []) q
       → Expands dir (s ∷ []) (after_look negated first last continuation s q)
   looks_around negated backward first last continuation s q here (m, inner) rest r (n, h) = (suc (m + n), looks here inner h)

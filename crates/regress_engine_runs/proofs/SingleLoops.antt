@@ -402,8 +402,8 @@ module _ (target : Target) (input : Input) (reading : Reading) (tells : Tells re
       let same : iterations (node_outcomes context a dir) greedy most least s ≡ preferred greedy us =
       along context dir test (node_outcomes context a dir) means greedy most least order s stands.inside.place in
       let found : slice_get target.program.instructions (suc w.at) ≡ Some i = ap (λ x. slice_get target.program.instructions (suc x)) at ∙ body in
-      let goes : Expands target.program input dir (w ∷ []) (successors target.program input (code.single_loop least most greedy) dir w) =
-      steps target.program input (code.single_loop least most greedy) w (standing target input reading w at here) refl in
+      let goes : Expands target.program input reading dir (w ∷ []) (successors target.program input (code.single_loop least most greedy) dir w) =
+      steps target.program input reading (code.single_loop least most greedy) w (standing target input reading w at here) refl (λ e. (s.place, stands.inside.place, stands.place)) in
       let ws : List Whole = map (λ o. record w { at = suc (suc w.at); offset = o }) (counted target.program input least most greedy i dir w.groups w.offset) in
       let made : map behind (preferred greedy vs) ≡ ws =
       ap (λ xs. map behind (preferred greedy (drop least xs))) (taken-offsets target.program input i dir most w)
@@ -414,7 +414,7 @@ module _ (target : Target) (input : Input) (reading : Reading) (tells : Tells re
       (ap (λ x. preferred greedy (drop least (one_by_one target.program input most i dir w.groups x))) stands.place
       ∙ sym (counted-is dir i test w.groups (λ q inside. does w.groups q inside) least most greedy s.place order stands.inside.place)
       ∙ ap (counted target.program input least most greedy i dir w.groups) (sym stands.place)) in
-      let go : Expands target.program input dir (w ∷ []) ws =
-      subst (λ (o : Option Instruction). Expands target.program input dir (w ∷ []) (elim o [ None ↦ [] | Some i ↦ map (λ o. record w { at = suc (suc w.at); offset = o }) (counted target.program input least most greedy i dir w.groups w.offset) ])) found goes in
-      subst (Leads target.program input dir Q (w ∷ [])) (sym same)
-      (first_expand target.program input Q (w ∷ []) ws (preferred greedy us) go (leads_at_once target.program input Q (preferred greedy us) ws (subst (Pairwise Q (preferred greedy us)) made out)))
+      let go : Expands target.program input reading dir (w ∷ []) ws =
+      subst (λ (o : Option Instruction). Expands target.program input reading dir (w ∷ []) (elim o [ None ↦ [] | Some i ↦ map (λ o. record w { at = suc (suc w.at); offset = o }) (counted target.program input least most greedy i dir w.groups w.offset) ])) found goes in
+      subst (Leads target.program input reading dir Q (w ∷ [])) (sym same)
+      (first_expand target.program input reading Q (w ∷ []) ws (preferred greedy us) go (leads_at_once target.program input reading Q (preferred greedy us) ws (subst (Pairwise Q (preferred greedy us)) made out)))

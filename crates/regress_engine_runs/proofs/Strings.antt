@@ -59,8 +59,8 @@ module _ (target : Target) (input : Input) (reading : Reading) (tells : Tells re
       let R : State → Whole → Type 0 = Arrives reading dir q.address f p.loops q.loops s.place w in
       let Q : State → Whole → Type 0 = Arrives reading dir q.address g p.loops q.loops s.place w in
       let fewer : (k : ℕ) → f k ≤ g k = λ k. let e = same k in omega (arith, e) in
-      subst (Leads target.program input dir Q (w ∷ [])) (means s stands.inside.place)
-      (leads_weaker target.program input R Q (λ y z c. record {
+      subst (Leads target.program input reading dir Q (w ∷ [])) (means s stands.inside.place)
+      (leads_weaker target.program input reading R Q (λ y z c. record {
         at = c.at;
         stands = c.stands;
         keeps = Keeps-less f g p.loops q.loops p.loops q.loops w z fewer (omega arith) (omega arith) c.keeps;
@@ -131,8 +131,8 @@ module _ (target : Target) (input : Input) (reading : Reading) (tells : Tells re
   unfolding node_outcomes
   choosing b icase [] p q points (here, end) = λ s w at stands may.
       let Q : State → Whole → Type 0 = Arrives reading (direction b) q.address (λ k. 0) p.loops q.loops s.place w in
-      first_expand target.program input Q (w ∷ []) [] [] (steps target.program input code.fail w (standing target input reading w at here) refl)
-      (leads_at_once target.program input Q [] [] tt)
+      first_expand target.program input reading Q (w ∷ []) [] [] (steps target.program input reading code.fail w (standing target input reading w at here) refl (λ e. absurd (grind arith)))
+      (leads_at_once target.program input reading Q [] [] tt)
   choosing b icase (cs ∷ []) p q points lies =
       let own : All is_code_point cs = All-head (All is_code_point) cs [] points in
       entered-as b (cat_of (parts_of b icase cs)) (tree.string_set (cs ∷ []) icase) p q (string-without b icase cs own)

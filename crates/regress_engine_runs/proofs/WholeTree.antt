@@ -18,8 +18,8 @@ use Rattle.regress_engine_code.specs.Instructions.{Program, Stands}
 use Rattle.regress_engine_code.specs.Instructions as code
 use Rattle.regress_engine_code.specs.Layout.{Spot, Target, Lies, IsLayout}
 use Rattle.regress_engine_runs.specs.States.{Whole, unset, range_of, first_state}
-use Rattle.regress_engine_runs.specs.Runs.{Runs, ends, finds}
 use Rattle.regress_engine_runs.specs.Stand.{StandsFor, IsMadeFor, IsFirst, RunsAsTree}
+use Rattle.regress_engine_runs.proofs.SafeRuns.{SafeRuns, safe-run, ends, finds}
 use Rattle.regress_engine_runs.proofs.RunLemmas.{Expands}
 use Rattle.regress_engine_runs.proofs.Leading.{Leads, Pairwise, leads_at_once, leads_on}
 use Rattle.regress_engine_runs.proofs.Places.{occurs, AreFree, MayEnter, MayEnter-part, MayEnter-after, Arrives, Lies-rises}
@@ -52,10 +52,10 @@ module _ (target : Target) (input : Input) (reading : Reading) (tells : Tells re
   -- a tree that ends at its goal leads there
   ends_at_goal : (n : ℕ) (t : Tree) (b : Bool) (p q : Spot) → Lies target b t p q → AreLawful n t → ((k : ℕ) → occurs k t ≤ 1)
       → goals t ≡ 1 → last_part t ≡ tree.goal → (s : State) (w : Whole) → w.at ≡ p.address → StandsFor reading s w → MayEnter (λ k. occurs k t) q.loops w
-      → Leads target.program input (direction b) AtGoal (w ∷ []) (node_outcomes (context_of reading input) t (direction b) s)
+      → Leads target.program input reading (direction b) AtGoal (w ∷ []) (node_outcomes (context_of reading input) t (direction b) s)
   unfolding node_outcomes
   ends_at_goal n tree.goal b p q h lawful once one last s w at stands may =
-      leads_at_once target.program input AtGoal (s ∷ []) (w ∷ []) ((standing target input reading w at h.0, stands), tt)
+      leads_at_once target.program input reading AtGoal (s ∷ []) (w ∷ []) ((standing target input reading w at h.0, stands), tt)
   ends_at_goal n (tree.cat a c) b p q (m, h, k) lawful once one last s w at stands may =
       by_part (part_cases a c) (ends_at_goal n a b p m h lawful.0 (λ i. omega (arith, once i)))
       (ends_at_goal n c b m q k lawful.1 (λ i. omega (arith, once i)))
@@ -74,19 +74,19 @@ module _ (target : Target) (input : Input) (reading : Reading) (tells : Tells re
 
       by_part : ((c ≡ tree.no_part) × (last_part (tree.cat a c) ≡ last_part a)) ⊎ (last_part (tree.cat a c) ≡ last_part c)
           → (goals a ≡ 1 → last_part a ≡ tree.goal → (s : State) (w : Whole) → w.at ≡ p.address → StandsFor reading s w
-          → MayEnter (λ k. occurs k a) m.loops w → Leads target.program input dir AtGoal (w ∷ []) (out a s))
+          → MayEnter (λ k. occurs k a) m.loops w → Leads target.program input reading dir AtGoal (w ∷ []) (out a s))
           → (goals c ≡ 1 → last_part c ≡ tree.goal → (s : State) (w : Whole) → w.at ≡ m.address → StandsFor reading s w
-          → MayEnter (λ k. occurs k c) q.loops w → Leads target.program input dir AtGoal (w ∷ []) (out c s))
-          → Leads target.program input dir AtGoal (w ∷ []) (flat_map (out c) (out a s))
+          → MayEnter (λ k. occurs k c) q.loops w → Leads target.program input reading dir AtGoal (w ∷ []) (out c s))
+          → Leads target.program input reading dir AtGoal (w ∷ []) (flat_map (out c) (out a s))
       by_part (inl (x, y)) f g =
           let none : goals c ≡ 0 = ap goals x in
           let same : flat_map (out c) (out a s) ≡ out a s = ap (λ t. flat_map (out t) (out a s)) x ∙ flat_map-self (out a s) in
-          subst (Leads target.program input dir AtGoal (w ∷ [])) (sym same)
+          subst (Leads target.program input reading dir AtGoal (w ∷ [])) (sym same)
           (f (omega (arith, one, none)) (sym y ∙ last) s w at stands (MayEnter-part (λ k. occurs k a) (λ k. occurs k a + occurs k c) m.loops q.loops w (λ k. omega arith) above may))
       by_part (inr y) f g =
           let some = goals-last c (sym y ∙ last) in
           let R : State → Whole → Type 0 = Arrives reading dir m.address (λ k. occurs k a) p.loops m.loops s.place w in
-          leads_on target.program input R AtGoal (out c) (w ∷ []) (out a s)
+          leads_on target.program input reading R AtGoal (out c) (w ∷ []) (out a s)
           (enters target input reading tells told made n a b p m h lawful.0 (λ i. omega (arith, once i)) (omega (arith, one, some)) s w at stands
           (MayEnter-part (λ k. occurs k a) (λ k. occurs k a + occurs k c) m.loops q.loops w (λ k. omega arith) above may))
           (λ x v r. g (omega (arith, one, some)) (sym y ∙ last) x v r.at r.stands
@@ -95,8 +95,8 @@ module _ (target : Target) (input : Input) (reading : Reading) (tells : Tells re
   ends_at_goal n _ b p q h lawful once one last s w at stands may = absurd (grind arith)
 
   -- the answer of states at their goals is the first
-  first_at_goal : (dir : Direction) (ws vs : List Whole) (ss : List State) → Expands target.program input dir ws vs → Pairwise AtGoal ss vs
-      → (r : Option Whole) × Runs target.program input dir (ws ++ []) r × IsFirst reading ss r
+  first_at_goal : (dir : Direction) (ws vs : List Whole) (ss : List State) → Expands target.program input reading dir ws vs → Pairwise AtGoal ss vs
+      → (r : Option Whole) × SafeRuns target.program input reading dir (ws ++ []) r × IsFirst reading ss r
   first_at_goal dir ws [] [] e h = (None, e [] None (0, ends), refl)
   first_at_goal dir ws (v ∷ vs) [] e h = absurd h
   first_at_goal dir ws [] (s ∷ ss) e h = absurd h
@@ -133,10 +133,12 @@ module _ (target : Target) (input : Input) (reading : Reading) (tells : Tells re
       all-none (suc i) zero = refl
       all-none (suc i) (suc k) = all-none i k
 
-  -- The layout theorem: of a well-formed tree a program's run, from every place of the text, ends, and its answer is the first of
-  -- the tree's outcomes.
-  pub runs_as_tree : (n : ℕ) (t : Tree) → IsWellFormed n t → IsLayout target n t → RunsAsTree target.program input reading n t
-  runs_as_tree n t formed layout place room =
+  -- Of a well-formed tree a program's run, from every place of the text, ends, reads at places alone, and its answer is the
+  -- first of the tree's outcomes.
+  pub runs_safely : (n : ℕ) (t : Tree) → IsWellFormed n t → IsLayout target n t → (place : ℕ) → place ≤ length reading.points → (r : Option Whole)
+      × SafeRuns target.program input reading Forward (first_state target.program (offset reading place) ∷ []) r
+      × IsFirst reading (node_outcomes (context_of reading input) t Forward (record { place = place; groups = replicate n None })) r
+  runs_safely n t formed layout place room =
       let w : Whole = first_state target.program (offset reading place) in
       let s : State = record { place = place; groups = replicate n None } in
       let start : Spot = record { address = 0; loops = 0 } in
@@ -149,3 +151,8 @@ module _ (target : Target) (input : Input) (reading : Reading) (tells : Tells re
       let led = ends_at_goal n t false start end layout.lies formed.lawful (λ k. (number_of n k t formed.numbered).0) formed.one_goal formed.ended
       s w refl (nothing_set n place room layout.groups) may in
       first_at_goal Forward (w ∷ []) led.0 (node_outcomes (context_of reading input) t Forward s) led.1 led.2
+
+  -- So it runs as the tree.
+  pub runs_as_tree : (n : ℕ) (t : Tree) → IsWellFormed n t → IsLayout target n t → RunsAsTree target.program input reading n t
+  runs_as_tree n t formed layout place room =
+      let (r, (k, safe), first) = runs_safely n t formed layout place room in (r, (k, safe-run target.program input reading safe), first)

@@ -1,5 +1,5 @@
 -- The states that a run comes to, whether it ends or not.
-use Rattle.std.specs.Prelude.{◌≡◌, ℕ, ◌≤◌, Bool, true, List, [], ◌∷◌, ◌++◌, length, Option}
+use Rattle.std.specs.Prelude.{◌≡◌, ℕ, ◌≤◌, Bool, true, false, List, [], ◌∷◌, ◌++◌, length, Option}
 use Rattle.regress_meaning.specs.Meaning.{Direction, Forward}
 use Rattle.regress_meaning.specs.Offsets.{Reading, offset}
 use Rattle.regress_meaning.specs.Inputs.{Input}
@@ -31,3 +31,30 @@ module _ (program : Program) (input : Input) where
 abbrev pub NeverStuck : Program → Input → Reading → Type 0
 NeverStuck program input reading = (p : ℕ) → p ≤ length reading.points → (t : Whole)
     → Meets program input Forward (first_state program (offset reading p) ∷ []) t → (i : Instruction) × Stands program t.at i
+
+-- an instruction reads the characters beside the offset where it stands
+abbrev pub reads_character : Instruction → Bool
+reads_character (code.char c) = true
+reads_character (code.char_set cs) = true
+reads_character (code.byte_set bs) = true
+reads_character code.any = true
+reads_character code.any_in_line = true
+reads_character (code.bracket k) = true
+reads_character (code.ascii_bracket cs) = true
+reads_character (code.line_start multiline) = true
+reads_character (code.line_end multiline) = true
+reads_character (code.boundary inverted folded) = true
+reads_character (code.back k icase) = true
+reads_character (code.single_loop least most greedy) = true
+reads_character _ = false
+
+-- an offset is that of a place
+abbrev pub IsAtPlace : Reading → ℕ → Type 0
+IsAtPlace reading o = (p : ℕ) × (p ≤ length reading.points) × (o ≡ offset reading p)
+
+-- A program reads at places: from each place of the text, each state that its run meets at an instruction that reads
+-- characters is at the offset of a place.
+abbrev pub ReadsAtPlaces : Program → Input → Reading → Type 0
+ReadsAtPlaces program input reading = (p : ℕ) → p ≤ length reading.points → (t : Whole) (i : Instruction)
+    → Meets program input Forward (first_state program (offset reading p) ∷ []) t → Stands program t.at i → reads_character i ≡ true
+    → IsAtPlace reading t.offset

@@ -1,12 +1,14 @@
 -- How one state and a stack of records stand for what a run has still to do.
-use Rattle.std.specs.Prelude.{◌≡◌, ℕ, ◌+◌, ◌-◌, ◌<◌, Bool, List, [], ◌∷◌, ◌++◌, Option, Some, None, option_map, unwrap_or, slice_get, slice_set, map}
+use Rattle.std.specs.Prelude.{◌≡◌, ℕ, ◌+◌, ◌-◌, ◌<◌, Bool, true, List, [], ◌∷◌, ◌++◌, Option, Some, None, option_map, unwrap_or, slice_get, slice_set, map}
 use Rattle.regress_meaning.specs.Meaning.{Direction, Forward, Backward}
+use Rattle.regress_meaning.specs.Offsets.{Reading}
 use Rattle.regress_meaning.specs.Inputs.{Input}
 use Rattle.regress_front_nodes.specs.TreeMeaning.{direction}
-use Rattle.regress_engine_code.specs.Instructions.{Program}
+use Rattle.regress_engine_code.specs.Instructions.{Instruction, Program, Stands}
 use Rattle.regress_engine_runs.specs.States.{Marks, Whole}
-use Rattle.regress_engine_runs.specs.Runs.{Run, after_look, one_more, given_back, one_by_one}
+use Rattle.regress_engine_runs.specs.Runs.{Run, Runs, after_look, one_more, given_back, one_by_one}
 use Rattle.regress_engine_runs.specs.Computed.{run}
+use Rattle.regress_engine_runs.specs.Meets.{Meets, reads_character, IsAtPlace}
 
 -- A lookaround whose contents are under way: its instruction, where it stands and at which offset, and which way was read
 -- before it.
@@ -102,3 +104,17 @@ module _ (program : Program) (input : Input) where
   steps_left f dir ss (outermost ts) = unwrap_or (option_map (λ x. x.0) (run program input f dir (ss ++ ts))) 0
   steps_left f dir ss (inside ts g s rest) = unwrap_or (option_map (λ x. x.0 + steps_left f g.outside
       (after_look g.negated g.first g.last g.continuation s x.1) rest) (run program input f dir (ss ++ ts))) 0
+
+  -- Some states and then the work come to a state: inside a lookaround, or by its answer outside.
+  pub data ComesTo : Direction → List Whole → Work → Whole → Type 0 where
+    meets_alone : {dir : Direction} {ss ts : List Whole} {t : Whole} → Meets program input dir (ss ++ ts) t → ComesTo dir ss (outermost ts) t
+    meets_within : {dir : Direction} {ss ts : List Whole} {f : Frame} {s : Whole} {rest : Work} {t : Whole} → Meets program input dir (ss ++ ts) t
+        → ComesTo dir ss (inside ts f s rest) t
+    meets_outside : {dir : Direction} {ss ts : List Whole} {f : Frame} {s : Whole} {rest : Work} {q : Option Whole} {t : Whole}
+        → Runs program input dir (ss ++ ts) q → ComesTo f.outside (after_look f.negated f.first f.last f.continuation s q) rest t
+        → ComesTo dir ss (inside ts f s rest) t
+
+  -- wherever they come to an instruction that reads characters, the offset is that of a place
+  abbrev pub ReadOn : Reading → Direction → List Whole → Work → Type 0
+  ReadOn reading dir ss work = (t : Whole) (i : Instruction) → ComesTo dir ss work t → Stands program t.at i → reads_character i ≡ true
+      → IsAtPlace reading t.offset

@@ -17,7 +17,7 @@ ghost use Rattle.regress_engine_runs.specs.States.{Whole};
 ghost use Rattle.regress_engine_runs.specs.Runs.{Run};
 ghost use Rattle.regress_engine_runs.specs.Closed.{IsClosed};
 ghost use Rattle.regress_engine_runs.specs.Items.{Answers, Finds, Lists, begins_at};
-ghost use Rattle.regress_engine_runs.specs.Meets.{NeverStuck};
+ghost use Rattle.regress_engine_runs.specs.Meets.{NeverStuck, ReadsAtPlaces};
 ghost use Rattle.regress_engine_runs.specs.Stand.{IsMadeFor, RunsAsTree};
 ghost use Rattle.regress_engine_runs.specs.UndoStack.{MovesOn};
 
@@ -30,6 +30,12 @@ pub fn layouts_run_as_trees()
 /// outside of lookarounds, is that of an instruction.
 pub fn layouts_never_get_stuck()
     ensures { (target : Target) → (input : Input) → (reading : Reading) → Tells reading input → (target.program.units ≡ false → TellsBytes reading input) → IsMadeFor target input → (n : ℕ) → (t : Tree) → IsWellFormed n t → IsLayout target n t → NeverStuck target.program input reading }
+{}
+
+/// A program that is a layout reads at places alone: wherever its run comes to an instruction that reads characters, from each
+/// place of a text, inside and outside of lookarounds, the offset is that of a place.
+pub fn layouts_read_at_places()
+    ensures { (target : Target) → (input : Input) → (reading : Reading) → Tells reading input → (target.program.units ≡ false → TellsBytes reading input) → IsMadeFor target input → (n : ℕ) → (t : Tree) → IsWellFormed n t → IsLayout target n t → ReadsAtPlaces target.program input reading }
 {}
 
 /// A program that is a layout is closed: its brackets, groups and loops are there where an instruction names them, the end of

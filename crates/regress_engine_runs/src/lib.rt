@@ -6,6 +6,6 @@ mod laws;
 
 pub use laws::{
     counts_are_bounded, inputs_move_on, layouts_are_closed, layouts_list_matches,
-    layouts_never_get_stuck, layouts_run_as_trees, runs_are_determined, searches_find_matches,
-    searches_may_skip,
+    layouts_never_get_stuck, layouts_read_at_places, layouts_run_as_trees, runs_are_determined,
+    searches_find_matches, searches_may_skip,
 };
