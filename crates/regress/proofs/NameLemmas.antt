@@ -1,11 +1,11 @@
 -- The names of groups, written by their numbers.
-use Rattle.std.proofs.Common.{◌≡◌, ℕ, zero, suc, ◌<◌, ◌≤◌, ◌⊎◌, inl, inr, ◌==◌, Bool, List, [], ◌∷◌, length, map, set, get_or, Option, Some, None, option_map, if◌then◌else◌, true, false, String, Global, refl, sym, ap, ◌∙◌, arith}
-use Rattle.std.specs.Prelude.{slice_get, chars, ◌≢◌, IfSome, IfNone}
-use Rattle.std.specs.List.{AllClonesOf, HoldsAt, AllWithin}
+use Rattle.std.proofs.Common.{◌≡◌, ℕ, zero, suc, ◌<◌, ◌≤◌, ◌⊎◌, inl, inr, ◌==◌, Bool, List, [], ◌∷◌, length, map, set, Option, Some, None, option_map, if◌then◌else◌, true, false, String, Global, refl, sym, ap, ◌∙◌, arith}
+use Rattle.std.specs.Prelude.{slice_get, chars}
+use Rattle.std.specs.List.{AllClonesOf}
 use Rattle.std.specs.String.{string_bytes}
 use Rattle.std.proofs.lemmas.Str.{chars-nil}
-use Rattle.std.proofs.lemmas.Option.{unwrap_or-slice_get, slice_get-get_or, slice_get-map, slice_get_cases, slice_get_within}
-use Rattle.std.specs.Option.{unwrap_or, MatchOption}
+use Rattle.std.proofs.lemmas.Option.{unwrap_or-slice_get, slice_get-get_or}
+use Rattle.std.specs.Option.{unwrap_or}
 use Rattle.std.proofs.lemmas.Bool.{eqb-true, eqb-false}
 use Rattle.std.proofs.lemmas.List.{map-set, set_past, length-map}
 use Rattle.regress_front.specs.Trees.{Tree, capture}

@@ -9,7 +9,6 @@ use Rattle.regress_front.specs.FlagWords.{options}
 use Rattle.regress_front.specs.TableViews.{table}
 use Rattle.regress_match.specs.declared.found.Match.{Match}
 use Rattle.regress_match.specs.GroupNames.{shared_names}
-use Rattle.regress_match.specs.TextRanges.{LiesInText}
 use Rattle.regress_match.specs.Iterating as iterating
 use Rattle.regress_match.specs.Iterating.{coming_on, steps_on, producer_of, position_of}
 use Rattle.regress_evaluator.specs.declared.search.CompiledPattern.{CompiledPattern}
