@@ -2,7 +2,7 @@
 use Rattle.std.specs.Prelude.{slice_get}
 use Rattle.std.specs.Char.{len_utf8, IsScalar}
 use Rattle.std.specs.Option.{SomeIff}
-use Rattle.std.proofs.Common.{◌≡◌, ◌⊎◌, inl, inr, ℕ, zero, suc, ◌+◌, ◌-◌, ◌<◌, ◌≤◌, Bool, true, List, ◌++◌, length, drop, Option, Some, None, get_or, option_map, chars, refl, sym, ap, ◌∙◌, arith}
+use Rattle.std.proofs.Common.{◌≡◌, ◌⊎◌, inl, inr, ℕ, zero, suc, ◌+◌, ◌-◌, ◌<◌, ◌≤◌, Bool, true, List, ◌++◌, length, drop, Option, Some, None, get_or, option_map, chars, refl, sym, ap, ◌∙◌, subst, arith}
 use Rattle.std.specs.Str.{IsUtf8, IsCharBoundary}
 use Rattle.regress_match.proofs.TextLemmas.{chars-code_points, place_of_boundary, offset_of_end as utf8_end}
 use Rattle.std.proofs.Math.Utf8.{encode, encodes, scalar}
@@ -17,6 +17,7 @@ use Rattle.regress_meaning.specs.Laws.{OffsetsRise}
 use Rattle.regress_meaning.specs.Offsets.{Reading, offset, of_utf8}
 use Rattle.regress_meaning.proofs.OffsetLemmas.{rise}
 use Rattle.regress_meaning.specs.Inputs.{Tells, point_told, neighbour, byte_at, onto_right, onto_left, bytes_right, bytes_left, utf8_next, utf8_input}
+use Rattle.regress_engine_input.proofs.PlaceLemmas.{place-inside}
 use Rattle.regress_engine_input.proofs.Utf8Parts.{offset-next, bytes-here, scalar-here}
 use Rattle.regress_engine_input.proofs.Utf8Forms.{Form, form, form-right, form-left, Form-same}
 
@@ -144,3 +145,41 @@ pub char-read : (bytes : List ℕ) → IsUtf8 bytes → (dir : Direction) (o : �
     → (r : Option ℕ) → SomeIff r (IsScalar c) c → option_map (λ (d : ℕ). d) r ≡ option_map (λ (x : ℕ × ℕ). x.0) (utf8_next bytes dir o)
 char-read bytes utf8 dir o boundary c q e None never = absurd (never (scalar-read bytes utf8 dir o boundary (c, q) e))
 char-read bytes utf8 dir o boundary c q e (Some d) (is, same) = ap (λ v. Some v) same ∙ sym (ap (option_map (λ (x : ℕ × ℕ). x.0)) e)
+
+-- how many bytes the character at an offset takes, as they tell it
+abbrev right_width : List ℕ → ℕ → ℕ
+right_width bytes o = (bytes_right (byte_at bytes o) (byte_at bytes (o + 1)) (byte_at bytes (o + 2)) (byte_at bytes (o + 3))).1
+
+-- there are so many behind a boundary
+enough_right : (bytes : List ℕ) → IsUtf8 bytes → (o : ℕ) → IsCharBoundary bytes o → o < length bytes → o + right_width bytes o ≤ length bytes
+enough_right bytes utf8 o boundary inside = by_place (place_of_boundary bytes utf8 o boundary)
+  where
+    by_place : ((p : ℕ) × (p ≤ length (chars bytes)) × (offset (of_utf8 bytes) p ≡ o)) → o + right_width bytes o ≤ length bytes
+    by_place (p, room, here) = by_room (cases_lt p (length (chars bytes)))
+      where
+        by_room : (p < length (chars bytes)) ⊎ (length (chars bytes) ≤ p) → o + right_width bytes o ≤ length bytes
+        by_room (inr full) =
+            let same : p ≡ length (chars bytes) = omega arith in
+            let end = ap (offset (of_utf8 bytes)) same in
+            let last = utf8_end bytes utf8 in absurd (omega (arith, here, end, last, inside))
+        by_room (inl less) =
+            let c : ℕ = get_or (chars bytes) p 0 in
+            let e : slice_get (chars bytes) p ≡ Some c = slice_get-get_or (chars bytes) p 0 less in
+            let x : ℕ = offset (of_utf8 bytes) p in
+            let f : bytes_right (byte_at bytes x) (byte_at bytes (x + 1)) (byte_at bytes (x + 2)) (byte_at bytes (x + 3)) ≡ (c, len_utf8 c) =
+            form-right c (len_utf8 c) (byte_at bytes x) (byte_at bytes (x + 1)) (byte_at bytes (x + 2)) (byte_at bytes (x + 3)) (form-here bytes utf8 p c e) in
+            let width : right_width bytes x ≡ len_utf8 c = ap (λ (v : ℕ × ℕ). v.1) f in
+            let next : offset (of_utf8 bytes) (suc p) ≡ x + len_utf8 c = offset-next bytes utf8 p c e in
+            let last : offset (of_utf8 bytes) (suc p) ≤ length bytes = place-inside (of_utf8 bytes) (utf8_rise bytes) (length bytes) (utf8_end bytes utf8) (suc p) less in
+            subst (λ q. q + right_width bytes q ≤ length bytes) here (omega (arith, width, next, last))
+
+-- a first byte tells how many follow it
+module _ (bytes : List ℕ) (utf8 : IsUtf8 bytes) (o : ℕ) (boundary : IsCharBoundary bytes o) (inside : o < length bytes) where
+  pub room_of_two : 0x80 ≤ byte_at bytes o → o + 1 < length bytes
+  room_of_two h = let e = enough_right bytes utf8 o boundary inside in grind (arith, nat_tests)
+
+  pub room_of_three : 0xE0 ≤ byte_at bytes o → o + 2 < length bytes
+  room_of_three h = let e = enough_right bytes utf8 o boundary inside in grind (arith, nat_tests)
+
+  pub room_of_four : 0xF0 ≤ byte_at bytes o → o + 3 < length bytes
+  room_of_four h = let e = enough_right bytes utf8 o boundary inside in grind (arith, nat_tests)

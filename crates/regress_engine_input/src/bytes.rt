@@ -1,5 +1,6 @@
 //! What stands beside an offset of bytes.
 ghost use Rattle.std.specs.Prelude.{◌≡◌, ◌≤◌, length};
+ghost use Rattle.std.specs.Str.{IsUtf8, IsCharBoundary};
 ghost use Rattle.regress_meaning.specs.Meaning.{Forward, Backward};
 ghost use Rattle.regress_meaning.specs.Inputs.{Input, byte_at, of_two, of_three, of_four, is_continuation, single_next, utf8_next};
 ghost use Rattle.regress_meaning.specs.Steps.{literal};
@@ -94,7 +95,7 @@ pub(crate) fn bytes_beside<Dir: Direction>(
     }
 }
 
-/// The byte at an offset, 0 past the end.
+/// The byte at an offset, 0 past the end: so reading back asks nothing of the bytes.
 #[inline]
 fn byte(bytes: &[u8], at: usize) -> u8
     ensures { result ≡ byte_at bytes.now at }
@@ -136,7 +137,10 @@ fn four(w: u8, x: u8, y: u8, z: u8) -> u32
 
 /// The character behind an offset, and the offset behind it.
 #[inline]
+#[tactic(auto, using(crate::proofs::Utf8Texts::room_of_two, crate::proofs::Utf8Texts::room_of_three, crate::proofs::Utf8Texts::room_of_four))]
 pub(crate) fn utf8_right(bytes: &[u8], at: usize) -> Option<(u32, usize)>
+    requires utf8 { IsUtf8 bytes.now }
+    requires boundary { IsCharBoundary bytes.now at }
     ensures { result ≡ utf8_next bytes.now Forward at }
 {
     if at >= bytes.len() {
@@ -146,15 +150,15 @@ pub(crate) fn utf8_right(bytes: &[u8], at: usize) -> Option<(u32, usize)>
     if w < 0x80 {
         return Some((u32::from(w), at + 1));
     }
-    let x = byte(bytes, at + 1);
+    let x = bytes[at + 1];
     if w < 0xE0 {
         return Some((two(w, x), at + 2));
     }
-    let y = byte(bytes, at + 2);
+    let y = bytes[at + 2];
     if w < 0xF0 {
         return Some((three(w, x, y), at + 3));
     }
-    Some((four(w, x, y, byte(bytes, at + 3)), at + 4))
+    Some((four(w, x, y, bytes[at + 3]), at + 4))
 }
 
 /// The character before an offset, and the offset before it.
