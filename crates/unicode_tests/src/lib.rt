@@ -1,0 +1,9 @@
+//! Tests of `regress_unicode`, by its public calls alone. The library itself is empty.
+#![tactic(auto)]
+
+#[cfg(test)]
+mod case;
+#[cfg(test)]
+mod figures;
+#[cfg(test)]
+mod properties;
