@@ -1,5 +1,5 @@
 -- The flags of a pattern, and what it begins with under them.
-use Rattle.std.specs.Prelude.{ℕ, Bool, ◌||◌, List}
+use Rattle.std.specs.Prelude.{ℕ, Bool, false, ◌||◌, List}
 use Rattle.regress_meaning.specs.Text.{holds}
 use Rattle.regress_meaning.specs.Pattern.{Settings}
 
@@ -16,6 +16,10 @@ pub record Options : Type 0 where
 -- What a word sets: `i`, `m`, `s`, `u` and `v` wherever they stand in it; all else is skipped.
 abbrev pub options_of : List ℕ → Options
 options_of word = record { icase = holds word 0x69; multiline = holds word 0x6D; dot_all = holds word 0x73; unicode = holds word 0x75; sets = holds word 0x76 }
+
+-- nothing is switched on
+abbrev pub no_flags : Options
+no_flags = record { icase = false; multiline = false; dot_all = false; unicode = false; sets = false }
 
 -- Unicode mode
 abbrev pub is_unicode : Options → Bool

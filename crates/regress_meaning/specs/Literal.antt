@@ -1,7 +1,23 @@
--- The occurrences of a literal in a text.
-use Rattle.std.specs.Prelude.{ℕ, ◌+◌, List, [], length, Option, Some, None, drop, nat_eq, nat_le, ◌&&◌, if◌then◌else◌}
+-- A literal: the pattern text that stands for it, and its occurrences in a text.
+use Rattle.std.specs.Prelude.{ℕ, ◌+◌, Bool, List, [], ◌∷◌, length, Option, Some, None, drop, nat_eq, nat_le, ◌&&◌, if◌then◌else◌}
 use Rattle.std.specs.List.{starts_with}
+use Rattle.regress_meaning.specs.Text.{◌∈◌}
+use Rattle.regress_meaning.specs.Pattern.{Pattern, nothing, character, sequence}
 use Rattle.regress_meaning.specs.Matches.{Item, all_found}
+
+-- c does not stand for itself in every pattern ("SyntaxCharacter")
+abbrev pub is_syntax_character : ℕ → Bool
+is_syntax_character c = c ∈ "^$\\.*+?()[]{}|"
+
+-- a backslash before each syntax character, nothing else changed
+unfoldable pub escaped_text : List ℕ → List ℕ
+escaped_text [] = []
+escaped_text (c ∷ cs) = if is_syntax_character c then 0x5C ∷ c ∷ escaped_text cs else c ∷ escaped_text cs
+
+-- the tree of a literal: its characters one after another
+unfoldable pub literal_pattern : List ℕ → Pattern
+literal_pattern [] = nothing
+literal_pattern (c ∷ cs) = sequence (character c) (literal_pattern cs)
 
 module _ (literal text : List ℕ) where
   -- the literal stands at a place of the text

@@ -8,7 +8,7 @@ ghost use Rattle.regress_meaning.specs.Table.{Table, last_code_point, closure};
 ghost use Rattle.regress_meaning.specs.TableParts.{IsLawful, small_parts};
 ghost use Rattle.regress_meaning.specs.Class.{Class, value_of};
 ghost use Rattle.regress_meaning.specs.Pattern.{Pattern, Settings, names_of};
-ghost use Rattle.regress_meaning.specs.Flags.{Options};
+ghost use Rattle.regress_meaning.specs.Flags.{Options, no_flags};
 ghost use Rattle.regress_meaning.specs.Tokens.{Mode, continues_name};
 ghost use Rattle.regress_meaning.specs.Grammar.{Spells};
 ghost use Rattle.regress_meaning.specs.Scan.{scanned_names};
@@ -16,10 +16,11 @@ ghost use Rattle.regress_meaning.specs.Reading.{read_pattern, ReadsBySteps};
 ghost use Rattle.regress_meaning.specs.Numbering.{IsNumbered};
 ghost use Rattle.regress_meaning.specs.Points.{IsOfPoints, ClassHoldsNoStrings, HoldsNoStrings};
 ghost use Rattle.regress_meaning.specs.Named.{HoldsNoEmptyName};
-ghost use Rattle.regress_meaning.specs.Limits.{quantifiers};
+ghost use Rattle.regress_meaning.specs.Limits.{quantifiers, WithinLimits};
 ghost use Rattle.regress_meaning.specs.Weights.{weight};
 ghost use Rattle.regress_meaning.specs.Meaning.{State, Direction, Context, outcomes};
 ghost use Rattle.regress_meaning.specs.Matches.{Item, first_match, match_list, next_place};
+ghost use Rattle.regress_meaning.specs.Literal.{escaped_text, literal_pattern, occurrences};
 ghost use Rattle.regress_meaning.specs.Offsets.{of_utf8, of_ascii, of_utf16, of_ucs2};
 ghost use Rattle.regress_meaning.specs.Laws.{IsInside, IsItemInside, IsAhead, ItemsRise, OffsetsRise, in_group, LeavesLess, ContentsBySteps};
 
@@ -135,6 +136,17 @@ pub fn matches_go_on()
 /// A pattern and the same in `(?:..)` have the same matches, groups included.
 pub fn group_without_capture_is_transparent()
     ensures { (table : Table) → (o : Options) → (source : List ℕ) → (p : Pattern) → (q : Pattern) → Spells table o source p → Spells table o (in_group source) q → (text : List ℕ) → (place : ℕ) → match_list table o q text place ≡ match_list table o p text place }
+{}
+
+/// An escaped text spells the tree of its characters one after another, whatever the table, and that passes no limit.
+pub fn escaped_texts_spell_literals()
+    ensures spells { (table : Table) → (text : List ℕ) → Spells table no_flags (escaped_text text) (literal_pattern text) }
+    ensures within { (text : List ℕ) → WithinLimits (literal_pattern text) }
+{}
+
+/// The tree of a literal's characters matches the occurrences of the literal, and nothing else.
+pub fn literals_match_their_occurrences()
+    ensures { (table : Table) → (literal : List ℕ) → (text : List ℕ) → (place : ℕ) → match_list table no_flags (literal_pattern literal) text place ≡ occurrences literal text place }
 {}
 
 /// Later places have greater offsets, in each of the four readings.
