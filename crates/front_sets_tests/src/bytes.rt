@@ -84,15 +84,18 @@ fn the_first_member_is_found(rt: HostRuntime) {
 
 #[test]
 fn each_searcher_finds_its_first(rt: HostRuntime) {
-    let in_two = first(b"cb", b"abc");
-    prove!(in_two == Some(1));
+    let in_one = first(b"c", b"abc");
+    prove!(in_one == Some(2));
+    let in_two = first(b"cb", b"bc");
+    prove!(in_two == Some(0));
     let in_three = first(b"xyc", b"abc");
     prove!(in_three == Some(2));
     let in_four = first(&ByteArraySet(*b"wxyc"), b"ac");
     prove!(in_four == Some(1));
     let empty = first(&EmptyString, b"");
     prove!(empty == Some(0));
-    assert!(rt; in_two == Some(1) && in_three == Some(2) && in_four == Some(1));
+    assert!(rt; in_one == Some(2) && in_two == Some(0) && in_three == Some(2));
+    assert!(rt; in_four == Some(1) && empty == Some(0));
 }
 
 #[test]

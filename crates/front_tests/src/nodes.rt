@@ -1,13 +1,13 @@
 //! Tests of `regress_front_nodes`.
-ghost use Rattle.std.specs.Prelude.{◌≡◌, ◌≤◌, All};
+ghost use Rattle.std.specs.Prelude.{◌≤◌};
 ghost use Rattle.regress_front_nodes.specs.Trees.{tree};
 ghost use Rattle.regress_front_nodes.specs.Forms.{nesting};
 
 use regress_front::ir::Regex;
 use regress_front::{
     AnchorType, BracketContents, CODE_POINT_MAX, CodePoint, CodePointSet, Error, Flags, IP,
-    Interval, LoopID, Node, Piece, Quantifier, Tables, Walk, lower_code_point_sequence, walk,
-    walk_mut,
+    Interval, LoopID, Node, Piece, Quantifier, Tables, Walk, are_code_points,
+    lower_code_point_sequence, walk, walk_mut,
 };
 use std::alloc::Global;
 use std::test::Fail;
@@ -18,20 +18,14 @@ const GREEDY: Quantifier = Quantifier {
     greedy: true,
 };
 
-const ALL: Interval = Interval {
-    first: 0,
-    last: CODE_POINT_MAX,
-};
-
-const NOT_ZERO: Interval = Interval {
-    first: 1,
-    last: CODE_POINT_MAX,
-};
-
-fn bracket(alloc: Global, invert: bool, interval: Option<Interval>) -> Result<Node, Error> {
+/// A bracket that holds all code points from this one on, or none.
+fn bracket(alloc: Global, invert: bool, from: Option<CodePoint>) -> Result<Node, Error> {
     let mut cps = CodePointSet::new(alloc);
-    if let Some(interval) = interval {
-        cps.add(interval)?;
+    if let Some(first) = from {
+        cps.add(Interval {
+            first: CODE_POINT_MAX.min(first),
+            last: CODE_POINT_MAX,
+        })?;
     }
     Ok(Node::Bracket(BracketContents { invert, cps }))
 }
@@ -92,7 +86,7 @@ fn each_kind(alloc: Global) -> Result<Node, Error> {
         group: 1,
         icase: true,
     })?;
-    parts.push(bracket(alloc, true, Some(ALL))?)?;
+    parts.push(bracket(alloc, true, Some(0))?)?;
     parts.push(Node::StringSet {
         alternatives: vec![in alloc; Vec::from_array(alloc, [0x61])?.into_boxed_slice()]?,
         icase: false,
@@ -165,36 +159,48 @@ fn a_copy_is_printed_alike(rt: HostRuntime) -> Result<(), Fail> {
     Ok(())
 }
 
+/// Whether a copy of the node is made below so many nodes.
+fn has_copy(alloc: Global, node: &Node, depth: usize) -> Result<bool, Error> {
+    Ok(node.try_duplicate(alloc, depth)?.is_some())
+}
+
 #[test]
 fn no_copy_is_made_too_deep_or_of_a_group(rt: HostRuntime) -> Result<(), Fail> {
     let node = repeated(rt.alloc(), Node::MatchAny)?;
-    assert!(rt; node.try_duplicate(rt.alloc(), 1279)?.is_some());
-    assert!(rt; node.try_duplicate(rt.alloc(), 1280)?.is_none());
-    assert!(rt; Node::MatchAny.try_duplicate(rt.alloc(), 1280)?.is_some());
-    assert!(rt; Node::MatchAny.try_duplicate(rt.alloc(), 1281)?.is_none());
-    let group = group(rt.alloc(), Node::MatchAny)?;
-    assert!(rt; group.try_duplicate(rt.alloc(), 0)?.is_none());
     assert!(rt;
-        repeated(rt.alloc(), group)?
-            .try_duplicate(rt.alloc(), 0)?
-            .is_none()
+        has_copy(rt.alloc(), &node, 1279)?
+            && !has_copy(rt.alloc(), &node, 1280)?
+            && has_copy(rt.alloc(), &Node::MatchAny, 1280)?
+            && !has_copy(rt.alloc(), &Node::MatchAny, 1281)?
     );
+    let group = group(rt.alloc(), Node::MatchAny)?;
+    let is_copied = has_copy(rt.alloc(), &group, 0)?;
+    let around = repeated(rt.alloc(), group)?;
+    assert!(rt; !is_copied && !has_copy(rt.alloc(), &around, 0)?);
     Ok(())
+}
+
+/// Whether a bracket is inverted, from which code point on it holds all, and whether it is empty.
+const BRACKETS: &[(bool, Option<CodePoint>, bool)] = &[
+    (false, None, true),
+    (true, None, false),
+    (true, Some(0), true),
+    (false, Some(0), false),
+    (true, Some(1), false),
+];
+
+/// Whether a bracket is told to be empty, or not to be, by each call that tells.
+fn is_told_empty(node: &Node, is_empty: bool) -> bool {
+    node.match_always_fails() == is_empty
+        && node.matches_exactly_one_char() != is_empty
+        && matches!(node, Node::Bracket(contents) if contents.is_empty() == is_empty)
 }
 
 #[test]
 fn brackets_are_empty_where_nothing_is_held(rt: HostRuntime) -> Result<(), Fail> {
-    for (invert, interval, is_empty) in [
-        (false, None, true),
-        (true, None, false),
-        (true, Some(ALL), true),
-        (false, Some(ALL), false),
-        (true, Some(NOT_ZERO), false),
-    ] {
-        let node = bracket(rt.alloc(), invert, interval)?;
-        assert!(rt; node.match_always_fails() == is_empty);
-        assert!(rt; node.matches_exactly_one_char() != is_empty);
-        assert!(rt; matches!(&node, Node::Bracket(contents) if contents.is_empty() == is_empty));
+    for (invert, from, is_empty) in BRACKETS {
+        let node = bracket(rt.alloc(), *invert, *from)?;
+        assert!(rt; is_told_empty(&node, *is_empty));
     }
     Ok(())
 }
@@ -218,24 +224,39 @@ fn parts_are_turned_in_a_lookbehind(rt: HostRuntime) -> Result<(), Fail> {
     Ok(())
 }
 
+/// What is told of a node: whether it is empty, whether it is a `Cat`, whether it matches one character, whether nothing.
+fn forms(node: &Node) -> (bool, bool, bool, bool) {
+    (
+        node.is_empty(),
+        node.is_cat(),
+        node.matches_exactly_one_char(),
+        node.match_always_fails(),
+    )
+}
+
 #[test]
 fn forms_are_told(rt: HostRuntime) -> Result<(), Fail> {
-    let empty = Node::Empty;
     let none = Node::Cat(Vec::new(rt.alloc()));
+    let fails = Node::make_always_fails(rt.alloc());
+    let nothing = Node::ByteSet(Vec::new(rt.alloc()));
+    assert!(rt; forms(&Node::Empty) == (true, false, false, false));
+    assert!(rt; forms(&none) == (false, true, false, false));
+    assert!(rt; forms(&fails) == (false, false, false, true));
+    assert!(rt; nothing.match_always_fails());
+    Ok(())
+}
+
+#[test]
+fn one_character_is_told(rt: HostRuntime) -> Result<(), Fail> {
     let one = Node::ByteSequence(Vec::from_array(rt.alloc(), [0xE2, 0x82, 0xAC])?);
     let two = Node::ByteSequence(Vec::from_array(rt.alloc(), [0x61, 0x62])?);
-    let fails = Node::make_always_fails(rt.alloc());
     let set = Node::CharSet(Vec::from_array(rt.alloc(), [0x61])?);
-    assert!(rt; empty.is_empty() && !none.is_empty() && none.is_cat() && !empty.is_cat());
     assert!(rt; one.matches_exactly_one_char() && !two.matches_exactly_one_char());
-    assert!(rt; Node::Char { c: 0xD800 }.matches_exactly_one_char());
-    assert!(rt; Node::MatchAny.matches_exactly_one_char());
-    assert!(rt; !empty.matches_exactly_one_char() && !fails.matches_exactly_one_char());
-    assert!(rt;
-        fails.match_always_fails() && Node::ByteSet(Vec::new(rt.alloc())).match_always_fails()
-    );
     assert!(rt; set.matches_exactly_one_char() && !set.match_always_fails());
-    assert!(rt; !empty.match_always_fails());
+    assert!(rt;
+        Node::Char { c: 0xD800 }.matches_exactly_one_char()
+            && Node::MatchAny.matches_exactly_one_char()
+    );
     Ok(())
 }
 
@@ -345,33 +366,54 @@ fn what_is_passed_over_stays(rt: HostRuntime) -> Result<(), Fail> {
 }
 
 /// The nodes of a text's pieces, with the small table.
-fn pieces(alloc: Global, cps: &[CodePoint], icase: bool, unicode: bool) -> Result<String, Fail>
-    requires { All (λ c. c ≤ 0x10_FFFF) cps.now }
-{
+fn pieces(alloc: Global, cps: &[CodePoint], icase: bool, unicode: bool) -> Result<String, Fail> {
+    if !are_code_points(cps) {
+        return Err("no code points".into());
+    }
     let tables = Tables::small(alloc)?;
     let pieces = lower_code_point_sequence(alloc, cps, icase, unicode, &tables)?;
     let nodes = Piece::into_nodes(alloc, pieces)?;
     Ok(format!(in alloc; "{nodes:?}")?)
 }
 
+/// Code points, whether case is ignored, whether in Unicode mode, and the nodes of the pieces.
+const PIECES: &[(&[CodePoint], bool, bool, &str)] = &[
+    (
+        &[0x61, 0x62, 0x21, 0x3F],
+        true,
+        true,
+        "[ByteSet([65, 97]), ByteSet([66, 98]), ByteSequence([33, 63])]",
+    ),
+    (
+        &[0x61, 0xE9, 0x63],
+        false,
+        true,
+        "[ByteSequence([97, 195, 169, 99])]",
+    ),
+    (&[], true, true, "[]"),
+    (
+        &[0x61, 0xD83D, 0x62, 0x63],
+        false,
+        false,
+        "[ByteSequence([97]), Char { c: 55357 }, ByteSequence([98, 99])]",
+    ),
+    (
+        &[0x31, 0x6B],
+        true,
+        true,
+        "[ByteSequence([49]), CharSet([75, 107, 8490])]",
+    ),
+    (&[0x6B], true, false, "[ByteSet([75, 107])]"),
+];
+
 #[test]
 fn pieces_are_sets_and_literals(rt: HostRuntime) -> Result<(), Fail> {
-    let letters = pieces(rt.alloc(), &[0x61, 0x62, 0x21, 0x3F], true, true)?;
-    assert!(rt;
-        letters.as_str() == "[ByteSet([65, 97]), ByteSet([66, 98]), ByteSequence([33, 63])]"
-    );
-    let literal = pieces(rt.alloc(), &[0x61, 0xE9, 0x63], false, true)?;
-    assert!(rt; literal.as_str() == "[ByteSequence([97, 195, 169, 99])]");
-    let none = pieces(rt.alloc(), &[], true, true)?;
-    assert!(rt; none.as_str() == "[]");
-    let surrogate = pieces(rt.alloc(), &[0x61, 0xD83D, 0x62, 0x63], false, false)?;
-    assert!(rt;
-        surrogate.as_str() == "[ByteSequence([97]), Char { c: 55357 }, ByteSequence([98, 99])]"
-    );
-    let folded = pieces(rt.alloc(), &[0x31, 0x6B], true, true)?;
-    assert!(rt; folded.as_str() == "[ByteSequence([49]), CharSet([75, 107, 8490])]");
-    let upper = pieces(rt.alloc(), &[0x6B], true, false)?;
-    assert!(rt; upper.as_str() == "[ByteSet([75, 107])]");
+    for (points, icase, unicode, expected) in PIECES {
+        let nodes = pieces(rt.alloc(), points, *icase, *unicode)?;
+        if nodes.as_str() != *expected {
+            return Err(Fail::new(*expected));
+        }
+    }
     Ok(())
 }
 

@@ -34,6 +34,39 @@ fn refusal(alloc: Global, flags: &str, text: &str, times: usize) -> Result<Optio
     Ok(parsed(alloc, flags, &points).err())
 }
 
+/// Fails at the first row whose terms are told otherwise. A row is flags, a pattern and its terms.
+fn are_read(alloc: Global, rows: &[(&str, &str, &str)]) -> Result<(), Fail> {
+    for (flags, pattern, expected) in rows {
+        let text = terms(alloc, flags, pattern)?;
+        if text.as_str() != *expected {
+            return Err(Fail::new(format!(in alloc; "at {pattern}: {text}")?));
+        }
+    }
+    Ok(())
+}
+
+/// As `are_read`, but the terms have to begin so.
+fn begin_so(alloc: Global, rows: &[(&str, &str, &str)]) -> Result<(), Fail> {
+    for (flags, pattern, expected) in rows {
+        let text = terms(alloc, flags, pattern)?;
+        if !text.as_str().starts_with(*expected) {
+            return Err(Fail::new(format!(in alloc; "at {pattern}: {text}")?));
+        }
+    }
+    Ok(())
+}
+
+/// Fails at the first row that is not refused so. A row is flags, a text that is no pattern, and what its error says.
+fn are_refused(alloc: Global, rows: &[(&str, &str, &'static str)]) -> Result<(), Fail> {
+    for (flags, pattern, text) in rows {
+        let refused = refusal(alloc, flags, pattern, 1)?;
+        if refused != Some(Error::Syntax { text: *text }) {
+            return Err(Fail::new(format!(in alloc; "at {pattern}: {refused:?}")?));
+        }
+    }
+    Ok(())
+}
+
 /// So many pairs of brackets, each in the one before.
 fn nested(alloc: Global, opening: &str, closing: &str, pairs: usize) -> Result<String, AllocError> {
     let mut text = opening.repeat(alloc, pairs)?;
@@ -42,7 +75,7 @@ fn nested(alloc: Global, opening: &str, closing: &str, pairs: usize) -> Result<S
 }
 
 /// Flags, a pattern of one alternative with terms, and its terms.
-const TERMS_READ: [(&str, &str, &str); 19] = [
+const TERMS_READ: &[(&str, &str, &str)] = &[
     (
         "",
         r"^$\b\B",
@@ -133,7 +166,7 @@ const TERMS_READ: [(&str, &str, &str); 19] = [
 ];
 
 /// Flags, a pattern of one alternative with escapes, and its terms.
-const ESCAPES_READ: [(&str, &str, &str); 14] = [
+const ESCAPES_READ: &[(&str, &str, &str)] = &[
     (
         "",
         r"\cj\c1\-",
@@ -179,7 +212,7 @@ const ESCAPES_READ: [(&str, &str, &str); 14] = [
 ];
 
 /// Flags, a pattern of one alternative with classes, and its terms.
-const CLASSES_READ: [(&str, &str, &str); 12] = [
+const CLASSES_READ: &[(&str, &str, &str)] = &[
     (
         "",
         "[^a]",
@@ -239,7 +272,7 @@ const CLASSES_READ: [(&str, &str, &str); 12] = [
 ];
 
 /// Flags, a text that is no pattern for its terms, and what its error says.
-const TERMS_REFUSED: [(&str, &str, &str); 14] = [
+const TERMS_REFUSED: &[(&str, &str, &str)] = &[
     ("", "a**", "Nothing to repeat"),
     ("", "(?<=a)*", "Nothing to repeat"),
     ("u", "(?=a)*", "Nothing to repeat"),
@@ -257,7 +290,7 @@ const TERMS_REFUSED: [(&str, &str, &str); 14] = [
 ];
 
 /// Flags, a text that is no pattern for its names, and what its error says.
-const NAMES_REFUSED: [(&str, &str, &str); 12] = [
+const NAMES_REFUSED: &[(&str, &str, &str)] = &[
     ("", "(?<a>x)(?<a>y)", "Duplicate capture group name"),
     ("", "(?<a>(?<a>x))", "Duplicate capture group name"),
     (
@@ -281,7 +314,7 @@ const NAMES_REFUSED: [(&str, &str, &str); 12] = [
 ];
 
 /// Flags, a text that is no pattern for its escapes, and what its error says.
-const ESCAPES_REFUSED: [(&str, &str, &str); 17] = [
+const ESCAPES_REFUSED: &[(&str, &str, &str)] = &[
     ("", r"(?<b>c)\k<a>", "Invalid backreference"),
     ("", "\\", "Invalid escape"),
     ("u", r"\c1", "Invalid escape"),
@@ -302,7 +335,7 @@ const ESCAPES_REFUSED: [(&str, &str, &str); 17] = [
 ];
 
 /// Flags, a text that is no pattern for its classes, and what its error says.
-const CLASSES_REFUSED: [(&str, &str, &str); 19] = [
+const CLASSES_REFUSED: &[(&str, &str, &str)] = &[
     ("", "[a", "Unbalanced bracket"),
     ("v", "[a&&b", "Unbalanced bracket"),
     ("v", "[[a]", "Unbalanced bracket"),
@@ -326,69 +359,37 @@ const CLASSES_REFUSED: [(&str, &str, &str); 19] = [
 
 #[test]
 fn terms_are_read(rt: HostRuntime) -> Result<(), Fail> {
-    for (flags, pattern, expected) in TERMS_READ {
-        let text = terms(rt.alloc(), flags, pattern)?;
-        assert!(rt; text.as_str() == expected, "at {pattern}: {text}");
-    }
-    Ok(())
+    are_read(rt.alloc(), TERMS_READ)
 }
 
 #[test]
 fn escapes_are_read(rt: HostRuntime) -> Result<(), Fail> {
-    for (flags, pattern, expected) in ESCAPES_READ {
-        let text = terms(rt.alloc(), flags, pattern)?;
-        assert!(rt; text.as_str() == expected, "at {pattern}: {text}");
-    }
-    Ok(())
+    are_read(rt.alloc(), ESCAPES_READ)
 }
 
 #[test]
 fn classes_are_read(rt: HostRuntime) -> Result<(), Fail> {
-    for (flags, pattern, expected) in CLASSES_READ {
-        let text = terms(rt.alloc(), flags, pattern)?;
-        assert!(rt; text.as_str() == expected, "at {pattern}: {text}");
-    }
-    Ok(())
+    are_read(rt.alloc(), CLASSES_READ)
 }
 
 #[test]
 fn errors_of_terms_have_their_text(rt: HostRuntime) -> Result<(), Fail> {
-    for (flags, pattern, text) in TERMS_REFUSED {
-        let expected = Some(Error::Syntax { text });
-        let refused = refusal(rt.alloc(), flags, pattern, 1)?;
-        assert!(rt; refused == expected, "at {pattern}: {refused:?}");
-    }
-    Ok(())
+    are_refused(rt.alloc(), TERMS_REFUSED)
 }
 
 #[test]
 fn errors_of_names_have_their_text(rt: HostRuntime) -> Result<(), Fail> {
-    for (flags, pattern, text) in NAMES_REFUSED {
-        let expected = Some(Error::Syntax { text });
-        let refused = refusal(rt.alloc(), flags, pattern, 1)?;
-        assert!(rt; refused == expected, "at {pattern}: {refused:?}");
-    }
-    Ok(())
+    are_refused(rt.alloc(), NAMES_REFUSED)
 }
 
 #[test]
 fn errors_of_escapes_have_their_text(rt: HostRuntime) -> Result<(), Fail> {
-    for (flags, pattern, text) in ESCAPES_REFUSED {
-        let expected = Some(Error::Syntax { text });
-        let refused = refusal(rt.alloc(), flags, pattern, 1)?;
-        assert!(rt; refused == expected, "at {pattern}: {refused:?}");
-    }
-    Ok(())
+    are_refused(rt.alloc(), ESCAPES_REFUSED)
 }
 
 #[test]
 fn errors_of_classes_have_their_text(rt: HostRuntime) -> Result<(), Fail> {
-    for (flags, pattern, text) in CLASSES_REFUSED {
-        let expected = Some(Error::Syntax { text });
-        let refused = refusal(rt.alloc(), flags, pattern, 1)?;
-        assert!(rt; refused == expected, "at {pattern}: {refused:?}");
-    }
-    Ok(())
+    are_refused(rt.alloc(), CLASSES_REFUSED)
 }
 
 #[test]
@@ -403,45 +404,45 @@ fn alternatives_are_read(rt: HostRuntime) -> Result<(), Fail> {
     Ok(())
 }
 
+const ODD: &[&str] = &[
+    "",
+    "a{99999999999999999999,88888888888888888888}",
+    "(?i-:a)",
+    "(?=a)*",
+    "(?<a>x)|(?<a>y)",
+    "(?:(?<a>x)|(?<b>y))(?<c>z)",
+    "{a}",
+];
+
 #[test]
 fn odd_patterns_are_accepted(rt: HostRuntime) -> Result<(), Fail> {
-    for pattern in [
-        "",
-        "a{99999999999999999999,88888888888888888888}",
-        "(?i-:a)",
-        "(?=a)*",
-        "(?<a>x)|(?<a>y)",
-        "(?:(?<a>x)|(?<b>y))(?<c>z)",
-        "{a}",
-    ] {
-        assert!(rt;
-            refusal(rt.alloc(), "", pattern, 1)?.is_none(),
-            "at {pattern}"
-        );
+    for pattern in ODD {
+        if refusal(rt.alloc(), "", pattern, 1)?.is_some() {
+            return Err(Fail::new(*pattern));
+        }
     }
     Ok(())
 }
 
+/// Flags, a pattern, and how its terms begin.
+const REFERENCES: &[(&str, &str, &str)] = &[
+    ("", r"\2()()", "[Reference([1])"),
+    ("", r"\3()()", "[Character(3)"),
+    ("", r"\18446744073709551617()", "[Character(1)"),
+    ("", r"\k<b>()(?<b>)", "[Reference([1])"),
+    ("", r"\k<a>(?:(?<a>)|(?<a>))", "[Reference([0, 1])"),
+    ("", r"\k<abc>(?<a\u0062\u{63}>)", "[Reference([0])"),
+    ("", r"\k<$_1>(?<$_1>)", "[Reference([0])"),
+    ("", r"\2[(](a)[\](?<b>](c)", "[Reference([1])"),
+    ("", r"\2\((a)\[(b)]", "[Reference([1])"),
+    ("", r"\2(?<a>b)\k<\u{61}>(c)", "[Reference([1])"),
+    ("", r"\2(?:d)(?=e)(?<!f)(a)", "[Character(2)"),
+    ("", "\\k<a\u{200C}>(?<a\u{200C}>)", "[Reference([0])"),
+];
+
 #[test]
 fn groups_are_numbered_and_named(rt: HostRuntime) -> Result<(), Fail> {
-    for (flags, pattern, expected) in [
-        ("", r"\2()()", "[Reference([1])"),
-        ("", r"\3()()", "[Character(3)"),
-        ("", r"\18446744073709551617()", "[Character(1)"),
-        ("", r"\k<b>()(?<b>)", "[Reference([1])"),
-        ("", r"\k<a>(?:(?<a>)|(?<a>))", "[Reference([0, 1])"),
-        ("", r"\k<abc>(?<a\u0062\u{63}>)", "[Reference([0])"),
-        ("", r"\k<$_1>(?<$_1>)", "[Reference([0])"),
-        ("", r"\2[(](a)[\](?<b>](c)", "[Reference([1])"),
-        ("", r"\2\((a)\[(b)]", "[Reference([1])"),
-        ("", r"\2(?<a>b)\k<\u{61}>(c)", "[Reference([1])"),
-        ("", r"\2(?:d)(?=e)(?<!f)(a)", "[Character(2)"),
-    ] {
-        let text = terms(rt.alloc(), flags, pattern)?;
-        assert!(rt; text.as_str().starts_with(expected), "at {pattern}: {text}");
-    }
-    let name = terms(rt.alloc(), "", "\\k<a\u{200C}>(?<a\u{200C}>)")?;
-    assert!(rt; name.as_str().starts_with("[Reference([0])"));
+    begin_so(rt.alloc(), REFERENCES)?;
     let looped = terms(rt.alloc(), "", "(){1}")?;
     assert!(rt; looped.as_str().ends_with("enclosed_groups: 0..1 }]"));
     Ok(())
@@ -449,43 +450,59 @@ fn groups_are_numbered_and_named(rt: HostRuntime) -> Result<(), Fail> {
 
 #[test]
 fn groups_end_at_65535(rt: HostRuntime) -> Result<(), Fail> {
-    assert!(rt; refusal(rt.alloc(), "", "()", 65_535)?.is_none());
+    let accepted = refusal(rt.alloc(), "", "()", 65_535)?;
     let refused = refusal(rt.alloc(), "", "()", 65_536)?;
-    assert!(rt; refused == Some(Error::TooManyGroups));
+    assert!(rt; accepted.is_none() && refused == Some(Error::TooManyGroups));
     Ok(())
 }
 
 #[test]
 fn quantifiers_end_at_65535(rt: HostRuntime) -> Result<(), Fail> {
-    assert!(rt; refusal(rt.alloc(), "", "a*", 65_535)?.is_none());
+    let accepted = refusal(rt.alloc(), "", "a*", 65_535)?;
     let refused = refusal(rt.alloc(), "", "a*", 65_536)?;
-    assert!(rt; refused == Some(Error::TooManyLoops));
+    assert!(rt; accepted.is_none() && refused == Some(Error::TooManyLoops));
     Ok(())
 }
+
+/// Openings and endings, how many of each, and what is told of the pattern.
+const NESTED: &[(&str, &str, usize, Option<Error>)] = &[
+    ("(", ")", 256, None),
+    ("(", ")", 257, Some(Error::TooDeep)),
+    ("[", "]", 256, None),
+    ("[", "]", 257, Some(Error::TooDeep)),
+];
 
 #[test]
 fn parentheses_and_brackets_nest_to_256(rt: HostRuntime) -> Result<(), Fail> {
-    for (opening, closing) in [("(", ")"), ("[", "]")] {
-        let deepest = nested(rt.alloc(), opening, closing, 256)?;
-        assert!(rt; refusal(rt.alloc(), "v", deepest.as_str(), 1)?.is_none());
-        let deeper = nested(rt.alloc(), opening, closing, 257)?;
-        let refused = refusal(rt.alloc(), "v", deeper.as_str(), 1)?;
-        assert!(rt; refused == Some(Error::TooDeep));
+    for (opening, closing, pairs, expected) in NESTED {
+        let pattern = nested(rt.alloc(), opening, closing, *pairs)?;
+        if refusal(rt.alloc(), "v", pattern.as_str(), 1)? != *expected {
+            return Err(Fail::new(*opening));
+        }
     }
     Ok(())
 }
 
-#[test]
-fn many_names_stand_apart(rt: HostRuntime) -> Result<(), Fail> {
-    let mut pattern = String::new(rt.alloc());
-    for number in 0..1000 {
-        let group = format!(in rt.alloc(); "(?<n{number}>)")?;
+/// So many groups, each with a name of its own.
+fn named_groups(alloc: Global, count: usize) -> Result<String, AllocError> {
+    let mut pattern = String::new(alloc);
+    for number in 0..count {
+        let group = format!(in alloc; "(?<n{number}>)")?;
         pattern.push_str(group.as_str())?;
     }
-    assert!(rt; refusal(rt.alloc(), "", pattern.as_str(), 1)?.is_none());
+    Ok(pattern)
+}
+
+const TWICE: Error = Error::Syntax {
+    text: "Duplicate capture group name",
+};
+
+#[test]
+fn many_names_stand_apart(rt: HostRuntime) -> Result<(), Fail> {
+    let mut pattern = named_groups(rt.alloc(), 1000)?;
+    let before = refusal(rt.alloc(), "", pattern.as_str(), 1)?;
     pattern.push_str("(?<n512>)")?;
     let refused = refusal(rt.alloc(), "", pattern.as_str(), 1)?;
-    let text = "Duplicate capture group name";
-    assert!(rt; refused == Some(Error::Syntax { text }));
+    assert!(rt; before.is_none() && refused == Some(TWICE));
     Ok(())
 }

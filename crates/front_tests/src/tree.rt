@@ -5,7 +5,7 @@ use std::alloc::{AllocError, Global};
 use std::test::Fail;
 
 /// A pattern of each construct, its flags, and how many nodes its tree has, with the goal and the `Cat` above it.
-const CONSTRUCTS: [(&str, &str, usize); 24] = [
+const CONSTRUCTS: &[(&str, &str, usize)] = &[
     ("abc", "", 6),
     ("a|b|c|d|e", "", 11),
     ("(a)(?<n>b)(?:c)", "", 8),
@@ -33,7 +33,7 @@ const CONSTRUCTS: [(&str, &str, usize); 24] = [
 ];
 
 /// Patterns, their flags, and their trees but for the goal behind them.
-const TREES: [(&str, &str, &str); 18] = [
+const TREES: &[(&str, &str, &str)] = &[
     (
         "(?<=a(?=bc))",
         "",
@@ -111,7 +111,7 @@ const TREES: [(&str, &str, &str); 18] = [
 ];
 
 /// Patterns of one character, their flags, which characters they match, and which not.
-const CHARACTERS: [(&str, &str, &str, &str); 14] = [
+const CHARACTERS: &[(&str, &str, &str, &str)] = &[
     ("s", "iu", "sS\u{17f}", "t"),
     ("0", "iu", "0", "1"),
     ("s", "u", "s", "S\u{17f}"),
@@ -129,7 +129,7 @@ const CHARACTERS: [(&str, &str, &str, &str); 14] = [
 ];
 
 /// Patterns that the standard refuses, and their flags.
-const REFUSED: [(&str, &str); 6] = [
+const REFUSED: &[(&str, &str)] = &[
     (r"[\w-z]", "u"),
     ("(?=a)*b", "u"),
     ("x{5,3}", ""),
@@ -170,10 +170,9 @@ fn node_count(alloc: Global, pattern: &str, flags: &str) -> Result<usize, Error>
 #[test]
 fn each_construct_is_read(rt: HostRuntime) -> Result<(), Fail> {
     for (pattern, flags, nodes) in CONSTRUCTS {
-        assert!(rt;
-            node_count(rt.alloc(), pattern, flags)? == nodes,
-            "at {pattern}"
-        );
+        if node_count(rt.alloc(), pattern, flags)? != *nodes {
+            return Err(Fail::new(*pattern));
+        }
     }
     Ok(())
 }
@@ -187,7 +186,9 @@ fn refused_memory_is_told_and_turns_no_tree(rt: HostRuntime) -> Result<(), Fail>
             Err(Error::OutOfMemory) => node_count(rt.alloc(), pattern, flags)?,
             outcome => outcome?,
         };
-        assert!(rt; count == nodes, "at {pattern}");
+        if count != *nodes {
+            return Err(Fail::new(*pattern));
+        }
     }
     Ok(())
 }
@@ -198,7 +199,9 @@ fn trees_are_as_the_standard_compiles(rt: HostRuntime) -> Result<(), Fail> {
         let node = node_of(rt.alloc(), pattern, flags)?;
         let told = format!(in rt.alloc(); "{node:?}")?;
         let whole = format!(in rt.alloc(); "Cat([{tree}, Goal])")?;
-        assert!(rt; told.as_str() == whole.as_str(), "at {pattern}: {told}");
+        if told.as_str() != whole.as_str() {
+            return Err(Fail::new(format!(in rt.alloc(); "at {pattern}: {told}")?));
+        }
     }
     Ok(())
 }
@@ -221,18 +224,19 @@ fn is_one_of(node: &Node, c: CodePoint) -> bool {
     }
 }
 
+/// Whether the tree of one character matches all of the one characters, and none of the others.
+fn matches_only(tree: &Node, members: &str, others: &str) -> bool {
+    members.chars().all(|c| matches_character(tree, c))
+        && !others.chars().any(|c| matches_character(tree, c))
+}
+
 #[test]
 fn characters_are_closed_where_case_is_ignored(rt: HostRuntime) -> Result<(), Fail> {
     for (pattern, flags, members, others) in CHARACTERS {
         let node = node_of(rt.alloc(), pattern, flags)?;
-        assert!(rt;
-            members.chars().all(|c| matches_character(&node, c)),
-            "at {pattern}"
-        );
-        assert!(rt;
-            !others.chars().any(|c| matches_character(&node, c)),
-            "at {pattern}"
-        );
+        if !matches_only(&node, members, others) {
+            return Err(Fail::new(*pattern));
+        }
     }
     Ok(())
 }
@@ -249,14 +253,14 @@ fn refusal_of_many(alloc: Global, piece: &str, count: usize) -> Result<Option<Er
 }
 
 #[test]
-fn what_is_no_pattern_is_refused(rt: HostRuntime) {
+fn what_is_no_pattern_is_refused(rt: HostRuntime) -> Result<(), Fail> {
     for (pattern, flags) in REFUSED {
         let refused = refusal(rt.alloc(), pattern, flags);
-        assert!(rt;
-            matches!(refused, Some(Error::Syntax { .. })),
-            "at {pattern}"
-        );
+        if !matches!(refused, Some(Error::Syntax { .. })) {
+            return Err(Fail::new(*pattern));
+        }
     }
+    Ok(())
 }
 
 /// A text between so many openings and as many endings.
@@ -273,34 +277,46 @@ fn nested(
     Ok(pattern)
 }
 
+/// Groups that are not counted, classes with `v` inside them, and what is told of the pattern.
+const NESTED: &[(usize, usize, Option<Error>)] = &[
+    (256, 0, None),
+    (257, 0, Some(Error::TooDeep)),
+    (128, 128, None),
+    (128, 129, Some(Error::TooDeep)),
+];
+
 #[test]
 fn groups_and_classes_nest_to_256(rt: HostRuntime) -> Result<(), Fail> {
-    for (groups, classes, expected) in [
-        (256, 0, None),
-        (257, 0, Some(Error::TooDeep)),
-        (128, 128, None),
-        (128, 129, Some(Error::TooDeep)),
-    ] {
-        let inner = nested(rt.alloc(), "[", "a", "]", classes)?;
-        let pattern = nested(rt.alloc(), "(?:", inner.as_str(), ")", groups)?;
-        let refused = refusal(rt.alloc(), pattern.as_str(), "v");
-        assert!(rt; refused == expected, "at {groups} and {classes}");
+    for (groups, classes, expected) in NESTED {
+        let inner = nested(rt.alloc(), "[", "a", "]", *classes)?;
+        let pattern = nested(rt.alloc(), "(?:", inner.as_str(), ")", *groups)?;
+        if refusal(rt.alloc(), pattern.as_str(), "v") != *expected {
+            return Err(Fail::new(*groups));
+        }
     }
     Ok(())
 }
 
 #[test]
-fn groups_and_quantifiers_end_at_65535(rt: HostRuntime) -> Result<(), Fail> {
-    for (piece, count, expected) in [
-        ("()", 65_535, None),
-        ("()", 65_536, Some(Error::TooManyGroups)),
-        ("a*", 65_535, None),
-        ("a*", 65_536, Some(Error::TooManyLoops)),
-        ("a", 100_000, None),
-    ] {
-        let refused = refusal_of_many(rt.alloc(), piece, count)?;
-        assert!(rt; refused == expected, "at {piece}");
-    }
+fn groups_end_at_65535(rt: HostRuntime) -> Result<(), Fail> {
+    let accepted = refusal_of_many(rt.alloc(), "()", 65_535)?;
+    let refused = refusal_of_many(rt.alloc(), "()", 65_536)?;
+    assert!(rt; accepted.is_none() && refused == Some(Error::TooManyGroups));
+    Ok(())
+}
+
+#[test]
+fn quantifiers_end_at_65535(rt: HostRuntime) -> Result<(), Fail> {
+    let accepted = refusal_of_many(rt.alloc(), "a*", 65_535)?;
+    let refused = refusal_of_many(rt.alloc(), "a*", 65_536)?;
+    assert!(rt; accepted.is_none() && refused == Some(Error::TooManyLoops));
+    Ok(())
+}
+
+#[test]
+fn characters_have_no_limit(rt: HostRuntime) -> Result<(), Fail> {
+    let refused = refusal_of_many(rt.alloc(), "a", 100_000)?;
+    assert!(rt; refused.is_none());
     Ok(())
 }
 

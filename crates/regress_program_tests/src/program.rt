@@ -1,13 +1,10 @@
 //! Tests of `regress_program`: the program over streams that fail, and what it says then.
-ghost use Rattle.std.specs.Prelude.{◌≡◌};
-
 use regress_program::{
     Ending, Failed, Sink, Source, StdSink, StdSource, ToolError, answer, read_words, run,
 };
 use std::alloc::{AllocError, Global};
 use std::io;
 use std::io::{ErrorKind, Read, Write};
-use std::process::Abort;
 use std::test::Fail;
 
 /// One byte more than three chunks of the program.
@@ -84,236 +81,312 @@ impl Write for Faulty {
     }
 }
 
+/// Flags, a pattern, an input, and what is written.
+const RUNS: &[(&str, &str, &str, &str)] = &[
+    ("", "(a)|b", "ab", "0..1 0..1\n1..2 -\n"),
+    ("", "(a)|b", "b", "0..1 -\n"),
+    ("", "(\u{e9})|(b)", "x\u{e9}b", "1..3 1..3 -\n3..4 - 3..4\n"),
+    ("", "a*", "baa", "0..0\n1..3\n3..3\n"),
+    ("", "(a)|b", "", ""),
+    ("i", "(a)|b", "xAz", "1..2 1..2\n"),
+    ("", "(a)|b", "xyz", ""),
+];
+
+/// Whether a run over memory goes well and writes this.
+fn writes(alloc: Global, flags: &str, pattern: &str, input: &str, expected: &str) -> bool {
+    let mut source = StdSource::new(input.as_bytes());
+    let mut written = Vec::new(alloc);
+    let mut sink = StdSink::new(&mut written);
+    let result = run(alloc, &mut source, &mut sink, flags, pattern);
+    result == Ok(()) && written.as_slice() == expected.as_bytes()
+}
+
 #[test]
 fn a_line_for_each_match(rt: HostRuntime) -> Result<(), Fail> {
-    for (flags, pattern, input, expected) in [
-        ("", "(a)|b", "ab", "0..1 0..1\n1..2 -\n"),
-        ("", "(a)|b", "b", "0..1 -\n"),
-        ("", "(\u{e9})|(b)", "x\u{e9}b", "1..3 1..3 -\n3..4 - 3..4\n"),
-        ("", "a*", "baa", "0..0\n1..3\n3..3\n"),
-        ("", "(a)|b", "", ""),
-        ("i", "(a)|b", "xAz", "1..2 1..2\n"),
-        ("", "(a)|b", "xyz", ""),
-    ] {
-        let mut source = StdSource::new(input.as_bytes());
-        let mut written = Vec::new(rt.alloc());
-        let mut sink = StdSink::new(&mut written);
-        let result = run(rt.alloc(), &mut source, &mut sink, flags, pattern);
-        assert!(rt; result == Ok(()), "{pattern} on {input}");
-        assert!(rt;
-            written.as_slice() == expected.as_bytes(),
-            "{pattern} on {input}"
-        );
+    for (flags, pattern, input, expected) in RUNS {
+        if !writes(rt.alloc(), flags, pattern, input, expected) {
+            return Err(Fail::new(*pattern));
+        }
     }
     Ok(())
 }
 
-/// Runs a pattern from a reader to a writer, and compares what the streams say of themselves with the answer.
+/// Runs a pattern from a reader to a writer; `None` where what the streams say of themselves is not what is answered.
 fn run_over(
-    rt: &impl Abort,
     alloc: Global,
     pattern: &str,
     reader: &mut Faulty,
     writer: &mut Faulty,
-) -> Result<(), ToolError> {
+) -> Option<Result<(), ToolError>> {
     let mut source = StdSource::new(&mut *reader);
     let mut sink = StdSink::new(&mut *writer);
     let result = run(alloc, &mut source, &mut sink, "", pattern);
     let has_read_failed = result == Err(ToolError::Read);
     let has_write_failed = result == Err(ToolError::Write);
-    assert!(rt; source.failed() == has_read_failed && sink.failed() == has_write_failed);
-    assert!(rt; reader.has_failed() == has_read_failed);
-    result
+    let is_told = source.failed() == has_read_failed && sink.failed() == has_write_failed;
+    if is_told && reader.has_failed() == has_read_failed {
+        Some(result)
+    } else {
+        None
+    }
+}
+
+/// What has to come of a run: its answer, what is written, and how often the reader and the writer are called.
+#[derive(Clone, Copy)]
+struct Outcome<'a> {
+    answer: &'a Result<(), ToolError>,
+    written: &'a str,
+    reads: usize,
+    writes: usize,
+}
+
+/// Whether a run from a reader to a writer has this outcome.
+fn ends_so(
+    alloc: Global,
+    pattern: &str,
+    mut reader: Faulty,
+    mut writer: Faulty,
+    expected: &Outcome<'_>,
+) -> bool {
+    let Some(answer) = run_over(alloc, pattern, &mut reader, &mut writer) else {
+        return false;
+    };
+    answer == *expected.answer
+        && writer.taken.as_slice() == expected.written.as_bytes()
+        && reader.calls == expected.reads
+        && writer.calls == expected.writes
 }
 
 #[test]
 fn streams_of_single_bytes(rt: HostRuntime) -> Result<(), Fail> {
-    let mut reader = Faulty::new(rt.alloc(), b"ab", 1, 0)?;
-    let mut writer = Faulty::new(rt.alloc(), b"", 1, 0)?;
-    assert!(rt; run_over(&rt, rt.alloc(), "(a)|b", &mut reader, &mut writer) == Ok(()));
-    assert!(rt; writer.taken.as_slice() == b"0..1 0..1\n1..2 -\n".as_slice());
-    assert!(rt; reader.calls == 3 && writer.calls == 17);
+    let reader = Faulty::new(rt.alloc(), b"ab", 1, 0)?;
+    let writer = Faulty::new(rt.alloc(), b"", 1, 0)?;
+    let expected = Outcome {
+        answer: &Ok(()),
+        written: "0..1 0..1\n1..2 -\n",
+        reads: 3,
+        writes: 17,
+    };
+    assert!(rt; ends_so(rt.alloc(), "(a)|b", reader, writer, &expected));
     Ok(())
 }
 
 #[test]
 fn a_failed_read_ends_the_run(rt: HostRuntime) -> Result<(), Fail> {
     for failing in 1..4 {
-        let mut reader = Faulty::new(rt.alloc(), b"ab", 1, failing)?;
-        let mut writer = Faulty::new(rt.alloc(), b"", 1, 0)?;
-        assert!(rt;
-            run_over(&rt, rt.alloc(), "a", &mut reader, &mut writer) == Err(ToolError::Read)
-        );
-        assert!(rt; reader.calls == failing && writer.calls == 0);
+        let reader = Faulty::new(rt.alloc(), b"ab", 1, failing)?;
+        let writer = Faulty::new(rt.alloc(), b"", 1, 0)?;
+        let expected = Outcome {
+            answer: &Err(ToolError::Read),
+            written: "",
+            reads: failing,
+            writes: 0,
+        };
+        assert!(rt; ends_so(rt.alloc(), "a", reader, writer, &expected));
     }
     Ok(())
 }
+
+/// The call that fails, how many bytes are taken a call, what was taken, and how many calls were made.
+const FAILED_WRITES: &[(usize, usize, &str, usize)] = &[
+    (1, 1, "", 1),
+    (3, 1, "0.", 3),
+    (2, 4, "0..1", 2),
+    (11, 1, "0..1 0..1\n", 11),
+    (0, 0, "", 1),
+];
 
 #[test]
 fn a_failed_write_ends_the_run(rt: HostRuntime) -> Result<(), Fail> {
-    // The call that fails, how many bytes are taken a call, what was taken, and how many calls were made.
-    for (failing, most, written, calls) in [
-        (1, 1, "", 1),
-        (3, 1, "0.", 3),
-        (2, 4, "0..1", 2),
-        (11, 1, "0..1 0..1\n", 11),
-        (0, 0, "", 1),
-    ] {
-        let mut reader = Faulty::new(rt.alloc(), b"aa", 1, 0)?;
-        let mut writer = Faulty::new(rt.alloc(), b"", most, failing)?;
-        assert!(rt;
-            run_over(&rt, rt.alloc(), "(a)", &mut reader, &mut writer) == Err(ToolError::Write)
-        );
-        assert!(rt; writer.taken.as_slice() == written.as_bytes(), "{failing}");
-        assert!(rt; reader.calls == 3 && writer.calls == calls, "{failing}");
+    for (failing, most, written, writes) in FAILED_WRITES {
+        let reader = Faulty::new(rt.alloc(), b"aa", 1, 0)?;
+        let writer = Faulty::new(rt.alloc(), b"", *most, *failing)?;
+        let expected = Outcome {
+            answer: &Err(ToolError::Write),
+            written,
+            reads: 3,
+            writes: *writes,
+        };
+        assert!(rt; ends_so(rt.alloc(), "(a)", reader, writer, &expected));
     }
     Ok(())
 }
+
+const NO_PATTERN: ToolError = ToolError::Pattern(regress::Error::Syntax {
+    text: "Unbalanced parenthesis",
+});
+
+/// A pattern, the read that fails, the answer, and how often is read.
+const OTHER_ERRORS: &[(&str, usize, Result<(), ToolError>, usize)] = &[
+    ("(a", 0, Err(NO_PATTERN), 0),
+    ("a", 0, Err(ToolError::NotUtf8), 3),
+    ("a", 3, Err(ToolError::Read), 3),
+];
 
 #[test]
 fn other_errors_leave_the_sink(rt: HostRuntime) -> Result<(), Fail> {
-    let no_pattern = ToolError::Pattern(regress::Error::Syntax {
-        text: "Unbalanced parenthesis",
-    });
-    for (pattern, failing, expected, reads) in [
-        ("(a", 0, Err(no_pattern), 0),
-        ("a", 0, Err(ToolError::NotUtf8), 3),
-        ("a", 3, Err(ToolError::Read), 3),
-    ] {
-        let mut reader = Faulty::new(rt.alloc(), b"a\xff", 1, failing)?;
-        let mut writer = Faulty::new(rt.alloc(), b"", 1, 1)?;
-        assert!(rt;
-            run_over(&rt, rt.alloc(), pattern, &mut reader, &mut writer) == expected,
-            "{pattern}"
-        );
-        assert!(rt; reader.calls == reads && writer.calls == 0, "{pattern}");
+    for (pattern, failing, answer, reads) in OTHER_ERRORS {
+        let reader = Faulty::new(rt.alloc(), b"a\xff", 1, *failing)?;
+        let writer = Faulty::new(rt.alloc(), b"", 1, 1)?;
+        let expected = Outcome {
+            answer,
+            written: "",
+            reads: *reads,
+            writes: 0,
+        };
+        assert!(rt; ends_so(rt.alloc(), pattern, reader, writer, &expected));
+    }
+    Ok(())
+}
+
+/// The length of the input, how often the source is read, and the one line.
+const LONG_INPUTS: &[(usize, usize, &str)] = &[
+    (4095, 2, "4094..4095\n"),
+    (4096, 2, "4095..4096\n"),
+    (4097, 3, "4096..4097\n"),
+    (12289, 5, "12288..12289\n"),
+];
+
+#[test]
+fn inputs_are_longer_than_a_chunk(rt: HostRuntime) -> Result<(), Fail> {
+    for (length, reads, written) in LONG_INPUTS {
+        let input = &LONG[..LONG.len().min(*length)];
+        let reader = Faulty::new(rt.alloc(), input, usize::MAX, 0)?;
+        let writer = Faulty::new(rt.alloc(), b"", usize::MAX, 0)?;
+        let expected = Outcome {
+            answer: &Ok(()),
+            written,
+            reads: *reads,
+            writes: 1,
+        };
+        assert!(rt; ends_so(rt.alloc(), "a$", reader, writer, &expected));
     }
     Ok(())
 }
 
 #[test]
-fn inputs_and_lines_longer_than_a_chunk(rt: HostRuntime) -> Result<(), Fail> {
-    // The length of the input, how often the source is read, and the one line.
-    for (length, reads, expected) in [
-        (4095, 2, "4094..4095\n"),
-        (4096, 2, "4095..4096\n"),
-        (4097, 3, "4096..4097\n"),
-        (12289, 5, "12288..12289\n"),
-    ] {
-        let input = &LONG[..LONG.len().min(length)];
-        let mut reader = Faulty::new(rt.alloc(), input, usize::MAX, 0)?;
-        let mut writer = Faulty::new(rt.alloc(), b"", usize::MAX, 0)?;
-        assert!(rt; run_over(&rt, rt.alloc(), "a$", &mut reader, &mut writer) == Ok(()));
-        assert!(rt;
-            reader.calls == reads,
-            "{length} bytes: {} reads",
-            reader.calls
-        );
-        assert!(rt; writer.taken.as_slice() == expected.as_bytes());
-    }
-    let mut pattern = String::new(rt.alloc());
-    let mut expected = String::from_str(rt.alloc(), "0..1")?;
-    for _ in 0..1000 {
-        pattern.push_str("()")?;
-        expected.push_str(" 0..0")?;
-    }
+fn a_line_is_longer_than_a_chunk(rt: HostRuntime) -> Result<(), Fail> {
+    let mut pattern = "()".repeat(rt.alloc(), 1000)?;
     pattern.push('x')?;
-    expected.push('\n')?;
-    let mut reader = Faulty::new(rt.alloc(), b"x", 1, 0)?;
-    let mut writer = Faulty::new(rt.alloc(), b"", 1000, 0)?;
-    assert!(rt; run_over(&rt, rt.alloc(), pattern.as_str(), &mut reader, &mut writer) == Ok(()));
-    assert!(rt; writer.calls == 6 && writer.taken.as_slice() == expected.as_bytes());
+    let mut written = String::from_str(rt.alloc(), "0..1")?;
+    written.push_str(" 0..0".repeat(rt.alloc(), 1000)?.as_str())?;
+    written.push('\n')?;
+    let reader = Faulty::new(rt.alloc(), b"x", 1, 0)?;
+    let writer = Faulty::new(rt.alloc(), b"", 1000, 0)?;
+    let expected = Outcome {
+        answer: &Ok(()),
+        written: written.as_str(),
+        reads: 2,
+        writes: 6,
+    };
+    assert!(rt; ends_so(rt.alloc(), pattern.as_str(), reader, writer, &expected));
     Ok(())
 }
 
 #[test]
-fn new_streams_have_not_failed_and_an_empty_write_passes(rt: HostRuntime) -> Result<(), Fail> {
+fn a_new_stream_has_not_failed(rt: HostRuntime) -> Result<(), Fail> {
     let mut source = StdSource::new(Faulty::new(rt.alloc(), b"ab", 1, 1)?);
     let before = source.failed();
     prove!(!before);
-    assert!(rt; !before);
-    assert!(rt; source.take(&mut [0; 2]) == Err(Failed) && source.failed());
-    let mut sink = StdSink::new(Faulty::new(rt.alloc(), b"", 0, 0)?);
-    let before = sink.failed();
-    prove!(!before);
-    assert!(rt; !before);
-    assert!(rt; sink.put(&[]) == Ok(0) && !sink.failed());
-    assert!(rt; sink.put(b"a") == Err(Failed) && sink.failed());
+    let has_failed = source.take(&mut [0; 2]) == Err(Failed) && source.failed();
+    assert!(rt; !before && has_failed);
     Ok(())
 }
 
 #[test]
-fn exactly_two_words_are_run(rt: HostRuntime) -> Result<(), Fail> {
-    for (words, expected, written) in [
-        ([].as_slice(), Ending::WrongWords, ""),
-        (["regress_tool"].as_slice(), Ending::WrongWords, ""),
-        (["regress_tool", "i"].as_slice(), Ending::WrongWords, ""),
-        (
-            ["regress_tool", "i", "A"].as_slice(),
-            Ending::Done,
-            "0..1\n",
-        ),
-        (["regress_tool", "A", "i"].as_slice(), Ending::Done, ""),
-        (
-            ["regress_tool", "i", "A", "A"].as_slice(),
-            Ending::WrongWords,
-            "",
-        ),
-    ] {
-        let mut all = Vec::new(rt.alloc());
-        for word in words {
-            all.push(String::from_str(rt.alloc(), word)?)?;
-        }
-        let mut output = Vec::new(rt.alloc());
-        let mut source = StdSource::new(b"ab".as_slice());
-        let mut sink = StdSink::new(&mut output);
-        let ending = answer(rt.alloc(), Ok(all.into_iter()), &mut source, &mut sink);
-        assert!(rt; ending == expected, "{} words", words.len());
-        assert!(rt; output.as_slice() == written.as_bytes());
-    }
-    let refused = read_words(Err(io::Error::from(AllocError)));
-    assert!(rt; matches!(refused, Err(Ending::Failed(ToolError::OutOfMemory))));
-    let unread = read_words(Err(io::Error::from(ErrorKind::InvalidData)));
-    assert!(rt; matches!(unread, Err(Ending::WrongWords)));
+fn an_empty_write_passes(rt: HostRuntime) -> Result<(), Fail> {
+    let mut sink = StdSink::new(Faulty::new(rt.alloc(), b"", 0, 0)?);
+    let before = sink.failed();
+    prove!(!before);
+    let passes = sink.put(&[]) == Ok(0) && !sink.failed();
+    let has_failed = sink.put(b"a") == Err(Failed) && sink.failed();
+    assert!(rt; !before && passes && has_failed);
     Ok(())
+}
+
+/// Whether the program, given these words and the input `ab`, ends so and writes this.
+fn answers(alloc: Global, words: &[&str], expected: &Ending, written: &str) -> Result<bool, Fail> {
+    let mut all = Vec::new(alloc);
+    for word in words {
+        all.push(String::from_str(alloc, word)?)?;
+    }
+    let mut output = Vec::new(alloc);
+    let mut source = StdSource::new(b"ab".as_slice());
+    let mut sink = StdSink::new(&mut output);
+    let ending = answer(alloc, Ok(all.into_iter()), &mut source, &mut sink);
+    Ok(ending == *expected && output.as_slice() == written.as_bytes())
+}
+
+/// The words of a command line, how the program ends, and what it writes.
+const COMMAND_LINES: &[(&[&str], Ending, &str)] = &[
+    (&[], Ending::WrongWords, ""),
+    (&["regress_tool"], Ending::WrongWords, ""),
+    (&["regress_tool", "i"], Ending::WrongWords, ""),
+    (&["regress_tool", "i", "A"], Ending::Done, "0..1\n"),
+    (&["regress_tool", "A", "i"], Ending::Done, ""),
+    (&["regress_tool", "i", "A", "A"], Ending::WrongWords, ""),
+];
+
+#[test]
+fn exactly_two_words_are_run(rt: HostRuntime) -> Result<(), Fail> {
+    for (words, expected, written) in COMMAND_LINES {
+        if !answers(rt.alloc(), words, expected, written)? {
+            return Err(Fail::new(words.len()));
+        }
+    }
+    Ok(())
+}
+
+#[test]
+fn unread_words_are_told(rt: HostRuntime) {
+    let refused = read_words(Err(io::Error::from(AllocError)));
+    let unread = read_words(Err(io::Error::from(ErrorKind::InvalidData)));
+    assert!(rt;
+        matches!(refused, Err(Ending::Failed(ToolError::OutOfMemory)))
+            && matches!(unread, Err(Ending::WrongWords))
+    );
+}
+
+/// Endings, their texts and their statuses.
+const ENDINGS: &[(Ending, &str, u8)] = &[
+    (Ending::Done, "", 0),
+    (Ending::WrongWords, "usage: regress_tool FLAGS PATTERN\n", 2),
+    (
+        Ending::Failed(ToolError::NotUtf8),
+        "input is not UTF-8\n",
+        1,
+    ),
+    (Ending::Failed(ToolError::Read), "read failed\n", 1),
+    (Ending::Failed(ToolError::Write), "write failed\n", 1),
+    (Ending::Failed(ToolError::OutOfMemory), "out of memory\n", 1),
+    (Ending::Failed(NO_PATTERN), "Unbalanced parenthesis\n", 2),
+];
+
+/// Whether an ending has this text and this status.
+fn is_told(alloc: Global, ending: &Ending, text: &str, status: u8) -> Result<bool, Fail> {
+    Ok(ending.to_string(alloc)?.as_str() == text && ending.status() == status)
 }
 
 #[test]
 fn each_ending_has_its_text_and_status(rt: HostRuntime) -> Result<(), Fail> {
-    let no_pattern = regress::Error::Syntax {
-        text: "Unbalanced parenthesis",
-    };
-    for (ending, text, status) in [
-        (Ending::Done, "", 0),
-        (Ending::WrongWords, "usage: regress_tool FLAGS PATTERN\n", 2),
-        (
-            Ending::Failed(ToolError::NotUtf8),
-            "input is not UTF-8\n",
-            1,
-        ),
-        (Ending::Failed(ToolError::Read), "read failed\n", 1),
-        (Ending::Failed(ToolError::Write), "write failed\n", 1),
-        (
-            Ending::Failed(ToolError::from(AllocError)),
-            "out of memory\n",
-            1,
-        ),
-        (
-            Ending::Failed(ToolError::from(regress::Error::OutOfMemory)),
-            "out of memory\n",
-            1,
-        ),
-        (
-            Ending::Failed(ToolError::from(no_pattern)),
-            "Unbalanced parenthesis\n",
-            2,
-        ),
-    ] {
-        assert!(rt; ending.to_string(rt.alloc())?.as_str() == text, "{text}");
-        assert!(rt; ending.status() == status, "{text}");
+    for (ending, text, status) in ENDINGS {
+        if !is_told(rt.alloc(), ending, text, *status)? {
+            return Err(Fail::new(*text));
+        }
     }
     let wrong = Ending::WrongWords.status();
     let failed = ToolError::Read.status();
     prove!(wrong == 2 && failed == 1);
     Ok(())
+}
+
+#[test]
+fn errors_of_calls_are_errors_of_the_program(rt: HostRuntime) {
+    let refused = ToolError::from(AllocError);
+    let searched = ToolError::from(regress::Error::OutOfMemory);
+    let no_pattern = ToolError::from(regress::Error::Syntax {
+        text: "Unbalanced parenthesis",
+    });
+    assert!(rt; refused == ToolError::OutOfMemory && searched == ToolError::OutOfMemory);
+    assert!(rt; no_pattern == NO_PATTERN);
 }
