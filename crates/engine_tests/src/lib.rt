@@ -1,0 +1,5 @@
+//! Tests of the engine, by its public calls alone. The library itself is empty.
+#![tactic(auto)]
+
+#[cfg(test)]
+mod matchers;
