@@ -53,8 +53,11 @@ pub enum Insn {
     /// The next instruction, which takes exactly one character, from `min_iters` to `max_iters` times, where `usize::MAX` is no
     /// limit. It goes on behind that instruction.
     Loop1CharBody {
+        /// How often at least.
         min_iters: usize,
+        /// How often at most.
         max_iters: usize,
+        /// Whether more often is preferred.
         greedy: bool,
     },
     /// Goes on at the address `target`.
