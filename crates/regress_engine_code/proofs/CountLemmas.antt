@@ -157,7 +157,7 @@ module _ (target : Target) where
       let at = e.0 in let more = f.0 in let loop = e.1 in let loops' = f.1 in
       (omega (arith, at, more), omega (arith, loop, loops'))
   counted n (tree.capture k name a) b p q (m, begin, h, end) lawful =
-      let e = counted n a b (next p) m h lawful in let f = one m q end.1 in
+      let e = counted n a b (next p) m h lawful.1 in let f = one m q end.1 in
       let at = e.0 in let more = f.0 in let loop = e.1 in let loops' = f.1 in
       (omega (arith, at, more), omega (arith, loop, loops'))
   counted n (tree.look negated behind first last a) b p q (m, begin, h, end) lawful =

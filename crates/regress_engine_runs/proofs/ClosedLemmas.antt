@@ -218,7 +218,7 @@ module _ (target : Target) where
       let here : k < target.program.groups = groups k (omega (arith, own k)) in
       subst (AllFit target.program p.address) (sym place)
       (around (code.begin_group k) (code.end_group k) p m q begin here
-      (all-fit n a b (next p) m h lawful count (λ j some. groups j (omega (arith, some))) (omega (arith, same, loops))) end.0 here)
+      (all-fit n a b (next p) m h lawful.1 count (λ j some. groups j (omega (arith, some))) (omega (arith, same, loops))) end.0 here)
     where
       own : (k : ℕ) → if◌then◌else◌ {A = ℕ} (k == k) 1 0 ≡ 1
       own k = grind (arith, nat_tests)

@@ -201,7 +201,7 @@ module _ (target : Target) (input : Input) (reading : Reading) (tells : Tells re
       (enters n s b (next p) m h lawful.0 (λ i. omega (arith, once i)) (omega (arith, ended))) (enters n t b (next m) q k lawful.1 (λ i. omega (arith, once i)) (omega (arith, ended)))
   enters n (tree.capture k name a) b p q (m, begin, h, end) lawful once ended =
       subst (λ r. Enters target input reading b (tree.capture k name a) p r) (sym end.1)
-      (in_group target input reading b k name a p m begin end.0 once (enters n a b (next p) m h lawful (λ i. omega (arith, once i)) ended))
+      (in_group target input reading b k name a p m begin end.0 once (enters n a b (next p) m h lawful.1 (λ i. omega (arith, once i)) ended))
   enters n (tree.look negated behind first last a) b p q (m, begin, h, end) lawful once ended =
       subst (λ r. Enters target input reading b (tree.look negated behind first last a) p r) (sym end.1)
       (looking target input reading b negated behind first last a p m

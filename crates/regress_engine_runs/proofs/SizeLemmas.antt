@@ -141,7 +141,7 @@ module _ (units : Bool) (table : Table) (unicode : Bool) where
       let f = bounded n b lawful.1 (λ k some. groups k (omega (arith, some))) in
       omega (arith, e, f)
   bounded n (tree.capture k name a) lawful groups =
-      let e = bounded n a lawful (λ j some. groups j (omega (arith, some))) in omega (arith, e)
+      let e = bounded n a lawful.1 (λ j some. groups j (omega (arith, some))) in omega (arith, e)
   bounded n (tree.look negated behind first last a) lawful groups = let e = bounded n a lawful.1 groups in omega (arith, e)
   bounded n (tree.loop a first last least most greedy) lawful groups =
       let e = bounded n a lawful.2 groups in
