@@ -1,0 +1,44 @@
+-- A number that each rule lowers, so that rounds of rewriting end, and a number that none raises, which bounds the size.
+use Rattle.std.specs.Prelude.{ℕ, ◌+◌, ◌*◌, if◌then◌else◌, nat_le}
+use Rattle.regress_front_nodes.specs.Trees.{Tree, char, cat, no_part, alt, capture, bracket, look, loop, single_loop}
+use Rattle.regress_front_nodes.specs.Sizes.{size}
+
+-- How many loops have a minimum of 1 or more. Each is unrolled at most once: what is left of it has the minimum 0, and its
+-- copies hold no loops.
+abbrev pub pending : Tree → ℕ
+pending (cat a b) = pending a + pending b
+pending (alt a b) = pending a + pending b
+pending (capture k name a) = pending a
+pending (look negated backward first last a) = pending a
+pending (loop a first last least most greedy) = pending a + (if nat_le 1 least then 1 else 0)
+pending (single_loop a least most greedy) = pending a
+pending _ = 0
+
+-- How many nodes there are, where a literal counts as one, and what a rule makes simpler counts more than what it becomes.
+abbrev pub bulk : Tree → ℕ
+bulk (char c) = 2
+bulk (cat a b) = bulk a + bulk b
+bulk no_part = 2
+bulk (alt a b) = bulk a + bulk b + 1
+bulk (capture k name a) = bulk a + 1
+bulk (bracket inverted intervals) = 3
+bulk (look negated backward first last a) = bulk a + 1
+bulk (loop a first last least most greedy) = bulk a + 2
+bulk (single_loop a least most greedy) = bulk a + 1
+bulk _ = 1
+
+-- more than the copies of a body weigh
+abbrev pub most_weight : ℕ
+most_weight = 20000
+
+-- The weight of a tree, which each rule lowers: unrolling a loop raises the bulk, but leaves one less to be unrolled.
+abbrev pub weight : Tree → ℕ
+weight t = most_weight * pending t + bulk t
+
+-- at most so many nodes come with an unrolled loop: five copies of 1280 nodes, and a `Cat` around them
+abbrev pub most_added : ℕ
+most_added = 6401
+
+-- The size that a tree may grow to, which no rule raises.
+abbrev pub room : Tree → ℕ
+room t = size t + most_added * pending t
