@@ -80,6 +80,16 @@ module _ (units : Bool) where
         }),
       )
 
+-- one instruction more
+pub one-longer : (w : Written) (i : Instruction) (w' : Written) → w' ≡ with w (i ∷ [])
+    → Keeps w w' × (length w'.instructions ≡ suc (length w.instructions)) × (end w' ≡ next (end w))
+one-longer w i w' e =
+    let size : length (with w (i ∷ [])).instructions ≡ suc (length w.instructions) = omega (arith, length-append w.instructions (i ∷ [])) in (
+      subst (λ v. Keeps w v) (sym e) (Keeps-with w (i ∷ [])),
+      ap (λ (v : Written). length v.instructions) e ∙ size,
+      ap end e ∙ ap (λ (n : ℕ). let p : Spot = record { address = n; loops = w.loops } in p) size,
+    )
+
 -- the same bounds and more
 pub MayRefuse-more : (a l b m : ℕ) (e : Error) → a ≤ b → l ≤ m → MayRefuse a l e → MayRefuse b m e
 MayRefuse-more a l b m e more further (inl memory) = inl memory
@@ -142,15 +152,6 @@ module _ (units : Bool) (table : Table) (unicode : Bool) where
       Adds-turned units (λ program p q. Begun program p (end w1) × tree_lies b t program (end w1) q) (tree_lies b (tree.single_loop t least most greedy)) w0 w2
       (λ program same h. (h.0.0, subst (λ r. tree_lies b t program r (end w2)) h.0.1 h.1))
       (Adds-chain units Begun (tree_lies b t) w0 w1 w2 first adds)
-
-  one-longer : (w : Written) (i : Instruction) (w' : Written) → w' ≡ with w (i ∷ [])
-      → Keeps w w' × (length w'.instructions ≡ suc (length w.instructions)) × (end w' ≡ next (end w))
-  one-longer w i w' e =
-      let size : length (with w (i ∷ [])).instructions ≡ suc (length w.instructions) = omega (arith, length-append w.instructions (i ∷ [])) in (
-        subst (λ v. Keeps w v) (sym e) (Keeps-with w (i ∷ [])),
-        ap (λ (v : Written). length v.instructions) e ∙ size,
-        ap end e ∙ ap (λ (n : ℕ). let p : Spot = record { address = n; loops = w.loops } in p) size,
-      )
 
   -- a lookaround
   pub AddsTree-look : (b negated behind : Bool) (first last : ℕ) (t : Tree) (ph : Instruction) (w0 w1 w2 w3 w4 : Written) → w1 ≡ with w0 (ph ∷ [])

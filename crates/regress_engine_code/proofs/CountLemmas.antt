@@ -108,7 +108,7 @@ module _ (target : Target) where
   some : (p q : Spot) (n m : ℕ) → q ≡ later p n → n ≡ m → Counted p q m 0
   some p q n m e f = let a = at-same (later p n) q e in let l = loops-at (later p n) q e in (omega (arith, a, f), omega (arith, l))
 
-  string-length : (b icase : Bool) (cs : List ℕ) → All is_code_point cs
+  pub string-length : (b icase : Bool) (cs : List ℕ) → All is_code_point cs
       → length (string_code target b icase cs)
       ≡ string_count target.program.units target.table target.unicode icase cs
   string-length b icase cs points =

@@ -58,7 +58,7 @@ all-pieces table icase unicode (c ∷ cs) points =
     (expansion-points table unicode c icase (All-head is_code_point c cs points)) (all-pieces table icase unicode cs (All-tail is_code_point c cs points))
 
 -- in either order
-All-reverse : (P : Tree → Type 0) (ts : List Tree) → All P ts → All P (reverse ts)
+pub All-reverse : (P : Tree → Type 0) (ts : List Tree) → All P ts → All P (reverse ts)
 All-reverse P [] h = All-nil P
 All-reverse P (t ∷ ts) h =
     subst (All P) (sym (reverse-append (t ∷ []) ts))

@@ -3,3 +3,4 @@ pub mod Layout
 pub mod Counts
 pub mod InsnViews
 pub mod Written
+pub mod Emitting

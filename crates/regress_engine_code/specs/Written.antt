@@ -1,5 +1,5 @@
 -- What is written of a program, while it is made.
-use Rattle.std.specs.Prelude.{◌≡◌, ℕ, ◌<◌, ◌≤◌, ◌⊎◌, Bool, List, ◌++◌, length, Some, slice_get, slice_set, map}
+use Rattle.std.specs.Prelude.{◌≡◌, ℕ, ◌<◌, ◌≤◌, ◌⊎◌, Bool, List, [], ◌∷◌, ◌++◌, length, Some, slice_get, slice_set, map}
 use Rattle.regress_meaning.specs.Table.{Table}
 use Rattle.regress_front_sets.specs.Intervals.{ends_of}
 use Rattle.regress_front_core.specs.declared.error.Error.{Error}
@@ -7,7 +7,7 @@ use Rattle.regress_front_core.specs.declared.error.Error.TheVariants.{OutOfMemor
 use Rattle.regress_front_nodes.specs.Trees.{Tree}
 use Rattle.regress_front_nodes.specs.declared.node.BracketContents.{BracketContents}
 use Rattle.regress_engine_code.specs.declared.code.Code.{Code}
-use Rattle.regress_engine_code.specs.Instructions.{Instruction, Program, Stands}
+use Rattle.regress_engine_code.specs.Instructions.{Instruction, jump, Program, Stands}
 use Rattle.regress_engine_code.specs.InsnViews.{instruction}
 use Rattle.regress_engine_code.specs.Layout.{Spot, Lies}
 
@@ -40,6 +40,11 @@ with w is = record w { instructions = w.instructions ++ is }
 -- with another instruction at an address
 abbrev pub changed : Written → ℕ → Instruction → Written
 changed w address i = record w { instructions = slice_set w.instructions address i }
+
+-- with a jump at each of some addresses
+abbrev pub closed : Written → List ℕ → ℕ → Written
+closed w [] to = w
+closed w (j ∷ js) to = changed (closed w js to) j (jump to)
 
 -- A program has what is written from an address on, and all the brackets.
 pub record Has (program : Program) (low : ℕ) (w : Written) : Type 0 where

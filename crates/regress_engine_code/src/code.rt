@@ -1,9 +1,9 @@
 //! A program while it is written.
-ghost use Rattle.std.specs.Prelude.{◌≡◌, ◌+◌, ◌-◌, ◌<◌, [], ◌∷◌, ◌++◌, length, map, IfOk, IfErr, OnOk};
+ghost use Rattle.std.specs.Prelude.{◌≡◌, ◌+◌, ◌-◌, ◌<◌, [], ◌∷◌, ◌++◌, length, map, All, IfOk, IfErr, OnOk};
 ghost use Rattle.regress_engine_code.specs.Instructions.{fail};
 ghost use Rattle.regress_engine_code.specs.InsnViews.{instruction};
 ghost use Rattle.regress_engine_code.specs.Layout.{resets};
-ghost use Rattle.regress_engine_code.specs.Written.{written, with, changed, bracket_ends, MayRefuse};
+ghost use Rattle.regress_engine_code.specs.Written.{written, with, changed, closed, bracket_ends, MayRefuse};
 
 use crate::insn::Insn;
 use regress_front_core::{CaptureGroupID, Error, LoopID};
@@ -97,6 +97,19 @@ impl Code {
         ensures { written self.new ≡ changed (written self.old) address (instruction insn) }
     {
         self.insns[address as usize] = insn;
+    }
+
+    /// Writes at some addresses, from the last on, jumps to the end. It errs with `TooLarge` where the end has no address.
+    pub(crate) fn close(&mut self, mut jumps: Vec<u32>) -> Result<(), Error>
+        requires { All (λ j. j < length (written self.old).instructions) jumps.items }
+        ensures ok { OnOk result (written self.new ≡ closed (written self.old) jumps.items (length (written self.old).instructions)) }
+        ensures err { IfErr result (MayRefuse (length (written self.old).instructions) 0) }
+    {
+        let target = self.next_address()?;
+        while let Some(jump) = jumps.pop() {
+            self.change(jump, Insn::Jump { target });
+        }
+        Ok(())
     }
 
     /// Adds a bracket, and answers its index. `OutOfMemory` is the only error.

@@ -50,14 +50,13 @@ pub enum Insn {
     LoopAgain {
         begin: u32,
     },
-    /// The next instruction, which takes exactly one character, from `min_iters` to `max_iters` times, where `usize::MAX` is no
-    /// limit. It goes on behind that instruction.
+    /// The next instruction, which takes exactly one character, again and again. It goes on behind that instruction.
     Loop1CharBody {
-        /// How often at least.
+        /// At least so often.
         min_iters: usize,
-        /// How often at most.
+        /// At most so often; `usize::MAX` is no limit.
         max_iters: usize,
-        /// Whether more often is preferred.
+        /// Whether more is preferred to less.
         greedy: bool,
     },
     /// Goes on at the address `target`.

@@ -1,10 +1,13 @@
 //! Programs: what their instructions are, how a tree lies in one, and how many instructions it has.
 #![tactic(auto)]
 
+mod brackets;
 mod code;
+mod emitter;
 mod insn;
 mod laws;
 mod leaves;
+mod strings;
 
 pub use insn::{Insn, LoopFields, MAX_BYTE_SEQ_LENGTH, StartPredicate};
 pub use laws::layouts_are_counted;

@@ -1,0 +1,76 @@
+//! The instructions of brackets.
+ghost use Rattle.std.specs.Prelude.{◌≡◌, ℕ, ◌<◌, ◌||◌, Bool, IfSome, IfOk, IfErr, OnOk};
+ghost use Rattle.regress_meaning.specs.Text.{holds};
+ghost use Rattle.regress_front_bytes.specs.ByteSets.{members};
+ghost use Rattle.regress_front_bytes.specs.Bitmaps.{ascii_bitmap_contains};
+ghost use Rattle.regress_front_sets.specs.Intervals.{ends_of, in_interval};
+ghost use Rattle.regress_front_nodes.specs.Trees.{bracket};
+ghost use Rattle.regress_front_nodes.specs.TreeMeaning.{bracket_has};
+ghost use Rattle.regress_engine_code.specs.Written.{written, bracket_ends, MayRefuse};
+ghost use Rattle.regress_engine_code.specs.Emitting.{Emits};
+
+use crate::code::Code;
+use crate::emitter::Emitter;
+use crate::insn::Insn;
+use regress_front_bytes::AsciiBitmap;
+use regress_front_core::Error;
+use regress_front_nodes::BracketContents;
+use regress_front_sets::{CodePointSet, Interval};
+use std::alloc::{AllocError, Global};
+
+/// Adds an interval of ASCII characters.
+fn add_interval(bitmap: &mut AsciiBitmap, interval: Interval)
+    requires { interval.last < 128 }
+    ensures { (b : ℕ) → ascii_bitmap_contains bitmap.new b ≡ ascii_bitmap_contains bitmap.old b || in_interval interval b }
+{
+    for point in interval.first..interval.last + 1 {
+        bitmap.set(point as u8);
+    }
+}
+
+/// The characters of a bracket that is not inverted, where all of them are ASCII.
+fn ascii_bitmap(contents: &BracketContents) -> Option<AsciiBitmap>
+    ensures { IfSome result (λ bitmap. (c : ℕ) →
+        holds (members (ascii_bitmap_contains bitmap)) c ≡ bracket_has contents.now.invert (ends_of contents.now.cps.intervals.items) c) }
+{
+    if contents.invert {
+        return None;
+    }
+    let mut bitmap = AsciiBitmap::default();
+    for interval in contents.cps.intervals() {
+        if interval.last >= 0x80 {
+            return None;
+        }
+        add_interval(&mut bitmap, *interval);
+    }
+    Some(bitmap)
+}
+
+/// A bracket of the same characters.
+pub(crate) fn copy_of(
+    alloc: Global,
+    contents: &BracketContents,
+) -> Result<BracketContents, AllocError>
+    ensures { IfOk result (λ copy. bracket_ends copy ≡ bracket_ends contents.now) }
+{
+    let intervals = contents.cps.intervals().to_vec(alloc)?;
+    Ok(BracketContents {
+        invert: contents.invert,
+        cps: CodePointSet::from_sorted_disjoint_intervals(intervals),
+    })
+}
+
+impl<'u> Emitter<'u> {
+    /// Writes a bracket: as a bitmap where its characters are ASCII. `OutOfMemory` is the only error.
+    pub(crate) fn bracket(&self, code: &mut Code, contents: &BracketContents) -> Result<(), Error>
+        ensures added { OnOk result ((backward : Bool) → Emits self.now backward
+            (bracket contents.now.invert (ends_of contents.now.cps.intervals.items)) (written code.old) (written code.new)) }
+        ensures refused { IfErr result (MayRefuse 0 0) }
+    {
+        if let Some(bitmap) = ascii_bitmap(contents) {
+            return code.push(Insn::AsciiBracket(bitmap));
+        }
+        let index = code.add_bracket(copy_of(self.alloc, contents)?)?;
+        code.push(Insn::Bracket(index))
+    }
+}
