@@ -8,3 +8,4 @@ pub mod KeepLemmas
 pub mod RewriteLemmas
 pub mod PlaceLemmas
 pub mod ClauseLemmas
+pub mod NormalLemmas

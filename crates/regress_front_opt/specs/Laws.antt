@@ -2,13 +2,13 @@
 use Rattle.std.specs.Prelude.{◌≡◌, ℕ, ◌+◌, ◌*◌, ◌<◌, ◌≤◌, Bool, true, ◌∷◌, All}
 use Rattle.regress_meaning.specs.Table.{Table}
 use Rattle.regress_meaning.specs.Meaning.{Direction, Forward}
-use Rattle.regress_front_nodes.specs.Trees.{Tree, cat, cat_of}
+use Rattle.regress_front_nodes.specs.Trees.{Tree, cat, cat_of, alt, capture, look, loop, single_loop}
 use Rattle.regress_front_nodes.specs.TreeMeaning.{node_outcomes}
 use Rattle.regress_front_nodes.specs.Alike.{IsAlike}
-use Rattle.regress_front_nodes.specs.Forms.{parts, nesting}
+use Rattle.regress_front_nodes.specs.Forms.{is_cat, parts, nesting}
 use Rattle.regress_front_nodes.specs.Sizes.{size, loops}
 use Rattle.regress_front_nodes.specs.WellFormed.{AreLawful, IsWellFormed, name_by_number}
-use Rattle.regress_front_opt.specs.NormalForm.{is_short_cat, has_loose_part, has_split_literal, is_loose_char, is_unrollable, is_loop_of_one, is_empty_choice, is_lost_cat}
+use Rattle.regress_front_opt.specs.NormalForm.{is_short_cat, has_loose_part, has_split_literal, is_loose_char, is_unrollable, is_loop_of_one, is_empty_choice, is_lost_cat, IsNormal}
 use Rattle.regress_front_opt.specs.Rules.{Turns, Rewrites, Reaches}
 use Rattle.regress_front_opt.specs.Weight.{weight, most_added}
 use Rattle.regress_front_opt.specs.Kept.{Keeps}
@@ -56,6 +56,16 @@ listed t = t
 abbrev pub IsListed : Tree → Type 0
 IsListed t = listed t ≡ t
 
+-- Each `Cat` in the tree is a list of parts, as in the tree of each node.
+abbrev pub AreListed : Tree → Type 0
+AreListed (cat a b) = AreListed a × AreListed b × (is_cat b ≡ true)
+AreListed (alt a b) = AreListed a × AreListed b
+AreListed (capture k name a) = AreListed a
+AreListed (look negated backward first last a) = AreListed a
+AreListed (loop a first last least most greedy) = AreListed a
+AreListed (single_loop a least most greedy) = AreListed a
+AreListed _ = Unit {0}
+
 -- some rule makes another tree of it
 abbrev pub Turnable : Direction → Tree → Type 0
 Turnable dir t = (u : Tree) × Turns dir t u
@@ -70,6 +80,10 @@ pub record BrokenNodesTurn (dir : Direction) : Type 0 where
   pub loop_of_one : (t : Tree) → is_loop_of_one t ≡ true → Turnable dir t
   pub empty_choice : (t : Tree) → is_empty_choice t ≡ true → Turnable dir t
   pub lost_cat : (t : Tree) → IsListed t → is_lost_cat t ≡ true → Turnable dir t
+
+-- Rules, one after another, lead from each lawful tree to one in normal form.
+abbrev pub NormalFormsAreReached : Type 0
+NormalFormsAreReached = (dir : Direction) (n : ℕ) (t : Tree) → AreLawful n t → AreListed t → (u : Tree) × Reaches dir t u × IsNormal u
 
 -- A lawful tree nests less deep than it has nodes, so what is small enough to be copied is not too deep to be copied.
 abbrev pub NestsLessThanItsSize : Type 0

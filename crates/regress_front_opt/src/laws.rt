@@ -1,6 +1,6 @@
 //! Laws of rewriting, each the contract of a function with an empty body.
 ghost use Rattle.regress_meaning.specs.Meaning.{Direction};
-ghost use Rattle.regress_front_opt.specs.Laws.{RulesAreRight, RulesKeep, WholesAreRight, BrokenNodesTurn, NestsLessThanItsSize};
+ghost use Rattle.regress_front_opt.specs.Laws.{RulesAreRight, RulesKeep, WholesAreRight, BrokenNodesTurn, NormalFormsAreReached, NestsLessThanItsSize};
 
 /// One rule, somewhere in a lawful tree, leads to a tree that means the same in the direction in which the tree is read, is
 /// lawful, and has a smaller weight. So any way of applying rules ends.
@@ -23,6 +23,11 @@ pub fn wholes_are_right()
 /// Where a tree breaks a clause of the normal form at its root, some rule makes another tree of it.
 pub fn broken_nodes_turn()
     ensures { (dir : Direction) → BrokenNodesTurn dir }
+{}
+
+/// From each lawful tree whose `Cat`s are lists of parts, rules one after another lead to a tree in normal form.
+pub fn normal_forms_are_reached()
+    ensures { NormalFormsAreReached }
 {}
 
 /// A lawful tree nests less deep than it has nodes. So a body that is small enough to be unrolled can be copied.
