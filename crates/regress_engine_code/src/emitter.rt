@@ -1,7 +1,21 @@
-//! What a program is emitted by.
+//! From a tree to the instructions of a program.
+ghost use Rattle.std.specs.Prelude.{◌≡◌, ℕ, Bool, List, Option, None, map, IfErr, OnOk};
+ghost use Rattle.regress_front_core.specs.Quantifiers.{most};
+ghost use Rattle.regress_front_nodes.specs.Trees.{tree, cat_of, capture, loop, single_loop};
+ghost use Rattle.regress_front_nodes.specs.Trees as node;
+ghost use Rattle.regress_engine_code.specs.Instructions as code;
+ghost use Rattle.regress_engine_code.specs.InsnViews.{instruction};
+ghost use Rattle.regress_engine_code.specs.Written.{written};
+ghost use Rattle.regress_engine_code.specs.Emitting.{anchor_code, IsLawful, Emits, Refuses};
 
+use crate::code::Code;
+use crate::insn::{Insn, LoopFields};
+use crate::leaves::{byte_set, char_set};
+use regress_front_core::{CaptureGroupID, Error};
+use regress_front_nodes::{AnchorType, Node, Quantifier};
 use regress_front_tables::Tables;
 use std::alloc::Global;
+use std::ops::Range;
 
 /// What holds for a whole program.
 #[derive(Clone, Copy)]
@@ -12,4 +26,234 @@ pub(crate) struct Emitter<'u> {
     pub(crate) unicode: bool,
     /// The program reads 16-bit units, or else bytes.
     pub(crate) units: bool,
+}
+
+/// An anchor.
+fn anchor(anchor_type: AnchorType, multiline: bool) -> Insn
+    ensures { instruction result ≡ anchor_code anchor_type multiline }
+{
+    match anchor_type {
+        AnchorType::StartOfLine => Insn::StartOfLine { multiline },
+        AnchorType::EndOfLine => Insn::EndOfLine { multiline },
+    }
+}
+
+/// A boundary of words.
+fn word_boundary(invert: bool, unicode_icase: bool) -> Insn
+    ensures { instruction result ≡ code.boundary invert unicode_icase }
+{
+    if unicode_icase {
+        Insn::WordBoundaryUnicodeICase { invert }
+    } else {
+        Insn::WordBoundary { invert }
+    }
+}
+
+/// A lookaround over some groups, which goes on at an address.
+fn look(negate: bool, backwards: bool, groups: Range<CaptureGroupID>, continuation: u32) -> Insn
+    ensures { instruction result ≡ code.look negate backwards groups.start groups.end continuation }
+{
+    let Range {
+        start: start_group,
+        end: end_group,
+    } = groups;
+    if backwards {
+        Insn::Lookbehind {
+            negate,
+            start_group,
+            end_group,
+            continuation,
+        }
+    } else {
+        Insn::Lookahead {
+            negate,
+            start_group,
+            end_group,
+            continuation,
+        }
+    }
+}
+
+impl<'u> Emitter<'u> {
+    /// Writes a node. `backward` tells whether it stands in a lookbehind. It errs with `TooLarge` where an instruction has no
+    /// address or a loop has no number, and with `OutOfMemory`.
+    #[cycle(emit)]
+    pub(crate) fn node(&self, code: &mut Code, node: &Node, backward: bool) -> Result<(), Error>
+        requires { IsLawful (tree node.now) }
+        ensures added { OnOk result (Emits self.now backward (tree node.now) (written code.old) (written code.new)) }
+        ensures refused { IfErr result (Refuses self.now (tree node.now) (written code.old)) }
+    {
+        match node {
+            Node::Empty => Ok(()),
+            Node::Goal => code.push(Insn::Goal),
+            Node::Char { c } => code.push(Insn::Char(*c)),
+            Node::ByteSequence(bytes) => self.literal(code, bytes, backward),
+            Node::ByteSet(bytes) => code.push(byte_set(bytes, self.units)),
+            Node::CharSet(chars) => code.push(char_set(chars)),
+            Node::Cat(parts) => self.parts(code, parts, backward),
+            Node::Alt(first, second) => {
+                let fork = code.reserve()?;
+                self.node(code, first, backward)?;
+                let jump = code.reserve()?;
+                let secondary = code.next_address()?;
+                self.node(code, second, backward)?;
+                let target = code.next_address()?;
+                code.change(jump, Insn::Jump { target });
+                code.change(fork, Insn::Alt { secondary });
+                Ok(())
+            }
+            Node::MatchAny => code.push(Insn::MatchAny),
+            Node::MatchAnyExceptLineTerminator => code.push(Insn::MatchAnyExceptLineTerminator),
+            Node::Anchor {
+                anchor_type,
+                multiline,
+            } => code.push(anchor(*anchor_type, *multiline)),
+            Node::WordBoundary {
+                invert,
+                unicode_icase,
+            } => code.push(word_boundary(*invert, *unicode_icase)),
+            Node::CaptureGroup { id, contents, .. } => self.capture(code, *id, contents, backward),
+            Node::BackRef { group, icase } => code.push(Insn::BackRef {
+                group: *group - 1,
+                icase: *icase,
+            }),
+            Node::Bracket(contents) => self.bracket(code, contents),
+            Node::StringSet {
+                alternatives,
+                icase,
+            } => self.strings(code, alternatives, *icase, backward),
+            Node::LookaroundAssertion {
+                negate,
+                backwards,
+                start_group,
+                end_group,
+                contents,
+            } => self.lookaround(
+                code,
+                *negate,
+                *backwards,
+                *start_group..*end_group,
+                contents,
+            ),
+            Node::Loop {
+                loopee,
+                quant,
+                enclosed_groups,
+            } => self.repetition(code, loopee, *quant, enclosed_groups, backward),
+            Node::Loop1CharBody { loopee, quant } => {
+                self.single_repetition(code, loopee, *quant, backward)
+            }
+        }
+    }
+
+    /// Writes parts one after another, in the order in which they stand: in a lookbehind that is the order of reading.
+    #[cycle(emit)]
+    fn parts(&self, code: &mut Code, parts: &[Node], backward: bool) -> Result<(), Error>
+        requires { IsLawful (cat_of (map tree parts.now)) }
+        ensures added { OnOk result (Emits self.now backward (cat_of (map tree parts.now)) (written code.old) (written code.new)) }
+        ensures refused { IfErr result (Refuses self.now (cat_of (map tree parts.now)) (written code.old)) }
+    {
+        for part in parts {
+            self.node(code, part, backward)?;
+        }
+        Ok(())
+    }
+
+    /// Writes a group.
+    #[cycle(emit)]
+    fn capture(
+        &self,
+        code: &mut Code,
+        id: CaptureGroupID,
+        contents: &Node,
+        backward: bool,
+    ) -> Result<(), Error>
+        requires { IsLawful (tree contents.now) }
+        ensures added { OnOk result ((name : Option (List ℕ)) →
+            Emits self.now backward (capture id name (tree contents.now)) (written code.old) (written code.new)) }
+        ensures refused { IfErr result (Refuses self.now (capture id None (tree contents.now)) (written code.old)) }
+    {
+        code.push(Insn::BeginCaptureGroup(id))?;
+        self.node(code, contents, backward)?;
+        code.push(Insn::EndCaptureGroup(id))
+    }
+
+    /// Writes a lookaround.
+    #[cycle(emit)]
+    fn lookaround(
+        &self,
+        code: &mut Code,
+        negate: bool,
+        backwards: bool,
+        groups: Range<CaptureGroupID>,
+        contents: &Node,
+    ) -> Result<(), Error>
+        requires { IsLawful (tree contents.now) }
+        ensures added { OnOk result ((backward : Bool) →
+            Emits self.now backward (node.look negate backwards groups.start groups.end (tree contents.now)) (written code.old) (written code.new)) }
+        ensures refused { IfErr result (Refuses self.now (node.look negate backwards groups.start groups.end (tree contents.now)) (written code.old)) }
+    {
+        let at = code.reserve()?;
+        self.node(code, contents, backwards)?;
+        code.push(Insn::Goal)?;
+        let continuation = code.next_address()?;
+        code.change(at, look(negate, backwards, groups, continuation));
+        Ok(())
+    }
+
+    /// Writes a repetition, which resets its groups as each iteration begins.
+    #[cycle(emit)]
+    fn repetition(
+        &self,
+        code: &mut Code,
+        loopee: &Node,
+        quant: Quantifier,
+        groups: &Range<CaptureGroupID>,
+        backward: bool,
+    ) -> Result<(), Error>
+        requires { IsLawful (tree loopee.now) }
+        ensures added { OnOk result (Emits self.now backward
+            (loop (tree loopee.now) groups.now.start groups.now.end quant.min (most quant) quant.greedy) (written code.old) (written code.new)) }
+        ensures refused { IfErr result (Refuses self.now
+            (loop (tree loopee.now) groups.now.start groups.now.end quant.min (most quant) quant.greedy) (written code.old)) }
+    {
+        let loop_id = code.next_loop()?;
+        let begin = code.reserve()?;
+        code.push_resets(groups.start, groups.end)?;
+        self.node(code, loopee, backward)?;
+        code.push(Insn::LoopAgain { begin })?;
+        let exit = code.next_address()?;
+        let fields = LoopFields {
+            loop_id,
+            min_iters: quant.min,
+            max_iters: quant.most(),
+            greedy: quant.greedy,
+            exit,
+        };
+        code.change(begin, Insn::EnterLoop(fields));
+        Ok(())
+    }
+
+    /// Writes a repetition of what takes exactly one character.
+    #[cycle(emit)]
+    fn single_repetition(
+        &self,
+        code: &mut Code,
+        loopee: &Node,
+        quant: Quantifier,
+        backward: bool,
+    ) -> Result<(), Error>
+        requires { IsLawful (single_loop (tree loopee.now) quant.min (most quant) quant.greedy) }
+        ensures added { OnOk result (Emits self.now backward
+            (single_loop (tree loopee.now) quant.min (most quant) quant.greedy) (written code.old) (written code.new)) }
+        ensures refused { IfErr result (Refuses self.now
+            (single_loop (tree loopee.now) quant.min (most quant) quant.greedy) (written code.old)) }
+    {
+        code.push(Insn::Loop1CharBody {
+            min_iters: quant.min,
+            max_iters: quant.most(),
+            greedy: quant.greedy,
+        })?;
+        self.node(code, loopee, backward)
+    }
 }
