@@ -9,3 +9,4 @@ pub mod RewriteLemmas
 pub mod PlaceLemmas
 pub mod ClauseLemmas
 pub mod NormalLemmas
+pub mod ListedNodes

@@ -20,7 +20,7 @@ use Rattle.regress_front_opt.specs.Rules.{Reaches, stays, in_part, in_first, in_
 use Rattle.regress_front_opt.proofs.KeepLemmas.{reaches-then, reaches-in}
 
 -- the trees right below
-abbrev right_below : Tree → List Tree
+abbrev pub right_below : Tree → List Tree
 right_below (cat a b) = a ∷ parts b
 right_below (alt a b) = a ∷ b ∷ []
 right_below (capture k name a) = a ∷ []
@@ -111,10 +111,10 @@ shell-reach behind t u p q e h = let same = leaf-same t u refl e in rw same stay
 -- ---- nodes
 
 -- what stands below a node is what stands below its tree
-record Stands (n : Node) : Type 0 where
-  placed : map tree (below n) ≡ right_below (tree n)
-  turned : (behind : Bool) → backward_below n behind ≡ turned_in (tree n) behind
-  proper : listed (tree n) ≡ tree n
+pub record Stands (n : Node) : Type 0 where
+  pub placed : map tree (below n) ≡ right_below (tree n)
+  pub turned : (behind : Bool) → backward_below n behind ≡ turned_in (tree n) behind
+  pub proper : listed (tree n) ≡ tree n
 
 made : (x : Node-F Node) (t : Tree) → tree (roll-Node x) ≡ t → map tree (below_of x) ≡ right_below t → ((behind : Bool) → backward_below_of x behind ≡ turned_in t behind) → listed t ≡ t → Stands (roll-Node x)
 made x t e p d l = record {
@@ -135,7 +135,7 @@ turned_in-cat_of : (ts : List Tree) (behind : Bool) → behind ≡ turned_in (ca
 turned_in-cat_of [] behind = refl
 turned_in-cat_of (t ∷ ts) behind = refl
 
-stands : (n : Node) → Stands n
+pub stands : (n : Node) → Stands n
 stands = by_kind Stands kinds
   where
     kinds : (x : Node-F Node) → Stands (roll-Node x)

@@ -2,7 +2,8 @@
 use Rattle.std.specs.Prelude.{◌≡◌, ℕ, ◌+◌, ◌*◌, ◌<◌, ◌≤◌, Bool, true, ◌∷◌, All}
 use Rattle.regress_meaning.specs.Table.{Table}
 use Rattle.regress_meaning.specs.Meaning.{Direction, Forward}
-use Rattle.regress_front_nodes.specs.Trees.{Tree, cat, cat_of, alt, capture, look, loop, single_loop}
+use Rattle.regress_front_nodes.specs.declared.node.Node.{Node}
+use Rattle.regress_front_nodes.specs.Trees.{Tree, tree, cat, cat_of, alt, capture, look, loop, single_loop}
 use Rattle.regress_front_nodes.specs.TreeMeaning.{node_outcomes}
 use Rattle.regress_front_nodes.specs.Alike.{IsAlike}
 use Rattle.regress_front_nodes.specs.Forms.{is_cat, parts, nesting}
@@ -84,6 +85,10 @@ pub record BrokenNodesTurn (dir : Direction) : Type 0 where
 -- Rules, one after another, lead from each lawful tree to one in normal form.
 abbrev pub NormalFormsAreReached : Type 0
 NormalFormsAreReached = (dir : Direction) (n : ℕ) (t : Tree) → AreLawful n t → AreListed t → (u : Tree) × Reaches dir t u × IsNormal u
+
+-- The tree of each node is such a tree.
+abbrev pub NodesAreListed : Type 0
+NodesAreListed = (node : Node) → AreListed (tree node)
 
 -- A lawful tree nests less deep than it has nodes, so what is small enough to be copied is not too deep to be copied.
 abbrev pub NestsLessThanItsSize : Type 0

@@ -1,6 +1,6 @@
 //! Laws of rewriting, each the contract of a function with an empty body.
 ghost use Rattle.regress_meaning.specs.Meaning.{Direction};
-ghost use Rattle.regress_front_opt.specs.Laws.{RulesAreRight, RulesKeep, WholesAreRight, BrokenNodesTurn, NormalFormsAreReached, NestsLessThanItsSize};
+ghost use Rattle.regress_front_opt.specs.Laws.{RulesAreRight, RulesKeep, WholesAreRight, BrokenNodesTurn, NormalFormsAreReached, NodesAreListed, NestsLessThanItsSize};
 
 /// One rule, somewhere in a lawful tree, leads to a tree that means the same in the direction in which the tree is read, is
 /// lawful, and has a smaller weight. So any way of applying rules ends.
@@ -28,6 +28,11 @@ pub fn broken_nodes_turn()
 /// From each lawful tree whose `Cat`s are lists of parts, rules one after another lead to a tree in normal form.
 pub fn normal_forms_are_reached()
     ensures { NormalFormsAreReached }
+{}
+
+/// In the tree of each node the `Cat`s are lists of parts.
+pub fn trees_of_nodes_are_listed()
+    ensures { NodesAreListed }
 {}
 
 /// A lawful tree nests less deep than it has nodes. So a body that is small enough to be unrolled can be copied.
