@@ -111,8 +111,8 @@ impl<'u> CompiledRegex<'u> {
 
 /// The program of bytes of a tree.
 ///
-/// It is the tree's layout, for the tree's flags and tables. Asks for a well-formed tree. It errs with `TooLarge` only where
-/// the instructions pass `u32::MAX` or the loops pass 65535, and with `OutOfMemory`.
+/// It is the tree's layout, for the tree's flags and tables, and a match may begin anywhere. Asks for a well-formed tree. It
+/// errs with `TooLarge` only where the instructions pass `u32::MAX` or the loops pass 65535, and with `OutOfMemory`.
 ///
 /// ```rust
 /// let program = emit(alloc, &regex)?;
@@ -121,6 +121,7 @@ pub fn emit<'u>(alloc: Global, regex: &Regex<'u>) -> Result<CompiledRegex<'u>, E
     requires { (n : ℕ) × IsWellFormed n (tree regex.now.node) }
     ensures emitted { IfOk result (λ compiled. (n : ℕ) → IsWellFormed n (tree regex.now.node) → StandsFor n regex.now compiled) }
     ensures of_bytes { IfOk result (λ compiled. compiled.units ≡ false) }
+    ensures anywhere { IfOk result (λ compiled. compiled.start_pred ≡ StartPredicate.Arbitrary) }
     ensures refused { IfErr result (MayRefuse (length_for false regex.now) (loops (tree regex.now.node))) }
 {
     whole_program(alloc, regex, false)
@@ -135,6 +136,7 @@ pub fn emit_units<'u>(alloc: Global, regex: &Regex<'u>) -> Result<CompiledRegex<
     requires { (n : ℕ) × IsWellFormed n (tree regex.now.node) }
     ensures emitted { IfOk result (λ compiled. (n : ℕ) → IsWellFormed n (tree regex.now.node) → StandsFor n regex.now compiled) }
     ensures of_units { IfOk result (λ compiled. compiled.units ≡ true) }
+    ensures anywhere { IfOk result (λ compiled. compiled.start_pred ≡ StartPredicate.Arbitrary) }
     ensures refused { IfErr result (MayRefuse (length_for true regex.now) (loops (tree regex.now.node))) }
 {
     whole_program(alloc, regex, true)
@@ -149,6 +151,7 @@ fn whole_program<'u>(
     requires { (n : ℕ) × IsWellFormed n (tree regex.now.node) }
     ensures emitted { IfOk result (λ compiled. (n : ℕ) → IsWellFormed n (tree regex.now.node) → StandsFor n regex.now compiled) }
     ensures told { IfOk result (λ compiled. compiled.units ≡ units) }
+    ensures anywhere { IfOk result (λ compiled. compiled.start_pred ≡ StartPredicate.Arbitrary) }
     ensures refused { IfErr result (MayRefuse (length_for units regex.now) (loops (tree regex.now.node))) }
 {
     let emitter = Emitter {
