@@ -2,4 +2,8 @@
 #![tactic(auto)]
 
 #[cfg(test)]
+mod brackets;
+#[cfg(test)]
+mod inputs;
+#[cfg(test)]
 mod matchers;

@@ -10,3 +10,4 @@ pub mod PieceLemmas
 pub mod JumpLemmas
 pub mod ArmLemmas
 pub mod BitmapLemmas
+pub mod StandingLemmas

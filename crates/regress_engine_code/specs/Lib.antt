@@ -4,3 +4,5 @@ pub mod Counts
 pub mod InsnViews
 pub mod Written
 pub mod Emitting
+pub mod Standing
+pub mod Starts

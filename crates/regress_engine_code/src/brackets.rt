@@ -1,5 +1,5 @@
 //! The instructions of brackets.
-ghost use Rattle.std.specs.Prelude.{◌≡◌, ℕ, ◌<◌, ◌||◌, Bool, IfSome, IfOk, IfErr, OnOk};
+ghost use Rattle.std.specs.Prelude.{◌≡◌, ℕ, ◌<◌, ◌||◌, Bool, map, IfSome, IfOk, IfErr, OnOk};
 ghost use Rattle.regress_meaning.specs.Text.{holds};
 ghost use Rattle.regress_front_bytes.specs.ByteSets.{members};
 ghost use Rattle.regress_front_bytes.specs.Bitmaps.{ascii_bitmap_contains};
@@ -58,6 +58,20 @@ pub(crate) fn copy_of(
         invert: contents.invert,
         cps: CodePointSet::from_sorted_disjoint_intervals(intervals),
     })
+}
+
+/// Brackets of the same characters.
+pub(crate) fn copies_of(
+    alloc: Global,
+    brackets: &[BracketContents],
+) -> Result<Vec<BracketContents>, AllocError>
+    ensures { IfOk result (λ copies. map bracket_ends copies.items ≡ map bracket_ends brackets.now) }
+{
+    let mut copies = Vec::new(alloc);
+    for contents in brackets {
+        copies.push(copy_of(alloc, contents)?)?;
+    }
+    Ok(copies)
 }
 
 impl<'u> Emitter<'u> {

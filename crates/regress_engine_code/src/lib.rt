@@ -3,11 +3,14 @@
 
 mod brackets;
 mod code;
+mod compiled;
 mod emitter;
+mod groups;
 mod insn;
 mod laws;
 mod leaves;
 mod strings;
 
+pub use compiled::{CompiledRegex, emit, emit_units};
 pub use insn::{Insn, LoopFields, MAX_BYTE_SEQ_LENGTH, StartPredicate};
 pub use laws::layouts_are_counted;

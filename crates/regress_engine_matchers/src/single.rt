@@ -30,6 +30,7 @@ pub trait SingleCharMatcher<Input: InputIndexer, Dir: Direction> {
 }
 
 /// One character of the text.
+#[derive(Debug, Drop)]
 pub struct Char<Input: InputIndexer> {
     /// The character.
     pub c: Input::Element,

@@ -1,21 +1,19 @@
-use Rattle.std.proofs.Common.{rules, ◌≡◌, ℕ, Bool, ◌+◌, ◌-◌, [], ◌∷◌, ◌++◌, List, Option, None, length, map, take, drop, refl, sym, ap, ap₂, ◌∙◌, subst, arith}
+use Rattle.std.proofs.Common.{rules, ◌≡◌, ℕ, ◌+◌, ◌-◌, [], ◌∷◌, ◌++◌, List, length, map, take, sym, ap, ap₂, ◌∙◌, subst, arith}
 use Rattle.std.proofs.lemmas.List.{take_all}
 use Rattle.std.proofs.lemmas.Result.{IfOk-weaker, IfErr-weaker}
 use Rattle.regress_front_core.specs.Quantifiers.{most}
 use Rattle.regress_front_tables.specs.TableViews.{table}
 use Rattle.regress_front_nodes.specs.declared.node.Node.TheViews.{the_lemmas}
 use Rattle.regress_front_nodes.specs.Trees.{Tree, tree, cat_of}
-use Rattle.regress_front_nodes.specs.Trees as node
-use Rattle.regress_front_nodes.specs.Sizes.{loops}
 use Rattle.regress_front_nodes.proofs.CopyLemmas.{parts-more}
-use Rattle.regress_front_nodes.proofs.TreeLaws.{tree-Empty, tree-Goal, tree-Char, tree-ByteSequence, tree-ByteSet, tree-CharSet, tree-Cat, tree-Alt, tree-MatchAny, tree-MatchAnyExceptLineTerminator, tree-Anchor, tree-WordBoundary, tree-CaptureGroup, tree-BackRef, tree-Bracket, tree-StringSet, tree-LookaroundAssertion, tree-Loop, tree-Loop1CharBody}
+use Rattle.regress_front_nodes.proofs.TreeLaws.{tree-Goal, tree-Char, tree-ByteSet, tree-CharSet, tree-Alt, tree-MatchAny, tree-MatchAnyExceptLineTerminator, tree-Anchor, tree-WordBoundary, tree-CaptureGroup, tree-BackRef, tree-Bracket, tree-LookaroundAssertion}
 use Rattle.regress_engine_code.specs.Counts.{count}
 use Rattle.regress_engine_code.specs.Instructions.{Instruction}
 use Rattle.regress_engine_code.specs.Instructions as code
 use Rattle.regress_engine_code.specs.InsnViews.{instruction}
 use Rattle.regress_engine_code.specs.Layout.{resets, char_set_code, byte_set_code}
-use Rattle.regress_engine_code.specs.Written.{Written, written, with, changed, AddsTree, MayRefuse}
-use Rattle.regress_engine_code.specs.Emitting.{anchor_code, Emits, Refuses}
+use Rattle.regress_engine_code.specs.Written.{Written, written, with, changed}
+use Rattle.regress_engine_code.specs.Emitting.{Emits}
 use Rattle.regress_engine_code.proofs.LayoutLemmas.{resets-length}
 use Rattle.regress_engine_code.proofs.AddLemmas.{Adds-one, Adds-nothing, AddsTree-counted, AddsTree-more, AddsTree-capture, AddsTree-single_loop, AddsTree-look, AddsTree-alt, AddsTree-loop, MayRefuse-more}
 use Rattle.regress_engine_code.proofs.EmitLemmas.{err-refused, with-size, AddsTree-byte_set, AddsTree-anchor, parts-within, parts-lawful, single-count, of-capture, alt-lawful}
