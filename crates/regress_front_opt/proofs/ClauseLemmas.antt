@@ -98,19 +98,23 @@ module _ (dir : Direction) where
       let m = meeting ts h in
       rw m.whole (cat_of (m.before ++ bytes (joined dir m.first m.second) ∷ m.behind), rules.joins m.before m.behind m.first m.second)
 
+  -- a `Cat` of fewer than two parts
   pub short_cat : (t : Tree) → IsListed t → is_short_cat t ≡ true → Turnable dir t
   short_cat t p h =
       let (ts, e) = cat-list t (and_parts (is_cat t) (nat_lt (length (parts t)) 2) h).0 p in
       rw e (short-turns ts (rw e at h))
 
+  -- a `Cat` with a `Cat` or `Empty` among its parts
   pub loose_part : (t : Tree) → IsListed t → All IsListed (parts t) → has_loose_part t ≡ true → Turnable dir t
   loose_part (cat a b) p all h = subst (Turnable dir) p (loose-turns (a ∷ parts b) all h)
   loose_part _ p all h = absurd (false≢true h)
 
+  -- a `Cat` with two literals side by side
   pub split_literal : (t : Tree) → IsListed t → has_split_literal t ≡ true → Turnable dir t
   split_literal (cat a b) p h = subst (Turnable dir) p (split-turns (a ∷ parts b) h)
   split_literal _ p h = absurd (false≢true h)
 
+  -- a character that a literal can hold
   pub loose_char : (t : Tree) → is_loose_char t ≡ true → Turnable dir t
   loose_char (char c) h = (_, rules.spells (turned (is_surrogate c) h))
     where
@@ -119,20 +123,24 @@ module _ (dir : Direction) where
       turned true e = absurd (false≢true e)
   loose_char _ h = absurd (false≢true h)
 
+  -- a loop that is to be unrolled
   pub unrollable_loop : (t : Tree) → is_unrollable t ≡ true → Turnable dir t
   unrollable_loop (loop a first last least most greedy) h = (unrolled a first last least most greedy, rules.unrolls h)
   unrollable_loop _ h = absurd (false≢true h)
 
+  -- a loop over what takes one character
   pub loop_of_one : (t : Tree) → is_loop_of_one t ≡ true → Turnable dir t
   loop_of_one (loop a first last least most greedy) h = (single_loop a least most greedy, rules.loops_one h)
   loop_of_one _ h = absurd (false≢true h)
 
+  -- an `Alt` of two `Empty`s
   pub empty_choice : (t : Tree) → is_empty_choice t ≡ true → Turnable dir t
   empty_choice (alt a b) h =
       let both = and_parts (is_empty a) (is_empty b) h in
       rw (is-empty a both.0, is-empty b both.1) (empty, rules.is_empty_choice)
   empty_choice _ h = absurd (false≢true h)
 
+  -- a `Cat` that always fails
   pub lost_cat : (t : Tree) → IsListed t → is_lost_cat t ≡ true → Turnable dir t
   lost_cat (cat a b) p h = subst (Turnable dir) p (char_set [], rules.is_lost (a ∷ parts b) (subst (λ u. is_lost_cat u ≡ true) (sym p) h))
   lost_cat _ p h = absurd (false≢true h)

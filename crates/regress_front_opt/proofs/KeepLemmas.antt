@@ -27,6 +27,7 @@ pub record IsTurned (t u : Tree) : Type 0 where
 
 -- ---- `Goal` stands last
 
+-- where `Goal` is the last part, there is one
 pub goal-counts : (t : Tree) → last_part t ≡ goal → 1 ≤ goals t
 goal-counts goal h = omega arith
 goal-counts (cat a no_part) h = omega (arith, goal-counts a h)
@@ -118,6 +119,7 @@ one_part-turned t = record {
     last_name None = refl
     last_name (Some x) = refl
 
+-- two literals as one are a literal, of all their characters
 pub joined-lawful : (dir : Direction) (xs ys : List ℕ) → AreCharacters xs → AreCharacters ys → AreCharacters (joined dir xs ys) × (length (chars (joined dir xs ys)) ≡ length (chars xs) + length (chars ys))
 joined-lawful Forward xs ys h k =
     ((omega (arith, length-append xs ys, h.0), IsUtf8-append xs ys h.1 k.1), ap length (chars-append xs ys h.1) ∙ length-append (chars xs) (chars ys))
@@ -251,6 +253,7 @@ behind-turned : (ts : List Tree) (u : Tree) (us vs : List Tree) → IsTurned (ca
 behind-turned [] u us vs h = h
 behind-turned (t ∷ ts) u us vs h = left-turned t (cat_of (ts ++ u ∷ us)) (cat_of (ts ++ vs)) (last-some t ts u us) (behind-turned ts u us vs h)
 
+-- one rule, where it applies
 pub turns-turned : {dir : Direction} {t u : Tree} → Turns dir t u → IsTurned t u
 turns-turned (flattens ts us vs) = behind-turned ts (cat_of us) vs (us ++ vs) (flat-turned us vs)
 turns-turned (drops_empty ts vs) = behind-turned ts empty vs vs (empty-turned vs)
@@ -374,6 +377,7 @@ rewrites-turned (in_look {negated = negated} {backward = backward} {first = firs
 rewrites-turned (in_loop {first = first} {last = last} {least = least} {most = most} {greedy = greedy} {a = a} {b = b} h) = loop-turned first last least most greedy a b (rewrites-turned h)
 rewrites-turned (in_single_loop {least = least} {most = most} {greedy = greedy} {a = a} {b = b} h) = single_loop-turned least most greedy a b (rewrites-one h) (rewrites-turned h)
 
+-- no rule
 pub keeps-self : (t : Tree) → Keeps t t
 keeps-self t = record {
   ids = refl;
@@ -385,6 +389,7 @@ keeps-self t = record {
   no_larger = λ n l. omega arith;
 }
 
+-- rules, and then others
 pub keeps-then : {t u v : Tree} → Keeps t u → Keeps u v → Keeps t v
 keeps-then a b = record {
   ids = b.ids ∙ a.ids;
@@ -396,23 +401,27 @@ keeps-then a b = record {
   no_larger = λ n l. omega (arith, a.no_larger n l, b.no_larger n (a.lawful n l));
 }
 
+-- rules one after another keep what is to be kept
 pub reaches-keeps : {dir : Direction} {t u : Tree} → Reaches dir t u → Keeps t u
 reaches-keeps {t = t} stays = keeps-self t
 reaches-keeps (and_then h rest) = keeps-then (rewrites-turned h).keeps (reaches-keeps rest)
 
+-- and never raise the weight
 pub reaches-weight : {dir : Direction} {t u : Tree} → Reaches dir t u → (n : ℕ) → AreLawful n t → weight u ≤ weight t
 reaches-weight stays n l = omega arith
 reaches-weight (and_then h rest) n l =
     let r = rewrites-turned h in omega (arith, r.lighter n l, reaches-weight rest n (r.keeps.lawful n l))
 
--- rules one after another, and rules below a place
+-- rules, and then others, are rules one after another
 pub reaches-then : {dir : Direction} {t u v : Tree} → Reaches dir t u → Reaches dir u v → Reaches dir t v
 reaches-then stays k = k
 reaches-then (and_then h rest) k = and_then h (reaches-then rest k)
 
+-- rules below a place are rules above it
 pub reaches-in : {dir below : Direction} (f : Tree → Tree) → ((a b : Tree) → Rewrites below a b → Rewrites dir (f a) (f b)) → {t u : Tree} → Reaches below t u → Reaches dir (f t) (f u)
 reaches-in f place stays = stays
 reaches-in f place (and_then {t} {u} h rest) = and_then (place t u h) (reaches-in f place rest)
 
+-- one rule is rules one after another
 pub turned-once : {dir : Direction} {t u : Tree} → Turns dir t u → Reaches dir t u
 turned-once h = and_then (there h) stays

@@ -1,9 +1,9 @@
 -- Loops: without groups nothing is cleared, and the first iterations may stand before the others.
-use Rattle.std.proofs.Common.{◌≡◌, ℕ, zero, suc, ◌+◌, ◌-◌, ◌≤◌, Bool, true, false, ◌&&◌, List, [], ◌∷◌, Option, if◌then◌else◌, nat_le, nat_lt, refl, sym, ap, ◌∙◌, inl, inr, arith}
+use Rattle.std.proofs.Common.{◌≡◌, ℕ, zero, suc, ◌+◌, ◌-◌, ◌≤◌, Bool, true, false, ◌&&◌, List, [], ◌∷◌, Option, nat_le, nat_lt, refl, sym, ap, ◌∙◌, inl, inr, arith}
 use Rattle.std.specs.List.{flat_map}
 use Rattle.std.proofs.lemmas.Bool.{cases_lt, le-leb, lt-ltb}
 use Rattle.std.proofs.lemmas.Bool.Decides.{nat_tests}
-use Rattle.regress_meaning.specs.Meaning.{State, Direction, Outcomes, Context, clear_from, cleared, iterations}
+use Rattle.regress_meaning.specs.Meaning.{State, Direction, Context, clear_from, cleared, iterations}
 use Rattle.regress_front_nodes.specs.Trees.{Tree, loop, single_loop, cat_of}
 use Rattle.regress_front_nodes.specs.TreeMeaning.{node_outcomes}
 use Rattle.regress_front_nodes.specs.WellFormed.{group_ids, AreNumbered}
@@ -72,13 +72,3 @@ module _ (w : Context) where
       → node_outcomes w (loop a first last least most greedy) dir s ≡ node_outcomes w (single_loop a least most greedy) dir s
   unfolding node_outcomes
   single-same a first last least most greedy dir none h s = loop-plain a first last least most greedy dir none h s
-
-  -- where the body leads nowhere, a loop that needs no iteration goes on
-  pub nothing-goes_on : (body : Outcomes) (greedy : Bool) (most : ℕ) (s : State) → body s ≡ [] → iterations body greedy most zero s ≡ s ∷ []
-  unfolding iterations
-  nothing-goes_on body greedy zero s none = refl
-  nothing-goes_on body greedy (suc most) s none = rw none (either greedy)
-    where
-      either : (b : Bool) → (if b then s ∷ [] else s ∷ []) ≡ s ∷ []
-      either true = refl
-      either false = refl

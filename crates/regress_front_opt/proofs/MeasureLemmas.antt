@@ -15,6 +15,8 @@ option_or-again : {A : Type 0} (o p q : Option A) → option_or o (option_or p q
 option_or-again None p q = refl
 option_or-again (Some x) p q = refl
 
+-- ---- parts before other parts: each measure is that of both, but for the one end of a `Cat` too many
+
 pub size-append : (us vs : List Tree) → size (cat_of (us ++ vs)) + 1 ≡ size (cat_of us) + size (cat_of vs)
 size-append [] vs = omega arith
 size-append (u ∷ us) vs = omega (arith, size-append us vs)
@@ -79,6 +81,8 @@ bulk-size n (look negated backward first last a) h = omega (arith, bulk-size n a
 bulk-size n (loop a first last least most greedy) h = omega (arith, bulk-size n a h.2)
 bulk-size n (single_loop a least most greedy) h = omega (arith, bulk-size n a h.2)
 bulk-size n _ h = omega arith
+
+-- ---- copies of a part before other parts
 
 pub size-copies : (k : ℕ) (a : Tree) (rest : List Tree) → size a ≤ largest_copied → size (cat_of (copies k a rest)) ≤ largest_copied * k + size (cat_of rest)
 size-copies zero a rest h = omega arith

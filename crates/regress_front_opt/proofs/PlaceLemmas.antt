@@ -41,6 +41,7 @@ AllReach dir [] (u ∷ us) = ⊥
 AllReach dir (t ∷ ts) [] = ⊥
 AllReach dir (t ∷ ts) (u ∷ us) = Reaches dir t u × AllReach dir ts us
 
+-- where each part reaches another, the `Cat` reaches that of the others
 pub parts-reach : (dir : Direction) (before ts us : List Tree) → AllReach dir ts us → Reaches dir (cat_of (before ++ ts)) (cat_of (before ++ us))
 parts-reach dir before [] [] h = stays
 parts-reach dir before [] (u ∷ us) h = absurd h
