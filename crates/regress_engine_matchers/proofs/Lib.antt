@@ -1,3 +1,4 @@
 pub mod CaseLemmas
 pub mod MatcherLemmas
 pub mod ViewLemmas
+pub mod ByteLemmas
