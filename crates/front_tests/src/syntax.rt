@@ -13,7 +13,7 @@ fn points(alloc: Global, text: &str, times: usize) -> Result<Vec<CodePoint>, All
 
 fn parsed(alloc: Global, flags: &str, points: &[CodePoint]) -> Result<Syntax, Error> {
     let tables = Tables::small(alloc).map_err(|_| Error::OutOfMemory)?;
-    parse(alloc, points, Flags::from(flags), &tables)
+    Ok(parse(alloc, points, Flags::from(flags), &tables)?.syntax)
 }
 
 /// The terms of a pattern's only alternative, written out.

@@ -1,3 +1,1 @@
-pub mod NumberLemmas
-pub mod NameLemmas
 pub mod IterationLemmas

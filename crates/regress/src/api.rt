@@ -13,7 +13,6 @@ ghost use Rattle.regress_front.specs.FlagWords.{options};
 ghost use Rattle.regress_front.specs.Refusals.{MayRefuse};
 
 use crate::matches::Matches;
-use crate::numbers::group_names;
 use crate::text::code_points;
 use regress_front::{CaptureGroupName, Error, Flags, Node, Tables, try_parse};
 use regress_match::Match;
@@ -100,13 +99,13 @@ impl<'u> Regex<'u> {
         ensures accepted { IfOk result (λ r. (p : Pattern) × Spells (table tables.now) (options flags) points.now p × WithinLimits p × StandsFor r (table tables.now) (options flags) p) }
         ensures refused { IfErr result (MayRefuse (table tables.now) (options flags) points.now) }
     {
-        let node = try_parse(alloc, points, flags, tables)?.node;
-        let group_names = ArcSlice::from_vec(group_names(alloc, &node)?)?;
+        let tree = try_parse(alloc, points, flags, tables)?;
+        let group_names = ArcSlice::from_vec(tree.group_names)?;
         Ok(Regex {
             alloc,
             tables,
             flags,
-            node,
+            node: tree.node,
             group_names,
         })
     }

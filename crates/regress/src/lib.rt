@@ -5,7 +5,6 @@
 
 mod api;
 mod matches;
-mod numbers;
 mod text;
 
 pub use api::{Regex, is_start};

@@ -1,7 +1,7 @@
 -- What the answer for a whole text says of what the text spells.
-use Rattle.std.specs.Prelude.{count_by, IfOk, IfErr}
+use Rattle.std.specs.Prelude.{count_by}
 use Rattle.std.proofs.lemmas.Bool.{eqb-true}
-use Rattle.std.proofs.Common.{◌≡◌, ℕ, zero, suc, ◌-◌, ◌≤◌, ◌<◌, ◌↔◌, Bool, true, false, not, ◌&&◌, ◌==◌, List, [], ◌∷◌, ◌++◌, length, drop, Option, Some, None, option_and_then, option_map, unwrap_or, Result, Ok, Err, slice_get, is_some, suc-ne-zero, refl, ap, ◌∙◌, length-append, arith}
+use Rattle.std.proofs.Common.{◌≡◌, ℕ, zero, suc, ◌-◌, ◌≤◌, ◌<◌, ◌↔◌, Bool, true, false, not, ◌&&◌, ◌==◌, List, [], ◌∷◌, ◌++◌, length, drop, Option, Some, None, option_and_then, option_map, unwrap_or, Ok, Err, slice_get, is_some, suc-ne-zero, refl, ap, ◌∙◌, length-append, arith}
 use Rattle.std.specs.Prelude.{if◌then◌else◌}
 use Rattle.regress_meaning.specs.Text.{is_at}
 use Rattle.regress_meaning.specs.Table.{Table}
@@ -116,14 +116,6 @@ module _ (table : Table) (o : Options) (t : List ℕ) where
     refused TooManyLoops (trees, counted) = ((λ p s. trees p (spells-read p s)), (λ none. counted (none-read none)))
     refused TooLarge r = r
     refused OutOfMemory r = r
-
-    pub accepted-whole : (result : Result Syntax Error) → IsWholeAnswer (whole_at text_mode t) t result → IfOk result (λ s. Spells table o t (tree s) × WithinLimits (tree s))
-    accepted-whole (Ok s) answer = spelled s answer
-    accepted-whole (Err e) answer = tt
-
-    pub refused-whole : (result : Result Syntax Error) → IsWholeAnswer (whole_at text_mode t) t result → IfErr result (λ e. MayRefuse table o t e)
-    refused-whole (Ok s) answer = tt
-    refused-whole (Err e) answer = refused e answer
 
 -- a scan finds a group only at a parenthesis, and at most one
 

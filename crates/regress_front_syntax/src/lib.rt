@@ -5,5 +5,5 @@ mod apart;
 mod group;
 mod parser;
 
-pub use parser::parse;
+pub use parser::{Parsed, parse};
 pub use regress_front_tokens::{Class, Modifiers, Quantifier, Syntax};

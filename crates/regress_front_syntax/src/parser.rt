@@ -2,8 +2,9 @@
 ghost use Rattle.std.specs.Prelude.{◌≡◌, ◌==◌, ◌+◌, ◌<◌, ◌≤◌, ℕ, suc, length, true, false, is_some, OnOk, IfOk, IfErr, if◌then◌else◌};
 ghost use Rattle.regress_meaning.specs.Text.{◌∈◌, is_at};
 ghost use Rattle.regress_meaning.specs.Tokens.{bounds_at};
-ghost use Rattle.regress_front_tokens.specs.Escapes.{escape_view, mode_view, HasFewGroups};
+ghost use Rattle.regress_front_tokens.specs.Escapes.{escape_view, mode_view, texts, HasFewGroups};
 ghost use Rattle.regress_front_tokens.specs.Trees.{tree};
+ghost use Rattle.regress_meaning.specs.Pattern.{names_of};
 ghost use Rattle.regress_meaning.specs.Grammar.{Spells, ends_alternative, mode_of, tree_of};
 ghost use Rattle.regress_meaning.specs.Limits.{WithinLimits};
 ghost use Rattle.regress_meaning.specs.Scan.{scanned_names};
@@ -19,7 +20,8 @@ use crate::apart::names_are_apart;
 use crate::group::{Opening, read_opening};
 use regress_front_classes::bracketed_class;
 use regress_front_tables::{
-    CodePoint, Error, Flags, MAX_CAPTURE_GROUPS, MAX_LOOPS, MAX_NESTING_DEPTH, Quantifier, Tables,
+    CaptureGroupName, CodePoint, Error, Flags, MAX_CAPTURE_GROUPS, MAX_LOOPS, MAX_NESTING_DEPTH,
+    Quantifier, Tables,
 };
 use regress_front_tokens::{Cursor, Escape, Mode, Syntax, mode_of};
 use std::alloc::Global;
@@ -100,20 +102,35 @@ fn limited_mode<'t>(
     Ok(mode)
 }
 
-/// Reads a pattern with flags ("ParsePattern"): its tree. `Syntax` where the text is no pattern; `TooDeep`, `TooManyGroups` and
+/// A pattern that was read.
+#[derive(Debug, Drop)]
+pub struct Parsed {
+    /// Its tree.
+    pub syntax: Syntax,
+    /// The name of each capturing group by its number, empty where it has none.
+    pub group_names: Vec<CaptureGroupName>,
+}
+
+/// Reads a pattern with flags ("ParsePattern"): its tree, and the names of its groups. `Syntax` where the text is no pattern; `TooDeep`, `TooManyGroups` and
 /// `TooManyLoops` where it passes that limit; `OutOfMemory` at any time.
 pub fn parse(
     alloc: Global,
     points: &[CodePoint],
     flags: Flags,
     tables: &Tables,
-) -> Result<Syntax, Error>
-    ensures accepted { IfOk result (λ s. Spells (table tables.now) (options flags) points.now (tree s) × WithinLimits (tree s)) }
+) -> Result<Parsed, Error>
+    ensures accepted { IfOk result (λ s. Spells (table tables.now) (options flags) points.now (tree s.syntax) × WithinLimits (tree s.syntax)) }
+    ensures named { IfOk result (λ s. texts s.group_names ≡ names_of (tree s.syntax)) }
     ensures refused { IfErr result (λ e. MayRefuse (table tables.now) (options flags) points.now e) }
 {
     regress_meaning::reading_decides_the_grammar();
+    regress_meaning::names_are_found_by_a_scan();
     let mode = limited_mode(alloc, points, flags, tables)?;
-    Parser::new(alloc, points).pattern(&mode)
+    let syntax = Parser::new(alloc, points).pattern(&mode)?;
+    Ok(Parsed {
+        syntax,
+        group_names: mode.names,
+    })
 }
 
 /// How far a pattern is read, and how many groups were opened and quantifiers read so far.

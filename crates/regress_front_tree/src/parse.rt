@@ -1,10 +1,11 @@
 //! From a pattern's text to its tree.
 ghost use Rattle.std.specs.Prelude.{◌≡◌, ◌≤◌, false, All, IfOk, IfErr};
-ghost use Rattle.regress_meaning.specs.Pattern.{Pattern};
+ghost use Rattle.regress_meaning.specs.Pattern.{Pattern, names_of};
 ghost use Rattle.regress_meaning.specs.Flags.{first_settings};
 ghost use Rattle.regress_front_tables.specs.TableViews.{table};
 ghost use Rattle.regress_front_core.specs.FlagWords.{options};
 ghost use Rattle.regress_front_core.specs.Refusals.{MayRefuse};
+ghost use Rattle.regress_front_tokens.specs.Escapes.{texts};
 ghost use Rattle.regress_front_nodes.specs.Trees.{tree};
 ghost use Rattle.regress_front_tree.specs.Scopes.{settings_of};
 ghost use Rattle.regress_front_tree.specs.Parsed.{IsTreeOf};
@@ -48,7 +49,7 @@ pub fn try_parse<'u>(
     tables: &'u Tables,
 ) -> Result<Regex<'u>, Error>
     requires { All (λ c. c ≤ 0x10_FFFF) pattern.now }
-    ensures accepted { IfOk result (λ re. (p : Pattern) × IsTreeOf (table tables.now) (options flags) pattern.now p (tree re.node)) }
+    ensures accepted { IfOk result (λ re. (p : Pattern) × IsTreeOf (table tables.now) (options flags) pattern.now p (tree re.node) × (texts re.group_names ≡ names_of p)) }
     ensures kept { IfOk result (λ re. (re.flags ≡ flags) × (re.tables.now ≡ tables.now)) }
     ensures refused { IfErr result (MayRefuse (table tables.now) (options flags) pattern.now) }
 {
@@ -56,12 +57,13 @@ pub fn try_parse<'u>(
     regress_meaning::spelled_names_are_not_empty();
     lowered_trees_are_alike();
     whole_trees_are_well_formed();
-    let syntax = parse(alloc, pattern, flags, tables)?;
+    let parsed = parse(alloc, pattern, flags, tables)?;
     let mut lowering = Lowering::new(alloc, tables, flags.is_unicode());
-    let node = lowering.lower(&syntax, first_scope(flags))?;
+    let node = lowering.lower(&parsed.syntax, first_scope(flags))?;
     Ok(Regex {
         node: Node::Cat(vec![in alloc; node, Node::Goal]?),
         flags,
+        group_names: parsed.group_names,
         tables,
     })
 }
