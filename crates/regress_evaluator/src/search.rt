@@ -1,5 +1,5 @@
 //! The search for a compiled pattern in a text, by the evaluator.
-ghost use Rattle.std.specs.Prelude.{◌≡◌, true, chars, encode_utf8_all, IfOk, IsOkUnless};
+ghost use Rattle.std.specs.Prelude.{◌≡◌, ⊤, true, chars, encode_utf8_all, IfOk, IsOkUnless};
 ghost use Rattle.std.specs.Str.{all_scalars};
 
 use crate::evaluator::Evaluator;
@@ -81,6 +81,14 @@ impl<'r> MatchProducer for Search<'r> {
 
     type Position = usize;
 
+    ghost Sought = { Search };
+
+    ghost sought = { λ s. s };
+
+    ghost is_position = { λ _ _. ⊤ };
+
+    ghost is_start = { λ _ _. ⊤ };
+
     ghost items_from = { items_from };
 
     ghost left_behind = { places_behind };
@@ -97,7 +105,7 @@ impl<'r> MatchProducer for Search<'r> {
 
     /// The first match from a place on, told in bytes ("RegExpBuiltinExec").
     fn next_match(
-        &self,
+        &mut self,
         position: usize,
         next: &mut Option<usize>,
     ) -> Result<Option<Match>, Error> {
