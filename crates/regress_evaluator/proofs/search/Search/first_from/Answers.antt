@@ -17,20 +17,20 @@ use Rattle.regress_evaluator.specs.Searching.{searching, points_of, matches_of, 
 use Rattle.regress_evaluator.specs.StateViews.{context_of}
 use Rattle.regress_front_nodes.proofs.MatchLemmas.{first_match_past, matches_go, matches_end, first_match-later}
 use Rattle.regress_evaluator.proofs.SearchLemmas.{coming_on_within}
-use Rattle.regress_evaluator.proofs.search.SearchMatchProducer.next_match.Goals as goal
+use Rattle.regress_evaluator.proofs.search.Search.first_from.Goals as goal
 
 -- the match that was found is the first
-first_is : (c : goal.After-drop-found-2) → let s = c.args.self.old in
+first_is : (c : goal.After-drop-found-2) → let s = c.args.self.now in
     node_first_match (searching s.pattern (points_of s)) (group_count s.pattern.group_names.now) (tree s.pattern.node.now) c.args.position ≡ Some (item_of c.in-Some.found)
 first_is c =
-    let s = c.args.self.old in
+    let s = c.args.self.now in
     ap (λ (context : Context). node_first_match context (group_count s.pattern.group_names.now) (tree s.pattern.node.now) c.args.position) (sym c.evaluator.ensures.context)
     ∙ ap (λ (n : ℕ). node_first_match (context_of c.evaluator.result) n (tree s.pattern.node.now) c.args.position) (sym c.evaluator.ensures.groups)
     ∙ sym c.in_ok-found.ensures.value ∙ ap (option_map item_of) c.in-Some.is
 
 pub returns-in_default-clause-found : goal.returns-in_default-clause-found
 returns-in_default-clause-found c =
-    let s = c.args.self.old in
+    let s = c.args.self.now in
     let points = points_of s in
     let none = ap (λ (context : Context). node_first_match context (group_count s.pattern.group_names.now) (tree s.pattern.node.now) c.args.position) (sym c.evaluator.ensures.context)
     ∙ ap (λ (n : ℕ). node_first_match (context_of c.evaluator.result) n (tree s.pattern.node.now) c.args.position) (sym c.evaluator.ensures.groups)
@@ -39,7 +39,7 @@ returns-in_default-clause-found c =
 
 pub returns-clause-found : goal.returns-clause-found
 returns-clause-found c =
-    let s = c.args.self.old in
+    let s = c.args.self.now in
     let points = points_of s in
     let context = searching s.pattern points in
     let count = group_count s.pattern.group_names.now in
@@ -61,7 +61,7 @@ returns-clause-found c =
 
 pub returns-clause-nearer : goal.returns-clause-nearer
 returns-clause-nearer c =
-    let s = c.args.self.old in
+    let s = c.args.self.now in
     let points = points_of s in
     let from : c.args.position ≤ c.in-Some.found.span.start =
     first_match-later (searching s.pattern points) (group_count s.pattern.group_names.now) (tree s.pattern.node.now) c.args.position (item_of c.in-Some.found) (first_is c) in
