@@ -1,8 +1,8 @@
 //! Programs of patterns.
 
-use regress_engine_code::{CompiledRegex, emit, emit_units};
+use regress_engine_code::{CompiledRegex, Insn, emit, emit_units};
 use regress_front::{CodePoint, Error, Flags, Tables, are_code_points, try_parse};
-use std::alloc::Global;
+use std::alloc::{AllocError, Global};
 use std::test::Fail;
 
 /// Patterns, their flags, and their programs, which are the same in bytes and in units.
@@ -224,6 +224,11 @@ fn program<'u>(
     }
 }
 
+/// How instructions are printed.
+fn told(alloc: Global, insns: &[Insn]) -> Result<String, AllocError> {
+    Ok(format!(in alloc; "{insns:?}")?)
+}
+
 /// Fails where the program of a pattern is another.
 fn is_program(
     alloc: Global,
@@ -234,7 +239,7 @@ fn is_program(
 ) -> Result<(), Fail> {
     let tables = Tables::small(alloc)?;
     let program = program(alloc, pattern, flags, units, &tables)?;
-    let told = format!(in alloc; "{:?}", program.insns())?;
+    let told = told(alloc, program.insns())?;
     let expected = format!(in alloc; "[{expected}]")?;
     if told.as_str() != expected.as_str() {
         return Err(Fail::new(format!(in alloc; "at {pattern}: {told}")?));
