@@ -14,3 +14,4 @@ pub mod PassLemmas
 pub mod VisitLemmas
 pub mod NodeKinds
 pub mod TurnLemmas
+pub mod RoundLemmas

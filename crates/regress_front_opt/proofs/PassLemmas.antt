@@ -12,8 +12,10 @@ use Rattle.regress_front_nodes.specs.WellFormed.{AreLawful}
 use Rattle.regress_front_nodes.specs.TreeMeaning.{direction}
 use Rattle.regress_front_opt.specs.NormalForm.{nodes_below, Nowhere}
 use Rattle.regress_front_opt.specs.Rules.{Turns, Rewrites, there, in_part, in_first, in_second, in_capture, in_look, in_loop, in_single_loop, Reaches, stays, and_then}
-use Rattle.regress_front_opt.specs.Passes.{HasLaws, Advances, IsVisited, IsVisitedHere, IsVisitedBelow, AreVisited}
-use Rattle.regress_front_opt.proofs.KeepLemmas.{reaches-then, reaches-in, reaches-keeps}
+use Rattle.regress_front_opt.specs.declared.action.PassAction.{PassAction}
+use Rattle.regress_front_opt.specs.Passes.{HasLaws, Advances, IsPassed, IsVisited, IsVisitedHere, IsVisitedBelow, AreVisited}
+use Rattle.regress_front_opt.proofs.KeepLemmas.{reaches-then, reaches-in, reaches-keeps, reaches-weight, rewrites-turned}
+use Rattle.regress_front_opt.specs.Weight.{weight}
 use Rattle.regress_front_opt.proofs.PlaceLemmas.{nowhere-parts}
 
 -- ---- rules, at least one
@@ -167,3 +169,16 @@ part-laws ns ms i d l same h =
 
 pub alt-laws : (a b : Tree) → HasLaws (alt a b) → HasLaws a × HasLaws b
 alt-laws a b h = ((h.0, h.1.0), (h.0, h.1.1))
+
+-- ---- rounds
+
+-- rules, at least one, make a lawful tree lighter
+pub advances-lighter : {dir : Direction} {t u : Tree} → Advances dir t u → HasLaws t → weight u < weight t
+advances-lighter a l =
+    let one = rewrites-turned a.first in
+    let rest = reaches-weight a.others l.0 (one.keeps.lawful l.0 l.1) in
+    omega (arith, one.lighter l.0 l.1, rest)
+
+-- memory is refused before a node is changed
+pub passed-refused : (dir : Direction) (broken : Tree → Bool) (t : Tree) (r : Result PassAction Error) (e : Error) → e ≡ OutOfMemory → IsErrAnd r (λ y. y ≡ e) → IsPassed dir broken t t r
+passed-refused dir broken t r e h w = let p = err_from_is_err_and r w in rw (p.1, p.2) (stays, h)

@@ -1,13 +1,13 @@
 -- What passes do at a node, and in all of a tree.
 use Rattle.std.specs.Prelude.{◌≡◌, ℕ, Bool, true, false, List, [], ◌∷◌, Result, Ok, Err, All}
-use Rattle.regress_meaning.specs.Meaning.{Direction}
+use Rattle.regress_meaning.specs.Meaning.{Direction, Forward}
 use Rattle.regress_front_core.specs.declared.error.Error.{Error}
 use Rattle.regress_front_core.specs.declared.error.Error.TheVariants.{OutOfMemory}
 use Rattle.regress_front_nodes.specs.Trees.{Tree, tree, empty, cat_of}
 use Rattle.regress_front_nodes.specs.WellFormed.{AreLawful}
 use Rattle.regress_front_opt.specs.declared.action.PassAction.{PassAction}
 use Rattle.regress_front_opt.specs.declared.action.PassAction.TheVariants.{Keep, Modified, Remove, Replace}
-use Rattle.regress_front_opt.specs.NormalForm.{nodes_below, Nowhere}
+use Rattle.regress_front_opt.specs.NormalForm.{nodes_below, Nowhere, is_short_cat, is_loose_char, is_loop_of_one, is_empty_choice}
 use Rattle.regress_front_opt.specs.Rules.{Rewrites, Reaches}
 
 -- it is lawful, as a part of a tree of some number of groups
@@ -51,3 +51,16 @@ IsVisitedBelow dir broken t u (Err e) = Reaches dir t u × (e ≡ OutOfMemory)
 abbrev pub AreVisited : Direction → (Tree → Bool) → (ts us first : List Tree) → Bool → Type 0
 AreVisited dir broken ts us first true = Advances dir (cat_of ts) (cat_of us)
 AreVisited dir broken ts us first false = (us ≡ ts) × All (Nowhere broken) first
+
+-- The tree is in the normal form that the passes reach.
+pub record IsSettled (t : Tree) : Type 0 where
+  pub no_short_cat : Nowhere is_short_cat t
+  pub no_loose_char : Nowhere is_loose_char t
+  pub no_loop_of_one : Nowhere is_loop_of_one t
+  pub no_empty_choice : Nowhere is_empty_choice t
+
+-- What a round of all passes does to a whole tree: nothing, and then the tree is in normal form, or it moves on by rules.
+abbrev pub IsRound : Tree → Tree → Result Bool Error → Type 0
+IsRound t u (Ok true) = Advances Forward t u
+IsRound t u (Ok false) = (u ≡ t) × IsSettled t
+IsRound t u (Err e) = Reaches Forward t u × (e ≡ OutOfMemory)

@@ -22,7 +22,12 @@ pub trait Pass {
     ///
     /// `in_lookbehind` tells whether the nearest lookaround above it is a lookbehind. It errs with `Error::OutOfMemory`
     /// alone, and then the node is as it was, or rewritten in part.
-    fn rewrite(&self, alloc: Global, in_lookbehind: bool, node: &mut Node) -> Result<PassAction, Error>
+    fn rewrite(
+        &self,
+        alloc: Global,
+        in_lookbehind: bool,
+        node: &mut Node,
+    ) -> Result<PassAction, Error>
         requires { HasLaws (tree node.old) }
         ensures { IsPassed (direction in_lookbehind) broken (tree node.old) (tree node.new) result };
 }
