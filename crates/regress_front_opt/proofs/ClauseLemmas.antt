@@ -59,12 +59,12 @@ meeting (a ∷ b ∷ rest) h = by_test (is_literal a && is_literal b) refl h (me
         let m = more k in
         record { before = a ∷ m.before; first = m.first; second = m.second; behind = m.behind; whole = ap (λ us. a ∷ us) m.whole }
 
-cat-list : (t : Tree) → is_cat t ≡ true → listed t ≡ t → (us : List Tree) × (t ≡ cat_of us)
+pub cat-list : (t : Tree) → is_cat t ≡ true → listed t ≡ t → (us : List Tree) × (t ≡ cat_of us)
 cat-list (cat a b) h p = (a ∷ parts b, sym p)
 cat-list no_part h p = ([], refl)
 cat-list _ h p = absurd (false≢true h)
 
-is-empty : (t : Tree) → is_empty t ≡ true → t ≡ empty
+pub is-empty : (t : Tree) → is_empty t ≡ true → t ≡ empty
 is-empty empty h = refl
 is-empty _ h = absurd (false≢true h)
 

@@ -10,3 +10,8 @@ pub mod PlaceLemmas
 pub mod ClauseLemmas
 pub mod NormalLemmas
 pub mod ListedNodes
+pub mod PassLemmas
+pub mod VisitLemmas
+pub mod NodeKinds
+pub mod TurnLemmas
+pub mod RoundLemmas

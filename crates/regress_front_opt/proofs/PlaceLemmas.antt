@@ -234,12 +234,12 @@ module _ (test : Tree → Bool) where
   abbrev Fails : Tree → Type 0
   Fails u = test u ≡ false
 
-  nowhere-parts : (ts : List Tree) → All (Nowhere test) ts → All Fails (nodes_below (cat_of ts))
+  pub nowhere-parts : (ts : List Tree) → All (Nowhere test) ts → All Fails (nodes_below (cat_of ts))
   nowhere-parts [] h = All-nil Fails
   nowhere-parts (t ∷ ts) h =
       All-append Fails (t ∷ nodes_below t) (nodes_below (cat_of ts)) (All-head (Nowhere test) t ts h) (nowhere-parts ts (All-tail (Nowhere test) t ts h))
 
-  nowhere-below : (t : Tree) → listed t ≡ t → All (Nowhere test) (right_below t) → All Fails (nodes_below t)
+  pub nowhere-below : (t : Tree) → listed t ≡ t → All (Nowhere test) (right_below t) → All Fails (nodes_below t)
   nowhere-below (cat a b) p h = subst (λ u. All Fails (nodes_below u)) p (nowhere-parts (a ∷ parts b) h)
   nowhere-below (alt a b) p h =
       All-append Fails (a ∷ nodes_below a) (b ∷ nodes_below b) (All-head (Nowhere test) a (b ∷ []) h) (All-head (Nowhere test) b [] (All-tail (Nowhere test) a (b ∷ []) h))

@@ -3,3 +3,4 @@ pub mod Rules
 pub mod Weight
 pub mod Kept
 pub mod Laws
+pub mod Passes

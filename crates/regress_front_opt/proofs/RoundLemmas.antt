@@ -1,0 +1,65 @@
+-- Rounds of all passes.
+use Rattle.std.proofs.Common.{◌≡◌, Bool, true, false, ◌||◌, List, [], ◌∷◌, Result, Ok, Err, All, subst, refl, sym}
+use Rattle.std.proofs.lemmas.Bool.{false≢true}
+use Rattle.std.proofs.lemmas.List.Elements.{All-weaker}
+use Rattle.regress_meaning.specs.Meaning.{Forward}
+use Rattle.regress_front_core.specs.declared.error.Error.{Error}
+use Rattle.regress_front_nodes.specs.Trees.{Tree}
+use Rattle.regress_front_opt.specs.NormalForm.{nodes_below, Nowhere, is_short_cat, is_loose_char, is_loop_of_one, is_empty_choice}
+use Rattle.regress_front_opt.specs.Rules.{Reaches, stays}
+use Rattle.regress_front_opt.specs.Passes.{Advances, IsVisited, IsRound, IsSettled}
+use Rattle.regress_front_opt.proofs.PassLemmas.{advances-reaches}
+
+pub round-changed : (t u : Tree) (changed : Bool) → changed ≡ true → IsRound t u (Ok changed) → Advances Forward t u
+round-changed t u true e h = h
+round-changed t u false e h = absurd (false≢true e)
+
+pub round-reaches : (t u : Tree) (changed : Bool) → IsRound t u (Ok changed) → Reaches Forward t u
+round-reaches t u true h = advances-reaches h
+round-reaches t u false h = subst (Reaches Forward t) (sym h.0) stays
+
+pub round-settled : (t u : Tree) (changed : Bool) → changed ≡ false → IsRound t u (Ok changed) → IsSettled u
+round-settled t u true e h = absurd (false≢true (sym e))
+round-settled t u false e h = subst IsSettled (sym h.0) h.1
+
+-- neither of two tests passes anywhere
+neither-first : (a b : Bool) → (a || b) ≡ false → a ≡ false
+neither-first false b e = refl
+neither-first true b e = absurd (false≢true (sym e))
+
+neither-second : (a b : Bool) → (a || b) ≡ false → b ≡ false
+neither-second false b e = e
+neither-second true b e = absurd (false≢true (sym e))
+
+nowhere-first : (p q : Tree → Bool) (t : Tree) → Nowhere (λ u. p u || q u) t → Nowhere p t
+nowhere-first p q t h = All-weaker (λ u. (p u || q u) ≡ false) (λ u. p u ≡ false) (λ u e. neither-first (p u) (q u) e) (t ∷ nodes_below t) h
+
+nowhere-second : (p q : Tree → Bool) (t : Tree) → Nowhere (λ u. p u || q u) t → Nowhere q t
+nowhere-second p q t h = All-weaker (λ u. (p u || q u) ≡ false) (λ u. q u ≡ false) (λ u e. neither-second (p u) (q u) e) (t ∷ nodes_below t) h
+
+-- what each of the passes tests
+abbrev from_choices : Tree → Bool
+from_choices t = is_empty_choice t || is_loop_of_one t
+
+abbrev from_cats : Tree → Bool
+from_cats t = is_short_cat t || from_choices t
+
+abbrev pub all_broken : Tree → Bool
+all_broken t = is_loose_char t || from_cats t
+
+nowhere-settled : (t : Tree) → Nowhere all_broken t → IsSettled t
+nowhere-settled t h =
+    let cats = nowhere-second is_loose_char from_cats t h in
+    let choices = nowhere-second is_short_cat from_choices t cats in
+    record {
+      no_short_cat = nowhere-first is_short_cat from_choices t cats;
+      no_loose_char = nowhere-first is_loose_char from_cats t h;
+      no_loop_of_one = nowhere-second is_empty_choice is_loop_of_one t choices;
+      no_empty_choice = nowhere-first is_empty_choice is_loop_of_one t choices;
+    }
+
+-- a walk of all passes is a round
+pub walk-round : (t u : Tree) (r : Result Bool Error) → IsVisited Forward all_broken t u r → IsRound t u r
+walk-round t u (Ok true) h = h
+walk-round t u (Ok false) h = (h.0, nowhere-settled t h.1)
+walk-round t u (Err e) h = h
