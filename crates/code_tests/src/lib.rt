@@ -2,4 +2,10 @@
 #![tactic(auto)]
 
 #[cfg(test)]
+mod nodes;
+#[cfg(test)]
 mod parsed;
+#[cfg(test)]
+mod readers;
+#[cfg(test)]
+mod told;

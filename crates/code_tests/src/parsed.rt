@@ -1,8 +1,9 @@
 //! Programs of patterns.
 
-use regress_engine_code::{CompiledRegex, Insn, emit, emit_units};
+use crate::told::is_told;
+use regress_engine_code::{CompiledRegex, emit, emit_units};
 use regress_front::{CodePoint, Error, Flags, Tables, are_code_points, try_parse};
-use std::alloc::{AllocError, Global};
+use std::alloc::Global;
 use std::test::Fail;
 
 /// Patterns, their flags, and their programs, which are the same in bytes and in units.
@@ -203,7 +204,7 @@ const STRINGS: &[(&str, &str, &str, &str)] = &[
 ];
 
 /// The program of a pattern, of units or else of bytes.
-fn program<'u>(
+pub(crate) fn program<'u>(
     alloc: Global,
     pattern: &str,
     flags: &str,
@@ -224,11 +225,6 @@ fn program<'u>(
     }
 }
 
-/// How instructions are printed.
-fn told(alloc: Global, insns: &[Insn]) -> Result<String, AllocError> {
-    Ok(format!(in alloc; "{insns:?}")?)
-}
-
 /// Fails where the program of a pattern is another.
 fn is_program(
     alloc: Global,
@@ -239,12 +235,7 @@ fn is_program(
 ) -> Result<(), Fail> {
     let tables = Tables::small(alloc)?;
     let program = program(alloc, pattern, flags, units, &tables)?;
-    let told = told(alloc, program.insns())?;
-    let expected = format!(in alloc; "[{expected}]")?;
-    if told.as_str() != expected.as_str() {
-        return Err(Fail::new(format!(in alloc; "at {pattern}: {told}")?));
-    }
-    Ok(())
+    is_told(alloc, program.insns(), expected)
 }
 
 #[test]
@@ -270,6 +261,17 @@ fn programs_of_strings(rt: HostRuntime) -> Result<(), Fail> {
     for (pattern, flags, bytes, units) in STRINGS {
         is_program(rt.alloc(), pattern, flags, false, bytes)?;
         is_program(rt.alloc(), pattern, flags, true, units)?;
+    }
+    Ok(())
+}
+
+#[test]
+fn long_patterns_have_programs(rt: HostRuntime) -> Result<(), Fail> {
+    let tables = Tables::small(rt.alloc())?;
+    let pattern = "a|".repeat(rt.alloc(), 50_000)?;
+    for units in [false, true] {
+        let program = program(rt.alloc(), pattern.as_str(), "", units, &tables)?;
+        assert!(rt; program.insns().len() == 150_001);
     }
     Ok(())
 }
