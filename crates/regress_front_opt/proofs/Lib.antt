@@ -15,3 +15,5 @@ pub mod VisitLemmas
 pub mod NodeKinds
 pub mod TurnLemmas
 pub mod RoundLemmas
+pub mod ShapeLemmas
+pub mod JoinLemmas

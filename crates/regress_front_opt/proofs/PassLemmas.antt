@@ -182,3 +182,9 @@ advances-lighter a l =
 -- memory is refused before a node is changed
 pub passed-refused : (dir : Direction) (broken : Tree → Bool) (t : Tree) (r : Result PassAction Error) (e : Error) → e ≡ OutOfMemory → IsErrAnd r (λ y. y ≡ e) → IsPassed dir broken t t r
 passed-refused dir broken t r e h w = let p = err_from_is_err_and r w in rw (p.1, p.2) (stays, h)
+
+pub passed-same : (dir : Direction) (broken : Tree → Bool) (t u : Tree) (r : Result PassAction Error) (e : Error) → u ≡ t → e ≡ OutOfMemory → IsErrAnd r (λ y. y ≡ e) → IsPassed dir broken t u r
+passed-same dir broken t u r e same h w = rw same (passed-refused dir broken t r e h w)
+
+pub passed-reached : (dir : Direction) (broken : Tree → Bool) (t u : Tree) (r : Result PassAction Error) (e : Error) → Reaches dir t u → e ≡ OutOfMemory → IsErrAnd r (λ y. y ≡ e) → IsPassed dir broken t u r
+passed-reached dir broken t u r e h k w = let p = err_from_is_err_and r w in rw (p.1, p.2) (h, k)

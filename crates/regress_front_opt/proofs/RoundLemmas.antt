@@ -5,7 +5,7 @@ use Rattle.std.proofs.lemmas.List.Elements.{All-weaker}
 use Rattle.regress_meaning.specs.Meaning.{Forward}
 use Rattle.regress_front_core.specs.declared.error.Error.{Error}
 use Rattle.regress_front_nodes.specs.Trees.{Tree}
-use Rattle.regress_front_opt.specs.NormalForm.{nodes_below, Nowhere, is_short_cat, is_loose_char, is_loop_of_one, is_empty_choice}
+use Rattle.regress_front_opt.specs.NormalForm.{nodes_below, Nowhere, is_short_cat, has_loose_part, has_split_literal, is_loose_char, is_loop_of_one, is_empty_choice, is_lost_cat}
 use Rattle.regress_front_opt.specs.Rules.{Reaches, stays}
 use Rattle.regress_front_opt.specs.Passes.{Advances, IsVisited, IsRound, IsSettled}
 use Rattle.regress_front_opt.proofs.PassLemmas.{advances-reaches}
@@ -37,25 +37,40 @@ nowhere-first p q t h = All-weaker (λ u. (p u || q u) ≡ false) (λ u. p u ≡
 nowhere-second : (p q : Tree → Bool) (t : Tree) → Nowhere (λ u. p u || q u) t → Nowhere q t
 nowhere-second p q t h = All-weaker (λ u. (p u || q u) ≡ false) (λ u. q u ≡ false) (λ u e. neither-second (p u) (q u) e) (t ∷ nodes_below t) h
 
--- what each of the passes tests
-abbrev from_choices : Tree → Bool
-from_choices t = is_empty_choice t || is_loop_of_one t
+-- what the passes test, as they are put together
+abbrev of_leaves : Tree → Bool
+of_leaves t = is_loose_char t || is_lost_cat t
 
-abbrev from_cats : Tree → Bool
-from_cats t = is_short_cat t || from_choices t
+abbrev of_parts : Tree → Bool
+of_parts t = has_split_literal t || is_short_cat t
+
+abbrev of_sequences : Tree → Bool
+of_sequences t = has_loose_part t || of_parts t
+
+abbrev of_others : Tree → Bool
+of_others t = is_empty_choice t || is_loop_of_one t
+
+abbrev of_kinds : Tree → Bool
+of_kinds t = of_sequences t || of_others t
 
 abbrev pub all_broken : Tree → Bool
-all_broken t = is_loose_char t || from_cats t
+all_broken t = of_leaves t || of_kinds t
 
 nowhere-settled : (t : Tree) → Nowhere all_broken t → IsSettled t
 nowhere-settled t h =
-    let cats = nowhere-second is_loose_char from_cats t h in
-    let choices = nowhere-second is_short_cat from_choices t cats in
+    let leaves = nowhere-first of_leaves of_kinds t h in
+    let kinds = nowhere-second of_leaves of_kinds t h in
+    let sequences = nowhere-first of_sequences of_others t kinds in
+    let others = nowhere-second of_sequences of_others t kinds in
+    let parts = nowhere-second has_loose_part of_parts t sequences in
     record {
-      no_short_cat = nowhere-first is_short_cat from_choices t cats;
-      no_loose_char = nowhere-first is_loose_char from_cats t h;
-      no_loop_of_one = nowhere-second is_empty_choice is_loop_of_one t choices;
-      no_empty_choice = nowhere-first is_empty_choice is_loop_of_one t choices;
+      no_short_cat = nowhere-second has_split_literal is_short_cat t parts;
+      no_loose_part = nowhere-first has_loose_part of_parts t sequences;
+      no_split_literal = nowhere-first has_split_literal is_short_cat t parts;
+      no_loose_char = nowhere-first is_loose_char is_lost_cat t leaves;
+      no_loop_of_one = nowhere-second is_empty_choice is_loop_of_one t others;
+      no_empty_choice = nowhere-first is_empty_choice is_loop_of_one t others;
+      no_lost_cat = nowhere-second is_loose_char is_lost_cat t leaves;
     }
 
 -- a walk of all passes is a round

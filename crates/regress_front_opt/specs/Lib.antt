@@ -3,4 +3,5 @@ pub mod Rules
 pub mod Weight
 pub mod Kept
 pub mod Laws
+pub mod Shapes
 pub mod Passes

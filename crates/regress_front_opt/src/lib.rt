@@ -6,6 +6,9 @@ mod action;
 mod cats;
 mod chaining;
 mod choices;
+mod failing;
+mod flattening;
+mod joining;
 mod laws;
 mod letters;
 mod passing;
@@ -17,6 +20,9 @@ pub use action::PassAction;
 pub use cats::ShortCats;
 pub use chaining::Then;
 pub use choices::EmptyChoices;
+pub use failing::LostCats;
+pub use flattening::FlattenedCats;
+pub use joining::JoinedLiterals;
 pub use laws::{
     broken_nodes_turn, normal_forms_are_reached, rules_are_right, rules_keep_the_rest,
     trees_nest_less_than_their_size, trees_of_nodes_are_listed, wholes_are_right,

@@ -8,6 +8,9 @@ ghost use Rattle.regress_front_opt.specs.Passes.{HasLaws, IsRound, IsSettled};
 use crate::cats::ShortCats;
 use crate::chaining::Then;
 use crate::choices::EmptyChoices;
+use crate::failing::LostCats;
+use crate::flattening::FlattenedCats;
+use crate::joining::JoinedLiterals;
 use crate::letters::SpelledChars;
 use crate::single_loops::SingleLoops;
 use crate::visiting::visit;
@@ -21,9 +24,10 @@ fn round(alloc: Global, node: &mut Node) -> Result<bool, Error>
     requires { HasLaws (tree node.old) }
     ensures { IsRound (tree node.old) (tree node.new) result }
 {
+    let sequences = Then(FlattenedCats, Then(JoinedLiterals, ShortCats));
     let passes = Then(
-        SpelledChars,
-        Then(ShortCats, Then(EmptyChoices, SingleLoops)),
+        Then(SpelledChars, LostCats),
+        Then(sequences, Then(EmptyChoices, SingleLoops)),
     );
     visit(&passes, alloc, false, node)
 }
