@@ -9,7 +9,7 @@ use Rattle.regress_front_nodes.specs.declared.node.Node.TheVariants as N
 use Rattle.regress_front_nodes.specs.Trees.{Tree, tree, node_tree, cat_of, cat}
 use Rattle.regress_front_nodes.specs.Forms.{is_cat, parts}
 use Rattle.regress_front_nodes.proofs.KindLemmas.{by_kind}
-use Rattle.regress_front_opt.specs.NormalForm.{is_empty_choice, is_loose_char, is_loop_of_one, is_literal, has_split_literal}
+use Rattle.regress_front_rules.specs.NormalForm.{is_empty_choice, is_loose_char, is_loop_of_one, is_literal, has_split_literal}
 
 no-choice-cat_of : (ts : List Tree) → is_empty_choice (cat_of ts) ≡ false
 no-choice-cat_of [] = refl

@@ -5,8 +5,8 @@ use Rattle.std.proofs.lemmas.List.Elements.{All-weaker}
 use Rattle.regress_meaning.specs.Meaning.{Forward}
 use Rattle.regress_front_core.specs.declared.error.Error.{Error}
 use Rattle.regress_front_nodes.specs.Trees.{Tree}
-use Rattle.regress_front_opt.specs.NormalForm.{nodes_below, Nowhere, is_short_cat, has_loose_part, has_split_literal, is_loose_char, is_loop_of_one, is_empty_choice, is_lost_cat}
-use Rattle.regress_front_opt.specs.Rules.{Reaches, stays}
+use Rattle.regress_front_rules.specs.NormalForm.{nodes_below, Nowhere, is_short_cat, has_loose_part, has_split_literal, is_loose_char, is_loop_of_one, is_empty_choice, is_lost_cat}
+use Rattle.regress_front_rules.specs.Rules.{Reaches, stays}
 use Rattle.regress_front_opt.specs.Passes.{Advances, IsVisited, IsRound, IsSettled}
 use Rattle.regress_front_opt.proofs.PassLemmas.{advances-reaches}
 

@@ -7,8 +7,8 @@ use Rattle.regress_front_nodes.specs.Trees.{Tree, tree, empty, cat_of}
 use Rattle.regress_front_nodes.specs.WellFormed.{AreLawful}
 use Rattle.regress_front_opt.specs.declared.action.PassAction.{PassAction}
 use Rattle.regress_front_opt.specs.declared.action.PassAction.TheVariants.{Keep, Modified, Remove, Replace}
-use Rattle.regress_front_opt.specs.NormalForm.{nodes_below, Nowhere, is_short_cat, has_loose_part, has_split_literal, is_loose_char, is_loop_of_one, is_empty_choice, is_lost_cat}
-use Rattle.regress_front_opt.specs.Rules.{Rewrites, Reaches}
+use Rattle.regress_front_rules.specs.NormalForm.{nodes_below, Nowhere, is_short_cat, has_loose_part, has_split_literal, is_loose_char, is_loop_of_one, is_empty_choice, is_lost_cat}
+use Rattle.regress_front_rules.specs.Rules.{Rewrites, Reaches}
 
 -- it is lawful, as a part of a tree of some number of groups
 abbrev pub HasLaws : Tree → Type 0

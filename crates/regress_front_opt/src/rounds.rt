@@ -2,7 +2,7 @@
 ghost use Rattle.std.specs.Prelude.{◌≡◌, ℕ, OnOk, IfErr};
 ghost use Rattle.regress_front_nodes.specs.Trees.{tree};
 ghost use Rattle.regress_front_nodes.specs.WellFormed.{IsWellFormed};
-ghost use Rattle.regress_front_opt.specs.Laws.{IsRewritten};
+ghost use Rattle.regress_front_rules.specs.Laws.{IsRewritten};
 ghost use Rattle.regress_front_opt.specs.Passes.{HasLaws, IsRound, IsSettled};
 
 use crate::cats::ShortCats;
