@@ -4,4 +4,5 @@ pub mod NodeKinds
 pub mod TurnLemmas
 pub mod ShapeLemmas
 pub mod JoinLemmas
+pub mod UnrollLemmas
 pub mod RoundLemmas

@@ -12,6 +12,8 @@ mod letters;
 mod passing;
 mod rounds;
 mod single_loops;
+mod sizes;
+mod unrolling;
 mod visiting;
 
 pub use action::PassAction;
@@ -25,4 +27,5 @@ pub use letters::SpelledChars;
 pub use passing::Pass;
 pub use rounds::optimize;
 pub use single_loops::SingleLoops;
+pub use unrolling::UnrolledLoops;
 pub use visiting::visit;
