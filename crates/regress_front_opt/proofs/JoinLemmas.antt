@@ -8,12 +8,12 @@ use Rattle.regress_front_nodes.specs.Trees.{Tree, tree, bytes, cat, cat_of}
 use Rattle.regress_front_nodes.specs.TreeMeaning.{direction}
 use Rattle.regress_front_nodes.specs.Forms.{parts}
 use Rattle.regress_front_nodes.proofs.NodeLemmas.{parts-cat_of, map-reverse}
-use Rattle.regress_front_opt.specs.NormalForm.{is_literal, literals_meet, has_split_literal}
-use Rattle.regress_front_opt.specs.Rules as rules
-use Rattle.regress_front_opt.specs.Rules.{Reaches, stays, and_then, joined}
+use Rattle.regress_front_rules.specs.NormalForm.{is_literal, literals_meet, has_split_literal}
+use Rattle.regress_front_rules.specs.Rules as rules
+use Rattle.regress_front_rules.specs.Rules.{Reaches, stays, and_then, joined}
 use Rattle.regress_front_opt.specs.Shapes.{Joins, as_they_are, joined_more}
 use Rattle.regress_front_opt.specs.Passes.{Advances}
-use Rattle.regress_front_opt.proofs.KeepLemmas.{reaches-then, turned-once}
+use Rattle.regress_front_rules.proofs.KeepLemmas.{reaches-then, turned-once}
 
 -- ---- what joins is reached by rules
 

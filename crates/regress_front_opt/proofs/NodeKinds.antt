@@ -9,7 +9,7 @@ use Rattle.regress_front_nodes.specs.declared.node.Node.TheVariants as N
 use Rattle.regress_front_nodes.specs.Trees.{Tree, tree, node_tree, cat_of, cat}
 use Rattle.regress_front_nodes.specs.Forms.{is_cat, parts}
 use Rattle.regress_front_nodes.proofs.KindLemmas.{by_kind}
-use Rattle.regress_front_opt.specs.NormalForm.{is_empty_choice, is_loose_char, is_loop_of_one, is_literal, has_split_literal}
+use Rattle.regress_front_rules.specs.NormalForm.{is_empty_choice, is_loose_char, is_loop_of_one, is_unrollable, is_literal, has_split_literal}
 
 no-choice-cat_of : (ts : List Tree) → is_empty_choice (cat_of ts) ≡ false
 no-choice-cat_of [] = refl
@@ -88,3 +88,18 @@ no-literal = by_kind (λ n. ((bs : Vec ℕ Global) → n ≡ N.ByteSequence bs �
 pub no_cat-split : (t : Tree) → is_cat t ≡ false → has_split_literal t ≡ false
 no_cat-split (cat a b) h = absurd (false≢true (sym h))
 no_cat-split _ h = refl
+
+no-short-loop-cat_of : (ts : List Tree) → is_unrollable (cat_of ts) ≡ false
+no-short-loop-cat_of [] = refl
+no-short-loop-cat_of (t ∷ ts) = refl
+
+-- no `Loop` to be unrolled
+pub no-short-loop : (n : Node) → ((loopee : Box Node Global) (quant : Quantifier) (groups : Range ℕ) → n ≡ N.Loop loopee quant groups → ⊥) → is_unrollable (tree n) ≡ false
+no-short-loop = by_kind (λ n. ((loopee : Box Node Global) (quant : Quantifier) (groups : Range ℕ) → n ≡ N.Loop loopee quant groups → ⊥) → is_unrollable (tree n) ≡ false) kinds
+  where
+    kinds : (m : Node-F Node) → let n = roll-Node m in ((loopee : Box Node Global) (quant : Quantifier) (groups : Range ℕ) → n ≡ N.Loop loopee quant groups → ⊥) → is_unrollable (tree n) ≡ false
+    kinds (Node-F.Loop loopee quant groups) h = absurd (h loopee quant groups (N.rolls-Loop loopee quant groups))
+    kinds (Node-F.Cat parts) h = rw (fold-roll-Node Tree node_tree (Node-F.Cat parts)) (no-short-loop-cat_of (map tree parts.items))
+    kinds (Node-F.Anchor StartOfLine multiline) h = rw (fold-roll-Node Tree node_tree (Node-F.Anchor StartOfLine multiline)) refl
+    kinds (Node-F.Anchor EndOfLine multiline) h = rw (fold-roll-Node Tree node_tree (Node-F.Anchor EndOfLine multiline)) refl
+    kinds x h = rw (fold-roll-Node Tree node_tree x) refl

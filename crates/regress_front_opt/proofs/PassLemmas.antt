@@ -10,13 +10,13 @@ use Rattle.regress_front_nodes.specs.declared.node.Node.{Node}
 use Rattle.regress_front_nodes.specs.Trees.{Tree, tree, cat_of, alt, capture, look, loop, single_loop}
 use Rattle.regress_front_nodes.specs.WellFormed.{AreLawful}
 use Rattle.regress_front_nodes.specs.TreeMeaning.{direction}
-use Rattle.regress_front_opt.specs.NormalForm.{nodes_below, Nowhere}
-use Rattle.regress_front_opt.specs.Rules.{Turns, Rewrites, there, in_part, in_first, in_second, in_capture, in_look, in_loop, in_single_loop, Reaches, stays, and_then}
+use Rattle.regress_front_rules.specs.NormalForm.{nodes_below, Nowhere}
+use Rattle.regress_front_rules.specs.Rules.{Turns, Rewrites, there, in_part, in_first, in_second, in_capture, in_look, in_loop, in_single_loop, Reaches, stays, and_then}
 use Rattle.regress_front_opt.specs.declared.action.PassAction.{PassAction}
 use Rattle.regress_front_opt.specs.Passes.{HasLaws, Advances, IsPassed, IsVisited, IsVisitedHere, IsVisitedBelow, AreVisited}
-use Rattle.regress_front_opt.proofs.KeepLemmas.{reaches-then, reaches-in, reaches-keeps, reaches-weight, rewrites-turned}
-use Rattle.regress_front_opt.specs.Weight.{weight}
-use Rattle.regress_front_opt.proofs.PlaceLemmas.{nowhere-parts}
+use Rattle.regress_front_rules.proofs.KeepLemmas.{reaches-then, reaches-in, reaches-keeps, reaches-weight, rewrites-turned}
+use Rattle.regress_front_rules.specs.Weight.{weight}
+use Rattle.regress_front_rules.proofs.PlaceLemmas.{nowhere-parts}
 
 -- ---- rules, at least one
 

@@ -5,9 +5,9 @@ use Rattle.std.proofs.lemmas.List.Elements.{All-weaker}
 use Rattle.regress_meaning.specs.Meaning.{Forward}
 use Rattle.regress_front_core.specs.declared.error.Error.{Error}
 use Rattle.regress_front_nodes.specs.Trees.{Tree}
-use Rattle.regress_front_opt.specs.NormalForm.{nodes_below, Nowhere, is_short_cat, has_loose_part, has_split_literal, is_loose_char, is_loop_of_one, is_empty_choice, is_lost_cat}
-use Rattle.regress_front_opt.specs.Rules.{Reaches, stays}
-use Rattle.regress_front_opt.specs.Passes.{Advances, IsVisited, IsRound, IsSettled}
+use Rattle.regress_front_rules.specs.NormalForm.{nodes_below, Nowhere, is_short_cat, has_loose_part, has_split_literal, is_loose_char, is_loop_of_one, is_empty_choice, is_unrollable, is_lost_cat, IsNormal}
+use Rattle.regress_front_rules.specs.Rules.{Reaches, stays}
+use Rattle.regress_front_opt.specs.Passes.{Advances, IsVisited, IsRound}
 use Rattle.regress_front_opt.proofs.PassLemmas.{advances-reaches}
 
 pub round-changed : (t u : Tree) (changed : Bool) → changed ≡ true → IsRound t u (Ok changed) → Advances Forward t u
@@ -18,9 +18,9 @@ pub round-reaches : (t u : Tree) (changed : Bool) → IsRound t u (Ok changed) �
 round-reaches t u true h = advances-reaches h
 round-reaches t u false h = subst (Reaches Forward t) (sym h.0) stays
 
-pub round-settled : (t u : Tree) (changed : Bool) → changed ≡ false → IsRound t u (Ok changed) → IsSettled u
-round-settled t u true e h = absurd (false≢true (sym e))
-round-settled t u false e h = subst IsSettled (sym h.0) h.1
+pub round-normal : (t u : Tree) (changed : Bool) → changed ≡ false → IsRound t u (Ok changed) → IsNormal u
+round-normal t u true e h = absurd (false≢true (sym e))
+round-normal t u false e h = subst IsNormal (sym h.0) h.1
 
 -- neither of two tests passes anywhere
 neither-first : (a b : Bool) → (a || b) ≡ false → a ≡ false
@@ -38,8 +38,11 @@ nowhere-second : (p q : Tree → Bool) (t : Tree) → Nowhere (λ u. p u || q u)
 nowhere-second p q t h = All-weaker (λ u. (p u || q u) ≡ false) (λ u. q u ≡ false) (λ u e. neither-second (p u) (q u) e) (t ∷ nodes_below t) h
 
 -- what the passes test, as they are put together
+abbrev of_lost : Tree → Bool
+of_lost t = is_lost_cat t || is_unrollable t
+
 abbrev of_leaves : Tree → Bool
-of_leaves t = is_loose_char t || is_lost_cat t
+of_leaves t = is_loose_char t || of_lost t
 
 abbrev of_parts : Tree → Bool
 of_parts t = has_split_literal t || is_short_cat t
@@ -56,9 +59,10 @@ of_kinds t = of_sequences t || of_others t
 abbrev pub all_broken : Tree → Bool
 all_broken t = of_leaves t || of_kinds t
 
-nowhere-settled : (t : Tree) → Nowhere all_broken t → IsSettled t
-nowhere-settled t h =
+nowhere-normal : (t : Tree) → Nowhere all_broken t → IsNormal t
+nowhere-normal t h =
     let leaves = nowhere-first of_leaves of_kinds t h in
+    let lost = nowhere-second is_loose_char of_lost t leaves in
     let kinds = nowhere-second of_leaves of_kinds t h in
     let sequences = nowhere-first of_sequences of_others t kinds in
     let others = nowhere-second of_sequences of_others t kinds in
@@ -67,14 +71,15 @@ nowhere-settled t h =
       no_short_cat = nowhere-second has_split_literal is_short_cat t parts;
       no_loose_part = nowhere-first has_loose_part of_parts t sequences;
       no_split_literal = nowhere-first has_split_literal is_short_cat t parts;
-      no_loose_char = nowhere-first is_loose_char is_lost_cat t leaves;
+      no_loose_char = nowhere-first is_loose_char of_lost t leaves;
+      no_unrollable_loop = nowhere-second is_lost_cat is_unrollable t lost;
       no_loop_of_one = nowhere-second is_empty_choice is_loop_of_one t others;
       no_empty_choice = nowhere-first is_empty_choice is_loop_of_one t others;
-      no_lost_cat = nowhere-second is_loose_char is_lost_cat t leaves;
+      no_lost_cat = nowhere-first is_lost_cat is_unrollable t lost;
     }
 
 -- a walk of all passes is a round
 pub walk-round : (t u : Tree) (r : Result Bool Error) → IsVisited Forward all_broken t u r → IsRound t u r
 walk-round t u (Ok true) h = h
-walk-round t u (Ok false) h = (h.0, nowhere-settled t h.1)
+walk-round t u (Ok false) h = (h.0, nowhere-normal t h.1)
 walk-round t u (Err e) h = h

@@ -13,16 +13,16 @@ use Rattle.regress_front_nodes.specs.Forms.{is_empty, is_cat, parts}
 use Rattle.regress_front_nodes.specs.Singles.{always_fails}
 use Rattle.regress_front_nodes.specs.WellFormed.{group_ids, goals}
 use Rattle.regress_front_nodes.proofs.NodeLemmas.{parts-cat_of, is_cat-cat_of}
-use Rattle.regress_front_opt.specs.NormalForm.{is_lost_cat, has_no_group, has_loose_part}
-use Rattle.regress_front_opt.specs.Rules as rules
-use Rattle.regress_front_opt.specs.Rules.{Reaches, stays}
+use Rattle.regress_front_rules.specs.NormalForm.{is_lost_cat, has_no_group, has_loose_part}
+use Rattle.regress_front_rules.specs.Rules as rules
+use Rattle.regress_front_rules.specs.Rules.{Reaches, stays}
 use Rattle.regress_front_opt.specs.Shapes.{is_loose, flattened, room_of, room_of_all, is_plain}
 use Rattle.regress_front_opt.specs.Passes.{Advances}
-use Rattle.regress_front_opt.specs.Laws.{listed}
+use Rattle.regress_front_rules.specs.Laws.{listed}
 use Rattle.regress_front_opt.proofs.PassLemmas.{turned-advances, advances-then, advances-reaches}
-use Rattle.regress_front_opt.proofs.KeepLemmas.{reaches-then}
-use Rattle.regress_front_opt.proofs.PlaceLemmas.{node-listed}
-use Rattle.regress_front_opt.proofs.ClauseLemmas.{is-empty, cat-list}
+use Rattle.regress_front_rules.proofs.KeepLemmas.{reaches-then}
+use Rattle.regress_front_rules.proofs.PlaceLemmas.{node-listed}
+use Rattle.regress_front_rules.proofs.ClauseLemmas.{is-empty, cat-list}
 
 -- ---- some, and all
 

@@ -9,11 +9,11 @@ use Rattle.regress_meaning.specs.Meaning.{Direction}
 use Rattle.regress_front_nodes.specs.Trees.{Tree, tree, cat_of, empty, char, bytes, alt, loop, single_loop}
 use Rattle.regress_front_nodes.specs.Forms.{is_empty, is_cat, parts}
 use Rattle.regress_front_nodes.proofs.NodeLemmas.{parts-cat_of, is_cat-cat_of}
-use Rattle.regress_front_opt.specs.NormalForm.{is_empty_choice, is_short_cat}
-use Rattle.regress_front_opt.specs.Rules as rules
+use Rattle.regress_front_rules.specs.NormalForm.{is_empty_choice, is_short_cat}
+use Rattle.regress_front_rules.specs.Rules as rules
 use Rattle.regress_front_opt.specs.Passes.{Advances}
 use Rattle.regress_front_opt.proofs.PassLemmas.{turned-advances}
-use Rattle.regress_front_opt.proofs.ClauseLemmas.{is-empty}
+use Rattle.regress_front_rules.proofs.ClauseLemmas.{is-empty}
 
 pub choice-advances : (dir : Direction) (t : Tree) → is_empty_choice t ≡ true → Advances dir t empty
 choice-advances dir (alt a b) h =

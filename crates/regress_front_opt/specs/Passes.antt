@@ -7,8 +7,8 @@ use Rattle.regress_front_nodes.specs.Trees.{Tree, tree, empty, cat_of}
 use Rattle.regress_front_nodes.specs.WellFormed.{AreLawful}
 use Rattle.regress_front_opt.specs.declared.action.PassAction.{PassAction}
 use Rattle.regress_front_opt.specs.declared.action.PassAction.TheVariants.{Keep, Modified, Remove, Replace}
-use Rattle.regress_front_opt.specs.NormalForm.{nodes_below, Nowhere, is_short_cat, has_loose_part, has_split_literal, is_loose_char, is_loop_of_one, is_empty_choice, is_lost_cat}
-use Rattle.regress_front_opt.specs.Rules.{Rewrites, Reaches}
+use Rattle.regress_front_rules.specs.NormalForm.{nodes_below, Nowhere, IsNormal}
+use Rattle.regress_front_rules.specs.Rules.{Rewrites, Reaches}
 
 -- it is lawful, as a part of a tree of some number of groups
 abbrev pub HasLaws : Tree → Type 0
@@ -52,18 +52,8 @@ abbrev pub AreVisited : Direction → (Tree → Bool) → (ts us first : List Tr
 AreVisited dir broken ts us first true = Advances dir (cat_of ts) (cat_of us)
 AreVisited dir broken ts us first false = (us ≡ ts) × All (Nowhere broken) first
 
--- The tree is in the normal form that the passes reach.
-pub record IsSettled (t : Tree) : Type 0 where
-  pub no_short_cat : Nowhere is_short_cat t
-  pub no_loose_part : Nowhere has_loose_part t
-  pub no_split_literal : Nowhere has_split_literal t
-  pub no_loose_char : Nowhere is_loose_char t
-  pub no_loop_of_one : Nowhere is_loop_of_one t
-  pub no_empty_choice : Nowhere is_empty_choice t
-  pub no_lost_cat : Nowhere is_lost_cat t
-
 -- What a round of all passes does to a whole tree: nothing, and then the tree is in normal form, or it moves on by rules.
 abbrev pub IsRound : Tree → Tree → Result Bool Error → Type 0
 IsRound t u (Ok true) = Advances Forward t u
-IsRound t u (Ok false) = (u ≡ t) × IsSettled t
+IsRound t u (Ok false) = (u ≡ t) × IsNormal t
 IsRound t u (Err e) = Reaches Forward t u × (e ≡ OutOfMemory)

@@ -1,7 +1,8 @@
 -- What passes look at and make of the parts of a `Cat`.
-use Rattle.std.specs.Prelude.{ℕ, ◌+◌, Bool, true, false, ◌&&◌, ◌||◌, List, [], ◌∷◌, ◌++◌, length, if◌then◌else◌}
+use Rattle.std.specs.Prelude.{◌≡◌, ℕ, ◌≤◌, ◌+◌, Bool, true, false, ◌&&◌, ◌||◌, List, [], ◌∷◌, ◌++◌, length, if◌then◌else◌}
 use Rattle.regress_front_nodes.specs.Trees.{Tree, goal, cat, alt, capture, look, loop, single_loop, bytes}
-use Rattle.regress_front_nodes.specs.Forms.{is_empty, is_cat, parts}
+use Rattle.regress_front_nodes.specs.Forms.{is_empty, is_cat, parts, nesting, deepest_copy}
+use Rattle.regress_front_nodes.specs.WellFormed.{group_ids}
 
 -- it is a `Cat` or `Empty`
 abbrev pub is_loose : Tree → Bool
@@ -31,6 +32,20 @@ is_plain (look negated backward first last a) = is_plain a
 is_plain (loop a first last least most greedy) = is_plain a
 is_plain (single_loop a least most greedy) = is_plain a
 is_plain _ = true
+
+-- It holds neither a capture group nor a `Loop`.
+abbrev pub is_flat : Tree → Bool
+is_flat (cat a b) = is_flat a && is_flat b
+is_flat (alt a b) = is_flat a && is_flat b
+is_flat (capture k name a) = false
+is_flat (look negated backward first last a) = is_flat a
+is_flat (loop a first last least most greedy) = false
+is_flat (single_loop a least most greedy) = is_flat a
+is_flat _ = true
+
+-- it holds no capture group, and is not nested too deep for a copy
+abbrev pub MayBeUnrolled : Tree → Type 0
+MayBeUnrolled t = (group_ids t ≡ []) × (nesting t ≤ deepest_copy)
 
 -- Literals that stand side by side are joined, in the order of the text, or none is.
 pub data Joins (ts : List Tree) : List Tree → Type 0 where

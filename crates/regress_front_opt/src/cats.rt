@@ -1,7 +1,7 @@
 //! Sequences of few parts.
 ghost use Rattle.std.specs.Prelude.{◌≡◌};
 ghost use Rattle.regress_front_nodes.specs.Trees.{tree};
-ghost use Rattle.regress_front_opt.specs.NormalForm.{is_short_cat};
+ghost use Rattle.regress_front_rules.specs.NormalForm.{is_short_cat};
 
 use crate::action::PassAction;
 use crate::passing::Pass;

@@ -1,7 +1,7 @@
 //! Choices between nothing and nothing.
 ghost use Rattle.std.specs.Prelude.{◌≡◌};
 ghost use Rattle.regress_front_nodes.specs.Trees.{tree};
-ghost use Rattle.regress_front_opt.specs.NormalForm.{is_empty_choice};
+ghost use Rattle.regress_front_rules.specs.NormalForm.{is_empty_choice};
 
 use crate::action::PassAction;
 use crate::passing::Pass;

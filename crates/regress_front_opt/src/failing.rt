@@ -3,7 +3,7 @@ ghost use Rattle.std.specs.Prelude.{◌≡◌, map, ◌&&◌};
 ghost use Rattle.std.specs.List.{list_any, list_all};
 ghost use Rattle.regress_front_nodes.specs.Trees.{tree};
 ghost use Rattle.regress_front_nodes.specs.Singles.{always_fails};
-ghost use Rattle.regress_front_opt.specs.NormalForm.{is_lost_cat};
+ghost use Rattle.regress_front_rules.specs.NormalForm.{is_lost_cat};
 ghost use Rattle.regress_front_opt.specs.Shapes.{is_plain};
 
 use crate::action::PassAction;

@@ -4,7 +4,7 @@ ghost use Rattle.std.specs.Vec.{vec_capacity};
 ghost use Rattle.std.specs.List.{list_any};
 ghost use Rattle.regress_meaning.specs.Tokens.{greatest};
 ghost use Rattle.regress_front_nodes.specs.Trees.{tree};
-ghost use Rattle.regress_front_opt.specs.NormalForm.{has_loose_part};
+ghost use Rattle.regress_front_rules.specs.NormalForm.{has_loose_part};
 ghost use Rattle.regress_front_opt.specs.Shapes.{is_loose, flattened, room_of, room_of_all};
 
 use crate::action::PassAction;

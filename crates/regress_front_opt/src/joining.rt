@@ -3,8 +3,8 @@ ghost use Rattle.std.specs.Prelude.{◌≡◌, ◌+◌, ◌++◌, ◌<◌, ◌�
 ghost use Rattle.std.specs.Vec.{vec_capacity};
 ghost use Rattle.regress_front_nodes.specs.Trees.{tree, cat_of};
 ghost use Rattle.regress_front_nodes.specs.TreeMeaning.{direction};
-ghost use Rattle.regress_front_opt.specs.NormalForm.{has_split_literal, is_literal, literals_meet};
-ghost use Rattle.regress_front_opt.specs.Rules.{Reaches};
+ghost use Rattle.regress_front_rules.specs.NormalForm.{has_split_literal, is_literal, literals_meet};
+ghost use Rattle.regress_front_rules.specs.Rules.{Reaches};
 ghost use Rattle.regress_front_opt.specs.Shapes.{Joins};
 
 use crate::action::PassAction;

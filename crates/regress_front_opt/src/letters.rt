@@ -2,7 +2,7 @@
 ghost use Rattle.std.specs.Prelude.{◌≡◌, false, encode_utf8, IfOk, IfErr, MatchOption};
 ghost use Rattle.regress_meaning.specs.TableParts.{is_surrogate};
 ghost use Rattle.regress_front_nodes.specs.Trees.{tree, char};
-ghost use Rattle.regress_front_opt.specs.NormalForm.{is_loose_char};
+ghost use Rattle.regress_front_rules.specs.NormalForm.{is_loose_char};
 ghost use Rattle.regress_front_opt.specs.Passes.{HasLaws};
 
 use crate::action::PassAction;

@@ -2,8 +2,9 @@
 ghost use Rattle.std.specs.Prelude.{◌≡◌, ℕ, OnOk, IfErr};
 ghost use Rattle.regress_front_nodes.specs.Trees.{tree};
 ghost use Rattle.regress_front_nodes.specs.WellFormed.{IsWellFormed};
-ghost use Rattle.regress_front_opt.specs.Laws.{IsRewritten};
-ghost use Rattle.regress_front_opt.specs.Passes.{HasLaws, IsRound, IsSettled};
+ghost use Rattle.regress_front_rules.specs.Laws.{IsRewritten};
+ghost use Rattle.regress_front_rules.specs.NormalForm.{IsNormal};
+ghost use Rattle.regress_front_opt.specs.Passes.{HasLaws, IsRound};
 
 use crate::cats::ShortCats;
 use crate::chaining::Then;
@@ -13,6 +14,7 @@ use crate::flattening::FlattenedCats;
 use crate::joining::JoinedLiterals;
 use crate::letters::SpelledChars;
 use crate::single_loops::SingleLoops;
+use crate::unrolling::UnrolledLoops;
 use crate::visiting::visit;
 use regress_front_nodes::Node;
 use regress_front_nodes::ir::Regex;
@@ -26,7 +28,7 @@ fn round(alloc: Global, node: &mut Node) -> Result<bool, Error>
 {
     let sequences = Then(FlattenedCats, Then(JoinedLiterals, ShortCats));
     let passes = Then(
-        Then(SpelledChars, LostCats),
+        Then(SpelledChars, Then(LostCats, UnrolledLoops)),
         Then(sequences, Then(EmptyChoices, SingleLoops)),
     );
     visit(&passes, alloc, false, node)
@@ -44,7 +46,7 @@ fn round(alloc: Global, node: &mut Node) -> Result<bool, Error>
 pub fn optimize(alloc: Global, regex: &mut Regex) -> Result<(), Error>
     requires { (n : ℕ) × IsWellFormed n (tree regex.old.node) }
     ensures rewritten { (n : ℕ) → IsWellFormed n (tree regex.old.node) → IsRewritten n (tree regex.old.node) (tree regex.new.node) }
-    ensures normal { OnOk result (IsSettled (tree regex.new.node)) }
+    ensures normal { OnOk result (IsNormal (tree regex.new.node)) }
     ensures kept { (regex.new.flags ≡ regex.old.flags) × (regex.new.group_names ≡ regex.old.group_names) × (regex.new.tables ≡ regex.old.tables) }
     ensures refused { IfErr result (λ e. e ≡ Error.OutOfMemory) }
 {

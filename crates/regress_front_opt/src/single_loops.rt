@@ -1,7 +1,7 @@
 //! Repetitions of what matches exactly one character.
 ghost use Rattle.std.specs.Prelude.{◌≡◌};
 ghost use Rattle.regress_front_nodes.specs.Trees.{tree};
-ghost use Rattle.regress_front_opt.specs.NormalForm.{is_loop_of_one};
+ghost use Rattle.regress_front_rules.specs.NormalForm.{is_loop_of_one};
 
 use crate::action::PassAction;
 use crate::passing::Pass;

@@ -3,7 +3,7 @@ use Rattle.std.proofs.lemmas.List.{map-append}
 use Rattle.regress_front_nodes.specs.declared.node.Node.TheVariants as N
 use Rattle.regress_front_nodes.specs.Trees.{tree, bytes}
 use Rattle.regress_front_nodes.proofs.TreeLaws.{tree-ByteSequence}
-use Rattle.regress_front_opt.specs.NormalForm.{is_literal, literals_meet}
+use Rattle.regress_front_rules.specs.NormalForm.{is_literal, literals_meet}
 use Rattle.regress_front_opt.proofs.NodeKinds.{no-literal}
 use Rattle.regress_front_opt.proofs.JoinLemmas.{two-pushed, joins-same, joins-one, meet-same, meet-apart, and-false}
 use Rattle.regress_front_opt.proofs.joining.add_both.Goals as goal

@@ -2,7 +2,7 @@ use Rattle.std.proofs.Common.{sym, ap, map, ◌∙◌}
 use Rattle.regress_front_nodes.specs.Trees.{tree}
 use Rattle.regress_front_nodes.proofs.NodeLemmas.{parts-cat_of}
 use Rattle.regress_front_nodes.proofs.TreeLaws.{tree-Cat}
-use Rattle.regress_front_opt.specs.NormalForm.{literals_meet}
+use Rattle.regress_front_rules.specs.NormalForm.{literals_meet}
 use Rattle.regress_front_opt.proofs.NodeKinds.{no-cat, no_cat-split}
 use Rattle.regress_front_opt.proofs.joining.has_split.Goals as goal
 

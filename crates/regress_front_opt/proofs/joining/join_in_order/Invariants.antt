@@ -1,7 +1,7 @@
 use Rattle.std.proofs.Common.{◌≡◌, ◌+◌, ◌++◌, ◌≤◌, false, map, drop, length, vec_len}
 use Rattle.std.specs.Vec.{vec_capacity}
 use Rattle.regress_front_nodes.specs.Trees.{tree}
-use Rattle.regress_front_opt.specs.NormalForm.{literals_meet}
+use Rattle.regress_front_rules.specs.NormalForm.{literals_meet}
 use Rattle.regress_front_opt.specs.Shapes.{Joins}
 use Rattle.regress_front_opt.proofs.joining.join_in_order.Given as goal
 

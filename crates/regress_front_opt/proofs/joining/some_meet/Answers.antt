@@ -1,7 +1,7 @@
 use Rattle.std.proofs.Common.{◌≡◌, true, false, ◌&&◌, refl, sym, ap, ◌∙◌}
 use Rattle.std.proofs.lemmas.Bool.{and_parts}
 use Rattle.regress_front_nodes.specs.Trees.{tree}
-use Rattle.regress_front_opt.specs.NormalForm.{is_literal}
+use Rattle.regress_front_rules.specs.NormalForm.{is_literal}
 use Rattle.regress_front_opt.proofs.JoinLemmas.{meet-found, meet-more, ends-more}
 use Rattle.regress_front_opt.proofs.joining.some_meet.Goals as goal
 

@@ -1,6 +1,6 @@
 use Rattle.std.proofs.Common.{◌≡◌, false, map, take}
 use Rattle.regress_front_nodes.specs.Trees.{tree}
-use Rattle.regress_front_opt.specs.NormalForm.{literals_meet}
+use Rattle.regress_front_rules.specs.NormalForm.{literals_meet}
 use Rattle.regress_front_opt.proofs.JoinLemmas.{ends_literal}
 use Rattle.regress_front_opt.proofs.joining.some_meet.Given as goal
 

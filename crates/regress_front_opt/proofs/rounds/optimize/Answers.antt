@@ -1,9 +1,9 @@
 use Rattle.std.proofs.Common.{refl}
 use Rattle.regress_meaning.specs.Meaning.{Forward}
 use Rattle.regress_front_nodes.specs.Trees.{tree}
-use Rattle.regress_front_opt.specs.Rules.{stays}
-use Rattle.regress_front_opt.proofs.KeepLemmas.{reaches-then}
-use Rattle.regress_front_opt.proofs.RewriteLemmas.{wholes-right}
+use Rattle.regress_front_rules.specs.Rules.{stays}
+use Rattle.regress_front_rules.proofs.KeepLemmas.{reaches-then}
+use Rattle.regress_front_rules.proofs.RewriteLemmas.{wholes-right}
 use Rattle.regress_front_opt.proofs.PassLemmas.{advances-lighter, reaches-laws}
 use Rattle.regress_front_opt.proofs.RoundLemmas.{round-changed, round-reaches}
 use Rattle.regress_front_opt.proofs.rounds.optimize.Goals as goal

@@ -1,8 +1,8 @@
 use Rattle.std.proofs.Common.{◌≡◌}
 use Rattle.regress_meaning.specs.Meaning.{Forward}
 use Rattle.regress_front_nodes.specs.Trees.{tree}
-use Rattle.regress_front_opt.specs.Rules.{Reaches}
-use Rattle.regress_front_opt.specs.Weight.{weight}
+use Rattle.regress_front_rules.specs.Rules.{Reaches}
+use Rattle.regress_front_rules.specs.Weight.{weight}
 use Rattle.regress_front_opt.proofs.rounds.optimize.Given as goal
 
 -- each round rewrites the tree, and keeps all else

@@ -9,8 +9,8 @@ use Rattle.regress_front_nodes.specs.Trees.{tree, cat_of, alt}
 use Rattle.regress_front_nodes.specs.Forms.{nesting}
 use Rattle.regress_front_nodes.specs.TreeMeaning.{direction}
 use Rattle.regress_front_nodes.proofs.ChangeLemmas.{nesting-part, nesting-arm}
-use Rattle.regress_front_opt.specs.Rules.{stays, in_first, in_second}
-use Rattle.regress_front_opt.proofs.KeepLemmas.{reaches-then, reaches-in}
+use Rattle.regress_front_rules.specs.Rules.{stays, in_first, in_second}
+use Rattle.regress_front_rules.proofs.KeepLemmas.{reaches-then, reaches-in}
 use Rattle.regress_front_opt.proofs.PassLemmas.{visited-both, below-reaches, visited-reaches, reaches-laws, refused, refused-below, below-Alt, below-Cat, alt-laws, part-reaches, parts-reach-so-far, parts-more, part-laws}
 use Rattle.regress_front_opt.proofs.VisitLemmas.{visited-Cat, visited-Alt, visited-CaptureGroup, visited-Loop, visited-Loop1CharBody, visited-LookaroundAssertion}
 use Rattle.regress_front_opt.proofs.visiting.+visit.Goals as goal

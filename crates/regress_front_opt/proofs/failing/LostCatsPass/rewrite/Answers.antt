@@ -1,6 +1,6 @@
 use Rattle.std.proofs.Common.{sym, ◌∙◌}
 use Rattle.regress_front_nodes.specs.Trees.{tree}
-use Rattle.regress_front_opt.proofs.PlaceLemmas.{node-listed}
+use Rattle.regress_front_rules.proofs.PlaceLemmas.{node-listed}
 use Rattle.regress_front_opt.proofs.ShapeLemmas.{lost-advances}
 use Rattle.regress_front_opt.proofs.failing.LostCatsPass.rewrite.Goals as goal
 

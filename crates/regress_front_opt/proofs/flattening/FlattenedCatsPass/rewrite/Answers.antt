@@ -5,7 +5,7 @@ use Rattle.regress_front_nodes.specs.Trees.{tree, cat_of}
 use Rattle.regress_front_nodes.specs.TreeMeaning.{direction}
 use Rattle.regress_front_nodes.proofs.TreeLaws.{tree-Cat}
 use Rattle.regress_front_nodes.proofs.NodeLemmas.{parts-cat_of}
-use Rattle.regress_front_opt.specs.NormalForm.{has_loose_part}
+use Rattle.regress_front_rules.specs.NormalForm.{has_loose_part}
 use Rattle.regress_front_opt.specs.Shapes.{is_loose}
 use Rattle.regress_front_opt.proofs.NodeKinds.{no-cat}
 use Rattle.regress_front_opt.proofs.PassLemmas.{passed-same}

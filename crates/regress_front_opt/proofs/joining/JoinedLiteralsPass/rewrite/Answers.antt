@@ -4,7 +4,7 @@ use Rattle.regress_front_nodes.specs.Trees.{tree, cat_of}
 use Rattle.regress_front_nodes.specs.TreeMeaning.{direction}
 use Rattle.regress_front_nodes.proofs.TreeLaws.{tree-Cat}
 use Rattle.regress_front_nodes.proofs.NodeLemmas.{parts-cat_of}
-use Rattle.regress_front_opt.specs.NormalForm.{has_split_literal, literals_meet}
+use Rattle.regress_front_rules.specs.NormalForm.{has_split_literal, literals_meet}
 use Rattle.regress_front_opt.proofs.NodeKinds.{no-cat, no_cat-split}
 use Rattle.regress_front_opt.proofs.PassLemmas.{passed-reached}
 use Rattle.regress_front_opt.proofs.JoinLemmas.{joined-advances}

@@ -1,7 +1,7 @@
 use Rattle.std.proofs.Common.{sym, ap}
 use Rattle.regress_front_nodes.specs.Trees.{tree, bytes}
 use Rattle.regress_front_nodes.specs.TreeMeaning.{direction}
-use Rattle.regress_front_opt.specs.NormalForm.{is_loose_char}
+use Rattle.regress_front_rules.specs.NormalForm.{is_loose_char}
 use Rattle.regress_front_nodes.proofs.TreeLaws.{tree-ByteSequence}
 use Rattle.regress_front_opt.proofs.PassLemmas.{passed-refused}
 use Rattle.regress_front_opt.proofs.TurnLemmas.{letter-advances}

@@ -3,7 +3,7 @@ use Rattle.std.proofs.lemmas.Bool.{false≢true}
 use Rattle.regress_front_core.specs.Quantifiers.{most}
 use Rattle.regress_front_nodes.specs.Trees.{tree}
 use Rattle.regress_front_nodes.proofs.TreeLaws.{tree-Loop, tree-Loop1CharBody}
-use Rattle.regress_front_opt.specs.NormalForm.{is_loop_of_one}
+use Rattle.regress_front_rules.specs.NormalForm.{is_loop_of_one}
 use Rattle.regress_front_opt.proofs.NodeKinds.{no-loop}
 use Rattle.regress_front_opt.proofs.TurnLemmas.{loop-advances}
 use Rattle.regress_front_opt.proofs.single_loops.SingleLoopsPass.rewrite.Goals as goal
