@@ -4,12 +4,11 @@ use Rattle.std.specs.Prelude.{nat_le, slice_get}
 use Rattle.std.proofs.Common.{◌≡◌, ◌⊎◌, inl, inr, ℕ, zero, suc, ◌+◌, ◌-◌, ◌<◌, ◌≤◌, ◌==◌, ◌&&◌, Bool, true, false, List, [], ◌∷◌, ◌++◌, length, take, drop, Option, Some, None, if◌then◌else◌, get_or, option_map, option_and_then, refl, sym, ap, ap₂, ◌∙◌, arith, length-drop, length-take}
 use Rattle.std.proofs.lemmas.Option.{slice_get_within, get_or_from_slice_get, slice_get-get_or}
 use Rattle.std.proofs.lemmas.List.{drop_more, take_more, get_or-drop}
-use Rattle.std.proofs.lemmas.Bool.{cases_lt}
+use Rattle.std.proofs.lemmas.Bool.{cases_lt, le-leb, lt-leb, eq-eqb, ne_eqb}
 use Rattle.regress_meaning.specs.Offsets.{Reading, offset}
 use Rattle.regress_meaning.specs.Inputs.{Input, Tells, point_told}
 use Rattle.regress_meaning.specs.Steps.{copied}
 use Rattle.regress_meaning.specs.Meaning.{Direction, Forward, Backward, same}
-use Rattle.regress_engine_runs.proofs.Loops.{le-true, le-false, eq-same, eq-apart}
 
 -- one more at the front of a part
 part-front : (xs : List ℕ) (p j c : ℕ) → slice_get xs p ≡ Some c → take (suc j) (drop p xs) ≡ c ∷ take j (drop (suc p) xs)
@@ -87,7 +86,7 @@ module _ (input : Input) (reading : Reading) (tells : Tells reading input) (icas
   offsets-apart : (p q : ℕ) → p < q → q ≤ size → ((offset reading p == offset reading q) ≡ false) × ((offset reading q == offset reading p) ≡ false)
   offsets-apart p q less room =
       let h = tells.rise p q less room in
-      (eq-apart (offset reading p) (offset reading q) (λ e. absurd (omega (arith, e, h))), eq-apart (offset reading q) (offset reading p) (λ e. absurd (omega (arith, e, h))))
+      (ne_eqb (offset reading p) (offset reading q) (λ e. absurd (omega (arith, e, h))), ne_eqb (offset reading q) (offset reading p) (λ e. absurd (omega (arith, e, h))))
 
   pub forward_copied : (j f a p : ℕ) → a + j ≤ size → p ≤ size → j ≤ f
       → copied input f Forward icase (offset reading a) (offset reading (a + j)) (offset reading p)
@@ -95,8 +94,8 @@ module _ (input : Input) (reading : Reading) (tells : Tells reading input) (icas
   forward_copied zero f a p room here fuel =
       let e : a ≡ a + 0 = omega arith in
       let g : p ≡ p + 0 = omega arith in
-      copied-end input icase f Forward (offset reading a) (offset reading (a + 0)) (offset reading p) (eq-same (offset reading a) (offset reading (a + 0)) (ap (offset reading) e))
-      ∙ ap (λ q. Some (offset reading q)) g ∙ ap (λ b. if b then Some (offset reading (p + 0)) else None) (sym (ap (λ b. b && true) (le-true (p + 0) size (omega (arith, here)))))
+      copied-end input icase f Forward (offset reading a) (offset reading (a + 0)) (offset reading p) (eq-eqb (offset reading a) (offset reading (a + 0)) (ap (offset reading) e))
+      ∙ ap (λ q. Some (offset reading q)) g ∙ ap (λ b. if b then Some (offset reading (p + 0)) else None) (sym (ap (λ b. b && true) (le-leb (p + 0) size (omega (arith, here)))))
   forward_copied (suc j) zero a p room here fuel = absurd (omega arith)
   forward_copied (suc j) (suc f) a p room here fuel =
       let c : ℕ = get_or reading.points a 0 in
@@ -122,7 +121,7 @@ module _ (input : Input) (reading : Reading) (tells : Tells reading input) (icas
           tells.next Forward p here ∙ ap (λ (o : Option ℕ). option_map (point_told reading) (option_map (λ c. (c, suc p)) o)) e in
           ap (one_copied input icase f Forward to (Some (c, offset reading (suc a)))) told
           ∙ ap (λ b. if b && pointwise like (part a (suc j)) (part p (suc j)) then Some (offset reading (p + suc j)) else None)
-          (sym (le-false (p + suc j) size (omega (arith, past))))
+          (sym (lt-leb (p + suc j) size (omega (arith, past))))
       by_point (Some d) e c own rest =
           let less : p < size = slice_get_within reading.points p d e in
           let told : input.next Forward (offset reading p) ≡ Some (d, offset reading (suc p)) =
@@ -144,8 +143,8 @@ module _ (input : Input) (reading : Reading) (tells : Tells reading input) (icas
   backward_copied zero f b p low room here fuel =
       let e : b ≡ b - 0 = omega arith in
       let g : p ≡ p - 0 = omega arith in
-      copied-end input icase f Backward (offset reading b) (offset reading (b - 0)) (offset reading p) (eq-same (offset reading b) (offset reading (b - 0)) (ap (offset reading) e))
-      ∙ ap (λ q. Some (offset reading q)) g ∙ ap (λ c. if c then Some (offset reading (p - 0)) else None) (sym (ap (λ c. c && true) (le-true 0 p (omega arith))))
+      copied-end input icase f Backward (offset reading b) (offset reading (b - 0)) (offset reading p) (eq-eqb (offset reading b) (offset reading (b - 0)) (ap (offset reading) e))
+      ∙ ap (λ q. Some (offset reading q)) g ∙ ap (λ c. if c then Some (offset reading (p - 0)) else None) (sym (ap (λ c. c && true) (le-leb 0 p (omega arith))))
   backward_copied (suc j) zero b p low room here fuel = absurd (omega arith)
   backward_copied (suc j) (suc f) zero p low room here fuel = absurd (omega arith)
   backward_copied (suc j) (suc f) (suc b) p low room here fuel =
@@ -171,9 +170,9 @@ module _ (input : Input) (reading : Reading) (tells : Tells reading input) (icas
           ≡ (if nat_le (suc j) (suc p) && pointwise like (part (b - j) (suc j)) (part (p - j) (suc j)) then Some (offset reading (p - j)) else None)
       by_room p (inl less) here c d own theirs rest =
           let none : copied input f Backward icase (offset reading b) (offset reading (b - j)) (offset reading p) ≡ None =
-          rest ∙ ap (λ x. if x && pointwise like (part (b - j) j) (part (p - j) j) then Some (offset reading (p - j)) else None) (le-false j p less) in
+          rest ∙ ap (λ x. if x && pointwise like (part (b - j) j) (part (p - j) j) then Some (offset reading (p - j)) else None) (lt-leb j p less) in
           ap (λ (x : Option ℕ). if like c d then x else None) none ∙ none-either (like c d)
-          ∙ ap (λ x. if x && pointwise like (part (b - j) (suc j)) (part (p - j) (suc j)) then Some (offset reading (p - j)) else None) (sym (le-false (suc j) (suc p) (omega arith)))
+          ∙ ap (λ x. if x && pointwise like (part (b - j) (suc j)) (part (p - j) (suc j)) then Some (offset reading (p - j)) else None) (sym (lt-leb (suc j) (suc p) (omega arith)))
       by_room p (inr more) here c d own theirs rest =
           let at_b : (b - j) + j ≡ b = omega (arith, low) in
           let at_p : (p - j) + j ≡ p = omega (arith, more) in
@@ -183,7 +182,7 @@ module _ (input : Input) (reading : Reading) (tells : Tells reading input) (icas
           part-size b (omega (arith, low)) (omega (arith, room)) ∙ sym (part-size p more (omega (arith, here))) in
           chosen (like c d) (nat_le j p) (pointwise like (part (b - j) j) (part (p - j) j))
           (copied input f Backward icase (offset reading b) (offset reading (b - j)) (offset reading p)) (Some (offset reading (p - j))) rest
-          ∙ ap₂ (λ x y. if x && y then Some (offset reading (p - j)) else None) (le-true j p more ∙ sym (le-true (suc j) (suc p) (omega (arith, more))))
+          ∙ ap₂ (λ x y. if x && y then Some (offset reading (p - j)) else None) (le-leb j p more ∙ sym (le-leb (suc j) (suc p) (omega (arith, more))))
           (sym (pointwise-end like (part (b - j) j) (part (p - j) j) c d sizes) ∙ ap₂ (pointwise like) (sym last) (sym last'))
 
       by_place : (p : ℕ) → p ≤ size → (c : ℕ) → slice_get reading.points b ≡ Some c
@@ -194,7 +193,7 @@ module _ (input : Input) (reading : Reading) (tells : Tells reading input) (icas
       by_place zero here c own rest =
           ap (one_copied input icase f Backward to (Some (c, offset reading b))) (tells.next Backward 0 here)
           ∙ ap (λ b'. if b' && pointwise like (part (suc b - suc j) (suc j)) (part (0 - suc j) (suc j)) then Some (offset reading (0 - suc j)) else None)
-          (sym (le-false (suc j) 0 (omega arith)))
+          (sym (lt-leb (suc j) 0 (omega arith)))
       by_place (suc p) here c own rest =
           let d : ℕ = get_or reading.points p 0 in
           let theirs : slice_get reading.points p ≡ Some d = slice_get-get_or reading.points p 0 (omega (arith, here)) in
