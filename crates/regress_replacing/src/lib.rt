@@ -3,5 +3,7 @@
 #![tactic(auto)]
 
 mod escaping;
+mod replacement;
 
 pub use escaping::escape;
+pub use replacement::Replacement;
