@@ -1,1 +1,3 @@
 pub mod IterationLemmas
+pub mod RisingLemmas
+pub mod ReplacingLemmas

@@ -5,6 +5,7 @@
 
 mod api;
 mod matches;
+mod replacing;
 mod text;
 
 pub use api::{Regex, is_start};
@@ -13,3 +14,4 @@ pub use regress_front::{
     Error, Flags, TableError, TableLaw, TableParts, Tables, are_code_points, flags_are_read_back,
 };
 pub use regress_match::{Groups, Match, Range};
+pub use regress_replacing::escape;
