@@ -1,6 +1,8 @@
 -- A text is written with others in the place of its matches, one match after another.
-use Rattle.std.proofs.Common.{◌≡◌, ℕ, ◌≤◌, List, [], ◌∷◌, ◌++◌, drop, take, map, Option, Some, None, Result, Ok, Err, slice_range, refl, sym, ap, subst, ◌∙◌, append_assoc, arith}
+use Rattle.std.proofs.Common.{◌≡◌, ℕ, ◌≤◌, List, [], ◌∷◌, ◌++◌, drop, take, map, Option, Some, None, option_map, Result, Ok, Err, slice_range, inl, inr, refl, sym, ap, subst, ◌∙◌, append_assoc}
 use Rattle.std.proofs.lemmas.Str.{IsCharBoundary-start}
+use Rattle.std.specs.Option.{option_to_list}
+use Rattle.std.specs.Prelude.{slice_get}
 use Rattle.std.specs.Str.{IsUtf8, IsCharBoundary}
 use Rattle.regress_meaning.specs.Laws.{ItemsRise}
 use Rattle.regress_meaning.specs.Matches.{Item}
@@ -12,6 +14,7 @@ use Rattle.regress_match.specs.Iterating.{GivesFirst}
 use Rattle.regress_match.specs.TextRanges.{LiesInText, IsMatchIn}
 use Rattle.regress_replacing.specs.Replacing.{replaced_from, replaced}
 use Rattle.regress.specs.declared.matches.Matches.{Matches}
+use Rattle.regress.specs.Answering.{Answering, AnswersTo, AnswersText, AnswersEach, RefusesOne}
 use Rattle.regress.specs.Coming.{searched, sought_names, coming}
 use Rattle.regress.proofs.IterationLemmas.{gives_next}
 use Rattle.regress.proofs.RisingLemmas.{LieBehind, behind-front}
@@ -78,3 +81,59 @@ module _ (text : List ℕ) (new_text : Item → List ℕ) where
 
   pub finished-end : (written : List ℕ) (at : ℕ) (left : List Item) → left ≡ [] → written ++ drop at text ≡ finished written at left
   finished-end written at left none = rw (none, replaced-end text at) refl
+
+-- ---- the first match alone
+
+-- the first of the items is what was found
+pub first-is : (tell : Item → Item) (items : List Item) (found : Option Match) → option_map item_of found ≡ option_map tell (slice_get items 0)
+    → take 1 (map tell items) ≡ option_to_list (option_map item_of found)
+first-is tell [] found same = rw same refl
+first-is tell (i ∷ items) found same = rw same refl
+
+-- a text with one item replaced
+pub replaced-one : (text : List ℕ) (i : Item) (new : List ℕ) → (slice_range text 0 i.start ++ new) ++ drop i.end text ≡ replaced text (i ∷ []) (new ∷ [])
+replaced-one text i new = rw (replaced-more text 0 i [] new [], replaced-end text i.end) refl
+
+pub replaced-none : (text : List ℕ) → text ≡ replaced text [] []
+replaced-none text = rw (replaced-end text 0) refl
+
+-- ---- the texts that a closure answers
+
+module _ {E : Type 0} (Answers : Answering E) (names : List (List ℕ)) where
+  -- what is written, and what the texts for the items that are left make of the rest of the text
+  abbrev pub WrittenBy : List ℕ → List Item → List ℕ → ℕ → List Item → Type 0
+  WrittenBy text items written at left = (rest : List (List ℕ)) → AnswersEach Answers names left rest
+      → (news : List (List ℕ)) × AnswersEach Answers names items news × (written ++ replaced_from text at left rest ≡ replaced text items news)
+
+  pub written-more : (text : List ℕ) (items : List Item) (written : List ℕ) (at : ℕ) (i : Item) (before after : List Item) (new : List ℕ)
+      → WrittenBy text items written at before → before ≡ i ∷ after → AnswersText Answers names i new
+      → WrittenBy text items ((written ++ slice_range text at i.start) ++ new) i.end after
+  written-more text items written at i before after new earlier first answered = λ rest answers.
+      let at_first : WrittenBy text items written at (i ∷ after) = subst (λ (left : List Item). WrittenBy text items written at left) first earlier in
+      let (news, each, same) = at_first (new ∷ rest) (answered, answers) in
+      let together : ((written ++ slice_range text at i.start) ++ new) ++ replaced_from text i.end after rest
+      ≡ written ++ (slice_range text at i.start ++ new ++ replaced_from text i.end after rest) = simp append_assoc in
+      (news, each, together ∙ rw (replaced-more text at i after new rest) at same)
+
+  pub written-end : (text : List ℕ) (items : List Item) (written : List ℕ) (at : ℕ) (left : List Item) → WrittenBy text items written at left → left ≡ []
+      → (news : List (List ℕ)) × AnswersEach Answers names items news × (written ++ drop at text ≡ replaced text items news)
+  written-end text items written at left earlier none =
+      let at_none : WrittenBy text items written at [] = subst (λ (l : List Item). WrittenBy text items written at l) none earlier in
+      let (news, each, same) = at_none [] tt in
+      (news, each, ap (λ (rest : List ℕ). written ++ rest) (sym (replaced-end text at)) ∙ same)
+
+  -- what the closure refuses of the items that are left, it refuses of all
+  abbrev pub RefusesOf : List Item → List Item → Type 0
+  RefusesOf items left = (e : E) → RefusesOne Answers names left e → RefusesOne Answers names items e
+
+  pub refuses-more : (items : List Item) (i : Item) (before after : List Item) (new : List ℕ) → RefusesOf items before → before ≡ i ∷ after
+      → AnswersText Answers names i new → RefusesOf items after
+  refuses-more items i before after new earlier first answered = λ e refused.
+      let at_first : RefusesOf items (i ∷ after) = subst (λ (left : List Item). RefusesOf items left) first earlier in
+      at_first e (inr ((new, answered), refused))
+
+  pub refuses-here : (items : List Item) (i : Item) (before after : List Item) (e : E) → RefusesOf items before → before ≡ i ∷ after
+      → AnswersTo Answers names i (Err e) → RefusesOne Answers names items e
+  refuses-here items i before after e earlier first refused =
+      let at_first : RefusesOf items (i ∷ after) = subst (λ (left : List Item). RefusesOf items left) first earlier in
+      at_first e (inl refused)

@@ -1,10 +1,10 @@
 -- The items that an iterator has still to give lie one behind the other.
-use Rattle.std.proofs.Common.{◌≡◌, ℕ, ◌<◌, ◌≤◌, List, [], ◌∷◌, length, map, Option, Some, None, All, Result, Ok, Err, IfOk, arith}
+use Rattle.std.proofs.Common.{◌≡◌, ℕ, ◌≤◌, List, [], ◌∷◌, length, map, Option, Some, None, All, Result, Ok, Err, IfOk, arith}
 use Rattle.std.proofs.lemmas.List.Elements.{All-head, All-tail}
 use Rattle.std.proofs.lemmas.Str.{len_utf8_bounds}
 use Rattle.regress_meaning.specs.Laws.{IsItemInside, ItemsRise, OffsetsRise}
 use Rattle.regress_meaning.specs.Matches.{Item}
-use Rattle.regress_meaning.specs.Offsets.{Reading, offset, told}
+use Rattle.regress_meaning.specs.Offsets.{Reading, told}
 use Rattle.regress_meaning.proofs.OffsetLemmas.{rise}
 use Rattle.regress_front_core.specs.declared.error.Error.{Error}
 use Rattle.regress_front.specs.Trees.{tree}

@@ -1,13 +1,13 @@
-use Rattle.std.proofs.Common.{◌≡◌, ℕ, List, [], ◌++◌, map, chars, slice_range, string_bytes, refl, ap, ◌∙◌, rules, arith}
+use Rattle.std.proofs.Common.{◌≡◌, ◌++◌, map, chars, slice_range, string_bytes, refl, ap, ◌∙◌, arith}
 use Rattle.std.proofs.lemmas.Grind.{common_steps}
-use Rattle.regress_meaning.specs.Matches.{Item, match_list}
+use Rattle.regress_meaning.specs.Matches.{match_list}
 use Rattle.regress_meaning.specs.Offsets.{of_utf8, told}
 use Rattle.regress_match.specs.GroupNames.{shared_names}
 use Rattle.regress_match.specs.Views.{item_of}
 use Rattle.regress_replacing.specs.Replacing.{expansion}
 use Rattle.regress_replacing.specs.Views.{source_of}
 use Rattle.regress.specs.Coming.{coming}
-use Rattle.regress.proofs.ReplacingLemmas.{IsGiven, behind-start, given-one, given-none, finished, finished-more, finished-end}
+use Rattle.regress.proofs.ReplacingLemmas.{IsGiven, behind-start, given-one, given-none, finished-more, finished-end}
 use Rattle.regress.proofs.api.Regex.replace_all.Goals as goal
 
 pub loop-found-init : goal.loop-found-init
