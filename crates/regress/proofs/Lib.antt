@@ -1,3 +1,4 @@
 pub mod IterationLemmas
 pub mod RisingLemmas
 pub mod ReplacingLemmas
+pub mod LawLemmas
