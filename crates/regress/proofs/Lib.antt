@@ -2,3 +2,4 @@ pub mod IterationLemmas
 pub mod RisingLemmas
 pub mod ReplacingLemmas
 pub mod LawLemmas
+pub mod AskingLemmas

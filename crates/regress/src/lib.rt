@@ -4,6 +4,7 @@
 #![tactic(auto)]
 
 mod api;
+mod asking;
 mod laws;
 mod matches;
 mod replacing;
