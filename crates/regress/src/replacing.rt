@@ -47,9 +47,9 @@ impl<'u> Regex<'u> {
             written.push_str(text)?;
             return Ok(written);
         };
-        let read = Replacement::new(self.alloc, replacement)?;
+        let once = Replacement::new(self.alloc, replacement)?;
         written.push_str(&text[..found.start()])?;
-        read.write(&found, text, &mut written)?;
+        once.write(&found, text, &mut written)?;
         written.push_str(&text[found.end()..])?;
         Ok(written)
     }
@@ -108,8 +108,8 @@ impl<'u> Regex<'u> {
             append(&mut written, text, "")?;
             return Ok(written);
         };
-        let new = with(&found)?;
-        append(&mut written, &text[..found.start()], new.as_str())?;
+        let answer = with(&found)?;
+        append(&mut written, &text[..found.start()], answer.as_str())?;
         append(&mut written, &text[found.end()..], "")?;
         Ok(written)
     }

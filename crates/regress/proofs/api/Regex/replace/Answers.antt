@@ -24,7 +24,7 @@ returns-clause-replaced c = λ t o p stands.
     let front : string_bytes c.push_str-2.new.self ≡ slice_range text 0 m.range.start =
     rw (c.in_ok-push_str-2.ensures.bytes, c.new-written.ensures.bytes, c.range.ensures.value, c.start.ensures) refl in
     let both : string_bytes c.write.new.written ≡ slice_range text 0 m.range.start ++ new =
-    rw (c.in_ok-write.ensures.added, front, called, c.in_ok-read.ensures.read) refl in
+    rw (c.in_ok-write.ensures.added, front, called, c.in_ok-once.ensures.read) refl in
     let all : string_bytes c.push_str-3.new.self ≡ (slice_range text 0 m.range.start ++ new) ++ drop m.range.end text =
     rw (c.in_ok-push_str-3.ensures.bytes, both, c.range_from.ensures.value, c.end.ensures) refl in
     all ∙ rw first (replaced-one text (item_of m) new)

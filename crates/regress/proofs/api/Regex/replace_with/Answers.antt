@@ -12,15 +12,15 @@ returns-in_default-clause-replaced g c = λ t o p stands.
     let first = rw c.in_default.is at (first-is (told (of_utf8 text)) (match_list t o p (chars text) 0) c.in_ok-found.field-0 (c.in_ok-found.ensures.found t o p stands)) in
     rw first ([], tt, rw (c.in_ok-append.ensures.added, c.new-written.ensures.bytes, append-nil) (replaced-none text))
 
-pub returns-in_err-new-clause-refused : goal.returns-in_err-new-clause-refused
-returns-in_err-new-clause-refused g c = λ t o p stands.
+pub returns-in_err-answer-clause-refused : goal.returns-in_err-answer-clause-refused
+returns-in_err-answer-clause-refused g c = λ t o p stands.
     let text = c.args.text.now in
     let m = c.in-Some.found in
     let found = rw c.in-Some.is at c.in_ok-found.ensures.found t o p stands in
     let called = rw c.in-Some.is at c.in_ok-found.ensures.named in
     let first = first-is (told (of_utf8 text)) (match_list t o p (chars text) 0) (Some m) found in
-    let answered = err_from_is_err_and c.from_residual-in_err-new.result c.from_residual-in_err-new.ensures.1 in
-    rw (answered.1, answered.2, first) (inr (inl record { found = m; item = refl; named = called; answers = (_, c.in_err-new.ensures, refl) }))
+    let answered = err_from_is_err_and c.from_residual-in_err-answer.result c.from_residual-in_err-answer.ensures.1 in
+    rw (answered.1, answered.2, first) (inr (inl record { found = m; item = refl; named = called; answers = (_, c.in_err-answer.ensures, refl) }))
 
 pub returns-clause-replaced : goal.returns-clause-replaced
 returns-clause-replaced g c = λ t o p stands.
@@ -29,13 +29,13 @@ returns-clause-replaced g c = λ t o p stands.
     let found = rw c.in-Some.is at c.in_ok-found.ensures.found t o p stands in
     let called = rw c.in-Some.is at c.in_ok-found.ensures.named in
     let first = first-is (told (of_utf8 text)) (match_list t o p (chars text) 0) (Some m) found in
-    let new = string_bytes c.in_ok-new.new in
+    let new = string_bytes c.in_ok-answer.answer in
     let front : string_bytes c.append-2.new.written ≡ slice_range text 0 m.range.start ++ new =
     rw (c.in_ok-append-2.ensures.added, c.new-written.ensures.bytes, c.range.ensures.value, c.start.ensures, c.as_str.ensures.value) refl in
     let all : string_bytes c.append-3.new.written ≡ (slice_range text 0 m.range.start ++ new) ++ drop m.range.end text =
     rw (c.in_ok-append-3.ensures.added, front, c.range_from.ensures.value, c.end.ensures, append-nil) refl in
     rw first (
       new ∷ [],
-      ((c.in_ok-new.new, record { found = m; item = refl; named = called; answers = (_, c.in_ok-new.ensures, refl) }, refl), tt),
+      ((c.in_ok-answer.answer, record { found = m; item = refl; named = called; answers = (_, c.in_ok-answer.ensures, refl) }, refl), tt),
       all ∙ replaced-one text (item_of m) new,
     )
