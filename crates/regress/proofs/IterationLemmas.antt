@@ -93,7 +93,7 @@ starts-given bytes utf8 names before after (Some (Ok m)) first = starts-inside b
 starts-given bytes utf8 names before after (Some (Err e)) first = tt
 
 -- what a step of the iterator is
-abbrev gives_next : Matches → Option (Result Match Error) → Matches → Type 0
+abbrev pub gives_next : Matches → Option (Result Match Error) → Matches → Type 0
 gives_next old r new = (searched new ≡ searched old) × (sought_names new ≡ sought_names old)
     × GivesMatch coming HasEnded (IsMatchIn (searched old) (sought_names old)) old r new
 

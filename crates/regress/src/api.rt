@@ -7,6 +7,7 @@ ghost use Rattle.regress_meaning.specs.Flags.{Options, no_flags};
 ghost use Rattle.regress_meaning.specs.Grammar.{Spells};
 ghost use Rattle.regress_meaning.specs.Limits.{WithinLimits};
 ghost use Rattle.regress_meaning.specs.Matches.{match_list};
+ghost use Rattle.regress_meaning.specs.Laws.{ItemsRise};
 ghost use Rattle.regress_meaning.specs.Offsets.{of_utf8, told, Begins};
 ghost use Rattle.regress_front.specs.TableViews.{table};
 ghost use Rattle.regress_match.specs.Views.{item_of};
@@ -146,6 +147,7 @@ impl<'u> Regex<'u> {
         ensures along { IfOk result (HoldsAfterAnyCalls (λ ms. searched ms ≡ text.now) ⟦<Matches<'r, 't> as Iterator>⟧.next_gives) }
         ensures inside { IfOk result (HoldsOfEach ⟦<Matches<'r, 't> as Iterator>⟧.next_gives (LiesInText text.now)) }
         ensures starts { IfOk result (HoldsOfEach ⟦<Matches<'r, 't> as Iterator>⟧.next_gives (BeginsAndEndsAtStarts text.now)) }
+        ensures rise { IfOk result (λ ms. ItemsRise (coming ms)) }
         ensures named { IfOk result (λ ms. sought_names ms ≡ shared_names self.now.group_names) }
         ensures refused { IsOkUnless result Error.OutOfMemory }
     {
@@ -173,6 +175,7 @@ impl<'u> Regex<'u> {
         ensures along { IfOk result (HoldsAfterAnyCalls (λ ms. searched ms ≡ text.now) ⟦<Matches<'r, 't> as Iterator>⟧.next_gives) }
         ensures inside { IfOk result (HoldsOfEach ⟦<Matches<'r, 't> as Iterator>⟧.next_gives (LiesInText text.now)) }
         ensures starts { IfOk result (HoldsOfEach ⟦<Matches<'r, 't> as Iterator>⟧.next_gives (BeginsAndEndsAtStarts text.now)) }
+        ensures rise { IfOk result (λ ms. ItemsRise (coming ms)) }
         ensures named { IfOk result (λ ms. sought_names ms ≡ shared_names self.now.group_names) }
         ensures refused { IsOkUnless result Error.OutOfMemory }
     {
