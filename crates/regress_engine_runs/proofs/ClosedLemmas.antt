@@ -81,16 +81,16 @@ module _ (program : Program) where
 
   -- of a literal, of a piece, of a string
   literal-fits : (b : Bool) (bs : List ℕ) → All AlwaysFits (literal_code program b bs)
-  literal-fits b bs = by_units program.units
+  literal-fits b bs = by_units program.units refl
     where
-      by_units : (u : Bool) → All AlwaysFits (in_reading_order b (if u then map code.char (chars bs) else map code.byte_seq (chunks (length bs) bs)))
-      by_units true =
+      by_units : (u : Bool) → program.units ≡ u → All AlwaysFits (in_reading_order b (if u then map code.char (chars bs) else map code.byte_seq (chunks (length bs) bs)))
+      by_units true units =
           subst (All AlwaysFits) (in_reading_order-map code.char b (chars bs))
           (All-map AlwaysFits code.char (in_reading_order b (chars bs)) (all_of (λ c. AlwaysFits (code.char c)) (λ c at. tt) (in_reading_order b (chars bs))))
-      by_units false =
+      by_units false units =
           subst (All AlwaysFits) (in_reading_order-map code.byte_seq b (chunks (length bs) bs))
           (All-map AlwaysFits code.byte_seq (in_reading_order b (chunks (length bs) bs))
-          (all_of (λ l. AlwaysFits (code.byte_seq l)) (λ l at. tt) (in_reading_order b (chunks (length bs) bs))))
+          (all_of (λ l. AlwaysFits (code.byte_seq l)) (λ l at. units) (in_reading_order b (chunks (length bs) bs))))
 
   one-always : (i : Instruction) → AlwaysFits i → All AlwaysFits (i ∷ [])
   one-always i fit = All-cons AlwaysFits i [] fit (All-nil AlwaysFits)
