@@ -1,0 +1,20 @@
+//! A run of a program from one offset of a text.
+ghost use Rattle.std.specs.Prelude.{[], ◌∷◌};
+ghost use Rattle.regress_meaning.specs.Meaning.{Forward as forward};
+ghost use Rattle.regress_engine_code.specs.Standing.{program_of};
+ghost use Rattle.regress_engine_input.specs.Views.{input_of};
+ghost use Rattle.regress_engine_runs.specs.States.{first_state};
+ghost use Rattle.regress_engine_runs.specs.Computed.{IsComputed};
+ghost use Rattle.regress_engine_runs.proofs.OneAnswer.{IsComputed-prop};
+
+use regress_engine_code::CompiledRegex;
+use regress_engine_matchers::CharInput;
+
+/// A program, a text, and an offset of it at which a run begins that ends.
+#[derive(Debug, Drop)]
+pub(crate) struct Attempt<'a, 'r, Input: CharInput> {
+    pub(crate) program: &'a CompiledRegex<'r>,
+    pub(crate) input: Input,
+    pub(crate) start: usize,
+    pub(crate) ghost ends: { IsComputed (program_of program.now) (input_of (Input.view input)) forward (first_state (program_of program.now) start ∷ []) } by { IsComputed-prop (program_of program.now) (input_of (Input.view input)) forward (first_state (program_of program.now) start ∷ []) },
+}
