@@ -1,2 +1,4 @@
 pub mod MemoryLemmas
 pub mod PlaceLemmas
+pub mod SoundLemmas
+pub mod LeadLemmas
