@@ -2,3 +2,4 @@ pub mod MemoryLemmas
 pub mod PlaceLemmas
 pub mod SoundLemmas
 pub mod LeadLemmas
+pub mod StepLemmas
