@@ -6,3 +6,4 @@ pub mod StepLemmas
 pub mod BackLemmas
 pub mod SingleLemmas
 pub mod LeaveLemmas
+pub mod DispatchLemmas

@@ -13,6 +13,7 @@ loop-group-init c = record {
   groups = sym (mixed-none 0 c.args.first c.args.first (map marks_of c.args.others.now) (held c.args.self.now).groups (omega arith));
   count = refl;
   same = λ program input dir. refl;
+  none = λ none. refl;
   sound = λ program v was. was;
 }
 
@@ -35,6 +36,7 @@ loop-group-preserved c =
       loops = ap (λ (x : Held). x.loops) is ∙ c.loop-group.invariant.loops;
       groups = carried j k g c.args.first (map marks_of others) h.groups _ is c.loop-group.invariant.groups same low (many ∙ count) there;
       count = carried-count j k g _ is ∙ c.loop-group.invariant.count;
+      none = λ none. let less = c.loop-group-test.true in absurd (omega (arith, none, low, less));
       same = λ program input dir. carried-same j k g _ is program input dir ∙ c.loop-group.invariant.same program input dir;
       sound = sound-then h j k c.loop-group.invariant.sound (mark-sound j k g _ is (omega (arith, there, old_count)));
     }
@@ -47,5 +49,6 @@ returns-clause-groups c =
     let past = c.loop-group-test.false in
     elim (cases_lt c.args.first c.args.last) [
       | inl less ↦ let at : c.loop-group.group ≡ c.args.last = omega (arith, less, past, c.loop-group.auto.group-end (omega (arith, less))) in c.loop-group.invariant.groups ∙ ap (λ n. mixed 0 c.args.first n others old) at
-      | inr none ↦ ?
+      | inr none ↦ c.loop-group.invariant.groups ∙ ap (λ n. mixed 0 c.args.first n others old) (c.loop-group.invariant.none none) ∙ mixed-none 0 c.args.first c.args.first others old (omega arith)
+          ∙ sym (mixed-none 0 c.args.first c.args.last others old none)
     ]

@@ -15,5 +15,6 @@ invariant-loop-group l = record {
   groups : (held l.self).groups ≡ mixed 0 l.first l.group (map marks_of l.others) (held l.initial.self).groups;
   count : length (held l.self).groups ≡ length (held l.initial.self).groups;
   same : (program : Program) (input : Input) (dir : Direction) → work_of program input dir (held l.self) ≡ work_of program input dir (held l.initial.self);
+  none : l.last ≤ l.first → l.group ≡ l.first;
   sound : StaysSound (held l.initial.self) (held l.self);
 }

@@ -21,3 +21,7 @@ loop-undo-preserved c = record {
   rest = λ program input dir. c.loop-undo.invariant.rest program input dir ∙ ap (λ h. outside_of (work_of program input dir h)) c.in-Some.ensures ∙ c.in_default-put_back.ensures.rest program input dir;
   sound = λ program v was. (c.in_default-put_back.ensures.sound program v (subst (IsHeld program v) c.in-Some.ensures (c.loop-undo.invariant.sound program v was))).0;
 }
+
+pub returns-clause-rest : goal.returns-clause-rest
+returns-clause-rest c = λ program input dir.
+    c.loop-undo.invariant.rest program input dir ∙ nothing-outside program input dir (held c.loop-undo.self) c.in_default.ensures.1
