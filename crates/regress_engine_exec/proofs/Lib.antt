@@ -1,2 +1,4 @@
+pub mod MemberLemmas
 pub mod MemoryLemmas
 pub mod PlaceLemmas
+pub mod RepeatLemmas
