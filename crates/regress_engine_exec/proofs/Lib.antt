@@ -1,3 +1,4 @@
+pub mod BracketLemmas
 pub mod MemberLemmas
 pub mod MemoryLemmas
 pub mod PlaceLemmas

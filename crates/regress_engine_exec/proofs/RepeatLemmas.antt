@@ -1,14 +1,17 @@
 -- Offsets that are those of places, and where what stands once more ends.
-use Rattle.std.proofs.Common.{◌≡◌, ◌==◌, ℕ, zero, suc, ◌≤◌, Bool, true, false, Option, Some, None, if◌then◌else◌, option_and_then, length, refl, sym, ap, ◌∙◌, subst}
+use Rattle.std.proofs.Common.{◌≡◌, ◌==◌, ℕ, zero, suc, ◌≤◌, Bool, true, false, List, Option, Some, None, if◌then◌else◌, option_and_then, length, refl, sym, ap, ◌∙◌, subst}
 use Rattle.regress_meaning.specs.Meaning.{Direction, Forward, Backward, same}
 use Rattle.regress_meaning.specs.Offsets.{offset}
 use Rattle.regress_meaning.specs.Steps.{copied, repeated, only_if}
 use Rattle.regress_engine_input.specs.Views.{View, AreOfKind, CanRead, LiesIn, input_of, reading_of}
 use Rattle.regress_engine_input.proofs.KindLemmas.{readable}
-use Rattle.regress_engine_runs.specs.Meets.{IsAtPlace}
+use Rattle.regress_engine_code.specs.Instructions.{Instruction, Program}
+use Rattle.regress_engine_runs.specs.States.{Marks}
+use Rattle.regress_engine_runs.specs.Meets.{IsAtPlace, reads_character}
 use Rattle.regress_engine_matchers.specs.References.{IsPlace}
 use Rattle.regress_engine_matchers.proofs.MatcherLemmas.{Reads}
 use Rattle.regress_engine_matchers.proofs.ViewLemmas.{view_reads}
+use Rattle.regress_engine_exec.specs.Ready.{IsReady}
 
 -- an offset of a place, as the matchers have it
 pub place_is : (v : View) (o : ℕ) → IsAtPlace (reading_of v) o → IsPlace v o
@@ -50,3 +53,8 @@ repeated_lies v all Forward icase a b o q can e =
     let reads = view_reads v all in reads.inside q (copied_read v reads Forward icase _ _ _ o q can (sym e))
 repeated_lies v all Backward icase a b o q can e =
     let reads = view_reads v all in reads.inside q (copied_read v reads Backward icase _ _ _ o q can (sym e))
+
+-- where an instruction that reads characters may be asked, characters may be read
+pub ready_read : (program : Program) (v : View) → AreOfKind v.kind v.units → (i : Instruction) (groups : List Marks) (o : ℕ) → IsReady program v i groups o
+    → reads_character i ≡ true → CanRead v o
+ready_read program v all i groups o ready reads = place_read v all o (ready.reads reads).0
