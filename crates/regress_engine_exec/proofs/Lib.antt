@@ -1,5 +1,8 @@
 pub mod BracketLemmas
 pub mod MemberLemmas
+pub mod RepeatLemmas
 pub mod MemoryLemmas
 pub mod PlaceLemmas
-pub mod RepeatLemmas
+pub mod SoundLemmas
+pub mod LeadLemmas
+pub mod StepLemmas

@@ -1,4 +1,5 @@
 -- What is read and written of a memory.
+use Rattle.std.specs.Prelude.{Result, Ok, Err, IfOk}
 use Rattle.std.proofs.Common.{◌≡◌, ℕ, zero, suc, ◌-◌, List, [], ◌∷◌, ◌++◌, length, map, take, replicate, refl, sym, ap, ap₂, ◌∙◌, arith}
 
 pub map-replicate : {A B : Type 0} (f : A → B) (n : ℕ) (v : A) → map f (replicate n v) ≡ replicate n (f v)
@@ -16,3 +17,8 @@ pub filled : {A B : Type 0} (f : A → B) (new old : List A) (n l : ℕ) (v : A)
 filled f new old n l v w is none empty same =
     let count : n - l ≡ n = omega (arith, empty) in
     ap (map f) (is ∙ ap₂ (λ xs m. xs ++ replicate m v) (take-none n old none) count) ∙ map-replicate f n v ∙ ap (replicate n) same
+
+-- what is handed on
+pub ok-then : {T E : Type 0} (r : Result T E) (P Q : T → Type 0) → ((x : T) → P x → Q x) → IfOk r P → IfOk r Q
+ok-then (Ok x) P Q f h = f x h
+ok-then (Err e) P Q f h = tt

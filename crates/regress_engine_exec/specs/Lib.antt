@@ -1,3 +1,4 @@
 pub mod Held
 pub mod Ready
+pub mod Sound
 pub mod Tasks

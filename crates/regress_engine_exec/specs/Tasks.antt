@@ -3,11 +3,12 @@ use Rattle.std.specs.Prelude.{◌≡◌, ℕ, ◌+◌, ◌≤◌, Bool, true, fa
 use Rattle.regress_meaning.specs.Meaning.{Direction}
 use Rattle.regress_meaning.specs.Offsets.{Reading}
 use Rattle.regress_meaning.specs.Inputs.{Input}
-use Rattle.regress_engine_input.specs.Views.{way}
 use Rattle.regress_engine_code.specs.Instructions.{Program}
 use Rattle.regress_engine_runs.specs.States.{Whole}
 use Rattle.regress_engine_runs.specs.UndoStack.{Work, whole, stands_for, Comes, ReadOn}
+use Rattle.regress_engine_input.specs.Views.{View, way}
 use Rattle.regress_engine_exec.specs.Held.{Held}
+use Rattle.regress_engine_exec.specs.Sound.{IsHeld}
 use Rattle.regress_engine_exec.specs.declared.undo.Spot.{Spot}
 
 -- Some states that are read in a direction, and then the work.
@@ -35,3 +36,11 @@ module _ (program : Program) (input : Input) where
     pub comes : (n : ℕ) (r : Option Whole) → Comes program input t.dir t.states t.work n r
         → (m : ℕ) × (m + steps ≤ n) × Comes program input u.dir u.states u.work m r
     pub reads : (reading : Reading) → ReadOn program input reading t.dir t.states t.work → ReadOn program input reading u.dir u.states u.work
+
+-- It is gone on to a spot, or failed, from these states on, whatever the program and the text.
+abbrev pub GoesOn : List Whole → Spot → Held → (going : Bool) → Spot → Held → Type 0
+GoesOn states p h going q k = (program : Program) (input : Input) → Leads program input 0 (task_of program input states p h) (task program input going q k)
+
+-- what is held stays sound
+abbrev pub StaysSound : Held → Held → Type 0
+StaysSound h k = (program : Program) (v : View) → IsHeld program v h → IsHeld program v k

@@ -4,4 +4,5 @@
 mod attempt;
 mod memory;
 mod reads;
+mod steps;
 mod undo;
