@@ -1,8 +1,8 @@
 //! What an instruction that changes nothing but the offset reads beside it.
-ghost use Rattle.std.specs.Prelude.{◌≡◌, ◌<◌, true, false, not, List, length, map, nat_eq, option_map, Some, IfSome};
+ghost use Rattle.std.specs.Prelude.{◌≡◌, ◌<◌, true, false, not, List, length, map, nat_eq, option_map, Some, is_some, IfSome, ◌&&◌, ◌||◌};
 ghost use Rattle.regress_meaning.specs.Text.{holds};
-ghost use Rattle.regress_meaning.specs.Meaning.{is_line_end, word_at};
-ghost use Rattle.regress_meaning.specs.Steps.{passed, literal, point, repeated, begins_line, ends_line, at_boundary};
+ghost use Rattle.regress_meaning.specs.Meaning.{is_line_end, is_some_and, word_at};
+ghost use Rattle.regress_meaning.specs.Steps.{passed, literal, point, repeated, at_boundary};
 ghost use Rattle.regress_front_bytes.specs.ByteSets.{members};
 ghost use Rattle.regress_front_bytes.specs.Bitmaps.{ascii_bitmap_contains};
 ghost use Rattle.regress_front_sets.specs.Intervals.{ends_of};
@@ -197,27 +197,14 @@ impl<'a, 'r, Input: CharInput> Attempt<'a, 'r, Input> {
         }
     }
 
-    /// Whether a line begins at an offset, or without the flag the text ("^").
+    /// Whether the text ends beside an offset, or in `multiline` a line: backward that is `^`, and forward `$`.
     #[inline]
-    pub(crate) fn line_start(&self, multiline: bool, offset: usize) -> bool
+    pub(crate) fn line_edge(&self, forward: bool, multiline: bool, offset: usize) -> bool
         requires { CanRead (Input.view self.now.input) offset }
-        ensures { result ≡ begins_line (input_of (Input.view self.now.input)) multiline offset }
+        ensures { result ≡ not (is_some ((input_of (Input.view self.now.input)).next (way forward) offset))
+            || (multiline && is_some_and (point (input_of (Input.view self.now.input)) (way forward) offset) is_line_end) }
     {
-        match self.beside(false, offset) {
-            Some((c, _)) => {
-                multiline && <Input::CharProps as CharProperties>::is_line_terminator(c)
-            }
-            None => true,
-        }
-    }
-
-    /// Whether a line ends at an offset, or without the flag the text ("$").
-    #[inline]
-    pub(crate) fn line_end(&self, multiline: bool, offset: usize) -> bool
-        requires { CanRead (Input.view self.now.input) offset }
-        ensures { result ≡ ends_line (input_of (Input.view self.now.input)) multiline offset }
-    {
-        match self.beside(true, offset) {
+        match self.beside(forward, offset) {
             Some((c, _)) => {
                 multiline && <Input::CharProps as CharProperties>::is_line_terminator(c)
             }
@@ -242,7 +229,7 @@ impl<'a, 'r, Input: CharInput> Attempt<'a, 'r, Input> {
         }
     }
 
-    /// Whether a word begins or ends at an offset ("\\b"); folded, where case is ignored in Unicode mode.
+    /// Whether a word begins or ends at an offset, as `\b` asks; folded, where case is ignored in Unicode mode.
     #[inline]
     pub(crate) fn boundary(&self, folded: bool, offset: usize) -> bool
         requires { CanRead (Input.view self.now.input) offset }
@@ -252,6 +239,7 @@ impl<'a, 'r, Input: CharInput> Attempt<'a, 'r, Input> {
     }
 
     /// The offset behind what a range took, where that stands beside another offset once more.
+    #[inline]
     fn repeat<Dir: Direction>(
         &self,
         dir: Dir,
@@ -280,6 +268,7 @@ impl<'a, 'r, Input: CharInput> Attempt<'a, 'r, Input> {
 
     /// The offset behind what a group took, where that stands beside an offset once more, and the offset itself where the
     /// group took nothing.
+    #[inline]
     pub(crate) fn back(
         &self,
         forward: bool,
@@ -331,6 +320,7 @@ impl<'a, 'r, Input: CharInput> Attempt<'a, 'r, Input> {
     }
 
     /// The offset to which an instruction leads that changes nothing but the offset, where it leads to any.
+    #[inline]
     pub(crate) fn advance(
         &self,
         insn: &Insn,
@@ -355,9 +345,11 @@ impl<'a, 'r, Input: CharInput> Attempt<'a, 'r, Input> {
             Insn::MatchAny => self.any(forward, offset),
             Insn::MatchAnyExceptLineTerminator => self.any_in_line(forward, offset),
             Insn::StartOfLine { multiline } => {
-                self.line_start(*multiline, offset).then_some(offset)
+                self.line_edge(false, *multiline, offset).then_some(offset)
             }
-            Insn::EndOfLine { multiline } => { self.line_end(*multiline, offset).then_some(offset) }
+            Insn::EndOfLine { multiline } => {
+                self.line_edge(true, *multiline, offset).then_some(offset)
+            }
             Insn::WordBoundary { invert } => {
                 (self.boundary(false, offset) != *invert).then_some(offset)
             }

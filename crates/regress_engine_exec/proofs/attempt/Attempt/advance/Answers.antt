@@ -47,12 +47,12 @@ pub any_in_line-requires : goal.any_in_line-requires
 any_in_line-requires g c =
     ready_read _ (g.Input.InputIndexer.view c.args.self.now.input) (g.met.Input.InputIndexer.are_of_kind c.args.self.now.input) _ _ _ c.requires.ready (rw c.in-MatchAnyExceptLineTerminator.is refl)
 
-pub line_start-requires : goal.line_start-requires
-line_start-requires g c =
+pub line_edge-requires : goal.line_edge-requires
+line_edge-requires g c =
     ready_read _ (g.Input.InputIndexer.view c.args.self.now.input) (g.met.Input.InputIndexer.are_of_kind c.args.self.now.input) _ _ _ c.requires.ready (rw c.in-StartOfLine.is refl)
 
-pub line_end-requires : goal.line_end-requires
-line_end-requires g c =
+pub line_edge-requires-in-EndOfLine : goal.line_edge-requires-in-EndOfLine
+line_edge-requires-in-EndOfLine g c =
     ready_read _ (g.Input.InputIndexer.view c.args.self.now.input) (g.met.Input.InputIndexer.are_of_kind c.args.self.now.input) _ _ _ c.requires.ready (rw c.in-EndOfLine.is refl)
 
 pub boundary-requires : goal.boundary-requires
