@@ -240,7 +240,7 @@ impl<'a, 'r, Input: CharInput> Attempt<'a, 'r, Input> {
 
     /// The offset behind what a range took, where that stands beside another offset once more.
     #[inline]
-    fn repeat<Dir: Direction>(
+    fn once_more<Dir: Direction>(
         &self,
         dir: Dir,
         icase: bool,
@@ -269,7 +269,7 @@ impl<'a, 'r, Input: CharInput> Attempt<'a, 'r, Input> {
     /// The offset behind what a group took, where that stands beside an offset once more, and the offset itself where the
     /// group took nothing.
     #[inline]
-    pub(crate) fn back(
+    pub(crate) fn back_reference(
         &self,
         forward: bool,
         icase: bool,
@@ -284,9 +284,9 @@ impl<'a, 'r, Input: CharInput> Attempt<'a, 'r, Input> {
             return Some(offset);
         };
         if forward {
-            self.repeat(Forward::new(), icase, start..end, offset)
+            self.once_more(Forward::new(), icase, start..end, offset)
         } else {
-            self.repeat(Backward::new(), icase, start..end, offset)
+            self.once_more(Backward::new(), icase, start..end, offset)
         }
     }
 
@@ -357,7 +357,7 @@ impl<'a, 'r, Input: CharInput> Attempt<'a, 'r, Input> {
                 (self.boundary(true, offset) != *invert).then_some(offset)
             }
             Insn::BackRef { group, icase } => {
-                self.back(forward, *icase, &groups[*group as usize], offset)
+                self.back_reference(forward, *icase, &groups[*group as usize], offset)
             }
             Insn::Loop1CharBody { .. } => None,
             _ => self.byte_seq(insn, forward, offset),

@@ -2,8 +2,8 @@ use Rattle.std.proofs.Common.{◌∙◌, true, false, sym}
 use Rattle.regress_engine_input.specs.Views.{way, CanRead}
 use Rattle.regress_engine_matchers.specs.References.{IsPlace}
 use Rattle.regress_engine_exec.proofs.RepeatLemmas.{place_is, place_read, repeated_lies}
-use Rattle.regress_engine_exec.proofs.attempt.Attempt.repeat.Goals as goal
-use Rattle.regress_engine_exec.proofs.attempt.Attempt.repeat.Goals.{then-icase, else-icase}
+use Rattle.regress_engine_exec.proofs.attempt.Attempt.once_more.Goals as goal
+use Rattle.regress_engine_exec.proofs.attempt.Attempt.once_more.Goals.{then-icase, else-icase}
 
 pub backref_icase-stands-requires-clause-start : goal.backref_icase-stands-requires-clause-start
 backref_icase-stands-requires-clause-start g c =
