@@ -1,3 +1,6 @@
+pub mod BracketLemmas
+pub mod MemberLemmas
+pub mod RepeatLemmas
 pub mod MemoryLemmas
 pub mod PlaceLemmas
 pub mod SoundLemmas

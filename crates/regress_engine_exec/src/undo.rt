@@ -33,14 +33,20 @@ pub(crate) struct Frame {
 #[derive(Debug, Clone, Copy)]
 pub(crate) enum Undo {
     /// The loop is as it was.
-    OldLoop { id: usize, data: LoopData<usize> },
+    OldLoop {
+        id: usize,
+        data: LoopData<usize>,
+    },
     /// The group is as it was.
     OldGroup {
         group: usize,
         data: GroupData<usize>,
     },
     /// It goes on at an address and an offset.
-    Resume { at: usize, offset: usize },
+    Resume {
+        at: usize,
+        offset: usize,
+    },
     /// One more iteration begins, of the repetition that begins at an address.
     Iterate {
         id: usize,
@@ -48,7 +54,11 @@ pub(crate) enum Undo {
         offset: usize,
     },
     /// It goes on at an address, at the offsets from a far one back to a near one.
-    GiveBack { at: usize, near: usize, far: usize },
+    GiveBack {
+        at: usize,
+        near: usize,
+        far: usize,
+    },
     /// It goes on at an address, at an offset and behind each further iteration of the instruction before, at most so many.
     TakeOn {
         at: usize,
