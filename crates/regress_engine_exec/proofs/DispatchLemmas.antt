@@ -1,6 +1,6 @@
 -- Each instruction's step.
 use Rattle.std.specs.Prelude.{slice_set, get_or}
-use Rattle.std.proofs.Common.{◌≡◌, ℕ, suc, ◌+◌, ◌-◌, ◌<◌, ◌≤◌, Bool, true, false, not, List, [], ◌∷◌, length, Option, Some, None, refl, sym, ap, ◌∙◌, subst, arith}
+use Rattle.std.proofs.Common.{◌≡◌, ℕ, suc, ◌+◌, ◌-◌, ◌<◌, ◌≤◌, Bool, true, false, not, List, [], ◌∷◌, length, Option, Some, None, if◌then◌else◌, refl, sym, ap, ◌∙◌, subst, arith}
 use Rattle.regress_meaning.specs.Meaning.{Direction}
 use Rattle.regress_meaning.specs.Inputs.{Input}
 use Rattle.regress_front_nodes.specs.TreeMeaning.{direction}
@@ -9,8 +9,10 @@ use Rattle.regress_engine_code.specs.Instructions.{Instruction, Program, Stands}
 use Rattle.regress_engine_code.specs.Instructions as code
 use Rattle.regress_engine_code.specs.InsnViews.{instruction}
 use Rattle.regress_engine_code.specs.declared.insn.Insn.{Insn}
+use Rattle.regress_engine_code.specs.declared.insn.Insn.TheVariants.{EnterLoop}
+use Rattle.regress_engine_code.specs.declared.insn.LoopFields as insn
 use Rattle.regress_engine_runs.specs.States.{Whole, Marks, onward}
-use Rattle.regress_engine_runs.specs.Runs.{successors, is_plain, moved_to, advance}
+use Rattle.regress_engine_runs.specs.Runs.{successors, is_plain, moved_to, advance, is_idle, choices, fields_of}
 use Rattle.regress_engine_runs.specs.Meets.{reads_character, ReadsPlaces, IsAtPlace}
 use Rattle.regress_engine_runs.specs.Closed.{Fits}
 use Rattle.regress_engine_runs.specs.UndoStack.{Frame, frame, stands_for}
@@ -76,12 +78,12 @@ module _ (program : Program) (input : Input) where
       next : suc p.at ≡ p.at + 1
       next = omega arith
 
+      frame_here : Frame
+      frame_here = record f { at = p.at; offset = p.offset; outside = way p.forward }
+
       -- the state at the spot is that at the lookaround
       same_frame : frame_here ≡ f
       same_frame = (λ i. record f { at = sym at i; offset = sym offset i; outside = sym turned i })
-
-      frame_here : Frame
-      frame_here = record f { at = p.at; offset = p.offset; outside = way p.forward }
 
       begun_here : Leads program input 1 from (task program input true (record p { at = suc p.at; forward = not f.backward }) (pushed (frame frame_here) h))
       begun_here =
@@ -127,3 +129,26 @@ module _ (program : Program) (v : View) (suits : Suits program v) where
   pub simple-ready : (i : Instruction) (p : Spot) (h : Held) → Stands program p.at i → is_simple i ≡ true → IsHeld program v h
       → (reads_character i ≡ true → ReadsPlaces (reading_of v) i (state_at p h)) → IsReady program v i h.groups p.offset
   simple-ready i p h here simple held reads = record { fits = simple-fits program p.at i simple (suits.closed p.at i here); count = held.groups; reads = reads }
+
+module _ (program : Program) (input : Input) where
+  -- an iteration ends
+  pub again-on-step : (p q : Spot) (h k : Held) (going : Bool) (begin : ℕ) (f : code.LoopFields) → Stands program p.at (code.loop_again begin) → Stands program begin (code.enter_loop f)
+      → GoesOn (if is_idle f (state_at p h) then [] else choices f begin (state_at p h)) p h going q k
+      → Leads program input 1 (task program input true p h) (task program input going q k)
+  again-on-step p q h k going begin f here there on =
+      let are : successors program input (code.loop_again begin) (way p.forward) (state_at p h) ≡ (if is_idle f (state_at p h) then [] else choices f begin (state_at p h)) =
+      ap (λ (x : Option Instruction). elim (fields_of x) [
+        | None ↦ []
+        | Some f ↦ if is_idle f (state_at p h) then [] else choices f begin (state_at p h)
+      ]) there in
+      step-on program input (code.loop_again begin) p q h k going here refl
+      (subst (λ ss. Leads program input 0 (task_of program input ss p h) (task program input going q k)) (sym are) (on program input))
+
+  -- where a repetition begins no other instruction stands
+  pub no-repetition : (begin : ℕ) (j : Insn) (f : code.LoopFields) → Stands program begin (code.enter_loop f) → Stands program begin (instruction j)
+      → ((r : insn.LoopFields) → j ≡ EnterLoop r → ⊥) → ⊥
+  no-repetition begin j f here there other = by_kind j (one_stands program input begin (code.enter_loop f) (instruction j) here there) other
+    where
+      by_kind : (j : Insn) → code.enter_loop f ≡ instruction j → ((r : insn.LoopFields) → j ≡ EnterLoop r → ⊥) → ⊥
+      by_kind (EnterLoop r) e other = other r refl
+      by_kind _ e other = absurd (grind arith)

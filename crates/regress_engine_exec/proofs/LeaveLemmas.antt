@@ -44,11 +44,11 @@ pub mixed-more : (i j g first : ℕ) (new old : List Marks) (d : Marks) → g �
     → slice_set (mixed i first g new old) j (get_or new j d) ≡ mixed i first (g + 1) new old
 mixed-more i j g first new [] d here from same room = absurd (omega (arith, room))
 mixed-more i j g first [] (m ∷ old) d here from same room = absurd (omega (arith, same))
-mixed-more i zero g first (n ∷ new) (m ∷ old) d here from same inside =
+mixed-more i zero g first (n ∷ new) (m ∷ old) d here from same room =
     let e : (nat_le first i && nat_lt i (g + 1)) ≡ true = grind (arith, nat_tests) in
     ap₂ (λ b (ms : List Marks). (if b then n else m) ∷ ms) (sym e)
     (mixed-past (i + 1) first g new old (omega (arith, here)) ∙ sym (mixed-past (i + 1) first (g + 1) new old (omega (arith, here))))
-mixed-more i (suc j) g first (n ∷ new) (m ∷ old) d here from same inside =
+mixed-more i (suc j) g first (n ∷ new) (m ∷ old) d here from same room =
     let e : nat_lt i g ≡ nat_lt i (g + 1) = grind (arith, nat_tests) in
     ap₂ (λ b (ms : List Marks). (if nat_le first i && b then n else m) ∷ ms) e
     (mixed-more (i + 1) j g first new old d (omega (arith, here)) from (omega (arith, same)) (omega (arith, room)))

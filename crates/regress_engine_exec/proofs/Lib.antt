@@ -10,3 +10,4 @@ pub mod BackLemmas
 pub mod SingleLemmas
 pub mod LeaveLemmas
 pub mod DispatchLemmas
+pub mod TryLemmas

@@ -3,3 +3,4 @@ pub mod Ready
 pub mod Sound
 pub mod Tasks
 pub mod Leaving
+pub mod Trying
