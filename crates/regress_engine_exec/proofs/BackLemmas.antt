@@ -90,14 +90,14 @@ module _ (program : Program) (input : Input) where
       left : Bool → List Whole
       left b = after_look b f.first f.last f.continuation s None
 
+      inside_of : Work
+      inside_of = stands_for program input (way p.forward) (frame f ∷ h.stack) h.loops h.groups
+
       exhausted : Leads program input 0 (record { dir = way p.forward; states = []; work = inside_of }) (record { dir = f.outside; states = left f.negated; work = rest })
       exhausted = record {
         comes = λ n r come. (n, omega arith, frame_exhausted program input f s rest n r come);
         reads = λ reading on. read_exhausted program input reading (way p.forward) f s rest on;
       }
-
-      inside_of : Work
-      inside_of = stands_for program input (way p.forward) (frame f ∷ h.stack) h.loops h.groups
 
       from : Task
       from = task program input false p (pushed (frame f) h)

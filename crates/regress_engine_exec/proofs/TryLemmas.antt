@@ -1,6 +1,6 @@
 -- A run that is tried.
-use Rattle.std.specs.Prelude.{replicate, slice_get}
-use Rattle.std.proofs.Common.{◌≡◌, ℕ, suc, ◌+◌, ◌<◌, ◌≤◌, true, false, List, [], ◌∷◌, length, Option, Some, None, refl, sym, ap, ◌∙◌, subst, arith}
+use Rattle.std.specs.Prelude.{replicate, slice_get, IfSome}
+use Rattle.std.proofs.Common.{◌≡◌, ℕ, Bool, suc, ◌+◌, ◌<◌, ◌≤◌, true, false, List, [], ◌∷◌, length, Option, Some, None, refl, sym, ap, ◌∙◌, subst, arith}
 use Rattle.std.proofs.lemmas.List.{length-replicate}
 use Rattle.regress_meaning.specs.Meaning.{Forward}
 use Rattle.regress_engine_input.specs.Views.{View, way, input_of, reading_of}
@@ -19,6 +19,7 @@ use Rattle.regress_engine_exec.specs.Sound.{IsSound, IsHeld}
 use Rattle.regress_engine_exec.specs.Tasks.{task, state_at, Leads}
 use Rattle.regress_engine_exec.specs.Leaving.{work_of, Steps}
 use Rattle.regress_engine_exec.specs.Trying.{IsTrying, IsAnswer}
+use Rattle.regress_engine_exec.proofs.LeadLemmas.{leads-then}
 
 module _ (program : Program) (v : View) where
   -- nothing is tried yet
@@ -78,3 +79,19 @@ module _ (program : Program) (v : View) where
         (subst (λ s. Comes program (input_of v) (way q.forward) [] (stands_for program (input_of v) (way q.forward) s k.loops k.groups) come.0 r) empty come.2) in
         let run = computed-runs program (input_of v) (suc ends.0.0) Forward (first_state program start ∷ []) ends.0.0 ends.0.1 (ends.1 (suc ends.0.0) (omega arith)) in
         (ends.0.0, subst (λ x. Run program (input_of v) Forward (first_state program start ∷ []) ends.0.0 x) (sym same ∙ none.1) run)
+
+-- what a step came to
+pub steps-led : (program : Program) (v : View) (p q : Spot) (h k : Held) (o : Option Bool) (going b : Bool) → o ≡ Some going → going ≡ b → Steps program (input_of v) p h o q k
+    → Leads program (input_of v) 1 (task program (input_of v) true p h) (task program (input_of v) b q k)
+steps-led program v p q h k o going b some same steps =
+    subst (λ x. Leads program (input_of v) 1 (task program (input_of v) true p h) (task program (input_of v) x q k)) same (subst (λ x. Steps program (input_of v) p h x q k) some steps)
+
+pub steps-held : (program : Program) (v : View) (k : Held) (o : Option Bool) (going : Bool) → o ≡ Some going → IfSome o (λ x. IsHeld program v k) → IsHeld program v k
+steps-held program v k o going some held = subst (λ x. IfSome x (λ y. IsHeld program v k)) some held
+
+-- and then it was gone back
+pub steps-back : (program : Program) (v : View) (p q s : Spot) (h k l : Held) (b c : Bool) → b ≡ c → Leads program (input_of v) 1 (task program (input_of v) true p h) (task program (input_of v) false q k)
+    → Leads program (input_of v) 0 (task program (input_of v) false q k) (task program (input_of v) b s l)
+    → Leads program (input_of v) 1 (task program (input_of v) true p h) (task program (input_of v) c s l)
+steps-back program v p q s h k l b c same first second =
+    leads-then program (input_of v) 1 0 first (subst (λ x. Leads program (input_of v) 0 (task program (input_of v) false q k) (task program (input_of v) x s l)) same second)
