@@ -19,6 +19,7 @@ use Rattle.regress_engine_code.specs.Instructions as code
 use Rattle.regress_engine_code.specs.Layout.{Spot, next, Target}
 use Rattle.regress_engine_runs.specs.States.{Whole, unset, range_of, onward}
 use Rattle.regress_engine_runs.specs.Runs.{moved_to, successors}
+use Rattle.regress_engine_runs.specs.Meets.{AreAtPlaces}
 use Rattle.regress_engine_runs.specs.Stand.{StandsFor}
 use Rattle.regress_engine_runs.proofs.RunLemmas.{Expands, steps}
 use Rattle.regress_engine_runs.proofs.Leading.{Pairwise, leads_at_once, first_expand}
@@ -144,13 +145,24 @@ module _ (target : Target) (input : Input) (reading : Reading) (tells : Tells re
       let told : range_of (get_or w.groups j unset) ≡ option_map (offset_range reading) (unwrap_or o None) =
       stands.groups j ∙ ap (option_map (offset_range reading)) (sym read) in
       let lies : IfSome (unwrap_or o None) (LiesIn size) = subst (λ g. IfSome g (LiesIn size)) (sym read) (group-lies s.groups j stands.inside.groups) in
+      let refers : IfSome (range_of (get_or w.groups j unset)) (AreAtPlaces reading) =
+      subst (λ g. IfSome g (AreAtPlaces reading)) (sym told) (range-told (unwrap_or o None) lies) in
       let us : List State = repeat_group context dir icase o s in
       let ws : List Whole = moved_to w (repeated input dir icase (option_map (offset_range reading) (unwrap_or o None)) w.offset) in
       let does : successors target.program input (code.back j icase) dir w ≡ ws = ap (λ g. moved_to w (repeated input dir icase g w.offset)) told in
       first_expand target.program input reading Q (w ∷ []) ws us
-      (subst (Expands target.program input reading dir (w ∷ [])) does (steps target.program input reading (code.back j icase) w (standing target input reading w at here) refl (λ e. (s.place, stands.inside.place, stands.place))))
+      (subst (Expands target.program input reading dir (w ∷ [])) does (steps target.program input reading (code.back j icase) w (standing target input reading w at here) refl (λ e. ((s.place, stands.inside.place, stands.place), refers))))
       (leads_at_once target.program input reading Q us ws (by_group dir (suc p.address) gone p.loops p.loops s w o (ap suc at) stands lies))
     where
+      -- the ends of a range are told as offsets of places
+      range-told : (g : Option (ℕ × ℕ)) → IfSome g (LiesIn size) → IfSome (option_map (offset_range reading) g) (AreAtPlaces reading)
+      range-told None lies = tt
+      range-told (Some (a, b)) (order, room) =
+          let far = offsets-far reading tells.rise (b - a) a (omega (arith, order, room)) in
+          let end : a + (b - a) ≡ b = omega (arith, order) in
+          let same = ap (offset reading) end in
+          ((a, omega (arith, order, room), refl), (b, room, refl), omega (arith, far, same))
+
       group-lies : (gs : List (Option (ℕ × ℕ))) (j : ℕ) → All (λ g. IfSome g (LiesIn size)) gs → IfSome (get_or gs j None) (LiesIn size)
       group-lies gs j h = by_place (cases_lt j (length gs))
         where

@@ -74,27 +74,27 @@ module _ (program : Program) where
       both-fit low (suc low) (low + suc (length is)) (one-fits low i here (All-head AlwaysFits i is fit low))
       (subst (AllFit (suc low)) e (list-fits is (suc low) stand (All-tail AlwaysFits i is fit)))
 
-  fits-taking : OfTaking AlwaysFits
+  fits-taking : OfTaking program AlwaysFits
   fits-taking = record {
     char = λ c at. tt;
     char_set = λ cs at. tt;
     byte_set = λ bs at. tt;
-    byte_seq = λ bs at. tt;
+    byte_seq = λ units bs at. units;
     fail = λ at. tt;
   }
 
   -- of a literal, of sets, of a string
   literal-fits : (b : Bool) (bs : List ℕ) → All AlwaysFits (literal_code program b bs)
-  literal-fits = literal-taking AlwaysFits fits-taking program
+  literal-fits = literal-taking program AlwaysFits fits-taking
 
   char_set-fits : (cs : List ℕ) → AlwaysFits (char_set_code cs)
-  char_set-fits = char_set-taking AlwaysFits fits-taking
+  char_set-fits = char_set-taking program AlwaysFits fits-taking
 
   set-fits : (bs : List ℕ) (u : Bool) → AlwaysFits (byte_set_code u bs)
-  set-fits bs u = byte_set-taking AlwaysFits fits-taking u bs
+  set-fits bs u = byte_set-taking program AlwaysFits fits-taking u bs
 
   pieces-fit : (b : Bool) (ts : List Tree) → All AlwaysFits (pieces_code program b ts)
-  pieces-fit = pieces-taking AlwaysFits fits-taking program
+  pieces-fit = pieces-taking program AlwaysFits fits-taking
 
   -- resets of groups that are there
   resets-fit : (first n low : ℕ) → ((k : ℕ) → first ≤ k → k < first + n → k < program.groups) → StandFrom program low (resets first n) → AllFit low (low + n)

@@ -12,9 +12,9 @@ use Rattle.regress_front_nodes.specs.TreeMeaning.{node_outcomes, direction}
 use Rattle.regress_engine_code.specs.Instructions.{Instruction, Stands}
 use Rattle.regress_engine_code.specs.Layout.{Spot, next, Target, char_set_code, byte_set_code}
 use Rattle.regress_engine_runs.specs.States.{Whole, Marks, onward}
-use Rattle.regress_engine_runs.specs.Runs.{moved_to, successors, is_plain}
+use Rattle.regress_engine_runs.specs.Runs.{moved_to, successors}
 use Rattle.regress_engine_runs.specs.Stand.{StandsFor, AreOf}
-use Rattle.regress_engine_runs.proofs.RunLemmas.{Expands, steps}
+use Rattle.regress_engine_runs.proofs.RunLemmas.{Expands, steps, is_unreferring, unreferring-plain, unreferring-reads}
 use Rattle.regress_engine_runs.proofs.Leading.{Leads, Pairwise, leads_at_once, first_expand}
 use Rattle.regress_engine_runs.proofs.Places.{occurs, Arrives, Keeps-all}
 use Rattle.regress_engine_runs.proofs.Entering.{Enters, standing, stays}
@@ -68,7 +68,7 @@ module _ (target : Target) (input : Input) (reading : Reading) (tells : Tells re
       by_test false = tt
 
   -- an instruction that takes one character
-  pub taking : (b : Bool) (t : Tree) (i : Instruction) (test : ℕ → Bool) (p : Spot) → Stands target.program p.address i → is_plain i ≡ true
+  pub taking : (b : Bool) (t : Tree) (i : Instruction) (test : ℕ → Bool) (p : Spot) → Stands target.program p.address i → is_unreferring i ≡ true
       → ((w : Whole) → successors target.program input i (direction b) w ≡ moved_to w (passed test (input.next (direction b) w.offset)))
       → ((s : State) → node_outcomes context t (direction b) s ≡ step context (direction b) 1 (list_all test) s)
       → Enters target input reading b t p (next p)
@@ -85,11 +85,11 @@ module _ (target : Target) (input : Input) (reading : Reading) (tells : Tells re
       (subst (Pairwise Q (stepped (list_all test) s (beside context dir 1 s.place))) made
       (taken-leads dir (suc p.address) (λ k. occurs k t) p.loops p.loops test s w (ap suc at) stands (neighbours context dir s.place stands.inside.place))) in
       first_expand target.program input reading Q (w ∷ []) (successors target.program input i dir w) (node_outcomes context t dir s)
-      (steps target.program input reading i w (standing target input reading w at here) plain (λ e. (s.place, stands.inside.place, stands.place)))
+      (steps target.program input reading i w (standing target input reading w at here) (unreferring-plain i plain) (λ e. unreferring-reads reading i w plain (s.place, stands.inside.place, stands.place)))
       (leads_at_once target.program input reading Q (node_outcomes context t dir s) (successors target.program input i dir w) pairs)
 
   -- an instruction that keeps the state where a test passes
-  pub testing : (b : Bool) (t : Tree) (i : Instruction) (p : Spot) → Stands target.program p.address i → is_plain i ≡ true
+  pub testing : (b : Bool) (t : Tree) (i : Instruction) (p : Spot) → Stands target.program p.address i → is_unreferring i ≡ true
       → (test : State → Bool)
       → ((s : State) (w : Whole) → StandsFor reading s w → successors target.program input i (direction b) w ≡ moved_to w (only_if (test s) w.offset))
       → ((s : State) → node_outcomes context t (direction b) s ≡ keep_if (test s) s)
@@ -98,7 +98,7 @@ module _ (target : Target) (input : Input) (reading : Reading) (tells : Tells re
       let dir : Direction = direction b in
       let Q : State → Whole → Type 0 = Arrives reading dir (suc p.address) (λ k. occurs k t) p.loops p.loops s.place w in
       first_expand target.program input reading Q (w ∷ []) (moved_to w (only_if (test s) w.offset)) (node_outcomes context t dir s)
-      (subst (Expands target.program input reading dir (w ∷ [])) (does s w stands) (steps target.program input reading i w (standing target input reading w at here) plain (λ e. (s.place, stands.inside.place, stands.place))))
+      (subst (Expands target.program input reading dir (w ∷ [])) (does s w stands) (steps target.program input reading i w (standing target input reading w at here) (unreferring-plain i plain) (λ e. unreferring-reads reading i w plain (s.place, stands.inside.place, stands.place))))
       (leads_at_once target.program input reading Q (node_outcomes context t dir s) (moved_to w (only_if (test s) w.offset))
       (subst (λ us. Pairwise Q us (moved_to w (only_if (test s) w.offset))) (sym (means s)) (by_test (test s))))
     where

@@ -20,13 +20,13 @@ use Rattle.regress_engine_code.specs.Instructions.{Program, Instruction, Stands,
 use Rattle.regress_engine_code.specs.Instructions as code
 use Rattle.regress_engine_code.specs.Layout.{Spot, Target, AreAll, chunks, most_bytes, literal_code}
 use Rattle.regress_engine_runs.specs.States.{Whole}
-use Rattle.regress_engine_runs.specs.Runs.{moved_to, successors, is_plain}
+use Rattle.regress_engine_runs.specs.Runs.{moved_to, successors}
 use Rattle.regress_engine_runs.specs.Meets.{reads_character, IsAtPlace}
 use Rattle.regress_engine_runs.specs.Stand.{StandsFor}
 use Rattle.regress_engine_runs.proofs.Leading.{Pairwise, leads_at_once, first_expand}
 use Rattle.regress_engine_runs.proofs.Places.{occurs, Arrives, Keeps-all}
 use Rattle.regress_engine_runs.proofs.Entering.{Enters}
-use Rattle.regress_engine_runs.proofs.RunLemmas.{Expands, Expands-same, Expands-then, steps}
+use Rattle.regress_engine_runs.proofs.RunLemmas.{Expands, Expands-same, Expands-then, steps, is_unreferring, unreferring-plain, unreferring-reads}
 use Rattle.regress_engine_runs.proofs.Neighbours.{Beside, neighbours}
 
 -- parts joined again
@@ -52,7 +52,7 @@ module _ (program : Program) (input : Input) (reading : Reading) where
   -- instructions one after another, each of which takes a step, lead where all of them do
   steps-run : {X : Type 0} (f : X → Instruction) (go : X → ℕ → Option ℕ) (dir : Direction) (inv : ℕ → Type 0)
       → ((x : X) (o : ℕ) → inv o → reads_character (f x) ≡ true → IsAtPlace reading o) → ((x : X) (o q : ℕ) → inv o → go x o ≡ Some q → inv q)
-      → ((x : X) → is_plain (f x) ≡ true)
+      → ((x : X) → is_unreferring (f x) ≡ true)
       → ((x : X) (w : Whole) → successors program input (f x) dir w ≡ moved_to w (go x w.offset))
       → (xs : List X) (address : ℕ) (w : Whole) → w.at ≡ address → inv w.offset → StandFrom program address (map f xs)
       → Expands program input reading dir (w ∷ []) (further w (address + length xs) (all_steps go xs w.offset))
@@ -61,7 +61,7 @@ module _ (program : Program) (input : Input) (reading : Reading) where
       subst (λ a. Expands program input reading dir (w ∷ []) (record w { at = a } ∷ [])) e (Expands-same program input reading dir (w ∷ []))
   steps-run f go dir inv reads keeps plain does (x ∷ xs) address w at known (here, rest) =
       by_found (go x w.offset) refl
-      (subst (Expands program input reading dir (w ∷ [])) (does x w) (steps program input reading (f x) w (subst (λ a. Stands program a (f x)) (sym at) here) (plain x) (reads x w.offset known)))
+      (subst (Expands program input reading dir (w ∷ [])) (does x w) (steps program input reading (f x) w (subst (λ a. Stands program a (f x)) (sym at) here) (unreferring-plain (f x) (plain x)) (λ e. unreferring-reads reading (f x) w (plain x) (reads x w.offset known e))))
       (λ o on. steps-run f go dir inv reads keeps plain does xs (suc address) (record w { at = suc w.at; offset = o }) (ap suc at) on rest)
     where
       by_found : (o : Option ℕ) → go x w.offset ≡ o → Expands program input reading dir (w ∷ []) (moved_to w o)
@@ -389,7 +389,7 @@ module _ (target : Target) (input : Input) (reading : Reading) where
   -- steps that lead beyond a literal's characters
   stepping : {X : Type 0} (b : Bool) (bs : List ℕ) (p q : Spot) (f : X → Instruction) (go : X → ℕ → Option ℕ) (xs : List X) (inv : ℕ → Type 0)
       → ((x : X) (o : ℕ) → inv o → reads_character (f x) ≡ true → IsAtPlace reading o) → ((x : X) (o q : ℕ) → inv o → go x o ≡ Some q → inv q)
-      → ((place : ℕ) → place ≤ length reading.points → inv (offset reading place)) → ((x : X) → is_plain (f x) ≡ true)
+      → ((place : ℕ) → place ≤ length reading.points → inv (offset reading place)) → ((x : X) → is_unreferring (f x) ≡ true)
       → ((x : X) (w : Whole) → successors target.program input (f x) (direction b) w ≡ moved_to w (go x w.offset))
       → literal_code target.program b bs ≡ map f xs
       → ((p : ℕ) → p ≤ length reading.points

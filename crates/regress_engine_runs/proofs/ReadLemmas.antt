@@ -9,7 +9,7 @@ use Rattle.regress_engine_code.specs.Instructions as code
 use Rattle.regress_engine_runs.specs.States.{Whole, onward}
 use Rattle.regress_engine_runs.specs.Runs.{Runs, successors, is_plain, after_look}
 use Rattle.regress_engine_runs.specs.Runs as run
-use Rattle.regress_engine_runs.specs.Meets.{Meets, reads_character, IsAtPlace}
+use Rattle.regress_engine_runs.specs.Meets.{Meets, reads_character, ReadsPlaces}
 use Rattle.regress_engine_runs.specs.Meets as meets
 use Rattle.regress_engine_runs.specs.UndoStack.{Frame, Work, outermost, inside, first_do, ComesTo, meets_alone, meets_within, meets_outside, ReadOn}
 
@@ -54,7 +54,7 @@ module _ (program : Program) (input : Input) where
   module _ (reading : Reading) where
     -- The state that is first reads at a place, if it reads.
     pub read_now : (dir : Direction) (s : Whole) (work : Work) → ReadOn program input reading dir (s ∷ []) work → (i : Instruction) → Stands program s.at i
-        → reads_character i ≡ true → IsAtPlace reading s.offset
+        → reads_character i ≡ true → ReadsPlaces reading i s
     read_now dir s work on i here reads = on s i (comes_now dir s work) here reads
 
     -- A plain step.

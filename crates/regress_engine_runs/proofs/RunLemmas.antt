@@ -1,5 +1,5 @@
 -- Runs of lists of states: what may stand in place of a state, and what in place of a list.
-use Rattle.std.proofs.Common.{◌≡◌, ℕ, suc, ◌+◌, Bool, true, List, [], ◌∷◌, ◌++◌, Option, Some, sym, ap, ◌∙◌, subst, arith, append_assoc}
+use Rattle.std.proofs.Common.{◌≡◌, ℕ, suc, ◌+◌, Bool, true, false, List, [], ◌∷◌, ◌++◌, Option, Some, refl, sym, ap, ◌∙◌, subst, arith, append_assoc}
 use Rattle.regress_meaning.specs.Meaning.{Direction}
 use Rattle.regress_meaning.specs.Inputs.{Input}
 use Rattle.regress_meaning.specs.Offsets.{Reading}
@@ -8,8 +8,25 @@ use Rattle.regress_engine_code.specs.Instructions.{Instruction, Program, Stands}
 use Rattle.regress_engine_code.specs.Instructions as code
 use Rattle.regress_engine_runs.specs.States.{Whole, onward}
 use Rattle.regress_engine_runs.specs.Runs.{successors, is_plain, after_look}
-use Rattle.regress_engine_runs.specs.Meets.{reads_character, IsAtPlace}
+use Rattle.regress_engine_runs.specs.Meets.{reads_character, IsAtPlace, ReadsPlaces}
 use Rattle.regress_engine_runs.proofs.SafeRuns.{SafeRun, SafeRuns, ends, finds, goes, looks}
+
+-- an instruction leads to its successors, whatever other states there are, and refers to no group
+abbrev pub is_unreferring : Instruction → Bool
+is_unreferring code.goal = false
+is_unreferring (code.look negated backward first last continuation) = false
+is_unreferring (code.back k icase) = false
+is_unreferring _ = true
+
+pub unreferring-plain : (i : Instruction) → is_unreferring i ≡ true → is_plain i ≡ true
+unreferring-plain code.goal e = absurd (grind arith)
+unreferring-plain (code.look negated backward first last continuation) e = absurd (grind arith)
+unreferring-plain _ e = refl
+
+-- so it reads at places where its offset is that of one
+pub unreferring-reads : (reading : Reading) (i : Instruction) (s : Whole) → is_unreferring i ≡ true → IsAtPlace reading s.offset → ReadsPlaces reading i s
+unreferring-reads reading (code.back k icase) s e place = absurd (grind arith)
+unreferring-reads reading _ s e place = (place, tt)
 
 module _ (program : Program) (input : Input) (reading : Reading) where
   -- In every run the second list may be replaced by the first.
@@ -63,7 +80,7 @@ module _ (program : Program) (input : Input) (reading : Reading) where
 
   -- a state expands to its successors
   pub steps : {dir : Direction} (i : Instruction) (s : Whole) → Stands program s.at i → is_plain i ≡ true
-      → (reads_character i ≡ true → IsAtPlace reading s.offset) → Expands dir (s ∷ []) (successors program input i dir s)
+      → (reads_character i ≡ true → ReadsPlaces reading i s) → Expands dir (s ∷ []) (successors program input i dir s)
   steps i s here plain places rest r (n, h) = (suc n, goes here plain places h)
 
   -- and one at a lookaround to what follows by the answer of its contents

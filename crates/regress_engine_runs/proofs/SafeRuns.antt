@@ -9,7 +9,7 @@ use Rattle.regress_engine_code.specs.Instructions as code
 use Rattle.regress_engine_runs.specs.States.{Whole, onward}
 use Rattle.regress_engine_runs.specs.Runs.{Run, successors, is_plain, after_look}
 use Rattle.regress_engine_runs.specs.Runs as run
-use Rattle.regress_engine_runs.specs.Meets.{Meets, now, later, inside, behind, reads_character, IsAtPlace}
+use Rattle.regress_engine_runs.specs.Meets.{Meets, now, later, inside, behind, reads_character, ReadsPlaces}
 use Rattle.regress_engine_runs.proofs.Computed.{one_run}
 use Rattle.regress_engine_runs.proofs.RunViews.{one_stands}
 
@@ -19,7 +19,7 @@ module _ (program : Program) (input : Input) (reading : Reading) where
     ends : {dir : Direction} → SafeRun dir [] 0 None
     finds : {dir : Direction} {s : Whole} {ss : List Whole} → Stands program s.at code.goal → SafeRun dir (s ∷ ss) 1 (Some s)
     goes : {dir : Direction} {i : Instruction} {s : Whole} {ss : List Whole} {n : ℕ} {r : Option Whole}
-        → Stands program s.at i → is_plain i ≡ true → (reads_character i ≡ true → IsAtPlace reading s.offset)
+        → Stands program s.at i → is_plain i ≡ true → (reads_character i ≡ true → ReadsPlaces reading i s)
         → SafeRun dir (successors program input i dir s ++ ss) n r → SafeRun dir (s ∷ ss) (suc n) r
     looks : {dir : Direction} {negated backward : Bool} {first last continuation : ℕ} {s : Whole} {ss : List Whole}
         {m n : ℕ} {q r : Option Whole} → Stands program s.at (code.look negated backward first last continuation)
@@ -39,11 +39,11 @@ module _ (program : Program) (input : Input) (reading : Reading) where
 
   -- what the first state of a safe run reads
   reads_first : {dir : Direction} {s : Whole} {ss : List Whole} {n : ℕ} {r : Option Whole} (i : Instruction) → SafeRun dir (s ∷ ss) n r → Stands program s.at i
-      → reads_character i ≡ true → IsAtPlace reading s.offset
+      → reads_character i ≡ true → ReadsPlaces reading i s
   reads_first i (finds goal) here reads =
       let e : reads_character i ≡ reads_character code.goal = ap reads_character (one_stands program input _ i code.goal here goal) in absurd (grind arith)
-  reads_first i (goes {i = j} there plain places rest) here reads =
-      let e : reads_character j ≡ reads_character i = ap reads_character (one_stands program input _ j i there here) in places (e ∙ reads)
+  reads_first i (goes {i = j} {s = s} there plain places rest) here reads =
+      let same : j ≡ i = one_stands program input s.at j i there here in subst (λ x. ReadsPlaces reading x s) same (places (ap reads_character same ∙ reads))
   reads_first i (looks {negated = negated} {backward = backward} {first = first} {last = last} {continuation = continuation} there inner rest) here reads =
       let e : reads_character i ≡ reads_character (code.look negated backward first last continuation) =
       ap reads_character (one_stands program input _ i (code.look negated backward first last continuation) here there) in absurd (grind arith)
@@ -74,7 +74,7 @@ module _ (program : Program) (input : Input) (reading : Reading) where
 
   -- A safe run reads at places wherever it comes.
   pub reads-where_met : {dir : Direction} {ss : List Whole} {t : Whole} → Meets program input dir ss t → (r : Option Whole) → SafeRuns dir ss r
-      → (i : Instruction) → Stands program t.at i → reads_character i ≡ true → IsAtPlace reading t.offset
+      → (i : Instruction) → Stands program t.at i → reads_character i ≡ true → ReadsPlaces reading i t
   reads-where_met now r (n, safe) i here reads = reads_first i safe here reads
   reads-where_met (later {i = j} there plain met) r (n, safe) i here reads = reads-where_met met r (safe_goes j there plain safe) i here reads
   reads-where_met (inside {negated = negated} {backward = backward} {first = first} {last = last} {continuation = continuation} there met) r (n, safe) i here reads =

@@ -7,7 +7,8 @@ use Rattle.regress_meaning.specs.Steps.{passed}
 use Rattle.regress_engine_code.specs.Instructions.{Instruction, Program}
 use Rattle.regress_engine_code.specs.Layout.{char_set_code, ascii_set_code, byte_set_code}
 use Rattle.regress_engine_runs.specs.States.{Whole, Marks}
-use Rattle.regress_engine_runs.specs.Runs.{is_plain, moved_to, advance, successors}
+use Rattle.regress_engine_runs.specs.Runs.{moved_to, advance, successors}
+use Rattle.regress_engine_runs.proofs.RunLemmas.{is_unreferring}
 
 -- a test made twice, three times, four times
 twice : (b : Bool) → (b || (b || false)) ≡ (b || false)
@@ -74,18 +75,18 @@ module _ (program : Program) (input : Input) (dir : Direction) where
   byte_set-leads false bs = ascii_set-leads bs
 
 -- It goes on with its successors alone.
-pub char_set-plain : (cs : List ℕ) → is_plain (char_set_code cs) ≡ true
+pub char_set-plain : (cs : List ℕ) → is_unreferring (char_set_code cs) ≡ true
 char_set-plain [] = refl
 char_set-plain (a ∷ []) = refl
 char_set-plain (a ∷ b ∷ []) = refl
 char_set-plain (a ∷ b ∷ c ∷ []) = refl
 char_set-plain (a ∷ b ∷ c ∷ d ∷ cs) = refl
 
-ascii_set-plain : (bs : List ℕ) → is_plain (ascii_set_code bs) ≡ true
+ascii_set-plain : (bs : List ℕ) → is_unreferring (ascii_set_code bs) ≡ true
 ascii_set-plain [] = refl
 ascii_set-plain (a ∷ []) = refl
 ascii_set-plain (a ∷ b ∷ bs) = refl
 
-pub byte_set-plain : (units : Bool) (bs : List ℕ) → is_plain (byte_set_code units bs) ≡ true
+pub byte_set-plain : (units : Bool) (bs : List ℕ) → is_unreferring (byte_set_code units bs) ≡ true
 byte_set-plain true bs = char_set-plain bs
 byte_set-plain false bs = ascii_set-plain bs

@@ -403,7 +403,7 @@ module _ (target : Target) (input : Input) (reading : Reading) (tells : Tells re
       along context dir test (node_outcomes context a dir) means greedy most least order s stands.inside.place in
       let found : slice_get target.program.instructions (suc w.at) ≡ Some i = ap (λ x. slice_get target.program.instructions (suc x)) at ∙ body in
       let goes : Expands target.program input reading dir (w ∷ []) (successors target.program input (code.single_loop least most greedy) dir w) =
-      steps target.program input reading (code.single_loop least most greedy) w (standing target input reading w at here) refl (λ e. (s.place, stands.inside.place, stands.place)) in
+      steps target.program input reading (code.single_loop least most greedy) w (standing target input reading w at here) refl (λ e. ((s.place, stands.inside.place, stands.place), tt)) in
       let ws : List Whole = map (λ o. record w { at = suc (suc w.at); offset = o }) (counted target.program input least most greedy i dir w.groups w.offset) in
       let made : map behind (preferred greedy vs) ≡ ws =
       ap (λ xs. map behind (preferred greedy (drop least xs))) (taken-offsets target.program input i dir most w)

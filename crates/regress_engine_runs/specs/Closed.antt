@@ -16,9 +16,10 @@ takes_character (code.bracket k) = true
 takes_character (code.ascii_bracket cs) = true
 takes_character _ = false
 
--- An instruction at an address fits its program: brackets, groups and loops are there, an iteration ends for a repetition
+-- An instruction at an address fits its program: bytes stand in a program of bytes, brackets, groups and loops are there, an iteration ends for a repetition
 -- that begins where it says, and what a one-character loop repeats takes one character.
 abbrev pub Fits : Program → (at : ℕ) → Instruction → Type 0
+Fits program at (code.byte_seq bs) = program.units ≡ false
 Fits program at (code.bracket k) = k < length program.brackets
 Fits program at (code.back k icase) = k < program.groups
 Fits program at (code.enter_loop f) = (f.loop_id < program.loops) × (f.least ≤ f.most)

@@ -1,12 +1,12 @@
 -- The states that a run comes to, whether it ends or not.
-use Rattle.std.specs.Prelude.{◌≡◌, ℕ, ◌≤◌, Bool, true, false, List, [], ◌∷◌, ◌++◌, length, Option}
+use Rattle.std.specs.Prelude.{◌≡◌, ℕ, ◌≤◌, Bool, true, false, List, [], ◌∷◌, ◌++◌, length, Option, Some, None, IfSome, get_or}
 use Rattle.regress_meaning.specs.Meaning.{Direction, Forward}
 use Rattle.regress_meaning.specs.Offsets.{Reading, offset}
 use Rattle.regress_meaning.specs.Inputs.{Input}
 use Rattle.regress_front_nodes.specs.TreeMeaning.{direction}
 use Rattle.regress_engine_code.specs.Instructions.{Instruction, Program, Stands}
 use Rattle.regress_engine_code.specs.Instructions as code
-use Rattle.regress_engine_runs.specs.States.{Whole, onward, first_state}
+use Rattle.regress_engine_runs.specs.States.{Whole, unset, range_of, onward, first_state}
 use Rattle.regress_engine_runs.specs.Runs.{is_plain, successors, after_look, Runs}
 
 module _ (program : Program) (input : Input) where
@@ -52,9 +52,24 @@ reads_character _ = false
 abbrev pub IsAtPlace : Reading → ℕ → Type 0
 IsAtPlace reading o = (p : ℕ) × (p ≤ length reading.points) × (o ≡ offset reading p)
 
+-- two offsets are those of places, the first no later than the second
+abbrev pub AreAtPlaces : Reading → ℕ × ℕ → Type 0
+AreAtPlaces reading x = IsAtPlace reading x.0 × IsAtPlace reading x.1 × (x.0 ≤ x.1)
+
+-- the group that an instruction refers to
+abbrev pub referred : Instruction → Option ℕ
+referred (code.back k icase) = Some k
+referred _ = None
+
+-- What an instruction reads in a state is at places: the characters beside the offset, and the range of the group that it
+-- refers to.
+abbrev pub ReadsPlaces : Reading → Instruction → Whole → Type 0
+ReadsPlaces reading i s =
+    IsAtPlace reading s.offset × IfSome (referred i) (λ k. IfSome (range_of (get_or s.groups k unset)) (AreAtPlaces reading))
+
 -- A program reads at places: from each place of the text, each state that its run meets at an instruction that reads
--- characters is at the offset of a place.
+-- characters is at the offset of a place, and so are the ends of what it refers to.
 abbrev pub ReadsAtPlaces : Program → Input → Reading → Type 0
 ReadsAtPlaces program input reading = (p : ℕ) → p ≤ length reading.points → (t : Whole) (i : Instruction)
     → Meets program input Forward (first_state program (offset reading p) ∷ []) t → Stands program t.at i → reads_character i ≡ true
-    → IsAtPlace reading t.offset
+    → ReadsPlaces reading i t

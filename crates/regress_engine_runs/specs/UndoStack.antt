@@ -8,7 +8,7 @@ use Rattle.regress_engine_code.specs.Instructions.{Instruction, Program, Stands}
 use Rattle.regress_engine_runs.specs.States.{Marks, Whole}
 use Rattle.regress_engine_runs.specs.Runs.{Run, Runs, after_look, one_more, given_back, one_by_one}
 use Rattle.regress_engine_runs.specs.Computed.{run}
-use Rattle.regress_engine_runs.specs.Meets.{Meets, reads_character, IsAtPlace}
+use Rattle.regress_engine_runs.specs.Meets.{Meets, reads_character, ReadsPlaces}
 
 -- A lookaround whose contents are under way: its instruction, where it stands and at which offset, and which way was read
 -- before it.
@@ -114,7 +114,7 @@ module _ (program : Program) (input : Input) where
         → Runs program input dir (ss ++ ts) q → ComesTo f.outside (after_look f.negated f.first f.last f.continuation s q) rest t
         → ComesTo dir ss (inside ts f s rest) t
 
-  -- wherever they come to an instruction that reads characters, the offset is that of a place
+  -- wherever they come to an instruction that reads characters, it reads at places
   abbrev pub ReadOn : Reading → Direction → List Whole → Work → Type 0
   ReadOn reading dir ss work = (t : Whole) (i : Instruction) → ComesTo dir ss work t → Stands program t.at i → reads_character i ≡ true
-      → IsAtPlace reading t.offset
+      → ReadsPlaces reading i t

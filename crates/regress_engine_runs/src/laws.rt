@@ -33,13 +33,14 @@ pub fn layouts_never_get_stuck()
 {}
 
 /// A program that is a layout reads at places alone: wherever its run comes to an instruction that reads characters, from each
-/// place of a text, inside and outside of lookarounds, the offset is that of a place.
+/// place of a text, inside and outside of lookarounds, the offset is that of a place, and so are the ends of a range that it
+/// refers to.
 pub fn layouts_read_at_places()
     ensures { (target : Target) → (input : Input) → (reading : Reading) → Tells reading input → (target.program.units ≡ false → TellsBytes reading input) → IsMadeFor target input → (n : ℕ) → (t : Tree) → IsWellFormed n t → IsLayout target n t → ReadsAtPlaces target.program input reading }
 {}
 
-/// A program that is a layout is closed: its brackets, groups and loops are there where an instruction names them, the end of
-/// an iteration names the beginning of a repetition, and what a one-character loop repeats takes one character.
+/// A program that is a layout is closed: bytes stand in programs of bytes alone, its brackets, groups and loops are there where
+/// an instruction names them, the end of an iteration names the beginning of a repetition, and what a one-character loop repeats takes one character.
 pub fn layouts_are_closed()
     ensures { (target : Target) → (n : ℕ) → (t : Tree) → IsWellFormed n t → IsLayout target n t → IsClosed target.program }
 {}

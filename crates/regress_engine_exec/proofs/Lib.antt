@@ -1,0 +1,13 @@
+pub mod BracketLemmas
+pub mod MemberLemmas
+pub mod RepeatLemmas
+pub mod MemoryLemmas
+pub mod PlaceLemmas
+pub mod SoundLemmas
+pub mod LeadLemmas
+pub mod StepLemmas
+pub mod BackLemmas
+pub mod SingleLemmas
+pub mod LeaveLemmas
+pub mod DispatchLemmas
+pub mod TryLemmas

@@ -1,0 +1,179 @@
+-- What each step that changes what is held leads to.
+use Rattle.std.specs.Prelude.{get_or, slice_set, nat_lt, nat_le, ◌^◌}
+use Rattle.std.proofs.Common.{◌≡◌, ℕ, suc, ◌+◌, ◌<◌, ◌≤◌, ◌∷◌, [], List, ◌++◌, Bool, true, false, ◌&&◌, ◌==◌, if◌then◌else◌, length, refl, sym, ap, ◌∙◌, subst, arith}
+use Rattle.std.proofs.lemmas.Bool.Decides.{nat_tests}
+use Rattle.regress_meaning.specs.Inputs.{Input}
+use Rattle.regress_engine_input.specs.Views.{View, way}
+use Rattle.regress_engine_code.specs.Instructions.{Program, LoopFields}
+use Rattle.regress_engine_runs.specs.States.{Whole, Marks, onward}
+use Rattle.regress_engine_runs.specs.Runs.{count_of, one_more, ordered, choices, is_idle}
+use Rattle.regress_engine_runs.specs.UndoStack.{stands_for, resume, iterate}
+use Rattle.regress_engine_exec.specs.declared.undo.Spot.{Spot}
+use Rattle.regress_engine_exec.specs.Held.{Held, loop_written, group_written, pushed}
+use Rattle.regress_engine_exec.specs.Sound.{IsSound, IsHeld}
+use Rattle.regress_engine_exec.specs.Tasks.{Task, task_of, task, state_at, Leads, GoesOn, StaysSound}
+use Rattle.regress_engine_exec.proofs.LeadLemmas.{leads-then, leads-same, leads-equal, leads-later, leads-loop, leads-group}
+use Rattle.regress_engine_exec.proofs.SoundLemmas.{held-loop, held-group}
+
+-- one way now and one later
+pub fork-leads : (p : Spot) (h k : Held) (target : ℕ) → k ≡ pushed (resume target p.offset) h
+    → GoesOn (onward (state_at p h) ∷ record (state_at p h) { at = target } ∷ []) p h true (record p { at = p.at + 1 }) k
+unfolding stands_for
+fork-leads p h k target is program input =
+    let s : Whole = state_at p h in
+    let e : suc p.at ≡ p.at + 1 = omega arith in
+    subst (λ x. Leads program input 0 (task_of program input (onward s ∷ record s { at = target } ∷ []) p h) (task program input true (record p { at = p.at + 1 }) x)) (sym is)
+    (subst (λ a. Leads program input 0 (task_of program input (onward s ∷ record s { at = target } ∷ []) p h) (task program input true (record p { at = a }) (pushed (resume target p.offset) h))) e
+    (leads-later program input (way p.forward) (onward s ∷ []) (record s { at = target } ∷ []) (stands_for program input (way p.forward) h.stack h.loops h.groups)))
+
+pub resume-sound : (h k : Held) (at offset : ℕ) → k ≡ pushed (resume at offset) h → StaysSound h k
+unfolding IsSound
+resume-sound h k at offset is program v held =
+    subst (IsHeld program v) (sym is) (record { loops = held.loops; groups = held.groups; sound = held.sound })
+
+-- a group's marks
+pub mark-leads : (p : Spot) (h k : Held) (group : ℕ) (m : Marks) → k ≡ group_written group m h
+    → GoesOn (onward (record (state_at p h) { groups = slice_set h.groups group m }) ∷ []) p h true (record p { at = p.at + 1 }) k
+mark-leads p h k group m is program input =
+    let s : Whole = onward (record (state_at p h) { groups = slice_set h.groups group m }) in
+    let e : suc p.at ≡ p.at + 1 = omega arith in
+    subst (λ x. Leads program input 0 (task_of program input (s ∷ []) p h) (task program input true (record p { at = p.at + 1 }) x)) (sym is)
+    (subst (λ a. Leads program input 0 (task_of program input (s ∷ []) p h) (task program input true (record p { at = a }) (group_written group m h))) e
+    (leads-group program input (s ∷ []) p h group m))
+
+pub mark-sound : (h k : Held) (group : ℕ) (m : Marks) → k ≡ group_written group m h → group < length h.groups → StaysSound h k
+mark-sound h k group m is there program v held =
+    let same = held.groups in subst (IsHeld program v) (sym is) (held-group program v h group m held (omega (arith, there, same)))
+
+pub loop-sound : (h k : Held) (id : ℕ) (x : ℕ × ℕ) → k ≡ loop_written id x h → id < length h.loops → StaysSound h k
+loop-sound h k id x is there program v held =
+    let same = held.loops in subst (IsHeld program v) (sym is) (held-loop program v h id x held (omega (arith, there, same)))
+
+pub sound-then : (h k l : Held) → StaysSound h k → StaysSound k l → StaysSound h l
+sound-then h k l f g program v held = g program v (f program v held)
+
+-- ---- repetitions
+
+-- one more iteration
+pub iterate-leads : (p : Spot) (h k : Held) (id count begin : ℕ) → count ≡ (get_or h.loops id (0, 0)).0 → k ≡ loop_written id (count + 1, p.offset) h
+    → GoesOn (one_more id begin (state_at p h) ∷ []) p h true (record p { at = begin + 1 }) k
+iterate-leads p h k id count begin counted is program input =
+    let s : Whole = one_more id begin (state_at p h) in
+    let from : Task = task_of program input (s ∷ []) p h in
+    let at : suc begin ≡ begin + 1 = omega arith in
+    let more : suc (get_or h.loops id (0, 0)).0 ≡ count + 1 = omega (arith, counted) in
+    subst (λ x. Leads program input 0 from (task program input true (record p { at = begin + 1 }) x)) (sym is)
+    (subst (λ a. Leads program input 0 from (task program input true (record p { at = a }) (loop_written id (count + 1, p.offset) h))) at
+    (subst (λ n. Leads program input 0 from (task program input true (record p { at = suc begin }) (loop_written id (n, p.offset) h))) more
+    (leads-loop program input (s ∷ []) p h id (suc (get_or h.loops id (0, 0)).0, p.offset))))
+
+-- the choices, by the tests
+choices-are : (f : LoopFields) (begin : ℕ) (s : Whole) (g m o : Bool) → f.greedy ≡ g → nat_lt (count_of f.loop_id s) f.most ≡ m → nat_le f.least (count_of f.loop_id s) ≡ o
+    → choices f begin s ≡ ordered g m o (one_more f.loop_id begin s) (record s { at = f.exit })
+choices-are f begin s g m o greedy more out = (λ i. ordered (greedy i) (more i) (out i) (one_more f.loop_id begin s) (record s { at = f.exit }))
+
+ordered-none : (g : Bool) (s t : Whole) → ordered g false false s t ≡ []
+ordered-none true s t = refl
+ordered-none false s t = refl
+
+ordered-out : (g : Bool) (s t : Whole) → ordered g false true s t ≡ t ∷ []
+ordered-out true s t = refl
+ordered-out false s t = refl
+
+ordered-more : (g : Bool) (s t : Whole) → ordered g true false s t ≡ s ∷ []
+ordered-more true s t = refl
+ordered-more false s t = refl
+
+module _ (f : LoopFields) (begin : ℕ) (p : Spot) (h : Held) (count : ℕ) (counted : count ≡ (get_or h.loops f.loop_id (0, 0)).0) where
+  abbrev here : Whole
+  here = state_at p h
+
+  more-true : count < f.most → nat_lt (count_of f.loop_id here) f.most ≡ true
+  more-true less = ap (λ n. nat_lt n f.most) (sym counted) ∙ grind (arith, nat_tests)
+
+  more-false : f.most ≤ count → nat_lt (count_of f.loop_id here) f.most ≡ false
+  more-false less = ap (λ n. nat_lt n f.most) (sym counted) ∙ grind (arith, nat_tests)
+
+  out-true : f.least ≤ count → nat_le f.least (count_of f.loop_id here) ≡ true
+  out-true enough = ap (λ n. nat_le f.least n) (sym counted) ∙ grind (arith, nat_tests)
+
+  out-false : count < f.least → nat_le f.least (count_of f.loop_id here) ≡ false
+  out-false few = ap (λ n. nat_le f.least n) (sym counted) ∙ grind (arith, nat_tests)
+
+  from_choices : (states : List Whole) (q : Spot) (k : Held) (going : Bool) → choices f begin here ≡ states → GoesOn states p h going q k → GoesOn (choices f begin here) p h going q k
+  from_choices states q k going same on program input =
+      subst (λ ss. Leads program input 0 (task_of program input ss p h) (task program input going q k)) (sym same) (on program input)
+
+  pub choose-none : f.most ≤ count → count < f.least → GoesOn (choices f begin here) p h false p h
+  choose-none many few =
+      from_choices [] p h false
+      (choices-are f begin here f.greedy false false refl (more-false many) (out-false few) ∙ ordered-none f.greedy (one_more f.loop_id begin here) (record here { at = f.exit }))
+      (λ program input. leads-same program input (task_of program input [] p h))
+
+  pub choose-out : f.most ≤ count → f.least ≤ count → GoesOn (choices f begin here) p h true (record p { at = f.exit }) h
+  choose-out many enough =
+      from_choices (record here { at = f.exit } ∷ []) (record p { at = f.exit }) h true
+      (choices-are f begin here f.greedy false true refl (more-false many) (out-true enough) ∙ ordered-out f.greedy (one_more f.loop_id begin here) (record here { at = f.exit }))
+      (λ program input. leads-same program input (task_of program input (record here { at = f.exit } ∷ []) p h))
+
+  pub choose-more : (k : Held) → count < f.most → count < f.least → k ≡ loop_written f.loop_id (count + 1, p.offset) h
+      → GoesOn (choices f begin here) p h true (record p { at = begin + 1 }) k
+  choose-more k less few is =
+      from_choices (one_more f.loop_id begin here ∷ []) (record p { at = begin + 1 }) k true
+      (choices-are f begin here f.greedy true false refl (more-true less) (out-false few) ∙ ordered-more f.greedy (one_more f.loop_id begin here) (record here { at = f.exit }))
+      (iterate-leads p h k f.loop_id count begin counted is)
+
+  pub choose-greedy : (j k : Held) → count < f.most → f.least ≤ count → f.greedy ≡ true → j ≡ pushed (resume f.exit p.offset) h → k ≡ loop_written f.loop_id (count + 1, p.offset) j
+      → GoesOn (choices f begin here) p h true (record p { at = begin + 1 }) k
+  unfolding stands_for
+  choose-greedy j k less enough greedy pushes is =
+      from_choices (one_more f.loop_id begin here ∷ record here { at = f.exit } ∷ []) (record p { at = begin + 1 }) k true
+      (choices-are f begin here true true true greedy (more-true less) (out-true enough))
+      (λ program input. leads-then program input 0 0
+      (leads-later program input (way p.forward) (one_more f.loop_id begin here ∷ []) (record here { at = f.exit } ∷ []) (stands_for program input (way p.forward) h.stack h.loops h.groups))
+      (iterate-leads p (pushed (resume f.exit p.offset) h) k f.loop_id count begin counted (is ∙ ap (loop_written f.loop_id (count + 1, p.offset)) pushes) program input))
+
+  pub choose-lazy : (k : Held) → count < f.most → f.least ≤ count → f.greedy ≡ false → k ≡ pushed (iterate f.loop_id begin p.offset) h
+      → GoesOn (choices f begin here) p h true (record p { at = f.exit }) k
+  unfolding stands_for
+  choose-lazy k less enough lazy is =
+      from_choices (record here { at = f.exit } ∷ one_more f.loop_id begin here ∷ []) (record p { at = f.exit }) k true
+      (choices-are f begin here false true true lazy (more-true less) (out-true enough))
+      (λ program input. subst (λ x. Leads program input 0 (task_of program input (record here { at = f.exit } ∷ one_more f.loop_id begin here ∷ []) p h) (task program input true (record p { at = f.exit }) x)) (sym is)
+      (leads-later program input (way p.forward) (record here { at = f.exit } ∷ []) (one_more f.loop_id begin here ∷ []) (stands_for program input (way p.forward) h.stack h.loops h.groups)))
+
+pub iterate-sound : (h k : Held) (id begin offset : ℕ) → k ≡ pushed (iterate id begin offset) h → id < length h.loops → (get_or h.loops id (0, 0)).0 + 1 < 2 ^ 64 → begin + 1 < 2 ^ 64
+    → StaysSound h k
+unfolding IsSound
+iterate-sound h k id begin offset is there count room program v held =
+    let same = held.loops in
+    subst (IsHeld program v) (sym is) (record { loops = held.loops; groups = held.groups; sound = (omega (arith, there, same), count, room, held.sound) })
+
+-- the spot, told otherwise
+pub at_spot : (states : List Whole) (p : Spot) (h : Held) (going : Bool) (q r : Spot) (k : Held) → r ≡ q → GoesOn states p h going q k → GoesOn states p h going r k
+at_spot states p h going q r k same on program input =
+    subst (λ x. Leads program input 0 (task_of program input states p h) (task program input going x k)) (sym same) (on program input)
+
+-- an iteration that was idle, and one that was not
+pub again-idle : (f : LoopFields) (begin : ℕ) (p : Spot) (h : Held) → is_idle f (state_at p h) ≡ true
+    → GoesOn (if is_idle f (state_at p h) then [] else choices f begin (state_at p h)) p h false p h
+again-idle f begin p h idle program input =
+    subst (λ b. Leads program input 0 (task_of program input (if b then [] else choices f begin (state_at p h)) p h) (task program input false p h)) (sym idle)
+    (leads-same program input (task_of program input [] p h))
+
+pub again-on : (f : LoopFields) (begin : ℕ) (p : Spot) (h : Held) (going : Bool) (q : Spot) (k : Held) → is_idle f (state_at p h) ≡ false
+    → GoesOn (choices f begin (state_at p h)) p h going q k
+    → GoesOn (if is_idle f (state_at p h) then [] else choices f begin (state_at p h)) p h going q k
+again-on f begin p h going q k busy on program input =
+    subst (λ b. Leads program input 0 (task_of program input (if b then [] else choices f begin (state_at p h)) p h) (task program input going q k)) (sym busy)
+    (on program input)
+
+-- a repetition is entered
+pub enter-on : (f : LoopFields) (p : Spot) (h j : Held) (going : Bool) (q : Spot) (k : Held) → j ≡ loop_written f.loop_id (0, p.offset) h
+    → GoesOn (choices f p.at (state_at p j)) p j going q k
+    → GoesOn (choices f p.at (record (state_at p h) { loops = slice_set h.loops f.loop_id (0, p.offset) })) p h going q k
+enter-on f p h j going q k is on program input =
+    let s : Whole = record (state_at p h) { loops = slice_set h.loops f.loop_id (0, p.offset) } in
+    let on' : GoesOn (choices f p.at s) p (loop_written f.loop_id (0, p.offset) h) going q k =
+    subst (λ x. GoesOn (choices f p.at (state_at p x)) p x going q k) is on in
+    leads-then program input 0 0 (leads-loop program input (choices f p.at s) p h f.loop_id (0, p.offset)) (on' program input)

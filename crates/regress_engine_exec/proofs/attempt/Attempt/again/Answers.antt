@@ -1,0 +1,35 @@
+use Rattle.std.proofs.Common.{◌≡◌, ◌<◌, sym, ap, ◌∙◌, subst, refl, arith}
+use Rattle.regress_engine_code.specs.Instructions.{Instruction, LoopFields, Program, Stands, enter_loop, loop_again}
+use Rattle.regress_engine_code.specs.InsnViews.{instruction, fields}
+use Rattle.regress_engine_code.specs.Standing.{program_of}
+use Rattle.regress_engine_input.specs.Views.{way, input_of}
+use Rattle.regress_engine_exec.specs.Held.{held}
+use Rattle.regress_engine_exec.proofs.MemoryLemmas.{ok-then}
+use Rattle.regress_engine_exec.proofs.DispatchLemmas.{stands-as, again-on-step, no-repetition}
+use Rattle.regress_engine_exec.proofs.attempt.Attempt.again.Goals as goal
+
+pub instruction-requires : goal.instruction-requires
+instruction-requires g c =
+    let fits = c.requires.suits.closed c.args.spot.now.at (loop_again c.args.begin) c.requires.stands in (enter_loop fits.0, fits.1)
+
+pub again-requires-clause-there : goal.again-requires-clause-there
+again-requires-clause-there g c =
+    let program = program_of c.args.self.now.program.now in
+    let here = stands-as program c.args.begin _ _ c.in-EnterLoop.is c.instruction.ensures.stands in
+    let fits = c.requires.suits.closed c.args.begin _ here in
+    let there = fits.0 in
+    let same = c.requires.sound.loops in
+    omega (arith, there, same)
+
+pub returns-in-EnterLoop-clause-leads : goal.returns-in-EnterLoop-clause-leads
+returns-in-EnterLoop-clause-leads g c =
+    let program = program_of c.args.self.now.program.now in
+    let input = input_of (g.Input.InputIndexer.view c.args.self.now.input) in
+    let here = stands-as program c.args.begin _ _ c.in-EnterLoop.is c.instruction.ensures.stands in
+    ok-then c.again.result _ _ (λ going on. again-on-step program input c.args.spot.now _ (held c.args.memory.now) _ going c.args.begin (fields c.in-EnterLoop.repetition) c.requires.stands here on) c.again.ensures.leads
+
+pub returns-in_default : goal.returns-in_default
+returns-in_default g c =
+    let program = program_of c.args.self.now.program.now in
+    let fits = c.requires.suits.closed c.args.spot.now.at (loop_again c.args.begin) c.requires.stands in
+    absurd (no-repetition program (input_of (g.Input.InputIndexer.view c.args.self.now.input)) c.args.begin _ fits.0 fits.1 c.instruction.ensures.stands c.in_default.not-EnterLoop)

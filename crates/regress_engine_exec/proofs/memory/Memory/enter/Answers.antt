@@ -1,0 +1,17 @@
+use Rattle.std.proofs.Common.{ap, ◌∙◌}
+use Rattle.regress_engine_code.specs.InsnViews.{fields}
+use Rattle.regress_engine_exec.specs.Held.{held, loop_of, loop_written}
+use Rattle.regress_engine_exec.proofs.MemoryLemmas.{ok-then}
+use Rattle.regress_engine_exec.proofs.StepLemmas.{enter-on, loop-sound, sound-then}
+use Rattle.regress_engine_exec.proofs.memory.Memory.enter.Goals as goal
+
+pub returns-clause-leads : goal.returns-clause-leads
+returns-clause-leads c =
+    let written = c.in_ok-write_loop.ensures ∙ ap (λ x. loop_written c.args.repetition.now.loop_id x (held c.args.self.now)) (ap loop_of c.new.ensures) in
+    ok-then c.choose.result _ _ (λ going on. enter-on (fields c.args.repetition.now) c.args.spot.now (held c.args.self.now) (held c.write_loop.new.self) going c.choose.new.spot (held c.choose.new.self) written on)
+    c.choose.ensures.leads
+
+pub returns-clause-sound : goal.returns-clause-sound
+returns-clause-sound c =
+    ok-then c.choose.result _ _ (λ going on. sound-then (held c.args.self.now) (held c.write_loop.new.self) (held c.choose.new.self) (loop-sound _ _ _ _ c.in_ok-write_loop.ensures c.requires.there) on)
+    c.choose.ensures.sound

@@ -1,0 +1,73 @@
+//! A run of a program from one offset of a text.
+ghost use Rattle.std.specs.Prelude.{◌+◌, ◌^◌, ◌<◌, [], ◌∷◌, IfOk};
+ghost use Rattle.regress_meaning.specs.Meaning.{Forward as forward};
+ghost use Rattle.regress_engine_code.specs.Instructions.{Instruction, Stands};
+ghost use Rattle.regress_engine_code.specs.InsnViews.{instruction};
+ghost use Rattle.regress_engine_code.specs.Standing.{program_of};
+ghost use Rattle.regress_engine_input.specs.Views.{input_of, reading_of};
+ghost use Rattle.regress_engine_runs.specs.States.{first_state};
+ghost use Rattle.regress_engine_runs.specs.Computed.{IsComputed};
+ghost use Rattle.regress_engine_runs.specs.UndoStack.{ReadOn, outermost};
+ghost use Rattle.regress_engine_exec.specs.Held.{held};
+ghost use Rattle.regress_engine_exec.specs.Ready.{Suits};
+ghost use Rattle.regress_engine_exec.specs.Trying.{IsAnswer};
+ghost use Rattle.regress_engine_runs.proofs.OneAnswer.{IsComputed-prop};
+
+use crate::memory::Memory;
+use crate::undo::Spot;
+use regress_engine_code::{CompiledRegex, Insn};
+use regress_engine_matchers::CharInput;
+use regress_front_core::GroupData;
+use std::alloc::AllocError;
+
+/// A program, a text, and an offset of it at which a run begins that ends.
+#[derive(Debug, Drop)]
+pub(crate) struct Attempt<'a, 'r, Input: CharInput> {
+    pub(crate) program: &'a CompiledRegex<'r>,
+    pub(crate) input: Input,
+    pub(crate) start: usize,
+    pub(crate) ghost ends: { IsComputed (program_of program.now) (input_of (Input.view input)) forward (first_state (program_of program.now) start ∷ []) } by { IsComputed-prop (program_of program.now) (input_of (Input.view input)) forward (first_state (program_of program.now) start ∷ []) },
+}
+
+impl<'a, 'r, Input: CharInput> Attempt<'a, 'r, Input> {
+    /// The instruction at an address.
+    #[inline]
+    pub(crate) fn instruction(&self, at: usize) -> &Insn
+        requires { (i : Instruction) × Stands (program_of self.now.program.now) at i }
+        ensures stands { Stands (program_of self.now.program.now) at (instruction result.now) }
+        ensures room { at + 1 < 2 ^ 64 }
+    {
+        let insns = self.program.insns();
+        &insns[at]
+    }
+
+    /// Runs the program from the offset. It answers the offset where the run's answer ends, whose groups `memory` then has,
+    /// or `None` where the run has no answer. `answer` is room for groups.
+    pub(crate) fn run(
+        &self,
+        memory: &mut Memory,
+        answer: &mut Vec<GroupData<usize>>,
+    ) -> Result<Option<usize>, AllocError>
+        requires suits { Suits (program_of self.now.program.now) (Input.view self.now.input) }
+        requires reads { ReadOn (program_of self.now.program.now) (input_of (Input.view self.now.input)) (reading_of (Input.view self.now.input)) forward (first_state (program_of self.now.program.now) self.now.start ∷ []) (outermost []) }
+        ensures { IfOk result (λ found. IsAnswer (program_of self.now.program.now) (input_of (Input.view self.now.input)) self.now.start found (held memory.new)) }
+    {
+        memory.begin(self.program.loops() as usize, self.program.groups() as usize)?;
+        let mut spot = Spot {
+            at: 0,
+            offset: self.start,
+            forward: true,
+        };
+        'steps: loop {
+            let Some(going) = self.step(memory, answer, &mut spot)? else {
+                return Ok(Some(spot.offset));
+            };
+            if going {
+                continue;
+            }
+            if !self.back(memory, &mut spot)? {
+                return Ok(None);
+            }
+        }
+    }
+}

@@ -1,0 +1,12 @@
+//! The executor that undoes: it tries the ways through a program one after another, on one state and one stack of records.
+#![tactic(auto)]
+
+mod attempt;
+mod back;
+mod leave;
+mod memory;
+mod reads;
+mod singles;
+mod step;
+mod steps;
+mod undo;
