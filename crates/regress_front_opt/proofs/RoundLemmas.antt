@@ -5,7 +5,7 @@ use Rattle.std.proofs.lemmas.List.Elements.{All-weaker}
 use Rattle.regress_meaning.specs.Meaning.{Forward}
 use Rattle.regress_front_core.specs.declared.error.Error.{Error}
 use Rattle.regress_front_nodes.specs.Trees.{Tree}
-use Rattle.regress_front_rules.specs.NormalForm.{nodes_below, Nowhere, is_short_cat, has_loose_part, has_split_literal, is_loose_char, is_loop_of_one, is_empty_choice, is_unrollable, is_lost_cat, IsNormal}
+use Rattle.regress_front_rules.specs.NormalForm.{nodes_below, Nowhere, is_short_cat, has_loose_part, has_split_literal, is_loose_char, is_loop_of_one, is_empty_choice, is_unrollable, is_idle_loop, is_lost_cat, IsNormal}
 use Rattle.regress_front_rules.specs.Rules.{Reaches, stays}
 use Rattle.regress_front_opt.specs.Passes.{Advances, IsVisited, IsRound}
 use Rattle.regress_front_opt.proofs.PassLemmas.{advances-reaches}
@@ -38,8 +38,11 @@ nowhere-second : (p q : Tree → Bool) (t : Tree) → Nowhere (λ u. p u || q u)
 nowhere-second p q t h = All-weaker (λ u. (p u || q u) ≡ false) (λ u. q u ≡ false) (λ u e. neither-second (p u) (q u) e) (t ∷ nodes_below t) h
 
 -- what the passes test, as they are put together
+abbrev of_loops : Tree → Bool
+of_loops t = is_idle_loop t || is_unrollable t
+
 abbrev of_lost : Tree → Bool
-of_lost t = is_lost_cat t || is_unrollable t
+of_lost t = is_lost_cat t || of_loops t
 
 abbrev of_leaves : Tree → Bool
 of_leaves t = is_loose_char t || of_lost t
@@ -63,6 +66,7 @@ nowhere-normal : (t : Tree) → Nowhere all_broken t → IsNormal t
 nowhere-normal t h =
     let leaves = nowhere-first of_leaves of_kinds t h in
     let lost = nowhere-second is_loose_char of_lost t leaves in
+    let loops = nowhere-second is_lost_cat of_loops t lost in
     let kinds = nowhere-second of_leaves of_kinds t h in
     let sequences = nowhere-first of_sequences of_others t kinds in
     let others = nowhere-second of_sequences of_others t kinds in
@@ -72,10 +76,11 @@ nowhere-normal t h =
       no_loose_part = nowhere-first has_loose_part of_parts t sequences;
       no_split_literal = nowhere-first has_split_literal is_short_cat t parts;
       no_loose_char = nowhere-first is_loose_char of_lost t leaves;
-      no_unrollable_loop = nowhere-second is_lost_cat is_unrollable t lost;
+      no_idle_loop = nowhere-first is_idle_loop is_unrollable t loops;
+      no_unrollable_loop = nowhere-second is_idle_loop is_unrollable t loops;
       no_loop_of_one = nowhere-second is_empty_choice is_loop_of_one t others;
       no_empty_choice = nowhere-first is_empty_choice is_loop_of_one t others;
-      no_lost_cat = nowhere-first is_lost_cat is_unrollable t lost;
+      no_lost_cat = nowhere-first is_lost_cat of_loops t lost;
     }
 
 -- a walk of all passes is a round

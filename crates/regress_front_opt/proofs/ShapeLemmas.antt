@@ -1,5 +1,5 @@
 -- The parts of a `Cat`: what some or all of them pass, and what they become when `Cat`s among them give their parts.
-use Rattle.std.proofs.Common.{◌≡◌, ℕ, zero, suc, ◌+◌, ◌<◌, ◌≤◌, Bool, true, false, ◌&&◌, ◌||◌, ◌==◌, List, [], ◌∷◌, ◌++◌, length, map, get_or, take, drop, Vec, Global, vec_len, subst, refl, sym, ap, ◌∙◌, append_assoc, length-append, le_of_suc-le-suc, arith, if◌then◌else◌}
+use Rattle.std.proofs.Common.{◌≡◌, ℕ, zero, suc, ◌+◌, ◌<◌, ◌≤◌, Bool, true, false, ◌&&◌, ◌||◌, ◌==◌, List, [], ◌∷◌, ◌++◌, length, map, get_or, take, drop, Vec, Global, vec_len, subst, refl, sym, ap, ◌∙◌, append_assoc, length-append, le_of_suc-le-suc, arith, nat_le, if◌then◌else◌}
 use Rattle.std.specs.List.{list_any, list_all}
 use Rattle.std.proofs.lemmas.Bool.{false≢true, and_parts}
 use Rattle.std.proofs.lemmas.Bool.Decides.{nat_tests}
@@ -13,9 +13,9 @@ use Rattle.regress_front_nodes.specs.Forms.{is_empty, is_cat, parts}
 use Rattle.regress_front_nodes.specs.Singles.{always_fails}
 use Rattle.regress_front_nodes.specs.WellFormed.{group_ids, goals}
 use Rattle.regress_front_nodes.proofs.NodeLemmas.{parts-cat_of, is_cat-cat_of}
-use Rattle.regress_front_rules.specs.NormalForm.{is_lost_cat, has_no_group, has_loose_part}
+use Rattle.regress_front_rules.specs.NormalForm.{is_lost_cat, has_no_group, has_loose_part, is_idle}
 use Rattle.regress_front_rules.specs.Rules as rules
-use Rattle.regress_front_rules.specs.Rules.{Reaches, stays}
+use Rattle.regress_front_rules.specs.Rules.{Reaches, stays, once}
 use Rattle.regress_front_opt.specs.Shapes.{is_loose, flattened, room_of, room_of_all, is_plain}
 use Rattle.regress_front_opt.specs.Passes.{Advances}
 use Rattle.regress_front_rules.specs.Laws.{listed}
@@ -247,3 +247,27 @@ flattened-more ns i d l =
 
 pub room-left : (ns : List Node) (i : ℕ) (d : Node) → i < length ns → room_of_all (map tree (drop i ns)) ≡ room_of (tree (get_or ns i d)) + room_of_all (map tree (drop (i + 1) ns))
 room-left ns i d l = ap (λ ms. room_of_all (map tree ms)) (drop_more ns i d l)
+
+-- ---- what never takes a character
+
+pub plain-means : (t : Tree) → is_plain t ≡ (has_no_group t && (goals t == 0))
+plain-means t = plain-found t ∙ sym (zero-sum (length (group_ids t)) (goals t))
+
+pub idle-parts : (ts : List Tree) → is_idle (cat_of ts) ≡ list_all is_idle ts
+idle-parts [] = refl
+idle-parts (t ∷ ts) = ap (λ b. is_idle t && b) (idle-parts ts)
+
+module _ (dir : Direction) (a : Tree) (first last least most : ℕ) (greedy : Bool) (h : is_idle a ≡ true) where
+  idle-advances : Advances dir (loop a first last least most greedy) (once a least)
+  idle-advances = turned-advances (rules.idles h)
+
+  pub idle-removed : least ≡ 0 → Advances dir (loop a first last least most greedy) empty
+  idle-removed e =
+      let none : once a least ≡ empty = ap (once a) e in
+      subst (λ u. Advances dir (loop a first last least most greedy) u) none idle-advances
+
+  pub idle-kept : (least ≡ 0 → ⊥) → Advances dir (loop a first last least most greedy) a
+  idle-kept some =
+      let one : nat_le 1 least ≡ true = grind (arith, nat_tests) in
+      let whole : once a least ≡ a = ap (λ b. if b then a else empty) one in
+      subst (λ u. Advances dir (loop a first last least most greedy) u) whole idle-advances

@@ -30,7 +30,7 @@ fn some_fails(parts: &[Node]) -> bool
 
 /// Whether a node holds no capture group and no `Goal`.
 #[cycle(plain)]
-fn is_plain_node(node: &Node) -> bool
+pub(crate) fn is_plain_node(node: &Node) -> bool
     ensures { result ≡ is_plain (tree node.now) }
 {
     match node {

@@ -11,6 +11,7 @@ use crate::chaining::Then;
 use crate::choices::EmptyChoices;
 use crate::failing::LostCats;
 use crate::flattening::FlattenedCats;
+use crate::idling::IdleLoops;
 use crate::joining::JoinedLiterals;
 use crate::letters::SpelledChars;
 use crate::single_loops::SingleLoops;
@@ -28,7 +29,7 @@ fn round(alloc: Global, node: &mut Node) -> Result<bool, Error>
 {
     let sequences = Then(FlattenedCats, Then(JoinedLiterals, ShortCats));
     let passes = Then(
-        Then(SpelledChars, Then(LostCats, UnrolledLoops)),
+        Then(SpelledChars, Then(LostCats, Then(IdleLoops, UnrolledLoops))),
         Then(sequences, Then(EmptyChoices, SingleLoops)),
     );
     visit(&passes, alloc, false, node)

@@ -8,7 +8,7 @@ use Rattle.regress_meaning.specs.Meaning.{Direction}
 use Rattle.regress_front_nodes.specs.Trees.{Tree, empty, char, bytes, char_set, cat, no_part, cat_of, alt, capture, look, loop, single_loop}
 use Rattle.regress_front_nodes.specs.Forms.{is_empty, is_cat, parts}
 use Rattle.regress_front_nodes.proofs.NodeLemmas.{parts-cat_of}
-use Rattle.regress_front_rules.specs.NormalForm.{is_literal, literals_meet, is_short_cat, has_loose_part, has_split_literal, is_loose_char, is_unrollable, is_loop_of_one, is_empty_choice, is_lost_cat}
+use Rattle.regress_front_rules.specs.NormalForm.{is_literal, literals_meet, is_short_cat, has_loose_part, has_split_literal, is_loose_char, is_unrollable, is_loop_of_one, is_empty_choice, is_idle_loop, is_lost_cat}
 use Rattle.regress_front_rules.specs.Rules as rules
 use Rattle.regress_front_rules.specs.Rules.{joined, unrolled, Turns}
 use Rattle.regress_front_rules.specs.Laws.{listed, IsListed, Turnable, BrokenNodesTurn, NestsLessThanItsSize}
@@ -140,6 +140,11 @@ module _ (dir : Direction) where
       rw (is-empty a both.0, is-empty b both.1) (empty, rules.is_empty_choice)
   empty_choice _ h = absurd (false≢true h)
 
+  -- a loop over what never takes a character
+  pub idle_loop : (t : Tree) → is_idle_loop t ≡ true → Turnable dir t
+  idle_loop (loop a first last least most greedy) h = (_, rules.idles h)
+  idle_loop _ h = absurd (false≢true h)
+
   -- a `Cat` that always fails
   pub lost_cat : (t : Tree) → IsListed t → is_lost_cat t ≡ true → Turnable dir t
   lost_cat (cat a b) p h = subst (Turnable dir) p (char_set [], rules.is_lost (a ∷ parts b) (subst (λ u. is_lost_cat u ≡ true) (sym p) h))
@@ -155,6 +160,7 @@ nodes-turn dir = record {
   unrollable_loop = unrollable_loop dir;
   loop_of_one = loop_of_one dir;
   empty_choice = empty_choice dir;
+  idle_loop = idle_loop dir;
   lost_cat = lost_cat dir;
 }
 

@@ -1,6 +1,7 @@
 pub mod StepLemmas
 pub mod InsideLemmas
 pub mod LoopLemmas
+pub mod IdleLemmas
 pub mod RuleLemmas
 pub mod OneLemmas
 pub mod MeasureLemmas

@@ -1,5 +1,5 @@
 -- Each tree reaches one in normal form: where a node breaks a clause a rule applies, and each rule lowers the weight.
-use Rattle.std.proofs.Common.{◌≡◌, ℕ, zero, suc, ◌<◌, ◌⊎◌, Bool, true, false, List, [], ◌∷◌, ◌++◌, All, subst, refl, sym, ap, inl, inr, arith, append_assoc}
+use Rattle.std.proofs.Common.{◌≡◌, ℕ, zero, suc, ◌<◌, ◌⊎◌, Bool, true, false, List, [], ◌∷◌, ◌++◌, All, subst, refl, sym, ap, inl, inr, arith, append_assoc, nat_le, if◌then◌else◌}
 use Rattle.std.proofs.lemmas.Bool.{false≢true}
 use Rattle.std.proofs.lemmas.List.Elements.{All-nil, All-cons, All-append}
 use Rattle.regress_meaning.specs.Meaning.{Direction}
@@ -9,12 +9,12 @@ use Rattle.regress_front_nodes.specs.Forms.{is_cat, parts}
 use Rattle.regress_front_nodes.specs.WellFormed.{AreLawful}
 use Rattle.regress_front_nodes.specs.Characters.{is_character}
 use Rattle.regress_front_nodes.proofs.NodeLemmas.{is_cat-cat_of}
-use Rattle.regress_front_rules.specs.NormalForm.{nodes_below, Nowhere, is_short_cat, has_loose_part, has_split_literal, is_loose_char, is_unrollable, is_loop_of_one, is_empty_choice, is_lost_cat, IsNormal}
+use Rattle.regress_front_rules.specs.NormalForm.{nodes_below, Nowhere, is_short_cat, has_loose_part, has_split_literal, is_loose_char, is_unrollable, is_loop_of_one, is_empty_choice, is_lost_cat, IsNormal, is_idle_loop}
 use Rattle.regress_front_rules.specs.Rules as rules
-use Rattle.regress_front_rules.specs.Rules.{joined, copies, Turns, flattens, drops_empty, is_one_part, is_no_part, joins, spells, lists, is_lost, unrolls, loops_one, Rewrites, there, in_part, in_first, in_second, in_capture, in_look, in_loop, in_single_loop, Reaches, stays, and_then}
+use Rattle.regress_front_rules.specs.Rules.{joined, copies, Turns, flattens, drops_empty, is_one_part, is_no_part, joins, spells, lists, is_lost, unrolls, loops_one, Rewrites, there, in_part, in_first, in_second, in_capture, in_look, in_loop, in_single_loop, Reaches, stays, and_then, idles}
 use Rattle.regress_front_rules.specs.Weight.{weight}
 use Rattle.regress_front_rules.specs.Laws.{IsListed, AreListed, Turnable, NormalFormsAreReached}
-use Rattle.regress_front_rules.proofs.ClauseLemmas.{short_cat, loose_part, split_literal, loose_char, unrollable_loop, loop_of_one, empty_choice, lost_cat}
+use Rattle.regress_front_rules.proofs.ClauseLemmas.{short_cat, loose_part, split_literal, loose_char, unrollable_loop, loop_of_one, empty_choice, lost_cat, idle_loop}
 use Rattle.regress_front_rules.proofs.RewriteLemmas.{all-right}
 
 -- ---- parts stay lists
@@ -68,6 +68,11 @@ turns-listed rules.is_empty_choice l = tt
 turns-listed (is_lost ts e) l = tt
 turns-listed (unrolls {a} {first} {last} {least} {most} {greedy} e) l = listed-copies least a _ l (l, tt, refl)
 turns-listed (loops_one e) l = l
+turns-listed (idles {a} {first} {last} {least} e) l = once-listed (nat_le 1 least)
+  where
+    once-listed : (b : Bool) → AreListed (if b then a else empty)
+    once-listed true = l
+    once-listed false = tt
 
 -- a rule somewhere leaves each `Cat` a list of parts
 pub rewrites-listed : {dir : Direction} {t u : Tree} → Rewrites dir t u → AreListed t → AreListed u
@@ -176,6 +181,7 @@ normal-or-moves dir t l =
     and_also (seek is_unrollable (λ d u p h. unrollable_loop d u h) dir t l) (λ no_unrollable_loop.
     and_also (seek is_loop_of_one (λ d u p h. loop_of_one d u h) dir t l) (λ no_loop_of_one.
     and_also (seek is_empty_choice (λ d u p h. empty_choice d u h) dir t l) (λ no_empty_choice.
+    and_also (seek is_idle_loop (λ d u p h. idle_loop d u h) dir t l) (λ no_idle_loop.
     and_also (seek is_lost_cat (λ d u p h. lost_cat d u (one-listed u p) h) dir t l) (λ no_lost_cat.
     inl (record {
       no_short_cat = no_short_cat;
@@ -185,8 +191,9 @@ normal-or-moves dir t l =
       no_unrollable_loop = no_unrollable_loop;
       no_loop_of_one = no_loop_of_one;
       no_empty_choice = no_empty_choice;
+      no_idle_loop = no_idle_loop;
       no_lost_cat = no_lost_cat;
-    })))))))))
+    }))))))))))
 
 reached-within : (k : ℕ) (dir : Direction) (n : ℕ) (t : Tree) → AreLawful n t → AreListed t → weight t < k → (u : Tree) × Reaches dir t u × IsNormal u
 reached-within zero dir n t lawful l small = absurd (omega arith)

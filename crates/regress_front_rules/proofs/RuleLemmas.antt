@@ -24,19 +24,15 @@ use Rattle.regress_front_nodes.proofs.SequenceLemmas.{cat_of-append}
 use Rattle.regress_front_nodes.proofs.PieceLemmas.{scalar-from}
 use Rattle.regress_front_nodes.proofs.NodeLemmas.{always_fails-nothing, parts-cat_of}
 use Rattle.regress_front_rules.specs.NormalForm.{is_unrollable, is_lost_cat, has_no_group}
-use Rattle.regress_front_rules.specs.Rules.{joined, Turns, flattens, drops_empty, is_one_part, is_no_part, joins, spells, lists, is_empty_choice, is_lost, unrolls, loops_one}
+use Rattle.regress_front_rules.specs.Rules.{joined, Turns, flattens, drops_empty, is_one_part, is_no_part, joins, spells, lists, is_empty_choice, is_lost, unrolls, loops_one, idles}
 use Rattle.regress_front_rules.proofs.StepLemmas.{literals-joined}
 use Rattle.regress_front_rules.proofs.InsideLemmas.{tree-inside}
 use Rattle.regress_front_rules.proofs.LoopLemmas.{unrolled-same, single-same}
+use Rattle.regress_front_rules.proofs.IdleLemmas.{none-of, idle-alike}
 
 pub parts-lawful : (n : ℕ) (ts us : List Tree) → AreLawful n (cat_of (ts ++ us)) → AreLawful n (cat_of ts) × AreLawful n (cat_of us)
 parts-lawful n [] us h = (tt, h)
 parts-lawful n (t ∷ ts) us h = let (a, b) = parts-lawful n ts us h.1 in ((h.0, a), b)
-
--- no number in an empty list
-pub none-of : (ids : List ℕ) → (length ids == 0) ≡ true → ids ≡ []
-none-of [] h = refl
-none-of (k ∷ ids) h = absurd (let e = eqb-true (suc (length ids)) 0 h in omega (arith, e))
 
 -- what takes one character has no groups
 pub takes_one-groups : (t : Tree) → takes_one t ≡ true → group_ids t ≡ []
@@ -172,3 +168,4 @@ module _ (w : Context) (valid : All is_code_point w.text) where
       same-alike _ _ (unrolled-same w a first last least most greedy dir (small_loop a first last least most greedy e).no_group h.0 h.1)
   turns-alike {dir} (loops_one {a} {first} {last} {least} {most} {greedy} e) n h =
       same-alike _ _ (single-same w a first last least most greedy dir (takes_one-groups a e) h.0)
+  turns-alike {dir} (idles {a} {first} {last} {least} {most} {greedy} e) n h = λ s inside. idle-alike w a first last least most greedy dir n e h s

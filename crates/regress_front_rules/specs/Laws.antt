@@ -9,7 +9,7 @@ use Rattle.regress_front_nodes.specs.Alike.{IsAlike}
 use Rattle.regress_front_nodes.specs.Forms.{is_cat, parts, nesting}
 use Rattle.regress_front_nodes.specs.Sizes.{size, loops}
 use Rattle.regress_front_nodes.specs.WellFormed.{AreLawful, IsWellFormed, name_by_number}
-use Rattle.regress_front_rules.specs.NormalForm.{is_short_cat, has_loose_part, has_split_literal, is_loose_char, is_unrollable, is_loop_of_one, is_empty_choice, is_lost_cat, IsNormal}
+use Rattle.regress_front_rules.specs.NormalForm.{is_short_cat, has_loose_part, has_split_literal, is_loose_char, is_unrollable, is_loop_of_one, is_empty_choice, is_idle_loop, is_lost_cat, IsNormal}
 use Rattle.regress_front_rules.specs.Rules.{Turns, Rewrites, Reaches}
 use Rattle.regress_front_rules.specs.Weight.{weight, most_added}
 use Rattle.regress_front_rules.specs.Kept.{Keeps}
@@ -80,6 +80,7 @@ pub record BrokenNodesTurn (dir : Direction) : Type 0 where
   pub unrollable_loop : (t : Tree) → is_unrollable t ≡ true → Turnable dir t
   pub loop_of_one : (t : Tree) → is_loop_of_one t ≡ true → Turnable dir t
   pub empty_choice : (t : Tree) → is_empty_choice t ≡ true → Turnable dir t
+  pub idle_loop : (t : Tree) → is_idle_loop t ≡ true → Turnable dir t
   pub lost_cat : (t : Tree) → IsListed t → is_lost_cat t ≡ true → Turnable dir t
 
 -- Rules, one after another, lead from each lawful tree to one in normal form.

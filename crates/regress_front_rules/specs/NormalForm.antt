@@ -2,7 +2,7 @@
 use Rattle.std.specs.Prelude.{◌≡◌, ℕ, Bool, true, false, not, ◌&&◌, ◌||◌, ◌==◌, List, [], ◌∷◌, ◌++◌, length, nat_le, nat_lt, All}
 use Rattle.std.specs.List.{list_any}
 use Rattle.regress_meaning.specs.TableParts.{is_surrogate}
-use Rattle.regress_front_nodes.specs.Trees.{Tree, char, bytes, cat, alt, capture, look, loop, single_loop}
+use Rattle.regress_front_nodes.specs.Trees.{Tree, empty, char, bytes, cat, no_part, alt, line_start, line_end, boundary, capture, look, loop, single_loop}
 use Rattle.regress_front_nodes.specs.Forms.{is_empty, is_cat, parts}
 use Rattle.regress_front_nodes.specs.Sizes.{size, loops}
 use Rattle.regress_front_nodes.specs.Singles.{always_fails, takes_one}
@@ -78,6 +78,24 @@ abbrev pub is_empty_choice : Tree → Bool
 is_empty_choice (alt a b) = is_empty a && is_empty b
 is_empty_choice _ = false
 
+-- It never takes a character, and holds no capture group and no `Goal`.
+abbrev pub is_idle : Tree → Bool
+is_idle empty = true
+is_idle no_part = true
+is_idle (line_start multiline) = true
+is_idle (line_end multiline) = true
+is_idle (boundary inverted folded) = true
+is_idle (cat a b) = is_idle a && is_idle b
+is_idle (alt a b) = is_idle a && is_idle b
+is_idle (look negated backward first last a) = has_no_group a && (goals a == 0)
+is_idle (loop a first last least most greedy) = is_idle a
+is_idle _ = false
+
+-- A `Loop` over what never takes a character and holds no capture group.
+abbrev pub is_idle_loop : Tree → Bool
+is_idle_loop (loop a first last least most greedy) = is_idle a
+is_idle_loop _ = false
+
 -- A `Cat` with a part that always fails, which holds no capture group and no `Goal`.
 abbrev pub is_lost_cat : Tree → Bool
 is_lost_cat t = list_any always_fails (parts t) && has_no_group t && (goals t == 0)
@@ -91,4 +109,5 @@ pub record IsNormal (t : Tree) : Type 0 where
   pub no_unrollable_loop : Nowhere is_unrollable t
   pub no_loop_of_one : Nowhere is_loop_of_one t
   pub no_empty_choice : Nowhere is_empty_choice t
+  pub no_idle_loop : Nowhere is_idle_loop t
   pub no_lost_cat : Nowhere is_lost_cat t

@@ -1,12 +1,12 @@
 -- The rules by which a tree is rewritten. Only the joining of literals looks at the direction in which the tree is read.
-use Rattle.std.specs.Prelude.{◌≡◌, ℕ, zero, suc, ◌-◌, Bool, true, false, List, [], ◌∷◌, ◌++◌, encode_utf8, Option}
+use Rattle.std.specs.Prelude.{◌≡◌, ℕ, zero, suc, ◌-◌, Bool, true, false, List, [], ◌∷◌, ◌++◌, encode_utf8, Option, nat_le, if◌then◌else◌}
 use Rattle.regress_meaning.specs.TableParts.{is_surrogate}
 use Rattle.regress_meaning.specs.Meaning.{Direction, Forward, Backward}
 use Rattle.regress_front_nodes.specs.Trees.{Tree, empty, char, bytes, char_set, cat_of, no_part, alt, capture, bracket, look, loop, single_loop}
 use Rattle.regress_front_nodes.specs.TreeMeaning.{bracket_has, direction}
 use Rattle.regress_front_nodes.specs.Characters.{Takes}
 use Rattle.regress_front_nodes.specs.Singles.{takes_one}
-use Rattle.regress_front_rules.specs.NormalForm.{is_lost_cat, is_unrollable}
+use Rattle.regress_front_rules.specs.NormalForm.{is_lost_cat, is_unrollable, is_idle}
 
 -- Two literals as one. Parts stand in the order in which they are read, a literal in that of the text: so where a tree is
 -- read backward, the bytes of the second stand before those of the first.
@@ -28,6 +28,10 @@ unrolled a first last least most greedy = cat_of (copies least a (loop a first l
 abbrev pub is_bracket : Tree → Bool
 is_bracket (bracket inverted intervals) = true
 is_bracket _ = false
+
+-- what is repeated at least so often and never takes a character, once, or nothing where it may be left out
+abbrev pub once : Tree → ℕ → Tree
+once a least = if nat_le 1 least then a else empty
 
 -- One rule makes the second tree of the first, where it is read in this direction.
 pub data Turns (dir : Direction) : Tree → Tree → Type 0 where
@@ -55,6 +59,8 @@ pub data Turns (dir : Direction) : Tree → Tree → Type 0 where
   -- a loop over what takes one character is a one-character loop
   loops_one : {a : Tree} {first last least most : ℕ} {greedy : Bool} → takes_one a ≡ true
       → Turns dir (loop a first last least most greedy) (single_loop a least most greedy)
+  -- a loop over what never takes a character is that once, or nothing
+  idles : {a : Tree} {first last least most : ℕ} {greedy : Bool} → is_idle a ≡ true → Turns dir (loop a first last least most greedy) (once a least)
 
 -- One rule makes the second tree of the first, there or somewhere below. The direction is that in which the first is read.
 pub data Rewrites : Direction → Tree → Tree → Type 0 where

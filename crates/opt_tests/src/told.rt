@@ -1,0 +1,91 @@
+//! Trees and match lists as text.
+
+use regress_evaluator::{CompiledPattern, Search};
+use regress_front_bytes::are_code_points;
+use regress_front_nodes::ir::Regex;
+use regress_front_opt::optimize;
+use regress_front_tables::{CaptureGroupName, CodePoint, Error, Flags, Tables};
+use regress_front_tree::try_parse;
+use regress_match::Matches;
+use std::alloc::{AllocError, Global};
+use std::sync::ArcSlice;
+use std::test::Fail;
+
+fn points(alloc: Global, text: &str) -> Result<Vec<CodePoint>, AllocError> {
+    text.chars().map(CodePoint::from).collect(alloc)
+}
+
+ghost use Rattle.std.specs.Prelude.{ℕ, IfOk};
+ghost use Rattle.regress_front_nodes.specs.Trees.{tree};
+ghost use Rattle.regress_front_nodes.specs.WellFormed.{IsWellFormed};
+
+/// The tree of a pattern as the parser gives it.
+pub(crate) fn parsed<'t>(
+    alloc: Global,
+    pattern: &str,
+    flags: &str,
+    tables: &'t Tables,
+) -> Result<Regex<'t>, Error>
+    ensures { IfOk result (λ re. (n : ℕ) × IsWellFormed n (tree re.node)) }
+{
+    let points = points(alloc, pattern)?;
+    if !are_code_points(&points) {
+        return Err(Error::Syntax {
+            text: "a character is no code point",
+        });
+    }
+    try_parse(alloc, &points, Flags::from(flags), tables)
+}
+
+/// The tree of a pattern as text, rewritten.
+pub(crate) fn rewritten(alloc: Global, pattern: &str, flags: &str) -> Result<String, Fail> {
+    let tables = Tables::small(alloc)?;
+    let mut regex = parsed(alloc, pattern, flags, &tables)?;
+    optimize(alloc, &mut regex)?;
+    Ok(regex.to_string(alloc)?)
+}
+
+/// The names of a pattern's groups, shared.
+fn shared(
+    alloc: Global,
+    names: &[CaptureGroupName],
+) -> Result<ArcSlice<CaptureGroupName>, AllocError> {
+    let mut copies = Vec::new(alloc);
+    for name in names {
+        copies.push(name.clone()?)?;
+    }
+    Ok(ArcSlice::from_vec(copies)?)
+}
+
+/// All matches of a tree in a text, as text.
+fn list(alloc: Global, regex: &Regex<'_>, text: &str) -> Result<String, Fail> {
+    let names = shared(alloc, &regex.group_names)?;
+    let pattern = CompiledPattern {
+        node: &regex.node,
+        tables: regex.tables,
+        unicode: regex.flags.is_unicode(),
+        group_names: &names,
+    };
+    let search = Search::new(alloc, pattern, text)?;
+    let mut told = String::new(alloc);
+    for found in Matches::new(search, 0) {
+        let found = found?;
+        told.push_str(format!(in alloc; "{found:?};")?.as_str())?;
+    }
+    Ok(told)
+}
+
+/// Whether a pattern's tree has the same matches before and after it is rewritten.
+pub(crate) fn keeps_its_matches(
+    alloc: Global,
+    pattern: &str,
+    flags: &str,
+    text: &str,
+) -> Result<bool, Fail> {
+    let tables = Tables::small(alloc)?;
+    let mut regex = parsed(alloc, pattern, flags, &tables)?;
+    let before = list(alloc, &regex, text)?;
+    optimize(alloc, &mut regex)?;
+    let after = list(alloc, &regex, text)?;
+    Ok(before.as_str() == after.as_str())
+}
