@@ -34,6 +34,20 @@ fn ascii_bytes_are_held(rt: HostRuntime) {
 }
 
 #[test]
+fn bytes_of_one_row_are_held(rt: HostRuntime) {
+    let mut ascii = AsciiBitmap::default();
+    ascii.set(b'a');
+    ascii.set(b'c');
+    let both = holds(&ascii, b'a') && holds(&ascii, b'c');
+    let mut set = ByteBitmap::default();
+    set.set(b'a');
+    set.set(b'c');
+    let both_bytes = set.contains(b'a') && set.contains(b'c');
+    prove!(both && both_bytes);
+    assert!(rt; both && both_bytes);
+}
+
+#[test]
 fn members_come_ascending(rt: HostRuntime) {
     let mut set = ByteBitmap::new(b"cac");
     set.set(0xFF);
@@ -94,8 +108,10 @@ fn each_searcher_finds_its_first(rt: HostRuntime) {
     prove!(in_four == Some(1));
     let empty = first(&EmptyString, b"");
     prove!(empty == Some(0));
+    let in_set = SmallArraySet::find_in(*b"xyc", b"abc");
+    prove!(in_set == Some(2));
     assert!(rt; in_one == Some(2) && in_two == Some(0) && in_three == Some(2));
-    assert!(rt; in_four == Some(1) && empty == Some(0));
+    assert!(rt; in_four == Some(1) && empty == Some(0) && in_set == Some(2));
 }
 
 #[test]
@@ -152,6 +168,8 @@ fn every_second_is_moved(rt: HostRuntime) {
     ] {
         assert!(rt; fold.apply(from) == to);
     }
+    let [moved, stays] = [fold.apply(0x12E), fold.apply(0x101)];
+    prove!(fold.range.len == 0x30 && moved == Some(0x12F) && stays.is_none());
     assert!(rt; FoldRange::from(0x10A0, 1, -4096, 1).apply(0x10A0) == Some(0xA0));
 }
 
@@ -191,6 +209,29 @@ fn continuations_lie_between(rt: HostRuntime) {
     let past = is_utf8_continuation(0x7F) || is_utf8_continuation(0xC0);
     prove!(ends && !past);
     assert!(rt; ends && !past);
+}
+
+fn read_two() -> u32
+    ensures { result ≡ 0xE9 }
+{
+    utf8_w2(0xC3, 0xA9)
+}
+
+fn read_three() -> u32
+    ensures { result ≡ 0x20AC }
+{
+    utf8_w3(0xE2, 0x82, 0xAC)
+}
+
+fn read_four() -> u32
+    ensures { result ≡ 0x1_F600 }
+{
+    utf8_w4(0xF0, 0x9F, 0x98, 0x80)
+}
+
+#[test]
+fn forms_stand_for_one_code_point(rt: HostRuntime) {
+    assert!(rt; read_two() == 0xE9 && read_three() == 0x20AC && read_four() == 0x1_F600);
 }
 
 #[test]
