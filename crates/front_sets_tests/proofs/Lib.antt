@@ -1,1 +1,2 @@
 mod Forms
+mod Members

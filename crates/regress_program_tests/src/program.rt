@@ -339,11 +339,8 @@ fn exactly_two_words_are_run(rt: HostRuntime) -> Result<(), Fail> {
 
 #[test]
 fn a_third_word_is_wrong(rt: HostRuntime) -> Result<(), Fail> {
-    let mut words = Vec::new(rt.alloc());
-    for word in ["regress_tool", "i", "A", "A"] {
-        words.push(String::from_str(rt.alloc(), word)?)?;
-    }
-    prove!(words.len() == 4);
+    let word = String::from_str(rt.alloc(), "A")?;
+    let words = vec![in rt.alloc(); word.clone()?, word.clone()?, word.clone()?, word]?;
     let is_wrong = matches!(read_words(Ok(words.into_iter())), Err(Ending::WrongWords));
     prove!(is_wrong);
     assert!(rt; is_wrong);
