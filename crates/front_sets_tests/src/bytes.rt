@@ -1,13 +1,19 @@
 //! Tests of `regress_front_bytes`.
-ghost use Rattle.std.specs.Prelude.{◌≡◌};
+ghost use Rattle.std.specs.Prelude.{◌≡◌, ℕ, ◌∷◌, []};
+ghost use Rattle.std.specs.List.Sorted.{IsNonDecreasingBy};
+ghost use Rattle.std.specs.Ordering.{nat_cmp, ordering_index};
+ghost use Rattle.regress_meaning.specs.Text.{holds};
+ghost use Rattle.regress_front_bytes.specs.Bitmaps.{byte_bitmap_contains};
+ghost use Rattle.regress_front_bytes.specs.EqualRange.{IsEqualRange};
 
 use regress_front_bytes::{
     AsciiBitmap, ByteArraySet, ByteBitmap, ByteSearcher, ByteSet, CodePointRange, EmptyString,
     FoldRange, SmallArraySet, are_code_points, charset_contains, equal_range_by,
     is_utf8_continuation, to_char_sat, utf8_first_byte, utf8_w2, utf8_w3, utf8_w4,
 };
+use std::ops::Range;
 
-fn holds<S: ByteSet>(set: &S, b: u8) -> bool
+fn is_held<S: ByteSet>(set: &S, b: u8) -> bool
     ensures { result ≡ S.contains set.now b }
 {
     set.contains(b)
@@ -22,15 +28,54 @@ fn first<S: ByteSearcher>(searcher: &S, bytes: &[u8]) -> Option<usize>
 #[test]
 fn ascii_bytes_are_held(rt: HostRuntime) {
     let mut set = AsciiBitmap::default();
-    let before = holds(&set, 0x7F);
+    let before = is_held(&set, 0x7F);
     prove!(!before);
     set.set(0x7F);
     set.set(b'a');
-    let last = holds(&set, 0x7F);
-    let letter = holds(&set, b'a');
-    let next = holds(&set, b'b');
+    let last = is_held(&set, 0x7F);
+    let letter = is_held(&set, b'a');
+    let next = is_held(&set, b'b');
     prove!(last && letter && !next);
-    assert!(rt; last && letter && !next && !before && !holds(&set, 0xFF));
+    assert!(rt; last && letter && !next && !before && !is_held(&set, 0xFF));
+}
+
+#[test]
+fn bytes_of_one_row_are_held(rt: HostRuntime) {
+    let mut ascii = AsciiBitmap::default();
+    ascii.set(b'a');
+    ascii.set(b'c');
+    let both = is_held(&ascii, b'a') && is_held(&ascii, b'c');
+    let mut set = ByteBitmap::default();
+    set.set(b'a');
+    set.set(b'c');
+    let both_bytes = set.contains(b'a') && set.contains(b'c');
+    prove!(both && both_bytes);
+    assert!(rt; both && both_bytes);
+}
+
+/// The members of a set of `a` and `c`.
+fn both_of(set: &ByteBitmap) -> [u8; 2]
+    requires { (b : ℕ) → byte_bitmap_contains set.now b ≡ holds (97 ∷ 99 ∷ []) b }
+    ensures { result ≡ 97 ∷ 99 ∷ [] }
+{
+    set.as_array::<2>()
+}
+
+/// How many they are.
+fn count_of_both(set: &ByteBitmap) -> u32
+    requires { (b : ℕ) → byte_bitmap_contains set.now b ≡ holds (97 ∷ 99 ∷ []) b }
+    ensures { result ≡ 2 }
+{
+    set.count_bits()
+}
+
+#[test]
+fn two_members_are_counted(rt: HostRuntime) {
+    let set = ByteBitmap::new(b"ac");
+    let count = count_of_both(&set);
+    let [first, second] = both_of(&set);
+    prove!(count == 2 && first == b'a' && second == b'c');
+    assert!(rt; count == 2 && first == b'a' && second == b'c');
 }
 
 #[test]
@@ -94,8 +139,10 @@ fn each_searcher_finds_its_first(rt: HostRuntime) {
     prove!(in_four == Some(1));
     let empty = first(&EmptyString, b"");
     prove!(empty == Some(0));
+    let in_set = SmallArraySet::find_in(*b"xyc", b"abc");
+    prove!(in_set == Some(2));
     assert!(rt; in_one == Some(2) && in_two == Some(0) && in_three == Some(2));
-    assert!(rt; in_four == Some(1) && empty == Some(0));
+    assert!(rt; in_four == Some(1) && empty == Some(0) && in_set == Some(2));
 }
 
 #[test]
@@ -122,9 +169,19 @@ fn arrays_are_sets(rt: HostRuntime) {
     assert!(rt; smile && !low);
 }
 
+/// Where the numbers lie that are the one sought, among some that rise.
+fn range_of(items: &[u32], sought: u32) -> Range<usize>
+    requires { IsNonDecreasingBy (λ x. ordering_index (nat_cmp x sought)) items.now }
+    ensures { IsEqualRange (λ x. nat_cmp x sought) items.now result.start result.end }
+{
+    equal_range_by(items, |x| x.cmp(&sought))
+}
+
 #[test]
 fn equal_items_are_found(rt: HostRuntime) {
     let items = [1, 3, 3, 3, 7];
+    let threes = range_of(&items, 3);
+    assert!(rt; threes == (1..4));
     for (sought, start, end) in [(3, 1, 4), (1, 0, 1), (7, 4, 5), (4, 4, 4), (9, 5, 5)] {
         let range = equal_range_by(items.as_slice(), |x| x.cmp(&sought));
         assert!(rt; range.start == start && range.end == end);
@@ -152,6 +209,8 @@ fn every_second_is_moved(rt: HostRuntime) {
     ] {
         assert!(rt; fold.apply(from) == to);
     }
+    let [moved, stays] = [fold.apply(0x12E), fold.apply(0x101)];
+    prove!(fold.range.len == 0x30 && moved == Some(0x12F) && stays.is_none());
     assert!(rt; FoldRange::from(0x10A0, 1, -4096, 1).apply(0x10A0) == Some(0xA0));
 }
 
@@ -191,6 +250,29 @@ fn continuations_lie_between(rt: HostRuntime) {
     let past = is_utf8_continuation(0x7F) || is_utf8_continuation(0xC0);
     prove!(ends && !past);
     assert!(rt; ends && !past);
+}
+
+fn read_two() -> u32
+    ensures { result ≡ 0xE9 }
+{
+    utf8_w2(0xC3, 0xA9)
+}
+
+fn read_three() -> u32
+    ensures { result ≡ 0x20AC }
+{
+    utf8_w3(0xE2, 0x82, 0xAC)
+}
+
+fn read_four() -> u32
+    ensures { result ≡ 0x1_F600 }
+{
+    utf8_w4(0xF0, 0x9F, 0x98, 0x80)
+}
+
+#[test]
+fn forms_stand_for_one_code_point(rt: HostRuntime) {
+    assert!(rt; read_two() == 0xE9 && read_three() == 0x20AC && read_four() == 0x1_F600);
 }
 
 #[test]

@@ -1,7 +1,17 @@
 //! Tests of `regress_front_core`.
-use regress_front_core::{Error, Flags, GroupData, LoopData, Quantifier};
+ghost use Rattle.std.specs.Prelude.{◌≡◌, codes};
+ghost use Rattle.regress_front_core.specs.FlagWords.{flags_of};
+
+use regress_front_core::{
+    Error, Flags, GroupData, LoopData, MAX_CAPTURE_GROUPS, MAX_CHAR_SET_LENGTH, MAX_LOOPS,
+    MAX_NESTING_DEPTH, Quantifier,
+};
 use std::alloc::{AllocError, AllocFailed, Global};
 use std::test::Fail;
+
+const _: () = prove!(MAX_CAPTURE_GROUPS == 65_535 && MAX_LOOPS == 65_535);
+
+const _: () = prove!(MAX_NESTING_DEPTH == 256 && MAX_CHAR_SET_LENGTH == 4);
 
 const SYNTAX: Error = Error::Syntax {
     text: "Unbalanced parenthesis",
@@ -23,6 +33,15 @@ fn each_error_has_its_text(rt: HostRuntime) -> Result<(), Fail> {
             return Err(Fail::new(*expected));
         }
     }
+    Ok(())
+}
+
+#[test]
+fn a_limit_is_told_by_its_own_name(rt: HostRuntime) -> Result<(), Fail> {
+    let text = Error::TooManyLoops.to_string(rt.alloc())?;
+    let is_told = text.as_str() == "too many quantifiers";
+    prove!(is_told);
+    assert!(rt; is_told);
     Ok(())
 }
 
@@ -54,6 +73,41 @@ fn letters_are_written_in_one_order(rt: HostRuntime) -> Result<(), Fail> {
     let points = Flags::new([0x76, 0x1_F600, 0x69, 0x69].into_iter());
     are_written(rt.alloc(), points, "iv")?;
     are_written(rt.alloc(), Flags::default(), "")
+}
+
+/// The flags of a word with a letter that sets none.
+fn flags_of_letters() -> Flags
+    ensures { result ≡ flags_of (codes "nvi") }
+{
+    Flags::from("nvi")
+}
+
+#[test]
+fn letters_set_their_flags(rt: HostRuntime) {
+    let flags = flags_of_letters();
+    prove!(flags.icase && flags.unicode_sets && !flags.unicode && !flags.no_opt);
+    assert!(rt; flags.icase && flags.unicode_sets && !flags.unicode && !flags.no_opt);
+}
+
+#[test]
+fn flags_are_written_in_order(rt: HostRuntime) -> Result<(), Fail> {
+    let flags = Flags {
+        icase: true,
+        multiline: true,
+        ..Flags::default()
+    };
+    let text = flags.to_string(rt.alloc())?;
+    let is_in_order = text.as_str() == "mi";
+    prove!(is_in_order);
+    assert!(rt; is_in_order);
+    Ok(())
+}
+
+#[test]
+fn code_points_set_their_flags(rt: HostRuntime) {
+    let flags = Flags::new([0x6E, 0x6D].into_iter());
+    prove!(flags.multiline && !flags.icase && !flags.no_opt);
+    assert!(rt; flags.multiline && !flags.icase && !flags.no_opt);
 }
 
 #[test]

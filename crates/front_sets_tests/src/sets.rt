@@ -1,12 +1,18 @@
 //! Tests of `regress_front_sets`.
-ghost use Rattle.std.specs.Prelude.{◌≡◌, ◌≤◌};
+ghost use Rattle.std.specs.Prelude.{◌≡◌, ◌≤◌, ◌<◌, ◌+◌, ◌^◌, length, IfOk, true};
+ghost use Rattle.std.specs.List.{position};
+ghost use Rattle.regress_meaning.specs.TableParts.{IntervalsRise, in_intervals};
+ghost use Rattle.regress_front_bytes.specs.Bitmaps.{byte_bitmap_contains};
+ghost use Rattle.regress_front_sets.specs.Intervals.{Ascend, ends_of, in_interval};
+ghost use Rattle.regress_front_sets.specs.Counted.{counted_intervals, counted_probes};
 
+use regress_front_bytes::utf8_first_byte;
 use regress_front_sets::{
-    ByteBitmap, CODE_POINT_MAX, CodePoint, CodePointSet, DIGITS, Error, Interval, LINE_TERMINATOR,
-    WHITESPACE, WORD_CHARS, add_utf8_first_bytes_to_bitmap, digits, is_ascii_word, line_terminator,
-    whitespace, word_chars,
+    ByteBitmap, CODE_POINT_MAX, CodePoint, CodePointSet, CountedIntervals, DIGITS, Error, Interval,
+    LINE_TERMINATOR, Probes, WHITESPACE, WORD_CHARS, add_utf8_first_bytes_to_bitmap, bracket_index,
+    digits, is_ascii_word, line_terminator, whitespace, word_chars,
 };
-use std::alloc::Global;
+use std::alloc::{AllocError, Global};
 use std::cmp::Ordering;
 use std::test::Fail;
 
@@ -122,6 +128,7 @@ fn holds_only(holding: &CodePointSet, other: &CodePointSet, points: &[CodePoint]
         .all(|c| holding.contains(*c) && !other.contains(*c))
 }
 
+#[tactic(auto, unfolding(regress_meaning::specs::TableParts::in_intervals))]
 #[test]
 fn members_lie_between_both_ends(rt: HostRuntime) -> Result<(), Fail> {
     let mut set = CodePointSet::new(rt.alloc());
@@ -131,8 +138,11 @@ fn members_lie_between_both_ends(rt: HostRuntime) -> Result<(), Fail> {
     prove!(ends);
     let inverse = set.inverted()?;
     let turned = inverse.contains(2) || inverse.contains(7);
-    prove!(!turned);
+    let last = inverse.contains(CODE_POINT_MAX);
+    prove!(!turned && last);
     let mut joined = CodePointSet::new(rt.alloc());
+    let zero = joined.contains(0);
+    prove!(!zero);
     joined.add_set(set)?;
     let held = joined.contains(2) && joined.contains(7);
     prove!(held);
@@ -142,10 +152,15 @@ fn members_lie_between_both_ends(rt: HostRuntime) -> Result<(), Fail> {
 
 const SORTED: &[Pair] = &[(1, 2)];
 
+#[tactic(auto, unfolding(regress_meaning::specs::TableParts::in_intervals, regress_front_sets::specs::Intervals::gaps_from))]
 #[test]
 fn sorted_intervals_are_taken_as_they_are(rt: HostRuntime) -> Result<(), Fail> {
     let intervals = vec![in rt.alloc(); interval(1, 2)]?;
     let set = CodePointSet::from_sorted_disjoint_intervals(intervals);
+    let held = set.contains(1);
+    let shown = set.intervals().len();
+    let gaps = set.inverted_interval_count();
+    prove!(held && shown == 1 && gaps == 2);
     has(&set, SORTED)
 }
 
@@ -188,12 +203,43 @@ fn an_interval_holds_both_its_ends(rt: HostRuntime) {
     assert!(rt; all.start == 97 && all.end == 123 && count == 26);
 }
 
+/// Whether two intervals overlap in which both a code point lies.
+fn overlap_at(low: Interval, high: Interval, c: CodePoint) -> bool
+    requires in_low { in_interval low c ≡ true }
+    requires in_high { in_interval high c ≡ true }
+    ensures { result ≡ true }
+{
+    low.overlaps(high)
+}
+
 #[test]
 fn intervals_overlap_where_they_share_a_code_point(rt: HostRuntime) {
     let low = Interval { first: 1, last: 5 };
     let high = Interval { first: 5, last: 9 };
+    let both = overlap_at(low, high, 5);
+    let apart = low.overlaps(Interval { first: 6, last: 9 });
+    prove!(both && !apart);
     assert!(rt; low.overlaps(high) && high.overlaps(low));
     assert!(rt; !low.overlaps(Interval { first: 6, last: 9 }));
+}
+
+/// Adds the first bytes of an interval, and answers that of one of its code points.
+fn add_with(interval: Interval, c: CodePoint, bitmap: &mut ByteBitmap) -> u8
+    requires inside { in_interval interval c ≡ true }
+    requires bounded { c ≤ CODE_POINT_MAX }
+    ensures { byte_bitmap_contains bitmap.new result ≡ true }
+{
+    add_utf8_first_bytes_to_bitmap(interval, bitmap);
+    utf8_first_byte(c)
+}
+
+#[test]
+fn the_first_byte_of_the_last_is_added(rt: HostRuntime) {
+    let mut bitmap = ByteBitmap::default();
+    let last = add_with(interval(0x7E, 0x80), 0x80, &mut bitmap);
+    let is_added = bitmap.contains(last);
+    prove!(is_added);
+    assert!(rt; is_added && last == 0xC2);
 }
 
 #[test]
@@ -205,6 +251,69 @@ fn first_bytes_are_those_of_some_code_point(rt: HostRuntime) {
     add_utf8_first_bytes_to_bitmap(interval(0xD800, 0x1_0000), &mut bitmap);
     assert!(rt; bitmap.count_bits() == 7);
     assert!(rt; bitmap.contains(0xED) && bitmap.contains(0xEF) && bitmap.contains(0xF0));
+}
+
+/// Seeks a code point among three or fewer intervals, and counts.
+fn seek(intervals: &mut CountedIntervals<'_>, c: CodePoint) -> Option<usize>
+    requires few { length (counted_intervals intervals.old) < 2 ^ 2 }
+    requires room { counted_probes intervals.old + 64 ≤ u64.MAX }
+    ensures index { result ≡ position (λ i. in_interval i c) (counted_intervals intervals.old) }
+    ensures counted { counted_probes intervals.new ≤ counted_probes intervals.old + 2 }
+{
+    bracket_index(intervals, c)
+}
+
+/// Begins to count.
+fn uncounted(intervals: &[Interval]) -> CountedIntervals<'_>
+    requires { Ascend (ends_of intervals.now) }
+    ensures intervals { counted_intervals result ≡ intervals.now }
+    ensures probes { counted_probes result ≡ 0 }
+{
+    CountedIntervals::new(intervals)
+}
+
+/// Compares the first of some intervals, and counts that.
+fn compare_first(intervals: &mut CountedIntervals<'_>, c: CodePoint) -> Ordering
+    requires some { 0 < length (counted_intervals intervals.old) }
+    requires room { counted_probes intervals.old + 64 ≤ u64.MAX }
+    ensures counted { counted_probes intervals.new ≡ counted_probes intervals.old + 1 }
+{
+    intervals.compare(0, c)
+}
+
+#[test]
+fn an_interval_is_found_by_few_probes(rt: HostRuntime) {
+    let pair = [interval(1, 2), interval(4, 5)];
+    let mut intervals = uncounted(&pair);
+    let count = intervals.len();
+    let second = seek(&mut intervals, 5);
+    prove!(count == 2 && second == Some(1));
+    let order = compare_first(&mut uncounted(&pair), 3);
+    assert!(rt; count == 2 && second == Some(1) && order == Ordering::Less);
+}
+
+/// Whether a set of these intervals, which rise, holds a code point.
+fn is_in(alloc: Global, intervals: &[Interval], c: CodePoint) -> Result<bool, AllocError>
+    requires { IntervalsRise (ends_of intervals.now) }
+    ensures { IfOk result (λ held. held ≡ in_intervals (ends_of intervals.now) c) }
+{
+    let set = CodePointSet::from_sorted_disjoint_intervals(intervals.to_vec(alloc)?);
+    Ok(set.contains(c))
+}
+
+#[test]
+fn class_escapes_have_the_standards_ends(rt: HostRuntime) -> Result<(), Fail> {
+    let low_line = is_in(rt.alloc(), &word_chars(), 0x5F)?;
+    let grave = is_in(rt.alloc(), &word_chars(), 0x60)?;
+    prove!(low_line && !grave);
+    let nine = is_in(rt.alloc(), &digits(), 0x39)?;
+    prove!(nine);
+    let byte_order_mark = is_in(rt.alloc(), &whitespace(), 0xFEFF)?;
+    prove!(byte_order_mark);
+    let line_feed = is_in(rt.alloc(), &line_terminator(), 0xA)?;
+    prove!(line_feed);
+    assert!(rt; low_line && !grave && nine && byte_order_mark && line_feed);
+    Ok(())
 }
 
 // The constants themselves, interval by interval: no clause can name them.

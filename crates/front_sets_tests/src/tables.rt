@@ -62,6 +62,44 @@ fn case_is_that_of_the_small_table(rt: HostRuntime) -> Result<(), Fail> {
     Ok(())
 }
 
+#[tactic(auto, unfolding(regress_meaning::specs::TableParts::image, regress_meaning::specs::TableParts::in_intervals, regress_meaning::specs::Table::canon))]
+#[test]
+fn values_of_the_small_table_are_proved(rt: HostRuntime) -> Result<(), Fail> {
+    let tables = Tables::small(rt.alloc())?;
+    let [folded, upper] = [tables.fold(0x4B), tables.upper(0x6B)];
+    prove!(folded == 0x6B && upper == 0x4B);
+    let [in_unicode, without] = [tables.canon(true, 0x4B), tables.canon(false, 0x4B)];
+    prove!(in_unicode == 0x6B && without == 0x4B);
+    let same = fold(&tables, 0x4B);
+    prove!(same == 0x6B);
+    let starts = tables.id_start(0x30);
+    prove!(!starts);
+    assert!(rt; folded == 0x6B && same == 0x6B && upper == 0x4B && !starts);
+    Ok(())
+}
+
+#[test]
+fn a_code_point_stands_for_itself_where_case_is_regarded(rt: HostRuntime) -> Result<(), Fail> {
+    let tables = Tables::small(rt.alloc())?;
+    let alone = expand_code_point(rt.alloc(), 0x73, false, true, &tables)?;
+    let is_alone = alone.len() == 1 && alone[0] == 0x73;
+    prove!(is_alone);
+    let text = TableError::OutOfMemory.to_string(rt.alloc())?;
+    let is_told = text.as_str() == "out of memory";
+    prove!(is_told);
+    assert!(rt; is_alone && is_told);
+    Ok(())
+}
+
+#[test]
+fn parts_of_the_small_table_are_proved(rt: HostRuntime) -> Result<(), Fail> {
+    let parts = TableParts::small(rt.alloc())?;
+    let [folds, uppers] = [parts.fold.len(), parts.upper.len()];
+    prove!(folds == 34 && uppers == 31);
+    assert!(rt; folds == 34 && uppers == 31);
+    Ok(())
+}
+
 /// A code point, whether a name may begin with it, and whether a name may go on with it.
 const IDENTIFIERS: &[(CodePoint, bool, bool)] = &[
     (0x5A, true, true),

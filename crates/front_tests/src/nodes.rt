@@ -9,7 +9,7 @@ use regress_front::{
     Interval, LoopID, Node, Piece, Quantifier, Tables, Walk, are_code_points,
     lower_code_point_sequence, walk, walk_mut,
 };
-use std::alloc::Global;
+use std::alloc::{AllocError, Global};
 use std::test::Fail;
 
 const GREEDY: Quantifier = Quantifier {
@@ -165,20 +165,36 @@ fn has_copy(alloc: Global, node: &Node, depth: usize) -> Result<bool, Error> {
     Ok(node.try_duplicate(alloc, depth)?.is_some())
 }
 
-#[test]
-fn no_copy_is_made_too_deep_or_of_a_group(rt: HostRuntime) -> Result<(), Fail> {
-    let node = repeated(rt.alloc(), Node::MatchAny)?;
-    assert!(rt;
-        has_copy(rt.alloc(), &node, 1279)?
-            && !has_copy(rt.alloc(), &node, 1280)?
-            && has_copy(rt.alloc(), &Node::MatchAny, 1280)?
-            && !has_copy(rt.alloc(), &Node::MatchAny, 1281)?
-    );
-    let group = group(rt.alloc(), Node::MatchAny)?;
-    let is_copied = has_copy(rt.alloc(), &group, 0)?;
-    let around = repeated(rt.alloc(), group)?;
-    assert!(rt; !is_copied && !has_copy(rt.alloc(), &around, 0)?);
+/// Nodes above, and whether a node is copied there that has one below it.
+const ABOVE: &[(usize, bool)] = &[(1279, true), (1280, false)];
+
+/// The same of a node that has none below it.
+const ABOVE_LEAF: &[(usize, bool)] = &[(1280, true), (1281, false)];
+
+/// The same of a node that is a group, or has one below it.
+const ABOVE_GROUP: &[(usize, bool)] = &[(0, false)];
+
+/// Fails at the first row where it is not told so whether a node is copied.
+fn are_copied(alloc: Global, node: &Node, rows: &[(usize, bool)]) -> Result<(), Fail> {
+    for (depth, expected) in rows {
+        if has_copy(alloc, node, *depth)? != *expected {
+            return Err(Fail::new(*depth));
+        }
+    }
     Ok(())
+}
+
+#[test]
+fn no_copy_is_made_too_deep(rt: HostRuntime) -> Result<(), Fail> {
+    are_copied(rt.alloc(), &repeated(rt.alloc(), Node::MatchAny)?, ABOVE)?;
+    are_copied(rt.alloc(), &Node::MatchAny, ABOVE_LEAF)
+}
+
+#[test]
+fn no_copy_is_made_of_a_group(rt: HostRuntime) -> Result<(), Fail> {
+    let group = group(rt.alloc(), Node::MatchAny)?;
+    are_copied(rt.alloc(), &group, ABOVE_GROUP)?;
+    are_copied(rt.alloc(), &repeated(rt.alloc(), group)?, ABOVE_GROUP)
 }
 
 /// Whether a bracket is inverted, from which code point on it holds all, and whether it is empty.
@@ -215,13 +231,32 @@ fn walk_in(in_lookbehind: bool) -> Walk {
     }
 }
 
+/// A letter for the kind of a node.
+fn kind(node: &Node) -> char {
+    match node {
+        Node::Cat(_) => 'c',
+        Node::LookaroundAssertion { .. } => 'l',
+        Node::MatchAny => 'a',
+        Node::Goal => 'g',
+        _ => 'o',
+    }
+}
+
+/// The kinds of the first part of a `Cat` and of its last.
+fn ends(node: &Node) -> Option<(char, char)> {
+    match node {
+        Node::Cat(parts) => Some((kind(parts.first()?), kind(parts.last()?))),
+        _ => None,
+    }
+}
+
 #[test]
 fn parts_are_turned_in_a_lookbehind(rt: HostRuntime) -> Result<(), Fail> {
     let mut node = Node::Cat(vec![in rt.alloc(); Node::MatchAny, Node::Empty, Node::Goal]?);
     node.reverse_cats(&walk_in(false));
-    assert!(rt; matches!(&node, Node::Cat(parts) if matches!(&parts[0], Node::MatchAny)));
+    let before = ends(&node);
     node.reverse_cats(&walk_in(true));
-    assert!(rt; matches!(&node, Node::Cat(parts) if matches!(&parts[0], Node::Goal)));
+    assert!(rt; before == Some(('a', 'g')) && ends(&node) == Some(('g', 'a')));
     Ok(())
 }
 
@@ -239,25 +274,72 @@ fn forms(node: &Node) -> (bool, bool, bool, bool) {
 fn forms_are_told(rt: HostRuntime) -> Result<(), Fail> {
     let none = Node::Cat(Vec::new(rt.alloc()));
     let fails = Node::make_always_fails(rt.alloc());
-    let nothing = Node::ByteSet(Vec::new(rt.alloc()));
     assert!(rt; forms(&Node::Empty) == (true, false, false, false));
     assert!(rt; forms(&none) == (false, true, false, false));
     assert!(rt; forms(&fails) == (false, false, false, true));
-    assert!(rt; nothing.match_always_fails());
     Ok(())
 }
 
 #[test]
+fn what_is_empty_is_no_goal_and_no_cat(rt: HostRuntime) {
+    let empty = Node::Empty.is_empty();
+    let goal = Node::Goal.is_empty();
+    let cat = Node::Cat(Vec::new(rt.alloc())).is_cat();
+    let other = Node::Empty.is_cat();
+    prove!(empty && !goal && cat && !other);
+    assert!(rt; empty && !goal && cat && !other);
+}
+
+#[test]
+fn a_set_of_none_matches_nothing(rt: HostRuntime) {
+    let fails = Node::make_always_fails(rt.alloc());
+    let is_none = fails.match_always_fails();
+    let is_one = fails.matches_exactly_one_char();
+    prove!(is_none && !is_one);
+    let nothing = Node::ByteSet(Vec::new(rt.alloc())).match_always_fails();
+    prove!(nothing);
+    assert!(rt; is_none && !is_one && nothing && matches!(&fails, Node::CharSet(_)));
+}
+
+#[test]
+fn a_set_of_two_matches_one_of_them(rt: HostRuntime) -> Result<(), Fail> {
+    let letters = Piece::ByteSet(Vec::from_array(rt.alloc(), [0x41, 0x61])?);
+    let node = Node::from(letters);
+    let is_none = node.match_always_fails();
+    let is_one = node.matches_exactly_one_char();
+    prove!(is_one && !is_none);
+    assert!(rt; is_one && !is_none);
+    Ok(())
+}
+
+/// Bytes of a literal, and whether they are one character.
+const LITERALS: &[(&[u8], bool)] = &[(&[0xE2, 0x82, 0xAC], true), (&[0x61, 0x62], false)];
+
+/// Whether a literal of these bytes is told to match exactly one character.
+fn is_one_character(alloc: Global, bytes: &[u8]) -> Result<bool, AllocError> {
+    Ok(Node::ByteSequence(bytes.to_vec(alloc)?).matches_exactly_one_char())
+}
+
+#[test]
+fn one_character_of_a_literal_is_told(rt: HostRuntime) -> Result<(), Fail> {
+    for (bytes, expected) in LITERALS {
+        if is_one_character(rt.alloc(), bytes)? != *expected {
+            return Err(Fail::new(bytes.len()));
+        }
+    }
+    Ok(())
+}
+
+/// Whether a node is told to match exactly one character, and not to match nothing.
+fn takes_one(node: &Node) -> bool {
+    node.matches_exactly_one_char() && !node.match_always_fails()
+}
+
+#[test]
 fn one_character_is_told(rt: HostRuntime) -> Result<(), Fail> {
-    let one = Node::ByteSequence(Vec::from_array(rt.alloc(), [0xE2, 0x82, 0xAC])?);
-    let two = Node::ByteSequence(Vec::from_array(rt.alloc(), [0x61, 0x62])?);
     let set = Node::CharSet(Vec::from_array(rt.alloc(), [0x61])?);
-    assert!(rt; one.matches_exactly_one_char() && !two.matches_exactly_one_char());
-    assert!(rt; set.matches_exactly_one_char() && !set.match_always_fails());
-    assert!(rt;
-        Node::Char { c: 0xD800 }.matches_exactly_one_char()
-            && Node::MatchAny.matches_exactly_one_char()
-    );
+    assert!(rt; takes_one(&set));
+    assert!(rt; takes_one(&Node::Char { c: 0xD800 }) && takes_one(&Node::MatchAny));
     Ok(())
 }
 
@@ -267,16 +349,6 @@ struct Told {
     kind: char,
     depth: usize,
     in_lookbehind: bool,
-}
-
-fn kind(node: &Node) -> char {
-    match node {
-        Node::Cat(_) => 'c',
-        Node::LookaroundAssertion { .. } => 'l',
-        Node::MatchAny => 'a',
-        Node::Goal => 'g',
-        _ => 'o',
-    }
 }
 
 fn visit_of(kind: char, depth: usize, in_lookbehind: bool) -> Option<Told> {
@@ -347,22 +419,45 @@ fn turn_all(postorder: bool, node: &mut Node) {
     );
 }
 
-/// `a(?=a)(a)`, each `a` turned into `b`.
-fn turned(alloc: Global, postorder: bool) -> Result<String, Error> {
+/// `a(?=a)(a)`.
+fn letters(alloc: Global) -> Result<Node, Error> {
     let inner = look(alloc, false, Node::Char { c: 0x61 })?;
     let group = group(alloc, Node::Char { c: 0x61 })?;
-    let mut node = Node::Cat(vec![in alloc; Node::Char { c: 0x61 }, inner, group]?);
+    Ok(Node::Cat(vec![in alloc; Node::Char { c: 0x61 }, inner, group]?))
+}
+
+/// The same, each `a` turned into `b`.
+fn turned(alloc: Global, postorder: bool) -> Result<String, Error> {
+    let mut node = letters(alloc)?;
     turn_all(postorder, &mut node);
     printed(alloc, node)
 }
 
+/// In preorder, where what stands below the lookaround is passed over.
+const PASSED_OVER: &str = "Cat
+  Char { c: 98 }
+  LookaroundAssertion { negate: false, backwards: false }
+    Char { c: 97 }
+  CaptureGroup 0
+    Char { c: 98 }
+";
+
+/// In postorder, where nothing is.
+const ALL_TURNED: &str = "Cat
+  Char { c: 98 }
+  LookaroundAssertion { negate: false, backwards: false }
+    Char { c: 98 }
+  CaptureGroup 0
+    Char { c: 98 }
+";
+
 #[test]
 fn what_is_passed_over_stays(rt: HostRuntime) -> Result<(), Fail> {
-    let passed =
-        "Cat\n  Char { c: 98 }\n  LookaroundAssertion { negate: false, backwards: false }\n    Char { c: 97 }\n  CaptureGroup 0\n    Char { c: 98 }\n";
-    assert!(rt; turned(rt.alloc(), false)?.as_str() == passed);
-    let all = passed.replace(rt.alloc(), "97", "98")?;
-    assert!(rt; turned(rt.alloc(), true)?.as_str() == all.as_str());
+    for (postorder, expected) in [(false, PASSED_OVER), (true, ALL_TURNED)] {
+        if turned(rt.alloc(), postorder)?.as_str() != expected {
+            return Err(Fail::new(expected));
+        }
+    }
     Ok(())
 }
 

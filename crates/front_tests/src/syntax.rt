@@ -353,6 +353,7 @@ const CLASSES_REFUSED: &[(&str, &str, &str)] = &[
     ("v", "[b-a]", "Invalid class"),
     ("v", "[a!!]", "Invalid class"),
     ("v", r"[^\q{ab}]", "Invalid class"),
+    ("v", r"[^\p{Emoji_Keycap_Sequence}]", "Invalid class"),
     ("v", r"[[^\q{ab}]]", "Invalid class"),
     ("v", r"[\a]", "Invalid escape"),
 ];
@@ -392,11 +393,15 @@ fn errors_of_classes_have_their_text(rt: HostRuntime) -> Result<(), Fail> {
     are_refused(rt.alloc(), CLASSES_REFUSED)
 }
 
+/// The whole syntax of a pattern, written out.
+fn whole(alloc: Global, pattern: &str) -> Result<String, Fail> {
+    let points = points(alloc, pattern, 1)?;
+    Ok(format!(in alloc; "{:?}", parsed(alloc, "", &points)?)?)
+}
+
 #[test]
 fn alternatives_are_read(rt: HostRuntime) -> Result<(), Fail> {
-    let points = points(rt.alloc(), "ab|", 1)?;
-    let syntax = parsed(rt.alloc(), "", &points)?;
-    let text = format!(in rt.alloc(); "{syntax:?}")?;
+    let text = whole(rt.alloc(), "ab|")?;
     assert!(rt;
         text.as_str()
             == "Disjunction([Alternative([Character(97), Character(98)]), Alternative([])])"

@@ -338,6 +338,16 @@ fn exactly_two_words_are_run(rt: HostRuntime) -> Result<(), Fail> {
 }
 
 #[test]
+fn a_third_word_is_wrong(rt: HostRuntime) -> Result<(), Fail> {
+    let word = String::from_str(rt.alloc(), "A")?;
+    let words = vec![in rt.alloc(); word.clone()?, word.clone()?, word.clone()?, word]?;
+    let is_wrong = matches!(read_words(Ok(words.into_iter())), Err(Ending::WrongWords));
+    prove!(is_wrong);
+    assert!(rt; is_wrong);
+    Ok(())
+}
+
+#[test]
 fn unread_words_are_told(rt: HostRuntime) {
     let refused = read_words(Err(io::Error::from(AllocError)));
     let unread = read_words(Err(io::Error::from(ErrorKind::InvalidData)));
@@ -374,9 +384,23 @@ fn each_ending_has_its_text_and_status(rt: HostRuntime) -> Result<(), Fail> {
             return Err(Fail::new(*text));
         }
     }
+    Ok(())
+}
+
+#[test]
+fn statuses_and_texts_are_proved(rt: HostRuntime) -> Result<(), Fail> {
     let wrong = Ending::WrongWords.status();
     let failed = ToolError::Read.status();
-    prove!(wrong == 2 && failed == 1);
+    let no_pattern = NO_PATTERN.status();
+    prove!(wrong == 2 && failed == 1 && no_pattern == 2);
+    let ending = Ending::from(Err(ToolError::Read));
+    let done = Ending::from(Ok(())).status();
+    let status = ending.status();
+    prove!(status == 1 && done == 0);
+    let text = ending.to_string(rt.alloc())?;
+    let is_told = text.as_str() == "read failed\n";
+    prove!(is_told);
+    assert!(rt; wrong == 2 && failed == 1 && no_pattern == 2 && status == 1 && is_told);
     Ok(())
 }
 

@@ -1,7 +1,7 @@
 //! Tests of matches and their groups.
 
-use crate::told::compiled;
-use regress::{Groups, Match, Range, Tables};
+use crate::told::first_in;
+use regress::{Groups, Match, Range};
 use std::alloc::{AllocError, Global};
 use std::sync::ArcSlice;
 use std::test::Fail;
@@ -65,6 +65,43 @@ fn a_match_is_read(rt: HostRuntime) -> Result<(), Fail> {
     assert!(rt; has_ends(&found, 1, 6) && has_groups(&found, GROUPS));
     found.captures.clear();
     assert!(rt; has_groups(&found, WITHOUT_CAPTURES));
+    Ok(())
+}
+
+#[test]
+fn what_is_read_of_a_match_is_proved(rt: HostRuntime) -> Result<(), Fail> {
+    let names = ArcSlice::from_vec(Vec::new(rt.alloc()))?;
+    let found = Match::new(1..3, vec![in rt.alloc(); Some(1..2)]?, names);
+    let range = found.range();
+    prove!(found.start() == 1 && found.end() == 3 && range == (1..3));
+    let first = found.group(1);
+    let past = found.group(2);
+    prove!(first == Some(1..2) && past.is_none());
+    assert!(rt; range == (1..3) && first == Some(1..2) && past.is_none());
+    Ok(())
+}
+
+#[test]
+fn groups_of_a_match_are_proved(rt: HostRuntime) -> Result<(), Fail> {
+    let names = ArcSlice::from_vec(Vec::new(rt.alloc()))?;
+    let found = Match::new(1..3, vec![in rt.alloc(); Some(1..2)]?, names);
+    let mut groups = found.groups();
+    let hint = groups.size_hint();
+    prove!(groups.len() == 2 && hint == (2, Some(2)));
+    let whole = groups.next();
+    let first = groups.next();
+    prove!(whole == Some(Some(1..3)) && first == Some(Some(1..2)));
+    assert!(rt; hint == (2, Some(2)) && whole == Some(Some(1..3)) && first == Some(Some(1..2)));
+    Ok(())
+}
+
+#[test]
+fn a_part_of_a_text_is_proved(rt: HostRuntime) -> Result<(), Fail> {
+    let names = ArcSlice::from_vec(Vec::new(rt.alloc()))?;
+    let found = Match::new(1..3, Vec::new(rt.alloc()), names);
+    let is_part = found.as_str("abcd") == "bc";
+    prove!(is_part);
+    assert!(rt; is_part);
     Ok(())
 }
 
@@ -140,9 +177,7 @@ const OF_THE_FIRST: &[Option<(usize, usize)>] = &[Some((0, 1)), None];
 
 #[test]
 fn groups_of_the_first_match(rt: HostRuntime) -> Result<(), Fail> {
-    let tables = Tables::small(rt.alloc())?;
-    let regex = compiled(rt.alloc(), "(a)|b", "", &tables)?;
-    let found = regex.find("ba")?.ok_or("no match")?;
+    let found = first_in(rt.alloc(), "(a)|b", "ba")?;
     assert!(rt; are_left(&mut found.groups(), OF_THE_FIRST));
     Ok(())
 }

@@ -1,9 +1,10 @@
 //! Patterns and texts whose answers are known from the standard, told as a user would ask for them.
 
 use crate::told::{
-    are_refused, compiled, first_match, first_of, match_first, match_so, matches_from, refusal,
+    are_refused, compiled, first_in, first_match, first_of, match_first, match_so, matches_from,
+    refusal,
 };
-use regress::{Error, Flags, Range, Regex, Tables, are_code_points};
+use regress::{Error, Flags, Match, Regex, Tables, are_code_points};
 use std::alloc::{AllocError, Global};
 use std::test::Fail;
 
@@ -64,13 +65,6 @@ fn all_matches_are_those_of_the_standard(rt: HostRuntime) -> Result<(), Fail> {
     match_so(rt.alloc(), ALL_MATCHES)
 }
 
-/// The range of the first group with a name in the first match.
-fn named(alloc: Global, pattern: &str, text: &str, name: &str) -> Result<Option<Range>, Fail> {
-    let tables = Tables::small(alloc)?;
-    let regex = Regex::new(alloc, pattern, &tables)?;
-    Ok(regex.find(text)?.ok_or("no match")?.named_group(name))
-}
-
 /// Patterns, texts, names, and the group of the name in the first match.
 const NAMED: &[(&str, &str, &str, Option<(usize, usize)>)] = &[
     (r"(?<\u0061>x)", "x", "a", Some((0, 1))),
@@ -90,7 +84,7 @@ const NAMED: &[(&str, &str, &str, Option<(usize, usize)>)] = &[
 #[test]
 fn groups_are_found_by_their_names(rt: HostRuntime) -> Result<(), Fail> {
     for (pattern, text, name, expected) in NAMED {
-        let group = named(rt.alloc(), pattern, text, name)?;
+        let group = first_in(rt.alloc(), pattern, text)?.named_group(name);
         if group.map(|range| (range.start, range.end)) != *expected {
             return Err(Fail::new(*pattern));
         }
@@ -100,9 +94,7 @@ fn groups_are_found_by_their_names(rt: HostRuntime) -> Result<(), Fail> {
 
 #[test]
 fn a_match_is_told_in_bytes(rt: HostRuntime) -> Result<(), Fail> {
-    let tables = Tables::small(rt.alloc())?;
-    let found = Regex::new(rt.alloc(), "漢(😀)", &tables)?.find("aé漢😀b")?;
-    let found = found.ok_or("no match")?;
+    let found = first_in(rt.alloc(), "漢(😀)", "aé漢😀b")?;
     assert!(rt;
         found.range() == (3..10)
             && (found.start(), found.end()) == (3, 10)
@@ -255,7 +247,32 @@ fn unless_refused<T: Drop>(outcome: Result<T, Error>) -> Result<Option<T>, Fail>
 
 /// The small table, asked for once more where memory is refused.
 fn small_tables(alloc: Global) -> Result<Tables, Fail> {
-    Ok(Tables::small(alloc).or_else(|_| Tables::small(alloc))?)
+    match Tables::small(alloc) {
+        Ok(tables) => Ok(tables),
+        Err(_) => Ok(Tables::small(alloc)?),
+    }
+}
+
+/// A pattern, compiled once more where memory is refused.
+fn compiled_at_last<'t>(
+    alloc: Global,
+    pattern: &str,
+    flags: &str,
+    tables: &'t Tables,
+) -> Result<Regex<'t>, Fail> {
+    match unless_refused(compiled(alloc, pattern, flags, tables))? {
+        Some(regex) => Ok(regex),
+        None => Ok(compiled(alloc, pattern, flags, tables)?),
+    }
+}
+
+/// The first match, sought once more where memory is refused.
+fn found_at_last(regex: &Regex<'_>, text: &str) -> Result<Match, Fail> {
+    let found = match unless_refused(regex.find(text))? {
+        Some(found) => found,
+        None => regex.find(text)?,
+    };
+    Ok(found.ok_or("no match")?)
 }
 
 // A run may refuse one request for memory, each in turn (`rt try --test --fail-alloc N`): then the call that made it tells
@@ -263,16 +280,8 @@ fn small_tables(alloc: Global) -> Result<Tables, Fail> {
 #[test]
 fn refused_memory_is_told_and_turns_no_answer(rt: HostRuntime) -> Result<(), Fail> {
     let tables = small_tables(rt.alloc())?;
-    let compile = || compiled(rt.alloc(), "(a|ab)(c|b(?:c)d)", "m", &tables);
-    let regex = match unless_refused(compile())? {
-        Some(regex) => regex,
-        None => compile()?,
-    };
-    let found = match unless_refused(regex.find("é😀abcd"))? {
-        Some(found) => found,
-        None => regex.find("é😀abcd")?,
-    };
-    let found = found.ok_or("no match")?;
+    let regex = compiled_at_last(rt.alloc(), "(a|ab)(c|b(?:c)d)", "m", &tables)?;
+    let found = found_at_last(&regex, "é😀abcd")?;
     assert!(rt;
         found.range() == (6..10)
             && found.captures.as_slice() == [Some(6..7), Some(7..10)].as_slice()
@@ -320,11 +329,7 @@ fn count_matches(regex: &Regex<'_>) -> Result<(usize, bool), Fail> {
 #[test]
 fn refused_memory_ends_the_iteration(rt: HostRuntime) -> Result<(), Fail> {
     let tables = small_tables(rt.alloc())?;
-    let compile = || compiled(rt.alloc(), "(a+)|b*", "", &tables);
-    let regex = match unless_refused(compile())? {
-        Some(regex) => regex,
-        None => compile()?,
-    };
+    let regex = compiled_at_last(rt.alloc(), "(a+)|b*", "", &tables)?;
     let (count, is_refused) = count_matches(&regex)?;
     assert!(rt; is_refused || count == WHOLE.len());
     if is_refused {

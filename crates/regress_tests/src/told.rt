@@ -1,7 +1,7 @@
 //! How matches are told in tables, and how a table is tried.
 
-use regress::{Error, Flags, Match, Regex, Tables, is_start};
-use std::alloc::Global;
+use regress::{Error, Flags, Match, Range, Regex, Tables, is_start};
+use std::alloc::{AllocError, Global};
 use std::test::Fail;
 
 /// A pattern under flags. It promises nothing, so what calls it has little to prove.
@@ -14,18 +14,23 @@ pub(crate) fn compiled<'t>(
     Regex::with_flags(alloc, pattern, Flags::from(flags), tables)
 }
 
-/// Adds a match: its range and that of each group in bytes, or `-`, parted by spaces.
-fn tell(alloc: Global, told: &mut String, found: &Match) -> Result<(), Error> {
-    for (number, group) in found.groups().enumerate() {
-        if number > 0 {
+/// Adds a group: its range in bytes, or `-`.
+fn tell_group(told: &mut String, group: Option<Range>) -> Result<(), AllocError> {
+    match group {
+        Some(range) => write!(told, "{}..{}", range.start, range.end),
+        None => told.push('-'),
+    }
+}
+
+/// Adds a match: its range and that of each group, parted by spaces.
+fn tell(told: &mut String, found: &Match) -> Result<(), AllocError> {
+    let mut is_first = true;
+    for group in found.groups() {
+        if !is_first {
             told.push(' ')?;
         }
-        match group {
-            Some(range) => {
-                told.push_str(format!(in alloc; "{}..{}", range.start, range.end)?.as_str())?
-            }
-            None => told.push('-')?,
-        }
+        tell_group(told, group)?;
+        is_first = false;
     }
     Ok(())
 }
@@ -34,9 +39,16 @@ fn tell(alloc: Global, told: &mut String, found: &Match) -> Result<(), Error> {
 pub(crate) fn first_of(alloc: Global, regex: &Regex<'_>, text: &str) -> Result<String, Error> {
     let mut told = String::new(alloc);
     if let Some(found) = regex.find(text)? {
-        tell(alloc, &mut told, &found)?;
+        tell(&mut told, &found)?;
     }
     Ok(told)
+}
+
+/// The first match of a pattern without flags.
+pub(crate) fn first_in(alloc: Global, pattern: &str, text: &str) -> Result<Match, Fail> {
+    let tables = Tables::small(alloc)?;
+    let regex = Regex::new(alloc, pattern, &tables)?;
+    Ok(regex.find(text)?.ok_or("no match")?)
 }
 
 /// The first match of a pattern; nothing where there is none.
@@ -61,11 +73,11 @@ pub(crate) fn all_matches(
     let tables = Tables::small(alloc)?;
     let regex = compiled(alloc, pattern, flags, &tables)?;
     let mut told = String::new(alloc);
-    for (number, found) in regex.find_iter(text)?.enumerate() {
-        if number > 0 {
+    for found in regex.find_iter(text)? {
+        if !told.is_empty() {
             told.push('|')?;
         }
-        tell(alloc, &mut told, &found?)?;
+        tell(&mut told, &found?)?;
     }
     Ok(told)
 }
@@ -86,7 +98,7 @@ pub(crate) fn matches_from(
         if !told.is_empty() {
             told.push('|')?;
         }
-        tell(alloc, &mut told, &found?)?;
+        tell(&mut told, &found?)?;
     }
     if matches.next().is_some() {
         return Err("a match past the last".into());
