@@ -1,5 +1,5 @@
-//! What callers do with matches. What they ask of a match and of a start is said by the calls that give them; inside a loop one
-//! line of proof names that clause.
+//! What callers do with matches. What they ask of a match and of a start is said by the calls that give them; only a search that
+//! goes on from a match of a loop takes a line of proof, which names that clause.
 
 use regress::{Error, Match, Regex, Tables};
 use std::alloc::Global;

@@ -11,10 +11,10 @@ use std::alloc::Global;
 use std::test::Fail;
 
 /// A character and the offset past it.
-type Read = Option<(u32, usize)>;
+pub type Read = Option<(u32, usize)>;
 
 /// An offset, what is read to its right, and what to its left.
-type Row = (usize, Read, Read);
+pub type Row = (usize, Read, Read);
 
 // characters of one to four bytes
 const TEXT: &str = "a\u{E9}\u{20AC}\u{1F600}";
@@ -92,11 +92,31 @@ fn reads<Input: InputIndexer, Dir: Direction>(
     }
 }
 
-fn row_is_read<Input: InputIndexer>(input: &Input, row: &Row) -> bool
+/// Whether a character and the position past it are these.
+fn is_read<Input: InputIndexer>(
+    found: Option<Input::Element>,
+    past: Option<Input::Position>,
+    wanted: Read,
+) -> bool {
+    match (found, past, wanted) {
+        (Some(c), Some(pos), Some((code, end))) => {
+            c.as_u32() == code && pos == <Input::Position as PositionType>::new(end)
+        }
+        (None, None, None) => true,
+        _ => false,
+    }
+}
+
+/// Whether all calls that read characters answer a row.
+pub fn row_is_read<Input: InputIndexer>(input: &Input, row: &Row) -> bool
     requires { CanRead (Input.view input.now) row.now.0 }
 {
     let (at, right, left) = *row;
-    reads(input, Forward, at, right) && reads(input, Backward, at, left)
+    let pos = <Input::Position as PositionType>::new(at);
+    reads(input, Forward, at, right)
+        && reads(input, Backward, at, left)
+        && is_read::<Input>(input.peek_right(pos), input.next_right_pos(pos), right)
+        && is_read::<Input>(input.peek_left(pos), input.next_left_pos(pos), left)
 }
 
 fn utf8_rows_are_read(text: &str, rows: &[Row], tables: &Tables) -> bool {

@@ -7,3 +7,11 @@ mod brackets;
 mod inputs;
 #[cfg(test)]
 mod matchers;
+#[cfg(test)]
+mod parts;
+#[cfg(test)]
+mod positions;
+#[cfg(test)]
+mod properties;
+#[cfg(test)]
+mod singles;

@@ -1,5 +1,12 @@
-//! Tests of `regress_engine_matchers`.
-use regress_engine_input::{Backward, DefPosition, Forward, PositionType, Utf8Input, Utf16Input};
+//! Tests of references to what a group took.
+ghost use Rattle.std.specs.Prelude.{◌≤◌};
+ghost use Rattle.regress_engine_input.specs.Views.{CanRead};
+
+use crate::parts::Repeat;
+use regress_engine_input::{
+    AsciiInput, Backward, Direction, Forward, PositionType, Ucs2Input, Utf8Input, Utf16Input,
+};
+use regress_engine_matchers::CharInput;
 use regress_engine_matchers::matchers::{backref, backref_icase};
 use regress_front_tables::Tables;
 use std::alloc::Global;
@@ -9,78 +16,142 @@ fn tables(alloc: Global) -> Result<Tables, Fail> {
     Ok(Tables::small(alloc)?)
 }
 
-/// Whether a reference to the units from `start` up to `end` stands at `at`, and leads to `to`.
-fn utf16_backref(
-    units: &[u16],
-    (start, end): (usize, usize),
-    (at, to): (usize, usize),
-    forward: bool,
-    tables: &Tables,
-) -> bool {
-    if start > end || end > units.len() || at > units.len() {
-        return false;
-    }
-    let input = Utf16Input::new(units, true, tables);
-    let range = DefPosition::new(start)..DefPosition::new(end);
-    let mut pos = DefPosition::new(at);
-    let stands = if forward {
-        backref(&input, Forward, range, &mut pos)
+/// Whether what stands from one offset up to another stands beside `at` once more, and leads to that offset; with none, whether it
+/// does not.
+fn leads<Input: CharInput, Dir: Direction>(
+    input: &Input,
+    dir: Dir,
+    range: (usize, usize),
+    at: usize,
+    to: Option<usize>,
+    icase: bool,
+) -> bool
+    requires order { range.0 ≤ range.1 }
+    requires start { CanRead (Input.view input.now) range.0 }
+    requires end { CanRead (Input.view input.now) range.1 }
+    requires position { CanRead (Input.view input.now) at }
+{
+    let (start, end) = range;
+    let first = <Input::Position as PositionType>::new(start);
+    let last = <Input::Position as PositionType>::new(end);
+    let mut pos = <Input::Position as PositionType>::new(at);
+    let stands = if icase {
+        backref_icase(input, dir, first..last, &mut pos)
     } else {
-        backref(&input, Backward, range, &mut pos)
+        backref(input, dir, first..last, &mut pos)
     };
-    stands && pos == DefPosition::new(to)
+    match to {
+        Some(wanted) => stands && pos == <Input::Position as PositionType>::new(wanted),
+        None => !stands,
+    }
 }
+
+/// Whether all rows are so in 16-bit units, with case ignored or not.
+fn utf16_rows_are_so(units: &[u16], rows: &[Repeat], icase: bool, tables: &Tables) -> bool {
+    let input = Utf16Input::new(units, true, tables);
+    for (start, end, at, right, left) in rows {
+        if *start > *end || *end > units.len() || *at > units.len() {
+            return false;
+        }
+        if !leads(&input, Forward, (*start, *end), *at, *right, icase)
+            || !leads(&input, Backward, (*start, *end), *at, *left, icase)
+        {
+            return false;
+        }
+    }
+    true
+}
+
+/// The same in UTF-8.
+fn utf8_rows_are_so(text: &str, rows: &[Repeat], icase: bool, tables: &Tables) -> bool {
+    let input = Utf8Input::new(text, true, tables);
+    for (start, end, at, right, left) in rows {
+        if *start > *end || !text.is_char_boundary(*start) || !text.is_char_boundary(*end) {
+            return false;
+        }
+        if !text.is_char_boundary(*at)
+            || !leads(&input, Forward, (*start, *end), *at, *right, icase)
+            || !leads(&input, Backward, (*start, *end), *at, *left, icase)
+        {
+            return false;
+        }
+    }
+    true
+}
+
+// a lone high unit, and a pair that begins with the same
+const HALF: &[u16] = &[0xD83D, 0xD83D, 0xDE00];
+
+const IN_HALF: &[Repeat] = &[(0, 1, 1, None, Some(0)), (1, 3, 1, Some(3), None)];
+
+// two of them
+const TWICE: &[u16] = &[0xD83D, 0xD83D, 0xD83D, 0xDE00];
+
+const IN_TWICE: &[Repeat] = &[
+    (0, 1, 1, Some(2), Some(0)),
+    (1, 2, 2, None, Some(1)),
+    (0, 2, 2, None, Some(0)),
+    (2, 4, 2, Some(4), None),
+    (2, 4, 4, None, Some(2)),
+];
+
+// a pair, and a lone low unit as that which it ends with
+const LOW: &[u16] = &[0xD83D, 0xDE00, 0xDE00];
+
+const IN_LOW: &[Repeat] = &[
+    (2, 3, 2, Some(3), None),
+    (2, 3, 3, None, Some(2)),
+    (0, 2, 2, None, Some(0)),
+];
+
+const LOWS: &[u16] = &[0xDE00, 0xDE00];
+
+const IN_LOWS: &[Repeat] = &[(1, 2, 1, Some(2), Some(0)), (0, 1, 2, None, Some(1))];
 
 #[test]
 fn references_in_units_end_outside_pairs(rt: HostRuntime) -> Result<(), Fail> {
     let tables = tables(rt.alloc())?;
-    // a lone high unit and a pair: the unit does not stand in the pair once more
-    let half = [0xD83D, 0xD83D, 0xDE00];
-    assert!(rt; !utf16_backref(&half, (0, 1), (1, 2), true, &tables));
-    let twice = [0xD83D, 0xD83D, 0xD83D, 0xDE00];
-    assert!(rt; utf16_backref(&twice, (0, 1), (1, 2), true, &tables));
-    assert!(rt; !utf16_backref(&twice, (1, 2), (2, 3), true, &tables));
-    // backward
-    let low = [0xD83D, 0xDE00, 0xDE00];
-    assert!(rt; !utf16_backref(&low, (2, 3), (2, 1), false, &tables));
-    assert!(rt; utf16_backref(&[0xDE00, 0xDE00], (1, 2), (1, 0), false, &tables));
+    for icase in [false, true] {
+        assert!(rt; utf16_rows_are_so(HALF, IN_HALF, icase, &tables));
+        assert!(rt; utf16_rows_are_so(TWICE, IN_TWICE, icase, &tables));
+        assert!(rt; utf16_rows_are_so(LOW, IN_LOW, icase, &tables));
+        assert!(rt; utf16_rows_are_so(LOWS, IN_LOWS, icase, &tables));
+        assert!(rt; utf16_rows_are_so(&[], &[(0, 0, 0, Some(0), Some(0))], icase, &tables));
+    }
+    // without pairs
+    let input = Ucs2Input::new(HALF, true, &tables);
+    assert!(rt; leads(&input, Forward, (0, 1), 1, Some(2), false));
+    assert!(rt; leads(&input, Backward, (2, 3), 3, Some(2), true));
     Ok(())
 }
 
-/// Whether a reference with case ignored to the bytes from `start` up to `end` stands at `at`, and leads to `to`.
-fn utf8_backref(
-    text: &str,
-    (start, end): (usize, usize),
-    (at, to): (usize, usize),
-    forward: bool,
-    tables: &Tables,
-) -> bool {
-    if start > end || !text.is_char_boundary(start) || !text.is_char_boundary(end) {
-        return false;
-    }
-    if !text.is_char_boundary(at) {
-        return false;
-    }
-    let input = Utf8Input::new(text, true, tables);
-    let range = DefPosition::new(start)..DefPosition::new(end);
-    let mut pos = DefPosition::new(at);
-    let stands = if forward {
-        backref_icase(&input, Forward, range, &mut pos)
-    } else {
-        backref_icase(&input, Backward, range, &mut pos)
-    };
-    stands && pos == DefPosition::new(to)
-}
+// the Kelvin sign takes three bytes, and folds to k
+const KELVIN: &str = "ka\u{212A}A";
+
+const IN_KELVIN: &[Repeat] = &[
+    (0, 2, 2, None, Some(0)),
+    (2, 5, 2, Some(5), None),
+    (1, 2, 2, None, Some(1)),
+    (0, 0, 6, Some(6), Some(6)),
+];
+
+const IN_KELVIN_ANY_CASE: &[Repeat] = &[
+    (0, 2, 2, Some(6), Some(0)),
+    (2, 6, 2, Some(6), Some(0)),
+    (0, 1, 1, None, Some(0)),
+    (0, 2, 5, None, None),
+    (0, 0, 6, Some(6), Some(6)),
+];
 
 #[test]
 fn references_ignore_case_by_the_tables(rt: HostRuntime) -> Result<(), Fail> {
     let tables = tables(rt.alloc())?;
-    // the Kelvin sign takes three bytes, and folds to k
-    let text = "ka\u{212A}A";
-    assert!(rt; utf8_backref(text, (0, 2), (2, 6), true, &tables));
-    assert!(rt; utf8_backref(text, (2, 6), (2, 0), false, &tables));
-    assert!(rt; !utf8_backref(text, (0, 1), (1, 2), true, &tables));
-    assert!(rt; utf8_backref(text, (0, 0), (6, 6), true, &tables));
-    assert!(rt; !utf8_backref(text, (0, 2), (5, 6), true, &tables));
+    assert!(rt; utf8_rows_are_so(KELVIN, IN_KELVIN, false, &tables));
+    assert!(rt; utf8_rows_are_so(KELVIN, IN_KELVIN_ANY_CASE, true, &tables));
+    assert!(rt; utf8_rows_are_so("", &[(0, 0, 0, Some(0), Some(0))], true, &tables));
+    let ascii = AsciiInput::new("aAb", true, &tables);
+    assert!(rt; leads(&ascii, Forward, (0, 1), 1, Some(2), true));
+    assert!(rt; leads(&ascii, Forward, (0, 1), 1, None, false));
+    assert!(rt; leads(&ascii, Backward, (0, 2), 2, Some(0), true));
     Ok(())
 }

@@ -3,7 +3,7 @@ use Rattle.std.proofs.Common.{◌≡◌, ℕ, ◌<◌, ◌≤◌, List, [], ◌�
 use Rattle.std.proofs.lemmas.List.{length-map, nil_from_length}
 use Rattle.std.specs.Prelude.{slice_get}
 use Rattle.std.specs.Option.{option_transpose}
-use Rattle.std.specs.Iterator.{Yields}
+use Rattle.std.specs.Iterator.{Yields, HoldsAfterAnyCalls}
 use Rattle.std.specs.Arc.{arc_slice_items}
 use Rattle.std.specs.String.{string_bytes}
 use Rattle.std.specs.Str.{chars, IsUtf8, IsCharBoundary}
@@ -93,7 +93,7 @@ starts-given bytes utf8 names before after (Some (Ok m)) first = starts-inside b
 starts-given bytes utf8 names before after (Some (Err e)) first = tt
 
 -- what a step of the iterator is
-abbrev gives_next : Matches → Option (Result Match Error) → Matches → Type 0
+abbrev pub gives_next : Matches → Option (Result Match Error) → Matches → Type 0
 gives_next old r new = (searched new ≡ searched old) × (sought_names new ≡ sought_names old)
     × GivesMatch coming HasEnded (IsMatchIn (searched old) (sought_names old)) old r new
 
@@ -101,6 +101,12 @@ gives_next old r new = (searched new ≡ searched old) × (sought_names new ≡ 
 searched-along : (ms old : Matches) (given : List (Result Match Error)) → Yields gives_next ms given old → searched old ≡ searched ms
 searched-along ms old [] same = ap searched (sym same)
 searched-along ms old (x ∷ given) (next, step, others) = searched-along next old given others ∙ step.0
+
+-- the same, where memory may have been refused
+pub searched-along_or_refused : (made : Result Matches Error) (bytes : List ℕ) (r : Regex)
+    → IfOk made (λ ms. IsPatternOf r (pattern_of (search_of ms)) × (searched ms ≡ bytes)) → IfOk made (HoldsAfterAnyCalls (λ now. searched now ≡ bytes) gives_next)
+searched-along_or_refused (Ok ms) bytes r over = record { at = λ given now yields. searched-along ms now given yields ∙ over.1 }
+searched-along_or_refused (Err e) bytes r over = tt
 
 -- each match that steps give lies in the text
 inside-each : (ms : Matches) (bytes : List ℕ) → searched ms ≡ bytes → HoldsOfEach gives_next (LiesInText bytes) ms

@@ -1,1 +1,5 @@
 pub mod IterationLemmas
+pub mod RisingLemmas
+pub mod ReplacingLemmas
+pub mod LawLemmas
+pub mod AskingLemmas

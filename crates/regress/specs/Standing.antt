@@ -1,5 +1,5 @@
 -- What a compiled pattern stands for.
-use Rattle.std.specs.Prelude.{◌≡◌, false, map, chars}
+use Rattle.std.specs.Prelude.{◌≡◌, map, chars}
 use Rattle.regress_meaning.specs.Table.{Table}
 use Rattle.regress_meaning.specs.Pattern.{Pattern, names_of}
 use Rattle.regress_meaning.specs.Flags.{Options, is_unicode, first_settings}
@@ -11,10 +11,6 @@ use Rattle.regress_front.specs.TreeMeaning.{node_outcomes}
 use Rattle.regress_front.specs.Alike.{IsAlike}
 use Rattle.regress.specs.declared.api.Regex.{Regex}
 use Rattle.regress_match.specs.GroupNames.{shared_names}
-
--- no flags
-abbrev pub plain : Options
-plain = record { icase = false; multiline = false; dot_all = false; unicode = false; sets = false }
 
 -- The compiled pattern stands for the tree, under this table and these options: its groups have the
 -- same names, and it is alike it.

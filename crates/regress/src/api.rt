@@ -1,11 +1,13 @@
 //! The user's calls.
+ghost use Rattle.std.specs.Iterator.{HoldsAfterAnyCalls};
 ghost use Rattle.std.specs.Prelude.{◌≡◌, ◌≤◌, ◌↔◌, ℕ, All, IsTrue, IfOk, IfErr, IfSome, Err, IsOkUnless, IsCharBoundary, chars, length, map, slice_get, option_map};
 ghost use Rattle.regress_meaning.specs.Table.{Table};
 ghost use Rattle.regress_meaning.specs.Pattern.{Pattern};
-ghost use Rattle.regress_meaning.specs.Flags.{Options};
+ghost use Rattle.regress_meaning.specs.Flags.{Options, no_flags};
 ghost use Rattle.regress_meaning.specs.Grammar.{Spells};
 ghost use Rattle.regress_meaning.specs.Limits.{WithinLimits};
 ghost use Rattle.regress_meaning.specs.Matches.{match_list};
+ghost use Rattle.regress_meaning.specs.Laws.{ItemsRise};
 ghost use Rattle.regress_meaning.specs.Offsets.{of_utf8, told, Begins};
 ghost use Rattle.regress_front.specs.TableViews.{table};
 ghost use Rattle.regress_match.specs.Views.{item_of};
@@ -41,7 +43,7 @@ pub struct Regex<'u> {
 }
 
 impl<'u> Regex<'u> {
-    ghost use Rattle.regress.specs.Standing.{StandsFor, plain};
+    ghost use Rattle.regress.specs.Standing.{StandsFor};
     ghost use Rattle.regress.specs.Coming.{searched, sought_names, coming, BeginsAndEndsAtStarts, HoldsOfEach};
     ghost use Rattle.regress_match.specs.GroupNames.{shared_names};
     ghost use Rattle.regress_match.specs.GroupViews.{names_of_match};
@@ -55,8 +57,8 @@ impl<'u> Regex<'u> {
     /// let regex = Regex::new(alloc, "a+b", &tables)?;
     /// ```
     pub fn new(alloc: Global, pattern: &str, tables: &'u Tables) -> Result<Regex<'u>, Error>
-        ensures accepted { IfOk result (λ r. (p : Pattern) × Spells (table tables.now) plain (chars pattern.now) p × WithinLimits p × StandsFor r (table tables.now) plain p) }
-        ensures refused { IfErr result (MayRefuse (table tables.now) plain (chars pattern.now)) }
+        ensures accepted { IfOk result (λ r. (p : Pattern) × Spells (table tables.now) no_flags (chars pattern.now) p × WithinLimits p × StandsFor r (table tables.now) no_flags p) }
+        ensures refused { IfErr result (MayRefuse (table tables.now) no_flags (chars pattern.now)) }
     {
         Regex::with_flags(alloc, pattern, Flags::default(), tables)
     }
@@ -142,8 +144,10 @@ impl<'u> Regex<'u> {
         ensures matches { (t : Table) → (o : Options) → (p : Pattern) → StandsFor self.now t o p →
             IfOk result (λ ms. coming ms ≡ map (told (of_utf8 text.now)) (match_list t o p (chars text.now) 0)) }
         ensures over { IfOk result (λ ms. searched ms ≡ text.now) }
+        ensures along { IfOk result (HoldsAfterAnyCalls (λ ms. searched ms ≡ text.now) ⟦<Matches<'r, 't> as Iterator>⟧.next_gives) }
         ensures inside { IfOk result (HoldsOfEach ⟦<Matches<'r, 't> as Iterator>⟧.next_gives (LiesInText text.now)) }
         ensures starts { IfOk result (HoldsOfEach ⟦<Matches<'r, 't> as Iterator>⟧.next_gives (BeginsAndEndsAtStarts text.now)) }
+        ensures rise { IfOk result (λ ms. ItemsRise (coming ms)) }
         ensures named { IfOk result (λ ms. sought_names ms ≡ shared_names self.now.group_names) }
         ensures refused { IsOkUnless result Error.OutOfMemory }
     {
@@ -168,8 +172,10 @@ impl<'u> Regex<'u> {
             (place : ℕ) → Begins (of_utf8 text.now) start place →
             IfOk result (λ ms. coming ms ≡ map (told (of_utf8 text.now)) (match_list t o p (chars text.now) place)) }
         ensures over { IfOk result (λ ms. searched ms ≡ text.now) }
+        ensures along { IfOk result (HoldsAfterAnyCalls (λ ms. searched ms ≡ text.now) ⟦<Matches<'r, 't> as Iterator>⟧.next_gives) }
         ensures inside { IfOk result (HoldsOfEach ⟦<Matches<'r, 't> as Iterator>⟧.next_gives (LiesInText text.now)) }
         ensures starts { IfOk result (HoldsOfEach ⟦<Matches<'r, 't> as Iterator>⟧.next_gives (BeginsAndEndsAtStarts text.now)) }
+        ensures rise { IfOk result (λ ms. ItemsRise (coming ms)) }
         ensures named { IfOk result (λ ms. sought_names ms ≡ shared_names self.now.group_names) }
         ensures refused { IsOkUnless result Error.OutOfMemory }
     {

@@ -4,12 +4,17 @@
 #![tactic(auto)]
 
 mod api;
+mod asking;
+mod laws;
 mod matches;
+mod replacing;
 mod text;
 
 pub use api::{Regex, is_start};
+pub use laws::{escaped_texts_are_replaced_where_they_occur, whole_matches_give_the_text_back};
 pub use matches::Matches;
 pub use regress_front::{
     Error, Flags, TableError, TableLaw, TableParts, Tables, are_code_points, flags_are_read_back,
 };
 pub use regress_match::{Groups, Match, Range};
+pub use regress_replacing::escape;

@@ -11,3 +11,5 @@ pub mod JumpLemmas
 pub mod ArmLemmas
 pub mod BitmapLemmas
 pub mod StandingLemmas
+pub mod TakingLemmas
+pub mod BeginLemmas

@@ -1,76 +1,99 @@
 -- What an emitted program stands for: its groups, and its layout.
 use Rattle.std.specs.Prelude.{count_by, slice_get}
 use Rattle.std.proofs.lemmas.List.Sums.{sum_by-cons}
-use Rattle.std.proofs.Common.{◌≡◌, ℕ, ◌+◌, ◌-◌, ◌<◌, ◌≤◌, ◌⊎◌, inl, inr, ◌==◌, Bool, true, false, List, [], ◌∷◌, ◌++◌, length, map, drop, get_or, max, cond, if◌then◌else◌, nat_le, nat_lt, ◌&&◌, refl, sym, ap, ap₂, ◌∙◌, subst, arith}
-use Rattle.std.proofs.lemmas.Bool.{cases_lt, cond_both, eq-eqb, eqb-true}
+use Rattle.std.proofs.Common.{◌≡◌, ℕ, zero, suc, ◌+◌, ◌<◌, ◌≤◌, ◌==◌, Bool, true, false, List, [], ◌∷◌, length, cond, if◌then◌else◌, nat_le, nat_lt, ◌&&◌, refl, sym, ap, ap₂, ◌∙◌, subst, arith, length-append}
 use Rattle.std.proofs.lemmas.Bool.Decides.{nat_tests}
-use Rattle.std.proofs.lemmas.List.{drop_more}
 use Rattle.regress_meaning.specs.Table.{Table}
-use Rattle.regress_front_nodes.specs.Trees.{Tree, tree, cat_of}
-use Rattle.regress_front_nodes.specs.WellFormed.{AreNumbered, AreLawful, group_ids}
+use Rattle.regress_front_nodes.specs.Trees.{Tree, cat, alt, capture, look, loop, single_loop}
+use Rattle.regress_front_nodes.specs.Singles.{takes_one}
+use Rattle.regress_front_nodes.specs.WellFormed.{AreLawful, IsWellFormed, group_ids}
 use Rattle.regress_front_nodes.specs.Sizes.{loops}
-use Rattle.regress_front_nodes.specs.declared.node.Node.{Node}
 use Rattle.regress_engine_code.specs.Counts.{count}
 use Rattle.regress_engine_code.specs.Instructions.{Instruction, Program}
 use Rattle.regress_engine_code.specs.Layout.{Spot, Lies, IsLayout}
 use Rattle.regress_engine_code.specs.Written.{Written, AddsTree}
-use Rattle.regress_engine_code.specs.Standing.{bound_of}
 use Rattle.regress_engine_code.proofs.AddLemmas.{AddsTree-counted}
-
-pub bound_of-append : (xs ys : List ℕ) → bound_of (xs ++ ys) ≡ max (bound_of xs) (bound_of ys)
-bound_of-append [] ys = omega arith
-bound_of-append (x ∷ xs) ys = omega (arith, bound_of-append xs ys)
 
 -- how often a number stands in a list
 abbrev times : ℕ → List ℕ → ℕ
 times k ids = count_by (λ id. id == k) ids
 
-times-cons : (k id : ℕ) (ids : List ℕ) → times k (id ∷ ids) ≡ (if id == k then 1 else 0) + times k ids
-times-cons k id ids = sum_by-cons (λ (x : ℕ). cond (x == k) 1 0) id ids
+-- how often the numbers below one stand there
+abbrev times_below : ℕ → List ℕ → ℕ
+times_below zero ids = 0
+times_below (suc n) ids = times_below n ids + times n ids
 
--- a number that stands there is below the bound
-bound-past : (k : ℕ) (ids : List ℕ) → 0 < times k ids → k < bound_of ids
-bound-past k [] some = absurd (omega arith)
-bound-past k (id ∷ ids) some =
-    cond_both (id == k) 1 0 (λ n. 0 < n + times k ids → k < max (id + 1) (bound_of ids))
-    (λ e h. let same : id ≡ k = eqb-true id k e in omega arith) (λ e h. omega (arith, bound-past k ids (omega (arith, h))))
-    (omega (arith, times-cons k id ids))
+below-none : (n : ℕ) → times_below n [] ≡ 0
+below-none zero = refl
+below-none (suc n) = omega (arith, below-none n)
 
--- where no number from n on stands, n is no less than the bound
-bound-least : (n : ℕ) (ids : List ℕ) → ((k : ℕ) → n ≤ k → times k ids ≡ 0) → bound_of ids ≤ n
-bound-least n [] none = omega arith
-bound-least n (id ∷ ids) none = order (bound-least n ids (λ k from. omega (arith, none k from, times-cons k id ids))) (cases_lt id n)
+-- one more in the list counts once, and only where it is below
+below-cons : (n id : ℕ) (ids : List ℕ) → times_below n (id ∷ ids) ≤ times_below n ids + (if nat_lt id n then 1 else 0)
+below-cons zero id ids = omega arith
+below-cons (suc n) id ids =
+    let rest = below-cons n id ids in
+    let own = sum_by-cons (λ (x : ℕ). cond (x == n) 1 0) id ids in
+    grind (arith, nat_tests, rest, own)
+
+below-few : (n : ℕ) (ids : List ℕ) → times_below n ids ≤ length ids
+below-few n [] = omega (arith, below-none n)
+below-few n (id ∷ ids) =
+    let more = below-cons n id ids in
+    let few = below-few n ids in
+    let one : (if◌then◌else◌ {A = ℕ} (nat_lt id n) 1 0) ≤ 1 = at_most (nat_lt id n) in
+    omega (arith, more, few, one)
   where
-    order : bound_of ids ≤ n → (id < n) ⊎ (n ≤ id) → max (id + 1) (bound_of ids) ≤ n
-    order rest (inl below) = omega (arith, rest)
-    order rest (inr from) =
-        let one : ◌≡◌ {A = ℕ} (if id == id then 1 else 0) 1 = ap (λ (b : Bool). if b then 1 else 0) (eq-eqb id id refl) in
-        absurd (omega (arith, none id from, times-cons id id ids, one))
+    at_most : (b : Bool) → (if◌then◌else◌ {A = ℕ} b 1 0) ≤ 1
+    at_most true = omega arith
+    at_most false = omega arith
 
--- where each number below n stands once and no other does, n is the bound
-pub bound-numbered : (n : ℕ) (ids : List ℕ) → AreNumbered 0 n ids → bound_of ids ≡ n
-bound-numbered n ids numbered = order (cases_lt 0 n)
+-- a list in which each number below n stands has n elements or more
+numbers-few : (n : ℕ) (ids : List ℕ) → ((k : ℕ) → k < n → times k ids ≡ 1) → n ≤ length ids
+numbers-few n ids each = let all = all-below n each in let few = below-few n ids in omega (arith, all, few)
   where
-    none : (k : ℕ) → n ≤ k → times k ids ≡ 0
-    none k from =
-        let out : (nat_le 0 k && nat_lt k n) ≡ false = grind (arith, nat_tests) in
-        numbered.once k ∙ ap (λ (b : Bool). if b then 1 else 0) out
+    all-below : (n : ℕ) → ((k : ℕ) → k < n → times k ids ≡ 1) → times_below n ids ≡ n
+    all-below zero each = refl
+    all-below (suc n) each = omega (arith, all-below n (λ k below. each k (omega arith)), each n (omega arith))
 
-    some : (k : ℕ) → k < n → times k ids ≡ 1
-    some k within =
+-- a tree has no fewer instructions than groups
+groups-counted : (units : Bool) (table : Table) (unicode : Bool) (n : ℕ) (t : Tree) → AreLawful n t → length (group_ids t) ≤ count units table unicode t
+unfolding count
+groups-counted units table unicode n (cat a b) lawful =
+    let size = length-append (group_ids a) (group_ids b) in
+    let first = groups-counted units table unicode n a lawful.0 in
+    let second = groups-counted units table unicode n b lawful.1 in
+    omega (arith, size, first, second)
+groups-counted units table unicode n (alt a b) lawful =
+    let size = length-append (group_ids a) (group_ids b) in
+    let first = groups-counted units table unicode n a lawful.0 in
+    let second = groups-counted units table unicode n b lawful.1 in
+    omega (arith, size, first, second)
+groups-counted units table unicode n (capture k name a) lawful = omega (arith, groups-counted units table unicode n a lawful.1)
+groups-counted units table unicode n (look negated backward first last a) lawful = omega (arith, groups-counted units table unicode n a lawful.1)
+groups-counted units table unicode n (loop a first last least most greedy) lawful = omega (arith, groups-counted units table unicode n a lawful.2)
+groups-counted units table unicode n (single_loop a least most greedy) lawful = omega (arith, ap length (none a lawful.0))
+  where
+    none : (a : Tree) → takes_one a ≡ true → group_ids a ≡ []
+    none (cat s t) is = absurd (grind arith)
+    none (alt s t) is = absurd (grind arith)
+    none (capture k name s) is = absurd (grind arith)
+    none (look negated backward first last s) is = absurd (grind arith)
+    none (loop s first last least most greedy) is = absurd (grind arith)
+    none (single_loop s least most greedy) is = absurd (grind arith)
+    none _ is = refl
+groups-counted units table unicode n _ lawful = omega arith
+
+-- so a well-formed tree of n groups has n instructions or more
+pub groups-few : (units : Bool) (table : Table) (unicode : Bool) (n : ℕ) (t : Tree) → IsWellFormed n t → n ≤ count units table unicode t
+groups-few units table unicode n t well =
+    let few = numbers-few n (group_ids t) each in
+    let counted = groups-counted units table unicode n t well.lawful in
+    omega (arith, few, counted)
+  where
+    each : (k : ℕ) → k < n → times k (group_ids t) ≡ 1
+    each k within =
         let inside : (nat_le 0 k && nat_lt k n) ≡ true = grind (arith, nat_tests) in
-        numbered.once k ∙ ap (λ (b : Bool). if b then 1 else 0) inside
-
-    order : (0 < n) ⊎ (n ≤ 0) → bound_of ids ≡ n
-    order (inl more) = omega (arith, bound-least n ids none, bound-past (n - 1) ids (omega (arith, some (n - 1) (omega arith))))
-    order (inr empty) = omega (arith, bound-least n ids none)
-
--- the bound of some parts, by the first
-pub bound-more : (parts : List Node) (i : ℕ) (part : Node) → i < length parts → part ≡ get_or parts i part
-    → bound_of (group_ids (cat_of (map tree (drop i parts)))) ≡ max (bound_of (group_ids (tree part))) (bound_of (group_ids (cat_of (map tree (drop (i + 1) parts)))))
-bound-more parts i part within read =
-    ap (λ (ns : List Node). bound_of (group_ids (cat_of (map tree ns)))) (drop_more parts i part within ∙ ap (λ (n : Node). n ∷ drop (i + 1) parts) (sym read))
-    ∙ bound_of-append (group_ids (tree part)) (group_ids (cat_of (map tree (drop (i + 1) parts))))
+        well.numbered.once k ∙ ap (λ (b : Bool). if b then 1 else 0) inside
 
 -- a program of all that is written of a tree is the tree's layout
 pub whole-layout : (units : Bool) (table : Table) (unicode : Bool) (n : ℕ) (t : Tree) (start w : Written) (program : Program)

@@ -1,5 +1,5 @@
 -- The instructions of a program, as definitions see them.
-use Rattle.std.specs.Prelude.{◌≡◌, ℕ, suc, Bool, List, [], ◌∷◌, Some, slice_get}
+use Rattle.std.specs.Prelude.{◌≡◌, ℕ, suc, Bool, true, false, List, [], ◌∷◌, Some, slice_get}
 
 -- A repetition: its number among the program's loops, how often at least and at most, whether more is preferred, and the
 -- address where it has been left.
@@ -58,6 +58,11 @@ pub data Instruction : Type 0 where
   look : (negated backward : Bool) → (first last continuation : ℕ) → Instruction
   -- nothing matches
   fail : Instruction
+
+-- a repetition begins here
+abbrev pub begins_loop : Instruction → Bool
+begins_loop (enter_loop fields) = true
+begins_loop _ = false
 
 -- A program: its instructions, its brackets as intervals that may be inverted, how many loops and groups it has, and
 -- whether it reads 16-bit units, or else bytes.

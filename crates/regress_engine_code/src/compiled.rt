@@ -1,5 +1,6 @@
 //! Programs as they are handed out, and how a tree becomes one.
-ghost use Rattle.std.specs.Prelude.{◌≡◌, ℕ, true, false, IfOk, IfErr};
+ghost use Rattle.std.specs.Prelude.{◌≡◌, true, false, length, IfOk, IfErr};
+ghost use Rattle.std.specs.Arc.{arc_slice_items};
 ghost use Rattle.regress_front_nodes.specs.Trees.{tree};
 ghost use Rattle.regress_front_nodes.specs.Sizes.{loops};
 ghost use Rattle.regress_front_nodes.specs.WellFormed.{IsWellFormed};
@@ -9,13 +10,13 @@ ghost use Rattle.regress_engine_code.specs.Standing.{length_for, StandsFor, IsCo
 use crate::brackets::copies_of;
 use crate::code::Code;
 use crate::emitter::Emitter;
-use crate::groups::group_bound;
 use crate::insn::{Insn, StartPredicate};
-use regress_front_core::{Error, Flags};
+use regress_front_core::{CaptureGroupName, Error, Flags};
 use regress_front_nodes::BracketContents;
 use regress_front_nodes::ir::Regex;
 use regress_front_tables::Tables;
-use std::alloc::Global;
+use std::alloc::{AllocError, Global};
+use std::sync::ArcSlice;
 
 /// A program, as `emit` or `emit_units` makes it of a tree. It borrows the tables that the tree was made with.
 #[derive(Debug, Drop)]
@@ -25,6 +26,7 @@ pub struct CompiledRegex<'u> {
     pub(crate) start_pred: StartPredicate,
     pub(crate) loops: u32,
     pub(crate) groups: u32,
+    pub(crate) group_names: ArcSlice<CaptureGroupName>,
     pub(crate) flags: Flags,
     pub(crate) tables: &'u Tables,
     pub(crate) units: bool,
@@ -66,6 +68,21 @@ impl<'u> CompiledRegex<'u> {
         self.groups
     }
 
+    /// The name of each capture group by its number, empty where it has none.
+    pub fn group_names(&self) -> &[CaptureGroupName]
+        ensures { result.now ≡ arc_slice_items self.now.group_names }
+    {
+        self.group_names.as_slice()
+    }
+
+    /// The same names, to be held together with the program by what outlives it, as a match. It errs only where so many hold
+    /// them that they can't be counted.
+    pub fn shared_group_names(&self) -> Result<ArcSlice<CaptureGroupName>, AllocError>
+        ensures { IfOk result (λ names. arc_slice_items names ≡ arc_slice_items self.now.group_names) }
+    {
+        self.group_names.clone()
+    }
+
     /// The flags of the pattern.
     pub fn flags(&self) -> Flags
         ensures { result ≡ self.now.flags }
@@ -102,6 +119,7 @@ impl<'u> CompiledRegex<'u> {
             start_pred: self.start_pred.copy(alloc)?,
             loops: self.loops,
             groups: self.groups,
+            group_names: self.group_names.clone()?,
             flags: self.flags,
             tables: self.tables,
             units: self.units,
@@ -111,15 +129,16 @@ impl<'u> CompiledRegex<'u> {
 
 /// The program of bytes of a tree.
 ///
-/// It is the tree's layout, for the tree's flags and tables, and a match may begin anywhere. Asks for a well-formed tree. It
-/// errs with `TooLarge` only where the instructions pass `u32::MAX` or the loops pass 65535, and with `OutOfMemory`.
+/// It is the tree's layout, for the tree's flags, names and tables, and a match may begin anywhere. Asks for a well-formed tree
+/// with a name for each group, as `try_parse` makes it. It errs with `TooLarge` only where the instructions pass `u32::MAX` or
+/// the loops pass 65535, and with `OutOfMemory`.
 ///
 /// ```rust
 /// let program = emit(alloc, &regex)?;
 /// ```
 pub fn emit<'u>(alloc: Global, regex: &Regex<'u>) -> Result<CompiledRegex<'u>, Error>
-    requires { (n : ℕ) × IsWellFormed n (tree regex.now.node) }
-    ensures emitted { IfOk result (λ compiled. (n : ℕ) → IsWellFormed n (tree regex.now.node) → StandsFor n regex.now compiled) }
+    requires { IsWellFormed (length regex.now.group_names.items) (tree regex.now.node) }
+    ensures emitted { IfOk result (StandsFor regex.now) }
     ensures of_bytes { IfOk result (λ compiled. compiled.units ≡ false) }
     ensures anywhere { IfOk result (λ compiled. compiled.start_pred ≡ StartPredicate.Arbitrary) }
     ensures refused { IfErr result (MayRefuse (length_for false regex.now) (loops (tree regex.now.node))) }
@@ -133,13 +152,22 @@ pub fn emit<'u>(alloc: Global, regex: &Regex<'u>) -> Result<CompiledRegex<'u>, E
 /// let program = emit_units(alloc, &regex)?;
 /// ```
 pub fn emit_units<'u>(alloc: Global, regex: &Regex<'u>) -> Result<CompiledRegex<'u>, Error>
-    requires { (n : ℕ) × IsWellFormed n (tree regex.now.node) }
-    ensures emitted { IfOk result (λ compiled. (n : ℕ) → IsWellFormed n (tree regex.now.node) → StandsFor n regex.now compiled) }
+    requires { IsWellFormed (length regex.now.group_names.items) (tree regex.now.node) }
+    ensures emitted { IfOk result (StandsFor regex.now) }
     ensures of_units { IfOk result (λ compiled. compiled.units ≡ true) }
     ensures anywhere { IfOk result (λ compiled. compiled.start_pred ≡ StartPredicate.Arbitrary) }
     ensures refused { IfErr result (MayRefuse (length_for true regex.now) (loops (tree regex.now.node))) }
 {
     whole_program(alloc, regex, true)
+}
+
+/// How many groups there are, by their names. It errs with `TooLarge` past `u32::MAX`; a tree has no fewer instructions, so this
+/// sets no limit of its own.
+fn group_count(names: &[CaptureGroupName]) -> Result<u32, Error>
+    ensures ok { IfOk result (λ n. n ≡ length names.now) }
+    ensures err { IfErr result (MayRefuse (length names.now) 0) }
+{
+    u32::try_from(names.len()).map_err(|_| Error::TooLarge)
 }
 
 /// The program of a tree, of units or else of bytes.
@@ -148,8 +176,8 @@ fn whole_program<'u>(
     regex: &Regex<'u>,
     units: bool,
 ) -> Result<CompiledRegex<'u>, Error>
-    requires { (n : ℕ) × IsWellFormed n (tree regex.now.node) }
-    ensures emitted { IfOk result (λ compiled. (n : ℕ) → IsWellFormed n (tree regex.now.node) → StandsFor n regex.now compiled) }
+    requires { IsWellFormed (length regex.now.group_names.items) (tree regex.now.node) }
+    ensures emitted { IfOk result (StandsFor regex.now) }
     ensures told { IfOk result (λ compiled. compiled.units ≡ units) }
     ensures anywhere { IfOk result (λ compiled. compiled.start_pred ≡ StartPredicate.Arbitrary) }
     ensures refused { IfErr result (MayRefuse (length_for units regex.now) (loops (tree regex.now.node))) }
@@ -162,13 +190,15 @@ fn whole_program<'u>(
     };
     let mut code = Code::new(alloc);
     emitter.node(&mut code, &regex.node, false)?;
-    let groups = group_bound(&regex.node);
+    let groups = group_count(&regex.group_names)?;
+    let group_names = ArcSlice::from_clones(alloc, &regex.group_names)?;
     Ok(CompiledRegex {
         insns: code.insns,
         brackets: code.brackets,
         start_pred: StartPredicate::Arbitrary,
         loops: u32::from(code.loops),
         groups,
+        group_names,
         flags: regex.flags,
         tables: regex.tables,
         units,

@@ -5,7 +5,6 @@ mod brackets;
 mod code;
 mod compiled;
 mod emitter;
-mod groups;
 mod insn;
 mod laws;
 mod leaves;

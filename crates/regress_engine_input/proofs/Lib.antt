@@ -10,7 +10,6 @@ pub mod AsciiTests
 pub mod ByteReads
 pub mod Standing
 pub mod ByteLiterals
-pub mod Copies
 pub mod References
 pub mod UnitReferences
 pub mod Utf16References

@@ -9,7 +9,7 @@ use Rattle.regress_meaning.specs.Laws.{OffsetsRise}
 use Rattle.regress_meaning.specs.Steps.{copied, repeated}
 use Rattle.regress_meaning.specs.Inputs.{Input, Tells, context_of}
 use Rattle.regress_front_nodes.specs.ByteInputs.{placed}
-use Rattle.regress_engine_input.proofs.Copies.{like, part, forward_copied, backward_copied}
+use Rattle.regress_meaning.proofs.Copies.{like, part, forward_copied, backward_copied}
 use Rattle.regress_engine_input.specs.References.{placed_by}
 
 -- offsets are at least as far apart as places

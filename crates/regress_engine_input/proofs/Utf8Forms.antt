@@ -147,6 +147,19 @@ module _ (w x y z : ℕ) where
       (not_below z 0x80 h.0) (follower y g)
       ∙ ap (λ t. if t then (of_three x y z, 3) else (of_four w x y z, 4)) (follower x f)
 
+-- the same, by what is tested
+module _ (w x y z : ℕ) (h : 0x80 ≤ z) (g : is_continuation y ≡ true) where
+  followed : bytes_left w x y z ≡ (if not (is_continuation x) then (of_three x y z, 3) else (of_four w x y z, 4))
+  followed =
+      ap₂ (λ t u. if t then (z, 1) else if not u then (of_two y z, 2) else if not (is_continuation x) then (of_three x y z, 3) else (of_four w x y z, 4))
+      (not_low z h) g
+
+  pub left-three-told : is_continuation x ≡ false → bytes_left w x y z ≡ (of_three x y z, 3)
+  left-three-told f = followed ∙ ap (λ t. if not t then (of_three x y z, 3) else (of_four w x y z, 4)) f
+
+  pub left-four-told : is_continuation x ≡ true → bytes_left w x y z ≡ (of_four w x y z, 4)
+  left-four-told f = followed ∙ ap (λ t. if not t then (of_three x y z, 3) else (of_four w x y z, 4)) f
+
 -- the bytes of c stand from o on, and m is the last of them
 pub form-left : (b : ℕ → ℕ) (c k o m : ℕ) → suc m ≡ o + k → Form c k (b o) (b (o + 1)) (b (o + 2)) (b (o + 3))
     → bytes_left (b (m - 3)) (b (m - 2)) (b (m - 1)) (b m) ≡ (c, k)

@@ -2,7 +2,7 @@
 use Rattle.std.specs.Prelude.{slice_get}
 use Rattle.std.specs.Char.{len_utf8, IsScalar}
 use Rattle.std.specs.Option.{SomeIff}
-use Rattle.std.proofs.Common.{◌≡◌, ◌⊎◌, inl, inr, ℕ, zero, suc, ◌+◌, ◌-◌, ◌<◌, ◌≤◌, Bool, true, List, ◌++◌, length, drop, Option, Some, None, get_or, option_map, chars, refl, sym, ap, ◌∙◌, subst, arith}
+use Rattle.std.proofs.Common.{◌≡◌, ◌⊎◌, inl, inr, ℕ, zero, suc, ◌+◌, ◌-◌, ◌<◌, ◌≤◌, Bool, true, false, List, ◌++◌, length, drop, Option, Some, None, get_or, option_map, chars, refl, sym, ap, ◌∙◌, subst, arith}
 use Rattle.std.specs.Str.{IsUtf8, IsCharBoundary}
 use Rattle.regress_match.proofs.TextLemmas.{chars-code_points, place_of_boundary, offset_of_end as utf8_end}
 use Rattle.std.proofs.Math.Utf8.{encode, encodes, scalar}
@@ -16,10 +16,10 @@ use Rattle.regress_meaning.specs.Meaning.{Direction, Forward, Backward}
 use Rattle.regress_meaning.specs.Laws.{OffsetsRise}
 use Rattle.regress_meaning.specs.Offsets.{Reading, offset, of_utf8}
 use Rattle.regress_meaning.proofs.OffsetLemmas.{rise}
-use Rattle.regress_meaning.specs.Inputs.{Tells, point_told, neighbour, byte_at, onto_right, onto_left, bytes_right, bytes_left, utf8_next, utf8_input}
+use Rattle.regress_meaning.specs.Inputs.{Tells, point_told, neighbour, byte_at, onto_right, onto_left, bytes_right, bytes_left, is_continuation, of_three, of_four, utf8_next, utf8_input}
 use Rattle.regress_engine_input.proofs.PlaceLemmas.{place-inside}
 use Rattle.regress_engine_input.proofs.Utf8Parts.{offset-next, bytes-here, scalar-here}
-use Rattle.regress_engine_input.proofs.Utf8Forms.{Form, form, form-right, form-left, Form-same}
+use Rattle.regress_engine_input.proofs.Utf8Forms.{Form, form, form-right, form-left, Form-same, left-three-told, left-four-told}
 
 scalar-within : (c : ℕ) → scalar c ≡ true → c ≤ 0x10_FFFF
 scalar-within c h = grind (arith, nat_tests)
@@ -183,3 +183,67 @@ module _ (bytes : List ℕ) (utf8 : IsUtf8 bytes) (o : ℕ) (boundary : IsCharBo
 
   pub room_of_four : 0xF0 ≤ byte_at bytes o → o + 3 < length bytes
   room_of_four h = let e = enough_right bytes utf8 o boundary inside in grind (arith, nat_tests)
+
+-- how many bytes the character that ends with a byte takes, as they tell it
+abbrev left_width : List ℕ → ℕ → ℕ
+left_width bytes m = (bytes_left (byte_at bytes (m - 3)) (byte_at bytes (m - 2)) (byte_at bytes (m - 1)) (byte_at bytes m)).1
+
+-- there are so many before a boundary
+enough_left : (bytes : List ℕ) → IsUtf8 bytes → (m : ℕ) → IsCharBoundary bytes (suc m) → left_width bytes m ≤ suc m
+enough_left bytes utf8 m boundary = by_place (place_of_boundary bytes utf8 (suc m) boundary)
+  where
+    by_place : ((p : ℕ) × (p ≤ length (chars bytes)) × (offset (of_utf8 bytes) p ≡ suc m)) → left_width bytes m ≤ suc m
+    by_place (zero, room, here) = absurd (cc here)
+    by_place (suc p, room, here) =
+        let c : ℕ = get_or (chars bytes) p 0 in
+        let e : slice_get (chars bytes) p ≡ Some c = slice_get-get_or (chars bytes) p 0 room in
+        let next : offset (of_utf8 bytes) (suc p) ≡ offset (of_utf8 bytes) p + len_utf8 c = offset-next bytes utf8 p c e in
+        let f = form-left (byte_at bytes) c (len_utf8 c) (offset (of_utf8 bytes) p) m (sym here ∙ next) (form-here bytes utf8 p c e) in
+        let width : left_width bytes m ≡ len_utf8 c = ap (λ (v : ℕ × ℕ). v.1) f in
+        omega (arith, width, next, here)
+
+-- bytes that are not the first of a character tell that more stand before them
+module _ (bytes : List ℕ) (utf8 : IsUtf8 bytes) (at : ℕ) (boundary : IsCharBoundary bytes at) (some : 0 < at) where
+  enough_before : left_width bytes (at - 1) ≤ at
+  enough_before =
+      let same : suc (at - 1) ≡ at = omega (arith, some) in
+      let h = enough_left bytes utf8 (at - 1) (subst (IsCharBoundary bytes) (sym same) boundary) in omega (arith, h, same)
+
+  pub room_before_two : 0x80 ≤ byte_at bytes (at - 1) → 2 ≤ at
+  room_before_two h = let e = enough_before in grind (arith, nat_tests)
+
+  pub room_before_three : 0x80 ≤ byte_at bytes (at - 1) → is_continuation (byte_at bytes (at - 2)) ≡ true → 3 ≤ at
+  room_before_three h g = let e = enough_before in grind (arith, nat_tests)
+
+  pub room_before_four : 0x80 ≤ byte_at bytes (at - 1) → is_continuation (byte_at bytes (at - 2)) ≡ true → is_continuation (byte_at bytes (at - 3)) ≡ true → 4 ≤ at
+  room_before_four h g f = let e = enough_before in grind (arith, nat_tests)
+
+-- what is read backward, by the bytes before the offset
+module _ (bytes : List ℕ) (at c : ℕ) (some : 0 < at) (room : at ≤ length bytes) where
+  abbrev back : ℕ → ℕ
+  back n = byte_at bytes (at - n)
+
+  read_back : utf8_next bytes Backward at ≡ Some (onto_left at (bytes_left (back 4) (back 3) (back 2) (back 1)))
+  read_back = by_suc (at - 1) (omega (arith, some))
+    where
+      by_suc : (m : ℕ) → at ≡ suc m → utf8_next bytes Backward at ≡ Some (onto_left at (bytes_left (back 4) (back 3) (back 2) (back 1)))
+      by_suc m e =
+          let one : at - 1 ≡ m = omega (arith, e) in
+          let two : at - 2 ≡ m - 1 = omega (arith, e) in
+          let three : at - 3 ≡ m - 2 = omega (arith, e) in
+          let four : at - 4 ≡ m - 3 = omega (arith, e) in
+          ap (utf8_next bytes Backward) e
+          ∙ ap (option_map (λ z. onto_left (suc m) (bytes_left (byte_at bytes (m - 3)) (byte_at bytes (m - 2)) (byte_at bytes (m - 1)) z))) (slice_get-get_or bytes m 0 (omega (arith, e, room)))
+          ∙ rw (one, two, three, four, e) refl
+
+  pub read_three : 0x80 ≤ back 1 → is_continuation (back 2) ≡ true → is_continuation (back 3) ≡ false → c ≡ of_three (back 3) (back 2) (back 1)
+      → Some (c, at - 3) ≡ utf8_next bytes Backward at
+  read_three h g f same =
+      ap (λ d. Some (d, at - 3)) same
+      ∙ sym (read_back ∙ ap (λ x. Some (onto_left at x)) (left-three-told (back 4) (back 3) (back 2) (back 1) h g f))
+
+  pub read_four : 0x80 ≤ back 1 → is_continuation (back 2) ≡ true → is_continuation (back 3) ≡ true → c ≡ of_four (back 4) (back 3) (back 2) (back 1)
+      → Some (c, at - 4) ≡ utf8_next bytes Backward at
+  read_four h g f same =
+      ap (λ d. Some (d, at - 4)) same
+      ∙ sym (read_back ∙ ap (λ x. Some (onto_left at x)) (left-four-told (back 4) (back 3) (back 2) (back 1) h g f))

@@ -2,7 +2,7 @@
 ghost use Rattle.std.specs.Prelude.{◌≡◌, ◌≤◌, length};
 ghost use Rattle.std.specs.Str.{IsUtf8, IsCharBoundary};
 ghost use Rattle.regress_meaning.specs.Meaning.{Forward, Backward};
-ghost use Rattle.regress_meaning.specs.Inputs.{Input, byte_at, of_two, of_three, of_four, is_continuation, single_next, utf8_next};
+ghost use Rattle.regress_meaning.specs.Inputs.{Input, of_two, of_three, of_four, is_continuation, single_next, utf8_next};
 ghost use Rattle.regress_meaning.specs.Steps.{literal};
 ghost use Rattle.regress_engine_input.specs.Views.{way, unit_beside};
 
@@ -95,14 +95,6 @@ pub(crate) fn bytes_beside<Dir: Direction>(
     }
 }
 
-/// The byte at an offset, 0 past the end: so reading back asks nothing of the bytes.
-#[inline]
-fn byte(bytes: &[u8], at: usize) -> u8
-    ensures { result ≡ byte_at bytes.now at }
-{
-    if at < bytes.len() { bytes[at] } else { 0 }
-}
-
 /// Whether the byte is not the first of a character.
 #[inline]
 fn follows(b: u8) -> bool
@@ -163,26 +155,26 @@ pub(crate) fn utf8_right(bytes: &[u8], at: usize) -> Option<(u32, usize)>
 
 /// The character before an offset, and the offset before it.
 #[inline]
+#[tactic(auto, using(crate::proofs::Utf8Texts::room_before_two))]
 pub(crate) fn utf8_left(bytes: &[u8], at: usize) -> Option<(u32, usize)>
-    requires { at ≤ length bytes.now }
+    requires utf8 { IsUtf8 bytes.now }
+    requires boundary { IsCharBoundary bytes.now at }
     ensures { result ≡ utf8_next bytes.now Backward at }
 {
     if at == 0 {
         return None;
     }
-    let last = at - 1;
-    let z = bytes[last];
+    let z = bytes[at - 1];
     if z < 0x80 {
-        return Some((u32::from(z), last));
+        return Some((u32::from(z), at - 1));
     }
-    let y = byte(bytes, last.saturating_sub(1));
+    let y = bytes[at - 2];
     if !follows(y) {
-        return Some((two(y, z), at.saturating_sub(2)));
+        return Some((two(y, z), at - 2));
     }
-    let x = byte(bytes, last.saturating_sub(2));
+    let x = bytes[at - 3];
     if !follows(x) {
-        return Some((three(x, y, z), at.saturating_sub(3)));
+        return Some((three(x, y, z), at - 3));
     }
-    let w = byte(bytes, last.saturating_sub(3));
-    Some((four(w, x, y, z), at.saturating_sub(4)))
+    Some((four(bytes[at - 4], x, y, z), at - 4))
 }

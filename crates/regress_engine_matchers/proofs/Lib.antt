@@ -2,3 +2,6 @@ pub mod CaseLemmas
 pub mod MatcherLemmas
 pub mod ViewLemmas
 pub mod ByteLemmas
+pub mod SequenceLemmas
+pub mod IntervalLemmas
+pub mod StayLemmas

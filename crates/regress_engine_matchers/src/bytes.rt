@@ -1,5 +1,7 @@
 //! Tests on the bytes of the character beside a position.
-ghost use Rattle.std.specs.Prelude.{◌≡◌, ◌≤◌, ℕ, true, false};
+ghost use Rattle.std.specs.Prelude.{◌≡◌, ◌≤◌, ℕ, true, false, [], ◌∷◌, length, chars};
+ghost use Rattle.regress_meaning.specs.Text.{same_text};
+ghost use Rattle.regress_front_nodes.specs.WellFormed.{AreCharacters};
 ghost use Rattle.regress_engine_input.specs.Views.{are_bytes};
 
 use crate::single::SingleCharMatcher;
@@ -64,5 +66,23 @@ impl<Input: InputIndexer, Dir: Direction, ArraySet: SmallArraySet> SingleCharMat
             Some(b) => self.0.contains(b),
             None => false,
         }
+    }
+}
+
+/// One character, by its bytes in UTF-8, over bytes.
+#[derive(Debug, Clone, Copy)]
+pub struct MatchByteSeq<'a>(
+    /// The bytes, which spell one character.
+    pub &'a [u8],
+);
+
+impl<Input: InputIndexer, Dir: Direction> SingleCharMatcher<Input, Dir> for MatchByteSeq<'_> {
+    ghost passes = { λ m c. same_text (chars m.0.now) (c ∷ []) };
+
+    ghost Suits = { λ m v. (are_bytes v.kind ≡ true) × AreCharacters m.0.now × (length (chars m.0.now) ≡ 1) };
+
+    #[inline]
+    fn matches(&self, input: &Input, dir: Dir, pos: &mut Input::Position) -> bool {
+        input.match_bytes(dir, pos, self.0)
     }
 }

@@ -25,7 +25,7 @@ use Rattle.regress_engine_runs.proofs.RunLemmas.{Expands, steps}
 use Rattle.regress_engine_runs.proofs.Leading.{Pairwise, leads_at_once, first_expand}
 use Rattle.regress_engine_runs.proofs.Places.{occurs, Arrives, Keeps-all}
 use Rattle.regress_engine_runs.proofs.Entering.{Enters, standing, stays}
-use Rattle.regress_engine_runs.proofs.Copies.{like, part, forward_copied, backward_copied}
+use Rattle.regress_meaning.proofs.Copies.{like, part, forward_copied, backward_copied}
 
 -- offsets are at least as far apart as places
 pub offsets-far : (reading : Reading) → OffsetsRise reading → (j a : ℕ) → a + j ≤ length reading.points → offset reading a + j ≤ offset reading (a + j)

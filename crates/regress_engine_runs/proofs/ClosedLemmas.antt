@@ -1,30 +1,25 @@
 -- The program that is a layout is closed.
-use Rattle.std.specs.Prelude.{chars}
-use Rattle.std.proofs.Common.{◌≡◌, ◌⊎◌, inl, inr, ℕ, zero, suc, ◌+◌, ◌-◌, ◌<◌, ◌≤◌, ◌==◌, Bool, true, false, List, [], ◌∷◌, length, map, All, Some, if◌then◌else◌, refl, sym, ap, ◌∙◌, subst, arith}
+use Rattle.std.proofs.Common.{◌≡◌, ◌⊎◌, inl, inr, ℕ, zero, suc, ◌+◌, ◌-◌, ◌<◌, ◌≤◌, ◌==◌, Bool, true, false, List, [], ◌∷◌, length, All, Some, if◌then◌else◌, refl, sym, ap, ◌∙◌, subst, arith}
 use Rattle.std.proofs.lemmas.Bool.{cases_lt}
 use Rattle.std.proofs.lemmas.Bool.Decides.{nat_tests}
 use Rattle.std.proofs.lemmas.Option.{slice_get_within}
-use Rattle.std.proofs.lemmas.List.Elements.{All-nil, All-cons, All-head, All-tail, All-append, All-map}
+use Rattle.std.proofs.lemmas.List.Elements.{All-head, All-tail}
 use Rattle.regress_front_nodes.specs.Trees.{Tree}
 use Rattle.regress_front_nodes.specs.Trees as tree
 use Rattle.regress_front_nodes.specs.Forms.{in_reading_order}
 use Rattle.regress_front_nodes.specs.Pieces.{pieces_of}
 use Rattle.regress_front_nodes.specs.Singles.{takes_one}
 use Rattle.regress_front_nodes.specs.WellFormed.{AreLawful, AreNumbered, IsWellFormed, group_ids}
-use Rattle.regress_front_nodes.proofs.SequenceLemmas.{in_reading_order-map}
 use Rattle.regress_engine_code.specs.Instructions.{Instruction, Program, Stands, StandFrom}
 use Rattle.regress_engine_code.specs.Instructions as code
-use Rattle.regress_engine_code.specs.Layout.{char_set_code, ascii_set_code, byte_set_code, Spot, next, later, Target, chunks, literal_code, piece_code, pieces_code, string_code, resets, IsBracket, IsOne, AreAll, AreArms, Lies, IsLayout}
+use Rattle.regress_engine_code.specs.Layout.{char_set_code, byte_set_code, Spot, next, later, Target, literal_code, pieces_code, string_code, resets, IsBracket, IsOne, AreAll, AreArms, Lies, IsLayout}
 use Rattle.regress_engine_code.proofs.LayoutLemmas.{at-same}
 use Rattle.regress_engine_code.proofs.LiteralLemmas.{one-character, literal-alone}
+use Rattle.regress_engine_code.proofs.TakingLemmas.{OfTaking, char_set-taking, byte_set-taking, literal-taking, pieces-taking}
 use Rattle.regress_engine_runs.specs.Closed.{takes_character, Fits, IsClosed}
 use Rattle.regress_engine_runs.proofs.Places.{occurs, Lies-rises}
 use Rattle.regress_engine_runs.proofs.Looks.{inside_one, outside_none}
 use Rattle.regress_engine_runs.proofs.Loops.{within-true, within-false}
-
-all_of : {A : Type 0} (P : A → Type 0) → ((x : A) → P x) → (xs : List A) → All P xs
-all_of P each [] = All-nil P
-all_of P each (x ∷ xs) = All-cons P x xs (each x) (all_of P each xs)
 
 -- the instruction of a set that has members takes one character
 char_set-takes-one : (cs : List ℕ) → takes_one (tree.char_set cs) ≡ true → takes_character (char_set_code cs) ≡ true
@@ -79,48 +74,27 @@ module _ (program : Program) where
       both-fit low (suc low) (low + suc (length is)) (one-fits low i here (All-head AlwaysFits i is fit low))
       (subst (AllFit (suc low)) e (list-fits is (suc low) stand (All-tail AlwaysFits i is fit)))
 
-  -- of a literal, of a piece, of a string
+  fits-taking : OfTaking program.units AlwaysFits
+  fits-taking = record {
+    char = λ c at. tt;
+    char_set = λ cs at. tt;
+    byte_set = λ bs at. tt;
+    byte_seq = λ same bs at. same;
+    fail = λ at. tt;
+  }
+
+  -- of a literal, of sets, of a string
   literal-fits : (b : Bool) (bs : List ℕ) → All AlwaysFits (literal_code program b bs)
-  literal-fits b bs = by_units program.units refl
-    where
-      by_units : (u : Bool) → program.units ≡ u → All AlwaysFits (in_reading_order b (if u then map code.char (chars bs) else map code.byte_seq (chunks (length bs) bs)))
-      by_units true units =
-          subst (All AlwaysFits) (in_reading_order-map code.char b (chars bs))
-          (All-map AlwaysFits code.char (in_reading_order b (chars bs)) (all_of (λ c. AlwaysFits (code.char c)) (λ c at. tt) (in_reading_order b (chars bs))))
-      by_units false units =
-          subst (All AlwaysFits) (in_reading_order-map code.byte_seq b (chunks (length bs) bs))
-          (All-map AlwaysFits code.byte_seq (in_reading_order b (chunks (length bs) bs))
-          (all_of (λ l. AlwaysFits (code.byte_seq l)) (λ l at. units) (in_reading_order b (chunks (length bs) bs))))
+  literal-fits = literal-taking program AlwaysFits fits-taking
 
-  one-always : (i : Instruction) → AlwaysFits i → All AlwaysFits (i ∷ [])
-  one-always i fit = All-cons AlwaysFits i [] fit (All-nil AlwaysFits)
+  char_set-fits : (cs : List ℕ) → AlwaysFits (char_set_code cs)
+  char_set-fits = char_set-taking program AlwaysFits fits-taking
 
-  char_set-fits : (cs : List ℕ) (at : ℕ) → Fits program at (char_set_code cs)
-  char_set-fits [] at = tt
-  char_set-fits (a ∷ []) at = tt
-  char_set-fits (a ∷ b ∷ []) at = tt
-  char_set-fits (a ∷ b ∷ c ∷ []) at = tt
-  char_set-fits (a ∷ b ∷ c ∷ d ∷ cs) at = tt
-
-  ascii_set-fits : (bs : List ℕ) (at : ℕ) → Fits program at (ascii_set_code bs)
-  ascii_set-fits [] at = tt
-  ascii_set-fits (a ∷ []) at = tt
-  ascii_set-fits (a ∷ b ∷ bs) at = tt
-
-  set-fits : (bs : List ℕ) (u : Bool) (at : ℕ) → Fits program at (byte_set_code u bs)
-  set-fits bs true at = char_set-fits bs at
-  set-fits bs false at = ascii_set-fits bs at
-
-  piece-fits : (b : Bool) (t : Tree) → All AlwaysFits (piece_code program b t)
-  piece-fits b (tree.bytes bs) = literal-fits b bs
-  piece-fits b (tree.char c) = one-always (code.char c) (λ at. tt)
-  piece-fits b (tree.byte_set bs) = one-always (byte_set_code program.units bs) (set-fits bs program.units)
-  piece-fits b (tree.char_set cs) = one-always (char_set_code cs) (char_set-fits cs)
-  piece-fits b _ = All-nil AlwaysFits
+  set-fits : (bs : List ℕ) (u : Bool) → AlwaysFits (byte_set_code u bs)
+  set-fits bs u = byte_set-taking program AlwaysFits fits-taking u bs
 
   pieces-fit : (b : Bool) (ts : List Tree) → All AlwaysFits (pieces_code program b ts)
-  pieces-fit b [] = All-nil AlwaysFits
-  pieces-fit b (t ∷ ts) = All-append AlwaysFits (piece_code program b t) (pieces_code program b ts) (piece-fits b t) (pieces-fit b ts)
+  pieces-fit = pieces-taking program AlwaysFits fits-taking
 
   -- resets of groups that are there
   resets-fit : (first n low : ℕ) → ((k : ℕ) → first ≤ k → k < first + n → k < program.groups) → StandFrom program low (resets first n) → AllFit low (low + n)

@@ -2,12 +2,12 @@
 use Rattle.std.specs.Prelude.{slice_get}
 use Rattle.std.proofs.Common.{◌≡◌, ℕ, zero, suc, ◌+◌, ◌-◌, ◌<◌, ◌≤◌, ◌==◌, Bool, true, false, List, [], ◌∷◌, ◌++◌, length, Option, Some, None, if◌then◌else◌, get_or, option_map, refl, sym, ap, ◌∙◌, arith}
 use Rattle.std.proofs.lemmas.Option.{slice_get-get_or}
+use Rattle.std.proofs.lemmas.Bool.{eq-eqb, ne_eqb}
 use Rattle.regress_meaning.specs.Meaning.{Direction, Forward, Backward}
 use Rattle.regress_meaning.specs.Offsets.{Reading, offset}
 use Rattle.regress_meaning.specs.Inputs.{Input, Tells, point_told}
 use Rattle.regress_engine_runs.specs.Runs.{against, gap, back_to, given_back}
 use Rattle.regress_engine_runs.specs.UndoStack.{MovesOn}
-use Rattle.regress_engine_runs.proofs.Loops.{eq-same, eq-apart}
 use Rattle.regress_engine_runs.proofs.Backs.{offsets-far}
 
 -- what stands behind the first offset on the way back
@@ -23,14 +23,14 @@ module _ (input : Input) where
   unfolding back_to
   back_to-end zero dir near far e = refl
   back_to-end (suc n) dir near far e =
-      ap (λ b. behind_first (more_back n dir near) far b (input.next (against dir) far)) (eq-same (gap dir near far) 0 e)
+      ap (λ b. behind_first (more_back n dir near) far b (input.next (against dir) far)) (eq-eqb (gap dir near far) 0 e)
 
   -- else one, and then those from the character before on
   pub back_to-more : (n : ℕ) (dir : Direction) (near far c q : ℕ) → 0 < gap dir near far → input.next (against dir) far ≡ Some (c, q)
       → back_to input (suc n) dir near far ≡ far ∷ back_to input n dir near q
   unfolding back_to
   back_to-more n dir near far c q some e =
-      ap (λ b. behind_first (more_back n dir near) far b (input.next (against dir) far)) (eq-apart (gap dir near far) 0 (λ f. absurd (omega (arith, f, some))))
+      ap (λ b. behind_first (more_back n dir near) far b (input.next (against dir) far)) (ne_eqb (gap dir near far) 0 (λ f. absurd (omega (arith, f, some))))
       ∙ ap (λ o. far ∷ more_back n dir near o) e
 
   -- what is before an offset is less far ahead

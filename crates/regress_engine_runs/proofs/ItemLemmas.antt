@@ -2,7 +2,7 @@
 use Rattle.std.specs.Prelude.{slice_get, map, replicate, nat_le, IfSome}
 use Rattle.std.proofs.Common.{◌≡◌, ◌⊎◌, inl, inr, ℕ, zero, suc, ◌+◌, ◌-◌, ◌<◌, ◌≤◌, Bool, List, [], ◌∷◌, length, Option, Some, None, get_or, option_map, if◌then◌else◌, refl, sym, ap, ap₂, ◌∙◌, subst, ◌↔◌, arith}
 use Rattle.std.proofs.lemmas.Option.{IfSome_then, slice_get_within, slice_get-get_or}
-use Rattle.std.proofs.lemmas.Bool.{cases_lt}
+use Rattle.std.proofs.lemmas.Bool.{cases_lt, eq-eqb, le-leb, lt-leb, ne_eqb}
 use Rattle.regress_meaning.specs.Meaning.{State, Forward, Context}
 use Rattle.regress_meaning.specs.Matches.{Item, item_at, next_place}
 use Rattle.regress_meaning.specs.Offsets.{Reading, offset, offset_range, told, Begins}
@@ -17,7 +17,6 @@ use Rattle.regress_engine_runs.specs.States.{Marks, unset, range_of, Whole}
 use Rattle.regress_engine_runs.specs.Stand.{StandsFor, IsFirst, RunsAsTree}
 use Rattle.regress_engine_runs.specs.Items.{item_of, Answers, Finds, found, later, nowhere, goes_on, begins_at, Lists, over, no_item, next_item}
 use Rattle.regress_engine_runs.proofs.Computed.{one_run}
-use Rattle.regress_engine_runs.proofs.Loops.{le-true, le-false, eq-same, eq-apart}
 
 -- marks that tell the same ranges, one by one, are the groups told
 groups-told : (reading : Reading) (ms : List Marks) (gs : List (Option (ℕ × ℕ))) → length ms ≡ length gs
@@ -114,10 +113,10 @@ module _ (program : Program) (input : Input) (reading : Reading) (tells : Tells 
   offset_in p = if nat_le p size then Some (offset reading p) else None
 
   offset_in-in : (p : ℕ) → p ≤ size → offset_in p ≡ Some (offset reading p)
-  offset_in-in p room = ap (λ (b : Bool). if b then Some (offset reading p) else None) (le-true p size room)
+  offset_in-in p room = ap (λ (b : Bool). if b then Some (offset reading p) else None) (le-leb p size room)
 
   offset_in-past : (p : ℕ) → size < p → offset_in p ≡ None
-  offset_in-past p more = ap (λ (b : Bool). if b then Some (offset reading p) else None) (le-false p size more)
+  offset_in-past p more = ap (λ (b : Bool). if b then Some (offset reading p) else None) (lt-leb p size more)
 
   -- going on behind an item that takes nothing, or something, as told and as it is
   abbrev on : Item → Bool → Option ℕ
@@ -147,12 +146,12 @@ module _ (program : Program) (input : Input) (reading : Reading) (tells : Tells 
       by_ends : (i.start < i.end) ⊎ (i.end ≤ i.start) → goes_on program input (told reading i) ≡ offset_in (next_place i)
       by_ends (inl less) =
           let h = tells.rise i.start i.end less room in
-          ap (on i) (eq-apart (offset reading i.start) (offset reading i.end) (λ e. absurd (omega (arith, e, h))))
-          ∙ sym (offset_in-in i.end room) ∙ ap (λ b. offset_in (on_place i b)) (sym (eq-apart i.start i.end (λ e. absurd (omega (arith, e)))))
+          ap (on i) (ne_eqb (offset reading i.start) (offset reading i.end) (λ e. absurd (omega (arith, e, h))))
+          ∙ sym (offset_in-in i.end room) ∙ ap (λ b. offset_in (on_place i b)) (sym (ne_eqb i.start i.end (λ e. absurd (omega (arith, e)))))
       by_ends (inr no_less) =
           let same : i.start ≡ i.end = omega arith in
-          ap (on i) (eq-same (offset reading i.start) (offset reading i.end) (ap (offset reading) same))
-          ∙ by_next same (slice_get reading.points i.end) refl ∙ ap (λ b. offset_in (on_place i b)) (sym (eq-same i.start i.end same))
+          ap (on i) (eq-eqb (offset reading i.start) (offset reading i.end) (ap (offset reading) same))
+          ∙ by_next same (slice_get reading.points i.end) refl ∙ ap (λ b. offset_in (on_place i b)) (sym (eq-eqb i.start i.end same))
 
   -- the items from a place on
   abbrev told_from : ℕ → List Item
@@ -300,10 +299,10 @@ module _ (program : Program) (input : Input) (reading : Reading) (tells : Tells 
   lists-from_offset at p (inl (room, e)) items =
       let low = offset-low p room in
       let b : begins_at input at ≡ Some (offset reading p) =
-      ap (λ (c : Bool). if c then Some at else None) (le-true at (length input.units) (omega (arith, e, low))) ∙ ap (λ o. Some o) (sym e) in
+      ap (λ (c : Bool). if c then Some at else None) (le-leb at (length input.units) (omega (arith, e, low))) ∙ ap (λ o. Some o) (sym e) in
       subst (λ o. AreTold p o items) (sym b) (lists-exactly program input reading tells n t runs p room items)
   lists-from_offset at p (inr (past, more)) items =
-      let b : begins_at input at ≡ None = ap (λ (c : Bool). if c then Some at else None) (le-false at (length input.units) (omega (arith, more, ended))) in
+      let b : begins_at input at ≡ None = ap (λ (c : Bool). if c then Some at else None) (lt-leb at (length input.units) (omega (arith, more, ended))) in
       let empty : map (told reading) (node_match_list (context_of reading input) n t p) ≡ [] =
       ap (map (told reading)) (matches_end (context_of reading input) n t p (first_match_past (context_of reading input) n t p (omega (arith, past)))) in
       let none : Lists program input None [] = over in

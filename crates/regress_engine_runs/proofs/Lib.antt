@@ -14,7 +14,6 @@ pub mod Loops
 pub mod Neighbours
 pub mod Sets
 pub mod Leaves
-pub mod Copies
 pub mod Backs
 pub mod GivingBack
 pub mod InputsMove

@@ -2,7 +2,7 @@
 use Rattle.std.specs.Prelude.{nat_le, nat_eq, slice_range, chars}
 use Rattle.std.specs.List.{list_all}
 use Rattle.std.proofs.Common.{◌≡◌, ◌⊎◌, inl, inr, ℕ, zero, suc, ◌+◌, ◌-◌, ◌<◌, ◌≤◌, ◌&&◌, Bool, true, false, List, [], ◌∷◌, ◌++◌, length, map, reverse, take, drop, min, Option, Some, None, if◌then◌else◌, option_map, option_and_then, refl, sym, ap, ap₂, ◌∙◌, subst, arith, length-append, length-drop, length-take}
-use Rattle.std.proofs.lemmas.Bool.{leb-true, cases_lt}
+use Rattle.std.proofs.lemmas.Bool.{leb-true, cases_lt, le-leb, lt-leb}
 use Rattle.std.proofs.lemmas.List.{length-map, drop-drop, reverse-append, take-append-drop}
 use Rattle.regress_meaning.specs.Text.{same_text}
 use Rattle.regress_meaning.specs.Meaning.{State, Direction, Forward, Backward, Context, beside, step, stepped}
@@ -27,7 +27,6 @@ use Rattle.regress_engine_runs.proofs.Leading.{Pairwise, leads_at_once, first_ex
 use Rattle.regress_engine_runs.proofs.Places.{occurs, Arrives, Keeps-all}
 use Rattle.regress_engine_runs.proofs.Entering.{Enters}
 use Rattle.regress_engine_runs.proofs.RunLemmas.{Expands, Expands-same, Expands-then, steps, is_unreferring, unreferring-plain, unreferring-reads}
-use Rattle.regress_engine_runs.proofs.Loops.{le-true, le-false}
 use Rattle.regress_engine_runs.proofs.Neighbours.{Beside, neighbours}
 
 -- parts joined again
@@ -132,7 +131,7 @@ module _ (input : Input) where
 
       by_room : (o < length (xs ++ ys)) ⊎ (length (xs ++ ys) ≤ o) → literal input Backward (xs ++ ys) o ≡ option_and_then (literal input Backward xs) (literal input Backward ys o)
       by_room (inl short) =
-          ap (λ t. if t && same_text (xs ++ ys) (slice_range input.units (o - length (xs ++ ys)) o) then Some (o - length (xs ++ ys)) else None) (le-false (length (xs ++ ys)) o short)
+          ap (λ t. if t && same_text (xs ++ ys) (slice_range input.units (o - length (xs ++ ys)) o) then Some (o - length (xs ++ ys)) else None) (lt-leb (length (xs ++ ys)) o short)
           ∙ sym (by_end (cases_lt o (length ys)))
         where
           by_test : (t : Bool) → literal input Backward xs (o - length ys) ≡ None
@@ -142,11 +141,11 @@ module _ (input : Input) where
 
           by_end : (o < length ys) ⊎ (length ys ≤ o) → option_and_then (literal input Backward xs) (literal input Backward ys o) ≡ None
           by_end (inl less) =
-              ap (λ t. option_and_then (literal input Backward xs) (if t && same_text ys (slice_range input.units (o - length ys) o) then Some (o - length ys) else None)) (le-false (length ys) o less)
+              ap (λ t. option_and_then (literal input Backward xs) (if t && same_text ys (slice_range input.units (o - length ys) o) then Some (o - length ys) else None)) (lt-leb (length ys) o less)
           by_end (inr more) =
               let none : literal input Backward xs (o - length ys) ≡ None =
               ap (λ t. if t && same_text xs (slice_range input.units (o - length ys - length xs) (o - length ys)) then Some (o - length ys - length xs) else None)
-              (le-false (length xs) (o - length ys) (omega (arith, short, size, more))) in
+              (lt-leb (length xs) (o - length ys) (omega (arith, short, size, more))) in
               by_test (nat_le (length ys) o && same_text ys (slice_range input.units (o - length ys) o)) none
       by_room (inr long) =
           let z : ℕ = o - length (xs ++ ys) in
@@ -161,12 +160,12 @@ module _ (input : Input) where
           let behind : drop (length xs) us ≡ drop (o - length ys) input.units = drop-drop (length xs) z input.units ∙ ap (λ k. drop k input.units) seam in
           let rest : literal input Backward xs (o - length ys) ≡ (if b then Some z else None) =
           ap (λ t. if t && same_text xs (slice_range input.units (o - length ys - length xs) (o - length ys)) then Some (o - length ys - length xs) else None)
-          (le-true (length xs) (o - length ys) (omega (arith, size, long)))
+          (le-leb (length xs) (o - length ys) (omega (arith, size, long)))
           ∙ ap₂ (λ k d. if same_text xs (take k (drop d input.units)) then Some d else None) n front in
           let last : literal input Backward ys o ≡ (if c then Some (o - length ys) else None) =
-          ap (λ t. if t && same_text ys (slice_range input.units (o - length ys) o) then Some (o - length ys) else None) (le-true (length ys) o (omega (arith, size, long)))
+          ap (λ t. if t && same_text ys (slice_range input.units (o - length ys) o) then Some (o - length ys) else None) (le-leb (length ys) o (omega (arith, size, long)))
           ∙ ap₂ (λ k vs. if same_text ys (take k vs) then Some (o - length ys) else None) m (sym behind) in
-          ap (λ t. if t && same_text (xs ++ ys) (slice_range input.units z o) then Some z else None) (le-true (length (xs ++ ys)) o long)
+          ap (λ t. if t && same_text (xs ++ ys) (slice_range input.units z o) then Some z else None) (le-leb (length (xs ++ ys)) o long)
           ∙ ap (λ t. if t then Some z else None) (whole ∙ and-turned b c)
           ∙ both-some c b (o - length ys) z (literal input Backward xs) rest
           ∙ ap (option_and_then (literal input Backward xs)) (sym last)
@@ -175,7 +174,7 @@ module _ (input : Input) where
   nothing-stands Forward o = let e : o + 0 ≡ o = omega arith in let f : o + 0 - o ≡ 0 = omega arith in ap₂ (λ k d. if same_text [] (take k (drop o input.units)) then Some d else None) f e
   nothing-stands Backward o =
       let e : o - 0 ≡ o = omega arith in let f : o - (o - 0) ≡ 0 = omega arith in
-      ap (λ t. if t && same_text [] (slice_range input.units (o - 0) o) then Some (o - 0) else None) (le-true 0 o (omega arith))
+      ap (λ t. if t && same_text [] (slice_range input.units (o - 0) o) then Some (o - 0) else None) (le-leb 0 o (omega arith))
       ∙ ap₂ (λ k d. if same_text [] (take k (drop (o - 0) input.units)) then Some d else None) f e
 
   -- literals one after another are their parts joined
@@ -283,9 +282,9 @@ module _ (input : Input) (reading : Reading) (tells : Tells reading input) where
       by_room (inl out) =
           let size : length us ≡ min (p + length cs - p) (length (drop p reading.points)) = length-take (p + length cs - p) (drop p reading.points) in
           let rest : length (drop p reading.points) ≡ length reading.points - p = length-drop p reading.points in
-          ap (λ b. placed cs (if b then Some (us, p + length cs) else None)) (le-false (p + length cs) (length reading.points) out)
+          ap (λ b. placed cs (if b then Some (us, p + length cs) else None)) (lt-leb (p + length cs) (length reading.points) out)
           ∙ ap (λ b. if b then Some (p + length cs) else None) (sym (unlike cs us (omega (arith, out, size, rest, inside))))
-      by_room (inr room) = ap (λ b. placed cs (if b then Some (us, p + length cs) else None)) (le-true (p + length cs) (length reading.points) room)
+      by_room (inr room) = ap (λ b. placed cs (if b then Some (us, p + length cs) else None)) (le-leb (p + length cs) (length reading.points) room)
   placed-is Backward cs p inside = by_room (nat_le (length cs) p)
     where
       by_room : (b : Bool) → placed cs (if b then Some (slice_range reading.points (p - length cs) p, p - length cs) else None)

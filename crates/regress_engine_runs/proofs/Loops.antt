@@ -1,7 +1,7 @@
 -- Entering a repetition.
 use Rattle.std.specs.Prelude.{nat_le, nat_lt, slice_set, slice_get, filter}
 use Rattle.std.proofs.Common.{◌≡◌, ◌⊎◌, inl, inr, ℕ, zero, suc, ◌+◌, ◌-◌, ◌<◌, ◌≤◌, ◌≢◌, ◌==◌, ◌&&◌, not, Bool, true, false, List, [], ◌∷◌, ◌++◌, length, Option, Some, None, if◌then◌else◌, get_or, set, flat_map, refl, sym, ap, ap₂, ◌∙◌, subst, arith, option_map, get_or-set_same, get_or-set_other, length-set}
-use Rattle.std.proofs.lemmas.Bool.{cases_lt}
+use Rattle.std.proofs.lemmas.Bool.{cases_lt, eq-eqb, le-leb, lt-leb, ne_eqb, le-ltb, lt-ltb}
 use Rattle.std.proofs.lemmas.Bool.Decides.{nat_tests}
 use Rattle.regress_meaning.specs.Meaning.{State, Direction, Forward, Context, iterations, cleared, clear_from, moved}
 use Rattle.regress_meaning.specs.Offsets.{Reading, offset, offset_range}
@@ -148,24 +148,6 @@ ordered-more : (greedy : Bool) (s t : Whole) → ordered greedy true false s t �
 ordered-more true s t = refl
 ordered-more false s t = refl
 
-pub lt-true : (a b : ℕ) → a < b → nat_lt a b ≡ true
-lt-true a b h = grind (arith, nat_tests)
-
-pub lt-false : (a b : ℕ) → b ≤ a → nat_lt a b ≡ false
-lt-false a b h = grind (arith, nat_tests)
-
-pub le-true : (a b : ℕ) → a ≤ b → nat_le a b ≡ true
-le-true a b h = grind (arith, nat_tests)
-
-pub le-false : (a b : ℕ) → b < a → nat_le a b ≡ false
-le-false a b h = grind (arith, nat_tests)
-
-pub eq-same : (a b : ℕ) → a ≡ b → (a == b) ≡ true
-eq-same a b h = grind (arith, nat_tests)
-
-pub eq-apart : (a b : ℕ) → a ≢ b → (a == b) ≡ false
-eq-apart a b h = grind (arith, nat_tests)
-
 -- offsets are equal where places are
 same_offset : (reading : Reading) → OffsetsRise reading → (p q : ℕ) → p ≤ length reading.points → q ≤ length reading.points
     → (offset reading p == offset reading q) ≡ (p == q)
@@ -173,12 +155,12 @@ same_offset reading rise p q low high = by_place (cases_lt p q) (cases_lt q p)
   where
     by_place : (p < q) ⊎ (q ≤ p) → (q < p) ⊎ (p ≤ q) → (offset reading p == offset reading q) ≡ (p == q)
     by_place (inl x) y =
-        eq-apart (offset reading p) (offset reading q) (λ e. absurd (omega (arith, e, rise p q x high))) ∙ sym (eq-apart p q (λ e. absurd (omega (arith, e))))
+        ne_eqb (offset reading p) (offset reading q) (λ e. absurd (omega (arith, e, rise p q x high))) ∙ sym (ne_eqb p q (λ e. absurd (omega (arith, e))))
     by_place (inr x) (inl y) =
-        eq-apart (offset reading p) (offset reading q) (λ e. absurd (omega (arith, e, rise q p y low))) ∙ sym (eq-apart p q (λ e. absurd (omega (arith, e))))
+        ne_eqb (offset reading p) (offset reading q) (λ e. absurd (omega (arith, e, rise q p y low))) ∙ sym (ne_eqb p q (λ e. absurd (omega (arith, e))))
     by_place (inr x) (inr y) =
         let e : p ≡ q = omega arith in
-        eq-same (offset reading p) (offset reading q) (ap (offset reading) e) ∙ sym (eq-same p q e)
+        eq-eqb (offset reading p) (offset reading q) (ap (offset reading) e) ∙ sym (eq-eqb p q e)
 
 -- ---- a repetition
 
@@ -341,7 +323,7 @@ module _ (target : Target) (input : Input) (reading : Reading) (rise : OffsetsRi
       let same : (w.offset == v.offset) ≡ (s.place == u.place) =
       ap₂ (λ x y. x == y) stands.place r.stands.place ∙ same_offset reading rise s.place u.place stands.inside.place r.stands.inside.place in
       ap (λ (x : ℕ × ℕ). nat_lt least x.0 && (x.1 == v.offset)) entry
-      ∙ ap (λ c. c && (w.offset == v.offset)) (lt-true least (suc (count_of p.loops w)) (omega (arith, past)))
+      ∙ ap (λ c. c && (w.offset == v.offset)) (lt-ltb least (suc (count_of p.loops w)) (omega (arith, past)))
       ∙ same ∙ twice (s.place == u.place)
     where
       twice : (c : Bool) → c ≡ not (not c)
@@ -352,7 +334,7 @@ module _ (target : Target) (input : Input) (reading : Reading) (rise : OffsetsRi
   idle-not : (s u : State) (w v : Whole) → Again s w u v → count_of p.loops w < least → is_idle fields v ≡ false
   idle-not s u w v (r, entry) before =
       ap (λ (x : ℕ × ℕ). nat_lt least x.0 && (x.1 == v.offset)) entry
-      ∙ ap (λ c. c && (w.offset == v.offset)) (lt-false least (suc (count_of p.loops w)) (omega (arith, before)))
+      ∙ ap (λ c. c && (w.offset == v.offset)) (le-ltb least (suc (count_of p.loops w)) (omega (arith, before)))
 
   -- past the least number the next step follows only where the iteration moved
   dropped_or_on : IsRepetition → (s u : State) (w x : Whole) → StandsFor reading s w → Again s w u x → least ≤ count_of p.loops w
@@ -372,14 +354,14 @@ module _ (target : Target) (input : Input) (reading : Reading) (rise : OffsetsRi
   unfolding iterations
   again h zero need s w all few stands room =
       let e : choices fields p.address w ≡ record w { at = suc m.address } ∷ [] =
-      sym (choices-are w false true (lt-false (count_of p.loops w) most (omega (arith, all))) (le-true least (count_of p.loops w) (omega (arith, all, h.bounds))))
+      sym (choices-are w false true (le-ltb (count_of p.loops w) most (omega (arith, all))) (le-leb least (count_of p.loops w) (omega (arith, all, h.bounds))))
       ∙ ordered-out greedy (one_more p.loops p.address w) (record w { at = suc m.address }) in
       subst (λ xs. Leads target.program input reading dir (Out s w) xs (s ∷ [])) (sym e) (out s w stands)
   again h (suc left) (suc need) s w all few stands room =
       let v : Whole = one_more p.loops p.address w in
       let before : count_of p.loops w < least = omega (arith, few) in
       let e : choices fields p.address w ≡ v ∷ [] =
-      sym (choices-are w true false (lt-true (count_of p.loops w) most (omega (arith, all))) (le-false least (count_of p.loops w) before))
+      sym (choices-are w true false (lt-ltb (count_of p.loops w) most (omega (arith, all))) (lt-leb least (count_of p.loops w) before))
       ∙ ordered-more greedy v (record w { at = suc m.address }) in
       subst (λ xs. Leads target.program input reading dir (Out s w) xs (flat_map (iterations body greedy left need) (body s))) (sym e)
       (leads_on target.program input reading (Again s w) (Out s w) (iterations body greedy left need) (v ∷ []) (body s) (iteration h s w stands room)
@@ -394,7 +376,7 @@ module _ (target : Target) (input : Input) (reading : Reading) (rise : OffsetsRi
       let past : least ≤ count_of p.loops w = omega (arith, few) in
       let on : State → List State = iterations body greedy left zero in
       let e : choices fields p.address w ≡ ordered greedy true true v (record w { at = suc m.address }) =
-      sym (choices-are w true true (lt-true (count_of p.loops w) most (omega (arith, all))) (le-true least (count_of p.loops w) past)) in
+      sym (choices-are w true true (lt-ltb (count_of p.loops w) most (omega (arith, all))) (le-leb least (count_of p.loops w) past)) in
       let f : flat_map on (filter (moved s) (body s)) ≡ flat_map (λ u. if moved s u then on u else []) (body s) =
       flat_map-filter on (moved s) (body s) in
       let more : Leads target.program input reading dir (Out s w) (v ∷ []) (flat_map (λ u. if moved s u then on u else []) (body s)) =

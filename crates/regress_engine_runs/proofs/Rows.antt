@@ -15,9 +15,9 @@ use Rattle.regress_meaning.specs.TableParts.{is_code_point, table_of, small_part
 use Rattle.regress_meaning.specs.Class.{is_word}
 use Rattle.regress_meaning.specs.Tokens.{greatest}
 use Rattle.regress_meaning.specs.Meaning.{Forward}
-use Rattle.regress_meaning.specs.Inputs.{Input, ascii_input}
+use Rattle.regress_meaning.specs.Inputs.{Input, ascii_input, ucs2_input, utf16_input, utf8_input}
 use Rattle.regress_meaning.specs.Steps.{copied}
-use Rattle.regress_front_nodes.specs.Trees.{Tree, cat_of, char, cat, no_part, alt, capture, back, look, loop, goal, line_start, line_end, bytes, char_set, string_set, single_loop}
+use Rattle.regress_front_nodes.specs.Trees.{Tree, cat_of, empty, any_in_line, char, cat, no_part, alt, capture, back, look, loop, goal, line_start, line_end, bytes, char_set, string_set, single_loop}
 use Rattle.regress_front_nodes.specs.WellFormed.{IsWellFormed}
 use Rattle.regress_front_nodes.specs.Pieces.{pieces_of, expansion}
 use Rattle.regress_engine_code.specs.Instructions.{Program}
@@ -145,12 +145,144 @@ a_lazy_one_takes_few : answer 0 1 (single false) "aaab" 0 ≡ found 2 (Some (0, 
 unfolding computation
 a_lazy_one_takes_few = refl
 
+abbrev word : String → Tree
+word text = cat_of (map char (codes text))
+
+-- (a|ab)(c|bcd)(d*) on abcd
+abbrev preferring : Tree
+preferring =
+    cat_of (capture 0 None (alt (letter "a") (word "ab")) ∷ capture 1 None (alt (letter "c") (word "bcd"))
+    ∷ capture 2 None (loop (letter "d") 3 3 0 greatest true) ∷ [])
+
+earlier_arms_are_preferred : answer 1 3 preferring "abcd" 0 ≡ found 4 (Some (0, 1) ∷ Some (1, 4) ∷ Some (4, 4) ∷ [])
+unfolding computation
+earlier_arms_are_preferred = refl
+
+-- a* on baa from each place where a search of it begins, and on the empty text
+abbrev letters : Tree
+letters = loop (letter "a") 0 0 0 greatest true
+
+a_loop_may_take_nothing : (answer 1 0 letters "baa" 0 ≡ found 0 []) × (answer 1 0 letters "" 0 ≡ found 0 [])
+unfolding computation
+a_loop_may_take_nothing = (refl, refl)
+
+a_loop_takes_all : (answer 1 0 letters "baa" 1 ≡ found 3 []) × (answer 1 0 letters "baa" 3 ≡ found 3 [])
+unfolding computation
+a_loop_takes_all = (refl, refl)
+
+-- a on the empty text
+a_letter_is_missed : answer 0 0 (letter "a") "" 0 ≡ nothing
+unfolding computation
+a_letter_is_missed = refl
+
+-- a+? on aa, from 0 and from 1
+abbrev lazily : Tree
+lazily = loop (letter "a") 0 0 1 greatest false
+
+a_lazy_loop_takes_few : (answer 1 0 lazily "aa" 0 ≡ found 1 []) × (answer 1 0 lazily "aa" 1 ≡ found 2 [])
+unfolding computation
+a_lazy_loop_takes_few = (refl, refl)
+
+-- (?=(a+))a*b\1 on baaabac, from 1 and from 3
+abbrev looking_ahead : Tree
+looking_ahead = cat_of (look false false 0 1 (capture 0 None (loop (letter "a") 1 1 1 greatest true)) ∷ loop (letter "a") 1 1 0 greatest true ∷ letter "b" ∷ back 1 false ∷ [])
+
+a_lookahead_is_not_tried_again : answer 2 1 looking_ahead "baaabac" 1 ≡ nothing
+unfolding computation
+a_lookahead_is_not_tried_again = refl
+
+a_lookahead_keeps_its_groups : answer 2 1 looking_ahead "baaabac" 3 ≡ found 6 (Some (3, 4) ∷ [])
+unfolding computation
+a_lookahead_keeps_its_groups = refl
+
+-- (?!(a))b on b
+a_negated_lookahead_keeps_none : answer 0 1 (cat_of (look true false 0 1 (capture 0 None (letter "a")) ∷ letter "b" ∷ [])) "b" 0 ≡ found 1 (None ∷ [])
+unfolding computation
+a_negated_lookahead_keeps_none = refl
+
+-- (?=a)*b on b
+a_lookahead_may_be_left : answer 1 0 (cat_of (loop (look false false 0 0 (letter "a")) 0 0 0 greatest true ∷ letter "b" ∷ [])) "b" 0 ≡ found 1 []
+unfolding computation
+a_lookahead_may_be_left = refl
+
+-- (?<=(?<a>x)(?<b>y))z on xyz
+abbrev named_behind : Tree
+named_behind = cat_of (look false true 0 2 (cat_of (capture 1 (Some (codes "b")) (letter "y") ∷ capture 0 (Some (codes "a")) (letter "x") ∷ [])) ∷ letter "z" ∷ [])
+
+groups_of_a_lookbehind_lie_in_order : answer 0 2 named_behind "xyz" 2 ≡ found 3 (Some (0, 1) ∷ Some (1, 2) ∷ [])
+unfolding computation
+groups_of_a_lookbehind_lie_in_order = refl
+
+-- (?<=x)y on xyxy, from 1, 3 and 4
+abbrev after_x : Tree
+after_x = cat_of (look false true 0 0 (letter "x") ∷ letter "y" ∷ [])
+
+a_lookbehind_sees_what_was_passed : (answer 0 0 after_x "xyxy" 1 ≡ found 2 []) × (answer 0 0 after_x "xyxy" 3 ≡ found 4 []) × (answer 0 0 after_x "xyxy" 4 ≡ nothing)
+unfolding computation
+a_lookbehind_sees_what_was_passed = (refl, refl, refl)
+
+-- a lone surrogate any number of times, and a, on a
+a_lone_surrogate_may_be_absent : answer 1 0 (cat_of (loop (char 0xD800) 0 0 0 greatest true ∷ letter "a" ∷ [])) "a" 0 ≡ found 1 []
+unfolding computation
+a_lone_surrogate_may_be_absent = refl
+
+-- (a)\1 with case ignored on aA
+case_is_ignored_again : answer 0 1 (cat_of (capture 0 None (char_set (codes "Aa")) ∷ back 1 true ∷ [])) "aA" 0 ≡ found 2 (Some (0, 1) ∷ [])
+unfolding computation
+case_is_ignored_again = refl
+
+-- \1(a) on a
+a_group_is_unset_before_it : answer 0 1 (cat_of (back 1 false ∷ capture 0 None (letter "a") ∷ [])) "a" 0 ≡ found 1 (Some (0, 1) ∷ [])
+unfolding computation
+a_group_is_unset_before_it = refl
+
+-- (?<n>a)|(?<n>b) on b
+one_of_two_groups_is_set : answer 0 2 (alt (capture 0 (Some (codes "n")) (letter "a")) (capture 1 (Some (codes "n")) (letter "b"))) "b" 0 ≡ found 1 (None ∷ Some (0, 1) ∷ [])
+unfolding computation
+one_of_two_groups_is_set = refl
+
+-- (?i:a)b on ABAb, from 0 and from 2
+case_is_ignored_in_part : (answer 0 0 (cat_of (char_set (codes "Aa") ∷ letter "b" ∷ [])) "ABAb" 0 ≡ nothing) × (answer 0 0 (cat_of (char_set (codes "Aa") ∷ letter "b" ∷ [])) "ABAb" 2 ≡ found 4 [])
+unfolding computation
+case_is_ignored_in_part = (refl, refl)
+
+-- a as often as can be said, and up to so often, on aaa
+counts_may_be_large : (answer 1 0 (loop (letter "a") 0 0 greatest greatest true) "aaa" 0 ≡ nothing) × (answer 1 0 (loop (letter "a") 0 0 0 greatest true) "aaa" 0 ≡ found 3 [])
+unfolding computation
+counts_may_be_large = (refl, refl)
+
+-- where a run ends, in any input
+abbrev ends : Bool → Tree → Input → ℕ → Option (Option ℕ)
+ends units t input o =
+    let program : Program = made_of units 0 0 t in
+    option_map (λ (x : ℕ × Option Whole). option_map (λ (w : Whole). w.offset) x.1) (run program input 2000 Forward (first_state program o ∷ []))
+
+-- . on one character past 16 bits, in bytes, in pairs of units and in single ones
+a_character_is_taken_whole : (ends false any_in_line (utf8_input (table_of small_parts) false (0xF0 ∷ 0x9F ∷ 0x98 ∷ 0x80 ∷ [])) 0 ≡ Some (Some 4))
+    × (ends true any_in_line (utf16_input (table_of small_parts) true (0xD83D ∷ 0xDE00 ∷ [])) 0 ≡ Some (Some 2))
+unfolding computation
+a_character_is_taken_whole = (refl, refl)
+
+a_unit_is_taken_alone : (ends true any_in_line (ucs2_input (table_of small_parts) false (0xD83D ∷ 0xDE00 ∷ [])) 0 ≡ Some (Some 1))
+    × (ends true any_in_line (ucs2_input (table_of small_parts) false (0xD83D ∷ 0xDE00 ∷ [])) 1 ≡ Some (Some 2))
+unfolding computation
+a_unit_is_taken_alone = (refl, refl)
+
+-- half of a pair in the same units
+half_a_pair_is_found_alone : (ends true (char 0xD83D) (ucs2_input (table_of small_parts) false (0xD83D ∷ 0xDE00 ∷ [])) 0 ≡ Some (Some 1))
+    × (ends true (char 0xD83D) (utf16_input (table_of small_parts) true (0xD83D ∷ 0xDE00 ∷ [])) 0 ≡ Some None)
+unfolding computation
+half_a_pair_is_found_alone = (refl, refl)
+
+-- nothing, at both ends of one character of two bytes
+nothing_is_found_at_each_place : (ends false empty (utf8_input (table_of small_parts) false (0xC3 ∷ 0xA9 ∷ [])) 0 ≡ Some (Some 0))
+    × (ends false empty (utf8_input (table_of small_parts) false (0xC3 ∷ 0xA9 ∷ [])) 2 ≡ Some (Some 2))
+unfolding computation
+nothing_is_found_at_each_place = (refl, refl)
+
 -- literals and sets of strings, in programs of bytes and of units
 abbrev literally : Bool → Tree → List ℕ → ℕ → Option (Option ℕ)
-literally units t text o =
-    let program : Program = made_of units 0 0 t in
-    let input : Input = ascii_input (table_of small_parts) false text in
-    option_map (λ (x : ℕ × Option Whole). option_map (λ (w : Whole). w.offset) x.1) (run program input 2000 Forward (first_state program o ∷ []))
+literally units t text o = ends units t (ascii_input (table_of small_parts) false text) o
 
 -- (?:ab|a)b on ab
 abbrev arms : Tree

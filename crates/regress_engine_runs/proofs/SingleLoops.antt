@@ -4,6 +4,7 @@ use Rattle.std.specs.List.{list_all}
 use Rattle.std.proofs.Common.{◌≡◌, ◌⊎◌, inl, inr, ℕ, zero, suc, ◌-◌, ◌≤◌, not, Bool, true, false, List, [], ◌∷◌, ◌++◌, length, map, reverse, drop, flat_map, Option, Some, None, if◌then◌else◌, option_map, option_and_then, refl, sym, ap, ◌∙◌, subst, arith}
 use Rattle.std.proofs.lemmas.List.{append-nil, drop-map, reverse-append}
 use Rattle.std.proofs.lemmas.Option.{slice_get_within}
+use Rattle.std.proofs.lemmas.Bool.{ne_eqb}
 use Rattle.regress_meaning.specs.Meaning.{State, Direction, Forward, Backward, Context, iterations, moved, step, stepped}
 use Rattle.regress_meaning.specs.Offsets.{Reading, offset}
 use Rattle.regress_meaning.specs.Laws.{IsAhead}
@@ -24,7 +25,6 @@ use Rattle.regress_engine_runs.proofs.Leading.{Leads, Pairwise, Pairwise-append,
 use Rattle.regress_engine_runs.proofs.Places.{occurs, Arrives, Keeps-all, IsAhead-same, IsAhead-then}
 use Rattle.regress_engine_runs.proofs.Entering.{Enters, standing}
 use Rattle.regress_engine_runs.proofs.Neighbours.{Beside, neighbours, all-one}
-use Rattle.regress_engine_runs.proofs.Loops.{eq-apart}
 use Rattle.regress_engine_runs.proofs.GivingBack.{ahead, HasPlace, offset_ahead, ahead-none, ahead-on, HasPlace-none, HasPlace-here, HasPlace-on, given_back-none, given_back-further}
 
 -- in the order of preference
@@ -113,7 +113,7 @@ module _ (context : Context) (dir : Direction) (test : ℕ → Bool) where
           by_test false = refl
 
           told : (b : Bool) → Next s (if b then Some (record s { place = q }) else None)
-          told true = (ap not (eq-apart s.place q (λ e. apart (sym e))), inside, ahead)
+          told true = (ap not (ne_eqb s.place q (λ e. apart (sym e))), inside, ahead)
           told false = tt
 
   -- a state, if any, and those after it

@@ -1,12 +1,13 @@
 -- What is searched for in which text, and where a search begins and goes on.
-use Rattle.std.specs.Prelude.{◌≡◌, ℕ, ◌-◌, nat_le, List, length, map, Option, Some, None, if◌then◌else◌}
+use Rattle.std.specs.Prelude.{◌≡◌, ℕ, ◌-◌, nat_le, List, length, map, Option, Some, None, if◌then◌else◌, encode_utf8_all}
 use Rattle.regress_meaning.specs.Meaning.{Context}
 use Rattle.regress_meaning.specs.Matches.{Item}
 use Rattle.regress_meaning.specs.Offsets.{told, Begins}
 use Rattle.regress_front_tables.specs.TableViews.{table}
 use Rattle.regress_front_nodes.specs.Trees.{tree}
-use Rattle.regress_match.specs.GroupNames.{group_count}
-use Rattle.regress_match.specs.TextRanges.{utf8_reading}
+use Rattle.regress_match.specs.declared.found.Match.{Match}
+use Rattle.regress_match.specs.GroupNames.{group_count, shared_names}
+use Rattle.regress_match.specs.TextRanges.{utf8_reading, IsMatchIn}
 use Rattle.regress_evaluator.specs.declared.search.CompiledPattern.{CompiledPattern}
 use Rattle.regress_evaluator.specs.declared.search.Search.{Search}
 use Rattle.regress_front_nodes.specs.NodeMatches.{node_match_list}
@@ -43,3 +44,7 @@ places_behind s place = length (points_of s) - place
 abbrev pub StartsAt : Search → ℕ → Option ℕ → Type 0
 StartsAt s at position =
     (place : ℕ) → Begins (utf8_reading (points_of s)) at place → position ≡ place_within (length (points_of s)) place
+
+-- a match lies in the text that is searched, and its groups have the pattern's names
+abbrev pub IsMatchOf : Search → Match → Type 0
+IsMatchOf s m = IsMatchIn (encode_utf8_all (points_of s)) (shared_names (pattern_of s).group_names.now) m

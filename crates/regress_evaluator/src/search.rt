@@ -1,5 +1,5 @@
 //! The search for a compiled pattern in a text, by the evaluator.
-ghost use Rattle.std.specs.Prelude.{◌≡◌, true, chars, encode_utf8_all, IfOk, IsOkUnless};
+ghost use Rattle.std.specs.Prelude.{◌≡◌, ◌<◌, ⊤, None, true, chars, encode_utf8_all, IfOk, IfSome, OnErr, IsOkUnless};
 ghost use Rattle.std.specs.Str.{all_scalars};
 
 use crate::evaluator::Evaluator;
@@ -34,8 +34,9 @@ pub struct Search<'r> {
 
 impl<'r> Search<'r> {
     ghost use Rattle.regress_evaluator.specs.StateViews.{context_of};
-    ghost use Rattle.regress_evaluator.specs.Searching.{pattern_of, points_of, searching};
+    ghost use Rattle.regress_evaluator.specs.Searching.{pattern_of, points_of, searching, items_from, places_behind, IsMatchOf};
     ghost use Rattle.regress_match.specs.GroupNames.{group_count};
+    ghost use Rattle.regress_match.specs.Iterating.{Finds};
 
     /// The search for a pattern in a text. Errs with `OutOfMemory` alone.
     ///
@@ -72,14 +73,41 @@ impl<'r> Search<'r> {
             group_count: self.pattern.group_names.len(),
         }
     }
+
+    /// The first match from a place on, told in bytes, and in `next` the place to go on from.
+    fn first_from(
+        &self,
+        position: usize,
+        next: &mut Option<usize>,
+    ) -> Result<Option<Match>, Error>
+        ensures found { IfOk result (λ found. Finds (items_from self.now) (IsMatchOf self.now) position found next.new) }
+        ensures nearer { IfSome next.new (λ p. places_behind self.now p < places_behind self.now position) }
+        ensures last { OnErr result (next.new ≡ None) }
+        ensures refused { IsOkUnless result Error.OutOfMemory }
+    {
+        *next = None;
+        let Some(found) = self.evaluator().first_match(self.pattern.node, position)? else {
+            return Ok(None);
+        };
+        let told = self.text.told(&found, self.pattern.group_names.clone()?)?;
+        *next = found.place_after(self.text.points().len());
+        Ok(Some(told))
+    }
 }
 
 impl<'r> MatchProducer for Search<'r> {
-    ghost use Rattle.regress_evaluator.specs.Searching.{pattern_of, points_of, items_from, places_behind, StartsAt};
-    ghost use Rattle.regress_match.specs.GroupNames.{shared_names};
-    ghost use Rattle.regress_match.specs.TextRanges.{IsMatchIn};
+    ghost use Rattle.regress_evaluator.specs.declared.search.Search.{Search};
+    ghost use Rattle.regress_evaluator.specs.Searching.{items_from, places_behind, StartsAt, IsMatchOf};
 
     type Position = usize;
+
+    ghost Sought = { Search };
+
+    ghost sought = { λ s. s };
+
+    ghost is_position = { λ _ _. ⊤ };
+
+    ghost is_start = { λ _ _. ⊤ };
 
     ghost items_from = { items_from };
 
@@ -87,7 +115,7 @@ impl<'r> MatchProducer for Search<'r> {
 
     ghost starts_at = { StartsAt };
 
-    ghost is_of_search = { λ s m. IsMatchIn (encode_utf8_all (points_of s)) (shared_names (pattern_of s).group_names.now) m };
+    ghost is_of_search = { IsMatchOf };
 
     /// The place at an offset in bytes; `None` where no character begins and the text doesn't end there.
     fn initial_position(&self, offset: usize) -> Option<usize> {
@@ -97,16 +125,10 @@ impl<'r> MatchProducer for Search<'r> {
 
     /// The first match from a place on, told in bytes ("RegExpBuiltinExec").
     fn next_match(
-        &self,
+        &mut self,
         position: usize,
         next: &mut Option<usize>,
     ) -> Result<Option<Match>, Error> {
-        *next = None;
-        let Some(found) = self.evaluator().first_match(self.pattern.node, position)? else {
-            return Ok(None);
-        };
-        let told = self.text.told(&found, self.pattern.group_names.clone()?)?;
-        *next = found.place_after(self.text.points().len());
-        Ok(Some(told))
+        self.first_from(position, next)
     }
 }

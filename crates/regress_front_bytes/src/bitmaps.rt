@@ -1,5 +1,5 @@
 //! Sets of bytes with a bit for each.
-ghost use Rattle.std.specs.Prelude.{◌≡◌, ℕ, ◌<◌, ◌==◌, ◌||◌, not, false, length, position};
+ghost use Rattle.std.specs.Prelude.{◌≡◌, ℕ, ◌<◌, ◌≤◌, ◌==◌, ◌||◌, not, false, length, position};
 ghost use Rattle.regress_meaning.specs.Text.{holds};
 ghost use Rattle.regress_front_bytes.specs.ByteSets.{members};
 ghost use Rattle.regress_front_bytes.specs.Bitmaps.{ascii_bitmap_contains, byte_bitmap_contains};
@@ -35,6 +35,13 @@ impl ByteSet for AsciiBitmap {
     fn contains(&self, b: u8) -> bool {
         b < 0x80 && self.0[usize::from(b / 8)] >> (b % 8) & 1 == 1
     }
+}
+
+/// The members of an `AsciiBitmap` are ASCII. Nothing here runs: the contract states it.
+pub fn ascii_bitmap_holds_ascii(bitmap: &AsciiBitmap)
+    ensures { (c : ℕ) → 0x80 ≤ c → ascii_bitmap_contains bitmap.now c ≡ false }
+{
+    let _rows = &bitmap.0;
 }
 
 /// A set of bytes, which is empty by default.

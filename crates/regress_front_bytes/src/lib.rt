@@ -7,7 +7,7 @@ mod equal_range;
 mod ranges;
 mod utf8;
 
-pub use bitmaps::{AsciiBitmap, ByteBitmap};
+pub use bitmaps::{AsciiBitmap, ByteBitmap, ascii_bitmap_holds_ascii};
 pub use byte_search::{
     ByteArraySet, ByteSearcher, ByteSet, EmptyString, SmallArraySet, charset_contains,
 };

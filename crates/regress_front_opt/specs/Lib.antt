@@ -1,5 +1,2 @@
-pub mod NormalForm
-pub mod Rules
-pub mod Weight
-pub mod Kept
-pub mod Laws
+pub mod Shapes
+pub mod Passes

@@ -1,10 +1,31 @@
-//! How trees of nodes may be rewritten: the normal form, the rules, and the laws that each rule keeps what a tree means.
-//! Nothing here runs: each function is a law, and its contract states it.
+//! Rewrites a pattern's tree by passes over its nodes, so that it is searched faster and matches the same.
 #![tactic(auto)]
 
-mod laws;
+mod action;
+mod cats;
+mod chaining;
+mod choices;
+mod failing;
+mod flattening;
+mod joining;
+mod letters;
+mod passing;
+mod rounds;
+mod single_loops;
+mod sizes;
+mod unrolling;
+mod visiting;
 
-pub use laws::{
-    broken_nodes_turn, normal_forms_are_reached, rules_are_right, rules_keep_the_rest,
-    trees_nest_less_than_their_size, trees_of_nodes_are_listed, wholes_are_right,
-};
+pub use action::PassAction;
+pub use cats::ShortCats;
+pub use chaining::Then;
+pub use choices::EmptyChoices;
+pub use failing::LostCats;
+pub use flattening::FlattenedCats;
+pub use joining::JoinedLiterals;
+pub use letters::SpelledChars;
+pub use passing::Pass;
+pub use rounds::optimize;
+pub use single_loops::SingleLoops;
+pub use unrolling::UnrolledLoops;
+pub use visiting::visit;

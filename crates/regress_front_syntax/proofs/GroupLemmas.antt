@@ -1,5 +1,5 @@
 -- What is answered for a tree in parentheses, by what its opening is and by its contents.
-use Rattle.std.proofs.Common.{◌≡◌, ℕ, suc, ◌+◌, ◌≤◌, Bool, true, false, not, List, [], ◌∷◌, length, Option, Some, None, option_and_then, Err, refl, sym, ap, ◌∙◌, arith, option_map}
+use Rattle.std.proofs.Common.{◌≡◌, ℕ, suc, ◌+◌, ◌≤◌, Bool, true, false, not, List, length, Option, Some, None, option_and_then, Err, refl, sym, ap, ◌∙◌, arith, option_map}
 use Rattle.regress_meaning.specs.Pattern.{Pattern, names_of, capture}
 use Rattle.regress_meaning.specs.Tokens.{Mode}
 use Rattle.regress_meaning.specs.Limits.{depth, quantifiers, most_groups}

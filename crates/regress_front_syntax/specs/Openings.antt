@@ -1,5 +1,5 @@
 -- What an opening parenthesis begins.
-use Rattle.std.specs.Prelude.{◌≡◌, ℕ, suc, Bool, true, false, not, ◌==◌, List, [], drop, if◌then◌else◌, Option, None, Some, option_map, Result, Ok, Err}
+use Rattle.std.specs.Prelude.{◌≡◌, ℕ, suc, Bool, true, false, not, ◌==◌, List, [], drop, if◌then◌else◌, None, Some, option_map, Result, Ok, Err}
 use Rattle.regress_meaning.specs.Pattern.{Pattern, capture, grouped, modified, look}
 use Rattle.regress_meaning.specs.Flags.{settings_of}
 use Rattle.regress_meaning.specs.Text.{is_at, span}

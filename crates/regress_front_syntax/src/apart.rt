@@ -1,24 +1,23 @@
 //! Names that stand twice in a pattern.
-ghost use Rattle.std.specs.Prelude.{◌≡◌, Some, map, IfOk, IfErr};
+ghost use Rattle.std.specs.Prelude.{◌≡◌, Some, map, IfOk};
 ghost use Rattle.regress_meaning.specs.Pattern.{capture};
 ghost use Rattle.regress_meaning.specs.Grammar.{names_apart};
 ghost use Rattle.regress_front_tokens.specs.Trees.{tree, sequence_of, choice_of};
 ghost use Rattle.regress_front_tokens.specs.Words.{code_points_of};
 ghost use Rattle.regress_front_syntax.specs.Names.{AreJoined, IsNaming};
 
-use regress_front_tables::{CaptureGroupName, Error};
+use regress_front_tables::CaptureGroupName;
 use regress_front_tokens::Syntax;
-use std::alloc::Global;
+use std::alloc::{AllocError, Global};
 use std::collections::BTreeSet;
 use std::mem::swap;
 
 /// Names of groups.
 type Names<'s> = BTreeSet<&'s CaptureGroupName, Global>;
 
-/// The names of both, and whether no name stands in both. `OutOfMemory` is the only error.
-fn joined<'s>(mut names: Names<'s>, mut more: Names<'s>) -> Result<(Names<'s>, bool), Error>
-    ensures ok { IfOk result (λ (all, apart). AreJoined names.entry more.entry all apart) }
-    ensures err { IfErr result (λ e. e ≡ Error.OutOfMemory) }
+/// The names of both, and whether no name stands in both.
+fn joined<'s>(mut names: Names<'s>, mut more: Names<'s>) -> Result<(Names<'s>, bool), AllocError>
+    ensures { IfOk result (λ (all, apart). AreJoined names.entry more.entry all apart) }
 {
     let apart = names.is_disjoint(&more);
     // The fewer names go to the others, so that none is moved often.
@@ -30,11 +29,10 @@ fn joined<'s>(mut names: Names<'s>, mut more: Names<'s>) -> Result<(Names<'s>, b
 }
 
 /// The names of a tree's groups; nothing where some name stands twice but in different alternatives of one disjunction.
-/// `OutOfMemory` is the only error.
+///
 #[cycle(naming)]
-fn names_in<'s>(alloc: Global, syntax: &'s Syntax) -> Result<Option<Names<'s>>, Error>
-    ensures ok { IfOk result (IsNaming (tree syntax.now)) }
-    ensures err { IfErr result (λ e. e ≡ Error.OutOfMemory) }
+fn names_in<'s>(alloc: Global, syntax: &'s Syntax) -> Result<Option<Names<'s>>, AllocError>
+    ensures { IfOk result (IsNaming (tree syntax.now)) }
 {
     match syntax {
         Syntax::Alternative(terms) => names_in_terms(alloc, terms),
@@ -58,9 +56,8 @@ fn names_in<'s>(alloc: Global, syntax: &'s Syntax) -> Result<Option<Names<'s>>, 
 
 /// The same of terms one after another.
 #[cycle(naming)]
-fn names_in_terms<'s>(alloc: Global, terms: &'s [Syntax]) -> Result<Option<Names<'s>>, Error>
-    ensures ok { IfOk result (IsNaming (sequence_of (map tree terms.now))) }
-    ensures err { IfErr result (λ e. e ≡ Error.OutOfMemory) }
+fn names_in_terms<'s>(alloc: Global, terms: &'s [Syntax]) -> Result<Option<Names<'s>>, AllocError>
+    ensures { IfOk result (IsNaming (sequence_of (map tree terms.now))) }
 {
     let mut names = Names::new(alloc);
     for term in terms {
@@ -78,9 +75,8 @@ fn names_in_terms<'s>(alloc: Global, terms: &'s [Syntax]) -> Result<Option<Names
 
 /// The same of alternatives, each of which may have the names of the others.
 #[cycle(naming)]
-fn names_in_arms<'s>(alloc: Global, arms: &'s [Syntax]) -> Result<Option<Names<'s>>, Error>
-    ensures ok { IfOk result (IsNaming (choice_of (map tree arms.now))) }
-    ensures err { IfErr result (λ e. e ≡ Error.OutOfMemory) }
+fn names_in_arms<'s>(alloc: Global, arms: &'s [Syntax]) -> Result<Option<Names<'s>>, AllocError>
+    ensures { IfOk result (IsNaming (choice_of (map tree arms.now))) }
 {
     let mut names = Names::new(alloc);
     for arm in arms {
@@ -98,9 +94,8 @@ fn names_in_named<'s>(
     alloc: Global,
     name: &'s CaptureGroupName,
     contents: &'s Syntax,
-) -> Result<Option<Names<'s>>, Error>
-    ensures ok { IfOk result (IsNaming (capture 0 (Some (code_points_of name.now)) (tree contents.now))) }
-    ensures err { IfErr result (λ e. e ≡ Error.OutOfMemory) }
+) -> Result<Option<Names<'s>>, AllocError>
+    ensures { IfOk result (IsNaming (capture 0 (Some (code_points_of name.now)) (tree contents.now))) }
 {
     if name.is_empty() {
         return names_in(alloc, contents);
@@ -115,10 +110,9 @@ fn names_in_named<'s>(
 }
 
 /// Whether no name of a group stands twice but in different alternatives of one disjunction ("MightBothParticipate").
-/// `OutOfMemory` is the only error.
-pub(crate) fn names_are_apart(alloc: Global, syntax: &Syntax) -> Result<bool, Error>
-    ensures ok { IfOk result (λ apart. apart ≡ names_apart (tree syntax.now)) }
-    ensures err { IfErr result (λ e. e ≡ Error.OutOfMemory) }
+///
+pub(crate) fn names_are_apart(alloc: Global, syntax: &Syntax) -> Result<bool, AllocError>
+    ensures { IfOk result (λ apart. apart ≡ names_apart (tree syntax.now)) }
 {
     Ok(names_in(alloc, syntax)?.is_some())
 }

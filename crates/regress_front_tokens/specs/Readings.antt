@@ -24,9 +24,3 @@ IsRead view reads text (Ok x) rest = reads text ≡ Some (view x, rest)
 IsRead view reads text (Err (Syntax message)) rest = reads text ≡ None
 IsRead view reads text (Err OutOfMemory) rest = Unit {0}
 IsRead view reads text (Err _) rest = ⊥
-
--- The value was read at the front of the text, or there is none and the text is as it was; the only error is of memory.
-abbrev pub IsTried : {A B : Type 0} → (A → B) → Reads B → List ℕ → Result (Option A) Error → List ℕ → Type 0
-IsTried view reads text (Ok found) rest = IsReading view reads text found rest
-IsTried view reads text (Err OutOfMemory) rest = Unit {0}
-IsTried view reads text (Err _) rest = ⊥

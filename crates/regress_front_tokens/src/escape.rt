@@ -11,7 +11,7 @@ use crate::cursor::{Cursor, is_one_of};
 use crate::mode::{Mode, groups_of_name};
 use crate::syntax::Class;
 use regress_front_tables::{CodePoint, Error, is_ascii_word};
-use std::alloc::Global;
+use std::alloc::{AllocError, Global};
 
 /// Why an escape is refused.
 const INVALID_ESCAPE: &str = "Invalid escape";
@@ -51,10 +51,9 @@ fn control(letter: CodePoint) -> Option<CodePoint>
     }
 }
 
-/// What `\d`, `\D`, `\s`, `\S`, `\w` and `\W` stand for ("CharacterClassEscape"). `OutOfMemory` is the only error.
-fn class_letter(alloc: Global, letter: CodePoint) -> Result<Option<Class>, Error>
-    ensures ok { IfOk result (λ class. class_letter letter ≡ option_map class_view class) }
-    ensures err { IfErr result (λ e. e ≡ Error.OutOfMemory) }
+/// What `\d`, `\D`, `\s`, `\S`, `\w` and `\W` stand for ("CharacterClassEscape").
+fn class_letter(alloc: Global, letter: CodePoint) -> Result<Option<Class>, AllocError>
+    ensures { IfOk result (λ class. class_letter letter ≡ option_map class_view class) }
 {
     Ok(Some(match char::from_u32(letter) {
         Some('d') => Class::Digits,

@@ -1,12 +1,12 @@
 //! What holds for a whole pattern while it is read.
-ghost use Rattle.std.specs.Prelude.{◌≡◌, ◌≤◌, length, IfOk, IfErr, map, chars};
+ghost use Rattle.std.specs.Prelude.{◌≡◌, ◌≤◌, length, IfOk, map, chars};
 ghost use Rattle.regress_meaning.specs.Tokens.{numbers_from, begins_name, continues_name};
 ghost use Rattle.regress_front_tables.specs.TableViews.{table};
 ghost use Rattle.regress_front_tokens.specs.Words.{code_points_of};
 
 use crate::cursor::is_one_of;
-use regress_front_tables::{CaptureGroupName, CodePoint, Error, Tables};
-use std::alloc::Global;
+use regress_front_tables::{CaptureGroupName, CodePoint, Tables};
+use std::alloc::{AllocError, Global};
 
 /// What holds for the whole pattern: how its escapes and classes are read ("Patterns", its grammar parameters).
 #[derive(Debug, Drop)]
@@ -39,15 +39,14 @@ pub(crate) fn continues_name(tables: &Tables, point: CodePoint) -> bool
         || matches!(char::from_u32(point), Some('\u{200C}' | '\u{200D}'))
 }
 
-/// The numbers of the groups that have the name, from 0 ("GroupSpecifiersThatMatch"). `OutOfMemory` is the only error.
+/// The numbers of the groups that have the name, from 0 ("GroupSpecifiersThatMatch").
 pub(crate) fn groups_of_name(
     alloc: Global,
     names: &[CaptureGroupName],
     name: &str,
-) -> Result<Vec<u16>, Error>
+) -> Result<Vec<u16>, AllocError>
     requires { length names.now ≤ 65535 }
-    ensures ok { IfOk result (λ groups. groups.items ≡ numbers_from 0 (chars name.now) (map code_points_of names.now)) }
-    ensures err { IfErr result (λ e. e ≡ Error.OutOfMemory) }
+    ensures { IfOk result (λ groups. groups.items ≡ numbers_from 0 (chars name.now) (map code_points_of names.now)) }
 {
     let mut groups = Vec::new(alloc);
     for (group, other) in names.iter().enumerate() {

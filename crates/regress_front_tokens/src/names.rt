@@ -1,10 +1,10 @@
 //! Names of groups, and keys of properties.
-ghost use Rattle.std.specs.Prelude.{◌≡◌, ◌++◌, [], ◌∷◌, OnOk};
+ghost use Rattle.std.specs.Prelude.{◌≡◌, ◌++◌, [], ◌∷◌, OnOk, IfOk};
 ghost use Rattle.regress_meaning.specs.Text.{is_at};
 ghost use Rattle.regress_meaning.specs.Tokens.{name_point, name_at, key_at};
 ghost use Rattle.regress_meaning.specs.Class.{is_ascii_word};
 ghost use Rattle.regress_front_tables.specs.TableViews.{table};
-ghost use Rattle.regress_front_tokens.specs.Readings.{IsReading, IsRead, IsTried};
+ghost use Rattle.regress_front_tokens.specs.Readings.{IsReading, IsRead};
 ghost use Rattle.regress_front_tokens.specs.Words.{key_of, characters_of, code_points_of};
 
 use crate::cursor::Cursor;
@@ -59,13 +59,13 @@ impl<'p> Cursor<'p> {
         Some(point)
     }
 
-    /// Behind `<`: a group's name and `>` ("GroupName"), if they stand here. `OutOfMemory` is the only error.
+    /// Behind `<`: a group's name and `>` ("GroupName"), if they stand here.
     pub(crate) fn try_name(
         &mut self,
         alloc: Global,
         tables: &Tables,
-    ) -> Result<Option<CaptureGroupName>, Error>
-        ensures read { IsTried code_points_of (name_at (table tables.now)) (unread self.old) result (unread self.new) }
+    ) -> Result<Option<CaptureGroupName>, AllocError>
+        ensures read { IfOk result (λ name. IsReading code_points_of (name_at (table tables.now)) (unread self.old) name (unread self.new)) }
         ensures kept { SameText self.old self.new }
     {
         regress_meaning::reading_leaves_less();

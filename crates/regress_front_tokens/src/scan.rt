@@ -9,7 +9,7 @@ ghost use Rattle.regress_front_tokens.specs.Escapes.{mode_view, texts, opened};
 use crate::cursor::Cursor;
 use crate::mode::Mode;
 use regress_front_tables::{CaptureGroupName, CodePoint, Error, Flags, Tables};
-use std::alloc::Global;
+use std::alloc::{AllocError, Global};
 
 /// Whether a scan stands in a class behind the code point. Brackets inside a class are not paired.
 fn is_in_class_behind(in_class: bool, point: CodePoint) -> bool
@@ -42,15 +42,13 @@ fn holds_a_name(points: &[CodePoint]) -> bool
 }
 
 /// The name of each group that the text opens, in order, empty where it has none. `named`: names are read.
-/// `OutOfMemory` is the only error.
 fn group_names(
     alloc: Global,
     points: &[CodePoint],
     tables: &Tables,
     named: bool,
-) -> Result<Vec<CaptureGroupName>, Error>
-    ensures ok { IfOk result (λ names. texts names ≡ group_names (table tables.now) named false 0 points.now) }
-    ensures err { IfErr result (λ e. e ≡ Error.OutOfMemory) }
+) -> Result<Vec<CaptureGroupName>, AllocError>
+    ensures { IfOk result (λ names. texts names ≡ group_names (table tables.now) named false 0 points.now) }
 {
     let mut names = Vec::new(alloc);
     let mut cursor = Cursor::new(points);
@@ -103,10 +101,9 @@ impl Cursor<'_> {
     }
 
     /// Behind a backslash outside a class: goes on behind the code point that stands here, or behind a whole `k<name>`, where
-    /// names are read. `OutOfMemory` is the only error.
-    fn pass_escape(&mut self, alloc: Global, tables: &Tables, named: bool) -> Result<(), Error>
-        ensures ok { OnOk result (unread self.new ≡ after_escape (table tables.now) named (unread self.old)) }
-        ensures err { IfErr result (λ e. e ≡ Error.OutOfMemory) }
+    /// names are read.
+    fn pass_escape(&mut self, alloc: Global, tables: &Tables, named: bool) -> Result<(), AllocError>
+        ensures { OnOk result (unread self.new ≡ after_escape (table tables.now) named (unread self.old)) }
     {
         let mut ahead = *self;
         if named && ahead.eat('k') && ahead.eat('<') && ahead.try_name(alloc, tables)?.is_some() {
@@ -118,14 +115,13 @@ impl Cursor<'_> {
     }
 
     /// Behind `(`: the name of the group that is opened, empty where it has none, and nothing where the parenthesis opens no
-    /// capturing group. Goes on behind the name. `OutOfMemory` is the only error.
+    /// capturing group. Goes on behind the name.
     fn group_name(
         &mut self,
         alloc: Global,
         tables: &Tables,
-    ) -> Result<Option<CaptureGroupName>, Error>
-        ensures ok { IfOk result (λ name. opened_groups (table tables.now) false 0x28 (unread self.old) ≡ (opened name, unread self.new)) }
-        ensures err { IfErr result (λ e. e ≡ Error.OutOfMemory) }
+    ) -> Result<Option<CaptureGroupName>, AllocError>
+        ensures { IfOk result (λ name. opened_groups (table tables.now) false 0x28 (unread self.old) ≡ (opened name, unread self.new)) }
     {
         let mut ahead = *self;
         if !ahead.eat('?') {
@@ -142,16 +138,15 @@ impl Cursor<'_> {
     }
 
     /// Behind a code point outside a class: the name of the group that it opens, if it opens one. Goes on behind all that is
-    /// passed over with it. `OutOfMemory` is the only error.
+    /// passed over with it.
     fn opened_group(
         &mut self,
         alloc: Global,
         tables: &Tables,
         named: bool,
         point: CodePoint,
-    ) -> Result<Option<CaptureGroupName>, Error>
-        ensures ok { IfOk result (λ name. opened_groups (table tables.now) named point (unread self.old) ≡ (opened name, unread self.new)) }
-        ensures err { IfErr result (λ e. e ≡ Error.OutOfMemory) }
+    ) -> Result<Option<CaptureGroupName>, AllocError>
+        ensures { IfOk result (λ name. opened_groups (table tables.now) named point (unread self.old) ≡ (opened name, unread self.new)) }
     {
         if point == CodePoint::from('\\') {
             self.pass_escape(alloc, tables, named)?;

@@ -1,12 +1,8 @@
 -- Sets and strings that classes stand for.
-use Rattle.std.proofs.Common.{◌≡◌, ℕ, zero, suc, ◌+◌, ◌<◌, Bool, true, false, not, cond, ◌&&◌, ◌||◌, ◌==◌, List, [], ◌∷◌, ◌++◌, length, take, get_or, map, filter, All, refl, sym, ap, subst, ◌∙◌, inl, inr, arith, Vec, Global, String, Some, None, chars, string_bytes, append-nil}
+use Rattle.std.proofs.Common.{◌≡◌, ℕ, ◌+◌, ◌<◌, Bool, true, false, not, cond, ◌&&◌, ◌||◌, ◌==◌, List, [], ◌∷◌, ◌++◌, length, take, get_or, filter, All, refl, sym, ap, subst, ◌∙◌, inl, inr, arith, Vec, Global, Some, append-nil}
 use Rattle.std.proofs.Math.Path.{fun_ext}
 use Rattle.std.specs.List.{list_any}
-use Rattle.std.specs.Str.{all_scalars}
-use Rattle.std.specs.Char.{IsScalar}
-use Rattle.std.proofs.lemmas.Bool.{and_parts, eqb-true, cases_Bool, or_cases, false≢true, and_left, and_right, false_from_ne_true, both_ways, cond-false, cond-true, or_right, and_from, eq-eqb, agree_below_at}
-use Rattle.std.proofs.lemmas.Str.{IsUtf8-string_bytes, scalars-chars}
-use lib.Pointwise.{bytes_decides}
+use Rattle.std.proofs.lemmas.Bool.{and_parts, eqb-true, cases_Bool, or_cases, false≢true, and_right, cond-false, cond-true, or_right, and_from, eq-eqb, agree_below_at}
 use Rattle.std.proofs.lemmas.Bool.Decides.{nat_tests}
 use Rattle.std.proofs.lemmas.List.{take_more, map-append, get_or-map, length-map}
 use Rattle.std.proofs.lemmas.List.Elements.{filter-append, All-get_or, All-head, All-tail}
@@ -14,7 +10,6 @@ use Rattle.std.proofs.lemmas.List.Folds.{list_any-append}
 use Rattle.regress_meaning.specs.Text.{between, same_text}
 use Rattle.regress_meaning.specs.Table.{closure}
 use Rattle.regress_meaning.specs.TableParts.{in_intervals, is_code_point, entry, ascii_lower}
-use Rattle.regress_front_tables.specs.Entries.{entry_of}
 use Rattle.regress_meaning.specs.Class.{Strings, among, of_list, only, is_ascii_word, is_word}
 use Rattle.regress_front_tables.specs.declared.tables.Tables.{Tables}
 use Rattle.regress_front_tables.specs.TableViews.{table}

@@ -1,5 +1,5 @@
 -- Which groups and names a tree has, and how many loops: of parts side by side, and of what has no groups.
-use Rattle.std.specs.Prelude.{if◌then◌else◌, count_by, cond, IfSome, ◌≢◌}
+use Rattle.std.specs.Prelude.{if◌then◌else◌, cond, IfSome, ◌≢◌}
 use Rattle.std.proofs.Common.{◌≡◌, ℕ, zero, suc, ◌+◌, ◌-◌, ◌<◌, ◌≤◌, Bool, true, false, ◌==◌, List, [], ◌∷◌, ◌++◌, length, Option, None, unwrap_or, map, reverse, slice_get, All, refl, sym, ap, ap₂, ◌∙◌, ◌⊎◌, inl, inr, arith}
 use Rattle.std.specs.Option.{option_or}
 use Rattle.std.proofs.lemmas.Bool.{cases_lt}

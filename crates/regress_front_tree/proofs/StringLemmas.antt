@@ -1,5 +1,5 @@
 -- The strings of a class, the longer first, are alike one outcome for each length, falling.
-use Rattle.std.proofs.Common.{◌≡◌, ℕ, zero, suc, ◌+◌, ◌-◌, ◌<◌, ◌≤◌, Bool, true, false, ◌&&◌, ◌||◌, ◌==◌, not, List, [], ◌∷◌, ◌++◌, length, Option, Some, None, if◌then◌else◌, max, nat_eq, All, refl, sym, ap, subst, ◌∙◌, arith, eqb-true, suc-ne-zero}
+use Rattle.std.proofs.Common.{◌≡◌, ℕ, zero, suc, ◌-◌, ◌<◌, ◌≤◌, Bool, true, false, ◌&&◌, ◌||◌, ◌==◌, not, List, [], ◌∷◌, ◌++◌, length, Option, Some, None, if◌then◌else◌, max, nat_eq, All, refl, sym, ap, subst, ◌∙◌, arith, eqb-true, suc-ne-zero}
 use Rattle.std.specs.List.{flat_map, list_any, list_all}
 use lib.Pointwise.{pointwise}
 use Rattle.std.proofs.lemmas.Bool.Decides.{nat_tests}

@@ -1,5 +1,5 @@
 //! Nodes of characters and classes: what matches is closed where case is ignored.
-ghost use Rattle.std.specs.Prelude.{◌≡◌, ℕ, Bool, ◌==◌, not, [], All, map, IfOk, IfErr};
+ghost use Rattle.std.specs.Prelude.{◌≡◌, ℕ, Bool, ◌==◌, not, [], All, map, IfOk};
 ghost use Rattle.std.specs.Box.{boxed_slice_items};
 ghost use Rattle.regress_meaning.specs.Table.{Table};
 ghost use Rattle.regress_meaning.specs.TableParts.{is_code_point};
@@ -19,24 +19,22 @@ use crate::arms::alternatives;
 use crate::class_value::class_value;
 use regress_front_nodes::{BracketContents, Node, NodeList};
 use regress_front_syntax::Class;
-use regress_front_tables::{CodePoint, CodePointSet, Error, Tables, closure, expand_code_point};
+use regress_front_tables::{CodePoint, CodePointSet, Tables, closure, expand_code_point};
 use std::alloc::{AllocError, Global};
 use std::boxed::BoxedSlice;
 
 /// What a character matches: itself, and where case is ignored all that are equal to it ("CharacterSetMatcher").
-/// `OutOfMemory` is the only error.
 pub(crate) fn character_node(
     alloc: Global,
     tables: &Tables,
     unicode: bool,
     icase: bool,
     c: CodePoint,
-) -> Result<Node, Error>
+) -> Result<Node, AllocError>
     requires { is_code_point c }
-    ensures ok { (e : Settings) → e.icase ≡ icase → IfOk result (λ node. Takes (tree node) (same (table tables.now) unicode e.icase c)) }
-    ensures err { IfErr result (λ e. e ≡ Error.OutOfMemory) }
+    ensures { (e : Settings) → e.icase ≡ icase → IfOk result (λ node. Takes (tree node) (same (table tables.now) unicode e.icase c)) }
 {
-    let points = expand_code_point(alloc, c, icase, unicode, tables)?;
+    let points = expand_code_point(alloc, c, icase, unicode, tables).map_err(|_| AllocError)?;
     if points.len() == 1 {
         Ok(Node::Char { c })
     } else {
@@ -44,36 +42,33 @@ pub(crate) fn character_node(
     }
 }
 
-/// A set, and where case is ignored all that a member is equal to ("CharacterSetMatcher"). `OutOfMemory` is the only error.
+/// A set, and where case is ignored all that a member is equal to ("CharacterSetMatcher").
 fn closed(
     tables: &Tables,
     unicode: bool,
     icase: bool,
     set: CodePointSet,
-) -> Result<CodePointSet, Error>
-    ensures ok { (e : Settings) → e.icase ≡ icase → IfOk result (λ s. in_set s ≡ closed (table tables.now) unicode e.icase (in_set set)) }
-    ensures err { IfErr result (λ e. e ≡ Error.OutOfMemory) }
+) -> Result<CodePointSet, AllocError>
+    ensures { (e : Settings) → e.icase ≡ icase → IfOk result (λ s. in_set s ≡ closed (table tables.now) unicode e.icase (in_set set)) }
 {
     if icase {
-        closure(set, unicode, tables)
+        closure(set, unicode, tables).map_err(|_| AllocError)
     } else {
         Ok(set)
     }
 }
 
 /// What a class matches that begins with `^`: one character that is equal to no member ("CharacterClass").
-/// `OutOfMemory` is the only error.
 pub(crate) fn negated_class_node(
     alloc: Global,
     tables: &Tables,
     unicode: bool,
     icase: bool,
     class: &Class,
-) -> Result<Node, Error>
+) -> Result<Node, AllocError>
     requires { ClassIsOfPoints (class_view class.now) }
-    ensures ok { (e : Settings) → e.icase ≡ icase → IfOk result (λ node.
+    ensures { (e : Settings) → e.icase ≡ icase → IfOk result (λ node.
         Takes (tree node) (λ d. not (closed (table tables.now) unicode e.icase (class_value (table tables.now) unicode e (class_view class.now)).singles d))) }
-    ensures err { IfErr result (λ e. e ≡ Error.OutOfMemory) }
 {
     let value = class_value(alloc, tables, unicode && icase, class)?;
     let members = closed(tables, unicode, icase, value.singles)?;
@@ -84,17 +79,16 @@ pub(crate) fn negated_class_node(
 }
 
 /// What a class matches that does not begin with `^`: one of its strings, the longest first ("CharacterClass",
-/// "CompileAtom"). `OutOfMemory` is the only error.
+/// "CompileAtom").
 pub(crate) fn class_node(
     alloc: Global,
     tables: &Tables,
     unicode: bool,
     icase: bool,
     class: &Class,
-) -> Result<Node, Error>
+) -> Result<Node, AllocError>
     requires { ClassIsOfPoints (class_view class.now) }
-    ensures ok { (e : Settings) → e.icase ≡ icase → IfOk result (λ node. LowersClass (table tables.now) unicode e (class_view class.now) (tree node)) }
-    ensures err { IfErr result (λ e. e ≡ Error.OutOfMemory) }
+    ensures { (e : Settings) → e.icase ≡ icase → IfOk result (λ node. LowersClass (table tables.now) unicode e (class_view class.now) (tree node)) }
 {
     let value = class_value(alloc, tables, unicode && icase, class)?;
     let cps = closed(tables, unicode, icase, value.singles)?;
@@ -102,7 +96,7 @@ pub(crate) fn class_node(
     let has_empty = has_empty(&value.strings);
     let strings = by_length(alloc, value.strings)?;
     let arms = class_arms(alloc, icase, strings, characters, has_empty)?;
-    Ok(alternatives(alloc, arms)?)
+    alternatives(alloc, arms)
 }
 
 /// Whether the empty string is one of these.

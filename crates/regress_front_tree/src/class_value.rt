@@ -1,5 +1,5 @@
 //! What a class stands for: a set of code points, and strings of other lengths.
-ghost use Rattle.std.specs.Prelude.{◌≡◌, ◌≤◌, ℕ, false, [], ◌==◌, ◌&&◌, ◌||◌, not, length, map, fold, chars, All, unwrap_or, IfOk, IfErr, OnOk};
+ghost use Rattle.std.specs.Prelude.{◌≡◌, ◌≤◌, ℕ, false, [], ◌==◌, ◌&&◌, ◌||◌, not, nat_le, length, map, fold, chars, All, unwrap_or, IfOk, OnOk};
 ghost use Rattle.regress_meaning.specs.TableParts.{is_code_point, in_intervals, IntervalsRise};
 ghost use Rattle.regress_meaning.specs.Class as meaning;
 ghost use Rattle.regress_meaning.specs.Class.{Strings, intersection, difference, only, of_list, among, complement_of, is_word, value_of};
@@ -11,8 +11,8 @@ ghost use Rattle.regress_front_tokens.specs.Trees.{class_view, union_of};
 
 use regress_front_syntax::Class;
 use regress_front_tables::{
-    CodePoint, CodePointSet, Error, Interval, Tables, add_icase_code_points, digits, whitespace,
-    word_chars,
+    CODE_POINT_MAX, CodePoint, CodePointSet, Interval, Tables, add_icase_code_points, digits,
+    whitespace, word_chars,
 };
 use std::alloc::{AllocError, Global};
 
@@ -38,16 +38,15 @@ impl ClassValue {
         }
     }
 
-    /// The strings of a list. `OutOfMemory` is the only error.
-    fn of_strings(alloc: Global, strings: &[Vec<CodePoint>]) -> Result<ClassValue, Error>
+    /// The strings of a list.
+    fn of_strings(alloc: Global, strings: &[Vec<CodePoint>]) -> Result<ClassValue, AllocError>
         requires { All (All is_code_point) (lists strings.now) }
-        ensures ok { IfOk result (λ value. strings_of value ≡ of_list (lists strings.now)) }
-        ensures err { IfErr result (λ e. e ≡ Error.OutOfMemory) }
+        ensures { IfOk result (λ value. strings_of value ≡ of_list (lists strings.now)) }
     {
         let mut value = ClassValue::of_points(alloc, CodePointSet::new(alloc));
         for string in strings {
             if string.len() == 1 {
-                value.singles.add_one(string[0])?;
+                value.singles.add_one(string[0]).map_err(|_| AllocError)?;
             } else {
                 value.strings.push(Vec::from_slice(alloc, string)?)?;
             }
@@ -62,31 +61,28 @@ impl ClassValue {
         self.singles.intervals().len()
     }
 
-    /// Adds the members of another value. `OutOfMemory` is the only error.
-    fn add(&mut self, other: ClassValue) -> Result<(), Error>
-        ensures ok { OnOk result (strings_of self.new ≡ united (strings_of self.old) (strings_of other)) }
-        ensures err { IfErr result (λ e. e ≡ Error.OutOfMemory) }
+    /// Adds the members of another value.
+    fn add(&mut self, other: ClassValue) -> Result<(), AllocError>
+        ensures { OnOk result (strings_of self.new ≡ united (strings_of self.old) (strings_of other)) }
     {
         let mut other = other;
         self.strings.append(&mut other.strings)?;
-        self.singles.add_set(other.singles)
+        self.singles.add_set(other.singles).map_err(|_| AllocError)
     }
 
-    /// The members that are also members of another value ("ClassIntersection"). `OutOfMemory` is the only error.
-    fn intersection(self, other: &ClassValue) -> Result<ClassValue, Error>
-        ensures ok { IfOk result (λ value. strings_of value ≡ intersected (strings_of self) (strings_of other.now)) }
-        ensures err { IfErr result (λ e. e ≡ Error.OutOfMemory) }
+    /// The members that are also members of another value ("ClassIntersection").
+    fn intersection(self, other: &ClassValue) -> Result<ClassValue, AllocError>
+        ensures { IfOk result (λ value. strings_of value ≡ intersected (strings_of self) (strings_of other.now)) }
     {
-        let singles = without(&self.singles, other.singles.inverted()?)?;
+        let singles = without(&self.singles, inverted(&other.singles)?)?;
         let mut strings = self.strings;
         strings.retain(|string| is_among(&other.strings, string));
         Ok(ClassValue { singles, strings })
     }
 
-    /// The members that are no members of another value ("ClassSubtraction"). `OutOfMemory` is the only error.
-    fn difference(self, other: ClassValue) -> Result<ClassValue, Error>
-        ensures ok { IfOk result (λ value. strings_of value ≡ subtracted (strings_of self) (strings_of other)) }
-        ensures err { IfErr result (λ e. e ≡ Error.OutOfMemory) }
+    /// The members that are no members of another value ("ClassSubtraction").
+    fn difference(self, other: ClassValue) -> Result<ClassValue, AllocError>
+        ensures { IfOk result (λ value. strings_of value ≡ subtracted (strings_of self) (strings_of other)) }
     {
         let mut strings = self.strings;
         strings.retain(|string| !is_among(&other.strings, string));
@@ -94,12 +90,11 @@ impl ClassValue {
         Ok(ClassValue { singles, strings })
     }
 
-    /// The code points that are no members ("CharacterComplement"). `OutOfMemory` is the only error.
-    fn complement(&self, alloc: Global) -> Result<ClassValue, Error>
-        ensures ok { IfOk result (λ value. strings_of value ≡ complement_of (strings_of self.now)) }
-        ensures err { IfErr result (λ e. e ≡ Error.OutOfMemory) }
+    /// The code points that are no members ("CharacterComplement").
+    fn complement(&self, alloc: Global) -> Result<ClassValue, AllocError>
+        ensures { IfOk result (λ value. strings_of value ≡ complement_of (strings_of self.now)) }
     {
-        Ok(ClassValue::of_points(alloc, self.singles.inverted()?))
+        Ok(ClassValue::of_points(alloc, inverted(&self.singles)?))
     }
 }
 
@@ -112,14 +107,20 @@ fn is_among(strings: &[Vec<CodePoint>], string: &[CodePoint]) -> bool
     strings.iter().any(|other| string == other.as_slice())
 }
 
-/// The members of a set that are no members of another. `OutOfMemory` is the only error.
-fn without(set: &CodePointSet, other: CodePointSet) -> Result<CodePointSet, Error>
-    ensures ok { IfOk result (λ s. (c : ℕ) → in_set s c ≡ (in_set set.now c && not (in_set other c))) }
-    ensures err { IfErr result (λ e. e ≡ Error.OutOfMemory) }
+/// The code points that are no members of a set.
+fn inverted(set: &CodePointSet) -> Result<CodePointSet, AllocError>
+    ensures { IfOk result (λ s. (c : ℕ) → in_set s c ≡ (nat_le c CODE_POINT_MAX && not (in_set set.now c))) }
 {
-    let mut outside = set.inverted()?;
-    outside.add_set(other)?;
-    outside.inverted()
+    set.inverted().map_err(|_| AllocError)
+}
+
+/// The members of a set that are no members of another.
+fn without(set: &CodePointSet, other: CodePointSet) -> Result<CodePointSet, AllocError>
+    ensures { IfOk result (λ s. (c : ℕ) → in_set s c ≡ (in_set set.now c && not (in_set other c))) }
+{
+    let mut outside = inverted(set)?;
+    outside.add_set(other).map_err(|_| AllocError)?;
+    inverted(&outside)
 }
 
 /// The set of the code points of intervals.
@@ -132,35 +133,32 @@ fn set_of(alloc: Global, intervals: &[Interval]) -> Result<CodePointSet, AllocEr
 }
 
 /// What `\w` holds; folded, in Unicode mode with case ignored, also what folds to such a character ("WordCharacters").
-/// `OutOfMemory` is the only error.
-fn word_set(alloc: Global, tables: &Tables, folded: bool) -> Result<CodePointSet, Error>
-    ensures ok { IfOk result (λ s. in_set s ≡ is_word (table tables.now) folded) }
-    ensures err { IfErr result (λ e. e ≡ Error.OutOfMemory) }
+///
+fn word_set(alloc: Global, tables: &Tables, folded: bool) -> Result<CodePointSet, AllocError>
+    ensures { IfOk result (λ s. in_set s ≡ is_word (table tables.now) folded) }
 {
     regress_front_tables::fold_is_idempotent();
     let words = set_of(alloc, &word_chars())?;
     if folded {
-        add_icase_code_points(words, tables)
+        add_icase_code_points(words, tables).map_err(|_| AllocError)
     } else {
         Ok(words)
     }
 }
 
-/// The code points with a property; none where no property has that key. `OutOfMemory` is the only error.
-fn property_set(alloc: Global, tables: &Tables, key: &str) -> Result<CodePointSet, Error>
-    ensures ok { IfOk result (λ s. in_set s ≡ unwrap_or ((table tables.now).property (chars key.now)) (λ c. false)) }
-    ensures err { IfErr result (λ e. e ≡ Error.OutOfMemory) }
+/// The code points with a property; none where no property has that key.
+fn property_set(alloc: Global, tables: &Tables, key: &str) -> Result<CodePointSet, AllocError>
+    ensures { IfOk result (λ s. in_set s ≡ unwrap_or ((table tables.now).property (chars key.now)) (λ c. false)) }
 {
     match tables.property(key) {
-        Some(set) => Ok(set_of(alloc, set.intervals())?),
+        Some(set) => set_of(alloc, set.intervals()),
         None => Ok(CodePointSet::new(alloc)),
     }
 }
 
-/// The strings with a property; none where no property has that key. `OutOfMemory` is the only error.
-fn sequence_value(alloc: Global, tables: &Tables, key: &str) -> Result<ClassValue, Error>
-    ensures ok { IfOk result (λ value. strings_of value ≡ of_list (unwrap_or ((table tables.now).sequences (chars key.now)) [])) }
-    ensures err { IfErr result (λ e. e ≡ Error.OutOfMemory) }
+/// The strings with a property; none where no property has that key.
+fn sequence_value(alloc: Global, tables: &Tables, key: &str) -> Result<ClassValue, AllocError>
+    ensures { IfOk result (λ value. strings_of value ≡ of_list (unwrap_or ((table tables.now).sequences (chars key.now)) [])) }
 {
     match tables.sequences(key) {
         Some(strings) => ClassValue::of_strings(alloc, strings),
@@ -169,17 +167,16 @@ fn sequence_value(alloc: Global, tables: &Tables, key: &str) -> Result<ClassValu
 }
 
 /// The strings that a class stands for, before case is ignored ("CompileToCharSet"). Folded: in Unicode mode, with case
-/// ignored, where `\w` also holds what folds to a word character. `OutOfMemory` is the only error.
+/// ignored, where `\w` also holds what folds to a word character.
 #[cycle(class_value)]
 pub(crate) fn class_value(
     alloc: Global,
     tables: &Tables,
     folded: bool,
     class: &Class,
-) -> Result<ClassValue, Error>
+) -> Result<ClassValue, AllocError>
     requires { ClassIsOfPoints (class_view class.now) }
-    ensures ok { IfOk result (λ value. strings_of value ≡ value_of (table tables.now) folded (class_view class.now)) }
-    ensures err { IfErr result (λ e. e ≡ Error.OutOfMemory) }
+    ensures { IfOk result (λ value. strings_of value ≡ value_of (table tables.now) folded (class_view class.now)) }
 {
     let singles = match class {
         Class::Range { first, last } => set_of(
@@ -219,7 +216,7 @@ pub(crate) fn class_value(
     Ok(ClassValue::of_points(alloc, singles))
 }
 
-/// The strings that stand in the first set and in each of these classes ("CompileToCharSet"). `OutOfMemory` is the only error.
+/// The strings that stand in the first set and in each of these classes ("CompileToCharSet").
 #[cycle(class_value)]
 fn intersected_value(
     alloc: Global,
@@ -227,11 +224,10 @@ fn intersected_value(
     folded: bool,
     first: ClassValue,
     others: &[Class],
-) -> Result<ClassValue, Error>
+) -> Result<ClassValue, AllocError>
     requires { All ClassIsOfPoints (map class_view others.now) }
-    ensures ok { (c : meaning.Class) → strings_of first ≡ value_of (table tables.now) folded c → IfOk result (λ value.
+    ensures { (c : meaning.Class) → strings_of first ≡ value_of (table tables.now) folded c → IfOk result (λ value.
         strings_of value ≡ value_of (table tables.now) folded (fold intersection c (map class_view others.now))) }
-    ensures err { IfErr result (λ e. e ≡ Error.OutOfMemory) }
 {
     let mut value = first;
     for other in others {
@@ -241,7 +237,7 @@ fn intersected_value(
     Ok(value)
 }
 
-/// The strings that stand in the first set and in none of these classes ("CompileToCharSet"). `OutOfMemory` is the only error.
+/// The strings that stand in the first set and in none of these classes ("CompileToCharSet").
 #[cycle(class_value)]
 fn subtracted_value(
     alloc: Global,
@@ -249,11 +245,10 @@ fn subtracted_value(
     folded: bool,
     first: ClassValue,
     others: &[Class],
-) -> Result<ClassValue, Error>
+) -> Result<ClassValue, AllocError>
     requires { All ClassIsOfPoints (map class_view others.now) }
-    ensures ok { (c : meaning.Class) → strings_of first ≡ value_of (table tables.now) folded c → IfOk result (λ value.
+    ensures { (c : meaning.Class) → strings_of first ≡ value_of (table tables.now) folded c → IfOk result (λ value.
         strings_of value ≡ value_of (table tables.now) folded (fold difference c (map class_view others.now))) }
-    ensures err { IfErr result (λ e. e ≡ Error.OutOfMemory) }
 {
     let mut value = first;
     for other in others {
@@ -263,17 +258,16 @@ fn subtracted_value(
     Ok(value)
 }
 
-/// The strings of classes side by side ("CompileToCharSet"). `OutOfMemory` is the only error.
+/// The strings of classes side by side ("CompileToCharSet").
 #[cycle(class_value)]
 fn union_value(
     alloc: Global,
     tables: &Tables,
     folded: bool,
     members: &[Class],
-) -> Result<ClassValue, Error>
+) -> Result<ClassValue, AllocError>
     requires { ClassIsOfPoints (union_of (map class_view members.now)) }
-    ensures ok { IfOk result (λ value. strings_of value ≡ value_of (table tables.now) folded (union_of (map class_view members.now))) }
-    ensures err { IfErr result (λ e. e ≡ Error.OutOfMemory) }
+    ensures { IfOk result (λ value. strings_of value ≡ value_of (table tables.now) folded (union_of (map class_view members.now))) }
 {
     let mut values = Vec::new(alloc);
     for member in members {
@@ -284,10 +278,9 @@ fn union_value(
 }
 
 /// Adds a value behind others, joined with those before it that are not much larger: each has then more than twice as many
-/// intervals as the next. So a class of many members does not copy its whole union for each. `OutOfMemory` is the only error.
-fn push_joined(values: &mut Vec<ClassValue>, value: ClassValue) -> Result<(), Error>
-    ensures ok { OnOk result (all_united values.new.items ≡ united (all_united values.old.items) (strings_of value)) }
-    ensures err { IfErr result (λ e. e ≡ Error.OutOfMemory) }
+/// intervals as the next. So a class of many members does not copy its whole union for each.
+fn push_joined(values: &mut Vec<ClassValue>, value: ClassValue) -> Result<(), AllocError>
+    ensures { OnOk result (all_united values.new.items ≡ united (all_united values.old.items) (strings_of value)) }
 {
     let mut value = value;
     while let Some(mut last) = values.pop() {
@@ -302,10 +295,9 @@ fn push_joined(values: &mut Vec<ClassValue>, value: ClassValue) -> Result<(), Er
     Ok(())
 }
 
-/// The members of all values. `OutOfMemory` is the only error.
-fn joined(alloc: Global, values: Vec<ClassValue>) -> Result<ClassValue, Error>
-    ensures ok { IfOk result (λ value. strings_of value ≡ all_united values.items) }
-    ensures err { IfErr result (λ e. e ≡ Error.OutOfMemory) }
+/// The members of all values.
+fn joined(alloc: Global, values: Vec<ClassValue>) -> Result<ClassValue, AllocError>
+    ensures { IfOk result (λ value. strings_of value ≡ all_united values.items) }
 {
     let mut values = values;
     let mut value = ClassValue::of_points(alloc, CodePointSet::new(alloc));

@@ -1,5 +1,5 @@
 //! The second pass: from the syntax tree of a pattern to nodes.
-ghost use Rattle.std.specs.Prelude.{◌≡◌, Bool, map, option_map, All, IfOk, IfErr};
+ghost use Rattle.std.specs.Prelude.{◌≡◌, Bool, map, option_map, All, IfOk};
 ghost use Rattle.regress_meaning.specs.Pattern as meaning;
 ghost use Rattle.regress_meaning.specs.Meaning.{with};
 ghost use Rattle.regress_meaning.specs.Points.{ClassIsOfPoints};
@@ -15,7 +15,7 @@ use crate::arms::alternatives;
 use crate::brackets::{character_node, class_node, negated_class_node};
 use regress_front_nodes::{AnchorType, Node, NodeList};
 use regress_front_syntax::{Class, Modifiers, Quantifier, Syntax};
-use regress_front_tables::{CaptureGroupID, CaptureGroupName, Error, Tables};
+use regress_front_tables::{CaptureGroupID, CaptureGroupName, Tables};
 use std::alloc::{AllocError, Global};
 use std::ops::Range;
 
@@ -107,13 +107,12 @@ impl<'t> Lowering<'t> {
         }
     }
 
-    /// The node of a part of the pattern ("CompileSubpattern", "CompileAtom"). `OutOfMemory` is the only error.
+    /// The node of a part of the pattern ("CompileSubpattern", "CompileAtom").
     #[cycle(lowering)]
-    pub(crate) fn lower(&mut self, syntax: &Syntax, scope: Scope) -> Result<Node, Error>
+    pub(crate) fn lower(&mut self, syntax: &Syntax, scope: Scope) -> Result<Node, AllocError>
         requires { IsLowerable (parsed.tree syntax.now) }
         ensures ok { IfOk result (λ node. LowersInScope self.old scope (parsed.tree syntax.now) (tree node) self.new) }
         ensures kept { IsSamePattern self.old self.new }
-        ensures err { IfErr result (λ e. e ≡ Error.OutOfMemory) }
     {
         match syntax {
             Syntax::Character(point) => {
@@ -152,13 +151,12 @@ impl<'t> Lowering<'t> {
         }
     }
 
-    /// The nodes of parts, one by one in their order. `OutOfMemory` is the only error.
+    /// The nodes of parts, one by one in their order.
     #[cycle(lowering)]
-    fn each(&mut self, parts: &[Syntax], scope: Scope) -> Result<NodeList, Error>
+    fn each(&mut self, parts: &[Syntax], scope: Scope) -> Result<NodeList, AllocError>
         requires { All IsLowerable (map parsed.tree parts.now) }
         ensures ok { IfOk result (λ nodes. LowersAllInScope self.old scope (map parsed.tree parts.now) (map tree nodes.items) self.new) }
         ensures kept { IsSamePattern self.old self.new }
-        ensures err { IfErr result (λ e. e ≡ Error.OutOfMemory) }
     {
         let mut nodes = Vec::new(self.alloc);
         for part in parts {
@@ -167,21 +165,20 @@ impl<'t> Lowering<'t> {
         Ok(nodes)
     }
 
-    /// The node of alternatives ("Disjunction"); of none it is the empty text. `OutOfMemory` is the only error.
+    /// The node of alternatives ("Disjunction"); of none it is the empty text.
     #[cycle(lowering)]
-    fn disjunction(&mut self, arms: &[Syntax], scope: Scope) -> Result<Node, Error>
+    fn disjunction(&mut self, arms: &[Syntax], scope: Scope) -> Result<Node, AllocError>
         requires { All IsLowerable (map parsed.tree arms.now) }
         ensures ok { IfOk result (λ node. LowersInScope self.old scope (choice_of (map parsed.tree arms.now)) (tree node) self.new) }
         ensures kept { IsSamePattern self.old self.new }
-        ensures err { IfErr result (λ e. e ≡ Error.OutOfMemory) }
     {
         if arms.is_empty() {
             return Ok(Node::Empty);
         }
-        Ok(alternatives(self.alloc, self.each(arms, scope)?)?)
+        alternatives(self.alloc, self.each(arms, scope)?)
     }
 
-    /// The node of a capturing group, which counts as opened before its contents. `OutOfMemory` is the only error.
+    /// The node of a capturing group, which counts as opened before its contents.
     #[cycle(lowering)]
     fn capture(
         &mut self,
@@ -189,11 +186,10 @@ impl<'t> Lowering<'t> {
         name: &Option<CaptureGroupName>,
         contents: &Syntax,
         scope: Scope,
-    ) -> Result<Node, Error>
+    ) -> Result<Node, AllocError>
         requires { IsLowerable (meaning.capture id (option_map code_points_of name.now) (parsed.tree contents.now)) }
         ensures ok { IfOk result (λ node. LowersInScope self.old scope (meaning.capture id (option_map code_points_of name.now) (parsed.tree contents.now)) (tree node) self.new) }
         ensures kept { IsSamePattern self.old self.new }
-        ensures err { IfErr result (λ e. e ≡ Error.OutOfMemory) }
     {
         let name = name_copy(self.alloc, name)?;
         self.groups = self.groups.saturating_add(1);
@@ -201,7 +197,7 @@ impl<'t> Lowering<'t> {
         Ok(Node::CaptureGroup { id, contents, name })
     }
 
-    /// The node of a repetition. `OutOfMemory` is the only error.
+    /// The node of a repetition.
     #[cycle(lowering)]
     fn repetition(
         &mut self,
@@ -209,13 +205,12 @@ impl<'t> Lowering<'t> {
         quant: Quantifier,
         groups: &Range<CaptureGroupID>,
         scope: Scope,
-    ) -> Result<Node, Error>
+    ) -> Result<Node, AllocError>
         requires { IsLowerable (parsed.tree loopee.now) }
         ensures ok { IfOk result (λ node. LowersInScope self.old scope
             (meaning.repeated (parsed.tree loopee.now) groups.now.start groups.now.end quant.min (most quant) quant.greedy)
             (tree node) self.new) }
         ensures kept { IsSamePattern self.old self.new }
-        ensures err { IfErr result (λ e. e ≡ Error.OutOfMemory) }
     {
         let loopee = Box::new(self.alloc, self.lower(loopee, scope)?)?;
         Ok(Node::Loop {
@@ -225,7 +220,7 @@ impl<'t> Lowering<'t> {
         })
     }
 
-    /// The node of a lookaround. The groups inside are those that its contents open. `OutOfMemory` is the only error.
+    /// The node of a lookaround. The groups inside are those that its contents open.
     #[cycle(lowering)]
     fn lookaround(
         &mut self,
@@ -233,12 +228,11 @@ impl<'t> Lowering<'t> {
         backwards: bool,
         contents: &Syntax,
         scope: Scope,
-    ) -> Result<Node, Error>
+    ) -> Result<Node, AllocError>
         requires { IsLowerable (parsed.tree contents.now) }
         ensures ok { IfOk result (λ node. LowersInScope self.old scope
             (meaning.look negate backwards (parsed.tree contents.now)) (tree node) self.new) }
         ensures kept { IsSamePattern self.old self.new }
-        ensures err { IfErr result (λ e. e ≡ Error.OutOfMemory) }
     {
         let start_group = self.groups;
         let inside = Scope {
@@ -255,11 +249,10 @@ impl<'t> Lowering<'t> {
         })
     }
 
-    /// The node of a class in brackets. `OutOfMemory` is the only error.
-    fn class(&self, negated: bool, class: &Class, scope: Scope) -> Result<Node, Error>
+    /// The node of a class in brackets.
+    fn class(&self, negated: bool, class: &Class, scope: Scope) -> Result<Node, AllocError>
         requires { ClassIsOfPoints (class_view class.now) }
-        ensures ok { IfOk result (λ node. LowersInScope self.now scope (meaning.class negated (class_view class.now)) (tree node) self.now) }
-        ensures err { IfErr result (λ e. e ≡ Error.OutOfMemory) }
+        ensures { IfOk result (λ node. LowersInScope self.now scope (meaning.class negated (class_view class.now)) (tree node) self.now) }
     {
         if negated {
             negated_class_node(self.alloc, self.tables, self.unicode, scope.icase, class)
@@ -268,10 +261,9 @@ impl<'t> Lowering<'t> {
         }
     }
 
-    /// The node of a reference: of each group one, the numbers of the nodes from 1. `OutOfMemory` is the only error.
-    fn reference(&self, groups: &[u16], scope: Scope) -> Result<Node, Error>
-        ensures ok { IfOk result (λ node. LowersInScope self.now scope (meaning.reference groups.now) (tree node) self.now) }
-        ensures err { IfErr result (λ e. e ≡ Error.OutOfMemory) }
+    /// The node of a reference: of each group one, the numbers of the nodes from 1.
+    fn reference(&self, groups: &[u16], scope: Scope) -> Result<Node, AllocError>
+        ensures { IfOk result (λ node. LowersInScope self.now scope (meaning.reference groups.now) (tree node) self.now) }
     {
         let mut nodes = Vec::new(self.alloc);
         for group in groups {

@@ -1,3 +1,4 @@
 pub mod GroupLemmas
 pub mod NameLemmas
 pub mod TextLemmas
+pub mod RangeLemmas

@@ -3,3 +3,4 @@ pub mod GroupNames
 pub mod GroupViews
 pub mod TextRanges
 pub mod Iterating
+pub mod GroupRanges

@@ -1,10 +1,10 @@
 //! A match, and what is read from it.
-ghost use Rattle.std.specs.Prelude.{◌≡◌, ◌≢◌, ◌<◌, ◌≤◌, ◌-◌, ℕ, List, [], Some, None, IfSome, IfNone, length, map, unwrap_or, vec_len, slice_get, slice_range};
+ghost use Rattle.std.specs.Prelude.{◌≡◌, ◌≢◌, ◌<◌, ◌≤◌, ◌-◌, ℕ, List, [], Some, None, IfSome, IfNone, length, map, unwrap_or, vec_len, slice_get, slice_range, option_map, option_copied, IfOk, IsOkUnless};
 ghost use Rattle.std.specs.Str.{IsCharBoundary};
 ghost use Rattle.std.specs.String.{string_bytes};
 
 use crate::groups::Groups;
-use regress_front_core::CaptureGroupName;
+use regress_front_core::{CaptureGroupName, Error};
 use std::sync::ArcSlice;
 
 /// A range of offsets.
@@ -29,9 +29,20 @@ fn first_named(names: &[CaptureGroupName], wanted: &str) -> Option<usize>
     names.iter().position(|name| name.as_str() == wanted)
 }
 
+/// The same range, if there is one.
+fn copied(range: &Option<Range>) -> Option<Range>
+    ensures { result ≡ range.now }
+{
+    match range {
+        Some(range) => Some(range.start..range.end),
+        None => None,
+    }
+}
+
 impl Match {
     ghost use Rattle.regress_match.specs.GroupViews.{groups_of, groups_left, names_of_match};
     ghost use Rattle.regress_match.specs.GroupNames.{IsFirstNamed, shared_names};
+    ghost use Rattle.regress_match.specs.GroupRanges.{range_numbered, range_named, part_of};
     ghost use Rattle.regress_match.specs.TextRanges.{LiesBetween, LiesInText};
 
     /// A match at a range, with the range of each capturing group in order of its number, and the names of these groups, the
@@ -67,14 +78,15 @@ impl Match {
         ensures capture { 0 < index → index ≤ vec_len self.now.captures
             → slice_get self.now.captures.items (index - 1) ≡ Some result }
         ensures past { vec_len self.now.captures < index → result ≡ None }
+        ensures value { result ≡ range_numbered self.now index }
         ensures inside { (bytes : List ℕ) → LiesInText bytes self.now → IfSome result (LiesBetween bytes) }
     {
         if index == 0 {
             return Some(self.range());
         }
         match self.captures.get(index - 1) {
-            Some(Some(range)) => Some(range.start..range.end),
-            _ => None,
+            Some(range) => copied(range),
+            None => None,
         }
     }
 
@@ -89,6 +101,7 @@ impl Match {
             → result ≡ unwrap_or (slice_get self.now.captures.items k) None }
         ensures nowhere { ((k : ℕ) → slice_get (names_of_match self.now) k ≢ Some name.now) → result ≡ None }
         ensures empty { name.now ≡ [] → result ≡ None }
+        ensures value { result ≡ range_named self.now name.now }
         ensures inside { (bytes : List ℕ) → LiesInText bytes self.now → IfSome result (LiesBetween bytes) }
     {
         if name.is_empty() {
@@ -156,5 +169,53 @@ impl Match {
         ensures { result.now ≡ slice_range text.now self.now.range.start self.now.range.end }
     {
         &text[self.range()]
+    }
+
+    /// The part of `text` that a group took, by the number of the group as `group` counts, where `text` is the text that was
+    /// searched. `None` where the group took no part, and past the last one.
+    ///
+    /// Asks that the match lies in `text`, as one that was found there does.
+    ///
+    /// ```rust
+    /// let year = found.group_str(text, 1);
+    /// ```
+    pub fn group_str<'t>(&self, text: &'t str, index: usize) -> Option<&'t str>
+        requires { LiesInText text.now self.now }
+        ensures { option_copied result ≡ option_map (part_of text.now) (range_numbered self.now index) }
+    {
+        let range = self.group(index)?;
+        Some(&text[range])
+    }
+
+    /// The part of `text` that the first group with a name took, where `text` is the text that was searched. `None` where that
+    /// group took no part, where no group has the name, and for the empty name.
+    ///
+    /// Asks that the match lies in `text`, as one that was found there does.
+    ///
+    /// ```rust
+    /// let year = found.named_str(text, "year");
+    /// ```
+    pub fn named_str<'t>(&self, text: &'t str, name: &str) -> Option<&'t str>
+        requires { LiesInText text.now self.now }
+        ensures { option_copied result ≡ option_map (part_of text.now) (range_named self.now name.now) }
+    {
+        let range = self.named_group(name)?;
+        Some(&text[range])
+    }
+
+    /// An equal match, which shares the names of its groups with this one. Errs with `OutOfMemory` alone.
+    ///
+    /// ```rust
+    /// let kept = found.try_clone()?;
+    /// ```
+    pub fn try_clone(&self) -> Result<Match, Error>
+        ensures range { IfOk result (λ m. m.range ≡ self.now.range) }
+        ensures captures { IfOk result (λ m. m.captures.items ≡ self.now.captures.items) }
+        ensures named { IfOk result (λ m. names_of_match m ≡ names_of_match self.now) }
+        ensures refused { IsOkUnless result Error.OutOfMemory }
+    {
+        let groups = self.captures.clone()?;
+        let group_names = self.group_names.clone()?;
+        Ok(Match::new(self.range(), groups, group_names))
     }
 }

@@ -1,5 +1,5 @@
 //! One match after another, by whatever finds them.
-ghost use Rattle.std.specs.Prelude.{◌≡◌, ◌<◌, ⊤, ℕ, List, Option, None, IfOk, IfSome, OnErr, IsOkUnless};
+ghost use Rattle.std.specs.Prelude.{◌≡◌, ◌<◌, ℕ, List, Option, None, IfOk, IfSome, OnErr, IsOkUnless};
 ghost use Rattle.std.specs.Iterator.{at_most};
 ghost use Rattle.regress_meaning.specs.Matches.{Item};
 ghost use Rattle.regress_match.specs.declared.found.Match.{Match};
@@ -15,45 +15,51 @@ pub trait MatchProducer: Debug + Drop {
     /// Where in the text a search begins.
     type Position: Copy + Debug;
 
+    // What is sought and in what text: all that no search changes.
+    ghost Sought: { Type 0 };
+
+    ghost sought: { Self → Sought };
+
     // The position is one of the text's, from which matches may be asked for.
-    ghost is_position: { Self → Self.Position → Type 0 } = { λ _ _. ⊤ };
+    ghost is_position: { Sought → Self.Position → Type 0 };
 
     // A search may start at the offset.
-    ghost is_start: { Self → ℕ → Type 0 } = { λ _ _. ⊤ };
+    ghost is_start: { Sought → ℕ → Type 0 };
 
     // The items from a position on, told in offsets.
-    ghost items_from: { Self → Self.Position → List Item };
+    ghost items_from: { Sought → Self.Position → List Item };
 
     // How many positions lie behind one.
-    ghost left_behind: { Self → Self.Position → ℕ };
+    ghost left_behind: { Sought → Self.Position → ℕ };
 
     // A search that starts at an offset begins at a position, if at any.
-    ghost starts_at: { Self → ℕ → Option Self.Position → Type 0 };
+    ghost starts_at: { Sought → ℕ → Option Self.Position → Type 0 };
 
     // A match lies in the text, and its groups are named as in the pattern.
-    ghost is_of_search: { Self → Match → Type 0 };
+    ghost is_of_search: { Sought → Match → Type 0 };
 
     /// The position at an offset; `None` for an offset past the end.
     ///
     /// Asks that a search may start at the offset.
     fn initial_position(&self, offset: usize) -> Option<Self::Position>
-        requires { is_start self.now offset }
-        ensures begins { starts_at self.now offset result }
-        ensures inside { IfSome result (is_position self.now) };
+        requires { is_start (sought self.now) offset }
+        ensures begins { starts_at (sought self.now) offset result }
+        ensures inside { IfSome result (is_position (sought self.now)) };
 
     /// The first match from a position on, and in `next` the position to go on from. Where there is no match, and where
     /// memory is refused, it is the last search.
     ///
     /// Asks that the position is one of the text's, as are those that `initial_position` and `next_match` give.
     fn next_match(
-        &self,
+        &mut self,
         position: Self::Position,
         next: &mut Option<Self::Position>,
     ) -> Result<Option<Match>, Error>
-        requires { is_position self.now position }
-        ensures found { IfOk result (λ found. Finds (items_from self.now) (is_of_search self.now) position found next.new) }
-        ensures inside { IfSome next.new (is_position self.now) }
-        ensures nearer { IfSome next.new (λ p. left_behind self.now p < left_behind self.now position) }
+        requires { is_position (sought self.old) position }
+        ensures kept { sought self.new ≡ sought self.old }
+        ensures found { IfOk result (λ found. Finds (items_from (sought self.old)) (is_of_search (sought self.old)) position found next.new) }
+        ensures inside { IfSome next.new (is_position (sought self.old)) }
+        ensures nearer { IfSome next.new (λ p. left_behind (sought self.old) p < left_behind (sought self.old) position) }
         ensures last { OnErr result (next.new ≡ None) }
         ensures refused { IsOkUnless result Error.OutOfMemory };
 }
@@ -76,10 +82,10 @@ impl<P: MatchProducer> Matches<P> {
     /// let matches = Matches::new(producer, 0);
     /// ```
     pub fn new(producer: P, start: usize) -> Matches<P>
-        requires { P.is_start producer start }
+        requires { P.is_start (P.sought producer) start }
         ensures over { producer_of result ≡ producer }
-        ensures begins { P.starts_at producer start (position_of result) }
-        ensures inside { IfSome (position_of result) (P.is_position producer) }
+        ensures begins { P.starts_at (P.sought producer) start (position_of result) }
+        ensures inside { IfSome (position_of result) (P.is_position (P.sought producer)) }
     {
         let position = producer.initial_position(start);
         Matches { producer, position }
@@ -91,12 +97,12 @@ impl<P: MatchProducer> Iterator for Matches<P> {
 
     type Item = Result<Match, Error>;
 
-    ghost can_next = { λ ms. IfSome (position_of ms) (P.is_position (producer_of ms)) };
+    ghost can_next = { λ ms. IfSome (position_of ms) (P.is_position (P.sought (producer_of ms))) };
 
-    ghost next_gives = { λ old r new. (producer_of new ≡ producer_of old)
-        × GivesMatch (λ ms. coming_on (P.items_from (producer_of ms)) (position_of ms)) HasEnded (P.is_of_search (producer_of old)) old r new };
+    ghost next_gives = { λ old r new. (P.sought (producer_of new) ≡ P.sought (producer_of old))
+        × GivesMatch (λ ms. coming_on (P.items_from (P.sought (producer_of ms))) (position_of ms)) HasEnded (P.is_of_search (P.sought (producer_of old))) old r new };
 
-    ghost remaining = { λ ms. at_most (steps_on (P.left_behind (producer_of ms)) (position_of ms)) };
+    ghost remaining = { λ ms. at_most (steps_on (P.left_behind (P.sought (producer_of ms))) (position_of ms)) };
 
     /// The next match.
     ///

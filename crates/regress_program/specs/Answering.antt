@@ -1,5 +1,5 @@
 -- What the whole program does, from the words of its command line on.
-use Rattle.std.specs.Prelude.{◌≡◌, ◌≢◌, ◌↔◌, ◌⊎◌, ℕ, List, [], Bool, true, Option, Some, Result, Ok, Err, chars, IsUtf8, OnOk, IfSome, IsErrOf, IsOkAnd, string_bytes}
+use Rattle.std.specs.Prelude.{◌≡◌, ◌≢◌, ◌↔◌, ◌⊎◌, ℕ, List, [], Bool, true, Option, Some, Result, Ok, chars, IsUtf8, OnOk, IfSome, IsErrOf, IsOkAnd}
 use Rattle.std.specs.Vec.Iter.{into_iter_items}
 use Rattle.std.specs.Io.KnownBytes.{Appends}
 use Rattle.std.specs.declared.vec.IntoIter.{IntoIter}
@@ -13,7 +13,7 @@ use Rattle.regress_front.specs.Refusals.{MayRefuse}
 use Rattle.regress_program.specs.declared.error.ToolError.{ToolError}
 use Rattle.regress_program.specs.declared.error.ToolError.TheVariants.{Pattern, Read, NotUtf8, Write, OutOfMemory}
 use Rattle.regress_program.specs.declared.words.Request.{Request}
-use Rattle.regress_program.specs.Running.{small, output, AppendsFront, Accepted, Searched}
+use Rattle.regress_program.specs.Running.{small, AppendsFront, Accepted, Searched}
 use Rattle.regress_program.specs.Words.{request_of}
 
 -- the words were read, and ask for this

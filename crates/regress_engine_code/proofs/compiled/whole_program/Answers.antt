@@ -1,32 +1,50 @@
-use Rattle.std.proofs.Common.{◌≡◌, Bool, false, refl, sym, ◌∙◌, subst}
+use Rattle.std.proofs.Common.{◌≡◌, Bool, false, length, map, refl, sym, ap, ◌∙◌, subst, arith}
+use Rattle.std.specs.String.{string_bytes}
+use Rattle.std.specs.Arc.{arc_slice_items}
 use Rattle.std.proofs.lemmas.List.{length-map}
 use Rattle.regress_meaning.specs.Flags.{is_unicode}
 use Rattle.regress_front_core.specs.FlagWords.{options}
 use Rattle.regress_front_tables.specs.TableViews.{table}
 use Rattle.regress_front_nodes.specs.Trees.{tree}
-use Rattle.regress_front_nodes.specs.WellFormed.{group_ids}
+use Rattle.regress_front_nodes.proofs.CopyLemmas.{map-AllZip}
 use Rattle.regress_engine_code.specs.Instructions.{Program}
 use Rattle.regress_engine_code.specs.InsnViews.{instruction}
+use Rattle.regress_engine_code.specs.Layout.{Target}
 use Rattle.regress_engine_code.specs.Written.{written, AddsTree}
-use Rattle.regress_engine_code.proofs.StandingLemmas.{bound-numbered, whole-layout, whole-counted}
+use Rattle.regress_engine_code.proofs.BeginLemmas.{all-begin}
+use Rattle.regress_engine_code.proofs.EmitLemmas.{err-refused}
+use Rattle.regress_engine_code.proofs.StandingLemmas.{groups-few, whole-layout, whole-counted}
 use Rattle.regress_engine_code.proofs.compiled.whole_program.Goals as goal
 
 pub returns-clause-emitted : goal.returns-clause-emitted
-returns-clause-emitted c = λ n well.
+returns-clause-emitted c =
     let regex = c.args.regex.now in
+    let n = length regex.group_names.items in
     let t = tree regex.node in
     let unicode = is_unicode (options regex.flags) in
     let start = written c.new-code.result in
     let w = written c.node.new.code in
     let adds = subst (λ (u : Bool). AddsTree c.args.units (table regex.tables.now) u false t start w) c.is_unicode.ensures c.in_ok-node.ensures.added in
-    let counted = whole-counted c.args.units (table regex.tables.now) unicode n t start w c.new-code.ensures well.lawful adds in
-    let program : Program = record { instructions = w.instructions; brackets = w.brackets; loops = c.from.result; groups = c.group_bound-groups.result; units = c.args.units } in
+    let counted = whole-counted c.args.units (table regex.tables.now) unicode n t start w c.new-code.ensures c.requires.lawful adds in
+    let program : Program = record { instructions = w.instructions; brackets = w.brackets; loops = c.from.result; groups = c.in_ok-groups.groups; units = c.args.units } in
+    let target : Target = record { program = program; table = table regex.tables.now; unicode = unicode } in
     let loops_told : c.from.result ≡ w.loops = c.from.ensures in
+    let layout = whole-layout c.args.units (table regex.tables.now) unicode n t start w program c.new-code.ensures adds refl refl refl loops_told
+    (c.in_ok-groups.ensures.ok ∙ ap length c.deref.ensures.value) in
     record {
       flags = refl;
       table = refl;
-      layout = whole-layout c.args.units (table regex.tables.now) unicode n t start w program c.new-code.ensures adds refl refl refl loops_told
-          (c.group_bound-groups.ensures ∙ bound-numbered n (group_ids t) well.numbered);
+      names = map-AllZip (λ x y. string_bytes y ≡ string_bytes x) string_bytes (λ x y e. e) c.deref-2.result.now
+          (arc_slice_items c.in_ok-group_names.group_names) c.in_ok-group_names.ensures.ok ∙ ap (map string_bytes) c.deref-2.ensures.value;
+      layout = layout;
       counted = sym (length-map c.node.new.code.insns.items instruction) ∙ counted.0;
       loops = loops_told ∙ counted.1;
+      begun = all-begin target n t layout;
     }
+
+pub returns-in_err-groups-clause-refused : goal.returns-in_err-groups-clause-refused
+returns-in_err-groups-clause-refused c =
+    let regex = c.args.regex.now in
+    let few = groups-few c.args.units (table regex.tables.now) (is_unicode (options regex.flags)) (length regex.group_names.items) (tree regex.node) c.requires in
+    let same = ap length c.deref.ensures.value in
+    err-refused c.from_residual-in_err-groups.result c.in_err-groups.field-0.0 _ _ _ _ c.from_residual-in_err-groups.ensures.1 c.in_err-groups.ensures.err (omega (arith, few, same)) (omega arith)

@@ -9,13 +9,13 @@ use Rattle.regress_front_syntax.proofs.apart.+naming.Goals as goal
 pub names_in_arms-loop-arm-init : goal.names_in_arms-loop-arm-init
 names_in_arms-loop-arm-init t c = arms-first (choice_of (map tree c.args.arms.now)) c.new-names.result c.new-names.ensures.empty
 
-pub names_in_arms-returns-in_default-clause-ok : goal.names_in_arms-returns-in_default-clause-ok
-names_in_arms-returns-in_default-clause-ok t c =
+pub names_in_arms-returns-in_default : goal.names_in_arms-returns-in_default
+names_in_arms-returns-in_default t c =
     let arms = c.args.arms.now in
     let i = c.loop-arm.arm-index in
     let arm = c.arm-item.result in
     arms-none (choice_of (map tree arms)) (choice_of (map tree (drop i arms))) (tree arm) (map tree (drop (i + 1) arms)) c.loop-arm.names
-    (arms-split arms i arm c.loop-arm-test.true c.arm-item.is) c.loop-arm.invariant (rw c.in_default.is at c.in_ok-more.ensures.ok)
+    (arms-split arms i arm c.loop-arm-test.true c.arm-item.is) c.loop-arm.invariant (rw c.in_default.is at c.in_ok-more.ensures)
 
 pub names_in_arms-loop-arm-preserved : goal.names_in_arms-loop-arm-preserved
 names_in_arms-loop-arm-preserved t c =
@@ -24,48 +24,48 @@ names_in_arms-loop-arm-preserved t c =
     let arm = c.arm-item.result in
     arms-more (choice_of (map tree arms)) (choice_of (map tree (drop i arms))) (tree arm) (map tree (drop (i + 1) arms)) c.loop-arm.names
     c.in-Some.more c.in_ok-names.field-0-0 c.in_ok-names.field-0-1 (arms-split arms i arm c.loop-arm-test.true c.arm-item.is)
-    c.loop-arm.invariant (rw c.in-Some.is at c.in_ok-more.ensures.ok) c.in_ok-names.ensures.ok
+    c.loop-arm.invariant (rw c.in-Some.is at c.in_ok-more.ensures) c.in_ok-names.ensures
 
-pub names_in_arms-returns-clause-ok : goal.names_in_arms-returns-clause-ok
-names_in_arms-returns-clause-ok t c =
+pub names_in_arms-returns : goal.names_in_arms-returns
+names_in_arms-returns t c =
     arms-last (choice_of (map tree c.args.arms.now)) c.loop-arm.names (rw (drop_all c.loop-arm.arm-index c.args.arms.now (omega arith)) at c.loop-arm.invariant)
 
-pub names_in_named-returns-then-is_empty-clause-ok : goal.names_in_named-returns-then-is_empty-clause-ok
-names_in_named-returns-then-is_empty-clause-ok t c =
+pub names_in_named-returns-then-is_empty : goal.names_in_named-returns-then-is_empty
+names_in_named-returns-then-is_empty t c =
     let unnamed = is_name-text c.args.name.now ∙ ap not (sym c.is_empty.ensures ∙ c.if-is_empty.true) in
-    IfOk-weaker c.names_in.result _ _ (λ found h. empty_name (code_points_of c.args.name.now) (tree c.args.contents.now) found unnamed h) c.names_in.ensures.ok
+    IfOk-weaker c.names_in.result _ _ (λ found h. empty_name (code_points_of c.args.name.now) (tree c.args.contents.now) found unnamed h) c.names_in.ensures
 
-pub names_in_named-returns-then-not-branch-clause-ok : goal.names_in_named-returns-then-not-branch-clause-ok
-names_in_named-returns-then-not-branch-clause-ok t c =
-    capture-taken (code_points_of c.args.name.now) (tree c.args.contents.now) c.in-Some.names (is_name-text c.args.name.now ∙ ap not (sym c.is_empty.ensures ∙ c.if-is_empty.false)) (rw c.in-Some.is at c.in_ok-names.ensures.ok)
+pub names_in_named-returns-then-not-branch : goal.names_in_named-returns-then-not-branch
+names_in_named-returns-then-not-branch t c =
+    capture-taken (code_points_of c.args.name.now) (tree c.args.contents.now) c.in-Some.names (is_name-text c.args.name.now ∙ ap not (sym c.is_empty.ensures ∙ c.if-is_empty.false)) (rw c.in-Some.is at c.in_ok-names.ensures)
     (added-names c.in-Some.names c.args.name c.in_ok-insert.field-0 c.in_ok-insert.ensures.added ∙ ap not c.if-not-branch.true)
 
-pub names_in_named-returns-clause-ok : goal.names_in_named-returns-clause-ok
-names_in_named-returns-clause-ok t c =
+pub names_in_named-returns : goal.names_in_named-returns
+names_in_named-returns t c =
     capture-added (code_points_of c.args.name.now) (tree c.args.contents.now) c.in-Some.names c.insert.new.self (is_name-text c.args.name.now ∙ ap not (sym c.is_empty.ensures ∙ c.if-is_empty.false))
-    (rw c.in-Some.is at c.in_ok-names.ensures.ok)
+    (rw c.in-Some.is at c.in_ok-names.ensures)
     (added-names c.in-Some.names c.args.name c.in_ok-insert.field-0 c.in_ok-insert.ensures.added ∙ ap not c.if-not-branch.false)
     (put-names c.in-Some.names c.insert.new.self c.args.name c.in_ok-insert.ensures.updates)
 
 pub names_in_terms-loop-term-init : goal.names_in_terms-loop-term-init
 names_in_terms-loop-term-init t c = terms-first (sequence_of (map tree c.args.terms.now)) c.new-names.result c.new-names.ensures.empty
 
-pub names_in_terms-returns-in_default-clause-ok : goal.names_in_terms-returns-in_default-clause-ok
-names_in_terms-returns-in_default-clause-ok t c =
+pub names_in_terms-returns-in_default : goal.names_in_terms-returns-in_default
+names_in_terms-returns-in_default t c =
     let terms = c.args.terms.now in
     let i = c.loop-term.term-index in
     let term = c.term-item.result in
     terms-none (sequence_of (map tree terms)) (sequence_of (map tree (drop i terms))) (tree term) (sequence_of (map tree (drop (i + 1) terms))) c.loop-term.names
-    (terms-split terms i term c.loop-term-test.true c.term-item.is) c.loop-term.invariant (rw c.in_default.is at c.in_ok-more.ensures.ok)
+    (terms-split terms i term c.loop-term-test.true c.term-item.is) c.loop-term.invariant (rw c.in_default.is at c.in_ok-more.ensures)
 
-pub names_in_terms-returns-then-not-apart-clause-ok : goal.names_in_terms-returns-then-not-apart-clause-ok
-names_in_terms-returns-then-not-apart-clause-ok t c =
+pub names_in_terms-returns-then-not-apart : goal.names_in_terms-returns-then-not-apart
+names_in_terms-returns-then-not-apart t c =
     let terms = c.args.terms.now in
     let i = c.loop-term.term-index in
     let term = c.term-item.result in
     let more = terms-more (sequence_of (map tree terms)) (sequence_of (map tree (drop i terms))) (tree term) (sequence_of (map tree (drop (i + 1) terms)))
     c.loop-term.names c.in-Some.more c.in_ok-all.all c.in_ok-all.apart (terms-split terms i term c.loop-term-test.true c.term-item.is)
-    c.loop-term.invariant (rw c.in-Some.is at c.in_ok-more.ensures.ok) c.in_ok-all.ensures.ok in
+    c.loop-term.invariant (rw c.in-Some.is at c.in_ok-more.ensures) c.in_ok-all.ensures in
     more.1 ∙ rw c.if-not-apart.true refl
 
 pub names_in_terms-loop-term-preserved : goal.names_in_terms-loop-term-preserved
@@ -75,9 +75,9 @@ names_in_terms-loop-term-preserved t c =
     let term = c.term-item.result in
     let more = terms-more (sequence_of (map tree terms)) (sequence_of (map tree (drop i terms))) (tree term) (sequence_of (map tree (drop (i + 1) terms)))
     c.loop-term.names c.in-Some.more c.in_ok-all.all c.in_ok-all.apart (terms-split terms i term c.loop-term-test.true c.term-item.is)
-    c.loop-term.invariant (rw c.in-Some.is at c.in_ok-more.ensures.ok) c.in_ok-all.ensures.ok in
+    c.loop-term.invariant (rw c.in-Some.is at c.in_ok-more.ensures) c.in_ok-all.ensures in
     (more.0, rw c.if-not-apart.false at more.1)
 
-pub names_in_terms-returns-clause-ok : goal.names_in_terms-returns-clause-ok
-names_in_terms-returns-clause-ok t c =
+pub names_in_terms-returns : goal.names_in_terms-returns
+names_in_terms-returns t c =
     terms-last (sequence_of (map tree c.args.terms.now)) c.loop-term.names (rw (drop_all c.loop-term.term-index c.args.terms.now (omega arith)) at c.loop-term.invariant)

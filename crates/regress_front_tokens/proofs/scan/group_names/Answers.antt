@@ -18,10 +18,10 @@ loop-point-smaller c =
           rw (w.cursor-is, rest, whole) (omega (arith, length-drop 1 r))
       | then-in_class+else-point-from w ↦ rw (w.cursor-is, whole) (omega arith)
       | else-in_class+in_ok-name+in-Some-2+in_ok-push w ↦
-          let shorter = opened-shorter (table c.args.tables.now) c.args.named c.in-Some.point r _ _ w.in_ok-name.ensures.ok in
+          let shorter = opened-shorter (table c.args.tables.now) c.args.named c.in-Some.point r _ _ w.in_ok-name.ensures in
           rw (w.cursor-is, whole) (omega (arith, shorter))
       | else-in_class+in_ok-name+in_default-2 w ↦
-          let shorter = opened-shorter (table c.args.tables.now) c.args.named c.in-Some.point r _ _ w.in_ok-name.ensures.ok in
+          let shorter = opened-shorter (table c.args.tables.now) c.args.named c.in-Some.point r _ _ w.in_ok-name.ensures in
           rw (w.cursor-is, whole) (omega (arith, shorter))
     ]
 
@@ -41,11 +41,11 @@ loop-point-preserved c =
           (found-in_class _ c.args.named all c.loop-point.names point _ r c.in-Some.ensures.read (rw w.if-in_class.true at c.loop-point.invariant))
       | else-in_class+in_ok-name+in-Some-2+in_ok-push w ↦
           rw (w.names-is, w.cursor-is, c.is_in_class_behind-in_class.ensures, w.if-in_class.false)
-          (found-name _ c.args.named all c.loop-point.names point _ r c.in-Some.ensures.read _ w.push.new.self w.in-Some-2.name (rw w.if-in_class.false at c.loop-point.invariant) (rw w.in-Some-2.is at w.in_ok-name.ensures.ok) w.in_ok-push.ensures.items)
+          (found-name _ c.args.named all c.loop-point.names point _ r c.in-Some.ensures.read _ w.push.new.self w.in-Some-2.name (rw w.if-in_class.false at c.loop-point.invariant) (rw w.in-Some-2.is at w.in_ok-name.ensures) w.in_ok-push.ensures.items)
       | else-in_class+in_ok-name+in_default-2 w ↦
           rw (w.names-is, w.cursor-is, c.is_in_class_behind-in_class.ensures, w.if-in_class.false)
-          (found-nothing _ c.args.named all c.loop-point.names point _ r c.in-Some.ensures.read _ (rw w.if-in_class.false at c.loop-point.invariant) (rw w.in_default-2.is at w.in_ok-name.ensures.ok))
+          (found-nothing _ c.args.named all c.loop-point.names point _ r c.in-Some.ensures.read _ (rw w.if-in_class.false at c.loop-point.invariant) (rw w.in_default-2.is at w.in_ok-name.ensures))
     ]
 
-pub returns-clause-ok : goal.returns-clause-ok
-returns-clause-ok c = sym (c.loop-point.invariant ∙ ap (λ found. texts c.loop-point.names ++ found) (names-end _ _ _ _ c.in_default.ensures.read.0) ∙ append-nil _)
+pub returns : goal.returns
+returns c = sym (c.loop-point.invariant ∙ ap (λ found. texts c.loop-point.names ++ found) (names-end _ _ _ _ c.in_default.ensures.read.0) ∙ append-nil _)

@@ -19,20 +19,20 @@ use Rattle.regress_front_tree.proofs.brackets.class_node.Goals.{then-unicode, el
 
 pub by_length-requires : goal.by_length-requires
 by_length-requires c =
-    subst (All (All is_code_point)) (sym (ap (λ (v : Strings). v.others) c.in_ok-value.ensures.ok))
+    subst (All (All is_code_point)) (sym (ap (λ (v : Strings). v.others) c.in_ok-value.ensures))
     (value-points c.args.tables.now c.if-unicode.class_value (class_view c.args.class.now) c.requires)
 
-pub returns-clause-ok : goal.returns-clause-ok
-returns-clause-ok c = λ e is.
+pub returns : goal.returns
+returns c = λ e is.
     let tables = table c.args.tables.now in
     let cps = c.in_ok-cps.cps in
     let folded : c.if-unicode.class_value ≡ (c.args.unicode && e.icase) = elim c.if-unicode.branch [
       | then-unicode w ↦ w.class_value-is ∙ sym is ∙ ap (λ (b : Bool). b && e.icase) (sym w.if-unicode.true)
       | else-unicode w ↦ w.class_value-is ∙ w.if-unicode.false ∙ ap (λ (b : Bool). b && e.icase) (sym w.if-unicode.false)
     ] in
-    let value = c.in_ok-value.ensures.ok ∙ ap (λ (b : Bool). value_of tables b (class_view c.args.class.now)) folded in
+    let value = c.in_ok-value.ensures ∙ ap (λ (b : Bool). value_of tables b (class_view c.args.class.now)) folded in
     let members : in_set cps ≡ closed tables c.args.unicode e.icase (class_value tables c.args.unicode e (class_view c.args.class.now)).singles =
-    c.in_ok-cps.ensures.ok e is ∙ ap (λ (v : Strings). closed tables c.args.unicode e.icase v.singles) value in
+    c.in_ok-cps.ensures e is ∙ ap (λ (v : Strings). closed tables c.args.unicode e.icase v.singles) value in
     let others : lists c.in_ok-value.value.strings.items ≡ (class_value tables c.args.unicode e (class_view c.args.class.now)).others = ap (λ (v : Strings). v.others) value in
     let strings = map boxed_slice_items c.in_ok-strings.strings.items in
     let characters = bracket false (ends_of cps.intervals.items) in
@@ -41,10 +41,11 @@ returns-clause-ok c = λ e is.
     c.in_ok-arms.ensures
     ∙ ap (λ (t : Tree). class_arms c.args.icase strings t c.has_empty-has_empty.result) (tree-Bracket (record { invert = false; cps = cps }))
     ∙ (λ i. class_arms (sym is i) strings characters (has_empty i)) in
-    record {
+    IfOk-weaker c.alternatives.result _ _ (λ node has. record {
       strings = strings;
       characters = characters;
       by_length = subst (AreByLength strings) others c.in_ok-strings.ensures;
       takes = takes-bracket false cps _ members;
-      arms = subst (λ (ts : List Tree). HasArms ts (tree c.in_ok-alternatives.field-0)) arms c.in_ok-alternatives.ensures;
-    }
+      arms = subst (λ (ts : List Tree). HasArms ts (tree node)) arms has;
+    })
+    c.alternatives.ensures

@@ -18,39 +18,39 @@ use Rattle.regress_front_tokens.proofs.ClassViews.{class_view-Range, class_view-
 use Rattle.regress_front_tree.proofs.class_value.+class_value.Goals as goal
 use Rattle.regress_front_tree.proofs.class_value.+class_value.Goals.{class_value-in-Range+in_ok-singles-in-Range, class_value-in-Digits+in_ok-singles-in-Digits, class_value-in-Spaces+in_ok-singles-in-Spaces, class_value-in-Words+in_ok-singles-in-Words, class_value-in-Property+in_ok-singles-in-Property}
 
-pub class_value-returns-in-Sequences-clause-ok : goal.class_value-returns-in-Sequences-clause-ok
+pub class_value-returns-in-Sequences : goal.class_value-returns-in-Sequences
 unfolding value_of
-class_value-returns-in-Sequences-clause-ok t c =
-    rw (c.in-Sequences.is, class_view-Sequences, ← c.deref-in-Sequences.ensures) c.sequence_value.ensures.ok
+class_value-returns-in-Sequences t c =
+    rw (c.in-Sequences.is, class_view-Sequences, ← c.deref-in-Sequences.ensures) c.sequence_value.ensures
 
-pub class_value-returns-in-Strings-clause-ok : goal.class_value-returns-in-Strings-clause-ok
+pub class_value-returns-in-Strings : goal.class_value-returns-in-Strings
 unfolding value_of
-class_value-returns-in-Strings-clause-ok t c =
-    rw (c.in-Strings.is, class_view-Strings, ← c.deref-in-Strings.ensures.value) c.of_strings.ensures.ok
+class_value-returns-in-Strings t c =
+    rw (c.in-Strings.is, class_view-Strings, ← c.deref-in-Strings.ensures.value) c.of_strings.ensures
 
-pub class_value-returns-in-Complement-clause-ok : goal.class_value-returns-in-Complement-clause-ok
+pub class_value-returns-in-Complement : goal.class_value-returns-in-Complement
 unfolding value_of
-class_value-returns-in-Complement-clause-ok t c =
+class_value-returns-in-Complement t c =
     let value : Class → Strings = λ x. value_of (table c.args.tables.now) c.args.folded (class_view x) in
-    let inner = c.in_ok-class_value-in-Complement.ensures.ok ∙ ap value c.deref-in-Complement.ensures in
-    rw (c.in-Complement.is, class_view-Complement) (IfOk-weaker c.complement.result _ _ (λ v e. e ∙ ap complement_of inner) c.complement.ensures.ok)
+    let inner = c.in_ok-class_value-in-Complement.ensures ∙ ap value c.deref-in-Complement.ensures in
+    rw (c.in-Complement.is, class_view-Complement) (IfOk-weaker c.complement.result _ _ (λ v e. e ∙ ap complement_of inner) c.complement.ensures)
 
-pub class_value-returns-then-negated-clause-ok : goal.class_value-returns-then-negated-clause-ok
+pub class_value-returns-then-negated : goal.class_value-returns-then-negated
 unfolding value_of
-class_value-returns-then-negated-clause-ok t c =
+class_value-returns-then-negated t c =
     let value : Class → Strings = λ x. value_of (table c.args.tables.now) c.args.folded (class_view x) in
-    let inner = c.in_ok-value-in-Nested.ensures.ok ∙ ap value c.deref-in-Nested.ensures in
-    rw (c.in-Nested.is, class_view-Nested, c.if-negated.true) (IfOk-weaker c.complement-then-negated.result _ _ (λ v e. e ∙ ap complement_of inner) c.complement-then-negated.ensures.ok)
+    let inner = c.in_ok-value-in-Nested.ensures ∙ ap value c.deref-in-Nested.ensures in
+    rw (c.in-Nested.is, class_view-Nested, c.if-negated.true) (IfOk-weaker c.complement-then-negated.result _ _ (λ v e. e ∙ ap complement_of inner) c.complement-then-negated.ensures)
 
-pub class_value-returns-else-negated-clause-ok : goal.class_value-returns-else-negated-clause-ok
+pub class_value-returns-else-negated : goal.class_value-returns-else-negated
 unfolding value_of
-class_value-returns-else-negated-clause-ok t c =
+class_value-returns-else-negated t c =
     let value : Class → Strings = λ x. value_of (table c.args.tables.now) c.args.folded (class_view x) in
-    rw (c.in-Nested.is, class_view-Nested, c.if-negated.false) (c.in_ok-value-in-Nested.ensures.ok ∙ ap value c.deref-in-Nested.ensures)
+    rw (c.in-Nested.is, class_view-Nested, c.if-negated.false) (c.in_ok-value-in-Nested.ensures ∙ ap value c.deref-in-Nested.ensures)
 
-pub class_value-returns-clause-ok : goal.class_value-returns-clause-ok
+pub class_value-returns : goal.class_value-returns
 unfolding value_of
-class_value-returns-clause-ok t c =
+class_value-returns t c =
     c.of_points.ensures ∙
     elim c.match-class.branch [
       | class_value-in-Range+in_ok-singles-in-Range w ↦
@@ -64,10 +64,10 @@ class_value-returns-clause-ok t c =
           ∙ rw (w.in-Spaces.is, class_view-Spaces) (ap only (w.in_ok-singles-in-Spaces.ensures ∙ fun_ext w.whitespace.ensures.members))
       | class_value-in-Words+in_ok-singles-in-Words w ↦
           ap (λ (s : _). only (in_set s)) w.singles-is
-          ∙ rw (w.in-Words.is, class_view-Words) (ap only w.in_ok-singles-in-Words.ensures.ok)
+          ∙ rw (w.in-Words.is, class_view-Words) (ap only w.in_ok-singles-in-Words.ensures)
       | class_value-in-Property+in_ok-singles-in-Property w ↦
           ap (λ (s : _). only (in_set s)) w.singles-is
-          ∙ rw (w.in-Property.is, class_view-Property, ← w.deref.ensures) (ap only w.in_ok-singles-in-Property.ensures.ok)
+          ∙ rw (w.in-Property.is, class_view-Property, ← w.deref.ensures) (ap only w.in_ok-singles-in-Property.ensures)
     ]
 
 pub union_value-loop-member-init : goal.union_value-loop-member-init
@@ -76,7 +76,7 @@ union_value-loop-member-init t c = ap all_united c.new-values.ensures.items
 
 pub union_value-loop-member-preserved : goal.union_value-loop-member-preserved
 union_value-loop-member-preserved t c =
-    c.in_ok-push_joined.ensures.ok ∙ ap₂ united c.loop-member.invariant c.in_ok-value.ensures.ok
+    c.in_ok-push_joined.ensures ∙ ap₂ united c.loop-member.invariant c.in_ok-value.ensures
     ∙ sym (value_of-more (table c.args.tables.now) c.args.folded c.args.members.now c.loop-member.member-index c.member-item.result (omega arith) c.member-item.is)
 
 pub union_value-class_value-requires : goal.union_value-class_value-requires
@@ -105,15 +105,15 @@ class_value-subtracted_value-requires t c =
     let points : ClassIsOfPoints (fold meaning.difference (class_view c.in-Difference.first.value) (map class_view c.in-Difference.others.items)) = rw (c.in-Difference.is, class_view-Difference) at c.requires in
     (search (rules, the_lemmas), rw (c.deref-in-Difference-2.ensures.value) (other_points meaning.difference (λ x y h. h) (class_view c.in-Difference.first.value) (map class_view c.in-Difference.others.items) points))
 
-pub class_value-returns-in-Intersection-clause-ok : goal.class_value-returns-in-Intersection-clause-ok
-class_value-returns-in-Intersection-clause-ok t c =
+pub class_value-returns-in-Intersection : goal.class_value-returns-in-Intersection
+class_value-returns-in-Intersection t c =
     rw (c.in-Intersection.is, class_view-Intersection, ← c.deref-in-Intersection-2.ensures.value)
-    (c.intersected_value.ensures.ok (class_view c.in-Intersection.first.value) (rw (← c.deref-in-Intersection.ensures) c.in_ok-first-in-Intersection.ensures.ok))
+    (c.intersected_value.ensures (class_view c.in-Intersection.first.value) (rw (← c.deref-in-Intersection.ensures) c.in_ok-first-in-Intersection.ensures))
 
-pub class_value-returns-in-Difference-clause-ok : goal.class_value-returns-in-Difference-clause-ok
-class_value-returns-in-Difference-clause-ok t c =
+pub class_value-returns-in-Difference : goal.class_value-returns-in-Difference
+class_value-returns-in-Difference t c =
     rw (c.in-Difference.is, class_view-Difference, ← c.deref-in-Difference-2.ensures.value)
-    (c.subtracted_value.ensures.ok (class_view c.in-Difference.first.value) (rw (← c.deref-in-Difference.ensures) c.in_ok-first-in-Difference.ensures.ok))
+    (c.subtracted_value.ensures (class_view c.in-Difference.first.value) (rw (← c.deref-in-Difference.ensures) c.in_ok-first-in-Difference.ensures))
 
 pub intersected_value-class_value-requires : goal.intersected_value-class_value-requires
 intersected_value-class_value-requires t c =
@@ -130,11 +130,11 @@ subtracted_value-class_value-requires t c =
 pub intersected_value-loop-other-preserved : goal.intersected_value-loop-other-preserved
 unfolding value_of
 intersected_value-loop-other-preserved t c = λ d first.
-    c.in_ok-value.ensures.ok ∙ ap₂ intersected (c.loop-other.invariant d first) c.in_ok-other.ensures.ok
+    c.in_ok-value.ensures ∙ ap₂ intersected (c.loop-other.invariant d first) c.in_ok-other.ensures
     ∙ ap (value_of (table c.args.tables.now) c.args.folded) (sym (fold-more meaning.intersection d c.args.others.now c.loop-other.other-index c.other-item.result (omega arith) c.other-item.is))
 
 pub subtracted_value-loop-other-preserved : goal.subtracted_value-loop-other-preserved
 unfolding value_of
 subtracted_value-loop-other-preserved t c = λ d first.
-    c.in_ok-value.ensures.ok ∙ ap₂ subtracted (c.loop-other.invariant d first) c.in_ok-other.ensures.ok
+    c.in_ok-value.ensures ∙ ap₂ subtracted (c.loop-other.invariant d first) c.in_ok-other.ensures
     ∙ ap (value_of (table c.args.tables.now) c.args.folded) (sym (fold-more meaning.difference d c.args.others.now c.loop-other.other-index c.other-item.result (omega arith) c.other-item.is))

@@ -11,4 +11,4 @@ loop-last-init c =
 
 pub loop-last-preserved : goal.loop-last-preserved
 loop-last-preserved c =
-    all_united-joined c.loop-last.values.items c.pop.new.self.items c.in-Some.last c.loop-last.value c.add.new.self c.in-Some.ensures.items c.in_ok-add.ensures.ok ∙ c.loop-last.invariant
+    all_united-joined c.loop-last.values.items c.pop.new.self.items c.in-Some.last c.loop-last.value c.add.new.self c.in-Some.ensures.items c.in_ok-add.ensures ∙ c.loop-last.invariant

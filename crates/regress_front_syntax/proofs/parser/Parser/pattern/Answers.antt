@@ -35,7 +35,7 @@ returns-then-not-branch c =
     let end = place 0 c.disjunction.new.self in
     let p = tree c.in_ok-syntax.syntax in
     let read : disjunction_at m t 0 ≡ Some (front_to end p) = ap (disjunction_at m t) (sym c.requires.beginning.0) ∙ c.in_ok-syntax.ensures.answer.0 in
-    alike-none m t p c.disjunction.new.self.groups (unread c.disjunction.new.self.cursor) read (sym c.in_ok-names_are_apart.ensures.ok ∙ c.if-not-branch.true)
+    alike-none m t p c.disjunction.new.self.groups (unread c.disjunction.new.self.cursor) read (sym c.in_ok-names_are_apart.ensures ∙ c.if-not-branch.true)
 
 pub returns : goal.returns
 returns c =
@@ -46,6 +46,6 @@ returns c =
     let start : place 0 c.args.self ≡ at 0 0 0 t = λ i. record { nesting = 0; opened = c.requires.beginning.0 i; repeated = c.requires.beginning.1 i; text = t } in
     let (read, grows) = subst (λ (h : Place). (disjunction_at m h.text h.opened ≡ Some (front_to end p)) × Grows h end p) start c.in_ok-syntax.ensures.answer in
     let none = empty-text (unread c.disjunction.new.self.cursor) (ap is_some (sym c.peek.ensures) ∙ sym c.is_some.ensures ∙ c.if-is_some.false) in (
-      apart-whole m t p c.disjunction.new.self.groups (unread c.disjunction.new.self.cursor) read none (sym c.in_ok-names_are_apart.ensures.ok ∙ c.if-not-branch.false),
+      apart-whole m t p c.disjunction.new.self.groups (unread c.disjunction.new.self.cursor) read none (sym c.in_ok-names_are_apart.ensures ∙ c.if-not-branch.false),
       record { deep = omega (arith, grows.deep); groups = omega (arith, grows.counted, c.disjunction.new.self.few); loops = omega (arith, grows.loops, c.disjunction.new.self.few_loops) },
     )

@@ -1,7 +1,7 @@
-use Rattle.std.proofs.Common.{ℕ, ◌++◌, ◌∷◌, [], List, chars, string_bytes, refl, ap, ◌∙◌}
+use Rattle.std.proofs.Common.{ℕ, ◌++◌, List, chars, string_bytes, refl, ap, ◌∙◌}
 use Rattle.std.proofs.lemmas.Str.{IsUtf8-string_bytes, chars-nil}
 use Rattle.regress_front_tokens.specs.Cursors.{unread}
-use Rattle.regress_front_tokens.specs.Words.{characters_of, code_points_of}
+use Rattle.regress_front_tokens.specs.Words.{characters_of}
 use Rattle.regress_front_tokens.proofs.NameLemmas.{code_points-push, key-text, key-parts}
 use Rattle.regress_front_tokens.proofs.cursor.Cursor.key.Goals as goal
 use Rattle.regress_front_tokens.proofs.cursor.Cursor.key.Goals.{in-Some-value+in_ok-push+in_ok-push_points-2, in_default-value}

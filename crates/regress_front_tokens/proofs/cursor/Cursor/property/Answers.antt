@@ -1,4 +1,4 @@
-use Rattle.std.proofs.Common.{refl, sym, ap, ◌∙◌, drop, chars}
+use Rattle.std.proofs.Common.{refl, sym, ap, ◌∙◌, chars}
 use Rattle.regress_meaning.specs.Tokens.{property_at, key_at}
 use Rattle.regress_front_tokens.specs.Cursors.{unread}
 use Rattle.regress_front_tokens.specs.Trees.{class_view}

@@ -7,11 +7,11 @@ use Rattle.regress_front_tree.specs.ClassValues.{lists}
 use Rattle.regress_front_tree.proofs.ClassLemmas.{filter-lists}
 use Rattle.regress_front_tree.proofs.class_value.ClassValue.difference.Goals as goal
 
-pub returns-clause-ok : goal.returns-clause-ok
-returns-clause-ok c =
+pub returns : goal.returns
+returns c =
     let other = lists c.args.other.strings.items in
     let test : List ℕ → Bool = λ s. not (among other s) in
-    let singles = fun_ext c.in_ok-singles.ensures.ok in
+    let singles = fun_ext c.in_ok-singles.ensures in
     let kept : c.retain.new.self.items ≡ filter (λ (s : Vec ℕ Global). test s.items) c.args.self.strings.items = filter_same _ (λ (s : Vec ℕ Global). test s.items) _ (λ x b f r. search (rules, tests)) _ _ c.retain.ensures.filtered in
     let others : lists c.retain.new.self.items ≡ filter test (lists c.args.self.strings.items) = ap lists kept ∙ filter-lists test c.args.self.strings.items in
     λ i. record { singles = singles i; others = others i }

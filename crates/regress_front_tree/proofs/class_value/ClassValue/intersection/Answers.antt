@@ -12,13 +12,13 @@ use Rattle.regress_front_tree.proofs.ClassLemmas.{filter-lists, intersection-by_
 use Rattle.regress_front_tree.proofs.class_value.ClassValue.intersection.Goals as goal
 use Rattle.regress_front_sets.proofs.IntervalLemmas.{in_intervals-bounded}
 
-pub returns-clause-ok : goal.returns-clause-ok
-returns-clause-ok c =
+pub returns : goal.returns
+returns c =
     let other = lists c.args.other.now.strings.items in
     let test : List ℕ → Bool = λ s. among other s in
     let members : ◌≡◌ {A = ℕ → Bool} (in_set c.in_ok-singles.singles) (λ d. in_set c.args.self.singles d && in_set c.args.other.now.singles d) = fun_ext (λ (d : ℕ).
-    c.in_ok-singles.ensures.ok d
-    ∙ ap (λ (b : Bool). in_set c.args.self.singles d && not b) (c.in_ok-inverted.ensures.members d)
+    c.in_ok-singles.ensures d
+    ∙ ap (λ (b : Bool). in_set c.args.self.singles d && not b) (c.in_ok-inverted.ensures d)
     ∙ intersection-by_complement (in_set c.args.self.singles d) (in_set c.args.other.now.singles d) (nat_le d last_code_point)
     (λ e. le-leb d last_code_point (in_intervals-bounded (ends_of c.args.self.singles.intervals.items) d c.args.self.singles.canonical e))) in
     let kept : c.retain.new.self.items ≡ filter (λ (s : Vec ℕ Global). test s.items) c.args.self.strings.items = filter_same _ (λ (s : Vec ℕ Global). test s.items) _ (λ x b f r. search (rules, tests)) _ _ c.retain.ensures.filtered in

@@ -26,7 +26,7 @@ lower-disjunction-requires t c =
 pub lower-returns-in-Character-clause-ok : goal.lower-returns-in-Character-clause-ok
 lower-returns-in-Character-clause-ok t c =
     rw (c.in-Character.is, law.tree-Character)
-    (IfOk-weaker c.character_node.result _ _ (λ node h. of_character h) (c.character_node.ensures.ok (settings_of c.args.scope) refl))
+    (IfOk-weaker c.character_node.result _ _ (λ node h. of_character h) (c.character_node.ensures (settings_of c.args.scope) refl))
 
 pub lower-returns-in-Any-clause-ok : goal.lower-returns-in-Any-clause-ok
 lower-returns-in-Any-clause-ok t c =
@@ -39,7 +39,7 @@ lower-returns-in-Any-2-clause-ok t c =
 pub lower-returns-in-ClassEscape-clause-ok : goal.lower-returns-in-ClassEscape-clause-ok
 lower-returns-in-ClassEscape-clause-ok t c =
     rw (c.in-ClassEscape.is, law.tree-ClassEscape)
-    (IfOk-weaker c.class_node.result _ _ (λ node h. of_class_escape h) (c.class_node.ensures.ok (settings_of c.args.scope) refl))
+    (IfOk-weaker c.class_node.result _ _ (λ node h. of_class_escape h) (c.class_node.ensures (settings_of c.args.scope) refl))
 
 pub lower-returns-in_ok-each-in-Alternative-clause-ok : goal.lower-returns-in_ok-each-in-Alternative-clause-ok
 lower-returns-in_ok-each-in-Alternative-clause-ok t c =
@@ -104,7 +104,7 @@ disjunction-alternatives-requires t c =
     omega (arith, eqb-false (length c.args.arms.now) 0 (sym c.if-is_empty.ensures), nodes-length c.args.self.now c.each.new.self c.args.scope c.args.arms.now c.in_ok-each.field-0.items c.in_ok-each.ensures.ok)
 
 pub disjunction-returns-clause-ok : goal.disjunction-returns-clause-ok
-disjunction-returns-clause-ok t c = of_arms c.in_ok-each.ensures.ok c.in_ok-alternatives.ensures
+disjunction-returns-clause-ok t c = IfOk-weaker c.alternatives.result _ _ (λ node has. of_arms c.in_ok-each.ensures.ok has) c.alternatives.ensures
 
 pub capture-lower-requires : goal.capture-lower-requires
 capture-lower-requires t c = (search (rules, the_lemmas), contents-IsLowerable c.args.id (option_map code_points_of c.args.name.now) (parsed.tree c.args.contents.now) c.requires)

@@ -13,8 +13,8 @@ loop-group-preserved c =
     let lt : index < length groups = c.loop-group-test.true in
     rw (c.in_ok-push.ensures.items, map_push, tree-BackRef, c.loop-group.invariant, take_more groups index 0 lt, map_push, c.from.ensures) refl
 
-pub returns-clause-ok : goal.returns-clause-ok
-returns-clause-ok c =
+pub returns : goal.returns
+returns c =
     let scope = c.args.scope in
     let groups = c.args.groups.now in
     let node : ℕ → Tree = λ j. back (j + 1) scope.icase in

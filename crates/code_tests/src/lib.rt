@@ -1,0 +1,11 @@
+//! Tests of programs, by the public calls alone. The library itself is empty.
+#![tactic(auto)]
+
+#[cfg(test)]
+mod nodes;
+#[cfg(test)]
+mod parsed;
+#[cfg(test)]
+mod readers;
+#[cfg(test)]
+mod told;

@@ -1,0 +1,122 @@
+//! Tests of properties of characters, and of case over inputs.
+use regress_engine_input::{AsciiInput, InputIndexer, Ucs2Input, Utf8Input, Utf16Input};
+use regress_engine_matchers::{
+    ASCIICharProperties, CharInput, CharProperties, UTF8CharProperties, Utf16CharProperties,
+};
+use regress_front_nodes::BracketContents;
+use regress_front_sets::CodePointSet;
+use regress_front_tables::Tables;
+use std::alloc::Global;
+use std::test::Fail;
+
+fn tables(alloc: Global) -> Result<Tables, Fail> {
+    Ok(Tables::small(alloc)?)
+}
+
+// a character, and what it has alike with others with Unicode mode and without
+const CASES: &[(char, char, char)] = &[
+    ('K', 'k', 'K'),
+    ('k', 'k', 'K'),
+    ('\u{212A}', 'k', '\u{212A}'),
+    ('\u{17F}', 's', '\u{17F}'),
+    ('_', '_', '_'),
+    ('\u{20AC}', '\u{20AC}', '\u{20AC}'),
+];
+
+#[test]
+fn case_is_by_the_tables_and_the_mode(rt: HostRuntime) -> Result<(), Fail> {
+    let tables = tables(rt.alloc())?;
+    for (c, with_unicode, without) in CASES {
+        assert!(rt; UTF8CharProperties::fold(*c, true, &tables) == *with_unicode);
+        assert!(rt; UTF8CharProperties::fold(*c, false, &tables) == *without);
+        let number = u32::from(*c);
+        assert!(rt; Utf16CharProperties::fold(number, true, &tables) == u32::from(*with_unicode));
+        assert!(rt; Utf16CharProperties::fold(number, false, &tables) == u32::from(*without));
+    }
+    assert!(rt; Utf16CharProperties::fold(0xD83D, true, &tables) == 0xD83D);
+    assert!(rt; ASCIICharProperties::fold(b'K', true, &tables) == b'k');
+    assert!(rt; ASCIICharProperties::fold(b'k', false, &tables) == b'K');
+    assert!(rt; ASCIICharProperties::fold(b'[', true, &tables) == b'[');
+    Ok(())
+}
+
+// a character, whether it is of a word, whether it or its fold is, and whether it ends a line
+const KINDS: &[(char, bool, bool, bool)] = &[
+    ('a', true, true, false),
+    ('9', true, true, false),
+    ('_', true, true, false),
+    ('-', false, false, false),
+    ('\u{17F}', false, true, false),
+    ('\u{212A}', false, true, false),
+    ('\u{E9}', false, false, false),
+    ('\n', false, false, true),
+    ('\r', false, false, true),
+    ('\u{85}', false, false, false),
+    ('\u{2028}', false, false, true),
+    ('\u{2029}', false, false, true),
+    ('\u{2030}', false, false, false),
+];
+
+#[test]
+fn characters_are_of_words_and_end_lines(rt: HostRuntime) -> Result<(), Fail> {
+    let tables = tables(rt.alloc())?;
+    for (c, word, folded, line_end) in KINDS {
+        assert!(rt; UTF8CharProperties::is_word_char(*c) == *word);
+        assert!(rt; UTF8CharProperties::is_word_char_unicode_icase(*c, &tables) == *folded);
+        assert!(rt; UTF8CharProperties::is_line_terminator(*c) == *line_end);
+    }
+    assert!(rt; ASCIICharProperties::is_word_char(b'a'));
+    assert!(rt; !ASCIICharProperties::is_word_char_unicode_icase(b'-', &tables));
+    assert!(rt; ASCIICharProperties::is_line_terminator(b'\n'));
+    assert!(rt; !Utf16CharProperties::is_word_char(0xD83D));
+    assert!(rt; Utf16CharProperties::is_word_char_unicode_icase(0x212A, &tables));
+    assert!(rt; Utf16CharProperties::is_line_terminator(0x2029));
+    Ok(())
+}
+
+#[test]
+fn classes_hold_characters(rt: HostRuntime) -> Result<(), Fail> {
+    let mut cps = CodePointSet::new(rt.alloc());
+    cps.add_one(0x61)?;
+    cps.add_one(0xD83D)?;
+    let mut bc = BracketContents { invert: false, cps };
+    assert!(rt; UTF8CharProperties::bracket(&bc, 'a') && !UTF8CharProperties::bracket(&bc, 'b'));
+    assert!(rt; Utf16CharProperties::bracket(&bc, 0xD83D));
+    bc.invert = true;
+    assert!(rt;
+        ASCIICharProperties::bracket(&bc, b'b') && !ASCIICharProperties::bracket(&bc, b'a')
+    );
+    assert!(rt; !Utf16CharProperties::bracket(&bc, 0xD83D));
+    Ok(())
+}
+
+#[test]
+fn characters_of_a_text_are_equal_but_for_case(rt: HostRuntime) -> Result<(), Fail> {
+    let tables = tables(rt.alloc())?;
+    let text = Utf8Input::new("", true, &tables);
+    assert!(rt; text.fold('\u{212A}') == 'k' && text.fold_equals('k', '\u{212A}'));
+    let text = Utf8Input::new("", false, &tables);
+    assert!(rt; text.fold('k') == 'K' && !text.fold_equals('k', '\u{212A}'));
+    let ascii = AsciiInput::new("", true, &tables);
+    assert!(rt; ascii.fold(b'K') == b'k' && ascii.fold_equals(b'k', b'K'));
+    let units = Utf16Input::new(&[], true, &tables);
+    assert!(rt; units.fold(0x212A) == 0x6B && !units.fold_equals(0xD83D, 0xDE00));
+    let units = Ucs2Input::new(&[], false, &tables);
+    assert!(rt; units.fold(0x6B) == 0x4B && units.fold_equals(0x6B, 0x4B));
+    Ok(())
+}
+
+/// Whether the mode is this, and the tables fold `K`.
+fn is_made_of<Input: InputIndexer>(input: &Input, unicode: bool) -> bool {
+    input.unicode() == unicode && input.tables().fold(0x4B) == 0x6B
+}
+
+#[test]
+fn inputs_keep_what_they_are_made_of(rt: HostRuntime) -> Result<(), Fail> {
+    let tables = tables(rt.alloc())?;
+    assert!(rt; is_made_of(&Utf8Input::new("a", true, &tables), true));
+    assert!(rt; is_made_of(&AsciiInput::new("a", false, &tables), false));
+    assert!(rt; is_made_of(&Utf16Input::new(&[0x61], true, &tables), true));
+    assert!(rt; is_made_of(&Ucs2Input::new(&[0x61], false, &tables), false));
+    Ok(())
+}

@@ -1,0 +1,67 @@
+//! What is asked of a compiled pattern beside its matches.
+ghost use Rattle.std.specs.Prelude.{◌≡◌, ◌+◌, ◌↔◌, ◌≢◌, ℕ, [], length, map, chars, string_bytes, IfOk, IsTrue, IsOkUnless};
+ghost use Rattle.regress_meaning.specs.Table.{Table};
+ghost use Rattle.regress_meaning.specs.Pattern.{Pattern};
+ghost use Rattle.regress_meaning.specs.Flags.{Options};
+ghost use Rattle.regress_meaning.specs.Matches.{match_list};
+ghost use Rattle.regress_meaning.specs.Offsets.{of_utf8, Begins};
+ghost use Rattle.regress_match.specs.GroupNames.{shared_names};
+ghost use Rattle.regress.specs.Standing.{StandsFor};
+
+use crate::api::Regex;
+use regress_front::{CaptureGroupName, Error};
+
+impl<'u> Regex<'u> {
+    /// Whether there is a match in a text ("RegExp.prototype.test"). Errs with `OutOfMemory` alone.
+    ///
+    /// ```rust
+    /// let found = regex.is_match("xaab")?; // for `a+b` true
+    /// ```
+    pub fn is_match(&self, text: &str) -> Result<bool, Error>
+        ensures found { (t : Table) → (o : Options) → (p : Pattern) → StandsFor self.now t o p →
+            IfOk result (λ found. IsTrue found ↔ (match_list t o p (chars text.now) 0 ≢ [])) }
+        ensures refused { IsOkUnless result Error.OutOfMemory }
+    {
+        Ok(self.find(text)?.is_some())
+    }
+
+    /// Whether there is a match in a text from `start` on, an offset in bytes ("RegExp.prototype.test").
+    ///
+    /// Asks that a search may begin there, as `is_start` tells. Past the end of the text there is none. Errs with
+    /// `OutOfMemory` alone.
+    ///
+    /// ```rust
+    /// let found = regex.is_match_from("aab", 3)?; // for `a+b` false
+    /// ```
+    pub fn is_match_from(&self, text: &str, start: usize) -> Result<bool, Error>
+        requires { (place : ℕ) × Begins (of_utf8 text.now) start place }
+        ensures found { (t : Table) → (o : Options) → (p : Pattern) → StandsFor self.now t o p →
+            (place : ℕ) → Begins (of_utf8 text.now) start place →
+            IfOk result (λ found. IsTrue found ↔ (match_list t o p (chars text.now) place ≢ [])) }
+        ensures refused { IsOkUnless result Error.OutOfMemory }
+    {
+        Ok(self.find_from(text, start)?.next().transpose()?.is_some())
+    }
+
+    /// The name of each capturing group in order of its number, empty where it has none.
+    ///
+    /// ```rust
+    /// let names = regex.group_names(); // for `(?<year>\d+)-(\d+)` it is `["year", ""]`
+    /// ```
+    pub fn group_names(&self) -> &[CaptureGroupName]
+        ensures { map string_bytes result.now ≡ shared_names self.now.group_names }
+    {
+        &self.group_names
+    }
+
+    /// How many groups a match has, the whole match among them: as many as `Match::groups` gives.
+    ///
+    /// ```rust
+    /// let count = regex.captures_len(); // for `(?<year>\d+)-(\d+)` it is 3
+    /// ```
+    pub fn captures_len(&self) -> usize
+        ensures { result ≡ length (shared_names self.now.group_names) + 1 }
+    {
+        self.group_names.len() + 1
+    }
+}

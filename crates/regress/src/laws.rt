@@ -1,0 +1,32 @@
+//! Laws of replacing. Nothing here runs: each function is a law, stated by its contract.
+ghost use Rattle.std.specs.Prelude.{◌≡◌, ◌≢◌, ℕ, List, All, take, map, chars, codes};
+ghost use Rattle.regress_meaning.specs.Table.{Table};
+ghost use Rattle.regress_meaning.specs.Pattern.{Pattern};
+ghost use Rattle.regress_meaning.specs.Flags.{Options, no_flags};
+ghost use Rattle.regress_meaning.specs.Matches.{match_list};
+ghost use Rattle.regress_meaning.specs.Literal.{literal_pattern, occurrences};
+ghost use Rattle.regress_meaning.specs.Offsets.{of_utf8, told};
+ghost use Rattle.regress_replacing.specs.Replacing.{expansion, replaced};
+
+/// The text with each match, or with the first, replaced by `$0` is the text.
+pub fn whole_matches_give_the_text_back()
+    ensures all { (t : Table) → (o : Options) → (p : Pattern) → (names : List (List ℕ)) → (text : List ℕ) →
+        let items = map (told (of_utf8 text)) (match_list t o p (chars text) 0) in
+        replaced text items (map (expansion names (codes "$0") text) items) ≡ text }
+    ensures first { (t : Table) → (o : Options) → (p : Pattern) → (names : List (List ℕ)) → (text : List ℕ) →
+        let items = take 1 (map (told (of_utf8 text)) (match_list t o p (chars text) 0)) in
+        replaced text items (map (expansion names (codes "$0") text) items) ≡ text }
+{
+    regress_meaning::matches_rise();
+}
+
+/// The text with each match of an escaped text replaced by a text without `$` is the text with that in the place of each
+/// occurrence.
+pub fn escaped_texts_are_replaced_where_they_occur()
+    ensures { (t : Table) → (names : List (List ℕ)) → (literal : List ℕ) → (replacement : List ℕ) → (text : List ℕ) → All (λ b. b ≢ 0x24) replacement →
+        let items = map (told (of_utf8 text)) (match_list t no_flags (literal_pattern literal) (chars text) 0) in
+        let places = map (told (of_utf8 text)) (occurrences literal (chars text) 0) in
+        replaced text items (map (expansion names replacement text) items) ≡ replaced text places (map (λ _. replacement) places) }
+{
+    regress_meaning::literals_match_their_occurrences();
+}

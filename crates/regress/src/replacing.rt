@@ -1,0 +1,150 @@
+//! Texts with others in the place of their matches.
+ghost use Rattle.std.specs.Prelude.{◌≡◌, ◌⊎◌, ◌++◌, ℕ, List, take, map, chars, IfOk, IfErr, OnOk, IsOkUnless, string_bytes};
+ghost use Rattle.std.specs.Fn.{FnReturnsAt, FnOnceReturnsAt};
+ghost use Rattle.regress_meaning.specs.Table.{Table};
+ghost use Rattle.regress_meaning.specs.Pattern.{Pattern};
+ghost use Rattle.regress_meaning.specs.Flags.{Options};
+ghost use Rattle.regress_meaning.specs.Matches.{match_list};
+ghost use Rattle.regress_meaning.specs.Offsets.{of_utf8, told};
+ghost use Rattle.regress_match.specs.GroupNames.{shared_names};
+ghost use Rattle.regress_replacing.specs.Replacing.{expansion, replaced};
+ghost use Rattle.regress.specs.Standing.{StandsFor};
+ghost use Rattle.regress.specs.Answering.{AnswersEach, RefusesOne};
+
+use crate::api::Regex;
+use regress_front::Error;
+use regress_match::Match;
+use regress_replacing::Replacement;
+
+/// Adds a part of the text that is kept, and a new text behind it.
+fn append(written: &mut String, kept: &str, new: &str) -> Result<(), Error>
+    ensures added { OnOk result (string_bytes written.new ≡ string_bytes written.old ++ kept.now ++ new.now) }
+    ensures refused { IsOkUnless result Error.OutOfMemory }
+{
+    written.push_str(kept)?;
+    written.push_str(new)?;
+    Ok(())
+}
+
+impl<'u> Regex<'u> {
+    /// A text with its first match replaced by a replacement text ("RegExp.prototype [ @@replace ]").
+    ///
+    /// In the replacement `$$` stands for `$`, `$` and digits for the text of the group with that number, where 0 is the whole
+    /// match, and `${name}` for the text of the first group with that name; a group that took no part or is not there has no
+    /// text. All else stands for itself. Errs with `OutOfMemory` alone.
+    ///
+    /// ```rust
+    /// let swapped = regex.replace("2023-12-25", "$2/$1")?; // for `(\d+)-(\d+)` it is `12/2023-25`
+    /// ```
+    pub fn replace(&self, text: &str, replacement: &str) -> Result<String, Error>
+        ensures replaced { (t : Table) → (o : Options) → (p : Pattern) → StandsFor self.now t o p →
+            let items = take 1 (map (told (of_utf8 text.now)) (match_list t o p (chars text.now) 0)) in
+            IfOk result (λ s. string_bytes s ≡ replaced text.now items (map (expansion (shared_names self.now.group_names) replacement.now text.now) items)) }
+        ensures refused { IsOkUnless result Error.OutOfMemory }
+    {
+        let mut written = String::new(self.alloc);
+        let Some(found) = self.find(text)? else {
+            written.push_str(text)?;
+            return Ok(written);
+        };
+        let once = Replacement::new(self.alloc, replacement)?;
+        written.push_str(&text[..found.start()])?;
+        once.write(&found, text, &mut written)?;
+        written.push_str(&text[found.end()..])?;
+        Ok(written)
+    }
+
+    /// A text with each match replaced by a replacement text, which is read as `replace` says ("RegExp.prototype
+    /// [ @@replace ]").
+    ///
+    /// Errs with `OutOfMemory` alone.
+    ///
+    /// ```rust
+    /// let dotted = regex.replace_all("hello world", "$1.$2")?; // for `\b(\w)(\w+)` it is `h.ello w.orld`
+    /// ```
+    pub fn replace_all(&self, text: &str, replacement: &str) -> Result<String, Error>
+        ensures replaced { (t : Table) → (o : Options) → (p : Pattern) → StandsFor self.now t o p →
+            let items = map (told (of_utf8 text.now)) (match_list t o p (chars text.now) 0) in
+            IfOk result (λ s. string_bytes s ≡ replaced text.now items (map (expansion (shared_names self.now.group_names) replacement.now text.now) items)) }
+        ensures refused { IsOkUnless result Error.OutOfMemory }
+    {
+        let read = Replacement::new(self.alloc, replacement)?;
+        let mut written = String::new(self.alloc);
+        let mut behind = 0;
+        for found in self.find_iter(text)? {
+            let found = found?;
+            written.push_str(&text[behind..found.start()])?;
+            read.write(&found, text, &mut written)?;
+            behind = found.end();
+        }
+        written.push_str(&text[behind..])?;
+        Ok(written)
+    }
+
+    /// A text with its first match replaced by the text that a closure answers to it ("RegExp.prototype [ @@replace ]"), as it
+    /// stands: a `$` in it has no meaning.
+    ///
+    /// Asks that the closure may be called on any match. Errs with the closure's error, which is of any type that an `Error`
+    /// can be told as, and with what `OutOfMemory` is told as.
+    ///
+    /// ```rust
+    /// let text = regex.replace_with("Price: $123", |_| Ok(String::from_str(alloc, "$0")?))?; // for `\d+` it is `Price: $$0`
+    /// ```
+    pub fn replace_with<E, F>(&self, text: &str, with: F) -> Result<String, E>
+    where
+        E: From<Error>,
+        F: FnOnce(&Match) -> Result<String, E>,
+        requires { F.IsAlwaysCallable with }
+        ensures replaced { (t : Table) → (o : Options) → (p : Pattern) → StandsFor self.now t o p →
+            let items = take 1 (map (told (of_utf8 text.now)) (match_list t o p (chars text.now) 0)) in
+            IfOk result (λ s. (news : List (List ℕ)) × AnswersEach (FnOnceReturnsAt F.FnOnce with) (shared_names self.now.group_names) items news
+                × (string_bytes s ≡ replaced text.now items news)) }
+        ensures refused { (t : Table) → (o : Options) → (p : Pattern) → StandsFor self.now t o p →
+            let items = take 1 (map (told (of_utf8 text.now)) (match_list t o p (chars text.now) 0)) in
+            IfErr result (λ e. E.from_gives Error.OutOfMemory e ⊎ RefusesOne (FnOnceReturnsAt F.FnOnce with) (shared_names self.now.group_names) items e) }
+    {
+        let mut written = String::new(self.alloc);
+        let Some(found) = self.find(text)? else {
+            append(&mut written, text, "")?;
+            return Ok(written);
+        };
+        let answer = with(&found)?;
+        append(&mut written, &text[..found.start()], answer.as_str())?;
+        append(&mut written, &text[found.end()..], "")?;
+        Ok(written)
+    }
+
+    /// A text with each match replaced by the text that a closure answers to it ("RegExp.prototype [ @@replace ]"), as it
+    /// stands: a `$` in it has no meaning. The closure is called on the matches in order.
+    ///
+    /// Asks that the closure may be called on any match. Errs with the first error that the closure answers, which is of any
+    /// type that an `Error` can be told as, and with what `OutOfMemory` is told as.
+    ///
+    /// ```rust
+    /// let text = regex.replace_all_with("a1b22", |_| Ok(String::from_str(alloc, "#")?))?; // for `\d+` it is `a#b#`
+    /// ```
+    pub fn replace_all_with<E, F>(&self, text: &str, with: F) -> Result<String, E>
+    where
+        E: From<Error>,
+        F: Fn(&Match) -> Result<String, E>,
+        requires { F.IsAlwaysCallable with }
+        ensures replaced { (t : Table) → (o : Options) → (p : Pattern) → StandsFor self.now t o p →
+            let items = map (told (of_utf8 text.now)) (match_list t o p (chars text.now) 0) in
+            IfOk result (λ s. (news : List (List ℕ)) × AnswersEach (FnReturnsAt F.Fn with) (shared_names self.now.group_names) items news
+                × (string_bytes s ≡ replaced text.now items news)) }
+        ensures refused { (t : Table) → (o : Options) → (p : Pattern) → StandsFor self.now t o p →
+            let items = map (told (of_utf8 text.now)) (match_list t o p (chars text.now) 0) in
+            IfErr result (λ e. E.from_gives Error.OutOfMemory e ⊎ RefusesOne (FnReturnsAt F.Fn with) (shared_names self.now.group_names) items e) }
+    {
+        let mut written = String::new(self.alloc);
+        let mut behind = 0;
+        for found in self.find_iter(text)? {
+            let found = found?;
+            let new = with(&found)?;
+            append(&mut written, &text[behind..found.start()], new.as_str())?;
+            behind = found.end();
+        }
+        append(&mut written, &text[behind..], "")?;
+        Ok(written)
+    }
+}

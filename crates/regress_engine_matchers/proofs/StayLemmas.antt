@@ -1,0 +1,32 @@
+-- What stands beside an offset in a text ends in it.
+use Rattle.std.proofs.Common.{◌≡◌, ℕ, ◌+◌, ◌-◌, ◌≤◌, Bool, true, false, List, length, Some, refl, ap, arith, length-append, length-drop}
+use Rattle.regress_meaning.specs.Meaning.{Direction, Forward, Backward}
+use Rattle.regress_meaning.specs.Inputs.{Input}
+use Rattle.regress_meaning.specs.Steps.{only_if, literal}
+use Rattle.regress_engine_input.specs.Views.{View, LiesIn, Kind, utf8, ascii, utf16, ucs2, input_of, input_of_kind}
+use Rattle.regress_engine_input.proofs.Standing.{stands_right, stands_left, right-split}
+
+only-some : (b : Bool) (o q : ℕ) → only_if b o ≡ Some q → (b ≡ true) × (o ≡ q)
+only-some true o q e = (refl, cc e)
+only-some false o q e = absurd (cc e)
+
+stays : (input : Input) (dir : Direction) (part : List ℕ) (o q : ℕ) → o ≤ length input.units → literal input dir part o ≡ Some q → q ≤ length input.units
+stays input Forward part o q room e =
+    let found = only-some (stands_right input.units o part) (o + length part) q e in
+    let split = right-split input.units o part found.0 in
+    let size = ap length split.1 in
+    let a = length-append part split.0 in
+    let b = length-drop o input.units in
+    let same = found.1 in omega (arith, size, a, b, same, room)
+stays input Backward part o q room e =
+    let found = only-some (stands_left input.units o part) (o - length part) q e in
+    let same = found.1 in omega (arith, same, room)
+
+pub literal-stays : (v : View) (dir : Direction) (part : List ℕ) (o q : ℕ) → LiesIn v o → literal (input_of v) dir part o ≡ Some q → LiesIn v q
+literal-stays v dir part o q room e = by_kind v.kind e
+  where
+    by_kind : (kind : Kind) → literal (input_of_kind kind v.table v.unicode v.units) dir part o ≡ Some q → q ≤ length v.units
+    by_kind utf8 h = stays (input_of_kind utf8 v.table v.unicode v.units) dir part o q room h
+    by_kind ascii h = stays (input_of_kind ascii v.table v.unicode v.units) dir part o q room h
+    by_kind utf16 h = stays (input_of_kind utf16 v.table v.unicode v.units) dir part o q room h
+    by_kind ucs2 h = stays (input_of_kind ucs2 v.table v.unicode v.units) dir part o q room h

@@ -1,0 +1,8 @@
+use Rattle.std.proofs.Common.{◌≡◌, false, map, take}
+use Rattle.std.specs.List.{list_any}
+use Rattle.regress_front_nodes.specs.Trees.{tree}
+use Rattle.regress_front_nodes.specs.Singles.{always_fails}
+use Rattle.regress_front_opt.proofs.failing.some_fails.Given as goal
+
+abbrev pub invariant-loop-part : goal.invariant-loop-part
+invariant-loop-part l = list_any always_fails (map tree (take l.part-index l.parts)) ≡ false

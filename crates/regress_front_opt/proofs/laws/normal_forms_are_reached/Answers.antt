@@ -1,5 +1,0 @@
-use Rattle.regress_front_opt.proofs.NormalLemmas.{normal-reached}
-use Rattle.regress_front_opt.proofs.laws.normal_forms_are_reached.Goals as goal
-
-pub returns : goal.returns
-returns c = normal-reached

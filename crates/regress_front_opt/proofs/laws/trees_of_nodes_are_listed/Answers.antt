@@ -1,5 +1,0 @@
-use Rattle.regress_front_opt.proofs.ListedNodes.{nodes-listed}
-use Rattle.regress_front_opt.proofs.laws.trees_of_nodes_are_listed.Goals as goal
-
-pub returns : goal.returns
-returns c = nodes-listed

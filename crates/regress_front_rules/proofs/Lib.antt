@@ -1,0 +1,12 @@
+pub mod StepLemmas
+pub mod InsideLemmas
+pub mod LoopLemmas
+pub mod RuleLemmas
+pub mod OneLemmas
+pub mod MeasureLemmas
+pub mod KeepLemmas
+pub mod RewriteLemmas
+pub mod PlaceLemmas
+pub mod ClauseLemmas
+pub mod NormalLemmas
+pub mod ListedNodes

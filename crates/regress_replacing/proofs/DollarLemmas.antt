@@ -1,0 +1,58 @@
+-- What a replacement text gives, step by step.
+use Rattle.std.proofs.Common.{◌≡◌, ◌≢◌, ℕ, zero, suc, ◌+◌, ◌<◌, true, false, ◌==◌, List, [], ◌∷◌, ◌++◌, length, take, drop, get_or, codes, refl, ap, arith, ne_eqb, lt-ltb, le-ltb}
+use Rattle.std.specs.Char.{is_ascii_digit}
+use Rattle.std.specs.List.{position_or_len}
+use Rattle.regress_meaning.specs.Text.{is_at}
+use Rattle.regress_replacing.specs.Replacing.{number_after, at_dollar, given_behind}
+
+module _ (by_number : ℕ → List ℕ) (by_name : List ℕ → List ℕ) where
+  -- what is passed over gives nothing
+  given-passed : (n : ℕ) (t : List ℕ) → given_behind by_number by_name n t ≡ given_behind by_number by_name 0 (drop n t)
+  unfolding given_behind
+  given-passed zero t = refl
+  given-passed (suc n) [] = refl
+  given-passed (suc n) (c ∷ t) = given-passed n t
+
+  -- what has no `$` stands for itself
+  pub given-plain : (xs ys : List ℕ) → ((i : ℕ) → i < length xs → get_or xs i 0 ≢ 0x24)
+      → given_behind by_number by_name 0 (xs ++ ys) ≡ xs ++ given_behind by_number by_name 0 ys
+  unfolding given_behind
+  given-plain [] ys none = refl
+  given-plain (c ∷ xs) ys none =
+      rw (ne_eqb c 0x24 (none 0 (omega arith)), given-plain xs ys (λ i below. none (suc i) (omega arith))) refl
+
+  -- a `$` gives what it stands for, before what is left
+  pub given-dollar : (t : List ℕ) → given_behind by_number by_name 0 (0x24 ∷ t)
+      ≡ (at_dollar by_number by_name t).0 ++ given_behind by_number by_name 0 (drop (at_dollar by_number by_name t).1 t)
+  unfolding given_behind
+  given-dollar t = ap (λ (r : List ℕ). (at_dollar by_number by_name t).0 ++ r) (given-passed (at_dollar by_number by_name t).1 t)
+
+  pub given-end : given_behind by_number by_name 0 [] ≡ []
+  unfolding given_behind
+  given-end = refl
+
+  -- `${` with a name up to a `}`
+  pub name-closed : (inside : List ℕ) → position_or_len (λ c. c == 0x7D) inside < length inside
+      → at_dollar by_number by_name (0x7B ∷ inside)
+      ≡ (by_name (take (position_or_len (λ c. c == 0x7D) inside) inside), position_or_len (λ c. c == 0x7D) inside + 2)
+  name-closed inside closed = rw (lt-ltb _ _ closed) refl
+
+  -- `${` without one
+  pub name-open : (inside : List ℕ) → position_or_len (λ c. c == 0x7D) inside ≡ length inside
+      → at_dollar by_number by_name (0x7B ∷ inside) ≡ (codes "${" ++ inside, length inside + 1)
+  name-open inside unclosed = rw (unclosed, le-ltb (length inside) (length inside) (omega arith)) refl
+
+  -- `$` and a digit
+  pub digit-there : (t : List ℕ) → is_at (λ c. c == 0x24) t ≡ false → is_at (λ c. c == 0x7B) t ≡ false → is_at is_ascii_digit t ≡ true
+      → at_dollar by_number by_name t ≡ (by_number (number_after 0 t).0, (number_after 0 t).1)
+  digit-there t dollar brace digit = rw (dollar, brace, digit) refl
+
+  -- any other `$`
+  pub nothing-there : (t : List ℕ) → is_at (λ c. c == 0x24) t ≡ false → is_at (λ c. c == 0x7B) t ≡ false → is_at is_ascii_digit t ≡ false
+      → at_dollar by_number by_name t ≡ (codes "$", 0)
+  nothing-there t dollar brace digit = rw (dollar, brace, digit) refl
+
+-- a text that begins with no c
+pub not-at : (c : ℕ) (t : List ℕ) → ((rest : List ℕ) → t ≢ c ∷ rest) → is_at (λ d. d == c) t ≡ false
+not-at c [] none = refl
+not-at c (d ∷ t) none = ne_eqb d c (λ e. none t (ap (λ (x : ℕ). x ∷ t) e))

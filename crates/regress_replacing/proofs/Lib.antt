@@ -1,0 +1,5 @@
+pub mod EscapeLemmas
+pub mod NumberLemmas
+pub mod GroupTexts
+pub mod DollarLemmas
+pub mod PieceLemmas

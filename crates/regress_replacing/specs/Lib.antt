@@ -1,0 +1,3 @@
+pub mod Replacing
+pub mod Pieces
+pub mod Views

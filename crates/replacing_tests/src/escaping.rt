@@ -1,0 +1,55 @@
+//! Texts that are escaped.
+
+use crate::told::{compiled, is_same};
+use regress::{Tables, escape};
+use std::alloc::Global;
+use std::test::Fail;
+
+/// Texts, and what they are escaped as.
+const ESCAPED: &[(&str, &str)] = &[
+    ("a.b", r"a\.b"),
+    ("", ""),
+    ("a{2}", r"a\{2\}"),
+    ("$100 + tax (15%)", r"\$100 \+ tax \(15%\)"),
+    (r"\^$.|?*+()[]{}", r"\\\^\$\.\|\?\*\+\(\)\[\]\{\}"),
+    ("é-漢/😀\n", "é-漢/😀\n"),
+];
+
+#[test]
+fn syntax_characters_stand_behind_a_backslash(rt: HostRuntime) -> Result<(), Fail> {
+    for (text, expected) in ESCAPED {
+        let escaped = escape(rt.alloc(), text)?;
+        is_same(rt.alloc(), text, escaped.as_str(), expected)?;
+    }
+    Ok(())
+}
+
+/// Texts that are escaped, the flags under which they are sought, texts, and these with each occurrence replaced by `#`.
+const SOUGHT: &[(&str, &str, &str, &str)] = &[
+    ("a.b", "", "a.b axb a.b", "# axb #"),
+    ("", "", "é", "#é#"),
+    ("aa", "", "aaaa", "##"),
+    ("aa", "", "aaaaa", "##a"),
+    ("a{2}", "", "aa a{2}", "aa #"),
+    (r"\d", "u", r"1\d", "1#"),
+    ("[a]", "v", "a[a]", "a#"),
+    ("^", "", "a^", "a#"),
+    ("😀", "", "a😀", "a#"),
+];
+
+/// A text with each occurrence of another replaced by `#`.
+fn replaced(alloc: Global, sought: &str, flags: &str, text: &str) -> Result<String, Fail> {
+    let tables = Tables::small(alloc)?;
+    let pattern = escape(alloc, sought)?;
+    let regex = compiled(alloc, pattern.as_str(), flags, &tables)?;
+    Ok(regex.replace_all(text, "#")?)
+}
+
+#[test]
+fn an_escaped_text_finds_its_occurrences(rt: HostRuntime) -> Result<(), Fail> {
+    for (sought, flags, text, expected) in SOUGHT {
+        let came = replaced(rt.alloc(), sought, flags, text)?;
+        is_same(rt.alloc(), sought, came.as_str(), expected)?;
+    }
+    Ok(())
+}

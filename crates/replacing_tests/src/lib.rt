@@ -1,0 +1,11 @@
+//! Tests of replacing and escaping, by the public calls of `regress` alone. The library itself is empty.
+#![tactic(auto)]
+
+#[cfg(test)]
+mod closures;
+#[cfg(test)]
+mod escaping;
+#[cfg(test)]
+mod replacing;
+#[cfg(test)]
+mod told;
