@@ -23,7 +23,7 @@ plain-taking units = record {
   char = λ c. refl;
   char_set = λ cs. refl;
   byte_set = λ bs. refl;
-  byte_seq = λ bs. refl;
+  byte_seq = λ same bs. refl;
   fail = refl;
 }
 
