@@ -16,5 +16,5 @@ pub use matches::Matches;
 pub use regress_front::{
     Error, Flags, TableError, TableLaw, TableParts, Tables, are_code_points, flags_are_read_back,
 };
-pub use regress_match::{Groups, Match, Range};
+pub use regress_match::{Groups, Match, NamedGroups, Range};
 pub use regress_replacing::escape;
