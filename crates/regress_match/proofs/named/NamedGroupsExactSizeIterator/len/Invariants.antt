@@ -6,6 +6,6 @@ use Rattle.regress_match.proofs.named.NamedGroupsExactSizeIterator.len.Given as 
 abbrev pub invariant-loop-index : goal.invariant-loop-index
 invariant-loop-index l = record {
   count : l.count + length (new_names (take l.index (names_of_match l.self.found.now)) (drop l.index (names_of_match l.self.found.now)))
-  ≡ length (new_names (take l.self.index (names_of_match l.self.found.now)) (drop l.self.index (names_of_match l.self.found.now)));
+      ≡ length (new_names (take l.self.index (names_of_match l.self.found.now)) (drop l.self.index (names_of_match l.self.found.now)));
   small : l.count ≤ l.index;
 }
