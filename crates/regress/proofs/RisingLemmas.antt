@@ -60,9 +60,11 @@ behind-front items rises = from 0 items rises (least items)
     StartsBehind : ℕ → List Item → Type 0
     StartsBehind at [] = Unit {0}
     StartsBehind at (i ∷ items) = at ≤ i.start
+
     least : (items : List Item) → StartsBehind 0 items
     least [] = tt
     least (i ∷ items) = omega arith
+
     from : (at : ℕ) (items : List Item) → ItemsRise items → StartsBehind at items → LieBehind at items
     from at [] rises starts = tt
     from at (i ∷ []) rises starts = (starts, rises, tt)

@@ -98,7 +98,7 @@ impl<'u> Regex<'u> {
         ensures replaced { (t : Table) → (o : Options) → (p : Pattern) → StandsFor self.now t o p →
             let items = take 1 (map (told (of_utf8 text.now)) (match_list t o p (chars text.now) 0)) in
             IfOk result (λ s. (news : List (List ℕ)) × AnswersEach (FnOnceReturnsAt F.FnOnce with) (shared_names self.now.group_names) items news
-                × (string_bytes s ≡ replaced text.now items news)) }
+            × (string_bytes s ≡ replaced text.now items news)) }
         ensures refused { (t : Table) → (o : Options) → (p : Pattern) → StandsFor self.now t o p →
             let items = take 1 (map (told (of_utf8 text.now)) (match_list t o p (chars text.now) 0)) in
             IfErr result (λ e. E.from_gives Error.OutOfMemory e ⊎ RefusesOne (FnOnceReturnsAt F.FnOnce with) (shared_names self.now.group_names) items e) }
@@ -131,7 +131,7 @@ impl<'u> Regex<'u> {
         ensures replaced { (t : Table) → (o : Options) → (p : Pattern) → StandsFor self.now t o p →
             let items = map (told (of_utf8 text.now)) (match_list t o p (chars text.now) 0) in
             IfOk result (λ s. (news : List (List ℕ)) × AnswersEach (FnReturnsAt F.Fn with) (shared_names self.now.group_names) items news
-                × (string_bytes s ≡ replaced text.now items news)) }
+            × (string_bytes s ≡ replaced text.now items news)) }
         ensures refused { (t : Table) → (o : Options) → (p : Pattern) → StandsFor self.now t o p →
             let items = map (told (of_utf8 text.now)) (match_list t o p (chars text.now) 0) in
             IfErr result (λ e. E.from_gives Error.OutOfMemory e ⊎ RefusesOne (FnReturnsAt F.Fn with) (shared_names self.now.group_names) items e) }

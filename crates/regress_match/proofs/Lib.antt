@@ -2,3 +2,4 @@ pub mod GroupLemmas
 pub mod NameLemmas
 pub mod TextLemmas
 pub mod RangeLemmas
+pub mod NamedLemmas

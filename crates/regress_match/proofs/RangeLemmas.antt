@@ -8,11 +8,11 @@ use Rattle.regress_meaning.specs.Text.{same_text}
 use Rattle.regress_match.specs.GroupRanges.{numbered, first_named, named}
 
 -- a text is the same as itself, and as no other
-same : (a b : List ℕ) → a ≡ b → same_text a b ≡ true
-same a b e = (slice_eq-Decides Decides-eqb a b _ refl).1 e
+pub same-text : (a b : List ℕ) → a ≡ b → same_text a b ≡ true
+same-text a b e = (slice_eq-Decides Decides-eqb a b _ refl).1 e
 
-other : (a b : List ℕ) → a ≢ b → same_text a b ≡ false
-other a b apart = false_from_ne_true _ (λ e. apart ((slice_eq-Decides Decides-eqb a b _ refl).0 e))
+pub other-text : (a b : List ℕ) → a ≢ b → same_text a b ≡ false
+other-text a b apart = false_from_ne_true _ (λ e. apart ((slice_eq-Decides Decides-eqb a b _ refl).0 e))
 
 module _ {A : Type 0} (wanted : List ℕ) where
   -- the first name that is wanted stands at an index
@@ -20,9 +20,9 @@ module _ {A : Type 0} (wanted : List ℕ) where
       → ((j : ℕ) → j < k → slice_get names j ≢ Some wanted) → first_named wanted names groups ≡ numbered groups k
   first_named-at [] groups k there first = absurd (cc)
   first_named-at (n ∷ names) [] k there first = refl
-  first_named-at (n ∷ names) (g ∷ groups) zero there first = let e : n ≡ wanted = cc in rw (same n wanted e) refl
+  first_named-at (n ∷ names) (g ∷ groups) zero there first = let e : n ≡ wanted = cc in rw (same-text n wanted e) refl
   first_named-at (n ∷ names) (g ∷ groups) (suc k) there first =
-      rw (other n wanted (λ e. first 0 (omega arith) (ap Some e)))
+      rw (other-text n wanted (λ e. first 0 (omega arith) (ap Some e)))
       (first_named-at names groups k there (λ j below. first (suc j) (omega arith)))
 
   -- no name is wanted
@@ -31,7 +31,7 @@ module _ {A : Type 0} (wanted : List ℕ) where
   first_named-nowhere [] groups none = refl
   first_named-nowhere (n ∷ names) [] none = refl
   first_named-nowhere (n ∷ names) (g ∷ groups) none =
-      rw (other n wanted (λ e. none 0 (ap Some e))) (first_named-nowhere names groups (λ j. none (suc j)))
+      rw (other-text n wanted (λ e. none 0 (ap Some e))) (first_named-nowhere names groups (λ j. none (suc j)))
 
 -- a name that is not empty stands for its first group
 pub named-some : {A : Type 0} (names : List (List ℕ)) (groups : List (Option A)) (name : List ℕ) → name ≢ []

@@ -4,3 +4,5 @@ pub mod GroupViews
 pub mod TextRanges
 pub mod Iterating
 pub mod GroupRanges
+pub mod NamedRanges
+pub mod NamedGroupViews

@@ -4,6 +4,7 @@ ghost use Rattle.std.specs.Str.{IsCharBoundary};
 ghost use Rattle.std.specs.String.{string_bytes};
 
 use crate::groups::Groups;
+use crate::named::NamedGroups;
 use regress_front_core::{CaptureGroupName, Error};
 use std::sync::ArcSlice;
 
@@ -21,7 +22,7 @@ pub struct Match {
 }
 
 /// The index of the first of some names that is this one.
-fn first_named(names: &[CaptureGroupName], wanted: &str) -> Option<usize>
+pub(crate) fn first_named(names: &[CaptureGroupName], wanted: &str) -> Option<usize>
     ensures there { IfSome result (λ i. (i < length names.now) × (slice_get (map string_bytes names.now) i ≡ Some wanted.now)) }
     ensures first { IfSome result (λ i. (j : ℕ) → j < i → slice_get (map string_bytes names.now) j ≢ Some wanted.now) }
     ensures nowhere { IfNone result ((j : ℕ) → slice_get (map string_bytes names.now) j ≢ Some wanted.now) }
@@ -42,6 +43,8 @@ fn copied(range: &Option<Range>) -> Option<Range>
 impl Match {
     ghost use Rattle.regress_match.specs.GroupViews.{groups_of, groups_left, names_of_match};
     ghost use Rattle.regress_match.specs.GroupNames.{IsFirstNamed, shared_names};
+    ghost use Rattle.regress_match.specs.NamedRanges.{named_from};
+    ghost use Rattle.regress_match.specs.NamedGroupViews.{named_left};
     ghost use Rattle.regress_match.specs.GroupRanges.{range_numbered, range_named, part_of};
     ghost use Rattle.regress_match.specs.TextRanges.{LiesBetween, LiesInText};
 
@@ -108,6 +111,27 @@ impl Match {
             return None;
         }
         self.group(first_named(&self.group_names, name)? + 1)
+    }
+
+    /// The name of each capturing group in order of its number.
+    pub(crate) fn names(&self) -> &[CaptureGroupName]
+        ensures { map string_bytes result.now ≡ names_of_match self.now }
+    {
+        &self.group_names
+    }
+
+    /// Each name of a group once, in order of first appearance, with the range of the first group of that name that took
+    /// part; `None` where none did.
+    ///
+    /// ```rust
+    /// for (name, range) in found.named_groups() {
+    ///     // for `(?<n>a)|(?<n>b)` on `b` `n` and `Some(0..1)`
+    /// }
+    /// ```
+    pub fn named_groups(&self) -> NamedGroups<'_>
+        ensures { named_left result ≡ named_from self.now 0 }
+    {
+        NamedGroups::of(self)
     }
 
     /// The range of the whole match and then that of each capturing group, as `group` answers them one after another.

@@ -4,7 +4,9 @@
 mod found;
 mod groups;
 mod matches;
+mod named;
 
 pub use found::{Match, Range};
 pub use groups::Groups;
 pub use matches::{MatchProducer, Matches};
+pub use named::NamedGroups;

@@ -6,6 +6,8 @@ mod closures;
 #[cfg(test)]
 mod escaping;
 #[cfg(test)]
+mod named;
+#[cfg(test)]
 mod replacing;
 #[cfg(test)]
 mod told;

@@ -10,5 +10,5 @@ abbrev pub invariant-loop-found : goal.invariant-loop-found
 invariant-loop-found l = record {
   behind : IsBehind l.text (shared_names l.self.group_names) l.behind l.found-iterator;
   written : finished l.text (expansion (shared_names l.self.group_names) (source_of l.read) l.text) (string_bytes l.written) l.behind (coming l.found-iterator)
-  ≡ finished l.text (expansion (shared_names l.self.group_names) (source_of l.read) l.text) (string_bytes l.initial.written) l.initial.behind (coming l.initial.found-iterator);
+      ≡ finished l.text (expansion (shared_names l.self.group_names) (source_of l.read) l.text) (string_bytes l.initial.written) l.initial.behind (coming l.initial.found-iterator);
 }

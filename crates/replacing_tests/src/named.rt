@@ -1,0 +1,85 @@
+//! The named groups of a match, and the texts of groups.
+
+use crate::told::{compiled, is_same};
+use regress::{Error, Match, Tables};
+use std::alloc::Global;
+use std::test::Fail;
+
+/// The names of a match, each with its range in bytes, or `-`, parted by spaces.
+fn told(alloc: Global, found: &Match) -> Result<String, Error> {
+    let mut told = String::new(alloc);
+    for (name, range) in found.named_groups() {
+        if !told.is_empty() {
+            told.push(' ')?;
+        }
+        told.push_str(name)?;
+        match range {
+            Some(range) => {
+                told.push_str(format!(in alloc; "={}..{}", range.start, range.end)?.as_str())?
+            }
+            None => told.push_str("=-")?,
+        }
+    }
+    Ok(told)
+}
+
+/// Patterns, texts, and the named groups of the first match.
+const NAMED: &[(&str, &str, &str)] = &[
+    ("(?<n>a)|(?<n>b)", "b", "n=0..1"),
+    ("(?<n>a)|(?<n>b)", "a", "n=0..1"),
+    ("(?<y>a)(b)(?<x>c)?", "ab", "y=0..1 x=-"),
+    ("(?:(?<a>x)|(?<b>y)|(?<a>z))+", "yz", "a=1..2 b=-"),
+    ("(a)(b)", "ab", ""),
+    ("(?<é>a)", "a", "é=0..1"),
+];
+
+#[test]
+fn each_name_comes_once(rt: HostRuntime) -> Result<(), Fail> {
+    let tables = Tables::small(rt.alloc())?;
+    for (pattern, text, expected) in NAMED {
+        let regex = compiled(rt.alloc(), pattern, "", &tables)?;
+        let found = regex.find(text)?.ok_or("no match")?;
+        let came = told(rt.alloc(), &found)?;
+        is_same(rt.alloc(), pattern, came.as_str(), expected)?;
+    }
+    Ok(())
+}
+
+#[test]
+fn names_are_counted(rt: HostRuntime) -> Result<(), Fail> {
+    let tables = Tables::small(rt.alloc())?;
+    let regex = compiled(rt.alloc(), "(?<n>a)(?<m>b)|(?<n>c)", "", &tables)?;
+    let mut found = regex.find("ab")?.ok_or("no match")?;
+    let mut groups = found.named_groups();
+    assert!(rt; groups.len() == 2 && groups.next().is_some() && groups.len() == 1);
+    let same = groups.clone()?;
+    assert!(rt; groups.next().is_some() && groups.next().is_none() && same.len() == 1);
+    found.captures.clear();
+    let came = told(rt.alloc(), &found)?;
+    is_same(rt.alloc(), "shortened", came.as_str(), "n=- m=-")
+}
+
+#[test]
+fn the_text_of_a_group(rt: HostRuntime) -> Result<(), Fail> {
+    let tables = Tables::small(rt.alloc())?;
+    let regex = compiled(rt.alloc(), "(?<n>é)(?<m>b)?", "", &tables)?;
+    let found = regex.find("aé")?.ok_or("no match")?;
+    assert!(rt; found.group_str("aé", 0) == Some("é") && found.group_str("aé", 1) == Some("é"));
+    assert!(rt; found.group_str("aé", 2).is_none() && found.group_str("aé", 3).is_none());
+    assert!(rt; found.named_str("aé", "n") == Some("é") && found.named_str("aé", "m").is_none());
+    let copy = found.try_clone()?;
+    assert!(rt; copy.range() == (1..3) && copy.group_str("aé", 1) == Some("é"));
+    Ok(())
+}
+
+#[test]
+fn what_is_asked_of_a_regex(rt: HostRuntime) -> Result<(), Fail> {
+    let tables = Tables::small(rt.alloc())?;
+    let regex = compiled(rt.alloc(), "(?<n>a)(b)?", "", &tables)?;
+    assert!(rt; regex.is_match("xa")? && !regex.is_match("x")?);
+    assert!(rt; !regex.is_match_from("ax", 1)? && regex.is_match_from("xa", 1)?);
+    assert!(rt; !regex.is_match_from("a", 2)? && regex.captures_len() == 3);
+    let names = regex.group_names();
+    assert!(rt; names.len() == 2 && names[0].as_str() == "n" && names[1].is_empty());
+    Ok(())
+}
