@@ -265,13 +265,18 @@ fn programs_of_strings(rt: HostRuntime) -> Result<(), Fail> {
     Ok(())
 }
 
+/// A piece of a pattern, how often it stands there, and how many instructions the program has.
+const LONG: &[(&str, usize, usize)] = &[("a", 100_000, 100_001), ("a|", 50_000, 150_001)];
+
 #[test]
 fn long_patterns_have_programs(rt: HostRuntime) -> Result<(), Fail> {
     let tables = Tables::small(rt.alloc())?;
-    let pattern = "a|".repeat(rt.alloc(), 50_000)?;
-    for units in [false, true] {
-        let program = program(rt.alloc(), pattern.as_str(), "", units, &tables)?;
-        assert!(rt; program.insns().len() == 150_001);
+    for (piece, times, length) in LONG {
+        let pattern = piece.repeat(rt.alloc(), *times)?;
+        for units in [false, true] {
+            let program = program(rt.alloc(), pattern.as_str(), "", units, &tables)?;
+            assert!(rt; program.insns().len() == *length);
+        }
     }
     Ok(())
 }

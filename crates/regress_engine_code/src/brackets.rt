@@ -15,7 +15,7 @@ use crate::insn::Insn;
 use regress_front_bytes::AsciiBitmap;
 use regress_front_core::Error;
 use regress_front_nodes::BracketContents;
-use regress_front_sets::{CodePointSet, Interval};
+use regress_front_sets::Interval;
 use std::alloc::{AllocError, Global};
 
 /// Adds an interval of ASCII characters.
@@ -46,20 +46,6 @@ fn ascii_bitmap(contents: &BracketContents) -> Option<AsciiBitmap>
     Some(bitmap)
 }
 
-/// A bracket of the same characters.
-pub(crate) fn copy_of(
-    alloc: Global,
-    contents: &BracketContents,
-) -> Result<BracketContents, AllocError>
-    ensures { IfOk result (λ copy. bracket_ends copy ≡ bracket_ends contents.now) }
-{
-    let intervals = contents.cps.intervals().to_vec(alloc)?;
-    Ok(BracketContents {
-        invert: contents.invert,
-        cps: CodePointSet::from_sorted_disjoint_intervals(intervals),
-    })
-}
-
 /// Brackets of the same characters.
 pub(crate) fn copies_of(
     alloc: Global,
@@ -69,7 +55,7 @@ pub(crate) fn copies_of(
 {
     let mut copies = Vec::new(alloc);
     for contents in brackets {
-        copies.push(copy_of(alloc, contents)?)?;
+        copies.push(contents.copy(alloc)?)?;
     }
     Ok(copies)
 }
@@ -84,7 +70,7 @@ impl<'u> Emitter<'u> {
         if let Some(bitmap) = ascii_bitmap(contents) {
             return code.push(Insn::AsciiBracket(bitmap));
         }
-        let index = code.add_bracket(copy_of(self.alloc, contents)?)?;
+        let index = code.add_bracket(contents.copy(self.alloc)?)?;
         code.push(Insn::Bracket(index))
     }
 }

@@ -13,8 +13,12 @@ use std::alloc::{AllocError, Global};
 const DEEPEST_COPY: usize = 1280;
 
 impl BracketContents {
-    /// A class of the same code points.
-    fn copy(&self, alloc: Global) -> Result<BracketContents, AllocError>
+    /// A class of the same code points. It errs only where memory is refused.
+    ///
+    /// ```rust
+    /// let twice = Node::Bracket(contents.copy(alloc)?);
+    /// ```
+    pub fn copy(&self, alloc: Global) -> Result<BracketContents, AllocError>
         ensures { IfOk result (λ copy. (copy.invert ≡ self.now.invert)
             × (intervals_of copy.cps ≡ intervals_of self.now.cps)) }
     {

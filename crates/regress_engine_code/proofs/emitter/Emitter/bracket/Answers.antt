@@ -1,7 +1,8 @@
-use Rattle.std.proofs.Common.{ℕ, List, Bool, ap, ◌∙◌, ◌++◌, ◌∷◌, []}
+use Rattle.std.proofs.Common.{ℕ, List, Bool, ap, ap₂, ◌∙◌, ◌++◌, ◌∷◌, []}
 use Rattle.std.proofs.lemmas.Result.{IfOk-weaker}
 use Rattle.regress_front_tables.specs.TableViews.{table}
 use Rattle.regress_front_sets.specs.Intervals.{ends_of}
+use Rattle.regress_front_sets.specs.declared.interval.Interval.{Interval}
 use Rattle.regress_engine_code.specs.Written.{Written, written}
 use Rattle.regress_engine_code.proofs.EmitLemmas.{AddsTree-bracket}
 use Rattle.regress_engine_code.proofs.emitter.Emitter.bracket.Goals as goal
@@ -13,5 +14,5 @@ returns-clause-added c =
     IfOk-weaker c.push-2.result _ _
     (λ _ told backward. AddsTree-bracket c.args.self.now.units (table c.args.self.now.tables.now) c.args.self.now.unicode backward contents.invert (ends_of contents.cps.intervals.items)
     c.in_ok-index.index w (written c.add_bracket.new.self) (written c.push-2.new.self) c.in_ok-index.ensures.index
-    (c.in_ok-index.ensures.added ∙ ap (λ (x : Bool × List (ℕ × ℕ)). let v : Written = record w { brackets = w.brackets ++ x ∷ [] } in v) c.in_ok-copy_of.ensures) told)
+    (c.in_ok-index.ensures.added ∙ ap (λ (x : Bool × List (ℕ × ℕ)). let v : Written = record w { brackets = w.brackets ++ x ∷ [] } in v) (ap₂ (λ (b : Bool) (is : List Interval). (b, ends_of is)) c.in_ok-copy.ensures.0 c.in_ok-copy.ensures.1)) told)
     c.push-2.ensures.ok
