@@ -5,4 +5,5 @@ pub mod TurnLemmas
 pub mod ShapeLemmas
 pub mod JoinLemmas
 pub mod UnrollLemmas
+pub mod BracketLemmas
 pub mod RoundLemmas

@@ -44,8 +44,11 @@ of_loops t = is_idle_loop t || is_unrollable t
 abbrev of_lost : Tree → Bool
 of_lost t = is_lost_cat t || of_loops t
 
+abbrev of_characters : Tree → Bool
+of_characters t = false || is_loose_char t
+
 abbrev of_leaves : Tree → Bool
-of_leaves t = is_loose_char t || of_lost t
+of_leaves t = of_characters t || of_lost t
 
 abbrev of_parts : Tree → Bool
 of_parts t = has_split_literal t || is_short_cat t
@@ -65,7 +68,7 @@ all_broken t = of_leaves t || of_kinds t
 nowhere-normal : (t : Tree) → Nowhere all_broken t → IsNormal t
 nowhere-normal t h =
     let leaves = nowhere-first of_leaves of_kinds t h in
-    let lost = nowhere-second is_loose_char of_lost t leaves in
+    let lost = nowhere-second of_characters of_lost t leaves in
     let loops = nowhere-second is_lost_cat of_loops t lost in
     let kinds = nowhere-second of_leaves of_kinds t h in
     let sequences = nowhere-first of_sequences of_others t kinds in
@@ -75,7 +78,7 @@ nowhere-normal t h =
       no_short_cat = nowhere-second has_split_literal is_short_cat t parts;
       no_loose_part = nowhere-first has_loose_part of_parts t sequences;
       no_split_literal = nowhere-first has_split_literal is_short_cat t parts;
-      no_loose_char = nowhere-first is_loose_char of_lost t leaves;
+      no_loose_char = nowhere-second (λ u. false) is_loose_char t (nowhere-first of_characters of_lost t leaves);
       no_idle_loop = nowhere-first is_idle_loop is_unrollable t loops;
       no_unrollable_loop = nowhere-second is_idle_loop is_unrollable t loops;
       no_loop_of_one = nowhere-second is_empty_choice is_loop_of_one t others;

@@ -1,14 +1,19 @@
 -- What passes do at a node, and in all of a tree.
-use Rattle.std.specs.Prelude.{◌≡◌, ℕ, Bool, true, false, List, [], ◌∷◌, Result, Ok, Err, All}
+use Rattle.std.specs.Prelude.{◌≡◌, ℕ, Bool, true, false, List, [], ◌∷◌, Option, Some, None, Result, Ok, Err, All}
 use Rattle.regress_meaning.specs.Meaning.{Direction, Forward}
 use Rattle.regress_front_core.specs.declared.error.Error.{Error}
 use Rattle.regress_front_core.specs.declared.error.Error.TheVariants.{OutOfMemory}
+use Rattle.regress_front_sets.specs.Sets.{ends_in}
+use Rattle.regress_front_nodes.specs.declared.node.BracketContents.{BracketContents}
+use Rattle.regress_front_nodes.specs.declared.node.Node.{Node}
 use Rattle.regress_front_nodes.specs.Trees.{Tree, tree, empty, cat_of}
+use Rattle.regress_front_nodes.specs.TreeMeaning.{bracket_has}
+use Rattle.regress_front_nodes.specs.Characters.{Takes}
 use Rattle.regress_front_nodes.specs.WellFormed.{AreLawful}
 use Rattle.regress_front_opt.specs.declared.action.PassAction.{PassAction}
 use Rattle.regress_front_opt.specs.declared.action.PassAction.TheVariants.{Keep, Modified, Remove, Replace}
 use Rattle.regress_front_rules.specs.NormalForm.{nodes_below, Nowhere, IsNormal}
-use Rattle.regress_front_rules.specs.Rules.{Rewrites, Reaches}
+use Rattle.regress_front_rules.specs.Rules.{is_bracket, Rewrites, Reaches}
 
 -- it is lawful, as a part of a tree of some number of groups
 abbrev pub HasLaws : Tree → Type 0
@@ -57,3 +62,8 @@ abbrev pub IsRound : Tree → Tree → Result Bool Error → Type 0
 IsRound t u (Ok true) = Advances Forward t u
 IsRound t u (Ok false) = (u ≡ t) × IsNormal t
 IsRound t u (Err e) = Reaches Forward t u × (e ≡ OutOfMemory)
+
+-- If a node is given, its tree matches the same characters as the class, and is none.
+abbrev pub IsSimpler : BracketContents → Option Node → Type 0
+IsSimpler contents None = Unit {0}
+IsSimpler contents (Some n) = (is_bracket (tree n) ≡ false) × Takes (tree n) (bracket_has contents.invert (ends_in contents.cps))

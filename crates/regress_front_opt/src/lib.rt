@@ -2,6 +2,7 @@
 #![tactic(auto)]
 
 mod action;
+mod brackets;
 mod cats;
 mod chaining;
 mod choices;
@@ -18,6 +19,7 @@ mod unrolling;
 mod visiting;
 
 pub use action::PassAction;
+pub use brackets::SimpleBrackets;
 pub use cats::ShortCats;
 pub use chaining::Then;
 pub use choices::EmptyChoices;

@@ -6,6 +6,7 @@ ghost use Rattle.regress_front_rules.specs.Laws.{IsRewritten};
 ghost use Rattle.regress_front_rules.specs.NormalForm.{IsNormal};
 ghost use Rattle.regress_front_opt.specs.Passes.{HasLaws, IsRound};
 
+use crate::brackets::SimpleBrackets;
 use crate::cats::ShortCats;
 use crate::chaining::Then;
 use crate::choices::EmptyChoices;
@@ -27,9 +28,10 @@ fn round(alloc: Global, node: &mut Node) -> Result<bool, Error>
     requires { HasLaws (tree node.old) }
     ensures { IsRound (tree node.old) (tree node.new) result }
 {
+    let leaves = Then(SimpleBrackets, SpelledChars);
     let sequences = Then(FlattenedCats, Then(JoinedLiterals, ShortCats));
     let passes = Then(
-        Then(SpelledChars, Then(LostCats, Then(IdleLoops, UnrolledLoops))),
+        Then(leaves, Then(LostCats, Then(IdleLoops, UnrolledLoops))),
         Then(sequences, Then(EmptyChoices, SingleLoops)),
     );
     visit(&passes, alloc, false, node)
