@@ -1,5 +1,6 @@
 //! Tests of `regress_front_tree`.
 
+use regress_front::ir::Regex;
 use regress_front::{CodePoint, Error, Flags, Node, Tables, are_code_points, try_parse};
 use std::alloc::{AllocError, Global};
 use std::test::Fail;
@@ -138,33 +139,57 @@ const REFUSED: &[(&str, &str)] = &[
     ("(?<n>)(?<n>)", ""),
 ];
 
+/// Patterns, and the names of their groups by number.
+const NAMES: &[(&str, &str)] = &[
+    ("a", "[]"),
+    ("(a)", r#"[""]"#),
+    ("(?<n>a)|(?<n>b)", r#"["n", "n"]"#),
+    (
+        "(?<outer>(?:(?<inner>a)))(b)(?<last>c)",
+        r#"["outer", "inner", "", "last"]"#,
+    ),
+    ("(?<=(?<first>a)(?<second>b))", r#"["first", "second"]"#),
+    (r"(?<\u0061b>x)[(?<c>]", r#"["ab"]"#),
+];
+
 fn points(alloc: Global, text: &str) -> Result<Vec<CodePoint>, AllocError> {
     text.chars().map(CodePoint::from).collect(alloc)
+}
+
+/// A pattern that was read.
+fn read<'u>(
+    alloc: Global,
+    pattern: &str,
+    flags: &str,
+    tables: &'u Tables,
+) -> Result<Regex<'u>, Error> {
+    let points = points(alloc, pattern)?;
+    if !are_code_points(&points) {
+        return Err(Error::Syntax {
+            text: "a character is no code point",
+        });
+    }
+    try_parse(alloc, &points, Flags::from(flags), tables)
 }
 
 /// The tree of a pattern.
 fn node_of(alloc: Global, pattern: &str, flags: &str) -> Result<Node, Error> {
     let tables = Tables::small(alloc).map_err(|_| Error::OutOfMemory)?;
-    let points = points(alloc, pattern)?;
-    if !are_code_points(&points) {
-        return Err(Error::Syntax {
-            text: "a character is no code point",
-        });
-    }
-    Ok(try_parse(alloc, &points, Flags::from(flags), &tables)?.node)
+    Ok(read(alloc, pattern, flags, &tables)?.node)
 }
 
 /// How many nodes the tree of a pattern has: it is printed with a line for each.
 fn node_count(alloc: Global, pattern: &str, flags: &str) -> Result<usize, Error> {
     let tables = Tables::small(alloc).map_err(|_| Error::OutOfMemory)?;
-    let points = points(alloc, pattern)?;
-    if !are_code_points(&points) {
-        return Err(Error::Syntax {
-            text: "a character is no code point",
-        });
-    }
-    let regex = try_parse(alloc, &points, Flags::from(flags), &tables)?;
+    let regex = read(alloc, pattern, flags, &tables)?;
     Ok(regex.to_string(alloc)?.lines().count())
+}
+
+/// The names of a pattern's groups, by number.
+fn names_of(alloc: Global, pattern: &str) -> Result<String, Error> {
+    let tables = Tables::small(alloc).map_err(|_| Error::OutOfMemory)?;
+    let names = read(alloc, pattern, "", &tables)?.group_names;
+    Ok(format!(in alloc; "{names:?}")?)
 }
 
 #[test]
@@ -201,6 +226,16 @@ fn trees_are_as_the_standard_compiles(rt: HostRuntime) -> Result<(), Fail> {
         let whole = format!(in rt.alloc(); "Cat([{tree}, Goal])")?;
         if told.as_str() != whole.as_str() {
             return Err(Fail::new(format!(in rt.alloc(); "at {pattern}: {told}")?));
+        }
+    }
+    Ok(())
+}
+
+#[test]
+fn names_stand_by_number(rt: HostRuntime) -> Result<(), Fail> {
+    for (pattern, names) in NAMES {
+        if names_of(rt.alloc(), pattern)?.as_str() != *names {
+            return Err(Fail::new(*pattern));
         }
     }
     Ok(())

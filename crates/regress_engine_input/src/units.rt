@@ -64,17 +64,21 @@ fn join(high: u16, low: u16) -> u32
 pub(crate) fn utf16_right(units: &[u16], at: usize) -> Option<(u32, usize)>
     ensures { result ≡ utf16_next units.now Forward at }
 {
-    if at >= units.len() {
-        return None;
-    }
-    let u = units[at];
-    if is_high_unit(u) && at + 1 < units.len() {
-        let v = units[at + 1];
-        if is_low_unit(v) {
-            return Some((join(u, v), at + 2));
+    if at < units.len() {
+        let u = units[at];
+        if at + 1 < units.len() {
+            let v = units[at + 1];
+            if is_high_unit(u) && is_low_unit(v) {
+                Some((join(u, v), at + 2))
+            } else {
+                Some((u32::from(u), at + 1))
+            }
+        } else {
+            Some((u32::from(u), at + 1))
         }
+    } else {
+        None
     }
-    Some((u32::from(u), at + 1))
 }
 
 /// The character before an offset, and the offset before it.
@@ -83,17 +87,21 @@ pub(crate) fn utf16_left(units: &[u16], at: usize) -> Option<(u32, usize)>
     requires { at ≤ length units.now }
     ensures { result ≡ utf16_next units.now Backward at }
 {
-    if at == 0 {
-        return None;
-    }
-    let v = units[at - 1];
-    if is_low_unit(v) && at > 1 {
-        let u = units[at - 2];
-        if is_high_unit(u) {
-            return Some((join(u, v), at - 2));
+    if at > 0 {
+        let v = units[at - 1];
+        if at > 1 {
+            let u = units[at - 2];
+            if is_high_unit(u) && is_low_unit(v) {
+                Some((join(u, v), at - 2))
+            } else {
+                Some((u32::from(v), at - 1))
+            }
+        } else {
+            Some((u32::from(v), at - 1))
         }
+    } else {
+        None
     }
-    Some((u32::from(v), at - 1))
 }
 
 /// The offset behind some units that stand to the right of one, or `None` where they don't.
