@@ -1,7 +1,8 @@
 -- When what an instruction reads is there.
-use Rattle.std.specs.Prelude.{◌≡◌, ℕ, Bool, true, not, List, [], length}
+use Rattle.std.specs.Prelude.{◌≡◌, ℕ, Bool, true, false, not, List, [], length}
 use Rattle.regress_engine_input.specs.Views.{View, are_bytes, reading_of}
 use Rattle.regress_engine_code.specs.Instructions.{Instruction, Program}
+use Rattle.regress_engine_code.specs.Instructions as code
 use Rattle.regress_engine_runs.specs.States.{Marks}
 use Rattle.regress_engine_runs.specs.Meets.{reads_character, ReadsPlaces}
 use Rattle.regress_engine_runs.specs.Closed.{Fits, IsClosed}
@@ -17,3 +18,17 @@ pub record IsReady (program : Program) (v : View) (i : Instruction) (groups : Li
   pub fits : Fits program 0 i
   pub count : length groups ≡ program.groups
   pub reads : reads_character i ≡ true → ReadsPlaces (reading_of v) i (whole 0 o [] groups)
+
+-- an instruction changes nothing but the offset
+abbrev pub is_simple : Instruction → Bool
+is_simple code.goal = false
+is_simple (code.jump a) = false
+is_simple (code.alt a) = false
+is_simple (code.begin_group k) = false
+is_simple (code.end_group k) = false
+is_simple (code.reset_group k) = false
+is_simple (code.enter_loop f) = false
+is_simple (code.loop_again begin) = false
+is_simple (code.single_loop least most greedy) = false
+is_simple (code.look negated backward first last continuation) = false
+is_simple _ = true

@@ -1,13 +1,15 @@
 //! A run of a program from one offset of a text.
-ghost use Rattle.std.specs.Prelude.{[], ◌∷◌};
+ghost use Rattle.std.specs.Prelude.{◌+◌, ◌^◌, ◌<◌, [], ◌∷◌};
 ghost use Rattle.regress_meaning.specs.Meaning.{Forward as forward};
+ghost use Rattle.regress_engine_code.specs.Instructions.{Instruction, Stands};
+ghost use Rattle.regress_engine_code.specs.InsnViews.{instruction};
 ghost use Rattle.regress_engine_code.specs.Standing.{program_of};
 ghost use Rattle.regress_engine_input.specs.Views.{input_of};
 ghost use Rattle.regress_engine_runs.specs.States.{first_state};
 ghost use Rattle.regress_engine_runs.specs.Computed.{IsComputed};
 ghost use Rattle.regress_engine_runs.proofs.OneAnswer.{IsComputed-prop};
 
-use regress_engine_code::CompiledRegex;
+use regress_engine_code::{CompiledRegex, Insn};
 use regress_engine_matchers::CharInput;
 
 /// A program, a text, and an offset of it at which a run begins that ends.
@@ -17,4 +19,17 @@ pub(crate) struct Attempt<'a, 'r, Input: CharInput> {
     pub(crate) input: Input,
     pub(crate) start: usize,
     pub(crate) ghost ends: { IsComputed (program_of program.now) (input_of (Input.view input)) forward (first_state (program_of program.now) start ∷ []) } by { IsComputed-prop (program_of program.now) (input_of (Input.view input)) forward (first_state (program_of program.now) start ∷ []) },
+}
+
+impl<'a, 'r, Input: CharInput> Attempt<'a, 'r, Input> {
+    /// The instruction at an address.
+    #[inline]
+    pub(crate) fn instruction(&self, at: usize) -> &Insn
+        requires { (i : Instruction) × Stands (program_of self.now.program.now) at i }
+        ensures stands { Stands (program_of self.now.program.now) at (instruction result.now) }
+        ensures room { at + 1 < 2 ^ 64 }
+    {
+        let insns = self.program.insns();
+        &insns[at]
+    }
 }

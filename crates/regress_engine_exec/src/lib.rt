@@ -2,7 +2,11 @@
 #![tactic(auto)]
 
 mod attempt;
+mod back;
+mod leave;
 mod memory;
 mod reads;
+mod singles;
+mod step;
 mod steps;
 mod undo;

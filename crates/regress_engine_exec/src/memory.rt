@@ -13,8 +13,6 @@ pub(crate) struct Memory {
     pub(crate) stack: Vec<Undo>,
     pub(crate) loops: Vec<LoopData<usize>>,
     pub(crate) groups: Vec<GroupData<usize>>,
-    /// The groups of an answer inside a lookaround, while they are carried out of it.
-    pub(crate) answer: Vec<GroupData<usize>>,
 }
 
 impl Memory {
@@ -24,7 +22,6 @@ impl Memory {
             stack: Vec::new(alloc),
             loops: Vec::new(alloc),
             groups: Vec::new(alloc),
-            answer: Vec::new(alloc),
         }
     }
 
@@ -52,7 +49,7 @@ impl Memory {
     /// Takes the last record from the stack.
     #[inline]
     pub(crate) fn pop(&mut self) -> Option<Undo>
-        ensures { MatchOption result ((held self.new).stack ≡ []) (λ undo. held self.old ≡ pushed (undo_of undo) (held self.new)) }
+        ensures { MatchOption result ((held self.new ≡ held self.old) × ((held self.old).stack ≡ [])) (λ undo. held self.old ≡ pushed (undo_of undo) (held self.new)) }
     {
         self.stack.pop()
     }

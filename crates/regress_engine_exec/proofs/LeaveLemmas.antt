@@ -1,0 +1,158 @@
+-- A lookaround is left.
+use Rattle.std.specs.Prelude.{slice_set, get_or, nat_le, nat_lt, option_map}
+use Rattle.std.proofs.Common.{◌≡◌, ℕ, zero, suc, ◌+◌, ◌<◌, ◌≤◌, ◌&&◌, Bool, true, false, List, [], ◌∷◌, length, Option, Some, None, if◌then◌else◌, refl, sym, ap, ap₂, ◌∙◌, subst, arith}
+use Rattle.std.proofs.lemmas.Bool.Decides.{nat_tests}
+use Rattle.std.proofs.lemmas.List.{length-set}
+use Rattle.regress_meaning.specs.Meaning.{Direction}
+use Rattle.regress_meaning.specs.Inputs.{Input}
+use Rattle.regress_engine_input.specs.Views.{View, way}
+use Rattle.regress_engine_code.specs.Instructions.{Program, Stands}
+use Rattle.regress_engine_code.specs.Instructions as code
+use Rattle.regress_engine_runs.specs.States.{Whole, Marks, unset, mixed}
+use Rattle.regress_engine_runs.specs.Runs.{after_look, one_more}
+use Rattle.regress_engine_runs.specs.UndoStack.{Undo, old_loop, old_group, resume, iterate, give_back, take_on, frame, Frame, Work, outermost, inside, whole, first_do, stands_for, Comes}
+use Rattle.regress_engine_runs.proofs.UndoLemmas.{all_found, frame_found, group_recorded}
+use Rattle.regress_engine_runs.proofs.ReadLemmas.{read_found}
+use Rattle.regress_engine_exec.specs.declared.undo.Spot.{Spot}
+use Rattle.regress_engine_exec.specs.Held.{Held, pushed, group_written}
+use Rattle.regress_engine_exec.specs.Tasks.{Task, task_of, task, state_at, Leads}
+use Rattle.regress_engine_exec.specs.Leaving.{outside_of, told_outside, work_of, Unwinds, EndsAt}
+
+-- states that are done first change nothing outside
+pub outside-first : (ss : List Whole) (w : Work) → outside_of (first_do ss w) ≡ outside_of w
+outside-first ss (outermost ts) = refl
+outside-first ss (inside ts f s rest) = refl
+
+-- ---- groups carried out
+
+pub mixed-none : (i first last : ℕ) (new old : List Marks) → last ≤ first → mixed i first last new old ≡ old
+mixed-none i first last new [] none = refl
+mixed-none i first last [] (m ∷ old) none = ap (λ ms. m ∷ ms) (mixed-none (i + 1) first last [] old none)
+mixed-none i first last (n ∷ new) (m ∷ old) none =
+    let e : (nat_le first i && nat_lt i last) ≡ false = grind (arith, nat_tests) in
+    ap₂ (λ b (ms : List Marks). (if b then n else m) ∷ ms) e (mixed-none (i + 1) first last new old none)
+
+mixed-past : (i first last : ℕ) (new old : List Marks) → last ≤ i → mixed i first last new old ≡ old
+mixed-past i first last new [] past = refl
+mixed-past i first last [] (m ∷ old) past = ap (λ ms. m ∷ ms) (mixed-past (i + 1) first last [] old (omega (arith, past)))
+mixed-past i first last (n ∷ new) (m ∷ old) past =
+    let e : (nat_le first i && nat_lt i last) ≡ false = grind (arith, nat_tests) in
+    ap₂ (λ b (ms : List Marks). (if b then n else m) ∷ ms) e (mixed-past (i + 1) first last new old (omega (arith, past)))
+
+-- one more group
+pub mixed-more : (i j g first : ℕ) (new old : List Marks) (d : Marks) → g ≡ i + j → first ≤ g → length new ≡ length old → j < length old
+    → slice_set (mixed i first g new old) j (get_or new j d) ≡ mixed i first (g + 1) new old
+mixed-more i j g first new [] d here from same within = absurd (omega (arith, within))
+mixed-more i j g first [] (m ∷ old) d here from same within = absurd (omega (arith, same))
+mixed-more i zero g first (n ∷ new) (m ∷ old) d here from same inside =
+    let e : (nat_le first i && nat_lt i (g + 1)) ≡ true = grind (arith, nat_tests) in
+    ap₂ (λ b (ms : List Marks). (if b then n else m) ∷ ms) (sym e)
+    (mixed-past (i + 1) first g new old (omega (arith, here)) ∙ sym (mixed-past (i + 1) first (g + 1) new old (omega (arith, here))))
+mixed-more i (suc j) g first (n ∷ new) (m ∷ old) d here from same inside =
+    let e : nat_lt i g ≡ nat_lt i (g + 1) = grind (arith, nat_tests) in
+    ap₂ (λ b (ms : List Marks). (if nat_le first i && b then n else m) ∷ ms) e
+    (mixed-more (i + 1) j g first new old d (omega (arith, here)) from (omega (arith, same)) (omega (arith, within)))
+
+-- ---- the answer, or what follows
+
+module _ (program : Program) (input : Input) where
+  ends-outermost : (dir : Direction) (t : Whole) (w : Work) → outside_of w ≡ None → Stands program t.at code.goal → (n : ℕ) (r : Option Whole) → Comes program input dir (t ∷ []) w n r → r ≡ Some t
+  ends-outermost dir t (outermost ts) e here n r come = all_found program input t ts n r here come
+  ends-outermost dir t (inside ts f s rest) e here n r come = absurd (grind arith)
+
+  -- what follows a lookaround that is found
+  abbrev behind_found : Whole → Frame × Whole × Work → Task
+  behind_found t y = record { dir = y.0.outside; states = after_look y.0.negated y.0.first y.0.last y.0.continuation y.1 (Some t); work = y.2 }
+
+  found-inside : (dir : Direction) (t : Whole) (w : Work) (y : Frame × Whole × Work) → outside_of w ≡ Some y → Stands program t.at code.goal
+      → Leads program input 1 (record { dir = dir; states = t ∷ []; work = w }) (behind_found t y)
+  found-inside dir t (outermost ts) y e here = absurd (grind arith)
+  found-inside dir t (inside ts f s rest) y e here =
+      let there : Frame × Whole × Work = (f, s, rest) in
+      let same : there ≡ y = cc in
+      subst (λ z. Leads program input 1 (record { dir = dir; states = t ∷ []; work = inside ts f s rest }) (behind_found t z)) same (record {
+        comes = λ n r come. let x = frame_found program input t ts f s rest n r here come in let less = x.1 in (x.0, omega (arith, less), x.2);
+        reads = λ reading on. read_found program input reading dir t ts f s rest here on;
+      })
+
+-- the whole program is left
+pub leaves-all : (p : Spot) (h k : Held) → Unwinds h None k → EndsAt p h
+leaves-all p h k unwinds program input here n r come =
+    ends-outermost program input (way p.forward) (state_at p h) (work_of program input (way p.forward) h) (unwinds program input (way p.forward)) here n r come
+
+-- a negated lookaround fails
+pub leaves-negated : (p q : Spot) (h k : Held) (f : Frame) → Unwinds h (Some f) k → f.negated ≡ true → way q.forward ≡ f.outside
+    → (program : Program) (input : Input) → Stands program p.at code.goal → Leads program input 1 (task program input true p h) (task program input false q k)
+leaves-negated p q h k f unwinds negated turned program input here =
+    subst (λ d. Leads program input 1 (task program input true p h) (record { dir = d; states = []; work = work_of program input d k })) (sym turned)
+    (subst (λ b. Leads program input 1 (task program input true p h) (record { dir = f.outside; states = after_look b f.first f.last f.continuation (whole f.at f.offset k.loops k.groups) (Some (state_at p h)); work = work_of program input f.outside k })) negated
+    (found-inside program input (way p.forward) (state_at p h) (work_of program input (way p.forward) h) _ (unwinds program input (way p.forward)) here))
+
+-- a positive one takes the groups on
+pub leaves-positive : (p q : Spot) (h k l : Held) (f : Frame) → Unwinds h (Some f) k → f.negated ≡ false → way q.forward ≡ f.outside → q.at ≡ f.continuation → q.offset ≡ f.offset
+    → l.loops ≡ k.loops → l.groups ≡ mixed 0 f.first f.last h.groups k.groups
+    → ((program : Program) (input : Input) (dir : Direction) → work_of program input dir l ≡ work_of program input dir k)
+    → (program : Program) (input : Input) → Stands program p.at code.goal → Leads program input 1 (task program input true p h) (task program input true q l)
+leaves-positive p q h k l f unwinds positive turned at offset loops groups same program input here =
+    let from : Task = task program input true p h in
+    let state : Whole = whole f.continuation f.offset k.loops (mixed 0 f.first f.last h.groups k.groups) in
+    let told : state ≡ state_at q l = (λ i. whole (sym at i) (sym offset i) (sym loops i) (sym groups i)) in
+    subst (λ (s : Whole). Leads program input 1 from (record { dir = way q.forward; states = s ∷ []; work = work_of program input (way q.forward) l })) told
+    (subst (λ (w : Work). Leads program input 1 from (record { dir = way q.forward; states = state ∷ []; work = w })) (sym (same program input (way q.forward)))
+    (subst (λ d. Leads program input 1 from (record { dir = d; states = state ∷ []; work = work_of program input d k })) (sym turned)
+    (subst (λ b. Leads program input 1 from (record { dir = f.outside; states = after_look b f.first f.last f.continuation (whole f.at f.offset k.loops k.groups) (Some (state_at p h)); work = work_of program input f.outside k })) positive
+    (found-inside program input (way p.forward) (state_at p h) (work_of program input (way p.forward) h) _ (unwinds program input (way p.forward)) here))))
+
+-- ---- one record without going on
+
+module _ (program : Program) (input : Input) (dir : Direction) (h : Held) where
+  pub loop-outside : (k : Held) (id : ℕ) (x : ℕ × ℕ) → k ≡ record h { loops = slice_set h.loops id x }
+      → outside_of (work_of program input dir (pushed (old_loop id x) h)) ≡ outside_of (work_of program input dir k)
+  unfolding stands_for
+  loop-outside k id x is = ap (λ j. outside_of (work_of program input dir j)) (sym is)
+
+  pub group-outside : (k : Held) (group : ℕ) (m : Marks) → k ≡ record h { groups = slice_set h.groups group m }
+      → outside_of (work_of program input dir (pushed (old_group group m) h)) ≡ outside_of (work_of program input dir k)
+  unfolding stands_for
+  group-outside k group m is = ap (λ j. outside_of (work_of program input dir j)) (sym is)
+
+  pub resume-outside : (at o : ℕ) → outside_of (work_of program input dir (pushed (resume at o) h)) ≡ outside_of (work_of program input dir h)
+  unfolding stands_for
+  resume-outside at o = outside-first (whole at o h.loops h.groups ∷ []) (work_of program input dir h)
+
+  pub iterate-outside : (id begin o : ℕ) → outside_of (work_of program input dir (pushed (iterate id begin o) h)) ≡ outside_of (work_of program input dir h)
+  unfolding stands_for
+  iterate-outside id begin o = outside-first (one_more id begin (whole begin o h.loops h.groups) ∷ []) (work_of program input dir h)
+
+  pub give_back-outside : (at near far : ℕ) → outside_of (work_of program input dir (pushed (give_back at near far) h)) ≡ outside_of (work_of program input dir h)
+  unfolding stands_for
+  give_back-outside at near far = outside-first _ (work_of program input dir h)
+
+  pub take_on-outside : (at o left : ℕ) → outside_of (work_of program input dir (pushed (take_on at o left) h)) ≡ outside_of (work_of program input dir h)
+  unfolding stands_for
+  take_on-outside at o left = outside-first _ (work_of program input dir h)
+
+  pub frame-outside : (f : Frame) → outside_of (work_of program input dir (pushed (frame f) h)) ≡ told_outside (Some f) h program input
+  unfolding stands_for
+  frame-outside f = refl
+
+  -- the record, told otherwise
+  pub outside-as : (u x : Undo) (o : Option (Frame × Whole × Work)) → u ≡ x → outside_of (work_of program input dir (pushed x h)) ≡ o → outside_of (work_of program input dir (pushed u h)) ≡ o
+  outside-as u x o e same = ap (λ y. outside_of (work_of program input dir (pushed y h))) e ∙ same
+
+-- with no record nothing is outside
+pub nothing-outside : (program : Program) (input : Input) (dir : Direction) (h : Held) → h.stack ≡ [] → outside_of (work_of program input dir h) ≡ None
+unfolding stands_for
+nothing-outside program input dir h none = ap (λ (s : List Undo). outside_of (stands_for program input dir s h.loops h.groups)) none
+
+-- one more group is carried
+pub carried : (j k : Held) (g first : ℕ) (new old : List Marks) (m : Marks) → k ≡ group_written g m j → j.groups ≡ mixed 0 first g new old → m ≡ get_or new g unset
+    → first ≤ g → length new ≡ length old → g < length old → k.groups ≡ mixed 0 first (g + 1) new old
+carried j k g first new old m is before same from count there =
+    ap (λ (h : Held). h.groups) is ∙ ap₂ (λ (ms : List Marks) x. slice_set ms g x) before same ∙ mixed-more 0 g g first new old unset (omega arith) from count there
+
+pub carried-same : (j k : Held) (g : ℕ) (m : Marks) → k ≡ group_written g m j → (program : Program) (input : Input) (dir : Direction) → work_of program input dir k ≡ work_of program input dir j
+carried-same j k g m is program input dir = ap (work_of program input dir) is ∙ group_recorded program input dir j.stack j.loops j.groups g m unset
+
+pub carried-count : (j k : Held) (g : ℕ) (m : Marks) → k ≡ group_written g m j → length k.groups ≡ length j.groups
+carried-count j k g m is = ap (λ (h : Held). length h.groups) is ∙ length-set j.groups g m

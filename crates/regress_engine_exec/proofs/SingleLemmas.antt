@@ -1,0 +1,122 @@
+-- One-character loops.
+use Rattle.std.specs.Prelude.{slice_get, option_and_then}
+use Rattle.std.proofs.Common.{◌≡◌, ℕ, zero, suc, ◌+◌, ◌-◌, ◌<◌, ◌≤◌, Bool, true, false, List, [], ◌∷◌, length, Option, Some, None, if◌then◌else◌, map, refl, sym, ap, ◌∙◌, subst, arith}
+use Rattle.regress_meaning.specs.Meaning.{Direction}
+use Rattle.regress_meaning.specs.Inputs.{Input}
+use Rattle.regress_engine_input.specs.Views.{View, way, reading_of}
+use Rattle.regress_engine_code.specs.Instructions.{Instruction, Program, Stands, single_loop}
+use Rattle.regress_engine_runs.specs.States.{Whole, Marks}
+use Rattle.regress_engine_runs.specs.Runs.{advance, after_times, as_far, one_by_one, given_back, counted, successors}
+use Rattle.regress_engine_runs.specs.Meets.{IsAtPlace}
+use Rattle.regress_engine_runs.specs.UndoStack.{give_back, take_on, at_each, taken_on, first_do, stands_for}
+use Rattle.regress_engine_exec.specs.declared.undo.Spot.{Spot}
+use Rattle.regress_engine_exec.specs.Held.{Held, pushed}
+use Rattle.regress_engine_exec.specs.Sound.{IsBody}
+use Rattle.regress_engine_exec.specs.Tasks.{task_of, task, state_at, Leads}
+use Rattle.regress_engine_exec.proofs.LeadLemmas.{leads-same, leads-later}
+
+-- at another place
+pub body-at : (program : Program) (v : View) (at o q : ℕ) → IsBody program v at o → IsAtPlace (reading_of v) q → IsBody program v at q
+body-at program v at o q (i, here, takes, place, some) there = (i, here, takes, there, some)
+
+module _ (program : Program) (input : Input) (i : Instruction) (dir : Direction) (groups : List Marks) where
+  pub after-goes : (left o q : ℕ) → 0 < left → Some q ≡ advance program input i dir groups o
+      → after_times program input (left - 1) i dir groups q ≡ after_times program input left i dir groups o
+  unfolding after_times
+  after-goes zero o q some e = absurd (omega (arith, some))
+  after-goes (suc n) o q some e =
+      let same : suc n - 1 ≡ n = omega arith in
+      ap (λ m. after_times program input m i dir groups q) same ∙ ap (option_and_then (after_times program input n i dir groups)) e
+
+  pub after-stops : (left o : ℕ) → 0 < left → None ≡ advance program input i dir groups o → None ≡ after_times program input left i dir groups o
+  unfolding after_times
+  after-stops zero o some e = absurd (omega (arith, some))
+  after-stops (suc n) o some e = ap (option_and_then (after_times program input n i dir groups)) e
+
+  pub after-all : (left o : ℕ) → left ≤ 0 → Some o ≡ after_times program input left i dir groups o
+  unfolding after_times
+  after-all zero o none = refl
+  after-all (suc n) o none = absurd (omega (arith, none))
+
+  pub far-goes : (left o q : ℕ) → 0 < left → Some q ≡ advance program input i dir groups o → as_far program input (left - 1) i dir groups q ≡ as_far program input left i dir groups o
+  unfolding as_far
+  far-goes zero o q some e = absurd (omega (arith, some))
+  far-goes (suc n) o q some e =
+      let same : suc n - 1 ≡ n = omega arith in
+      ap (λ m. as_far program input m i dir groups q) same ∙ ap (λ (x : Option ℕ). elim x [ None ↦ o | Some q ↦ as_far program input n i dir groups q ]) e
+
+  pub far-stops : (left o : ℕ) → 0 < left → None ≡ advance program input i dir groups o → o ≡ as_far program input left i dir groups o
+  unfolding as_far
+  far-stops zero o some e = absurd (omega (arith, some))
+  far-stops (suc n) o some e = ap (λ (x : Option ℕ). elim x [ None ↦ o | Some q ↦ as_far program input n i dir groups q ]) e
+
+  pub far-all : (left o : ℕ) → left ≤ 0 → o ≡ as_far program input left i dir groups o
+  unfolding as_far
+  far-all zero o none = refl
+  far-all (suc n) o none = absurd (omega (arith, none))
+
+-- what is recorded of a loop
+module _ (program : Program) (input : Input) (i : Instruction) (p : Spot) (h : Held) (here : Stands program (p.at + 1) i) (least most : ℕ) where
+  abbrev dir : Direction
+  dir = way p.forward
+
+  abbrev behind : List ℕ → List Whole
+  behind os = at_each program input (suc (suc p.at)) h.loops h.groups os
+
+  abbrev next_states : Bool → List Whole
+  next_states greedy = successors program input (single_loop least most greedy) dir (state_at p h)
+
+  next_are : (greedy : Bool) → next_states greedy ≡ behind (counted program input least most greedy i dir h.groups p.offset)
+  next_are greedy =
+      let e : suc p.at ≡ p.at + 1 = omega arith in
+      let found : slice_get program.instructions (suc p.at) ≡ Some i = ap (slice_get program.instructions) e ∙ here in
+      ap (λ (x : Option Instruction). elim x [ None ↦ [] | Some j ↦ map (λ o. record (state_at p h) { at = suc (suc p.at); offset = o }) (counted program input least most greedy j dir h.groups p.offset) ]) found
+
+  abbrev counts : Bool → Option ℕ → List ℕ
+  counts greedy x = elim x [
+    | None ↦ []
+    | Some near ↦ if greedy then given_back input dir near (as_far program input (most - least) i dir h.groups near) else one_by_one program input (most - least) i dir h.groups near
+  ]
+
+  from_states : (greedy : Bool) (states : List Whole) (k : Held) → next_states greedy ≡ states → Leads program input 0 (task_of program input states p h) (task program input false p k)
+      → Leads program input 0 (task_of program input (next_states greedy) p h) (task program input false p k)
+  from_states greedy states k e leads = subst (λ ss. Leads program input 0 (task_of program input ss p h) (task program input false p k)) (sym e) leads
+
+  pub repeat-few : (greedy : Bool) → after_times program input least i dir h.groups p.offset ≡ None
+      → Leads program input 0 (task_of program input (next_states greedy) p h) (task program input false p h)
+  repeat-few greedy none =
+      from_states greedy [] h (next_are greedy ∙ ap (λ x. behind (counts greedy x)) none) (leads-same program input (task_of program input [] p h))
+
+  pub repeat-greedy : (greedy : Bool) (k : Held) (near far : ℕ) → greedy ≡ true → after_times program input least i dir h.groups p.offset ≡ Some near
+      → far ≡ as_far program input (most - least) i dir h.groups near → k ≡ pushed (give_back (p.at + 2) near far) h
+      → Leads program input 0 (task_of program input (next_states greedy) p h) (task program input false p k)
+  unfolding stands_for
+  repeat-greedy greedy k near far is_greedy found is pushes =
+      let os : List ℕ = given_back input dir near far in
+      let two : suc (suc p.at) ≡ p.at + 2 = omega arith in
+      let same : next_states greedy ≡ behind os =
+      next_are greedy ∙ ap (λ b. behind (counts b (after_times program input least i dir h.groups p.offset))) is_greedy ∙ ap (λ x. behind (counts true x)) found
+      ∙ ap (λ f. behind (given_back input dir near f)) (sym is) in
+      from_states greedy (behind os) k same
+      (subst (λ x. Leads program input 0 (task_of program input (behind os) p h) (task program input false p x)) (sym pushes)
+      (subst (λ a. Leads program input 0 (task_of program input (behind os) p h) (task program input false p (pushed (give_back a near far) h))) two
+      (leads-later program input dir [] (behind os) (stands_for program input dir h.stack h.loops h.groups))))
+
+  pub repeat-lazy : (greedy : Bool) (k : Held) (near : ℕ) → greedy ≡ false → after_times program input least i dir h.groups p.offset ≡ Some near
+      → k ≡ pushed (take_on (p.at + 2) near (most - least)) h
+      → Leads program input 0 (task_of program input (next_states greedy) p h) (task program input false p k)
+  unfolding stands_for
+  repeat-lazy greedy k near is_lazy found pushes =
+      let os : List ℕ = one_by_one program input (most - least) i dir h.groups near in
+      let same : next_states greedy ≡ behind os =
+      next_are greedy ∙ ap (λ b. behind (counts b (after_times program input least i dir h.groups p.offset))) is_lazy ∙ ap (λ x. behind (counts false x)) found in
+      let two : suc (suc p.at) ≡ p.at + 2 = omega arith in
+      let before : suc (suc p.at) - 1 ≡ p.at + 1 = omega arith in
+      let body : slice_get program.instructions (suc (suc p.at) - 1) ≡ Some i = ap (slice_get program.instructions) before ∙ here in
+      let taken : taken_on program input dir (suc (suc p.at)) (most - least) h.groups near ≡ os =
+      ap (λ (x : Option Instruction). elim x [ None ↦ [] | Some j ↦ one_by_one program input (most - least) j dir h.groups near ]) body in
+      from_states greedy (behind os) k same
+      (subst (λ x. Leads program input 0 (task_of program input (behind os) p h) (task program input false p x)) (sym pushes)
+      (subst (λ a. Leads program input 0 (task_of program input (behind os) p h) (task program input false p (pushed (take_on a near (most - least)) h))) two
+      (subst (λ xs. Leads program input 0 (task_of program input (behind os) p h) (record { dir = dir; states = []; work = first_do (behind xs) (stands_for program input dir h.stack h.loops h.groups) })) (sym taken)
+      (leads-later program input dir [] (behind os) (stands_for program input dir h.stack h.loops h.groups)))))

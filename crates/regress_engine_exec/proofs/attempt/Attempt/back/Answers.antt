@@ -1,0 +1,52 @@
+use Rattle.std.proofs.Common.{◌≡◌, ℕ, true, false, length, refl, sym, ap, ◌∙◌, subst, arith}
+use Rattle.regress_engine_code.specs.Standing.{program_of}
+use Rattle.regress_engine_input.specs.Views.{input_of}
+use Rattle.regress_engine_exec.specs.Held.{Held, held, pushed, undo_of}
+use Rattle.regress_engine_exec.specs.Sound.{IsHeld}
+use Rattle.regress_engine_exec.specs.Tasks.{task, Leads}
+use Rattle.regress_engine_exec.proofs.LeadLemmas.{leads-then, leads-same}
+use Rattle.regress_engine_exec.proofs.attempt.Attempt.back.Goals as goal
+
+pub loop-undo-init : goal.loop-undo-init
+loop-undo-init g c = record { leads = leads-same _ _ _; sound = c.requires.sound }
+
+pub undo-requires-clause-sound : goal.undo-requires-clause-sound
+undo-requires-clause-sound g c = subst (IsHeld (program_of c.args.self.now.program.now) (g.Input.InputIndexer.view c.args.self.now.input)) c.in-Some.ensures c.loop-undo.invariant.sound
+
+pub loop-undo-smaller : goal.loop-undo-smaller
+loop-undo-smaller g c =
+    let one = ap (λ (h : Held). length h.stack) c.in-Some.ensures in
+    let rest = ap length (c.in_ok-undo.ensures.rest c.if-branch.false) in
+    omega (arith, one, rest)
+
+pub loop-undo-preserved : goal.loop-undo-preserved
+loop-undo-preserved g c =
+    let program = program_of c.args.self.now.program.now in
+    let input = input_of (g.Input.InputIndexer.view c.args.self.now.input) in
+    record {
+      leads = leads-then program input 0 0 c.loop-undo.invariant.leads
+          (subst (λ h. Leads program input 0 (task program input false c.loop-undo.spot h) (task program input false c.undo.new.spot (held c.undo.new.memory))) (sym c.in-Some.ensures)
+          (subst (λ b. Leads program input 0 (task program input false c.loop-undo.spot (pushed (undo_of c.in-Some.undo) (held c.pop.new.self))) (task program input b c.undo.new.spot (held c.undo.new.memory))) c.if-branch.false
+          c.in_ok-undo.ensures.leads));
+      sound = c.in_ok-undo.ensures.sound;
+    }
+
+pub returns-then-branch-clause-leads : goal.returns-then-branch-clause-leads
+returns-then-branch-clause-leads g c =
+    let program = program_of c.args.self.now.program.now in
+    let input = input_of (g.Input.InputIndexer.view c.args.self.now.input) in
+    leads-then program input 0 0 c.loop-undo.invariant.leads
+    (subst (λ h. Leads program input 0 (task program input false c.loop-undo.spot h) (task program input true c.undo.new.spot (held c.undo.new.memory))) (sym c.in-Some.ensures)
+    (subst (λ b. Leads program input 0 (task program input false c.loop-undo.spot (pushed (undo_of c.in-Some.undo) (held c.pop.new.self))) (task program input b c.undo.new.spot (held c.undo.new.memory))) c.if-branch.true
+    c.in_ok-undo.ensures.leads))
+
+pub returns-clause-leads : goal.returns-clause-leads
+returns-clause-leads g c =
+    let program = program_of c.args.self.now.program.now in
+    let input = input_of (g.Input.InputIndexer.view c.args.self.now.input) in
+    subst (λ h. Leads program input 0 (task program input false c.args.spot.now (held c.args.memory.now)) (task program input false c.loop-undo.spot h)) (sym c.in_default.ensures.0)
+    c.loop-undo.invariant.leads
+
+pub returns-clause-sound : goal.returns-clause-sound
+returns-clause-sound g c =
+    subst (IsHeld (program_of c.args.self.now.program.now) (g.Input.InputIndexer.view c.args.self.now.input)) (sym c.in_default.ensures.0) c.loop-undo.invariant.sound

@@ -1,0 +1,162 @@
+//! Going back to a state that is still to be tried.
+ghost use Rattle.std.specs.Prelude.{◌≡◌, ◌<◌, ℕ, true, false, [], nat_lt, IfOk, OnOk};
+ghost use Rattle.regress_engine_code.specs.Standing.{program_of};
+ghost use Rattle.regress_engine_input.specs.Views.{way, input_of};
+ghost use Rattle.regress_engine_runs.specs.Runs.{gap, after_look};
+ghost use Rattle.regress_engine_runs.specs.UndoStack.{give_back, take_on, whole};
+ghost use Rattle.regress_engine_exec.specs.Held.{held, undo_of, pushed};
+ghost use Rattle.regress_engine_exec.specs.Ready.{Suits};
+ghost use Rattle.regress_engine_exec.specs.Sound.{IsHeld};
+ghost use Rattle.regress_engine_exec.specs.Tasks.{task, Leads};
+
+use crate::attempt::Attempt;
+use crate::memory::Memory;
+use crate::undo::{Frame, Spot, Undo};
+use regress_engine_matchers::CharInput;
+use std::alloc::AllocError;
+
+/// Whether the second offset is ahead of the first, forward or backward.
+#[inline]
+fn is_ahead(forward: bool, near: usize, far: usize) -> bool
+    ensures { result ≡ nat_lt 0 (gap (way forward) near far) }
+{
+    if forward { near < far } else { far < near }
+}
+
+/// Goes on behind a lookaround whose contents have no answer, where it is negated, and answers whether it is.
+#[inline]
+fn exhaust(frame: &Frame, spot: &mut Spot) -> bool
+    ensures direction { spot.new.forward ≡ frame.now.spot.forward }
+    ensures way { result ≡ frame.now.negated }
+    ensures spot { frame.now.negated ≡ true → spot.new ≡ record frame.now.spot { at = frame.now.continuation } }
+{
+    spot.forward = frame.spot.forward;
+    if frame.negated {
+        spot.at = frame.continuation;
+        spot.offset = frame.spot.offset;
+    }
+    frame.negated
+}
+
+impl<'a, 'r, Input: CharInput> Attempt<'a, 'r, Input> {
+    /// Goes on at the far one of some offsets, and later at those before it.
+    fn give_back(
+        &self,
+        at: usize,
+        near: usize,
+        far: usize,
+        memory: &mut Memory,
+        spot: &mut Spot,
+    ) -> Result<(), AllocError>
+        requires { IsHeld (program_of self.now.program.now) (Input.view self.now.input) (pushed (give_back at near far) (held memory.old)) }
+        ensures leads { OnOk result (Leads (program_of self.now.program.now) (input_of (Input.view self.now.input)) 0 (task (program_of self.now.program.now) (input_of (Input.view self.now.input)) false spot.old (pushed (give_back at near far) (held memory.old))) (task (program_of self.now.program.now) (input_of (Input.view self.now.input)) true spot.new (held memory.new))) }
+        ensures sound { OnOk result (IsHeld (program_of self.now.program.now) (Input.view self.now.input) (held memory.new)) }
+    {
+        spot.at = at;
+        spot.offset = far;
+        if !is_ahead(spot.forward, near, far) {
+            return Ok(());
+        }
+        let Some((_, next)) = self.beside(!spot.forward, far) else {
+            return Ok(());
+        };
+        memory.push(Undo::GiveBack {
+            at,
+            near,
+            far: next,
+        })?;
+        Ok(())
+    }
+
+    /// Goes on at an offset, and later behind one more iteration of the instruction before.
+    fn take_on(
+        &self,
+        at: usize,
+        offset: usize,
+        left: usize,
+        memory: &mut Memory,
+        spot: &mut Spot,
+    ) -> Result<(), AllocError>
+        requires suits { Suits (program_of self.now.program.now) (Input.view self.now.input) }
+        requires sound { IsHeld (program_of self.now.program.now) (Input.view self.now.input) (pushed (take_on at offset left) (held memory.old)) }
+        ensures leads { OnOk result (Leads (program_of self.now.program.now) (input_of (Input.view self.now.input)) 0 (task (program_of self.now.program.now) (input_of (Input.view self.now.input)) false spot.old (pushed (take_on at offset left) (held memory.old))) (task (program_of self.now.program.now) (input_of (Input.view self.now.input)) true spot.new (held memory.new))) }
+        ensures sound { OnOk result (IsHeld (program_of self.now.program.now) (Input.view self.now.input) (held memory.new)) }
+    {
+        spot.at = at;
+        spot.offset = offset;
+        if left == 0 {
+            return Ok(());
+        }
+        let insn = self.instruction(at - 1);
+        let Some(next) = self.advance(insn, spot.forward, &memory.groups, offset) else {
+            return Ok(());
+        };
+        memory.push(Undo::TakeOn {
+            at,
+            offset: next,
+            left: left - 1,
+        })?;
+        Ok(())
+    }
+
+    /// Undoes a record, and answers whether there is a state to be tried.
+    fn undo(
+        &self,
+        undo: Undo,
+        memory: &mut Memory,
+        spot: &mut Spot,
+    ) -> Result<bool, AllocError>
+        requires suits { Suits (program_of self.now.program.now) (Input.view self.now.input) }
+        requires sound { IsHeld (program_of self.now.program.now) (Input.view self.now.input) (pushed (undo_of undo) (held memory.old)) }
+        ensures leads { IfOk result (λ going. Leads (program_of self.now.program.now) (input_of (Input.view self.now.input)) 0 (task (program_of self.now.program.now) (input_of (Input.view self.now.input)) false spot.old (pushed (undo_of undo) (held memory.old))) (task (program_of self.now.program.now) (input_of (Input.view self.now.input)) going spot.new (held memory.new))) }
+        ensures sound { OnOk result (IsHeld (program_of self.now.program.now) (Input.view self.now.input) (held memory.new)) }
+        ensures rest { IfOk result (λ going. going ≡ false → (held memory.new).stack ≡ (held memory.old).stack) }
+    {
+        match undo {
+            Undo::OldLoop { id, data } => {
+                memory.restore_loop(id, data);
+                Ok(false)
+            }
+            Undo::OldGroup { group, data } => {
+                memory.restore_group(group, data);
+                Ok(false)
+            }
+            Undo::Resume { at, offset } => {
+                spot.at = at;
+                spot.offset = offset;
+                Ok(true)
+            }
+            Undo::Iterate { id, begin, offset } => {
+                spot.offset = offset;
+                let count = memory.loop_data(id).iters;
+                memory.iterate(id, count, begin, spot)?;
+                Ok(true)
+            }
+            Undo::GiveBack { at, near, far } => {
+                self.give_back(at, near, far, memory, spot)?;
+                Ok(true)
+            }
+            Undo::TakeOn { at, offset, left } => {
+                self.take_on(at, offset, left, memory, spot)?;
+                Ok(true)
+            }
+            Undo::Look(frame) => Ok(exhaust(&frame, spot)),
+        }
+    }
+
+    /// Undoes records until there is a state to be tried, and answers whether there is one.
+    pub(crate) fn back(&self, memory: &mut Memory, spot: &mut Spot) -> Result<bool, AllocError>
+        requires suits { Suits (program_of self.now.program.now) (Input.view self.now.input) }
+        requires sound { IsHeld (program_of self.now.program.now) (Input.view self.now.input) (held memory.old) }
+        ensures leads { IfOk result (λ going. Leads (program_of self.now.program.now) (input_of (Input.view self.now.input)) 0 (task (program_of self.now.program.now) (input_of (Input.view self.now.input)) false spot.old (held memory.old)) (task (program_of self.now.program.now) (input_of (Input.view self.now.input)) going spot.new (held memory.new))) }
+        ensures sound { OnOk result (IsHeld (program_of self.now.program.now) (Input.view self.now.input) (held memory.new)) }
+        ensures exhausted { IfOk result (λ going. going ≡ false → (held memory.new).stack ≡ []) }
+    {
+        while let Some(undo) = memory.pop() {
+            if self.undo(undo, memory, spot)? {
+                return Ok(true);
+            }
+        }
+        Ok(false)
+    }
+}

@@ -1,0 +1,113 @@
+//! One-character loops.
+ghost use Rattle.std.specs.Prelude.{◌≡◌, ◌+◌, ◌-◌, ◌≤◌, ◌^◌, ◌<◌, ℕ, true, false, Some, IfSome, map, option_map, length, OnOk};
+ghost use Rattle.regress_engine_code.specs.Instructions.{Stands};
+ghost use Rattle.regress_engine_code.specs.InsnViews.{instruction};
+ghost use Rattle.regress_engine_code.specs.Standing.{program_of};
+ghost use Rattle.regress_engine_input.specs.Views.{way, input_of, reading_of};
+ghost use Rattle.regress_engine_runs.specs.Runs.{after_times, as_far, successors};
+ghost use Rattle.regress_engine_runs.specs.Meets.{IsAtPlace};
+ghost use Rattle.regress_engine_code.specs.Instructions.{single_loop};
+ghost use Rattle.regress_engine_exec.specs.Held.{held, marks_of};
+ghost use Rattle.regress_engine_exec.specs.Ready.{Suits};
+ghost use Rattle.regress_engine_exec.specs.Sound.{IsBody, IsHeld};
+ghost use Rattle.regress_engine_exec.specs.Tasks.{task_of, task, state_at, Leads};
+
+use crate::attempt::Attempt;
+use crate::memory::Memory;
+use crate::undo::{Spot, Undo};
+use regress_engine_code::Insn;
+use regress_engine_matchers::CharInput;
+use regress_front_core::GroupData;
+use std::alloc::AllocError;
+
+impl<'a, 'r, Input: CharInput> Attempt<'a, 'r, Input> {
+    /// The offset behind so many iterations of an instruction that takes one character, where there are so many.
+    fn after_times(
+        &self,
+        insn: &Insn,
+        times: usize,
+        forward: bool,
+        groups: &[GroupData<usize>],
+        offset: usize,
+    ) -> Option<usize>
+        requires suits { Suits (program_of self.now.program.now) (Input.view self.now.input) }
+        requires body { (at : ℕ) × Stands (program_of self.now.program.now) (at - 1) (instruction insn.now) × IsBody (program_of self.now.program.now) (Input.view self.now.input) at offset }
+        requires groups { length groups.now ≡ self.now.program.now.groups }
+        ensures behind { result ≡ after_times (program_of self.now.program.now) (input_of (Input.view self.now.input)) times (instruction insn.now) (way forward) (map marks_of groups.now) offset }
+        ensures place { IfSome result (IsAtPlace (reading_of (Input.view self.now.input))) }
+    {
+        let mut behind = offset;
+        let mut left = times;
+        while left > 0 {
+            let Some(next) = self.advance(insn, forward, groups, behind) else {
+                return None;
+            };
+            behind = next;
+            left -= 1;
+        }
+        Some(behind)
+    }
+
+    /// The offset behind as many iterations of an instruction that takes one character as there are, at most so many.
+    fn as_far(
+        &self,
+        insn: &Insn,
+        times: usize,
+        forward: bool,
+        groups: &[GroupData<usize>],
+        offset: usize,
+    ) -> usize
+        requires suits { Suits (program_of self.now.program.now) (Input.view self.now.input) }
+        requires body { (at : ℕ) × Stands (program_of self.now.program.now) (at - 1) (instruction insn.now) × IsBody (program_of self.now.program.now) (Input.view self.now.input) at offset }
+        requires groups { length groups.now ≡ self.now.program.now.groups }
+        ensures far { result ≡ as_far (program_of self.now.program.now) (input_of (Input.view self.now.input)) times (instruction insn.now) (way forward) (map marks_of groups.now) offset }
+        ensures place { IsAtPlace (reading_of (Input.view self.now.input)) result }
+    {
+        let mut behind = offset;
+        let mut left = times;
+        while left > 0 {
+            let Some(next) = self.advance(insn, forward, groups, behind) else {
+                break;
+            };
+            behind = next;
+            left -= 1;
+        }
+        behind
+    }
+
+    /// Records what a one-character loop may do, where it may do anything: it is gone back to that.
+    pub(crate) fn repeat(
+        &self,
+        least: usize,
+        most: usize,
+        greedy: bool,
+        memory: &mut Memory,
+        spot: &Spot,
+    ) -> Result<(), AllocError>
+        requires suits { Suits (program_of self.now.program.now) (Input.view self.now.input) }
+        requires sound { IsHeld (program_of self.now.program.now) (Input.view self.now.input) (held memory.old) }
+        requires order { least ≤ most }
+        requires body { IsBody (program_of self.now.program.now) (Input.view self.now.input) (spot.now.at + 2) spot.now.offset }
+        ensures leads { OnOk result (Leads (program_of self.now.program.now) (input_of (Input.view self.now.input)) 0 (task_of (program_of self.now.program.now) (input_of (Input.view self.now.input)) (successors (program_of self.now.program.now) (input_of (Input.view self.now.input)) (single_loop least most greedy) (way spot.now.forward) (state_at spot.now (held memory.old))) spot.now (held memory.old)) (task (program_of self.now.program.now) (input_of (Input.view self.now.input)) false spot.now (held memory.new))) }
+        ensures sound { OnOk result (IsHeld (program_of self.now.program.now) (Input.view self.now.input) (held memory.new)) }
+    {
+        let insn = self.instruction(spot.at + 1);
+        let Some(near) = self.after_times(insn, least, spot.forward, &memory.groups, spot.offset)
+        else {
+            return Ok(());
+        };
+        let left = most - least;
+        let at = spot.at + 2;
+        if greedy {
+            let far = self.as_far(insn, left, spot.forward, &memory.groups, near);
+            memory.push(Undo::GiveBack { at, near, far })?;
+            return Ok(());
+        }
+        memory.push(Undo::TakeOn {
+            at,
+            offset: near,
+            left,
+        })?;
+        Ok(())
+    }
+}

@@ -1,0 +1,158 @@
+//! One step of a run.
+ghost use Rattle.std.specs.Prelude.{◌≡◌, ◌+◌, ◌^◌, ◌<◌, true, IfOk, IfSome, OnOk};
+ghost use Rattle.regress_engine_code.specs.Instructions.{Instruction, Stands, loop_again, enter_loop, LoopFields};
+ghost use Rattle.regress_engine_code.specs.InsnViews.{instruction};
+ghost use Rattle.regress_engine_code.specs.Standing.{program_of};
+ghost use Rattle.regress_engine_input.specs.Views.{input_of, reading_of};
+ghost use Rattle.regress_engine_runs.specs.Meets.{reads_character, ReadsPlaces};
+ghost use Rattle.regress_engine_exec.specs.Held.{held};
+ghost use Rattle.regress_engine_exec.specs.Ready.{Suits, is_simple};
+ghost use Rattle.regress_engine_exec.specs.Sound.{IsHeld};
+ghost use Rattle.regress_engine_exec.specs.Tasks.{state_at, task, Leads};
+ghost use Rattle.regress_engine_exec.specs.Leaving.{Steps};
+
+use crate::attempt::Attempt;
+use crate::memory::Memory;
+use crate::steps::{begun, ended};
+use crate::undo::{Frame, Spot};
+use regress_engine_code::Insn;
+use regress_engine_matchers::CharInput;
+use regress_front_core::GroupData;
+use std::alloc::AllocError;
+
+impl<'a, 'r, Input: CharInput> Attempt<'a, 'r, Input> {
+    /// Does an instruction that changes nothing but the offset, and answers whether it leads anywhere.
+    #[inline]
+    fn take(&self, insn: &Insn, memory: &Memory, spot: &mut Spot) -> bool
+        requires suits { Suits (program_of self.now.program.now) (Input.view self.now.input) }
+        requires sound { IsHeld (program_of self.now.program.now) (Input.view self.now.input) (held memory.now) }
+        requires simple { is_simple (instruction insn.now) ≡ true }
+        requires stands { Stands (program_of self.now.program.now) spot.old.at (instruction insn.now) }
+        requires room { spot.old.at + 1 < 2 ^ 64 }
+        requires reads { reads_character (instruction insn.now) ≡ true → ReadsPlaces (reading_of (Input.view self.now.input)) (instruction insn.now) (state_at spot.old (held memory.now)) }
+        ensures { Leads (program_of self.now.program.now) (input_of (Input.view self.now.input)) 1 (task (program_of self.now.program.now) (input_of (Input.view self.now.input)) true spot.old (held memory.now)) (task (program_of self.now.program.now) (input_of (Input.view self.now.input)) result spot.new (held memory.now)) }
+    {
+        let Some(next) = self.advance(insn, spot.forward, &memory.groups, spot.offset) else {
+            return false;
+        };
+        spot.at += 1;
+        spot.offset = next;
+        true
+    }
+
+    /// Ends an iteration of the repetition that begins at an address, and answers whether it is gone on.
+    #[inline]
+    fn again(
+        &self,
+        begin: usize,
+        memory: &mut Memory,
+        spot: &mut Spot,
+    ) -> Result<bool, AllocError>
+        requires suits { Suits (program_of self.now.program.now) (Input.view self.now.input) }
+        requires sound { IsHeld (program_of self.now.program.now) (Input.view self.now.input) (held memory.old) }
+        requires stands { Stands (program_of self.now.program.now) spot.old.at (loop_again begin) }
+        ensures leads { IfOk result (λ going. Leads (program_of self.now.program.now) (input_of (Input.view self.now.input)) 1 (task (program_of self.now.program.now) (input_of (Input.view self.now.input)) true spot.old (held memory.old)) (task (program_of self.now.program.now) (input_of (Input.view self.now.input)) going spot.new (held memory.new))) }
+        ensures sound { OnOk result (IsHeld (program_of self.now.program.now) (Input.view self.now.input) (held memory.new)) }
+    {
+        match self.instruction(begin) {
+            Insn::EnterLoop(repetition) => memory.again(repetition, begin, spot),
+            _ => Ok(false),
+        }
+    }
+
+    /// Does the instruction at a spot. It answers whether it is gone on, or `None` where that is the end of the run.
+    pub(crate) fn step(
+        &self,
+        memory: &mut Memory,
+        answer: &mut Vec<GroupData<usize>>,
+        spot: &mut Spot,
+    ) -> Result<Option<bool>, AllocError>
+        requires suits { Suits (program_of self.now.program.now) (Input.view self.now.input) }
+        requires sound { IsHeld (program_of self.now.program.now) (Input.view self.now.input) (held memory.old) }
+        requires stands { (i : Instruction) × Stands (program_of self.now.program.now) spot.old.at i }
+        requires reads { (i : Instruction) → Stands (program_of self.now.program.now) spot.old.at i → reads_character i ≡ true → ReadsPlaces (reading_of (Input.view self.now.input)) i (state_at spot.old (held memory.old)) }
+        ensures leads { IfOk result (λ left. Steps (program_of self.now.program.now) (input_of (Input.view self.now.input)) spot.old (held memory.old) left spot.new (held memory.new)) }
+        ensures sound { IfOk result (λ left. IfSome left (λ going. IsHeld (program_of self.now.program.now) (Input.view self.now.input) (held memory.new))) }
+    {
+        let insn = self.instruction(spot.at);
+        match insn {
+            Insn::Goal => memory.leave(answer, spot),
+            Insn::Jump { target } => {
+                spot.at = *target as usize;
+                Ok(Some(true))
+            }
+            Insn::Alt { secondary } => {
+                memory.fork(*secondary as usize, spot)?;
+                Ok(Some(true))
+            }
+            Insn::BeginCaptureGroup(group) => {
+                let marks = begun(spot, memory.group_data(*group as usize));
+                memory.mark(*group as usize, marks, spot)?;
+                Ok(Some(true))
+            }
+            Insn::EndCaptureGroup(group) => {
+                let marks = ended(spot, memory.group_data(*group as usize));
+                memory.mark(*group as usize, marks, spot)?;
+                Ok(Some(true))
+            }
+            Insn::ResetCaptureGroup(group) => {
+                memory.mark(*group as usize, GroupData::new(), spot)?;
+                Ok(Some(true))
+            }
+            Insn::EnterLoop(repetition) => {
+                let going = memory.enter(repetition, spot)?;
+                Ok(Some(going))
+            }
+            Insn::LoopAgain { begin } => {
+                let going = self.again(*begin as usize, memory, spot)?;
+                Ok(Some(going))
+            }
+            Insn::Loop1CharBody {
+                min_iters,
+                max_iters,
+                greedy,
+            } => {
+                self.repeat(*min_iters, *max_iters, *greedy, memory, spot)?;
+                Ok(Some(false))
+            }
+            Insn::Lookahead {
+                negate,
+                start_group,
+                end_group,
+                continuation,
+            } => {
+                let frame = Frame {
+                    negated: *negate,
+                    backward: false,
+                    first: *start_group,
+                    last: *end_group,
+                    continuation: *continuation as usize,
+                    spot: *spot,
+                };
+                memory.look(frame, spot)?;
+                Ok(Some(true))
+            }
+            Insn::Lookbehind {
+                negate,
+                start_group,
+                end_group,
+                continuation,
+            } => {
+                let frame = Frame {
+                    negated: *negate,
+                    backward: true,
+                    first: *start_group,
+                    last: *end_group,
+                    continuation: *continuation as usize,
+                    spot: *spot,
+                };
+                memory.look(frame, spot)?;
+                Ok(Some(true))
+            }
+            _ => {
+                let going = self.take(insn, memory, spot);
+                Ok(Some(going))
+            }
+        }
+    }
+}
