@@ -1,6 +1,6 @@
 -- A search from place to place.
 use Rattle.std.specs.Prelude.{option_map}
-use Rattle.std.proofs.Common.{◌≡◌, ℕ, suc, ◌+◌, ◌-◌, ◌<◌, ◌≤◌, Bool, true, false, not, List, [], ◌∷◌, length, map, Option, Some, None, refl, sym, ap, ap₂, ◌∙◌, subst, arith}
+use Rattle.std.proofs.Common.{◌≡◌, ℕ, ◌-◌, ◌<◌, ◌≤◌, Bool, true, false, not, List, [], ◌∷◌, length, map, Option, Some, None, refl, sym, ap, ◌∙◌, subst, arith}
 use Rattle.regress_meaning.specs.Meaning.{Forward}
 use Rattle.regress_meaning.specs.Inputs.{Input, Tells}
 use Rattle.regress_meaning.specs.Matches.{Item}
@@ -10,14 +10,14 @@ use Rattle.regress_front_nodes.specs.WellFormed.{IsWellFormed}
 use Rattle.regress_front_nodes.specs.ByteInputs.{TellsBytes}
 use Rattle.regress_engine_input.specs.Views.{View, AreOfKind, are_bytes, input_of, reading_of}
 use Rattle.regress_engine_input.proofs.KindLemmas.{tells, tells_bytes}
-use Rattle.regress_engine_code.specs.Instructions.{Program, Instruction, Stands}
+use Rattle.regress_engine_code.specs.Instructions.{Program}
 use Rattle.regress_engine_code.specs.Layout.{Target, IsLayout}
-use Rattle.regress_engine_runs.specs.States.{Whole, first_state}
+use Rattle.regress_engine_runs.specs.States.{first_state}
 use Rattle.regress_engine_runs.specs.Computed.{IsComputed}
-use Rattle.regress_engine_runs.specs.Items.{Answers, Finds, found, later, nowhere, item_of}
-use Rattle.regress_engine_runs.specs.Meets.{IsAtPlace, reads_character, ReadsPlaces}
+use Rattle.regress_engine_runs.specs.Items.{Finds, found, later, nowhere, item_of}
+use Rattle.regress_engine_runs.specs.Meets.{IsAtPlace}
 use Rattle.regress_engine_runs.specs.Stand.{IsMadeFor}
-use Rattle.regress_engine_runs.specs.UndoStack.{ComesTo, meets_alone, ReadOn, outermost}
+use Rattle.regress_engine_runs.specs.UndoStack.{meets_alone, ReadOn, outermost}
 use Rattle.regress_engine_runs.proofs.ClosedLemmas.{layout-closed}
 use Rattle.regress_engine_runs.proofs.Computed.{runs-computed}
 use Rattle.regress_engine_runs.proofs.WholeTree.{runs_as_tree, runs_safely}

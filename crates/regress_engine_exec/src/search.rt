@@ -42,10 +42,7 @@ fn taken(group: &GroupData<usize>) -> Option<Range>
 }
 
 /// The ranges of groups, of those that took part.
-fn captures(
-    alloc: Global,
-    groups: &[GroupData<usize>],
-) -> Result<Vec<Option<Range>>, AllocError>
+fn captures(alloc: Global, groups: &[GroupData<usize>]) -> Result<Vec<Option<Range>>, AllocError>
     ensures { IfOk result (λ found. map (option_map ends) found.items ≡ map (λ g. range_of (marks_of g)) groups.now) }
 {
     let mut found = Vec::with_capacity(alloc, groups.len())?;

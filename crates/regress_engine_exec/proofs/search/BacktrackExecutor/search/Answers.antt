@@ -1,4 +1,4 @@
-use Rattle.std.proofs.Common.{None, Some, sym, subst}
+use Rattle.std.proofs.Common.{sym, subst}
 use Rattle.regress_meaning.specs.Meaning.{Forward}
 use Rattle.regress_engine_code.specs.Standing.{program_of}
 use Rattle.regress_engine_input.specs.Views.{input_of}
