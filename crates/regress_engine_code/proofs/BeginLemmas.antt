@@ -18,12 +18,12 @@ use Rattle.regress_engine_code.proofs.TakingLemmas.{OfTaking, char_set-taking, b
 abbrev IsPlain : Instruction → Type 0
 IsPlain i = begins_loop i ≡ false
 
-plain-taking : (units : Bool) → OfTaking units IsPlain
-plain-taking units = record {
+plain-taking : (program : Program) → OfTaking program IsPlain
+plain-taking program = record {
   char = λ c. refl;
   char_set = λ cs. refl;
   byte_set = λ bs. refl;
-  byte_seq = λ same bs. refl;
+  byte_seq = λ units bs. refl;
   fail = refl;
 }
 
@@ -79,10 +79,10 @@ module _ (target : Target) where
   arms-tell : (b icase : Bool) (strings : List (List ℕ)) (p q : Spot) → AreArms target b icase strings p q → Tells p q
   arms-tell b icase [] p q h = single code.fail p q h refl
   arms-tell b icase (s ∷ []) p q h =
-      several (string_code target b icase s) p q h (pieces-taking target.program IsPlain (plain-taking target.program.units) b (in_reading_order b (pieces_of target.table icase target.unicode s)))
+      several (string_code target b icase s) p q h (pieces-taking target.program IsPlain (plain-taking target.program) b (in_reading_order b (pieces_of target.table icase target.unicode s)))
   arms-tell b icase (s ∷ t ∷ ss) p q (m, first, alt, jump, rest) =
       let before = plain-step p.address (code.alt (suc m.address)) alt refl in
-      let own = several (string_code target b icase s) (next p) m first (pieces-taking target.program IsPlain (plain-taking target.program.units) b (in_reading_order b (pieces_of target.table icase target.unicode s))) in
+      let own = several (string_code target b icase s) (next p) m first (pieces-taking target.program IsPlain (plain-taking target.program) b (in_reading_order b (pieces_of target.table icase target.unicode s))) in
       let behind = plain-step m.address (code.jump q.address) jump refl in
       let others = arms-tell b icase (t ∷ ss) (next m) q rest in
       omega (arith, before, own, behind, others)
@@ -100,7 +100,7 @@ module _ (target : Target) where
   pub loops-begin : (t : Tree) (b : Bool) (p q : Spot) → Lies target b t p q → Tells p q
   loops-begin tree.empty b p q h = nothing p q h
   loops-begin tree.no_part b p q h = nothing p q h
-  loops-begin (tree.bytes bs) b p q h = several (literal_code target.program b bs) p q h (literal-taking target.program IsPlain (plain-taking target.program.units) b bs)
+  loops-begin (tree.bytes bs) b p q h = several (literal_code target.program b bs) p q h (literal-taking target.program IsPlain (plain-taking target.program) b bs)
   loops-begin (tree.cat s t) b p q (m, h, k) =
       let e = loops-begin s b p m h in let f = loops-begin t b m q k in omega (arith, e, f)
   loops-begin (tree.alt s t) b p q (m, alt, h, jump, k) =
@@ -133,8 +133,8 @@ module _ (target : Target) where
   loops-begin (tree.bracket inverted intervals) b p q (i, is, h) = single i p q h (bracket-plain inverted intervals i is)
   loops-begin (tree.string_set strings icase) b p q h = arms-tell b icase strings p q h
   loops-begin (tree.byte_set bs) b p q h =
-      single (byte_set_code target.program.units bs) p q h (byte_set-taking target.program IsPlain (plain-taking target.program.units) target.program.units bs)
-  loops-begin (tree.char_set cs) b p q h = single (char_set_code cs) p q h (char_set-taking target.program IsPlain (plain-taking target.program.units) cs)
+      single (byte_set_code target.program.units bs) p q h (byte_set-taking target.program IsPlain (plain-taking target.program) target.program.units bs)
+  loops-begin (tree.char_set cs) b p q h = single (char_set_code cs) p q h (char_set-taking target.program IsPlain (plain-taking target.program) cs)
   loops-begin tree.goal b p q h = single code.goal p q h refl
   loops-begin (tree.char c) b p q h = single (code.char c) p q h refl
   loops-begin tree.any b p q h = single code.any p q h refl

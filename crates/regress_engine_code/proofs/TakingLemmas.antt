@@ -10,20 +10,20 @@ use Rattle.regress_engine_code.specs.Instructions.{Instruction, Program}
 use Rattle.regress_engine_code.specs.Instructions as code
 use Rattle.regress_engine_code.specs.Layout.{char_set_code, byte_set_code, chunks, literal_code, piece_code, pieces_code}
 
--- It holds of each instruction that takes characters, whichever they are, and of the one that fails; of bytes where the
--- program is not of units.
-pub record OfTaking (units : Bool) (P : Instruction → Type 0) : Type 0 where
+-- It holds of each instruction of a program that takes characters, whichever they are, and of the one that fails. Bytes stand
+-- in programs of bytes.
+pub record OfTaking (program : Program) (P : Instruction → Type 0) : Type 0 where
   pub char : (c : ℕ) → P (code.char c)
   pub char_set : (cs : List ℕ) → P (code.char_set cs)
   pub byte_set : (bs : List ℕ) → P (code.byte_set bs)
-  pub byte_seq : units ≡ false → (bs : List ℕ) → P (code.byte_seq bs)
+  pub byte_seq : program.units ≡ false → (bs : List ℕ) → P (code.byte_seq bs)
   pub fail : P code.fail
 
 all_of : {A : Type 0} (P : A → Type 0) → ((x : A) → P x) → (xs : List A) → All P xs
 all_of P each [] = All-nil P
 all_of P each (x ∷ xs) = All-cons P x xs (each x) (all_of P each xs)
 
-module _ (program : Program) (P : Instruction → Type 0) (of : OfTaking program.units P) where
+module _ (program : Program) (P : Instruction → Type 0) (of : OfTaking program P) where
   pub char_set-taking : (cs : List ℕ) → P (char_set_code cs)
   char_set-taking [] = of.fail
   char_set-taking (a ∷ []) = of.char_set (a ∷ a ∷ a ∷ a ∷ [])
@@ -46,8 +46,8 @@ module _ (program : Program) (P : Instruction → Type 0) (of : OfTaking program
           (All-map P make (in_reading_order b xs) (all_of (λ x. P (make x)) each (in_reading_order b xs)))
 
       by_units : (u : Bool) → program.units ≡ u → All P (in_reading_order b (if u then map code.char (chars bs) else map code.byte_seq (chunks (length bs) bs)))
-      by_units true same = ordered code.char of.char (chars bs)
-      by_units false same = ordered code.byte_seq (of.byte_seq same) (chunks (length bs) bs)
+      by_units true units = ordered code.char of.char (chars bs)
+      by_units false units = ordered code.byte_seq (of.byte_seq units) (chunks (length bs) bs)
 
   piece-taking : (b : Bool) (t : Tree) → All P (piece_code program b t)
   piece-taking b (tree.bytes bs) = literal-taking b bs

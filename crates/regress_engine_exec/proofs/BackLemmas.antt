@@ -1,11 +1,10 @@
 -- What is undone, and where it is gone on.
 use Rattle.std.specs.Prelude.{get_or, slice_set, nat_lt, ◌^◌}
-use Rattle.std.proofs.Common.{◌≡◌, ℕ, zero, suc, ◌+◌, ◌-◌, ◌<◌, ◌≤◌, ◌==◌, Bool, true, false, not, List, [], ◌∷◌, length, Option, Some, None, if◌then◌else◌, ◌⊎◌, inl, inr, refl, sym, ap, ◌∙◌, subst, arith}
+use Rattle.std.proofs.Common.{◌≡◌, ℕ, zero, suc, ◌+◌, ◌-◌, ◌<◌, ◌≤◌, ◌==◌, Bool, true, false, not, List, [], ◌∷◌, length, Option, Some, None, if◌then◌else◌, ◌⊎◌, refl, sym, ap, ◌∙◌, subst, arith}
 use Rattle.std.proofs.lemmas.Bool.Decides.{nat_tests}
 use Rattle.std.proofs.lemmas.List.{length-set}
-use Rattle.regress_meaning.specs.Meaning.{Direction, Forward, Backward}
+use Rattle.regress_meaning.specs.Meaning.{Direction}
 use Rattle.regress_meaning.specs.Inputs.{Input}
-use Rattle.regress_meaning.specs.Offsets.{Reading}
 use Rattle.regress_engine_input.specs.Views.{View, Kind, utf8, ascii, utf16, ucs2, way, input_of, reading_of}
 use Rattle.regress_engine_code.specs.Instructions.{Program, Instruction, Stands}
 use Rattle.regress_engine_runs.specs.States.{Whole, Marks}
@@ -23,7 +22,7 @@ use Rattle.regress_engine_exec.proofs.PlaceLemmas.{body-place, body-ready}
 use Rattle.regress_engine_exec.specs.declared.undo.Spot.{Spot}
 use Rattle.regress_engine_exec.specs.Held.{Held, pushed, loop_written}
 use Rattle.regress_engine_exec.specs.Sound.{IsBody, IsSound, IsHeld}
-use Rattle.regress_engine_exec.specs.Tasks.{Task, task_of, task, state_at, Leads}
+use Rattle.regress_engine_exec.specs.Tasks.{Task, task, state_at, Leads}
 use Rattle.regress_engine_exec.proofs.LeadLemmas.{leads-then, leads-same, leads-first}
 use Rattle.regress_engine_exec.proofs.StepLemmas.{iterate-leads}
 

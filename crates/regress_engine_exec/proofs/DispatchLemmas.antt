@@ -1,6 +1,6 @@
 -- Each instruction's step.
-use Rattle.std.specs.Prelude.{slice_set, get_or}
-use Rattle.std.proofs.Common.{◌≡◌, ℕ, suc, ◌+◌, ◌-◌, ◌<◌, ◌≤◌, Bool, true, false, not, List, [], ◌∷◌, length, Option, Some, None, if◌then◌else◌, refl, sym, ap, ◌∙◌, subst, arith}
+use Rattle.std.specs.Prelude.{slice_set}
+use Rattle.std.proofs.Common.{◌≡◌, ℕ, suc, ◌+◌, Bool, true, false, not, [], ◌∷◌, Option, Some, None, if◌then◌else◌, refl, sym, ap, ◌∙◌, subst, arith}
 use Rattle.regress_meaning.specs.Meaning.{Direction}
 use Rattle.regress_meaning.specs.Inputs.{Input}
 use Rattle.regress_front_nodes.specs.TreeMeaning.{direction}
@@ -13,7 +13,7 @@ use Rattle.regress_engine_code.specs.declared.insn.Insn.TheVariants.{EnterLoop}
 use Rattle.regress_engine_code.specs.declared.insn.LoopFields as insn
 use Rattle.regress_engine_runs.specs.States.{Whole, Marks, onward}
 use Rattle.regress_engine_runs.specs.Runs.{successors, is_plain, moved_to, advance, is_idle, choices, fields_of}
-use Rattle.regress_engine_runs.specs.Meets.{reads_character, ReadsPlaces, IsAtPlace}
+use Rattle.regress_engine_runs.specs.Meets.{reads_character, ReadsPlaces}
 use Rattle.regress_engine_runs.specs.Closed.{Fits}
 use Rattle.regress_engine_runs.specs.UndoStack.{Frame, frame, stands_for}
 use Rattle.regress_engine_runs.proofs.UndoLemmas.{frame_pushed}
@@ -22,7 +22,7 @@ use Rattle.regress_engine_runs.proofs.RunViews.{one_stands}
 use Rattle.regress_engine_exec.specs.declared.undo.Spot.{Spot}
 use Rattle.regress_engine_exec.specs.Held.{Held, pushed}
 use Rattle.regress_engine_exec.specs.Ready.{Suits, IsReady, is_simple}
-use Rattle.regress_engine_exec.specs.Sound.{IsBody, IsHeld}
+use Rattle.regress_engine_exec.specs.Sound.{IsHeld}
 use Rattle.regress_engine_exec.specs.Tasks.{Task, task_of, task, state_at, Leads, GoesOn}
 use Rattle.regress_engine_exec.proofs.LeadLemmas.{leads-then, leads-same, leads-plain}
 

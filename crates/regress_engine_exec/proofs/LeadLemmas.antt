@@ -1,6 +1,5 @@
 -- How one task leads to another.
-use Rattle.std.proofs.Common.{◌≡◌, ℕ, ◌+◌, ◌<◌, ◌≤◌, true, List, [], ◌∷◌, ◌++◌, Option, refl, sym, ap, subst, arith}
-use Rattle.std.proofs.lemmas.List.{append-nil}
+use Rattle.std.proofs.Common.{◌≡◌, ℕ, ◌+◌, true, List, [], ◌∷◌, ◌++◌, sym, ap, subst, arith}
 use Rattle.regress_meaning.specs.Meaning.{Direction}
 use Rattle.regress_meaning.specs.Inputs.{Input}
 use Rattle.regress_engine_input.specs.Views.{way}
@@ -12,7 +11,7 @@ use Rattle.regress_engine_runs.proofs.UndoLemmas.{work_goes, work_first, work_la
 use Rattle.regress_engine_runs.proofs.ReadLemmas.{read_on, read_first, read_later}
 use Rattle.regress_engine_exec.specs.declared.undo.Spot.{Spot}
 use Rattle.regress_engine_exec.specs.Held.{Held, loop_written, group_written}
-use Rattle.regress_engine_exec.specs.Tasks.{Task, task_of, task, state_at, Leads}
+use Rattle.regress_engine_exec.specs.Tasks.{Task, task_of, Leads}
 
 module _ (program : Program) (input : Input) where
   pub leads-then : {t u w : Task} (k l : ℕ) → Leads program input k t u → Leads program input l u w → Leads program input (k + l) t w

@@ -1,11 +1,11 @@
 -- A lookaround is left.
-use Rattle.std.specs.Prelude.{slice_set, get_or, nat_le, nat_lt, option_map}
-use Rattle.std.proofs.Common.{◌≡◌, ℕ, zero, suc, ◌+◌, ◌<◌, ◌≤◌, ◌&&◌, Bool, true, false, List, [], ◌∷◌, length, Option, Some, None, if◌then◌else◌, refl, sym, ap, ap₂, ◌∙◌, subst, arith}
+use Rattle.std.specs.Prelude.{slice_set, get_or, nat_le, nat_lt}
+use Rattle.std.proofs.Common.{◌≡◌, ℕ, zero, suc, ◌+◌, ◌<◌, ◌≤◌, ◌&&◌, true, false, List, [], ◌∷◌, length, Option, Some, None, if◌then◌else◌, refl, sym, ap, ap₂, ◌∙◌, subst, arith}
 use Rattle.std.proofs.lemmas.Bool.Decides.{nat_tests}
 use Rattle.std.proofs.lemmas.List.{length-set}
 use Rattle.regress_meaning.specs.Meaning.{Direction}
 use Rattle.regress_meaning.specs.Inputs.{Input}
-use Rattle.regress_engine_input.specs.Views.{View, way}
+use Rattle.regress_engine_input.specs.Views.{way}
 use Rattle.regress_engine_code.specs.Instructions.{Program, Stands}
 use Rattle.regress_engine_code.specs.Instructions as code
 use Rattle.regress_engine_runs.specs.States.{Whole, Marks, unset, mixed}
@@ -15,7 +15,7 @@ use Rattle.regress_engine_runs.proofs.UndoLemmas.{all_found, frame_found, group_
 use Rattle.regress_engine_runs.proofs.ReadLemmas.{read_found}
 use Rattle.regress_engine_exec.specs.declared.undo.Spot.{Spot}
 use Rattle.regress_engine_exec.specs.Held.{Held, pushed, group_written}
-use Rattle.regress_engine_exec.specs.Tasks.{Task, task_of, task, state_at, Leads}
+use Rattle.regress_engine_exec.specs.Tasks.{Task, task, state_at, Leads}
 use Rattle.regress_engine_exec.specs.Leaving.{outside_of, told_outside, work_of, Unwinds, EndsAt}
 
 -- states that are done first change nothing outside

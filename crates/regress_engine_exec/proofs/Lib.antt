@@ -11,3 +11,4 @@ pub mod SingleLemmas
 pub mod LeaveLemmas
 pub mod DispatchLemmas
 pub mod TryLemmas
+pub mod SearchLemmas

@@ -1,27 +1,27 @@
 -- Offsets that are read at.
 use Rattle.std.specs.Prelude.{chars, encode_utf8, slice_get, option_and_then}
-use Rattle.std.specs.Str.{encode_utf8_all, all_scalars}
-use Rattle.std.proofs.Common.{◌≡◌, ℕ, zero, suc, ◌<◌, ◌≤◌, ◌==◌, ◌&&◌, Bool, true, false, not, List, [], ◌∷◌, length, Option, Some, None, if◌then◌else◌, option_map, refl, sym, ap, ap₂, ◌∙◌, subst, arith}
+use Rattle.std.specs.Str.{encode_utf8_all}
+use Rattle.std.proofs.Common.{◌≡◌, ℕ, Bool, true, false, not, List, [], ◌∷◌, length, Option, Some, None, if◌then◌else◌, option_map, refl, sym, ap, ap₂, ◌∙◌, subst, arith}
 use Rattle.std.proofs.lemmas.Bool.{eqb-true, and_parts}
 use Rattle.std.proofs.lemmas.List.{append-nil}
 use Rattle.std.proofs.lemmas.Str.{length-encode, len_utf8_bounds}
 use Rattle.regress_engine_code.proofs.LiteralLemmas.{one-character}
 use Rattle.regress_meaning.specs.Text.{same_text}
 use Rattle.regress_meaning.specs.Meaning.{Direction, beside}
-use Rattle.regress_meaning.specs.Offsets.{Reading, offset}
-use Rattle.regress_meaning.specs.Inputs.{Input, Tells, context_of}
+use Rattle.regress_meaning.specs.Offsets.{offset}
+use Rattle.regress_meaning.specs.Inputs.{Tells, context_of}
 use Rattle.regress_meaning.specs.Steps.{passed, literal}
 use Rattle.regress_front_nodes.specs.Singles.{is_one_character}
 use Rattle.regress_front_nodes.specs.WellFormed.{AreCharacters}
 use Rattle.regress_front_nodes.specs.ByteInputs.{TellsBytes, placed}
 use Rattle.regress_front_nodes.specs.TreeMeaning.{bracket_has}
-use Rattle.regress_engine_input.specs.Views.{View, AreOfKind, are_bytes, CanRead, LiesIn, behind, input_of, reading_of}
+use Rattle.regress_engine_input.specs.Views.{View, AreOfKind, CanRead, LiesIn, behind, input_of, reading_of}
 use Rattle.regress_engine_input.proofs.KindLemmas.{tells, tells_bytes, readable}
 use Rattle.regress_engine_code.specs.Instructions.{Instruction, Program}
 use Rattle.regress_engine_code.specs.Instructions as code
 use Rattle.regress_engine_runs.specs.States.{Marks}
 use Rattle.regress_engine_runs.specs.Runs.{advance}
-use Rattle.regress_engine_runs.specs.Meets.{IsAtPlace, reads_character, ReadsPlaces}
+use Rattle.regress_engine_runs.specs.Meets.{IsAtPlace, ReadsPlaces}
 use Rattle.regress_engine_runs.specs.Closed.{Fits, takes_character}
 use Rattle.regress_engine_runs.specs.UndoStack.{whole}
 use Rattle.regress_engine_runs.proofs.Literals.{place-on, beside-fits}

@@ -1,10 +1,8 @@
 -- Offsets that are those of places, and where what stands once more ends.
-use Rattle.std.proofs.Common.{◌≡◌, ◌==◌, ℕ, zero, suc, ◌≤◌, Bool, true, false, List, Option, Some, None, if◌then◌else◌, option_and_then, length, refl, sym, ap, ◌∙◌, subst}
+use Rattle.std.proofs.Common.{◌≡◌, ◌==◌, ℕ, zero, suc, Bool, true, false, List, Option, Some, None, if◌then◌else◌, option_and_then, refl, sym, subst}
 use Rattle.regress_meaning.specs.Meaning.{Direction, Forward, Backward, same}
-use Rattle.regress_meaning.specs.Offsets.{offset}
 use Rattle.regress_meaning.specs.Steps.{copied, repeated, only_if}
 use Rattle.regress_engine_input.specs.Views.{View, AreOfKind, CanRead, LiesIn, input_of, reading_of}
-use Rattle.regress_engine_input.proofs.KindLemmas.{readable}
 use Rattle.regress_engine_code.specs.Instructions.{Instruction, Program}
 use Rattle.regress_engine_runs.specs.States.{Marks}
 use Rattle.regress_engine_runs.specs.Meets.{IsAtPlace, reads_character}
@@ -12,14 +10,11 @@ use Rattle.regress_engine_matchers.specs.References.{IsPlace}
 use Rattle.regress_engine_matchers.proofs.MatcherLemmas.{Reads}
 use Rattle.regress_engine_matchers.proofs.ViewLemmas.{view_reads}
 use Rattle.regress_engine_exec.specs.Ready.{IsReady}
+use Rattle.regress_engine_exec.proofs.PlaceLemmas.{can-read}
 
 -- an offset of a place, as the matchers have it
 pub place_is : (v : View) (o : ℕ) → IsAtPlace (reading_of v) o → IsPlace v o
 place_is v o (p, room, here) = (p, room, sym here)
-
--- characters may be read there
-pub place_read : (v : View) → AreOfKind v.kind v.units → (o : ℕ) → IsAtPlace (reading_of v) o → CanRead v o
-place_read v all o (p, room, here) = subst (λ (n : ℕ). CanRead v n) (sym here) (readable v.kind v.table v.unicode v.units all p room)
 
 module _ (v : View) (reads : Reads v) (dir : Direction) (icase : Bool) where
   -- what is copied ends where characters may be read
@@ -57,4 +52,4 @@ repeated_lies v all Backward icase a b o q can e =
 -- where an instruction that reads characters may be asked, characters may be read
 pub ready_read : (program : Program) (v : View) → AreOfKind v.kind v.units → (i : Instruction) (groups : List Marks) (o : ℕ) → IsReady program v i groups o
     → reads_character i ≡ true → CanRead v o
-ready_read program v all i groups o ready reads = place_read v all o (ready.reads reads).0
+ready_read program v all i groups o ready reads = can-read v all o (ready.reads reads).0

@@ -1,13 +1,12 @@
 -- What is held stays sound.
-use Rattle.std.specs.Prelude.{slice_set, get_or}
-use Rattle.std.proofs.Common.{◌≡◌, ℕ, ◌<◌, List, ◌∷◌, length, sym, ap, ◌∙◌, subst}
+use Rattle.std.specs.Prelude.{get_or}
+use Rattle.std.proofs.Common.{ℕ, ◌<◌, sym, ◌∙◌, subst}
 use Rattle.std.proofs.lemmas.List.{set-set, set-get_or, length-set}
 use Rattle.regress_engine_input.specs.Views.{View}
 use Rattle.regress_engine_code.specs.Instructions.{Program}
 use Rattle.regress_engine_runs.specs.States.{Marks, unset}
-use Rattle.regress_engine_runs.specs.UndoStack.{Undo}
 use Rattle.regress_engine_runs.proofs.UndoLemmas.{loop_undone}
-use Rattle.regress_engine_exec.specs.Held.{Held, loop_written, group_written, pushed}
+use Rattle.regress_engine_exec.specs.Held.{Held, loop_written, group_written}
 use Rattle.regress_engine_exec.specs.Sound.{IsSound, IsHeld}
 
 module _ (program : Program) (v : View) where

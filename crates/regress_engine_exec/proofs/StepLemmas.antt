@@ -1,10 +1,9 @@
 -- What each step that changes what is held leads to.
 use Rattle.std.specs.Prelude.{get_or, slice_set, nat_lt, nat_le, ◌^◌}
-use Rattle.std.proofs.Common.{◌≡◌, ℕ, suc, ◌+◌, ◌<◌, ◌≤◌, ◌∷◌, [], List, ◌++◌, Bool, true, false, ◌&&◌, ◌==◌, if◌then◌else◌, length, refl, sym, ap, ◌∙◌, subst, arith}
+use Rattle.std.proofs.Common.{◌≡◌, ℕ, suc, ◌+◌, ◌<◌, ◌≤◌, ◌∷◌, [], List, Bool, true, false, if◌then◌else◌, length, refl, sym, ap, ◌∙◌, subst, arith}
 use Rattle.std.proofs.lemmas.Bool.Decides.{nat_tests}
-use Rattle.regress_meaning.specs.Inputs.{Input}
-use Rattle.regress_engine_input.specs.Views.{View, way}
-use Rattle.regress_engine_code.specs.Instructions.{Program, LoopFields}
+use Rattle.regress_engine_input.specs.Views.{way}
+use Rattle.regress_engine_code.specs.Instructions.{LoopFields}
 use Rattle.regress_engine_runs.specs.States.{Whole, Marks, onward}
 use Rattle.regress_engine_runs.specs.Runs.{count_of, one_more, ordered, choices, is_idle}
 use Rattle.regress_engine_runs.specs.UndoStack.{stands_for, resume, iterate}
@@ -12,7 +11,7 @@ use Rattle.regress_engine_exec.specs.declared.undo.Spot.{Spot}
 use Rattle.regress_engine_exec.specs.Held.{Held, loop_written, group_written, pushed}
 use Rattle.regress_engine_exec.specs.Sound.{IsSound, IsHeld}
 use Rattle.regress_engine_exec.specs.Tasks.{Task, task_of, task, state_at, Leads, GoesOn, StaysSound}
-use Rattle.regress_engine_exec.proofs.LeadLemmas.{leads-then, leads-same, leads-equal, leads-later, leads-loop, leads-group}
+use Rattle.regress_engine_exec.proofs.LeadLemmas.{leads-then, leads-same, leads-later, leads-loop, leads-group}
 use Rattle.regress_engine_exec.proofs.SoundLemmas.{held-loop, held-group}
 
 -- one way now and one later

@@ -1,5 +1,5 @@
 -- What the executor holds, as the definitions have it.
-use Rattle.std.specs.Prelude.{ℕ, List, [], ◌∷◌, map, reverse, get_or, slice_set}
+use Rattle.std.specs.Prelude.{ℕ, List, ◌∷◌, map, reverse, get_or, slice_set}
 use Rattle.regress_front_core.specs.declared.state.LoopData.{LoopData}
 use Rattle.regress_front_core.specs.declared.state.GroupData.{GroupData}
 use Rattle.regress_engine_input.specs.Views.{way}

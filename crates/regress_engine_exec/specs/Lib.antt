@@ -4,3 +4,4 @@ pub mod Sound
 pub mod Tasks
 pub mod Leaving
 pub mod Trying
+pub mod Sought

@@ -1,5 +1,5 @@
 -- What an executor has still to do, and that a step leads on to what comes to the same.
-use Rattle.std.specs.Prelude.{◌≡◌, ℕ, ◌+◌, ◌≤◌, Bool, true, false, List, [], ◌∷◌, Option, Some, if◌then◌else◌}
+use Rattle.std.specs.Prelude.{ℕ, ◌+◌, ◌≤◌, Bool, List, [], ◌∷◌, Option, if◌then◌else◌}
 use Rattle.regress_meaning.specs.Meaning.{Direction}
 use Rattle.regress_meaning.specs.Offsets.{Reading}
 use Rattle.regress_meaning.specs.Inputs.{Input}

@@ -1,5 +1,5 @@
 -- A run that is tried from an offset, and its answer.
-use Rattle.std.specs.Prelude.{◌≡◌, ℕ, ◌≤◌, List, [], ◌∷◌, Option, Some, None}
+use Rattle.std.specs.Prelude.{◌≡◌, ℕ, ◌≤◌, [], ◌∷◌, Option, Some, None}
 use Rattle.regress_meaning.specs.Inputs.{Input}
 use Rattle.regress_engine_input.specs.Views.{View, way, input_of, reading_of}
 use Rattle.regress_engine_code.specs.Instructions.{Program}

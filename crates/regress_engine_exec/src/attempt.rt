@@ -52,7 +52,10 @@ impl<'a, 'r, Input: CharInput> Attempt<'a, 'r, Input> {
         requires reads { ReadOn (program_of self.now.program.now) (input_of (Input.view self.now.input)) (reading_of (Input.view self.now.input)) forward (first_state (program_of self.now.program.now) self.now.start ∷ []) (outermost []) }
         ensures { IfOk result (λ found. IsAnswer (program_of self.now.program.now) (input_of (Input.view self.now.input)) self.now.start found (held memory.new)) }
     {
-        memory.begin(self.program.loops() as usize, self.program.groups() as usize)?;
+        memory.begin(
+            self.program.loops() as usize,
+            self.program.groups() as usize,
+        )?;
         let mut spot = Spot {
             at: 0,
             offset: self.start,

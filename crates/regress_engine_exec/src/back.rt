@@ -100,12 +100,7 @@ impl<'a, 'r, Input: CharInput> Attempt<'a, 'r, Input> {
     }
 
     /// Undoes a record, and answers whether there is a state to be tried.
-    fn undo(
-        &self,
-        undo: Undo,
-        memory: &mut Memory,
-        spot: &mut Spot,
-    ) -> Result<bool, AllocError>
+    fn undo(&self, undo: Undo, memory: &mut Memory, spot: &mut Spot) -> Result<bool, AllocError>
         requires suits { Suits (program_of self.now.program.now) (Input.view self.now.input) }
         requires sound { IsHeld (program_of self.now.program.now) (Input.view self.now.input) (pushed (undo_of undo) (held memory.old)) }
         ensures leads { IfOk result (λ going. Leads (program_of self.now.program.now) (input_of (Input.view self.now.input)) 0 (task (program_of self.now.program.now) (input_of (Input.view self.now.input)) false spot.old (pushed (undo_of undo) (held memory.old))) (task (program_of self.now.program.now) (input_of (Input.view self.now.input)) going spot.new (held memory.new))) }

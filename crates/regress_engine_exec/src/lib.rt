@@ -6,7 +6,10 @@ mod back;
 mod leave;
 mod memory;
 mod reads;
+mod search;
 mod singles;
 mod step;
 mod steps;
 mod undo;
+
+pub use search::BacktrackExecutor;

@@ -42,12 +42,7 @@ impl<'a, 'r, Input: CharInput> Attempt<'a, 'r, Input> {
 
     /// Ends an iteration of the repetition that begins at an address, and answers whether it is gone on.
     #[inline]
-    fn again(
-        &self,
-        begin: usize,
-        memory: &mut Memory,
-        spot: &mut Spot,
-    ) -> Result<bool, AllocError>
+    fn again(&self, begin: usize, memory: &mut Memory, spot: &mut Spot) -> Result<bool, AllocError>
         requires suits { Suits (program_of self.now.program.now) (Input.view self.now.input) }
         requires sound { IsHeld (program_of self.now.program.now) (Input.view self.now.input) (held memory.old) }
         requires stands { Stands (program_of self.now.program.now) spot.old.at (loop_again begin) }

@@ -74,12 +74,12 @@ module _ (program : Program) where
       both-fit low (suc low) (low + suc (length is)) (one-fits low i here (All-head AlwaysFits i is fit low))
       (subst (AllFit (suc low)) e (list-fits is (suc low) stand (All-tail AlwaysFits i is fit)))
 
-  fits-taking : OfTaking program.units AlwaysFits
+  fits-taking : OfTaking program AlwaysFits
   fits-taking = record {
     char = λ c at. tt;
     char_set = λ cs at. tt;
     byte_set = λ bs at. tt;
-    byte_seq = λ same bs at. same;
+    byte_seq = λ units bs at. units;
     fail = λ at. tt;
   }
 

@@ -1,14 +1,7 @@
-use Rattle.std.proofs.Common.{◌≡◌, ◌∙◌, true, map, ap, refl}
-use Rattle.regress_engine_code.specs.Standing.{program_of}
-use Rattle.regress_engine_code.specs.InsnViews.{instruction}
-use Rattle.regress_engine_code.specs.declared.insn.Insn.{Insn}
-use Rattle.regress_engine_input.specs.Views.{CanRead, input_of, way}
-use Rattle.regress_engine_runs.specs.Meets.{reads_character}
-use Rattle.regress_engine_exec.specs.Held.{marks_of}
-use Rattle.regress_engine_exec.specs.Ready.{IsReady}
+use Rattle.std.proofs.Common.{◌∙◌, refl}
+use Rattle.regress_engine_input.specs.Views.{input_of, way}
 use Rattle.regress_engine_exec.proofs.BracketLemmas.{bracket_takes}
 use Rattle.regress_engine_exec.proofs.RepeatLemmas.{ready_read}
-use Rattle.regress_engine_exec.proofs.attempt.Attempt.advance.Given as given
 use Rattle.regress_engine_exec.proofs.attempt.Attempt.advance.Goals as goal
 
 pub char-requires : goal.char-requires

@@ -1,8 +1,8 @@
-use Rattle.std.proofs.Common.{◌≡◌, ◌<◌, sym, ap, ◌∙◌, subst, refl, arith}
-use Rattle.regress_engine_code.specs.Instructions.{Instruction, LoopFields, Program, Stands, enter_loop, loop_again}
-use Rattle.regress_engine_code.specs.InsnViews.{instruction, fields}
+use Rattle.std.proofs.Common.{arith}
+use Rattle.regress_engine_code.specs.Instructions.{enter_loop, loop_again}
+use Rattle.regress_engine_code.specs.InsnViews.{fields}
 use Rattle.regress_engine_code.specs.Standing.{program_of}
-use Rattle.regress_engine_input.specs.Views.{way, input_of}
+use Rattle.regress_engine_input.specs.Views.{input_of}
 use Rattle.regress_engine_exec.specs.Held.{held}
 use Rattle.regress_engine_exec.proofs.MemoryLemmas.{ok-then}
 use Rattle.regress_engine_exec.proofs.DispatchLemmas.{stands-as, again-on-step, no-repetition}

@@ -1,11 +1,10 @@
-use Rattle.std.proofs.Common.{◌≡◌, ◌<◌, ◌+◌, ◌-◌, ℕ, suc, true, false, sym, ap, ◌∙◌, subst, refl, arith}
+use Rattle.std.proofs.Common.{◌≡◌, ◌+◌, ◌-◌, suc, true, false, ap, ◌∙◌, subst, refl, arith}
 use Rattle.regress_engine_code.specs.Instructions.{Instruction, Program, Stands}
 use Rattle.regress_engine_code.specs.Instructions as code
-use Rattle.regress_engine_code.specs.InsnViews.{instruction, fields}
 use Rattle.regress_engine_code.specs.Standing.{program_of}
 use Rattle.regress_engine_input.specs.Views.{way, input_of}
-use Rattle.regress_engine_runs.specs.States.{begun, ended, unset}
-use Rattle.regress_engine_exec.specs.Held.{held, marks_of, frame_of}
+use Rattle.regress_engine_runs.specs.States.{begun, ended}
+use Rattle.regress_engine_exec.specs.Held.{held, marks_of}
 use Rattle.regress_engine_exec.proofs.BackLemmas.{frame-held}
 use Rattle.regress_engine_exec.proofs.DispatchLemmas.{stands-as, step-on, jump-on, mark-on, look-on}
 use Rattle.regress_engine_exec.proofs.attempt.Attempt.step.Goals as goal

@@ -1,4 +1,4 @@
-use Rattle.std.proofs.Common.{◌≡◌, ℕ, inl, inr, sym, ap, ◌∙◌, subst, map, arith}
+use Rattle.std.proofs.Common.{inl, inr, sym, ap, ◌∙◌, subst, map, arith}
 use Rattle.regress_engine_code.specs.Standing.{program_of}
 use Rattle.regress_engine_code.specs.InsnViews.{instruction}
 use Rattle.regress_engine_input.specs.Views.{input_of, way}

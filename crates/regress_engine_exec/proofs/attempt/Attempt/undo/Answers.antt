@@ -1,7 +1,7 @@
-use Rattle.std.proofs.Common.{◌≡◌, ℕ, Bool, true, false, refl, sym, ap, ◌∙◌, subst, arith}
+use Rattle.std.proofs.Common.{ℕ, Bool, false, sym, ap, ◌∙◌, subst, arith}
 use Rattle.regress_engine_code.specs.Standing.{program_of}
 use Rattle.regress_engine_input.specs.Views.{input_of, way}
-use Rattle.regress_engine_runs.specs.UndoStack.{resume, old_loop, old_group, iterate, give_back, take_on, frame}
+use Rattle.regress_engine_runs.specs.UndoStack.{resume, old_loop, old_group, iterate, frame}
 use Rattle.regress_engine_exec.specs.Held.{held, pushed, undo_of, loop_of, marks_of, frame_of}
 use Rattle.regress_engine_exec.proofs.BackLemmas.{held-as, leads-as, held-resume, held-old_loop, old_loop-there, held-old_group, old_group-there, held-iterate, held-frame, resume-back, old_loop-back, old_group-back, iterate-back, look-back}
 use Rattle.regress_engine_exec.specs.Tasks.{task, Leads}

@@ -1,4 +1,4 @@
-use Rattle.std.proofs.Common.{◌≡◌, ◌&&◌, ◌==◌, ℕ, Bool, sym, ap, ◌∙◌}
+use Rattle.std.proofs.Common.{◌&&◌, ◌==◌, ℕ, sym, ap, ◌∙◌}
 use Rattle.std.specs.Prelude.{nat_lt}
 use Rattle.regress_engine_code.specs.InsnViews.{fields}
 use Rattle.regress_engine_exec.specs.Held.{held}

@@ -1,8 +1,7 @@
-use Rattle.std.proofs.Common.{true, ◌≡◌, ◌+◌, ◌^◌, ◌<◌, ℕ, ap, ◌∙◌, length, get_or, arith}
+use Rattle.std.proofs.Common.{true, ◌+◌, ◌^◌, ◌<◌, ℕ, ap, length, get_or, arith}
 use Rattle.regress_engine_code.specs.Instructions.{LoopFields}
 use Rattle.regress_engine_code.specs.InsnViews.{fields}
-use Rattle.regress_engine_runs.specs.UndoStack.{resume, iterate}
-use Rattle.regress_engine_exec.specs.Held.{Held, held, pushed}
+use Rattle.regress_engine_exec.specs.Held.{Held, held}
 use Rattle.regress_engine_exec.proofs.StepLemmas.{choose-none, choose-out, choose-more, choose-greedy, choose-lazy, at_spot, loop-sound, resume-sound, iterate-sound, sound-then}
 use Rattle.regress_engine_exec.proofs.memory.Memory.choose.Goals as goal
 

@@ -1,5 +1,5 @@
-use Rattle.std.proofs.Common.{◌≡◌, length, refl, sym, ap, ◌∙◌, subst, arith}
-use Rattle.regress_engine_exec.specs.Held.{Held, held, undo_of, pushed}
+use Rattle.std.proofs.Common.{length, ap, ◌∙◌, subst, arith}
+use Rattle.regress_engine_exec.specs.Held.{Held, held}
 use Rattle.regress_engine_exec.specs.Sound.{IsHeld}
 use Rattle.regress_engine_exec.specs.Leaving.{outside_of, work_of}
 use Rattle.regress_engine_exec.proofs.LeaveLemmas.{nothing-outside}

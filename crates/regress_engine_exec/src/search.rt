@@ -1,0 +1,125 @@
+//! The search for the first place from which a run has an answer.
+ghost use Rattle.std.specs.Prelude.{◌≡◌, ℕ, List, map, option_map, IfOk, OnOk, IsOkUnless};
+ghost use Rattle.regress_front_nodes.specs.Trees.{Tree};
+ghost use Rattle.regress_front_nodes.specs.WellFormed.{IsWellFormed};
+ghost use Rattle.regress_match.specs.Views.{item_of, ends};
+ghost use Rattle.regress_engine_code.specs.Layout.{IsLayout};
+ghost use Rattle.regress_engine_code.specs.Standing.{program_of, target_of};
+ghost use Rattle.regress_engine_input.specs.Views.{input_of, reading_of};
+ghost use Rattle.regress_engine_runs.specs.States.{range_of};
+ghost use Rattle.regress_engine_runs.specs.Items.{Finds};
+ghost use Rattle.regress_engine_runs.specs.Meets.{IsAtPlace};
+ghost use Rattle.regress_engine_exec.specs.Held.{held, marks_of};
+ghost use Rattle.regress_engine_exec.specs.Sought.{IsSought, IsMadeOf, IsFound, sought_in};
+
+use crate::attempt::Attempt;
+use crate::memory::Memory;
+use regress_engine_code::CompiledRegex;
+use regress_engine_matchers::CharInput;
+use regress_front_core::{Error, GroupData};
+use regress_match::{Match, Range};
+use std::alloc::{AllocError, Global};
+
+/// Finds the matches of a program in a text. It holds one state and one stack of what is to be undone, which it keeps from one
+/// search to the next, and no call of it calls it again.
+#[derive(Debug, Drop)]
+pub struct BacktrackExecutor<'r, Input: CharInput> {
+    alloc: Global,
+    program: &'r CompiledRegex<'r>,
+    input: Input,
+    memory: Memory,
+    answer: Vec<GroupData<usize>>,
+}
+
+/// The range of a group, where it took part.
+fn taken(group: &GroupData<usize>) -> Option<Range>
+    ensures { option_map ends result ≡ range_of (marks_of group.now) }
+{
+    match (group.start, group.end) {
+        (Some(start), Some(end)) => Some(start..end),
+        _ => None,
+    }
+}
+
+/// The ranges of groups, of those that took part.
+fn captures(alloc: Global, groups: &[GroupData<usize>]) -> Result<Vec<Option<Range>>, AllocError>
+    ensures { IfOk result (λ found. map (option_map ends) found.items ≡ map (λ g. range_of (marks_of g)) groups.now) }
+{
+    let mut found = Vec::with_capacity(alloc, groups.len())?;
+    for group in groups {
+        found.push(taken(group))?;
+    }
+    Ok(found)
+}
+
+impl<'r, Input: CharInput> BacktrackExecutor<'r, Input> {
+    /// The executor of a program over a text.
+    ///
+    /// ```rust
+    /// let mut executor = BacktrackExecutor::with_input(alloc, &program, input);
+    /// ```
+    pub fn with_input(alloc: Global, program: &'r CompiledRegex<'r>, input: Input) -> Self
+        ensures { sought_in result ≡ (program.entry.now, input) }
+    {
+        BacktrackExecutor {
+            alloc,
+            program,
+            input,
+            memory: Memory::new(alloc),
+            answer: Vec::new(alloc),
+        }
+    }
+
+    /// Searches from an offset on. It answers the offset from which the first run has an answer, and where that ends; the
+    /// answer's groups are then held.
+    fn search(&mut self, offset: usize) -> Result<Option<(usize, usize)>, AllocError>
+        requires sought { IsSought (program_of self.old.program.now) (Input.view self.old.input) }
+        requires place { IsAtPlace (reading_of (Input.view self.old.input)) offset }
+        ensures found { IfOk result (λ found. IsFound (program_of self.old.program.now) (input_of (Input.view self.old.input)) offset found (held self.new.memory)) }
+        ensures kept { sought_in self.new ≡ sought_in self.old }
+    {
+        let program = self.program;
+        let input = self.input;
+        let mut start = offset;
+        'places: loop {
+            let attempt = Attempt {
+                program,
+                input,
+                start,
+            };
+            if let Some(end) = attempt.run(&mut self.memory, &mut self.answer)? {
+                return Ok(Some((start, end)));
+            }
+            let Some((_, behind)) = attempt.beside(true, start) else {
+                return Ok(None);
+            };
+            start = behind;
+        }
+    }
+
+    /// The match at the least place from an offset on: that of the program's run from there, begun at the first instruction
+    /// with nothing set ("RegExpBuiltinExec"). `None` where no run from there on has an answer. It errs with `OutOfMemory`
+    /// alone, and may then be asked again.
+    ///
+    /// Asks that the program is one of a tree, and made for the text: of units over UTF-16 and UCS-2, else of bytes, with
+    /// the text's tables and mode; and that the offset is that of a place of the text.
+    ///
+    /// ```rust
+    /// let found = executor.find_from(0)?;
+    /// ```
+    pub fn find_from(&mut self, offset: usize) -> Result<Option<Match>, Error>
+        requires sought { (n : ℕ) × (t : Tree) × IsWellFormed n t × IsLayout (target_of self.old.program.now) n t }
+        requires made { IsMadeOf self.old.program.now (Input.view self.old.input) }
+        requires place { IsAtPlace (reading_of (Input.view self.old.input)) offset }
+        ensures found { IfOk result (λ found. Finds (program_of self.old.program.now) (input_of (Input.view self.old.input)) offset (option_map item_of found)) }
+        ensures kept { sought_in self.new ≡ sought_in self.old }
+        ensures refused { IsOkUnless result Error.OutOfMemory }
+    {
+        let Some((start, end)) = self.search(offset)? else {
+            return Ok(None);
+        };
+        let captures = captures(self.alloc, &self.memory.groups)?;
+        let names = self.program.shared_group_names()?;
+        Ok(Some(Match::new(start..end, captures, names)))
+    }
+}
