@@ -15,13 +15,18 @@ const ESCAPED: &[(&str, &str)] = &[
     ("é-漢/😀\n", "é-漢/😀\n"),
 ];
 
-#[test]
-fn syntax_characters_stand_behind_a_backslash(rt: HostRuntime) -> Result<(), Fail> {
-    for (text, expected) in ESCAPED {
-        let escaped = escape(rt.alloc(), text)?;
-        is_same(rt.alloc(), text, escaped.as_str(), expected)?;
+/// Fails at the first text that is escaped otherwise.
+fn escape_so(alloc: Global, rows: &[(&str, &str)]) -> Result<(), Fail> {
+    for (text, expected) in rows {
+        let escaped = escape(alloc, text)?;
+        is_same(alloc, text, escaped.as_str(), expected)?;
     }
     Ok(())
+}
+
+#[test]
+fn syntax_characters_stand_behind_a_backslash(rt: HostRuntime) -> Result<(), Fail> {
+    escape_so(rt.alloc(), ESCAPED)
 }
 
 /// Texts that are escaped, the flags under which they are sought, texts, and these with each occurrence replaced by `#`.
@@ -45,11 +50,16 @@ fn replaced(alloc: Global, sought: &str, flags: &str, text: &str) -> Result<Stri
     Ok(regex.replace_all(text, "#")?)
 }
 
-#[test]
-fn an_escaped_text_finds_its_occurrences(rt: HostRuntime) -> Result<(), Fail> {
-    for (sought, flags, text, expected) in SOUGHT {
-        let came = replaced(rt.alloc(), sought, flags, text)?;
-        is_same(rt.alloc(), sought, came.as_str(), expected)?;
+/// Fails at the first row that comes out otherwise.
+fn find_so(alloc: Global, rows: &[(&str, &str, &str, &str)]) -> Result<(), Fail> {
+    for (sought, flags, text, expected) in rows {
+        let came = replaced(alloc, sought, flags, text)?;
+        is_same(alloc, sought, came.as_str(), expected)?;
     }
     Ok(())
+}
+
+#[test]
+fn an_escaped_text_finds_its_occurrences(rt: HostRuntime) -> Result<(), Fail> {
+    find_so(rt.alloc(), SOUGHT)
 }
