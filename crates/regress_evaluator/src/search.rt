@@ -75,11 +75,7 @@ impl<'r> Search<'r> {
     }
 
     /// The first match from a place on, told in bytes, and in `next` the place to go on from.
-    fn first_from(
-        &self,
-        position: usize,
-        next: &mut Option<usize>,
-    ) -> Result<Option<Match>, Error>
+    fn first_from(&self, position: usize, next: &mut Option<usize>) -> Result<Option<Match>, Error>
         ensures found { IfOk result (λ found. Finds (items_from self.now) (IsMatchOf self.now) position found next.new) }
         ensures nearer { IfSome next.new (λ p. places_behind self.now p < places_behind self.now position) }
         ensures last { OnErr result (next.new ≡ None) }
