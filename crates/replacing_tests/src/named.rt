@@ -1,7 +1,7 @@
 //! The named groups of a match, and the texts of groups.
 
 use crate::told::{compiled, is_same};
-use regress::{Error, Match, Tables};
+use regress::{Error, Match, Regex, Tables, is_start};
 use std::alloc::Global;
 use std::test::Fail;
 
@@ -77,13 +77,21 @@ fn the_text_of_a_group(rt: HostRuntime) -> Result<(), Fail> {
     Ok(())
 }
 
+/// Whether a match is found from an offset on, at which a search may begin.
+fn matches_from(regex: &Regex<'_>, text: &str, start: usize) -> Result<bool, Fail> {
+    if !is_start(text, start) {
+        return Err(Fail::new("no search may begin there"));
+    }
+    Ok(regex.is_match_from(text, start)?)
+}
+
 #[test]
 fn what_is_asked_of_a_regex(rt: HostRuntime) -> Result<(), Fail> {
     let tables = Tables::small(rt.alloc())?;
     let regex = compiled(rt.alloc(), "(?<n>a)(b)?", "", &tables)?;
     assert!(rt; regex.is_match("xa")? && !regex.is_match("x")?);
-    assert!(rt; !regex.is_match_from("ax", 1)? && regex.is_match_from("xa", 1)?);
-    assert!(rt; !regex.is_match_from("a", 2)? && regex.captures_len() == 3);
+    assert!(rt; !matches_from(&regex, "ax", 1)? && matches_from(&regex, "xa", 1)?);
+    assert!(rt; !matches_from(&regex, "a", 2)? && regex.captures_len() == 3);
     let names = regex.group_names();
     assert!(rt; names.len() == 2 && names[0].as_str() == "n" && names[1].is_empty());
     Ok(())
