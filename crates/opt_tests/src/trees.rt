@@ -299,6 +299,37 @@ const TREES: &[(&str, &str, &str)] = &[
         "",
         "Cat\n  Loop Quantifier { min: 6, max: Some(6), greedy: true }\n    Alt\n      Anchor { anchor_type: EndOfLine, multiline: false }\n      ByteSequence([97])\n  Goal\n",
     ),
+    ("[abc]", "", "Cat\n  CharSet([97, 98, 99])\n  Goal\n"),
+    (
+        "[a-d]*",
+        "",
+        "Cat\n  Loop1CharBody Quantifier { min: 0, max: None, greedy: true }\n    CharSet([97, 98, 99, 100])\n  Goal\n",
+    ),
+    ("[dab-c]", "", "Cat\n  CharSet([97, 98, 99, 100])\n  Goal\n"),
+    ("[aé]", "", "Cat\n  CharSet([97, 233])\n  Goal\n"),
+    (
+        "[a-e]",
+        "",
+        "Cat\n  Bracket(BracketContents { invert: false, cps: CodePointSet { intervals: [Interval { first: 97, last: 101 }] } })\n  Goal\n",
+    ),
+    (
+        "[^ab]",
+        "",
+        "Cat\n  Bracket(BracketContents { invert: true, cps: CodePointSet { intervals: [Interval { first: 97, last: 98 }] } })\n  Goal\n",
+    ),
+    ("[^]", "", "Cat\n  MatchAny\n  Goal\n"),
+    ("[]", "", "Cat\n  CharSet([])\n  Goal\n"),
+    (
+        "(a)[]",
+        "",
+        "Cat\n  CaptureGroup 0\n    ByteSequence([97])\n  CharSet([])\n  Goal\n",
+    ),
+    (r"[^\0-\u{10FFFF}]", "u", "Cat\n  CharSet([])\n  Goal\n"),
+    (
+        r"[^\0-\u{10FFFF}]*b",
+        "u",
+        "Cat\n  Loop Quantifier { min: 0, max: None, greedy: true }\n    CharSet([])\n  ByteSequence([98])\n  Goal\n",
+    ),
 ];
 
 #[test]
