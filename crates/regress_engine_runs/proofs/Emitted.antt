@@ -1,11 +1,27 @@
--- The instructions of a tree, as a list, for the examples: what an emitter writes. Brackets are left out.
-use Rattle.std.specs.Prelude.{ℕ, suc, ◌+◌, ◌-◌, Bool, List, [], ◌∷◌, ◌++◌, length}
+-- The instructions of a tree, as a list, for the examples: what an emitter writes. A bracket is one of the program's.
+use Rattle.std.specs.Prelude.{ℕ, suc, ◌+◌, ◌-◌, Bool, true, false, not, ◌&&◌, if◌then◌else◌, List, [], ◌∷◌, ◌++◌, length, nat_eq}
 use Rattle.regress_front_nodes.specs.Trees.{Tree}
 use Rattle.regress_front_nodes.specs.Trees as tree
 use Rattle.regress_front_nodes.specs.Sizes.{loops}
 use Rattle.regress_engine_code.specs.Instructions.{Instruction}
 use Rattle.regress_engine_code.specs.Instructions as code
 use Rattle.regress_engine_code.specs.Layout.{char_set_code, byte_set_code, Target, resets, literal_code, string_code}
+
+-- whether two lists of intervals are the same
+unfoldable pub are_same : List (ℕ × ℕ) → List (ℕ × ℕ) → Bool
+are_same [] [] = true
+are_same [] (y ∷ ys) = false
+are_same (x ∷ xs) [] = false
+are_same (x ∷ xs) (y ∷ ys) = nat_eq x.0 y.0 && nat_eq x.1 y.1 && are_same xs ys
+
+-- whether two brackets are the same
+abbrev pub is_same : Bool × List (ℕ × ℕ) → Bool × List (ℕ × ℕ) → Bool
+is_same a b = (if a.0 then b.0 else not b.0) && are_same a.1 b.1
+
+-- where a bracket first stands among brackets
+unfoldable pub index_of : Bool × List (ℕ × ℕ) → List (Bool × List (ℕ × ℕ)) → ℕ
+index_of b [] = 0
+index_of b (c ∷ rest) = if is_same b c then 0 else suc (index_of b rest)
 
 module _ (target : Target) where
   -- the arms of a set of strings, from an address on
@@ -40,7 +56,7 @@ module _ (target : Target) where
   emitted b (tree.boundary inverted folded) at l = code.boundary inverted folded ∷ []
   emitted b (tree.capture k name a) at l = code.begin_group k ∷ (emitted b a (suc at) l ++ (code.end_group k ∷ []))
   emitted b (tree.back k icase) at l = code.back (k - 1) icase ∷ []
-  emitted b (tree.bracket inverted intervals) at l = code.fail ∷ []
+  emitted b (tree.bracket inverted intervals) at l = code.bracket (index_of (inverted, intervals) target.program.brackets) ∷ []
   emitted b (tree.string_set strings icase) at l = arms_code b icase strings at
   emitted b (tree.look negated behind first last a) at l =
       let x = emitted behind a (suc at) l in code.look negated behind first last (suc (suc at + length x)) ∷ (x ++ (code.goal ∷ []))

@@ -17,7 +17,7 @@ use Rattle.regress_meaning.specs.Tokens.{greatest}
 use Rattle.regress_meaning.specs.Meaning.{Forward}
 use Rattle.regress_meaning.specs.Inputs.{Input, ascii_input, ucs2_input, utf16_input, utf8_input}
 use Rattle.regress_meaning.specs.Steps.{copied}
-use Rattle.regress_front_nodes.specs.Trees.{Tree, cat_of, empty, any_in_line, char, cat, no_part, alt, capture, back, look, loop, goal, line_start, line_end, bytes, char_set, string_set, single_loop}
+use Rattle.regress_front_nodes.specs.Trees.{Tree, cat_of, empty, any_in_line, char, cat, no_part, alt, capture, back, look, loop, goal, line_start, line_end, bytes, char_set, string_set, single_loop, bracket, boundary}
 use Rattle.regress_front_nodes.specs.WellFormed.{IsWellFormed}
 use Rattle.regress_front_nodes.specs.Pieces.{pieces_of, expansion}
 use Rattle.regress_engine_code.specs.Instructions.{Program}
@@ -26,25 +26,35 @@ use Rattle.regress_engine_code.specs.Counts.{count}
 use Rattle.regress_engine_runs.specs.States.{Whole, range_of, first_state}
 use Rattle.regress_engine_runs.specs.Runs.{after_times, as_far, one_by_one, back_to}
 use Rattle.regress_engine_runs.specs.Computed.{run}
-use Rattle.regress_engine_runs.proofs.Emitted.{emitted}
+use Rattle.regress_engine_runs.proofs.Emitted.{emitted, index_of, are_same}
 
 -- what the examples compute with
 computation : Unit {0}
-unfolding run copied after_times as_far one_by_one back_to emitted pieces_of expansion count encode chars is_word canon image in_intervals entry
+unfolding run copied index_of are_same after_times as_far one_by_one back_to emitted pieces_of expansion count encode chars is_word canon image in_intervals entry
 computation = tt
 
 -- an ASCII text as an input
 abbrev ascii : String → Input
 ascii text = ascii_input (table_of small_parts) false (codes text)
 
+-- the brackets of a program
+abbrev Brackets : Type 0
+Brackets = List (Bool × List (ℕ × ℕ))
+
 -- what a program without instructions is made for
+abbrev blank_with : Brackets → Bool → Target
+blank_with brackets units = record { program = record { instructions = []; brackets = brackets; loops = 0; groups = 0; units = units }; table = table_of small_parts; unicode = false }
+
 abbrev blank : Bool → Target
-blank units = record { program = record { instructions = []; brackets = []; loops = 0; groups = 0; units = units }; table = table_of small_parts; unicode = false }
+blank units = blank_with [] units
 
 -- the program of a tree with so many loops and groups, of bytes or of units
+abbrev made_with : Brackets → Bool → ℕ → ℕ → Tree → Program
+made_with brackets units loops groups t =
+    record { instructions = emitted (blank_with brackets units) false (cat t (cat goal no_part)) 0 0; brackets = brackets; loops = loops; groups = groups; units = units }
+
 abbrev made_of : Bool → ℕ → ℕ → Tree → Program
-made_of units loops groups t =
-    record { instructions = emitted (blank units) false (cat t (cat goal no_part)) 0 0; brackets = []; loops = loops; groups = groups; units = units }
+made_of units loops groups t = made_with [] units loops groups t
 
 abbrev program_of : ℕ → ℕ → Tree → Program
 program_of loops groups t = made_of false loops groups t
@@ -53,9 +63,12 @@ program_of loops groups t = made_of false loops groups t
 abbrev told : Whole → ℕ × List (Option (ℕ × ℕ))
 told w = (w.offset, map range_of w.groups)
 
--- the answer from an offset
+-- the answer of a program from an offset
+abbrev answer_of : Program → String → ℕ → Option (Option (ℕ × List (Option (ℕ × ℕ))))
+answer_of program text o = option_map (λ (x : ℕ × Option Whole). option_map told x.1) (run program (ascii text) 2000 Forward (first_state program o ∷ []))
+
 abbrev answer : ℕ → ℕ → Tree → String → ℕ → Option (Option (ℕ × List (Option (ℕ × ℕ))))
-answer loops groups t text o = option_map (λ (x : ℕ × Option Whole). option_map told x.1) (run (program_of loops groups t) (ascii text) 2000 Forward (first_state (program_of loops groups t) o ∷ []))
+answer loops groups t text o = answer_of (program_of loops groups t) text o
 
 abbrev found : ℕ → List (Option (ℕ × ℕ)) → Option (Option (ℕ × List (Option (ℕ × ℕ))))
 found e groups = Some (Some (e, groups))
@@ -250,6 +263,59 @@ case_is_ignored_in_part = (refl, refl)
 counts_may_be_large : (answer 1 0 (loop (letter "a") 0 0 greatest greatest true) "aaa" 0 ≡ nothing) × (answer 1 0 (loop (letter "a") 0 0 0 greatest true) "aaa" 0 ≡ found 3 [])
 unfolding computation
 counts_may_be_large = (refl, refl)
+
+-- digits, word characters, and what [\w-z] and [[a-z]&&[aeiou]] hold
+abbrev digits : List (ℕ × ℕ)
+digits = (0x30, 0x39) ∷ []
+
+abbrev words : List (ℕ × ℕ)
+words = (0x30, 0x39) ∷ (0x41, 0x5A) ∷ (0x5F, 0x5F) ∷ (0x61, 0x7A) ∷ []
+
+abbrev vowels : List (ℕ × ℕ)
+vowels = (0x61, 0x61) ∷ (0x65, 0x65) ∷ (0x69, 0x69) ∷ (0x6F, 0x6F) ∷ (0x75, 0x75) ∷ []
+
+-- the brackets of the programs below
+abbrev classes : Brackets
+classes = (false, digits) ∷ (false, words) ∷ (false, vowels) ∷ (false, (0x2D, 0x2D) ∷ words) ∷ (true, vowels) ∷ []
+
+abbrev answer_in : Bool → ℕ → ℕ → Tree → String → ℕ → Option (Option (ℕ × List (Option (ℕ × ℕ))))
+answer_in units loops groups t text o = answer_of (made_with classes units loops groups t) text o
+
+-- (\d{4})-(\d{2})-(\d{2}) on 2023-12-25
+abbrev date : Tree
+date =
+    let digit : Tree = bracket false digits in
+    cat_of (capture 0 None (loop digit 1 1 4 4 true) ∷ letter "-" ∷ capture 1 None (loop digit 2 2 2 2 true) ∷ letter "-" ∷ capture 2 None (loop digit 3 3 2 2 true) ∷ [])
+
+a_date_is_taken_apart : (units : Bool) → answer_in units 3 3 date "2023-12-25" 0 ≡ found 10 (Some (0, 4) ∷ Some (5, 7) ∷ Some (8, 10) ∷ [])
+unfolding computation
+a_date_is_taken_apart true = refl
+a_date_is_taken_apart false = refl
+
+-- \b(\w)(\w+) on hello world, from 0, 1 and 6
+abbrev words_apart : Tree
+words_apart = cat_of (boundary false false ∷ capture 0 None (bracket false words) ∷ capture 1 None (loop (bracket false words) 2 2 1 greatest true) ∷ [])
+
+words_are_taken_apart : (answer_in false 1 2 words_apart "hello world" 0 ≡ found 5 (Some (0, 1) ∷ Some (1, 5) ∷ []))
+    × (answer_in false 1 2 words_apart "hello world" 1 ≡ nothing)
+    × (answer_in false 1 2 words_apart "hello world" 6 ≡ found 11 (Some (6, 7) ∷ Some (7, 11) ∷ []))
+unfolding computation
+words_are_taken_apart = (refl, refl, refl)
+
+-- [\w-z] on -
+a_hyphen_is_a_member : answer_in false 0 0 (bracket false ((0x2D, 0x2D) ∷ words)) "-" 0 ≡ found 1 []
+unfolding computation
+a_hyphen_is_a_member = refl
+
+-- [[a-z]&&[aeiou]] on xe, from 0 and from 1
+vowels_are_found : (answer_in false 0 0 (bracket false vowels) "xe" 0 ≡ nothing) × (answer_in false 0 0 (bracket false vowels) "xe" 1 ≡ found 2 [])
+unfolding computation
+vowels_are_found = (refl, refl)
+
+-- [^aeiou] on xe, from 0 and from 1
+an_inverted_class_takes_the_rest : (answer_in true 0 0 (bracket true vowels) "xe" 0 ≡ found 1 []) × (answer_in true 0 0 (bracket true vowels) "xe" 1 ≡ nothing)
+unfolding computation
+an_inverted_class_takes_the_rest = (refl, refl)
 
 -- where a run ends, in any input
 abbrev ends : Bool → Tree → Input → ℕ → Option (Option ℕ)
