@@ -1,16 +1,11 @@
 -- Bitmaps as lists of their members.
 use Rattle.std.specs.List.{range_with_len}
-use Rattle.std.proofs.Common.{◌≡◌, ℕ, zero, suc, ◌+◌, ◌<◌, ◌≤◌, ◌||◌, ◌&&◌, ◌==◌, Bool, true, false, List, [], ◌∷◌, length, take, get_or, cond, refl, sym, ap, ◌∙◌, arith}
+use Rattle.std.proofs.Common.{◌≡◌, ℕ, zero, suc, ◌+◌, ◌<◌, ◌≤◌, ◌||◌, ◌&&◌, ◌==◌, nat_lt, Bool, true, false, List, [], ◌∷◌, cond, refl, sym, ap, ◌∙◌, arith}
 use Rattle.std.specs.Prelude.{filter}
-use Rattle.std.proofs.lemmas.Bool.{eqb-true}
+use Rattle.std.proofs.lemmas.Bool.{eqb-true, and_parts, lt-ltb, ltb-true}
 use Rattle.std.proofs.lemmas.Bool.Decides.{nat_tests}
-use Rattle.std.proofs.lemmas.List.{map-append, take_more}
 use Rattle.regress_meaning.specs.Text.{holds}
-use Rattle.regress_meaning.specs.TableParts.{in_intervals}
 use Rattle.regress_front_bytes.specs.ByteSets.{all_bytes, members}
-use Rattle.regress_front_sets.specs.declared.interval.Interval.{Interval}
-use Rattle.regress_front_sets.specs.Intervals.{ends, ends_of, in_interval}
-use Rattle.regress_front_sets.proofs.IntervalLemmas.{in_intervals-append}
 
 gone : (b : Bool) → (b && false) ≡ false
 gone true = refl
@@ -49,22 +44,14 @@ holds-members f bytes c = holds-filter f all_bytes c ∙ by_test (f c) refl
     by_test true p = let h = holds-range 256 0 c (omega arith) (omega (arith, bytes c p)) in rw h refl
     by_test false p = rw p (gone (holds all_bytes c))
 
--- one more interval
-pub intervals-told : (is : List Interval) (k : ℕ) (i : Interval) → k < length is → i ≡ get_or is k i → (c : ℕ)
-    → in_intervals (ends_of (take (k + 1) is)) c ≡ in_intervals (ends_of (take k is)) c || in_interval i c
-unfolding in_intervals
-intervals-told is k i within same c =
-    ap (λ js. in_intervals (ends_of js) c) (take_more is k i within)
-    ∙ ap (λ es. in_intervals es c) (map-append ends (take k is) (get_or is k i ∷ []))
-    ∙ in_intervals-append (ends_of (take k is)) (ends (get_or is k i) ∷ []) c
-    ∙ ap (λ (j : Interval). in_intervals (ends_of (take k is)) c || in_intervals (ends j ∷ []) c) (sym same)
-    ∙ ap (λ b. in_intervals (ends_of (take k is)) c || b) (alone (in_interval i c))
-  where
-    alone : (b : Bool) → (b || false) ≡ b
-    alone true = refl
-    alone false = refl
+-- a test that passes below a number alone
+pub passes-below : (n c : ℕ) (held : Bool) → (held ≡ true → c < n) → (nat_lt c n && held) ≡ held
+passes-below n c true low = rw (lt-ltb c n (low refl)) refl
+passes-below n c false low = gone (nat_lt c n)
 
--- what intervals of ASCII hold is below 256
-pub intervals-below : (i : Interval) (front : Bool) (c : ℕ) → i.last < 128 → (front ≡ true → c < 256) → (front || in_interval i c) ≡ true → c < 256
-intervals-below i true c last before h = before refl
-intervals-below i false c last before h = grind (arith, nat_tests)
+-- what a set of ASCII holds, its bitmap has as members
+pub ascii-members : (bitmap held : ℕ → Bool) → ((c : ℕ) → bitmap c ≡ nat_lt c 0x80 && held c) → ((c : ℕ) → held c ≡ true → c < 0x80) → (c : ℕ)
+    → holds (members bitmap) c ≡ held c
+ascii-members bitmap held told low c =
+    holds-members bitmap (λ d h. omega (arith, ltb-true d 0x80 (and_parts (nat_lt d 0x80) (held d) (sym (told d) ∙ h)).0)) c
+    ∙ told c ∙ passes-below 0x80 c (held c) (low c)

@@ -13,9 +13,7 @@ use Rattle.regress_front_nodes.specs.Trees.{Tree, tree, cat_of, anchor_of}
 use Rattle.regress_front_nodes.specs.Trees as node
 use Rattle.regress_front_nodes.specs.declared.node.Node.TheVariants.{CaptureGroup, Alt}
 use Rattle.regress_front_nodes.specs.Forms.{in_reading_order}
-use Rattle.regress_front_nodes.specs.TreeMeaning.{bracket_has}
 use Rattle.regress_front_nodes.proofs.TreeLaws.{tree-CaptureGroup, tree-Alt}
-use Rattle.regress_meaning.specs.Text.{holds}
 use Rattle.regress_front_nodes.specs.Singles.{takes_one}
 use Rattle.regress_front_nodes.specs.Sizes.{loops}
 use Rattle.regress_front_nodes.specs.WellFormed.{AreLawful}
@@ -141,10 +139,3 @@ module _ (units : Bool) (table : Table) (unicode : Bool) where
               (adds.lie program units' (subst (λ n. Has program n w') (sym (ap (λ (p : Spot). p.address) same)) has)),
         );
       }
-
-  -- a bracket of ASCII characters
-  pub AddsTree-ascii_bracket : (b inverted : Bool) (intervals : List (ℕ × ℕ)) (cs : List ℕ) (w w' : Written) → ((c : ℕ) → holds cs c ≡ bracket_has inverted intervals c)
-      → w' ≡ with w (code.ascii_bracket cs ∷ []) → AddsTree units table unicode b (node.bracket inverted intervals) w w'
-  AddsTree-ascii_bracket b inverted intervals cs w w' same e =
-      Adds-turned units (λ program p q. Stands program p.address (code.ascii_bracket cs) × (q ≡ next p)) (tree_lies units table unicode b (node.bracket inverted intervals)) w w'
-      (λ program units' h. (code.ascii_bracket cs, same, h)) (Adds-one units w w' (code.ascii_bracket cs) e)

@@ -1,11 +1,11 @@
 -- What is written stays, and what is written behind it lies there.
 use Rattle.std.specs.Prelude.{slice_get, slice_set}
-use Rattle.std.proofs.Common.{sym, ◌≡◌, ℕ, zero, suc, ◌+◌, ◌-◌, ◌<◌, ◌≤◌, ◌≢◌, Bool, List, [], ◌∷◌, ◌++◌, length, Some, refl, ap, ◌∙◌, subst, arith, length-append, append_assoc}
+use Rattle.std.proofs.Common.{sym, ◌≡◌, ℕ, zero, suc, ◌+◌, ◌-◌, ◌<◌, ◌≤◌, ◌≢◌, List, [], ◌∷◌, ◌++◌, length, Some, refl, ap, ◌∙◌, subst, arith, length-append, append_assoc}
 use Rattle.std.proofs.lemmas.List.{append-nil, length-set}
 use Rattle.std.proofs.lemmas.Option.{slice_get_within}
 use Rattle.regress_engine_code.specs.Instructions.{Instruction, reset_group, Program, Stands, StandFrom}
 use Rattle.regress_engine_code.specs.Layout.{Spot, later, resets}
-use Rattle.regress_engine_code.specs.Written.{Written, end, with, changed, Has, Keeps, Adds}
+use Rattle.regress_engine_code.specs.Written.{Written, end, with, changed, Has, Keeps}
 
 -- ---- lists
 
@@ -105,14 +105,6 @@ StandFrom-with program w is has =
 
 pub end-with : (w : Written) (is : List Instruction) → end (with w is) ≡ later (end w) (length is)
 end-with w is = ap (λ (n : ℕ). let p : Spot = record { address = n; loops = w.loops } in p) (length-append w.instructions is)
-
--- some instructions are added, and nothing else
-pub Adds-with : (units : Bool) (w : Written) (is : List Instruction)
-    → Adds units (λ program p q. StandFrom program p.address is × (q ≡ later p (length is))) w (with w is)
-Adds-with units w is = record {
-  kept = Keeps-with w is;
-  lie = λ program same has. (StandFrom-with program w is has, end-with w is);
-}
 
 -- ---- more instructions at once
 

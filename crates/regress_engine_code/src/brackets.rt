@@ -1,9 +1,9 @@
 //! The instructions of brackets.
-ghost use Rattle.std.specs.Prelude.{◌≡◌, ℕ, ◌<◌, ◌||◌, Bool, map, IfSome, IfOk, IfErr, OnOk};
+ghost use Rattle.std.specs.Prelude.{◌≡◌, ℕ, Bool, map, IfSome, IfOk, IfErr, OnOk};
 ghost use Rattle.regress_meaning.specs.Text.{holds};
 ghost use Rattle.regress_front_bytes.specs.ByteSets.{members};
 ghost use Rattle.regress_front_bytes.specs.Bitmaps.{ascii_bitmap_contains};
-ghost use Rattle.regress_front_sets.specs.Intervals.{ends_of, in_interval};
+ghost use Rattle.regress_front_sets.specs.Intervals.{ends_of};
 ghost use Rattle.regress_front_nodes.specs.Trees.{bracket};
 ghost use Rattle.regress_front_nodes.specs.TreeMeaning.{bracket_has};
 ghost use Rattle.regress_engine_code.specs.Written.{written, bracket_ends, MayRefuse};
@@ -15,35 +15,17 @@ use crate::insn::Insn;
 use regress_front_bytes::AsciiBitmap;
 use regress_front_core::Error;
 use regress_front_nodes::BracketContents;
-use regress_front_sets::Interval;
 use std::alloc::{AllocError, Global};
-
-/// Adds an interval of ASCII characters.
-fn add_interval(bitmap: &mut AsciiBitmap, interval: Interval)
-    requires { interval.last < 128 }
-    ensures { (b : ℕ) → ascii_bitmap_contains bitmap.new b ≡ ascii_bitmap_contains bitmap.old b || in_interval interval b }
-{
-    for point in interval.first..interval.last + 1 {
-        bitmap.set(point as u8);
-    }
-}
 
 /// The characters of a bracket that is not inverted, where all of them are ASCII.
 fn ascii_bitmap(contents: &BracketContents) -> Option<AsciiBitmap>
     ensures { IfSome result (λ bitmap. (c : ℕ) →
         holds (members (ascii_bitmap_contains bitmap)) c ≡ bracket_has contents.now.invert (ends_of contents.now.cps.intervals.items) c) }
 {
-    if contents.invert {
+    if contents.invert || !contents.cps.is_ascii() {
         return None;
     }
-    let mut bitmap = AsciiBitmap::default();
-    for interval in contents.cps.intervals() {
-        if interval.last >= 0x80 {
-            return None;
-        }
-        add_interval(&mut bitmap, *interval);
-    }
-    Some(bitmap)
+    Some(contents.cps.ascii_members())
 }
 
 /// Brackets of the same characters.

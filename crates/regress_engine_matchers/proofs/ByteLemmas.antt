@@ -24,11 +24,6 @@ module _ (units : List ℕ) (test : ℕ → Bool) where
       let before : suc o - 1 ≡ o = omega arith in
       ap (only_if (test b)) (h ∙ before) ∙ ap (λ (x : Option ℕ). passed test (option_map (λ c. (c, o)) x)) e
 
-  no_byte : (dir : Direction) (o pos : ℕ) → None ≡ unit_beside units dir o → only_if false pos ≡ passed test (single_next units dir o)
-  no_byte Forward o pos e = ap (λ (x : Option ℕ). passed test (option_map (λ c. (c, suc o)) x)) e
-  no_byte Backward zero pos e = refl
-  no_byte Backward (suc o) pos e = ap (λ (x : Option ℕ). passed test (option_map (λ c. (c, o)) x)) e
-
 -- where one may read over bytes is a place
 pub byte_place : (v : View) → AreOfKind v.kind v.units → are_bytes v.kind ≡ true → (o : ℕ) → CanRead v o → IsPlace v o
 byte_place v all are o can = by_kind v.kind all are can
@@ -59,6 +54,3 @@ module _ (v : View) (all : AreOfKind v.kind v.units) (are : are_bytes v.kind ≡
 
   pub sees_byte : (b pos : ℕ) → Some b ≡ in_bytes v.kind (unit_beside v.units dir o) → pos ≡ past_unit dir o → only_if (test b) pos ≡ passed test ((input_of v).next dir o)
   sees_byte b pos e h = byte_passes v.units test dir o b pos (e ∙ in-bytes v.kind (unit_beside v.units dir o) are) h ∙ sym sees_view
-
-  pub sees_none : (pos : ℕ) → None ≡ in_bytes v.kind (unit_beside v.units dir o) → only_if false pos ≡ passed test ((input_of v).next dir o)
-  sees_none pos e = no_byte v.units test dir o pos (e ∙ in-bytes v.kind (unit_beside v.units dir o) are) ∙ sym sees_view

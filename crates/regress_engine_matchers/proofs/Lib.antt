@@ -3,5 +3,4 @@ pub mod MatcherLemmas
 pub mod ViewLemmas
 pub mod ByteLemmas
 pub mod SequenceLemmas
-pub mod IntervalLemmas
 pub mod StayLemmas

@@ -16,15 +16,6 @@ module _ (f g : ℕ → ℕ) where
   abbrev pub alike_of : Option (ℕ × ℕ) → Option (ℕ × ℕ) → Option (ℕ × ℕ)
   alike_of x y = option_and_then (λ (c : ℕ × ℕ). option_and_then (λ (d : ℕ × ℕ). if g c.0 == g d.0 then Some (c.1, d.1) else None) y) x
 
-  pub alike-none_first : (x y : Option (ℕ × ℕ)) (a o : ℕ) → None ≡ option_map (λ (z : ℕ × ℕ). z.0) x → both_if false a o ≡ alike_of x y
-  alike-none_first None y a o e = refl
-  alike-none_first (Some x) y a o e = cc
-
-  pub alike-none_second : (x y : Option (ℕ × ℕ)) (a o : ℕ) → None ≡ option_map (λ (z : ℕ × ℕ). z.0) y → both_if false a o ≡ alike_of x y
-  alike-none_second None y a o e = refl
-  alike-none_second (Some x) None a o e = refl
-  alike-none_second (Some x) (Some y) a o e = cc
-
   pub alike-both : (x y : Option (ℕ × ℕ)) (c d a o a' o' : ℕ) → option_map (λ (z : ℕ × ℕ). z.0) x ≡ Some c → option_map (λ (z : ℕ × ℕ). z.0) y ≡ Some d
       → a' ≡ behind a x → o' ≡ behind o y → f c ≡ g c → f d ≡ g d → both_if (f c == f d) a' o' ≡ alike_of x y
   alike-both None y c d a o a' o' e h i j k l = cc

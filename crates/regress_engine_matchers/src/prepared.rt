@@ -1,8 +1,8 @@
 //! Classes, prepared for many tests.
-ghost use Rattle.std.specs.Prelude.{◌≡◌, ◌<◌, ◌||◌, ℕ};
+ghost use Rattle.std.specs.Prelude.{◌≡◌, ◌<◌, ℕ};
 ghost use Rattle.regress_meaning.specs.TableParts.{in_intervals};
 ghost use Rattle.regress_front_bytes.specs.Bitmaps.{ascii_bitmap_contains};
-ghost use Rattle.regress_front_sets.specs.Intervals.{ends_of, in_interval};
+ghost use Rattle.regress_front_sets.specs.Intervals.{ends_of};
 ghost use Rattle.regress_front_nodes.specs.TreeMeaning.{bracket_has};
 ghost use Rattle.std.proofs.Props.{props};
 
@@ -10,7 +10,6 @@ use crate::single::SingleCharMatcher;
 use regress_engine_input::cursor::next;
 use regress_engine_input::{Direction, ElementType, InputIndexer};
 use regress_front_nodes::BracketContents;
-use regress_front_sets::Interval;
 use regress_front_tables::{AsciiBitmap, ByteSet};
 
 /// One character that a class matches. A bitmap tells it of ASCII, so no intervals are searched there.
@@ -21,34 +20,14 @@ pub struct PreparedBracket<'a> {
     ghost members: { (c : ℕ) → c < 0x80 → ascii_bitmap_contains ascii c ≡ in_intervals (ends_of bc.now.cps.intervals.items) c } by { Prim.hlevel props },
 }
 
-/// Adds the ASCII characters of an interval.
-fn add_ascii(bitmap: &mut AsciiBitmap, interval: Interval)
-    ensures { (b : ℕ) → b < 0x80 → ascii_bitmap_contains bitmap.new b ≡ ascii_bitmap_contains bitmap.old b || in_interval interval b }
-{
-    for point in interval.first..interval.last.min(0x7F) + 1 {
-        bitmap.set(point as u8);
-    }
-}
-
-/// The ASCII characters of intervals.
-fn ascii_members(intervals: &[Interval]) -> AsciiBitmap
-    ensures { (c : ℕ) → c < 0x80 → ascii_bitmap_contains result c ≡ in_intervals (ends_of intervals.now) c }
-{
-    let mut bitmap = AsciiBitmap::default();
-    for interval in intervals {
-        add_ascii(&mut bitmap, *interval);
-    }
-    bitmap
-}
-
 impl<'a> PreparedBracket<'a> {
-    /// The test on the characters that the class `bc` matches, as `Bracket { bc }` is one. It goes over the intervals once.
+    /// The test on the characters that the class `bc` matches, as `Bracket { bc }` is one. It goes over the intervals of ASCII once.
     pub fn new(bc: &'a BracketContents) -> PreparedBracket<'a>
         ensures { result.bc.now ≡ bc.now }
     {
         PreparedBracket {
             bc,
-            ascii: ascii_members(bc.cps.intervals()),
+            ascii: bc.cps.ascii_members(),
         }
     }
 

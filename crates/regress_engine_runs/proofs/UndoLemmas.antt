@@ -1,6 +1,6 @@
 -- Steps of one whole state and a stack of records, against the run that they stand for.
-use Rattle.std.specs.Prelude.{Bool, if◌then◌else◌, slice_get, slice_set, option_map, unwrap_or}
-use Rattle.std.proofs.Common.{◌≡◌, ℕ, ◌+◌, ◌-◌, ◌⊎◌, inl, inr, zero, suc, ◌<◌, true, false, List, [], ◌∷◌, ◌++◌, Option, Some, None, get_or, refl, sym, ap, ◌∙◌, subst, arith, append_assoc}
+use Rattle.std.specs.Prelude.{slice_set, option_map, unwrap_or}
+use Rattle.std.proofs.Common.{◌≡◌, ℕ, ◌+◌, ◌-◌, ◌⊎◌, inl, inr, zero, suc, ◌<◌, true, List, [], ◌∷◌, ◌++◌, Option, Some, None, get_or, refl, sym, ap, ◌∙◌, subst, arith, append_assoc}
 use Rattle.std.proofs.lemmas.List.{set-set, set-get_or}
 use Rattle.regress_meaning.specs.Meaning.{Direction}
 use Rattle.regress_meaning.specs.Inputs.{Input}
@@ -8,8 +8,8 @@ use Rattle.regress_front_nodes.specs.TreeMeaning.{direction}
 use Rattle.regress_engine_code.specs.Instructions.{Instruction, Program, Stands}
 use Rattle.regress_engine_code.specs.Instructions as code
 use Rattle.regress_engine_runs.specs.States.{Whole, Marks, onward}
-use Rattle.regress_engine_runs.specs.Runs.{after_times, as_far, counted, against, gap, given_back, one_by_one, advance, Run, successors, is_plain, after_look}
-use Rattle.regress_engine_runs.specs.UndoStack.{taken_on, MovesOn, give_back, take_on, whole, at_each, Frame, Undo, Work, outermost, inside, old_loop, old_group, first_do, stands_for, Comes, alone, within, steps_left}
+use Rattle.regress_engine_runs.specs.Runs.{against, gap, given_back, one_by_one, advance, Run, successors, is_plain, after_look}
+use Rattle.regress_engine_runs.specs.UndoStack.{MovesOn, give_back, take_on, whole, at_each, Frame, Undo, Work, outermost, inside, old_loop, old_group, first_do, stands_for, Comes, alone, within, steps_left}
 use Rattle.regress_engine_runs.proofs.Computed.{runs-computed}
 use Rattle.regress_engine_runs.proofs.GivingBack.{back_to-end, given_back-more}
 use Rattle.regress_engine_runs.proofs.Stuck.{first_stands}
@@ -23,10 +23,6 @@ loop_undone loops id x = set-set loops id x (get_or loops id (0, 0)) ∙ set-get
 first_do-both : (ss ts : List Whole) (work : Work) → first_do (ss ++ ts) work ≡ first_do ss (first_do ts work)
 first_do-both ss ts (outermost us) = ap outermost (append_assoc ss ts us)
 first_do-both ss ts (inside us f s rest) = ap (λ xs. inside xs f s rest) (append_assoc ss ts us)
-
-first_do-none : (work : Work) → first_do [] work ≡ work
-first_do-none (outermost us) = refl
-first_do-none (inside us f s rest) = refl
 
 module _ (program : Program) (input : Input) (dir : Direction) (stack : List Undo) (loops : List (ℕ × ℕ)) (groups : List Marks) where
   -- so a record before a write keeps what the stack stands for
@@ -156,57 +152,3 @@ module _ (program : Program) (input : Input) where
       ap (λ (o : Option (ℕ × Option Whole)). unwrap_or (option_map (λ (x : ℕ × Option Whole). x.0 + steps_left program input f g.outside
       (after_look g.negated g.first g.last g.continuation s x.1) rest) o) 0) (runs-computed program input run f (omega arith))
       ∙ ap (λ j. m + j) (steps-left outer f (omega arith))
-
--- A one-character loop: its record is pushed, and then popped.
-module _ (program : Program) (input : Input) (dir : Direction) (stack : List Undo) (s : Whole) (i : Instruction) (here : Stands program (suc s.at) i) (least most : ℕ) where
-  -- what is to be done once its successors are tried
-  abbrev then_stack : List Undo → ℕ → Option Whole → Type 0
-  then_stack records n r = Comes program input dir [] (stands_for program input dir (records ++ stack) s.loops s.groups) n r
-
-  -- and before
-  abbrev now : Bool → ℕ → Option Whole → Type 0
-  now greedy n r = Comes program input dir (successors program input (code.single_loop least most greedy) dir s) (stands_for program input dir stack s.loops s.groups) n r
-
-  abbrev behind : List ℕ → List Whole
-  behind os = at_each program input (suc (suc s.at)) s.loops s.groups os
-
-  successors-are : (greedy : Bool) → successors program input (code.single_loop least most greedy) dir s ≡ behind (counted program input least most greedy i dir s.groups s.offset)
-  successors-are greedy = ap (λ x. elim x [ None ↦ [] | Some i ↦ behind (counted program input least most greedy i dir s.groups s.offset) ]) here
-
-  put_off : (greedy : Bool) (os : List ℕ) (n : ℕ) (r : Option Whole) → counted program input least most greedy i dir s.groups s.offset ≡ os → now greedy n r
-      → Comes program input dir [] (first_do (behind os) (stands_for program input dir stack s.loops s.groups)) n r
-  put_off greedy os n r same h =
-      work_later program input [] (behind os) (stands_for program input dir stack s.loops s.groups) n r
-      (subst (λ ss. Comes program input dir ss (stands_for program input dir stack s.loops s.groups) n r) (successors-are greedy ∙ ap behind same) h)
-
-  -- there are fewer iterations than needed
-  pub too_few : (greedy : Bool) (n : ℕ) (r : Option Whole) → after_times program input least i dir s.groups s.offset ≡ None → now greedy n r → then_stack [] n r
-  too_few greedy n r none h =
-      subst (λ work. Comes program input dir [] work n r) (first_do-none (stands_for program input dir stack s.loops s.groups))
-      (put_off greedy [] n r (ap (λ x. elim x [ None ↦ [] | Some near ↦ those greedy near ]) none) h)
-    where
-      those : Bool → ℕ → List ℕ
-      those greedy near = if greedy then given_back input dir near (as_far program input (most - least) i dir s.groups near) else one_by_one program input (most - least) i dir s.groups near
-
-  -- a greedy one goes as far as it can, and gives back
-  pub goes_far : (near : ℕ) (n : ℕ) (r : Option Whole) → after_times program input least i dir s.groups s.offset ≡ Some near → now true n r
-      → then_stack (give_back (suc (suc s.at)) near (as_far program input (most - least) i dir s.groups near) ∷ []) n r
-  unfolding stands_for
-  goes_far near n r found h =
-      put_off true (given_back input dir near (as_far program input (most - least) i dir s.groups near)) n r
-      (ap (λ x. elim x [ None ↦ [] | Some near ↦ given_back input dir near (as_far program input (most - least) i dir s.groups near) ]) found) h
-
-  -- a lazy one goes no further than it has to, and takes on
-  pub goes_on_later : (near : ℕ) (n : ℕ) (r : Option Whole) → after_times program input least i dir s.groups s.offset ≡ Some near → now false n r
-      → then_stack (take_on (suc (suc s.at)) near (most - least) ∷ []) n r
-  unfolding stands_for
-  goes_on_later near n r found h =
-      subst (λ os. Comes program input dir [] (first_do (behind os) (stands_for program input dir stack s.loops s.groups)) n r) (sym taken)
-      (put_off false (one_by_one program input (most - least) i dir s.groups near) n r
-      (ap (λ x. elim x [ None ↦ [] | Some near ↦ one_by_one program input (most - least) i dir s.groups near ]) found) h)
-    where
-      taken : taken_on program input dir (suc (suc s.at)) (most - least) s.groups near ≡ one_by_one program input (most - least) i dir s.groups near
-      taken =
-          let e : suc (suc s.at) - 1 ≡ suc s.at = omega arith in
-          ap (λ a. elim (slice_get program.instructions a) [ None ↦ [] | Some i ↦ one_by_one program input (most - least) i dir s.groups near ]) e
-          ∙ ap (λ x. elim x [ None ↦ [] | Some i ↦ one_by_one program input (most - least) i dir s.groups near ]) here

@@ -95,10 +95,6 @@ module _ (program : Program) (input : Input) where
         → Run program input dir (ss ++ ts) m q → Comes f.outside (after_look f.negated f.first f.last f.continuation s q) rest n r
         → Comes dir ss (inside ts f s rest) (m + n) r
 
-  -- one state in a direction and a stack come to an answer in so many steps
-  abbrev pub IsUnderWay : Direction → Whole → List Undo → ℕ → Option Whole → Type 0
-  IsUnderWay dir s stack n r = Comes dir (s ∷ []) (stands_for dir stack s.loops s.groups) n r
-
   -- The number of those steps, computed, where it is less than the first number: a measure that no code holds.
   unfoldable pub steps_left : ℕ → Direction → List Whole → Work → ℕ
   steps_left f dir ss (outermost ts) = unwrap_or (option_map (λ x. x.0) (run program input f dir (ss ++ ts))) 0

@@ -74,6 +74,11 @@ pub IntervalsRise-rest : (i : ℕ × ℕ) (xs : List (ℕ × ℕ)) → Intervals
 IntervalsRise-rest i [] h = tt
 IntervalsRise-rest i (j ∷ xs) h = h.2
 
+pub IntervalsRise-drop : (k : ℕ) (xs : List (ℕ × ℕ)) → IntervalsRise xs → IntervalsRise (drop k xs)
+IntervalsRise-drop zero xs h = h
+IntervalsRise-drop (suc k) [] h = h
+IntervalsRise-drop (suc k) (i ∷ xs) h = IntervalsRise-drop k xs (IntervalsRise-rest i xs h)
+
 -- each interval has a member, and ends within the code points
 pub IntervalsRise-at : (xs : List (ℕ × ℕ)) (k : ℕ) → IntervalsRise xs → k < length xs
     → ((interval_at xs k).0 ≤ (interval_at xs k).1) × ((interval_at xs k).1 ≤ last_code_point)

@@ -3,3 +3,4 @@ pub mod IntervalLemmas
 pub mod SetLemmas
 pub mod ClassLemmas
 pub mod HalvingLemmas
+pub mod AsciiLemmas

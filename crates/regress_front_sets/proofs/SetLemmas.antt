@@ -254,6 +254,19 @@ or_comm true false = refl
 or_comm false true = refl
 or_comm false false = refl
 
+-- the interval at a place holds something, or one of those behind it does
+pub held-from : (xs : List Interval) (k : ℕ) (i : Interval) (c : ℕ) → k < length xs → i ≡ get_or xs k i
+    → in_intervals (drop k (ends_of xs)) c ≡ (in_interval i c || in_intervals (drop (k + 1) (ends_of xs)) c)
+held-from xs k i c within is =
+    let at : interval_at (ends_of xs) k ≡ ends i = interval_at-ends_of xs k i within ∙ ap ends (sym is) in
+    at_drop_more (λ ys. in_intervals ys c) (ends_of xs) k (0, 0) (omega (arith, length-map xs ends))
+    ∙ in_intervals-cons (interval_at (ends_of xs) k) (drop (k + 1) (ends_of xs)) c
+    ∙ ap (λ p. between p.0 p.1 c || in_intervals (drop (k + 1) (ends_of xs)) c) at
+
+-- behind all intervals there is none
+pub held-none : (xs : List Interval) (k c : ℕ) → length xs ≤ k → in_intervals (drop k (ends_of xs)) c ≡ false
+held-none xs k c all = at_drop_all (λ ys. in_intervals ys c) (ends_of xs) k (omega (arith, length-map xs ends)) ∙ in_intervals-nil c
+
 -- The union holds what the first i intervals on the left and the first j on the right do, and begins no interval above the next.
 pub record IsMerged (left right union : List Interval) (i j : ℕ) : Type 0 where
   pub left_in : i ≤ length left
@@ -301,13 +314,9 @@ IsMerged-left left right old new i j item rise h l is next low added =
       members = λ c.
           let rest = in_intervals (drop (i + 1) (ends_of left)) c in
           let others = in_intervals (drop j (ends_of right)) c in
-          let taken : in_intervals (drop i (ends_of left)) c ≡ (in_interval item c || rest) =
-          at_drop_more (λ xs. in_intervals xs c) (ends_of left) i (0, 0) (omega (arith, length-map left ends))
-          ∙ in_intervals-cons (interval_at (ends_of left) i) (drop (i + 1) (ends_of left)) c
-          ∙ ap (λ p. between p.0 p.1 c || rest) at in
           ap (λ b. b || (rest || others)) (added c)
           ∙ or_regroup (in_interval item c) rest (in_intervals (ends_of old) c) others
-          ∙ ap (λ b. in_intervals (ends_of old) c || (b || others)) (sym taken)
+          ∙ ap (λ b. in_intervals (ends_of old) c || (b || others)) (sym (held-from left i item c l is))
           ∙ h.members c;
     }
 
@@ -315,10 +324,8 @@ IsMerged-left left right old new i j item rise h l is next low added =
 pub IsMerged-all : (left right union : List Interval) (i j : ℕ) → IsMerged left right union i j → length left ≤ i → length right ≤ j
     → (c : ℕ) → in_intervals (ends_of union) c ≡ (in_intervals (ends_of left) c || in_intervals (ends_of right) c)
 IsMerged-all left right union i j h l m c =
-    let none : (xs : List Interval) (k : ℕ) → length xs ≤ k → in_intervals (drop k (ends_of xs)) c ≡ false =
-    λ xs k n. at_drop_all (λ ys. in_intervals ys c) (ends_of xs) k (omega (arith, length-map xs ends)) ∙ in_intervals-nil c in
     sym (or-false (in_intervals (ends_of union) c))
-    ∙ ap₂ (λ x y. in_intervals (ends_of union) c || (x || y)) (sym (none left i l)) (sym (none right j m))
+    ∙ ap₂ (λ x y. in_intervals (ends_of union) c || (x || y)) (sym (held-none left i c l)) (sym (held-none right j c m))
     ∙ h.members c
   where
     or-false : (b : Bool) → (b || false) ≡ b

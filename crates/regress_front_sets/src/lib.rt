@@ -1,6 +1,7 @@
 //! Sets of code points. What `regress_front_core` and `regress_front_bytes` have is handed on.
 #![tactic(auto)]
 
+mod ascii;
 mod character_classes;
 mod code_point_set;
 mod first_bytes;

@@ -29,7 +29,6 @@ fn joined<'s>(mut names: Names<'s>, mut more: Names<'s>) -> Result<(Names<'s>, b
 }
 
 /// The names of a tree's groups; nothing where some name stands twice but in different alternatives of one disjunction.
-///
 #[cycle(naming)]
 fn names_in<'s>(alloc: Global, syntax: &'s Syntax) -> Result<Option<Names<'s>>, AllocError>
     ensures { IfOk result (IsNaming (tree syntax.now)) }
@@ -110,7 +109,6 @@ fn names_in_named<'s>(
 }
 
 /// Whether no name of a group stands twice but in different alternatives of one disjunction ("MightBothParticipate").
-///
 pub(crate) fn names_are_apart(alloc: Global, syntax: &Syntax) -> Result<bool, AllocError>
     ensures { IfOk result (λ apart. apart ≡ names_apart (tree syntax.now)) }
 {

@@ -133,7 +133,6 @@ fn set_of(alloc: Global, intervals: &[Interval]) -> Result<CodePointSet, AllocEr
 }
 
 /// What `\w` holds; folded, in Unicode mode with case ignored, also what folds to such a character ("WordCharacters").
-///
 fn word_set(alloc: Global, tables: &Tables, folded: bool) -> Result<CodePointSet, AllocError>
     ensures { IfOk result (λ s. in_set s ≡ is_word (table tables.now) folded) }
 {

@@ -1,6 +1,6 @@
 use Rattle.std.proofs.Common.{◌≡◌, ℕ, ◌||◌, ◌&&◌, nat_le, nat_lt}
 use Rattle.regress_front_bytes.specs.Bitmaps.{ascii_bitmap_contains}
-use Rattle.regress_engine_matchers.proofs.prepared.add_ascii.Given as goal
+use Rattle.regress_front_sets.proofs.ascii.add_ascii.Given as goal
 
 -- the characters so far are added
 abbrev pub invariant-loop-point : goal.invariant-loop-point
