@@ -1,10 +1,13 @@
 //! Match lists before and after rewriting.
 
-use crate::told::keeps_its_matches;
+use crate::told::before_and_after;
+use regress_rows as rows;
+use regress_rows::Row;
+use std::alloc::Global;
 use std::test::Fail;
 
-/// Patterns and their flags.
-const PATTERNS: &[(&str, &str)] = &[
+/// Sequences, choices and loops.
+const SEQUENCES_AND_LOOPS: &[(&str, &str)] = &[
     ("abc", ""),
     ("a|b|c", ""),
     ("(?:a|)", ""),
@@ -33,6 +36,10 @@ const PATTERNS: &[(&str, &str)] = &[
     ("(?:a|ab){2,3}?c", ""),
     ("(?:a?){3}", ""),
     ("(?:a??){3}b", ""),
+];
+
+/// Loops over what may take no character, and what always fails.
+const IDLE_LOOPS: &[(&str, &str)] = &[
     ("(?:)*", ""),
     ("(?:){3}", ""),
     ("(?:|)", ""),
@@ -51,6 +58,10 @@ const PATTERNS: &[(&str, &str)] = &[
     ("(?:(?=a)b?){2}", ""),
     ("(?:$|a){2}", ""),
     ("(?:(?:$){2}){3}", ""),
+];
+
+/// Classes.
+const CLASSES: &[(&str, &str)] = &[
     ("[]", ""),
     ("a[]", ""),
     ("[]a", ""),
@@ -83,6 +94,10 @@ const PATTERNS: &[(&str, &str)] = &[
     ("ab", "i"),
     ("[ab]+", "i"),
     ("é", "iu"),
+];
+
+/// Assertions and groups.
+const ASSERTIONS_AND_GROUPS: &[(&str, &str)] = &[
     ("^a|b", "m"),
     ("a$", "m"),
     (r"\bab\b", ""),
@@ -96,6 +111,10 @@ const PATTERNS: &[(&str, &str)] = &[
     ("(a*)*", ""),
     ("(a*)+b", ""),
     ("(?:(a)|(b)){2}", ""),
+];
+
+/// Lookarounds, strings, modifiers, and loops in loops.
+const LOOKAROUNDS: &[(&str, &str)] = &[
     ("(?=ab)a", ""),
     ("(?=(a)b)a", ""),
     ("(?!ab)a", ""),
@@ -136,6 +155,7 @@ const PATTERNS: &[(&str, &str)] = &[
     ("(?:a*b)+", ""),
 ];
 
+/// Texts in which each of these is sought.
 const TEXTS: &[&str] = &[
     "",
     "a",
@@ -152,14 +172,78 @@ const TEXTS: &[&str] = &[
     "xyyz dcba",
 ];
 
-#[test]
-fn matches_are_the_same_before_and_after(rt: HostRuntime) -> Result<(), Fail> {
-    for (pattern, flags) in PATTERNS {
+/// Fails at the first pattern that has other matches once it is rewritten.
+fn stay(alloc: Global, patterns: &[(&str, &str)]) -> Result<(), Fail> {
+    for (pattern, flags) in patterns {
         for text in TEXTS {
-            if !keeps_its_matches(rt.alloc(), pattern, flags, text)? {
-                return Err(Fail::new(format!(in rt.alloc(); "{pattern} in {text}")?));
+            let (before, after) = before_and_after(alloc, pattern, flags, text)?;
+            if before.as_str() != after.as_str() {
+                return Err(Fail::new(format!(in alloc; "{pattern} in {text}: {after}")?));
             }
         }
     }
     Ok(())
+}
+
+#[test]
+fn matches_of_sequences_and_loops_stay(rt: HostRuntime) -> Result<(), Fail> {
+    stay(rt.alloc(), SEQUENCES_AND_LOOPS)?;
+    stay(rt.alloc(), IDLE_LOOPS)
+}
+
+#[test]
+fn matches_of_classes_and_assertions_stay(rt: HostRuntime) -> Result<(), Fail> {
+    stay(rt.alloc(), CLASSES)?;
+    stay(rt.alloc(), ASSERTIONS_AND_GROUPS)?;
+    stay(rt.alloc(), LOOKAROUNDS)
+}
+
+/// Fails at the first row whose matches are told otherwise, before its pattern is rewritten or after.
+fn match_so(alloc: Global, rows: &[Row]) -> Result<(), Fail> {
+    for (pattern, flags, text, expected) in rows {
+        let (before, after) = before_and_after(alloc, pattern, flags, text)?;
+        if before.as_str() != *expected || after.as_str() != *expected {
+            return Err(Fail::new(format!(in alloc; "{pattern} in {text}: {before}, {after}")?));
+        }
+    }
+    Ok(())
+}
+
+/// The same of rows that tell the first match alone.
+fn begin_so(alloc: Global, rows: &[Row]) -> Result<(), Fail> {
+    for (pattern, flags, text, first) in rows {
+        let (before, after) = before_and_after(alloc, pattern, flags, text)?;
+        let same = before.as_str() == after.as_str();
+        if !same || before.split('|').next() != Some(*first) {
+            return Err(Fail::new(format!(in alloc; "{pattern} in {text}: {before}, {after}")?));
+        }
+    }
+    Ok(())
+}
+
+#[test]
+fn rows_of_constructs_match_so(rt: HostRuntime) -> Result<(), Fail> {
+    match_so(rt.alloc(), rows::CHARACTERS_AND_ALTERNATIVES)?;
+    match_so(rt.alloc(), rows::QUANTIFIERS)?;
+    match_so(rt.alloc(), rows::GROUPS)?;
+    match_so(rt.alloc(), rows::ASSERTIONS)?;
+    match_so(rt.alloc(), rows::LOOKAROUND)?;
+    match_so(rt.alloc(), rows::BACKREFERENCES)
+}
+
+#[test]
+fn rows_of_classes_match_so(rt: HostRuntime) -> Result<(), Fail> {
+    match_so(rt.alloc(), rows::ESCAPES)?;
+    match_so(rt.alloc(), rows::CLASSES_OF_CHARACTERS)?;
+    match_so(rt.alloc(), rows::CLASSES)?;
+    match_so(rt.alloc(), rows::CASE)?;
+    match_so(rt.alloc(), rows::PROPERTIES)?;
+    match_so(rt.alloc(), rows::CLASSES_WITH_SETS)
+}
+
+#[test]
+fn rows_of_the_standard_match_so(rt: HostRuntime) -> Result<(), Fail> {
+    match_so(rt.alloc(), rows::ALL_MATCHES)?;
+    match_so(rt.alloc(), rows::NOT_ASCII)?;
+    begin_so(rt.alloc(), rows::FIRST_MATCHES)
 }

@@ -7,9 +7,13 @@ use regress_front_opt::optimize;
 use regress_front_tables::{CaptureGroupName, CodePoint, Error, Flags, Tables};
 use regress_front_tree::try_parse;
 use regress_match::Matches;
+use regress_rows::tell;
 use std::alloc::{AllocError, Global};
 use std::sync::ArcSlice;
 use std::test::Fail;
+
+/// A pattern, its flags, and its rewritten tree as it is printed.
+pub(crate) type Row = (&'static str, &'static str, &'static str);
 
 fn points(alloc: Global, text: &str) -> Result<Vec<CodePoint>, AllocError> {
     text.chars().map(CodePoint::from).collect(alloc)
@@ -57,8 +61,8 @@ fn shared(
     Ok(ArcSlice::from_vec(copies)?)
 }
 
-/// All matches of a tree in a text, as text.
-fn list(alloc: Global, regex: &Regex<'_>, text: &str) -> Result<String, Fail> {
+/// All matches of a tree in a text, parted by `|`.
+pub(crate) fn list(alloc: Global, regex: &Regex<'_>, text: &str) -> Result<String, Error> {
     let names = shared(alloc, &regex.group_names)?;
     let pattern = CompiledPattern {
         node: &regex.node,
@@ -69,23 +73,25 @@ fn list(alloc: Global, regex: &Regex<'_>, text: &str) -> Result<String, Fail> {
     let search = Search::new(alloc, pattern, text)?;
     let mut told = String::new(alloc);
     for found in Matches::new(search, 0) {
-        let found = found?;
-        told.push_str(format!(in alloc; "{found:?};")?.as_str())?;
+        if !told.is_empty() {
+            told.push('|')?;
+        }
+        tell(&mut told, &found?)?;
     }
     Ok(told)
 }
 
-/// Whether a pattern's tree has the same matches before and after it is rewritten.
-pub(crate) fn keeps_its_matches(
+/// All matches of a pattern in a text, before its tree is rewritten and after.
+pub(crate) fn before_and_after(
     alloc: Global,
     pattern: &str,
     flags: &str,
     text: &str,
-) -> Result<bool, Fail> {
+) -> Result<(String, String), Fail> {
     let tables = Tables::small(alloc)?;
     let mut regex = parsed(alloc, pattern, flags, &tables)?;
     let before = list(alloc, &regex, text)?;
     optimize(alloc, &mut regex)?;
     let after = list(alloc, &regex, text)?;
-    Ok(before.as_str() == after.as_str())
+    Ok((before, after))
 }

@@ -21,6 +21,11 @@ pub use Rattle.regress_front_nodes.specs.TreeMeaning
 pub use Rattle.regress_front_nodes.specs.Trees
 pub use Rattle.regress_front_nodes.specs.Walks
 pub use Rattle.regress_front_nodes.specs.WellFormed
+pub use Rattle.regress_front_rules.specs.Kept
+pub use Rattle.regress_front_rules.specs.Laws as RewritingLaws
+pub use Rattle.regress_front_rules.specs.NormalForm
+pub use Rattle.regress_front_rules.specs.Rules
+pub use Rattle.regress_front_rules.specs.Weight
 pub use Rattle.regress_front_sets.specs.FirstBytes
 pub use Rattle.regress_front_sets.specs.Intervals
 pub use Rattle.regress_front_sets.specs.Props

@@ -1,15 +1,16 @@
-//! The front of the engine: from a pattern's text to the tree of nodes that is rewritten and emitted, with all that stands
+//! The front of the engine: from a pattern's text to the tree of nodes that is emitted, rewritten or not, with all that stands
 //! below it. A layer above names this crate alone.
 //!
 //! ```rust
-//! use regress_front::{CodePoint, Error, Flags, Tables, are_code_points, try_parse};
+//! use regress_front::{CodePoint, Error, Flags, Tables, are_code_points, optimize, try_parse};
 //!
 //! fn print(alloc: Global, pattern: &[CodePoint]) -> Result<String, Error> {
 //!     if !are_code_points(pattern) {
 //!         return Err(Error::Syntax { text: "no code point" });
 //!     }
 //!     let tables = Tables::small(alloc).map_err(|_| Error::OutOfMemory)?;
-//!     let regex = try_parse(alloc, pattern, Flags::from("i"), &tables)?;
+//!     let mut regex = try_parse(alloc, pattern, Flags::from("i"), &tables)?;
+//!     optimize(alloc, &mut regex)?;
 //!     Ok(regex.to_string(alloc)?)
 //! }
 //! ```
@@ -28,6 +29,11 @@ pub use regress_front_core::{
 pub use regress_front_nodes::{
     AnchorType, BracketContents, Node, NodeList, Piece, Walk, alike_parts_make_alike_wholes, ir,
     lower_code_point_sequence, nodes_stand_for_trees, pieces_match_their_string, walk, walk_mut,
+};
+pub use regress_front_opt::{PassAction, optimize};
+pub use regress_front_rules::{
+    broken_nodes_turn, normal_forms_are_reached, rules_are_right, rules_keep_the_rest,
+    wholes_are_right,
 };
 pub use regress_front_sets::{
     CODE_POINT_MAX, CharacterClassType, CodePoint, CodePointSet, CountedIntervals, DIGITS,

@@ -248,7 +248,7 @@ bytes-lawful (b ∷ bs) (bytes ds ∷ ts) some utf8 h =
     All-cons (AreLawful 0) (bytes (b ∷ bs ++ ds)) ts (longer, IsUtf8-append (b ∷ bs) ds utf8 rest.1) (All-tail (AreLawful 0) (bytes ds) ts h)
 bytes-lawful (b ∷ bs) (t ∷ ts) some utf8 h = All-cons (AreLawful 0) (bytes (b ∷ bs)) (t ∷ ts) (some, utf8) h
 
-ascii-all : (cs : List ℕ) → list_all (λ c. nat_lt c 0x80) cs ≡ true → All (λ c. c < 0x80) cs
+pub ascii-all : (cs : List ℕ) → list_all (λ c. nat_lt c 0x80) cs ≡ true → All (λ c. c < 0x80) cs
 ascii-all [] e = All-nil (λ c. c < 0x80)
 ascii-all (c ∷ cs) e =
     let parts = and_parts (nat_lt c 0x80) (list_all (λ d. nat_lt d 0x80) cs) e in

@@ -119,8 +119,14 @@ impl OpenPieces {
     }
 }
 
-/// The code points as bytes; `None` where one is not ASCII.
-fn ascii_bytes(alloc: Global, cps: &[CodePoint]) -> Result<Option<Vec<u8>>, AllocError>
+/// The code points as bytes, in their order; `None` where one is not ASCII.
+///
+/// It errs where memory is refused.
+///
+/// ```rust
+/// let bytes = ascii_bytes(alloc, &[0x61, 0x62])?; // `Some` of the bytes of "ab"
+/// ```
+pub fn ascii_bytes(alloc: Global, cps: &[CodePoint]) -> Result<Option<Vec<u8>>, AllocError>
     ensures { IfOk result (λ o. MatchOption o (list_all (λ c. nat_lt c 0x80) cps.now ≡ false) (λ bs. (list_all (λ c. nat_lt c 0x80) cps.now ≡ true) × (bs.items ≡ cps.now))) }
 {
     let mut bytes = Vec::new(alloc);

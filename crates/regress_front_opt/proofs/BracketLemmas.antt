@@ -1,6 +1,6 @@
 -- Classes of few characters.
 use Rattle.std.proofs.Common.{◌≡◌, ℕ, suc, ◌+◌, ◌<◌, ◌≤◌, Bool, true, false, not, ◌&&◌, ◌||◌, ◌==◌, List, [], ◌∷◌, ◌++◌, length, map, take, get_or, All, nat_le, nat_lt, refl, sym, ap, ◌∙◌, subst, arith}
-use Rattle.std.specs.List.{list_any}
+use Rattle.std.specs.List.{list_any, list_all}
 use Rattle.std.proofs.lemmas.Bool.{false≢true}
 use Rattle.std.proofs.lemmas.Bool.Decides.{nat_tests}
 use Rattle.std.proofs.lemmas.List.{take_more, map-append}
@@ -13,11 +13,12 @@ use Rattle.regress_front_core.specs.Limits.{most_members}
 use Rattle.regress_front_sets.specs.declared.interval.Interval.{Interval}
 use Rattle.regress_front_sets.specs.Intervals.{ends, ends_of, in_interval}
 use Rattle.regress_front_sets.proofs.IntervalLemmas.{in_intervals-append}
-use Rattle.regress_front_nodes.specs.Trees.{Tree, char_set, any, bracket}
+use Rattle.regress_front_nodes.specs.Trees.{Tree, byte_set, char_set, any, bracket}
 use Rattle.regress_front_nodes.specs.TreeMeaning.{bracket_has}
 use Rattle.regress_front_nodes.specs.Characters.{Takes}
 use Rattle.regress_front_nodes.specs.Singles.{bracket_is_empty}
 use Rattle.regress_front_nodes.proofs.EmptyBrackets.{some_below-fails}
+use Rattle.regress_front_nodes.proofs.PieceLemmas.{ascii-all}
 use Rattle.regress_front_rules.specs.Rules as rules
 use Rattle.regress_front_rules.specs.Rules.{is_bracket}
 use Rattle.regress_front_opt.specs.Passes.{Advances}
@@ -87,8 +88,14 @@ pub all-takes : (xs : List (ℕ × ℕ)) → xs ≡ [] → Takes any (bracket_ha
 unfolding in_intervals
 all-takes xs e = record { alone = refl; members = λ c l. rw e refl; lawful = tt }
 
-pub few-takes : (ms : List ℕ) (xs : List (ℕ × ℕ)) → length ms ≤ most_members → All is_code_point ms → ((c : ℕ) → holds ms c ≡ in_intervals xs c) → Takes (char_set ms) (bracket_has false xs)
-few-takes ms xs few points same = record { alone = refl; members = λ c l. same c; lawful = (few, points) }
+pub bytes-take : (ms bs : List ℕ) → length ms ≤ most_members → list_all (λ c. nat_lt c 0x80) ms ≡ true → bs ≡ ms → Takes (byte_set bs) (holds ms)
+bytes-take ms bs few ascii same = rw same (record { alone = refl; members = λ c l. refl; lawful = (few, ascii-all ms ascii) })
+
+pub points-take : (ms : List ℕ) → length ms ≤ most_members → All is_code_point ms → Takes (char_set ms) (holds ms)
+points-take ms few points = record { alone = refl; members = λ c l. refl; lawful = (few, points) }
+
+pub few-takes : (t : Tree) (ms : List ℕ) (xs : List (ℕ × ℕ)) → Takes t (holds ms) → ((c : ℕ) → holds ms c ≡ in_intervals xs c) → Takes t (bracket_has false xs)
+few-takes t ms xs h same = record { alone = h.alone; members = λ c l. h.members c l ∙ same c; lawful = h.lawful }
 
 pub bracket-advances : (dir : Direction) (inverted : Bool) (xs : List (ℕ × ℕ)) (t : Tree) → is_bracket t ≡ false → Takes t (bracket_has inverted xs) → Advances dir (bracket inverted xs) t
 bracket-advances dir inverted xs t k h = turned-advances (rules.lists k h)

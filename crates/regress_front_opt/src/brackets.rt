@@ -6,15 +6,18 @@ ghost use Rattle.regress_meaning.specs.TableParts.{is_code_point, in_intervals};
 ghost use Rattle.regress_front_core.specs.Limits.{most_members};
 ghost use Rattle.regress_front_sets.specs.Intervals.{ends_of, in_interval};
 ghost use Rattle.regress_front_nodes.specs.Trees.{Tree, tree};
+ghost use Rattle.regress_front_nodes.specs.Characters.{Takes};
+ghost use Rattle.regress_front_rules.specs.Rules.{is_bracket};
 ghost use Rattle.regress_front_opt.specs.Passes.{IsSimpler};
 
 use crate::action::PassAction;
 use crate::passing::Pass;
-use regress_front_nodes::{BracketContents, Node};
+use regress_front_nodes::{BracketContents, Node, ascii_bytes};
 use regress_front_tables::{CodePoint, Error, Interval, MAX_CHAR_SET_LENGTH};
 use std::alloc::{AllocError, Global};
 
-/// A `Bracket` of no character is a set of none, one of all characters is `MatchAny`, and one of few a set of these.
+/// A `Bracket` of no character is a set of none, one of all characters is `MatchAny`, and one of few a set of these: of
+/// bytes where all are ASCII.
 #[derive(Drop)]
 pub struct SimpleBrackets;
 
@@ -48,6 +51,19 @@ fn few_members(alloc: Global, intervals: &[Interval]) -> Result<Option<Vec<CodeP
     Ok(Some(members))
 }
 
+/// A set of few characters: of bytes where all are ASCII.
+fn set_of(alloc: Global, members: Vec<CodePoint>) -> Result<Node, Error>
+    requires few { length members.items ≤ most_members }
+    requires points { All is_code_point members.items }
+    ensures set { IfOk result (λ n. (is_bracket (tree n) ≡ false) × Takes (tree n) (holds members.items)) }
+    ensures refused { IfErr result (λ e. e ≡ Error.OutOfMemory) }
+{
+    match ascii_bytes(alloc, &members)? {
+        Some(bytes) => Ok(Node::ByteSet(bytes)),
+        None => Ok(Node::CharSet(members)),
+    }
+}
+
 /// What matches the same as a class and is simpler; `None` where nothing is.
 fn simpler(alloc: Global, contents: &BracketContents) -> Result<Option<Node>, Error>
     ensures found { IfOk result (IsSimpler contents.now) }
@@ -63,7 +79,7 @@ fn simpler(alloc: Global, contents: &BracketContents) -> Result<Option<Node>, Er
         return Ok(None);
     }
     match few_members(alloc, contents.cps.intervals())? {
-        Some(members) => Ok(Some(Node::CharSet(members))),
+        Some(members) => Ok(Some(set_of(alloc, members)?)),
         None => Ok(None),
     }
 }

@@ -1,27 +1,13 @@
 //! Tests of the calls that compile and search.
 
-use crate::told::{compiled, match_first, match_so, matches_from};
+use crate::told::{compiled, match_first, matches_from};
 use regress::{Tables, is_start};
+use regress_rows::NOT_ASCII;
 use std::test::Fail;
 
 #[test]
 fn a_search_begins_between_characters_or_past_the_end(rt: HostRuntime) {
     assert!(rt; is_start("é", 0) && !is_start("é", 1) && is_start("é", 2) && is_start("é", 3));
-}
-
-/// Patterns, their flags, texts, and all matches in each.
-const ALL_MATCHES: &[(&str, &str, &str, &str)] = &[
-    ("(?:)", "", "é", "0..0|2..2"),
-    ("a", "", "", ""),
-    ("a|", "", "", "0..0"),
-    ("a|b", "", "abcab", "0..1|1..2|3..4|4..5"),
-    ("a|", "", "ba", "0..0|1..2|2..2"),
-    (".", "", "aé漢😀", "0..1|1..3|3..6|6..10"),
-];
-
-#[test]
-fn one_match_after_another(rt: HostRuntime) -> Result<(), Fail> {
-    match_so(rt.alloc(), ALL_MATCHES)
 }
 
 #[test]
@@ -42,13 +28,6 @@ fn a_lookbehind_sees_what_stands_before_the_start(rt: HostRuntime) -> Result<(),
     assert!(rt; told.as_str() == "1..2 0..1");
     Ok(())
 }
-
-/// Where `k` is no character of ASCII, by its flags: its case takes in the Kelvin sign.
-const NOT_ASCII: &[(&str, &str, &str, &str)] = &[
-    (r"\P{ASCII}", "v", "k", ""),
-    (r"\P{ASCII}", "iu", "k", "0..1"),
-    (r"\P{ASCII}", "iv", "k", "0..1"),
-];
 
 #[test]
 fn what_is_not_ascii_takes_k_by_case(rt: HostRuntime) -> Result<(), Fail> {

@@ -5,60 +5,14 @@ use crate::told::{
     refusal,
 };
 use regress::{Error, Flags, Match, Regex, Tables, are_code_points};
+use regress_rows::{ALL_MATCHES, FIRST_MATCHES};
 use std::alloc::{AllocError, Global};
 use std::test::Fail;
-
-/// Patterns, their flags, texts, and the first match in each.
-const FIRST_MATCHES: &[(&str, &str, &str, &str)] = &[
-    // A search goes back into a group.
-    ("(a|ab)(c|bcd)", "", "abcd", "0..4 0..1 1..4"),
-    // The first arm at the first place is preferred.
-    ("(?:bc|(b))|(a)", "", "xbca", "1..3 - -"),
-    ("b|bc", "", "abc", "1..2"),
-    ("ac", "", "abc", ""),
-    // Groups are numbered where they open.
-    ("((a)(?:b))(c)", "", "abc", "0..3 0..2 0..1 2..3"),
-    // A group without a part is none.
-    ("(a)|b", "", "b", "0..1 -"),
-    // What is empty matches at the front.
-    ("a|", "", "b", "0..0"),
-    ("", "", "", "0..0"),
-    ("()", "", "b", "0..0 0..0"),
-    // A backslash takes the meaning of syntax.
-    (r"\((\\|\/)\)", "", r"(\)", "0..3 1..2"),
-    (r"\^\$\.\*\+\?\[\]\{\}\|", "", "^$.*+?[]{}|", "0..11"),
-    // Answers are told in bytes.
-    ("é(漢)(?:(😀)|(b))", "", "aaé漢😀b", "2..11 4..7 7..11 -"),
-    // Flags that nothing asks change nothing.
-    ("(😀)|b", "msuv", "\na😀", "2..6 2..6"),
-    // The examples of "RepeatMatcher", and the notes below it.
-    ("(a|ab)(c|bcd)(d*)", "", "abcd", "0..4 0..1 1..4 4..4"),
-    (
-        "(z)((a+)?(b+)?(c))*",
-        "",
-        "zaacbbbcac",
-        "0..10 0..1 8..10 8..9 - 9..10",
-    ),
-];
 
 #[test]
 fn first_matches_are_those_of_the_standard(rt: HostRuntime) -> Result<(), Fail> {
     match_first(rt.alloc(), FIRST_MATCHES)
 }
-
-/// Patterns, their flags, texts, and all matches in each.
-const ALL_MATCHES: &[(&str, &str, &str, &str)] = &[
-    // An empty iteration past the least is none.
-    ("(a*)*", "", "b", "0..0 -|1..1 -"),
-    ("(a|b*)*", "", "abb", "0..3 1..3|3..3 -"),
-    ("(?:)*", "", "a", "0..0|1..1"),
-    ("(?:(?:)+)+", "", "a", "0..0|1..1"),
-    // Matches follow one another.
-    ("a*", "", "baa", "0..0|1..3|3..3"),
-    ("(?:)", "", "é", "0..0|2..2"),
-    ("a", "", "", ""),
-    ("a*", "", "", "0..0"),
-];
 
 #[test]
 fn all_matches_are_those_of_the_standard(rt: HostRuntime) -> Result<(), Fail> {

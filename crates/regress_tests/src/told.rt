@@ -1,7 +1,8 @@
 //! How matches are told in tables, and how a table is tried.
 
-use regress::{Error, Flags, Match, Range, Regex, Tables, is_start};
-use std::alloc::{AllocError, Global};
+use regress::{Error, Flags, Match, Regex, Tables, is_start};
+use regress_rows::{Row, tell};
+use std::alloc::Global;
 use std::test::Fail;
 
 /// A pattern under flags. It promises nothing, so what calls it has little to prove.
@@ -12,27 +13,6 @@ pub(crate) fn compiled<'t>(
     tables: &'t Tables,
 ) -> Result<Regex<'t>, Error> {
     Regex::with_flags(alloc, pattern, Flags::from(flags), tables)
-}
-
-/// Adds a group: its range in bytes, or `-`.
-fn tell_group(told: &mut String, group: Option<Range>) -> Result<(), AllocError> {
-    match group {
-        Some(range) => write!(told, "{}..{}", range.start, range.end),
-        None => told.push('-'),
-    }
-}
-
-/// Adds a match: its range and that of each group, parted by spaces.
-fn tell(told: &mut String, found: &Match) -> Result<(), AllocError> {
-    let mut is_first = true;
-    for group in found.groups() {
-        if !is_first {
-            told.push(' ')?;
-        }
-        tell_group(told, group)?;
-        is_first = false;
-    }
-    Ok(())
 }
 
 /// The first match; nothing where there is none.
@@ -112,8 +92,8 @@ pub(crate) fn refusal(alloc: Global, pattern: &str, flags: &str) -> Result<Optio
     Ok(compiled(alloc, pattern, flags, &tables).err())
 }
 
-/// Fails at the first row whose matches are told otherwise. A row is a pattern, its flags, a text and all matches in it.
-pub(crate) fn match_so(alloc: Global, rows: &[(&str, &str, &str, &str)]) -> Result<(), Fail> {
+/// Fails at the first row whose matches are told otherwise.
+pub(crate) fn match_so(alloc: Global, rows: &[Row]) -> Result<(), Fail> {
     for (pattern, flags, text, expected) in rows {
         let told = all_matches(alloc, pattern, flags, text)?;
         if told.as_str() != *expected {
@@ -124,8 +104,8 @@ pub(crate) fn match_so(alloc: Global, rows: &[(&str, &str, &str, &str)]) -> Resu
     Ok(())
 }
 
-/// Fails at the first row whose first match is told otherwise. A row is as above.
-pub(crate) fn match_first(alloc: Global, rows: &[(&str, &str, &str, &str)]) -> Result<(), Fail> {
+/// Fails at the first row whose first match is told otherwise.
+pub(crate) fn match_first(alloc: Global, rows: &[Row]) -> Result<(), Fail> {
     for (pattern, flags, text, expected) in rows {
         let told = first_match(alloc, pattern, flags, text)?;
         if told.as_str() != *expected {
