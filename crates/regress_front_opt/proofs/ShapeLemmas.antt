@@ -1,7 +1,7 @@
 -- The parts of a `Cat`: what some or all of them pass, and what they become when `Cat`s among them give their parts.
 use Rattle.std.proofs.Common.{◌≡◌, ℕ, zero, suc, ◌+◌, ◌<◌, ◌≤◌, Bool, true, false, ◌&&◌, ◌||◌, ◌==◌, List, [], ◌∷◌, ◌++◌, length, map, get_or, take, drop, Vec, Global, vec_len, subst, refl, sym, ap, ◌∙◌, append_assoc, length-append, le_of_suc-le-suc, arith, nat_le, if◌then◌else◌}
 use Rattle.std.specs.List.{list_any, list_all}
-use Rattle.std.proofs.lemmas.Bool.{false≢true, and_parts}
+use Rattle.std.proofs.lemmas.Bool.{false≢true, and_parts, eqb-true}
 use Rattle.std.proofs.lemmas.Bool.Decides.{nat_tests}
 use Rattle.std.proofs.lemmas.List.{take_more, drop_more, map-append, append-nil, length-map}
 use Rattle.regress_meaning.specs.Meaning.{Direction}
@@ -13,7 +13,7 @@ use Rattle.regress_front_nodes.specs.Forms.{is_empty, is_cat, parts}
 use Rattle.regress_front_nodes.specs.Singles.{always_fails}
 use Rattle.regress_front_nodes.specs.WellFormed.{group_ids, goals}
 use Rattle.regress_front_nodes.proofs.NodeLemmas.{parts-cat_of, is_cat-cat_of}
-use Rattle.regress_front_rules.specs.NormalForm.{is_lost_cat, has_no_group, has_loose_part, is_idle}
+use Rattle.regress_front_rules.specs.NormalForm.{is_lost_cat, has_no_group, has_loose_part, is_idle, is_idle_loop}
 use Rattle.regress_front_rules.specs.Rules as rules
 use Rattle.regress_front_rules.specs.Rules.{Reaches, stays, once}
 use Rattle.regress_front_opt.specs.Shapes.{is_loose, flattened, room_of, room_of_all, is_plain}
@@ -257,17 +257,30 @@ pub idle-parts : (ts : List Tree) → is_idle (cat_of ts) ≡ list_all is_idle t
 idle-parts [] = refl
 idle-parts (t ∷ ts) = ap (λ b. is_idle t && b) (idle-parts ts)
 
-module _ (dir : Direction) (a : Tree) (first last least most : ℕ) (greedy : Bool) (h : is_idle a ≡ true) where
-  idle-advances : Advances dir (loop a first last least most greedy) (once a least)
-  idle-advances = turned-advances (rules.idles h)
+-- a loop that is never entered
+pub never-idle : (a : Tree) (first last least most : ℕ) (greedy : Bool) → is_idle a ≡ false → most ≡ 0 → is_plain a ≡ is_idle_loop (loop a first last least most greedy)
+never-idle a first last least most greedy e none = rw (e, none) (plain-means a)
+
+module _ (dir : Direction) (a : Tree) (first last least most : ℕ) (greedy : Bool) (h : is_idle_loop (loop a first last least most greedy) ≡ true) where
+  -- it is repeated over what never takes a character, or never entered
+  idle-one : {C : Type 0} → (is_idle a ≡ true → C) → (most ≡ 0 → has_no_group a ≡ true → C) → C
+  idle-one {C} idle never = by_test (is_idle a) refl
+    where
+      by_test : (b : Bool) → is_idle a ≡ b → C
+      by_test true e = idle e
+      by_test false e =
+          let left = and_parts (most == 0) (has_no_group a && (goals a == 0)) (rw e at h) in
+          never (eqb-true most 0 left.0) (and_parts (has_no_group a) (goals a == 0) left.1).0
 
   pub idle-removed : least ≡ 0 → Advances dir (loop a first last least most greedy) empty
   idle-removed e =
       let none : once a least ≡ empty = ap (once a) e in
-      subst (λ u. Advances dir (loop a first last least most greedy) u) none idle-advances
+      idle-one (λ idle. subst (λ u. Advances dir (loop a first last least most greedy) u) none (turned-advances (rules.idles idle)))
+      (λ never plain. turned-advances (rules.skips never plain))
 
-  pub idle-kept : (least ≡ 0 → ⊥) → Advances dir (loop a first last least most greedy) a
-  idle-kept some =
+  pub idle-kept : (least ≡ 0 → ⊥) → least ≤ most → Advances dir (loop a first last least most greedy) a
+  idle-kept some fits =
       let one : nat_le 1 least ≡ true = grind (arith, nat_tests) in
       let whole : once a least ≡ a = ap (λ b. if b then a else empty) one in
-      subst (λ u. Advances dir (loop a first last least most greedy) u) whole idle-advances
+      idle-one (λ idle. subst (λ u. Advances dir (loop a first last least most greedy) u) whole (turned-advances (rules.idles idle)))
+      (λ never plain. absurd (some (omega (arith, fits, never))))

@@ -1,4 +1,4 @@
-//! Repetitions of what never takes a character.
+//! Repetitions of what never takes a character, and those that are never entered.
 ghost use Rattle.std.specs.Prelude.{◌≡◌, map};
 ghost use Rattle.std.specs.List.{list_all};
 ghost use Rattle.regress_front_nodes.specs.Trees.{tree};
@@ -13,7 +13,8 @@ use std::alloc::Global;
 use std::mem;
 
 /// A `Loop` over what never takes a character and holds no capture group is its body once, or `Empty` where its minimum
-/// is 0. So however often it is repeated, a search ends soon.
+/// is 0. So however often it is repeated, a search ends soon. A `Loop` whose maximum is 0, as what is left of `a{2}` once it
+/// is unrolled, is `Empty`, where it holds no capture group.
 #[derive(Drop)]
 pub struct IdleLoops;
 
@@ -45,12 +46,14 @@ fn are_idle(parts: &[Node]) -> bool
     true
 }
 
-/// Whether a node is a `Loop` over what never takes a character.
+/// Whether a node is a `Loop` over what never takes a character, or one that is never entered.
 fn repeats_nothing(node: &Node) -> bool
     ensures { result ≡ is_idle_loop (tree node.now) }
 {
     match node {
-        Node::Loop { loopee, .. } => is_idle_node(loopee),
+        Node::Loop { loopee, quant, .. } => {
+            is_idle_node(loopee) || (quant.most() == 0 && is_plain_node(loopee))
+        }
         _ => false,
     }
 }

@@ -1,14 +1,15 @@
 -- Each clause of the normal form has its rule: where a node breaks a clause, a rule makes another tree of it.
-use Rattle.std.proofs.Common.{◌≡◌, ℕ, Bool, true, false, not, ◌&&◌, ◌||◌, List, [], ◌∷◌, ◌++◌, length, nat_lt, All, subst, refl, sym, ap, arith}
+use Rattle.std.proofs.Common.{◌≡◌, ℕ, Bool, true, false, not, ◌&&◌, ◌||◌, ◌==◌, List, [], ◌∷◌, ◌++◌, length, nat_lt, All, subst, refl, sym, ap, arith}
 use Rattle.std.specs.List.{list_any}
-use Rattle.std.proofs.lemmas.Bool.{false≢true, and_parts, ltb-true}
+use Rattle.std.proofs.lemmas.Bool.{false≢true, and_parts, ltb-true, eqb-true}
 use Rattle.std.proofs.lemmas.List.Elements.{All-head, All-tail}
 use Rattle.regress_meaning.specs.TableParts.{is_surrogate}
 use Rattle.regress_meaning.specs.Meaning.{Direction}
 use Rattle.regress_front_nodes.specs.Trees.{Tree, empty, char, bytes, char_set, cat, no_part, cat_of, alt, capture, look, loop, single_loop}
 use Rattle.regress_front_nodes.specs.Forms.{is_empty, is_cat, parts}
+use Rattle.regress_front_nodes.specs.WellFormed.{goals}
 use Rattle.regress_front_nodes.proofs.NodeLemmas.{parts-cat_of}
-use Rattle.regress_front_rules.specs.NormalForm.{is_literal, literals_meet, is_short_cat, has_loose_part, has_split_literal, is_loose_char, is_unrollable, is_loop_of_one, is_empty_choice, is_idle_loop, is_lost_cat}
+use Rattle.regress_front_rules.specs.NormalForm.{is_literal, literals_meet, is_short_cat, has_loose_part, has_split_literal, is_loose_char, is_unrollable, is_loop_of_one, is_empty_choice, is_idle, is_idle_loop, has_no_group, is_lost_cat}
 use Rattle.regress_front_rules.specs.Rules as rules
 use Rattle.regress_front_rules.specs.Rules.{joined, unrolled, Turns}
 use Rattle.regress_front_rules.specs.Laws.{listed, IsListed, Turnable, BrokenNodesTurn, NestsLessThanItsSize}
@@ -140,9 +141,15 @@ module _ (dir : Direction) where
       rw (is-empty a both.0, is-empty b both.1) (empty, rules.is_empty_choice)
   empty_choice _ h = absurd (false≢true h)
 
-  -- a loop over what never takes a character
+  -- a loop over what never takes a character, or that is never entered
   pub idle_loop : (t : Tree) → is_idle_loop t ≡ true → Turnable dir t
-  idle_loop (loop a first last least most greedy) h = (_, rules.idles h)
+  idle_loop (loop a first last least most greedy) h = by_test (is_idle a) refl
+    where
+      by_test : (b : Bool) → is_idle a ≡ b → Turnable dir (loop a first last least most greedy)
+      by_test true e = (_, rules.idles e)
+      by_test false e =
+          let left = and_parts (most == 0) (has_no_group a && (goals a == 0)) (rw e at h) in
+          (empty, rules.skips (eqb-true most 0 left.0) (and_parts (has_no_group a) (goals a == 0) left.1).0)
   idle_loop _ h = absurd (false≢true h)
 
   -- a `Cat` that always fails

@@ -1,19 +1,19 @@
 -- What never takes a character: repeated, it leads where it does once, or nowhere else than the state itself.
-use Rattle.std.proofs.Common.{◌≡◌, ℕ, zero, suc, ◌-◌, ◌≤◌, Bool, true, false, not, ◌&&◌, ◌==◌, List, [], ◌∷◌, ◌++◌, length, Option, Some, None, nat_eq, nat_le, filter, if◌then◌else◌, All, slice_get, subst, refl, sym, ap, ◌∙◌, arith, eqb-true}
+use Rattle.std.proofs.Common.{◌≡◌, ℕ, zero, suc, ◌-◌, ◌≤◌, Bool, true, false, not, ◌==◌, List, [], ◌∷◌, ◌++◌, length, Option, Some, None, nat_le, filter, if◌then◌else◌, All, slice_get, subst, refl, sym, ap, ◌∙◌, arith, eqb-true}
 use Rattle.std.specs.List.{flat_map}
 use Rattle.std.proofs.lemmas.Bool.{false≢true, and_parts, leb-true}
 use Rattle.std.proofs.lemmas.Bool.Decides.{nat_tests}
 use Rattle.std.proofs.lemmas.List.Elements.{All-nil, All-cons, All-head, All-tail, All-append, All-weaker, All-filter}
-use Rattle.regress_meaning.specs.Meaning.{State, Direction, Outcomes, Context, beside, stepped, step, same_all, repeat_group, moved, iterations, looked, keep_if, cleared}
+use Rattle.regress_meaning.specs.Meaning.{State, Direction, Outcomes, Context, beside, stepped, step, same_all, repeat_group, moved, iterations, looked, keep_if}
 use Rattle.regress_meaning.proofs.StepLaws.{All-flat_map}
 use Rattle.regress_front_nodes.specs.Trees.{Tree, empty, goal, char, bytes, byte_set, char_set, cat, no_part, alt, any, any_in_line, line_start, line_end, boundary, capture, back, bracket, string_set, look, loop, single_loop}
 use Rattle.regress_front_nodes.specs.TreeMeaning.{direction, alternatives, node_outcomes}
 use Rattle.regress_front_nodes.specs.Alike.{same_state, distinct, AreAlike}
-use Rattle.regress_front_nodes.specs.WellFormed.{group_ids, AreNumbered, AreLawful, goals}
+use Rattle.regress_front_nodes.specs.WellFormed.{group_ids, AreLawful, goals}
 use Rattle.regress_front_nodes.proofs.DistinctLemmas.{same_state-self}
 use Rattle.regress_front_rules.specs.NormalForm.{is_idle, has_no_group}
 use Rattle.regress_front_rules.specs.Rules.{once}
-use Rattle.regress_front_rules.proofs.LoopLemmas.{cleared-none, loop-plain}
+use Rattle.regress_front_rules.proofs.LoopLemmas.{loop-plain}
 
 -- no number in an empty list
 pub none-of : (ids : List ℕ) → (length ids == 0) ≡ true → ids ≡ []
@@ -250,3 +250,15 @@ module _ (w : Context) where
       by_test false k =
           let none : least ≡ 0 = grind (arith, nat_tests) in
           rw none (ap distinct (idle-zero (node_outcomes w a dir) put greedy most s))
+
+  entered-never : (f : State → List State) (greedy : Bool) (s : State) → iterations f greedy zero zero s ≡ s ∷ []
+  unfolding iterations
+  entered-never f greedy s = refl
+
+  -- a loop that is never entered is alike nothing
+  pub skipped-alike : (a : Tree) (first last least most : ℕ) (greedy : Bool) (dir : Direction) (n : ℕ) → most ≡ 0 → has_no_group a ≡ true → AreLawful n (loop a first last least most greedy) → (s : State)
+      → AreAlike (node_outcomes w (loop a first last least most greedy) dir s) (node_outcomes w empty dir s)
+  unfolding node_outcomes
+  skipped-alike a first last least most greedy dir n e h l s =
+      let none : least ≡ 0 = omega (arith, e, l.1) in
+      ap distinct (loop-plain w a first last least most greedy dir (none-of (group_ids a) h) l.0 s) ∙ rw (e, none) (ap distinct (entered-never (node_outcomes w a dir) greedy s))

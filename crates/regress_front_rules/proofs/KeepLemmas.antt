@@ -13,10 +13,10 @@ use Rattle.regress_front_nodes.specs.Singles.{takes_one}
 use Rattle.regress_front_nodes.specs.WellFormed.{group_ids, goals, last_part, AreLawful, AreCharacters, name_by_number}
 use Rattle.regress_front_nodes.specs.Characters.{is_character}
 use Rattle.regress_front_nodes.proofs.PieceLemmas.{scalar-from}
-use Rattle.regress_front_rules.specs.Rules.{joined, unrolled, is_bracket, Turns, flattens, drops_empty, is_one_part, is_no_part, joins, spells, lists, is_empty_choice, is_lost, unrolls, loops_one, idles, once, Rewrites, there, in_part, in_first, in_second, in_capture, in_look, in_loop, in_single_loop, Reaches, stays, and_then}
+use Rattle.regress_front_rules.specs.Rules.{joined, unrolled, is_bracket, Turns, flattens, drops_empty, is_one_part, is_no_part, joins, spells, lists, is_empty_choice, is_lost, unrolls, loops_one, idles, skips, once, Rewrites, there, in_part, in_first, in_second, in_capture, in_look, in_loop, in_single_loop, Reaches, stays, and_then}
 use Rattle.regress_front_rules.specs.Weight.{pending, bulk, weight}
 use Rattle.regress_front_rules.specs.Kept.{Keeps}
-use Rattle.regress_front_rules.proofs.IdleLemmas.{idle-groups}
+use Rattle.regress_front_rules.proofs.IdleLemmas.{idle-groups, none-of}
 use Rattle.regress_front_rules.specs.NormalForm.{is_idle}
 use Rattle.regress_front_rules.proofs.RuleLemmas.{IsLostCat, lost-parts, IsSmallLoop, small_loop, spelled-chars}
 use Rattle.regress_front_rules.proofs.OneLemmas.{rewrites-one}
@@ -204,6 +204,21 @@ single-turned a first last least most greedy e = record {
   lighter = λ n l. omega arith;
 }
 
+-- nothing, in place of a loop without groups
+skipped-turned : (a : Tree) (first last least most : ℕ) (greedy : Bool) → group_ids a ≡ [] → IsTurned (loop a first last least most greedy) empty
+skipped-turned a first last least most greedy none = record {
+  keeps = record {
+    ids = sym none;
+    named = λ k. sym (no_names k a none);
+    few_loops = omega arith;
+    no_goal = λ g. refl;
+    goal_last = λ g l. absurd (cc);
+    lawful = λ n l. tt;
+    no_larger = λ n l. omega arith;
+  };
+  lighter = λ n l. omega arith;
+}
+
 -- what never takes a character, once, or nothing
 idle-turned : (a : Tree) (first last least most : ℕ) (greedy : Bool) → is_idle a ≡ true → IsTurned (loop a first last least most greedy) (once a least)
 idle-turned a first last least most greedy e = by_test (nat_le 1 least) (idle-groups a e)
@@ -221,18 +236,7 @@ idle-turned a first last least most greedy e = by_test (nat_le 1 least) (idle-gr
       };
       lighter = λ n l. omega arith;
     }
-    by_test false none = record {
-      keeps = record {
-        ids = sym none;
-        named = λ k. sym (no_names k a none);
-        few_loops = omega arith;
-        no_goal = λ g. refl;
-        goal_last = λ g l. absurd (cc);
-        lawful = λ n l. tt;
-        no_larger = λ n l. omega arith;
-      };
-      lighter = λ n l. omega arith;
-    }
+    by_test false none = skipped-turned a first last least most greedy none
 
 -- ---- one rule, in a place
 
@@ -299,6 +303,7 @@ turns-turned (is_lost ts e) = lost-turned ts (lost-parts (cat_of ts) e)
 turns-turned (unrolls {a} {first} {last} {least} {most} {greedy} e) = unrolls-turned a first last least most greedy (small_loop a first last least most greedy e)
 turns-turned (loops_one {a} {first} {last} {least} {most} {greedy} e) = single-turned a first last least most greedy e
 turns-turned (idles {a} {first} {last} {least} {most} {greedy} e) = idle-turned a first last least most greedy e
+turns-turned (skips {a} {first} {last} {least} {most} {greedy} e h) = skipped-turned a first last least most greedy (none-of (group_ids a) h)
 
 first-turned : (a b c : Tree) → IsTurned a b → IsTurned (alt a c) (alt b c)
 first-turned a b c h =

@@ -11,7 +11,7 @@ use Rattle.regress_front_nodes.specs.Characters.{is_character}
 use Rattle.regress_front_nodes.proofs.NodeLemmas.{is_cat-cat_of}
 use Rattle.regress_front_rules.specs.NormalForm.{nodes_below, Nowhere, is_short_cat, has_loose_part, has_split_literal, is_loose_char, is_unrollable, is_loop_of_one, is_empty_choice, is_lost_cat, IsNormal, is_idle_loop}
 use Rattle.regress_front_rules.specs.Rules as rules
-use Rattle.regress_front_rules.specs.Rules.{joined, copies, Turns, flattens, drops_empty, is_one_part, is_no_part, joins, spells, lists, is_lost, unrolls, loops_one, Rewrites, there, in_part, in_first, in_second, in_capture, in_look, in_loop, in_single_loop, Reaches, stays, and_then, idles}
+use Rattle.regress_front_rules.specs.Rules.{joined, copies, Turns, flattens, drops_empty, is_one_part, is_no_part, joins, spells, lists, is_lost, unrolls, loops_one, Rewrites, there, in_part, in_first, in_second, in_capture, in_look, in_loop, in_single_loop, Reaches, stays, and_then, idles, skips}
 use Rattle.regress_front_rules.specs.Weight.{weight}
 use Rattle.regress_front_rules.specs.Laws.{IsListed, AreListed, Turnable, NormalFormsAreReached}
 use Rattle.regress_front_rules.proofs.ClauseLemmas.{short_cat, loose_part, split_literal, loose_char, unrollable_loop, loop_of_one, empty_choice, lost_cat, idle_loop}
@@ -73,6 +73,7 @@ turns-listed (idles {a} {first} {last} {least} e) l = once-listed (nat_le 1 leas
     once-listed : (b : Bool) → AreListed (if b then a else empty)
     once-listed true = l
     once-listed false = tt
+turns-listed (skips e h) l = tt
 
 -- a rule somewhere leaves each `Cat` a list of parts
 pub rewrites-listed : {dir : Direction} {t u : Tree} → Rewrites dir t u → AreListed t → AreListed u

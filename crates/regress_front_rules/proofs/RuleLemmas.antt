@@ -1,5 +1,5 @@
 -- Each rule makes a tree that is alike.
-use Rattle.std.proofs.Common.{◌≡◌, ℕ, suc, ◌≤◌, Bool, true, false, ◌&&◌, ◌||◌, ◌==◌, List, [], ◌∷◌, ◌++◌, length, nat_eq, nat_le, chars, encode_utf8, All, IsUtf8, refl, sym, ap, ◌∙◌, arith, eqb-true}
+use Rattle.std.proofs.Common.{◌≡◌, ℕ, ◌≤◌, Bool, true, false, ◌&&◌, ◌||◌, ◌==◌, List, [], ◌∷◌, ◌++◌, length, nat_eq, nat_le, chars, encode_utf8, All, IsUtf8, refl, sym, ap, ◌∙◌, arith, eqb-true}
 use Rattle.std.specs.List.{flat_map, list_any, list_all}
 use lib.Utf8.{scalar}
 use Rattle.std.proofs.lemmas.List.{append-nil}
@@ -24,11 +24,11 @@ use Rattle.regress_front_nodes.proofs.SequenceLemmas.{cat_of-append}
 use Rattle.regress_front_nodes.proofs.PieceLemmas.{scalar-from}
 use Rattle.regress_front_nodes.proofs.NodeLemmas.{always_fails-nothing, parts-cat_of}
 use Rattle.regress_front_rules.specs.NormalForm.{is_unrollable, is_lost_cat, has_no_group}
-use Rattle.regress_front_rules.specs.Rules.{joined, Turns, flattens, drops_empty, is_one_part, is_no_part, joins, spells, lists, is_empty_choice, is_lost, unrolls, loops_one, idles}
+use Rattle.regress_front_rules.specs.Rules.{joined, Turns, flattens, drops_empty, is_one_part, is_no_part, joins, spells, lists, is_empty_choice, is_lost, unrolls, loops_one, idles, skips}
 use Rattle.regress_front_rules.proofs.StepLemmas.{literals-joined}
 use Rattle.regress_front_rules.proofs.InsideLemmas.{tree-inside}
 use Rattle.regress_front_rules.proofs.LoopLemmas.{unrolled-same, single-same}
-use Rattle.regress_front_rules.proofs.IdleLemmas.{none-of, idle-alike}
+use Rattle.regress_front_rules.proofs.IdleLemmas.{none-of, idle-alike, skipped-alike}
 
 pub parts-lawful : (n : ℕ) (ts us : List Tree) → AreLawful n (cat_of (ts ++ us)) → AreLawful n (cat_of ts) × AreLawful n (cat_of us)
 parts-lawful n [] us h = (tt, h)
@@ -169,3 +169,4 @@ module _ (w : Context) (valid : All is_code_point w.text) where
   turns-alike {dir} (loops_one {a} {first} {last} {least} {most} {greedy} e) n h =
       same-alike _ _ (single-same w a first last least most greedy dir (takes_one-groups a e) h.0)
   turns-alike {dir} (idles {a} {first} {last} {least} {most} {greedy} e) n h = λ s inside. idle-alike w a first last least most greedy dir n e h s
+  turns-alike {dir} (skips {a} {first} {last} {least} {most} {greedy} e k) n h = λ s inside. skipped-alike w a first last least most greedy dir n e k h s

@@ -91,9 +91,9 @@ is_idle (look negated backward first last a) = has_no_group a && (goals a == 0)
 is_idle (loop a first last least most greedy) = is_idle a
 is_idle _ = false
 
--- A `Loop` over what never takes a character and holds no capture group.
+-- A `Loop` over what never takes a character, or that is never entered. It holds no capture group and no `Goal`.
 abbrev pub is_idle_loop : Tree → Bool
-is_idle_loop (loop a first last least most greedy) = is_idle a
+is_idle_loop (loop a first last least most greedy) = is_idle a || ((most == 0) && (has_no_group a && (goals a == 0)))
 is_idle_loop _ = false
 
 -- A `Cat` with a part that always fails, which holds no capture group and no `Goal`.

@@ -6,7 +6,7 @@ use Rattle.regress_front_nodes.specs.Trees.{Tree, empty, char, bytes, char_set, 
 use Rattle.regress_front_nodes.specs.TreeMeaning.{bracket_has, direction}
 use Rattle.regress_front_nodes.specs.Characters.{Takes}
 use Rattle.regress_front_nodes.specs.Singles.{takes_one}
-use Rattle.regress_front_rules.specs.NormalForm.{is_lost_cat, is_unrollable, is_idle}
+use Rattle.regress_front_rules.specs.NormalForm.{is_lost_cat, is_unrollable, is_idle, has_no_group}
 
 -- Two literals as one. Parts stand in the order in which they are read, a literal in that of the text: so where a tree is
 -- read backward, the bytes of the second stand before those of the first.
@@ -61,6 +61,8 @@ pub data Turns (dir : Direction) : Tree → Tree → Type 0 where
       → Turns dir (loop a first last least most greedy) (single_loop a least most greedy)
   -- a loop over what never takes a character is that once, or nothing
   idles : {a : Tree} {first last least most : ℕ} {greedy : Bool} → is_idle a ≡ true → Turns dir (loop a first last least most greedy) (once a least)
+  -- a loop that is never entered, and holds no group, is `Empty`
+  skips : {a : Tree} {first last least most : ℕ} {greedy : Bool} → most ≡ 0 → has_no_group a ≡ true → Turns dir (loop a first last least most greedy) empty
 
 -- One rule makes the second tree of the first, there or somewhere below. The direction is that in which the first is read.
 pub data Rewrites : Direction → Tree → Tree → Type 0 where

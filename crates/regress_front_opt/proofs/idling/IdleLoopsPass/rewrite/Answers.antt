@@ -24,5 +24,6 @@ pub returns-else-quant-eq0 : goal.returns-else-quant-eq0
 returns-else-quant-eq0 c =
     let arm = c.in-Loop in
     let e = sym c.replace.ensures.value ∙ arm.is in
+    let fits = (rw (e, tree-Loop) at c.requires).1.1 in
     let idle = rw (e, tree-Loop) at c.if-not-repeats_nothing.ensures in
-    rw (e, tree-Loop, c.into_inner.ensures) (idle-kept (direction c.args._in_lookbehind) (tree arm.loopee.value) arm.enclosed_groups.start arm.enclosed_groups.end arm.quant.min (most arm.quant) arm.quant.greedy (sym idle) c.if-quant-eq0.false)
+    rw (e, tree-Loop, c.into_inner.ensures) (idle-kept (direction c.args._in_lookbehind) (tree arm.loopee.value) arm.enclosed_groups.start arm.enclosed_groups.end arm.quant.min (most arm.quant) arm.quant.greedy (sym idle) c.if-quant-eq0.false fits)
