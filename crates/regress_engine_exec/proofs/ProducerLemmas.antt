@@ -1,9 +1,10 @@
 -- The items of a producer: what is found, and what comes behind it.
 use Rattle.std.specs.Prelude.{option_map, All, IfSome, nat_le, not, map}
+use Rattle.std.specs.Bool.{then_some}
 use Rattle.std.specs.Str.{IsUtf8, IsCharBoundary}
 use Rattle.std.specs.declared.ops.Range.{Range}
 use Rattle.std.proofs.lemmas.List.Elements.{All-nil, All-cons, All-head, All-tail}
-use Rattle.std.proofs.Common.{◌≡◌, ℕ, zero, suc, ◌-◌, ◌<◌, ◌≤◌, ◌⊎◌, inl, inr, ◌==◌, Bool, List, [], ◌∷◌, length, Option, Some, None, if◌then◌else◌, refl, sym, ap, ◌∙◌, subst, arith}
+use Rattle.std.proofs.Common.{◌≡◌, ℕ, zero, suc, ◌-◌, ◌<◌, ◌≤◌, ◌⊎◌, inl, inr, ◌==◌, Bool, true, false, List, [], ◌∷◌, length, Option, Some, None, if◌then◌else◌, refl, sym, ap, ◌∙◌, subst, arith}
 use Rattle.std.proofs.Math.Logic.{∥∥₁_map}
 use Rattle.std.proofs.lemmas.Bool.{cases_lt, cond_both, eq-eqb, le-leb, lt-leb, ne_eqb}
 use Rattle.regress_meaning.specs.Table.{Table}
@@ -232,6 +233,10 @@ match-in_utf8 kind units e text m inside =
 
 -- ---- over an input, which shows what is read
 
+some-where : (b : Bool) (at : ℕ) → then_some b at ≡ (if b then Some at else None)
+some-where true at = refl
+some-where false at = refl
+
 module _ (s : Sought) (v : View) (shows : s.view ≡ v) (all : AreOfKind v.kind v.units) where
   pub shown-kind : AreOfKind s.view.kind s.view.units
   shown-kind = subst (λ w. AreOfKind w.kind w.units) (sym shows) all
@@ -268,6 +273,6 @@ module _ (s : Sought) (v : View) (shows : s.view ≡ v) (all : AreOfKind v.kind 
     next-items = items-next s at place i next shown-finds shown-goes next-position
 
   -- an offset that is no greater than the length is where a search begins
-  pub read-starts : (at n : ℕ) (b : Bool) (o : Option ℕ) → n ≡ length v.units → b ≡ nat_le at n → o ≡ (if b then Some at else None) → o ≡ begins_at (input_of s.view) at
+  pub read-starts : (at n : ℕ) (b : Bool) (o : Option ℕ) → n ≡ length v.units → b ≡ nat_le at n → o ≡ then_some b at → o ≡ begins_at (input_of s.view) at
   read-starts at n b o e test is =
-      is ∙ ap (λ (c : Bool). if c then Some at else None) (test ∙ ap (nat_le at) (e ∙ ap (λ (w : View). length w.units) (sym shows) ∙ ap length (sym (shown-units s.view))))
+      is ∙ some-where b at ∙ ap (λ (c : Bool). if c then Some at else None) (test ∙ ap (nat_le at) (e ∙ ap (λ (w : View). length w.units) (sym shows) ∙ ap length (sym (shown-units s.view))))
