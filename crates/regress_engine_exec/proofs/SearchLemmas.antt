@@ -55,10 +55,11 @@ module _ (reading : Reading) where
   group-at_places (Some x) inside = range-at_places x inside
 
   item-at_places : (i : Item) → IsItemInside reading.points i → IsItemAtPlaces reading (told_in reading i)
-  item-at_places i inside =
-      (range-at_places (i.start, i.end) inside.range,
-      All-map (λ g. IfSome g (AreAtPlaces reading)) (option_map (offset_range reading)) i.groups
-      (All-weaker (λ g. IfSome g (LiesIn (length reading.points))) (λ g. IfSome (option_map (offset_range reading) g) (AreAtPlaces reading)) group-at_places i.groups inside.groups))
+  item-at_places i inside = (
+    range-at_places (i.start, i.end) inside.range,
+    All-map (λ g. IfSome g (AreAtPlaces reading)) (option_map (offset_range reading)) i.groups
+        (All-weaker (λ g. IfSome g (LiesIn (length reading.points))) (λ g. IfSome (option_map (offset_range reading) g) (AreAtPlaces reading)) group-at_places i.groups inside.groups),
+  )
 
 -- the program of a tree may be sought
 pub layout-sought : (target : Target) (v : View) → AreOfKind v.kind v.units → are_bytes v.kind ≡ not target.program.units → IsMadeFor target (input_of v)

@@ -1,8 +1,8 @@
 -- That a program may be sought in a text has one proof at most, so a struct may keep it in a ghost field.
-use mathlib.Core.HLevel.{is_prop→PathP, Σ_prop_path, Π_prop, →_prop, ×_prop, Unit-prop}
+use mathlib.Core.HLevel.{is_prop→PathP, Σ_prop_path, Π_prop, ×_prop, Unit-prop}
 use Rattle.std.specs.Coded.{codes, le_prop}
 use Rattle.std.specs.Prelude.{◌≡◌, ℕ, suc, ◌<◌, ◌≤◌, Bool, true, false, not, List, [], ◌∷◌, length, Option, Some, None, All, IfSome, get_or, slice_get, ◌⊎◌}
-use Rattle.std.proofs.Common.{sym, ap, ◌∙◌, nat_lt, inl, inr, arith}
+use Rattle.std.proofs.Common.{sym, ◌∙◌, nat_lt, inl, inr, arith}
 use Rattle.std.proofs.Math.Logic.{∥∥₁_elim, ∥∥₁_prop}
 use Rattle.std.proofs.lemmas.Bool.{cond_both, cases_lt}
 use Rattle.std.proofs.lemmas.Str.{len_utf8_bounds}
@@ -55,9 +55,11 @@ module _ (v : View) where
   pub IsAtPlace-prop : (o : ℕ) → IsProp (IsAtPlace (reading_of v) o)
   IsAtPlace-prop o x y =
       let same : x.0 ≡ y.0 = same_place x.0 y.0 x.1 y.1 (sym x.2 ∙ y.2) in
-      λ i. (same i,
-      is_prop→PathP (λ j. same j ≤ length (reading_of v).points) (λ j. le_prop) x.1 y.1 i,
-      is_prop→PathP (λ j. o ≡ offset (reading_of v) (same j)) (λ j. nat-set o (offset (reading_of v) (same j))) x.2 y.2 i)
+      λ i. (
+        same i,
+        is_prop→PathP (λ j. same j ≤ length (reading_of v).points) (λ j. le_prop) x.1 y.1 i,
+        is_prop→PathP (λ j. o ≡ offset (reading_of v) (same j)) (λ j. nat-set o (offset (reading_of v) (same j))) x.2 y.2 i,
+      )
 
   pub AreAtPlaces-prop : (x : ℕ × ℕ) → IsProp (AreAtPlaces (reading_of v) x)
   AreAtPlaces-prop x = hlevel (IsAtPlace-prop, le_prop)
@@ -112,10 +114,12 @@ module _ (program : Program) where
   takes-prop at least most x y =
       let e : ◌≡◌ {A = Option Instruction} (Some x.0) (Some y.0) = sym x.1 ∙ y.1 in
       let same : x.0 ≡ y.0 = cc in
-      λ i. (same i,
-      is_prop→PathP (λ j. Stands program at (same j)) (λ j. Stands-prop at (same j)) x.1 y.1 i,
-      is_prop→PathP (λ j. takes_character (same j) ≡ true) (λ j. bool-set (takes_character (same j)) true) x.2 y.2 i,
-      le_prop x.3 y.3 i)
+      λ i. (
+        same i,
+        is_prop→PathP (λ j. Stands program at (same j)) (λ j. Stands-prop at (same j)) x.1 y.1 i,
+        is_prop→PathP (λ j. takes_character (same j) ≡ true) (λ j. bool-set (takes_character (same j)) true) x.2 y.2 i,
+        le_prop x.3 y.3 i,
+      )
 
   Fits-prop : (at : ℕ) (i : Instruction) → IsProp (Fits program at i)
   Fits-prop at (code.byte_seq bs) = bool-set program.units false

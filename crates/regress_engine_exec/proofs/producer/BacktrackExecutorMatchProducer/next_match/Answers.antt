@@ -24,10 +24,11 @@ pub returns-in_default-clause-found : goal.returns-in_default-clause-found
 returns-in_default-clause-found g c =
     let subject = c.args.self.now.subject in
     let s : Sought = record { compiled = subject.program.now; view = g.Input.Shown.shown subject.input; sought = subject.sought } in
-    let v = g.Input.InputIndexer.view subject.input in
-    (read-none s v (g.met.Input.ExecutorInput.shows subject.input) (g.met.Input.InputIndexer.are_of_kind subject.input) c.args.position c.requires
-    (subst (λ o. Finds (program_of subject.program.now) (input_of v) c.args.position (option_map item_of o)) c.in_default.is c.in_ok-found.ensures.found),
-    refl)
+    let v = g.Input.InputIndexer.view subject.input in (
+      read-none s v (g.met.Input.ExecutorInput.shows subject.input) (g.met.Input.InputIndexer.are_of_kind subject.input) c.args.position c.requires
+          (subst (λ o. Finds (program_of subject.program.now) (input_of v) c.args.position (option_map item_of o)) c.in_default.is c.in_ok-found.ensures.found),
+      refl,
+    )
 
 pub returns-clause-found : goal.returns-clause-found
 returns-clause-found g c =
@@ -37,9 +38,10 @@ returns-clause-found g c =
     let found = subst (λ o. Finds (program_of subject.program.now) (input_of v) c.args.position (option_map item_of o)) c.in-Some.is c.in_ok-found.ensures.found in
     let inside = subst (λ o. IfSome o (λ m. IsItemAtPlaces (reading_of v) (item_of m))) c.in-Some.is c.in_ok-found.ensures.inside in
     let goes = subst (λ u. c.goes_on.result ≡ goes_on (program_of u.program.now) (input_of (g.Input.InputIndexer.view u.input)) (item_of c.in-Some.found)) c.find_from.ensures.kept c.goes_on.ensures in
-    let named = subst (λ o. IfSome o (λ m. names_of_match m ≡ names_of subject.program.now)) c.in-Some.is c.in_ok-found.ensures.named in
-    (next-items s v (g.met.Input.ExecutorInput.shows subject.input) (g.met.Input.InputIndexer.are_of_kind subject.input) c.args.position c.requires (item_of c.in-Some.found) c.goes_on.result found inside goes,
-    (shown-inside s v (g.met.Input.ExecutorInput.shows subject.input) (g.met.Input.InputIndexer.are_of_kind subject.input) c.args.position c.requires (item_of c.in-Some.found) c.goes_on.result found inside goes, named))
+    let named = subst (λ o. IfSome o (λ m. names_of_match m ≡ names_of subject.program.now)) c.in-Some.is c.in_ok-found.ensures.named in (
+      next-items s v (g.met.Input.ExecutorInput.shows subject.input) (g.met.Input.InputIndexer.are_of_kind subject.input) c.args.position c.requires (item_of c.in-Some.found) c.goes_on.result found inside goes,
+      (shown-inside s v (g.met.Input.ExecutorInput.shows subject.input) (g.met.Input.InputIndexer.are_of_kind subject.input) c.args.position c.requires (item_of c.in-Some.found) c.goes_on.result found inside goes, named),
+    )
 
 pub returns-clause-inside : goal.returns-clause-inside
 returns-clause-inside g c =

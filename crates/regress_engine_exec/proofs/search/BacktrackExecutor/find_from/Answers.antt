@@ -4,7 +4,6 @@ use Rattle.std.specs.Prelude.{option_map}
 use Rattle.regress_match.specs.Views.{ends, item_of}
 use Rattle.regress_engine_code.specs.Standing.{program_of}
 use Rattle.regress_engine_input.specs.Views.{input_of}
-use Rattle.regress_engine_runs.specs.Items.{Finds}
 use Rattle.regress_engine_runs.specs.States.{range_of}
 use Rattle.regress_engine_exec.specs.Held.{held, marks_of}
 use Rattle.regress_engine_exec.specs.Sought.{IsFound, IsSought}
