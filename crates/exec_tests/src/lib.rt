@@ -2,4 +2,10 @@
 #![tactic(auto)]
 
 #[cfg(test)]
-mod searches;
+mod found;
+#[cfg(test)]
+mod lists;
+#[cfg(test)]
+mod long;
+#[cfg(test)]
+mod programs;
