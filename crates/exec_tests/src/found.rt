@@ -1,0 +1,104 @@
+//! What executors find, as text.
+
+use crate::programs::{byte_program, unit_program};
+use regress_engine_exec::{BacktrackExecutor, ExecutorInput};
+use regress_engine_input::{AsciiInput, Ucs2Input, Utf16Input};
+use regress_front_tables::Tables;
+use regress_match::{Match, Matches, Range};
+use std::alloc::{AllocError, Global};
+use std::test::Fail;
+
+fn told_range(alloc: Global, range: Option<Range>) -> Result<String, AllocError> {
+    match range {
+        Some(range) => format!(in alloc; "{range:?} "),
+        None => format!(in alloc; "- "),
+    }
+}
+
+/// A match as text: its range, and that of each group or `-`.
+pub(crate) fn told(alloc: Global, found: &Match) -> Result<String, AllocError> {
+    let mut told = String::new(alloc);
+    for group in found.groups() {
+        told.push_str(told_range(alloc, group)?.as_str())?;
+    }
+    Ok(told)
+}
+
+/// All matches of an executor as text, one after another.
+fn listed<Input: ExecutorInput>(
+    alloc: Global,
+    executor: BacktrackExecutor<'_, Input>,
+) -> Result<String, Fail> {
+    let mut all = String::new(alloc);
+    for found in Matches::new(executor, 0) {
+        all.push_str(told(alloc, &found?)?.as_str())?;
+        all.push_str("; ")?;
+    }
+    Ok(all)
+}
+
+/// All matches over UTF-8.
+pub(crate) fn in_utf8(
+    alloc: Global,
+    pattern: &str,
+    flags: &str,
+    text: &str,
+) -> Result<String, Fail> {
+    let tables = Tables::small(alloc)?;
+    let program = byte_program(alloc, pattern, flags, &tables)?;
+    listed(alloc, BacktrackExecutor::new(alloc, &program, text))
+}
+
+/// All matches over ASCII.
+pub(crate) fn in_ascii(
+    alloc: Global,
+    pattern: &str,
+    flags: &str,
+    text: &str,
+) -> Result<String, Fail> {
+    if !text.is_ascii() {
+        return Err(Fail::new(String::from_str(alloc, "not ASCII")?));
+    }
+    let tables = Tables::small(alloc)?;
+    let program = byte_program(alloc, pattern, flags, &tables)?;
+    let input = AsciiInput::new(text, program.flags().is_unicode(), program.tables());
+    listed(alloc, BacktrackExecutor::with_input(alloc, &program, input))
+}
+
+/// All matches over 16-bit units, pairs joined.
+pub(crate) fn in_utf16(
+    alloc: Global,
+    pattern: &str,
+    flags: &str,
+    units: &[u16],
+) -> Result<String, Fail> {
+    let tables = Tables::small(alloc)?;
+    let program = unit_program(alloc, pattern, flags, &tables)?;
+    let input = Utf16Input::new(units, program.flags().is_unicode(), program.tables());
+    listed(alloc, BacktrackExecutor::with_input(alloc, &program, input))
+}
+
+/// All matches over 16-bit units, each one character.
+pub(crate) fn in_ucs2(
+    alloc: Global,
+    pattern: &str,
+    flags: &str,
+    units: &[u16],
+) -> Result<String, Fail> {
+    let tables = Tables::small(alloc)?;
+    let program = unit_program(alloc, pattern, flags, &tables)?;
+    let input = Ucs2Input::new(units, program.flags().is_unicode(), program.tables());
+    listed(alloc, BacktrackExecutor::with_input(alloc, &program, input))
+}
+
+/// The first match over UTF-8 by a search alone.
+pub(crate) fn first(alloc: Global, pattern: &str, flags: &str, text: &str) -> Result<String, Fail> {
+    let tables = Tables::small(alloc)?;
+    let program = byte_program(alloc, pattern, flags, &tables)?;
+    let mut executor = BacktrackExecutor::new(alloc, &program, text);
+    let first = match executor.find_from(0)? {
+        Some(found) => told(alloc, &found)?,
+        None => String::new(alloc),
+    };
+    Ok(first)
+}
