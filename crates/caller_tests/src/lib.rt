@@ -3,3 +3,5 @@
 
 #[cfg(test)]
 mod loops;
+#[cfg(test)]
+mod tables;

@@ -1,3 +1,5 @@
 pub mod Standing
 pub mod Coming
 pub mod Answering
+pub mod Behind
+pub mod Splitting
