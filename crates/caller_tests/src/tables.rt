@@ -19,7 +19,10 @@ fn intervals(alloc: Global, pairs: &[(char, char)]) -> Result<Vec<Interval>, All
 
 /// Tables that know the letters of ASCII, five of them by the key `Vowel`, and two characters as one by the key `Pair`.
 fn tables(alloc: Global) -> Result<Tables, TableError> {
-    let vowels = intervals(alloc, &[('a', 'a'), ('e', 'e'), ('i', 'i'), ('o', 'o'), ('u', 'u')])?;
+    let vowels = intervals(
+        alloc,
+        &[('a', 'a'), ('e', 'e'), ('i', 'i'), ('o', 'o'), ('u', 'u')],
+    )?;
     let pair = "éa".chars().map(CodePoint::from).collect(alloc)?;
     Tables::new(
         alloc,

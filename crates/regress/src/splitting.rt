@@ -160,11 +160,7 @@ impl<'u> Regex<'u> {
     ///     let part = part?; // for `,\s*` it is `a`, then `b,c`
     /// }
     /// ```
-    pub fn splitn<'r, 't>(
-        &'r self,
-        text: &'t str,
-        limit: usize,
-    ) -> Result<SplitN<'r, 't>, Error>
+    pub fn splitn<'r, 't>(&'r self, text: &'t str, limit: usize) -> Result<SplitN<'r, 't>, Error>
         ensures parts { (t : Table) → (o : Options) → (p : Pattern) → StandsFor self.now t o p →
             IfOk result (λ s. first_parts_left s ≡ first_parts limit text.now (map (told (of_utf8 text.now)) (match_list t o p (chars text.now) 0))) }
         ensures refused { IsOkUnless result Error.OutOfMemory }

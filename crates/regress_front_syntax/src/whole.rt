@@ -11,9 +11,7 @@ ghost use Rattle.regress_front_tokens.specs.Escapes.{mode_view, texts, HasFewGro
 ghost use Rattle.regress_front_tokens.specs.Trees.{tree};
 
 use crate::parser::Parser;
-use regress_front_tables::{
-    CaptureGroupName, CodePoint, Error, Flags, MAX_CAPTURE_GROUPS, Tables,
-};
+use regress_front_tables::{CaptureGroupName, CodePoint, Error, Flags, MAX_CAPTURE_GROUPS, Tables};
 use regress_front_tokens::{Mode, Syntax, mode_of};
 use std::alloc::Global;
 
