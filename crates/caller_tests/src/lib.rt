@@ -4,4 +4,6 @@
 #[cfg(test)]
 mod loops;
 #[cfg(test)]
+mod refusals;
+#[cfg(test)]
 mod tables;

@@ -3,3 +3,4 @@ pub mod Coming
 pub mod Answering
 pub mod Behind
 pub mod Splitting
+pub mod Refusing

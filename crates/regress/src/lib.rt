@@ -7,6 +7,7 @@ mod api;
 mod asking;
 mod laws;
 mod matches;
+mod refusing;
 mod replacing;
 mod splitting;
 mod text;
@@ -17,10 +18,11 @@ pub use laws::{
     whole_matches_give_the_text_back,
 };
 pub use matches::Matches;
+pub use refusing::{SyntaxError, syntax_error};
 pub use regress_front::{
     CodePoint, Error, Flags, Interval, TableError, TableLaw, TableParts, Tables, are_code_points,
     flags_are_read_back,
 };
 pub use regress_match::{Groups, Match, NamedGroups, Range};
-pub use splitting::{Split, SplitN};
 pub use regress_replacing::escape;
+pub use splitting::{Split, SplitN};
