@@ -3,3 +3,7 @@
 
 #[cfg(test)]
 mod loops;
+#[cfg(test)]
+mod refusals;
+#[cfg(test)]
+mod tables;

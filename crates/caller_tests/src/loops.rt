@@ -33,6 +33,24 @@ fn parts_of_group<'t>(
     Ok(parts)
 }
 
+/// The text of each field of a line, without blanks.
+fn fields<'t>(alloc: Global, regex: &Regex<'_>, line: &'t str) -> Result<Vec<&'t str>, Error> {
+    let mut fields = Vec::new(alloc);
+    for field in regex.split(line)? {
+        let field = field?;
+        fields.push(field.trim())?;
+    }
+    Ok(fields)
+}
+
+/// A key and a value, where a line has both.
+fn pair<'t>(regex: &Regex<'_>, line: &'t str) -> Result<Option<(&'t str, &'t str)>, Error> {
+    let mut parts = regex.splitn(line, 2)?;
+    let key = parts.next().transpose()?;
+    let value = parts.next().transpose()?;
+    Ok(key.zip(value))
+}
+
 /// The match behind the first, by a search of its own.
 fn second(regex: &Regex<'_>, text: &str) -> Result<Option<Match>, Error> {
     let Some(first) = regex.find(text)? else {
@@ -64,6 +82,16 @@ fn parts_of_a_text(rt: HostRuntime) -> Result<(), Fail> {
     assert!(rt;
         parts_of_group(rt.alloc(), &regex, "xaéé é", 1)?.as_slice() == ["éé", "é"].as_slice()
     );
+    Ok(())
+}
+
+#[test]
+fn fields_of_a_line(rt: HostRuntime) -> Result<(), Fail> {
+    let tables = Tables::small(rt.alloc())?;
+    let comma = Regex::new(rt.alloc(), ",", &tables)?;
+    let told = fields(rt.alloc(), &comma, "é, b ,,c")?;
+    assert!(rt; told.as_slice() == ["é", "b", "", "c"].as_slice());
+    assert!(rt; pair(&comma, "é,b,c")? == Some(("é", "b,c")) && pair(&comma, "é")?.is_none());
     Ok(())
 }
 

@@ -1,13 +1,15 @@
 -- What replacing leaves as it is, and what a replacement text without `$` gives.
-use Rattle.std.proofs.Common.{◌≡◌, ◌≢◌, ℕ, List, [], ◌∷◌, take, drop, map, All, codes, slice_range, ne_eqb, refl, sym, ap₂, ◌∙◌, append-nil, append_assoc}
+use Rattle.std.proofs.Common.{◌≡◌, ◌≢◌, ℕ, List, [], ◌∷◌, ◌++◌, take, drop, map, All, codes, slice_range, ne_eqb, refl, sym, ap, ap₂, ◌∙◌, append-nil, append_assoc}
 use Rattle.std.proofs.lemmas.List.Elements.{All-head, All-tail}
 use Rattle.std.proofs.lemmas.List.Folds.{drop_split}
 use Rattle.regress_meaning.specs.Laws.{ItemsRise}
 use Rattle.regress_meaning.specs.Matches.{Item}
 use Rattle.regress_meaning.specs.Offsets.{Reading, offset, told}
+use Rattle.regress_meaning.specs.Parts.{parts_from, joined, parts}
 use Rattle.regress_match.proofs.TextLemmas.{offset-le}
 use Rattle.regress_replacing.specs.Replacing.{number_after, given_behind, expansion, replaced_from, replaced}
-use Rattle.regress.proofs.RisingLemmas.{LieBehind, behind-front}
+use Rattle.regress.specs.Behind.{LieBehind}
+use Rattle.regress.proofs.RisingLemmas.{behind-front}
 use Rattle.regress.proofs.ReplacingLemmas.{replaced-more, replaced-end}
 
 -- `$0` stands for the whole match
@@ -43,6 +45,32 @@ module _ (names : List (List ℕ)) (text : List ℕ) (r : Reading) (items : List
 
   pub first-back : replaced text (take 1 (map (told r) items)) (map (expansion names (codes "$0") text) (take 1 (map (told r) items))) ≡ text
   first-back = each-itself names text 0 (take 1 (map (told r) items)) (first-order 0 (map (told r) items) order)
+
+-- ---- the parts between items
+
+-- parts with new texts in the gaps are the text with these in the place of its items
+joined-from : (text : List ℕ) (at : ℕ) (items : List Item) (new : Item → List ℕ)
+    → joined (parts_from text at items) (map new items) ≡ replaced_from text at items (map new items)
+unfolding parts_from replaced_from
+joined-from text at [] new = append-nil (drop at text)
+joined-from text at (i ∷ items) new = ap (λ (rest : List ℕ). slice_range text at i.start ++ new i ++ rest) (joined-from text i.end items new)
+
+pub joined-parts : (text : List ℕ) (items : List Item) (new : Item → List ℕ) → joined (parts text items) (map new items) ≡ replaced text items (map new items)
+joined-parts text items new = joined-from text 0 items new
+
+-- `$0` gives what an item takes of the text
+whole-expansions : (names : List (List ℕ)) (text : List ℕ) (items : List Item)
+    → map (expansion names (codes "$0") text) items ≡ map (λ i. slice_range text i.start i.end) items
+whole-expansions names text [] = refl
+whole-expansions names text (i ∷ items) =
+    ap₂ (λ (new : List ℕ) (news : List (List ℕ)). new ∷ news) (whole-expansion names text i) (whole-expansions names text items)
+
+-- with what the items take of it, they are the text
+pub parts-back : (text : List ℕ) (r : Reading) (items : List Item) → ItemsRise items
+    → joined (parts text (map (told r) items)) (map (λ i. slice_range text i.start i.end) (map (told r) items)) ≡ text
+parts-back text r items rises =
+    let all = map (told r) items in
+    joined-parts text all (λ i. slice_range text i.start i.end) ∙ ap (replaced text all) (sym (whole-expansions [] text all)) ∙ all-back [] text r items rises
 
 -- a text without `$` stands for itself
 module _ (by_number : ℕ → List ℕ) (by_name : List ℕ → List ℕ) where

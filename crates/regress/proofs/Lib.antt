@@ -3,3 +3,4 @@ pub mod RisingLemmas
 pub mod ReplacingLemmas
 pub mod LawLemmas
 pub mod AskingLemmas
+pub mod SplittingLemmas

@@ -15,9 +15,10 @@ use Rattle.regress_match.specs.TextRanges.{LiesInText, IsMatchIn}
 use Rattle.regress_replacing.specs.Replacing.{replaced_from, replaced}
 use Rattle.regress.specs.declared.matches.Matches.{Matches}
 use Rattle.regress.specs.Answering.{Answering, AnswersTo, AnswersText, AnswersEach, RefusesOne}
+use Rattle.regress.specs.Behind.{LieBehind}
 use Rattle.regress.specs.Coming.{searched, sought_names, coming}
 use Rattle.regress.proofs.IterationLemmas.{gives_next}
-use Rattle.regress.proofs.RisingLemmas.{LieBehind, behind-front}
+use Rattle.regress.proofs.RisingLemmas.{behind-front}
 
 -- a text up to an item, with a new text in its place, and what is behind it
 pub replaced-more : (text : List ℕ) (at : ℕ) (i : Item) (items : List Item) (new : List ℕ) (news : List (List ℕ))

@@ -17,6 +17,7 @@ use Rattle.regress_evaluator.specs.declared.search.Search.{Search}
 use Rattle.regress_evaluator.specs.Searching.{pattern_of, points_of, searching, items_from}
 use Rattle.regress.specs.declared.matches.Matches.{Matches}
 use Rattle.regress.specs.Coming.{search_of, place_of, coming}
+use Rattle.regress.specs.Behind.{LieBehind}
 
 -- items that rise do so told in offsets, where each lies in the text
 told-rise : (r : Reading) → OffsetsRise r → (P : Item → Type 0) → ((i : Item) → P i → IsItemInside r.points i) → (items : List Item) → All P items
@@ -47,11 +48,6 @@ items-rise s (Some place) =
 pub coming-rise_or_refused : (made : Result Matches Error) → IfOk made (λ ms. ItemsRise (coming ms))
 coming-rise_or_refused (Ok ms) = items-rise (search_of ms) (place_of ms)
 coming-rise_or_refused (Err e) = tt
-
--- The items lie one behind the other, from an offset on.
-abbrev pub LieBehind : ℕ → List Item → Type 0
-LieBehind at [] = Unit {0}
-LieBehind at (i ∷ items) = (at ≤ i.start) × (i.start ≤ i.end) × LieBehind i.end items
 
 -- items that rise lie so from the front on
 pub behind-front : (items : List Item) → ItemsRise items → LieBehind 0 items

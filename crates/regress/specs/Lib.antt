@@ -1,3 +1,6 @@
 pub mod Standing
 pub mod Coming
 pub mod Answering
+pub mod Behind
+pub mod Splitting
+pub mod Refusing

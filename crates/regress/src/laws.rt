@@ -1,11 +1,12 @@
-//! Laws of replacing. Nothing here runs: each function is a law, stated by its contract.
-ghost use Rattle.std.specs.Prelude.{◌≡◌, ◌≢◌, ℕ, List, All, take, map, chars, codes};
+//! Laws of replacing and of splitting. Nothing here runs: each function is a law, stated by its contract.
+ghost use Rattle.std.specs.Prelude.{◌≡◌, ◌≢◌, ℕ, List, All, take, map, chars, codes, slice_range};
 ghost use Rattle.regress_meaning.specs.Table.{Table};
 ghost use Rattle.regress_meaning.specs.Pattern.{Pattern};
 ghost use Rattle.regress_meaning.specs.Flags.{Options, no_flags};
-ghost use Rattle.regress_meaning.specs.Matches.{match_list};
+ghost use Rattle.regress_meaning.specs.Matches.{Item, match_list};
 ghost use Rattle.regress_meaning.specs.Literal.{literal_pattern, occurrences};
 ghost use Rattle.regress_meaning.specs.Offsets.{of_utf8, told};
+ghost use Rattle.regress_meaning.specs.Parts.{parts, joined};
 ghost use Rattle.regress_replacing.specs.Replacing.{expansion, replaced};
 
 /// The text with each match, or with the first, replaced by `$0` is the text.
@@ -29,4 +30,15 @@ pub fn escaped_texts_are_replaced_where_they_occur()
         replaced text items (map (expansion names replacement text) items) ≡ replaced text places (map (λ _. replacement) places) }
 {
     regress_meaning::literals_match_their_occurrences();
+}
+
+/// The parts of a text with new texts in the gaps between them are the text with these in the place of its items. With what the
+/// matches take of the text in these gaps they are the text.
+pub fn parts_stand_between_the_matches()
+    ensures replaced { (text : List ℕ) → (items : List Item) → (new : Item → List ℕ) → joined (parts text items) (map new items) ≡ replaced text items (map new items) }
+    ensures back { (t : Table) → (o : Options) → (p : Pattern) → (text : List ℕ) →
+        let items = map (told (of_utf8 text)) (match_list t o p (chars text) 0) in
+        joined (parts text items) (map (λ i. slice_range text i.start i.end) items) ≡ text }
+{
+    regress_meaning::matches_rise();
 }

@@ -7,15 +7,22 @@ mod api;
 mod asking;
 mod laws;
 mod matches;
+mod refusing;
 mod replacing;
+mod splitting;
 mod text;
 
 pub use api::{Regex, is_start};
-pub use laws::{escaped_texts_are_replaced_where_they_occur, whole_matches_give_the_text_back};
+pub use laws::{
+    escaped_texts_are_replaced_where_they_occur, parts_stand_between_the_matches,
+    whole_matches_give_the_text_back,
+};
 pub use matches::Matches;
+pub use refusing::{SyntaxError, syntax_error};
 pub use regress_front::{
     CodePoint, Error, Flags, Interval, TableError, TableLaw, TableParts, Tables, are_code_points,
     flags_are_read_back,
 };
 pub use regress_match::{Groups, Match, NamedGroups, Range};
 pub use regress_replacing::escape;
+pub use splitting::{Split, SplitN};

@@ -41,7 +41,9 @@ pub use regress_front_sets::{
     bracket_index, digits, equal_members_equal_intervals, inverted_twice_is_the_same,
     is_ascii_word, line_terminator, whitespace, word_chars,
 };
-pub use regress_front_syntax::{Class, Modifiers, Parsed, Syntax, parse};
+pub use regress_front_syntax::{
+    Class, Modifiers, Parsed, Refused, Syntax, parse, parse_telling_place,
+};
 pub use regress_front_tables::{
     TableError, TableLaw, TableParts, Tables, add_icase_code_points, closure, expand_code_point,
     fold, fold_is_idempotent, lawful_parts_break_no_law, unfold_char,

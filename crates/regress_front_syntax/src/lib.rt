@@ -4,6 +4,7 @@
 mod apart;
 mod group;
 mod parser;
+mod whole;
 
-pub use parser::{Parsed, parse};
 pub use regress_front_tokens::{Class, Modifiers, Quantifier, Syntax};
+pub use whole::{Parsed, Refused, parse, parse_telling_place};

@@ -1,16 +1,10 @@
 //! The parser: a function for each construct of a pattern, which is read from the left with no way back.
-ghost use Rattle.std.specs.Prelude.{◌≡◌, ◌==◌, ◌+◌, ◌<◌, ◌≤◌, ℕ, suc, length, true, false, is_some, OnOk, IfOk, IfErr, if◌then◌else◌};
+ghost use Rattle.std.specs.Prelude.{◌≡◌, ◌==◌, ◌+◌, ◌<◌, ◌≤◌, ℕ, suc, length, true, false, is_some, OnOk, IfErr, if◌then◌else◌};
 ghost use Rattle.regress_meaning.specs.Text.{◌∈◌, is_at};
 ghost use Rattle.regress_meaning.specs.Tokens.{bounds_at};
-ghost use Rattle.regress_front_tokens.specs.Escapes.{escape_view, mode_view, texts, HasFewGroups};
+ghost use Rattle.regress_front_tokens.specs.Escapes.{escape_view, mode_view, HasFewGroups};
 ghost use Rattle.regress_front_tokens.specs.Trees.{tree};
-ghost use Rattle.regress_meaning.specs.Pattern.{names_of};
-ghost use Rattle.regress_meaning.specs.Grammar.{Spells, ends_alternative, mode_of, tree_of};
-ghost use Rattle.regress_meaning.specs.Limits.{WithinLimits};
-ghost use Rattle.regress_meaning.specs.Scan.{scanned_names};
-ghost use Rattle.regress_front_core.specs.FlagWords.{options};
-ghost use Rattle.regress_front_tables.specs.TableViews.{table};
-ghost use Rattle.regress_front_core.specs.Refusals.{MayRefuse};
+ghost use Rattle.regress_meaning.specs.Grammar.{ends_alternative, tree_of};
 ghost use Rattle.regress_meaning.specs.Reading.{disjunction_at, alternative_at, term_at};
 ghost use Rattle.regress_meaning.specs.Reading.{escape_opening, class_opening, parenthesis_opening};
 ghost use Rattle.regress_front_tokens.specs.Cursors.{unread};
@@ -20,10 +14,9 @@ use crate::apart::names_are_apart;
 use crate::group::{Opening, read_opening};
 use regress_front_classes::bracketed_class;
 use regress_front_tables::{
-    CaptureGroupName, CodePoint, Error, Flags, MAX_CAPTURE_GROUPS, MAX_LOOPS, MAX_NESTING_DEPTH,
-    Quantifier, Tables,
+    CodePoint, Error, MAX_CAPTURE_GROUPS, MAX_LOOPS, MAX_NESTING_DEPTH, Quantifier,
 };
-use regress_front_tokens::{Cursor, Escape, Mode, Syntax, mode_of};
+use regress_front_tokens::{Cursor, Escape, Mode, Syntax};
 use std::alloc::Global;
 
 /// Why a quantifier is refused.
@@ -81,58 +74,6 @@ fn misplacement(cursor: &Cursor) -> &'static str
     }
 }
 
-/// The mode of a pattern's text with flags, with few enough groups. `TooManyGroups` where there are too many, and `OutOfMemory`
-/// at any time.
-fn limited_mode<'t>(
-    alloc: Global,
-    points: &[CodePoint],
-    flags: Flags,
-    tables: &'t Tables,
-) -> Result<Mode<'t>, Error>
-    ensures mode { IfOk result (λ mode. mode_view mode
-        ≡ mode_of (table tables.now) (options flags) points.now (scanned_names (table tables.now) (options flags) points.now)) }
-    ensures few { IfOk result HasFewGroups }
-    ensures refused { IfErr result (λ e. MayRefuse (table tables.now) (options flags) points.now e) }
-{
-    regress_meaning::names_are_found_by_a_scan();
-    let mode = mode_of(alloc, points, flags, tables)?;
-    if mode.names.len() > MAX_CAPTURE_GROUPS {
-        return Err(Error::TooManyGroups);
-    }
-    Ok(mode)
-}
-
-/// A pattern that was read.
-#[derive(Debug, Drop)]
-pub struct Parsed {
-    /// Its tree.
-    pub syntax: Syntax,
-    /// The name of each capturing group by its number, empty where it has none.
-    pub group_names: Vec<CaptureGroupName>,
-}
-
-/// Reads a pattern with flags ("ParsePattern"): its tree, and the names of its groups. `Syntax` where the text is no pattern; `TooDeep`, `TooManyGroups` and
-/// `TooManyLoops` where it passes that limit; `OutOfMemory` at any time.
-pub fn parse(
-    alloc: Global,
-    points: &[CodePoint],
-    flags: Flags,
-    tables: &Tables,
-) -> Result<Parsed, Error>
-    ensures accepted { IfOk result (λ s. Spells (table tables.now) (options flags) points.now (tree s.syntax) × WithinLimits (tree s.syntax)) }
-    ensures named { IfOk result (λ s. texts s.group_names ≡ names_of (tree s.syntax)) }
-    ensures refused { IfErr result (λ e. MayRefuse (table tables.now) (options flags) points.now e) }
-{
-    regress_meaning::reading_decides_the_grammar();
-    regress_meaning::names_are_found_by_a_scan();
-    let mode = limited_mode(alloc, points, flags, tables)?;
-    let syntax = Parser::new(alloc, points).pattern(&mode)?;
-    Ok(Parsed {
-        syntax,
-        group_names: mode.names,
-    })
-}
-
 /// How far a pattern is read, and how many groups were opened and quantifiers read so far.
 #[derive(Drop)]
 pub(crate) struct Parser<'p> {
@@ -152,7 +93,7 @@ impl<'p> Parser<'p> {
     ghost use Rattle.regress_front_syntax.specs.Parsing.{character_opening, contents_at, whole_at};
 
     /// A parser at the beginning of a text.
-    fn new(alloc: Global, points: &'p [CodePoint]) -> Self
+    pub(crate) fn new(alloc: Global, points: &'p [CodePoint]) -> Self
         ensures text { unread result.cursor ≡ points.now }
         ensures beginning { (result.groups ≡ 0) × (result.loops ≡ 0) }
     {
@@ -165,11 +106,11 @@ impl<'p> Parser<'p> {
     }
 
     /// The whole pattern: a disjunction up to the end of the text, whose names stand apart ("Pattern").
-    fn pattern(mut self, mode: &Mode) -> Result<Syntax, Error>
-        requires beginning { (self.groups ≡ 0) × (self.loops ≡ 0) }
+    pub(crate) fn pattern(&mut self, mode: &Mode) -> Result<Syntax, Error>
+        requires beginning { (self.old.groups ≡ 0) × (self.old.loops ≡ 0) }
         requires coherent { IsCoherent (mode_view mode.now) }
         requires few { HasFewGroups mode.now }
-        ensures { IsWholeAnswer (whole_at (mode_view mode.now) (unread self.entry.cursor)) (unread self.entry.cursor) result }
+        ensures { IsWholeAnswer (whole_at (mode_view mode.now) (unread self.old.cursor)) (unread self.old.cursor) result }
     {
         regress_meaning::reading_goes_by_steps();
         let syntax = self.disjunction(mode, 0)?;
@@ -184,6 +125,13 @@ impl<'p> Parser<'p> {
             });
         }
         Ok(syntax)
+    }
+
+    /// How many code points are still to be read.
+    pub(crate) fn remaining(&self) -> usize
+        ensures { result ≡ length (unread self.now.cursor) }
+    {
+        self.cursor.remaining()
     }
 
     /// Alternatives between `|`, inside so many parentheses ("Disjunction").

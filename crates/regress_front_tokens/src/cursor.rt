@@ -46,6 +46,13 @@ impl<'p> Cursor<'p> {
         }
     }
 
+    /// How many code points are still to be read.
+    pub fn remaining(&self) -> usize
+        ensures { result ≡ length (unread self.now) }
+    {
+        self.points.len() - self.position
+    }
+
     /// The next code point, if there is one.
     pub fn peek(&self) -> Option<CodePoint>
         ensures { result ≡ slice_get (unread self.now) 0 }

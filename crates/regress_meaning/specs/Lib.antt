@@ -10,6 +10,7 @@ pub mod Limits
 pub mod Meaning
 pub mod Matches
 pub mod Literal
+pub mod Parts
 pub mod Offsets
 pub mod Output
 pub mod Numbering

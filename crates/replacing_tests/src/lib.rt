@@ -1,4 +1,4 @@
-//! Tests of replacing and escaping, by the public calls of `regress` alone. The library itself is empty.
+//! Tests of replacing, splitting and escaping, by the public calls of `regress` alone. The library itself is empty.
 #![tactic(auto)]
 
 #[cfg(test)]
@@ -8,6 +8,10 @@ mod escaping;
 #[cfg(test)]
 mod named;
 #[cfg(test)]
+mod refused;
+#[cfg(test)]
 mod replacing;
+#[cfg(test)]
+mod splitting;
 #[cfg(test)]
 mod told;

@@ -12,17 +12,17 @@ use Rattle.regress_front_syntax.proofs.parser.Parser.pattern.Goals as goal
 pub returns-in_err-syntax : goal.returns-in_err-syntax
 returns-in_err-syntax c =
     let m = mode_view c.args.mode.now in
-    let t = unread c.args.self.cursor in
+    let t = unread c.args.self.now.cursor in
     let e = c.in_err-syntax.field-0.0 in
     let p = err_from_is_err_and c.from_residual.result c.from_residual.ensures.1 in
-    let start : place 0 c.args.self ≡ at 0 0 0 t = λ i. record { nesting = 0; opened = c.requires.beginning.0 i; repeated = c.requires.beginning.1 i; text = t } in
+    let start : place 0 c.args.self.now ≡ at 0 0 0 t = λ i. record { nesting = 0; opened = c.requires.beginning.0 i; repeated = c.requires.beginning.1 i; text = t } in
     rw (p.1, p.2) (whole-refused m t (c.reading_goes_by_steps.ensures m c.requires.coherent t 0) e
     (subst (λ (h : Place). IsRefusal h (disjunction_at m h.text h.opened) e) start c.in_err-syntax.ensures.answer))
 
 pub returns-then-is_some : goal.returns-then-is_some
 returns-then-is_some c =
     let m = mode_view c.args.mode.now in
-    let t = unread c.args.self.cursor in
+    let t = unread c.args.self.now.cursor in
     let end = place 0 c.disjunction.new.self in
     let p = tree c.in_ok-syntax.syntax in
     let read : disjunction_at m t 0 ≡ Some (front_to end p) = ap (disjunction_at m t) (sym c.requires.beginning.0) ∙ c.in_ok-syntax.ensures.answer.0 in
@@ -31,7 +31,7 @@ returns-then-is_some c =
 pub returns-then-not-branch : goal.returns-then-not-branch
 returns-then-not-branch c =
     let m = mode_view c.args.mode.now in
-    let t = unread c.args.self.cursor in
+    let t = unread c.args.self.now.cursor in
     let end = place 0 c.disjunction.new.self in
     let p = tree c.in_ok-syntax.syntax in
     let read : disjunction_at m t 0 ≡ Some (front_to end p) = ap (disjunction_at m t) (sym c.requires.beginning.0) ∙ c.in_ok-syntax.ensures.answer.0 in
@@ -40,10 +40,10 @@ returns-then-not-branch c =
 pub returns : goal.returns
 returns c =
     let m = mode_view c.args.mode.now in
-    let t = unread c.args.self.cursor in
+    let t = unread c.args.self.now.cursor in
     let end = place 0 c.disjunction.new.self in
     let p = tree c.in_ok-syntax.syntax in
-    let start : place 0 c.args.self ≡ at 0 0 0 t = λ i. record { nesting = 0; opened = c.requires.beginning.0 i; repeated = c.requires.beginning.1 i; text = t } in
+    let start : place 0 c.args.self.now ≡ at 0 0 0 t = λ i. record { nesting = 0; opened = c.requires.beginning.0 i; repeated = c.requires.beginning.1 i; text = t } in
     let (read, grows) = subst (λ (h : Place). (disjunction_at m h.text h.opened ≡ Some (front_to end p)) × Grows h end p) start c.in_ok-syntax.ensures.answer in
     let none = empty-text (unread c.disjunction.new.self.cursor) (ap is_some (sym c.peek.ensures) ∙ sym c.is_some.ensures ∙ c.if-is_some.false) in (
       apart-whole m t p c.disjunction.new.self.groups (unread c.disjunction.new.self.cursor) read none (sym c.in_ok-names_are_apart.ensures ∙ c.if-not-branch.false),

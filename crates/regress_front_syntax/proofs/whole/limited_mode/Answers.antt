@@ -6,7 +6,7 @@ use Rattle.regress_front_tables.specs.TableViews.{table}
 use Rattle.regress_front_tokens.specs.Escapes.{texts}
 use Rattle.regress_front_tokens.specs.Words.{code_points_of}
 use Rattle.regress_front_syntax.proofs.PatternLemmas.{groups-passed}
-use Rattle.regress_front_syntax.proofs.parser.limited_mode.Goals as goal
+use Rattle.regress_front_syntax.proofs.whole.limited_mode.Goals as goal
 
 pub returns-then-len-gt-MAX_CAPTURE_GROUPS-clause-refused : goal.returns-then-len-gt-MAX_CAPTURE_GROUPS-clause-refused
 returns-then-len-gt-MAX_CAPTURE_GROUPS-clause-refused c =
