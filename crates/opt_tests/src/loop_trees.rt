@@ -39,15 +39,11 @@ pub(crate) const SINGLE_LOOPS: &[Row] = &[
         "",
         "Cat\n  ByteSequence([97])\n  Loop1CharBody Quantifier { min: 0, max: Some(18446744073709551614), greedy: false }\n    ByteSequence([97])\n  ByteSequence([98])\n  Goal\n",
     ),
-    (
-        "a{2}",
-        "",
-        "Cat\n  ByteSequence([97, 97])\n  Loop1CharBody Quantifier { min: 0, max: Some(0), greedy: true }\n    ByteSequence([97])\n  Goal\n",
-    ),
+    ("a{2}", "", "Cat\n  ByteSequence([97, 97])\n  Goal\n"),
     (
         "xa{3}",
         "",
-        "Cat\n  ByteSequence([120, 97, 97, 97])\n  Loop1CharBody Quantifier { min: 0, max: Some(0), greedy: true }\n    ByteSequence([97])\n  Goal\n",
+        "Cat\n  ByteSequence([120, 97, 97, 97])\n  Goal\n",
     ),
     (
         "a{2,4}",
@@ -69,26 +65,14 @@ pub(crate) const SINGLE_LOOPS: &[Row] = &[
         "",
         "Cat\n  Loop1CharBody Quantifier { min: 6, max: None, greedy: false }\n    ByteSequence([97])\n  Goal\n",
     ),
-    (
-        "a{1}",
-        "",
-        "Cat\n  ByteSequence([97])\n  Loop1CharBody Quantifier { min: 0, max: Some(0), greedy: true }\n    ByteSequence([97])\n  Goal\n",
-    ),
-    (
-        "a{0}",
-        "",
-        "Cat\n  Loop1CharBody Quantifier { min: 0, max: Some(0), greedy: true }\n    ByteSequence([97])\n  Goal\n",
-    ),
+    ("a{1}", "", "Cat\n  ByteSequence([97])\n  Goal\n"),
+    ("a{0}", "", "Goal\n"),
     (
         "a{1,}",
         "",
         "Cat\n  ByteSequence([97])\n  Loop1CharBody Quantifier { min: 0, max: Some(18446744073709551614), greedy: true }\n    ByteSequence([97])\n  Goal\n",
     ),
-    (
-        "a{3}?",
-        "",
-        "Cat\n  ByteSequence([97, 97, 97])\n  Loop1CharBody Quantifier { min: 0, max: Some(0), greedy: false }\n    ByteSequence([97])\n  Goal\n",
-    ),
+    ("a{3}?", "", "Cat\n  ByteSequence([97, 97, 97])\n  Goal\n"),
     (
         "a{6,9}",
         "",
@@ -97,7 +81,7 @@ pub(crate) const SINGLE_LOOPS: &[Row] = &[
     (
         ".{2}",
         "",
-        "Cat\n  MatchAnyExceptLineTerminator\n  MatchAnyExceptLineTerminator\n  Loop1CharBody Quantifier { min: 0, max: Some(0), greedy: true }\n    MatchAnyExceptLineTerminator\n  Goal\n",
+        "Cat\n  MatchAnyExceptLineTerminator\n  MatchAnyExceptLineTerminator\n  Goal\n",
     ),
     (
         r"\uD83D*",
@@ -107,7 +91,7 @@ pub(crate) const SINGLE_LOOPS: &[Row] = &[
     (
         "é{2}",
         "",
-        "Cat\n  ByteSequence([195, 169, 195, 169])\n  Loop1CharBody Quantifier { min: 0, max: Some(0), greedy: true }\n    ByteSequence([195, 169])\n  Goal\n",
+        "Cat\n  ByteSequence([195, 169, 195, 169])\n  Goal\n",
     ),
     (
         "(?:é)*",
@@ -126,7 +110,7 @@ pub(crate) const LOOPS: &[Row] = &[
     (
         "(?:ab){2}c",
         "",
-        "Cat\n  ByteSequence([97, 98, 97, 98])\n  Loop Quantifier { min: 0, max: Some(0), greedy: true }\n    ByteSequence([97, 98])\n  ByteSequence([99])\n  Goal\n",
+        "Cat\n  ByteSequence([97, 98, 97, 98, 99])\n  Goal\n",
     ),
     (
         "(?:ab){1,3}?c",
@@ -146,7 +130,7 @@ pub(crate) const LOOPS: &[Row] = &[
     (
         "(?:a(?:b*)){2}",
         "",
-        "Cat\n  ByteSequence([97])\n  Loop1CharBody Quantifier { min: 0, max: None, greedy: true }\n    ByteSequence([98])\n  ByteSequence([97])\n  Loop1CharBody Quantifier { min: 0, max: None, greedy: true }\n    ByteSequence([98])\n  Loop Quantifier { min: 0, max: Some(0), greedy: true }\n    Cat\n      ByteSequence([97])\n      Loop1CharBody Quantifier { min: 0, max: None, greedy: true }\n        ByteSequence([98])\n  Goal\n",
+        "Cat\n  ByteSequence([97])\n  Loop1CharBody Quantifier { min: 0, max: None, greedy: true }\n    ByteSequence([98])\n  ByteSequence([97])\n  Loop1CharBody Quantifier { min: 0, max: None, greedy: true }\n    ByteSequence([98])\n  Goal\n",
     ),
     (
         "(?:(?:ab)*c){2}",
@@ -156,12 +140,12 @@ pub(crate) const LOOPS: &[Row] = &[
     (
         "(?:a{2}){2}",
         "",
-        "Cat\n  ByteSequence([97, 97])\n  Loop1CharBody Quantifier { min: 0, max: Some(0), greedy: true }\n    ByteSequence([97])\n  ByteSequence([97, 97])\n  Loop1CharBody Quantifier { min: 0, max: Some(0), greedy: true }\n    ByteSequence([97])\n  Loop Quantifier { min: 0, max: Some(0), greedy: true }\n    Cat\n      ByteSequence([97, 97])\n      Loop1CharBody Quantifier { min: 0, max: Some(0), greedy: true }\n        ByteSequence([97])\n  Goal\n",
+        "Cat\n  ByteSequence([97, 97, 97, 97])\n  Goal\n",
     ),
     (
         "(?:a|b){2}",
         "",
-        "Cat\n  Alt\n    ByteSequence([97])\n    ByteSequence([98])\n  Alt\n    ByteSequence([97])\n    ByteSequence([98])\n  Loop Quantifier { min: 0, max: Some(0), greedy: true }\n    Alt\n      ByteSequence([97])\n      ByteSequence([98])\n  Goal\n",
+        "Cat\n  Alt\n    ByteSequence([97])\n    ByteSequence([98])\n  Alt\n    ByteSequence([97])\n    ByteSequence([98])\n  Goal\n",
     ),
     (
         "(?:ab)??",
@@ -206,22 +190,22 @@ pub(crate) const LOOPS: &[Row] = &[
     (
         "(?:a+){2}",
         "",
-        "Cat\n  ByteSequence([97])\n  Loop1CharBody Quantifier { min: 0, max: Some(18446744073709551614), greedy: true }\n    ByteSequence([97])\n  ByteSequence([97])\n  Loop1CharBody Quantifier { min: 0, max: Some(18446744073709551614), greedy: true }\n    ByteSequence([97])\n  Loop Quantifier { min: 0, max: Some(0), greedy: true }\n    Cat\n      ByteSequence([97])\n      Loop1CharBody Quantifier { min: 0, max: Some(18446744073709551614), greedy: true }\n        ByteSequence([97])\n  Goal\n",
+        "Cat\n  ByteSequence([97])\n  Loop1CharBody Quantifier { min: 0, max: Some(18446744073709551614), greedy: true }\n    ByteSequence([97])\n  ByteSequence([97])\n  Loop1CharBody Quantifier { min: 0, max: Some(18446744073709551614), greedy: true }\n    ByteSequence([97])\n  Goal\n",
     ),
     (
         "(?:a?){2}",
         "",
-        "Cat\n  Loop1CharBody Quantifier { min: 0, max: Some(1), greedy: true }\n    ByteSequence([97])\n  Loop1CharBody Quantifier { min: 0, max: Some(1), greedy: true }\n    ByteSequence([97])\n  Loop Quantifier { min: 0, max: Some(0), greedy: true }\n    Loop1CharBody Quantifier { min: 0, max: Some(1), greedy: true }\n      ByteSequence([97])\n  Goal\n",
+        "Cat\n  Loop1CharBody Quantifier { min: 0, max: Some(1), greedy: true }\n    ByteSequence([97])\n  Loop1CharBody Quantifier { min: 0, max: Some(1), greedy: true }\n    ByteSequence([97])\n  Goal\n",
     ),
     (
         "(?:(?=a)b){2}",
         "",
-        "Cat\n  LookaroundAssertion { negate: false, backwards: false }\n    ByteSequence([97])\n  ByteSequence([98])\n  LookaroundAssertion { negate: false, backwards: false }\n    ByteSequence([97])\n  ByteSequence([98])\n  Loop Quantifier { min: 0, max: Some(0), greedy: true }\n    Cat\n      LookaroundAssertion { negate: false, backwards: false }\n        ByteSequence([97])\n      ByteSequence([98])\n  Goal\n",
+        "Cat\n  LookaroundAssertion { negate: false, backwards: false }\n    ByteSequence([97])\n  ByteSequence([98])\n  LookaroundAssertion { negate: false, backwards: false }\n    ByteSequence([97])\n  ByteSequence([98])\n  Goal\n",
     ),
     (
         "(?:a{2}b){2}",
         "",
-        "Cat\n  ByteSequence([97, 97])\n  Loop1CharBody Quantifier { min: 0, max: Some(0), greedy: true }\n    ByteSequence([97])\n  ByteSequence([98, 97, 97])\n  Loop1CharBody Quantifier { min: 0, max: Some(0), greedy: true }\n    ByteSequence([97])\n  ByteSequence([98])\n  Loop Quantifier { min: 0, max: Some(0), greedy: true }\n    Cat\n      ByteSequence([97, 97])\n      Loop1CharBody Quantifier { min: 0, max: Some(0), greedy: true }\n        ByteSequence([97])\n      ByteSequence([98])\n  Goal\n",
+        "Cat\n  ByteSequence([97, 97, 98, 97, 97, 98])\n  Goal\n",
     ),
     (
         "(?:(?:a|b)c){1,2}",
@@ -231,7 +215,7 @@ pub(crate) const LOOPS: &[Row] = &[
     (
         "(?:ab|){2}",
         "",
-        "Cat\n  Alt\n    ByteSequence([97, 98])\n    Empty\n  Alt\n    ByteSequence([97, 98])\n    Empty\n  Loop Quantifier { min: 0, max: Some(0), greedy: true }\n    Alt\n      ByteSequence([97, 98])\n      Empty\n  Goal\n",
+        "Cat\n  Alt\n    ByteSequence([97, 98])\n    Empty\n  Alt\n    ByteSequence([97, 98])\n    Empty\n  Goal\n",
     ),
     (
         "(?:^a?){6}",
@@ -305,5 +289,9 @@ pub(crate) const IDLE_LOOPS: &[Row] = &[
         "Cat\n  LookaroundAssertion { negate: false, backwards: true }\n    ByteSequence([97])\n  Goal\n",
     ),
     ("(?:(?:)){2,3}a", "", "Cat\n  ByteSequence([97])\n  Goal\n"),
-    ("(?:$(?:^)*){2}", "", "Cat\n  Anchor { anchor_type: EndOfLine, multiline: false }\n  Goal\n"),
+    (
+        "(?:$(?:^)*){2}",
+        "",
+        "Cat\n  Anchor { anchor_type: EndOfLine, multiline: false }\n  Goal\n",
+    ),
 ];
