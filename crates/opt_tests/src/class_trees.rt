@@ -25,8 +25,16 @@ pub(crate) const CLASSES: &[Row] = &[
     ),
     ("[é]", "", "Cat\n  CharSet([233])\n  Goal\n"),
     ("[aé]", "", "Cat\n  CharSet([97, 233])\n  Goal\n"),
-    ("[aé漢😀]", "u", "Cat\n  CharSet([97, 233, 28450, 128512])\n  Goal\n"),
-    ("[é-ì]", "", "Cat\n  CharSet([233, 234, 235, 236])\n  Goal\n"),
+    (
+        "[aé漢😀]",
+        "u",
+        "Cat\n  CharSet([97, 233, 28450, 128512])\n  Goal\n",
+    ),
+    (
+        "[é-ì]",
+        "",
+        "Cat\n  CharSet([233, 234, 235, 236])\n  Goal\n",
+    ),
     (
         "[é-í]",
         "",
@@ -42,7 +50,11 @@ pub(crate) const CLASSES: &[Row] = &[
         "i",
         "Cat\n  Bracket(BracketContents { invert: false, cps: CodePointSet { intervals: [Interval { first: 65, last: 67 }, Interval { first: 97, last: 99 }] } })\n  Goal\n",
     ),
-    ("[a][b]", "", "Cat\n  ByteSet([97])\n  ByteSet([98])\n  Goal\n"),
+    (
+        "[a][b]",
+        "",
+        "Cat\n  ByteSet([97])\n  ByteSet([98])\n  Goal\n",
+    ),
     (
         "[ab]{2}",
         "",
@@ -103,8 +115,16 @@ pub(crate) const FAILURES: &[Row] = &[
         "",
         "Cat\n  Loop Quantifier { min: 0, max: None, greedy: true }\n    CharSet([])\n  Goal\n",
     ),
-    ("(a)[]", "", "Cat\n  CaptureGroup 0\n    ByteSequence([97])\n  CharSet([])\n  Goal\n"),
-    ("[](a)", "", "Cat\n  CharSet([])\n  CaptureGroup 0\n    ByteSequence([97])\n  Goal\n"),
+    (
+        "(a)[]",
+        "",
+        "Cat\n  CaptureGroup 0\n    ByteSequence([97])\n  CharSet([])\n  Goal\n",
+    ),
+    (
+        "[](a)",
+        "",
+        "Cat\n  CharSet([])\n  CaptureGroup 0\n    ByteSequence([97])\n  Goal\n",
+    ),
     (
         "(?:(a)[]|b)",
         "",
@@ -130,7 +150,11 @@ pub(crate) const FAILURES: &[Row] = &[
         "",
         "Cat\n  LookaroundAssertion { negate: false, backwards: false }\n    CharSet([])\n  Goal\n",
     ),
-    ("(?:a|[])", "", "Cat\n  Alt\n    ByteSequence([97])\n    CharSet([])\n  Goal\n"),
+    (
+        "(?:a|[])",
+        "",
+        "Cat\n  Alt\n    ByteSequence([97])\n    CharSet([])\n  Goal\n",
+    ),
     ("x(?:a[]b)y", "", "Cat\n  CharSet([])\n  Goal\n"),
     (
         "(?:[])?b",

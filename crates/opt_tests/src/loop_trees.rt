@@ -305,5 +305,9 @@ pub(crate) const IDLE_LOOPS: &[Row] = &[
         "Cat\n  LookaroundAssertion { negate: false, backwards: true }\n    ByteSequence([97])\n  Goal\n",
     ),
     ("(?:(?:)){2,3}a", "", "Cat\n  ByteSequence([97])\n  Goal\n"),
-    ("(?:$(?:^)*){2}", "", "Cat\n  Anchor { anchor_type: EndOfLine, multiline: false }\n  Goal\n"),
+    (
+        "(?:$(?:^)*){2}",
+        "",
+        "Cat\n  Anchor { anchor_type: EndOfLine, multiline: false }\n  Goal\n",
+    ),
 ];

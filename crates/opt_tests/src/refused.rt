@@ -8,6 +8,7 @@ use std::test::Fail;
 
 /// A pattern with something to do for each pass, and a text.
 const PATTERN: &str = "(?:ab|){2}[^][xy](?:|)(?:z[]|x+?y)(?:$)*(?<=(?:x){2}y)(?:c(?:d|)e)*";
+
 const TEXT: &str = "ababéxxxyceab";
 
 /// All matches of the pattern, before its tree is rewritten and after, also where memory was refused to rewriting, and once it

@@ -42,22 +42,42 @@ pub(crate) const SEQUENCES: &[Row] = &[
         "",
         "Cat\n  CaptureGroup 0\n    ByteSequence([97])\n  CaptureGroup 1\n    ByteSequence([98])\n  ByteSequence([99, 100])\n  Goal\n",
     ),
-    ("a(?:b(?:c(?:d)e)f)g", "", "Cat\n  ByteSequence([97, 98, 99, 100, 101, 102, 103])\n  Goal\n"),
+    (
+        "a(?:b(?:c(?:d)e)f)g",
+        "",
+        "Cat\n  ByteSequence([97, 98, 99, 100, 101, 102, 103])\n  Goal\n",
+    ),
     (
         "(?:a)(b)(?:c)",
         "",
         "Cat\n  ByteSequence([97])\n  CaptureGroup 0\n    ByteSequence([98])\n  ByteSequence([99])\n  Goal\n",
     ),
-    ("((a))", "", "Cat\n  CaptureGroup 0\n    CaptureGroup 1\n      ByteSequence([97])\n  Goal\n"),
+    (
+        "((a))",
+        "",
+        "Cat\n  CaptureGroup 0\n    CaptureGroup 1\n      ByteSequence([97])\n  Goal\n",
+    ),
     (
         "(?<n>a)b",
         "",
         "Cat\n  CaptureGroup 0\n    ByteSequence([97])\n  ByteSequence([98])\n  Goal\n",
     ),
     ("(?:)(?:)(?:)", "", "Goal\n"),
-    ("é漢😀", "", "Cat\n  ByteSequence([195, 169, 230, 188, 162, 240, 159, 152, 128])\n  Goal\n"),
-    (r"\uD83D\uDE00", "u", "Cat\n  ByteSequence([240, 159, 152, 128])\n  Goal\n"),
-    (r"\uD83D\uDE00", "", "Cat\n  Char { c: 55357 }\n  Char { c: 56832 }\n  Goal\n"),
+    (
+        "é漢😀",
+        "",
+        "Cat\n  ByteSequence([195, 169, 230, 188, 162, 240, 159, 152, 128])\n  Goal\n",
+    ),
+    (
+        r"\uD83D\uDE00",
+        "u",
+        "Cat\n  ByteSequence([240, 159, 152, 128])\n  Goal\n",
+    ),
+    (
+        r"\uD83D\uDE00",
+        "",
+        "Cat\n  Char { c: 55357 }\n  Char { c: 56832 }\n  Goal\n",
+    ),
     (
         "^a",
         "m",
@@ -120,7 +140,11 @@ pub(crate) const CHOICES: &[Row] = &[
         "",
         "Cat\n  Alt\n    Alt\n      Alt\n        ByteSequence([97])\n        ByteSequence([98])\n      Alt\n        ByteSequence([99])\n        ByteSequence([100])\n    ByteSequence([101])\n  Goal\n",
     ),
-    ("ab|", "", "Cat\n  Alt\n    ByteSequence([97, 98])\n    Empty\n  Goal\n"),
+    (
+        "ab|",
+        "",
+        "Cat\n  Alt\n    ByteSequence([97, 98])\n    Empty\n  Goal\n",
+    ),
     (
         "(?:a|b)c",
         "",
@@ -132,10 +156,22 @@ pub(crate) const CHOICES: &[Row] = &[
         "Cat\n  Alt\n    Alt\n      ByteSequence([97])\n      ByteSequence([98])\n    ByteSequence([99])\n  Goal\n",
     ),
     ("(|)", "", "Cat\n  CaptureGroup 0\n    Empty\n  Goal\n"),
-    ("(a|)", "", "Cat\n  CaptureGroup 0\n    Alt\n      ByteSequence([97])\n      Empty\n  Goal\n"),
+    (
+        "(a|)",
+        "",
+        "Cat\n  CaptureGroup 0\n    Alt\n      ByteSequence([97])\n      Empty\n  Goal\n",
+    ),
     ("||", "", "Goal\n"),
-    ("a||", "", "Cat\n  Alt\n    Alt\n      ByteSequence([97])\n      Empty\n    Empty\n  Goal\n"),
-    ("||a", "", "Cat\n  Alt\n    Empty\n    ByteSequence([97])\n  Goal\n"),
+    (
+        "a||",
+        "",
+        "Cat\n  Alt\n    Alt\n      ByteSequence([97])\n      Empty\n    Empty\n  Goal\n",
+    ),
+    (
+        "||a",
+        "",
+        "Cat\n  Alt\n    Empty\n    ByteSequence([97])\n  Goal\n",
+    ),
 ];
 
 /// Lookarounds: in a lookbehind parts stand from right to left.
