@@ -32,11 +32,11 @@ fn parts_and_bytes(alloc: Global, piece: &str, count: usize) -> Result<(usize, u
 
 /// Pieces, how often each is written, and how many parts and bytes the rewritten tree has.
 const LONG: &[(&str, usize, usize, usize)] = &[
-    ("a", 100_000, 2, 100_000),
-    ("(?:ab)", 100_000, 2, 200_000),
-    ("[ab]", 10_000, 10_001, 0),
-    ("[a-z]", 10_000, 10_001, 0),
-    ("a*", 10_000, 10_001, 0),
+    ("a", 20_000, 2, 20_000),
+    ("(?:ab)", 4_000, 2, 8_000),
+    ("[ab]", 2_000, 2_001, 0),
+    ("[a-z]", 2_000, 2_001, 0),
+    ("a*", 2_000, 2_001, 0),
 ];
 
 #[test]
