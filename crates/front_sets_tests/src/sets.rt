@@ -1,12 +1,13 @@
 //! Tests of `regress_front_sets`.
-ghost use Rattle.std.specs.Prelude.{◌≡◌, ◌≤◌, ◌<◌, ◌+◌, ◌^◌, length, IfOk, true};
+ghost use Rattle.std.specs.Prelude.{◌≡◌, ◌≤◌, ◌<◌, ◌+◌, ◌^◌, length, IfOk, IsTrue, true, false, ℕ};
 ghost use Rattle.std.specs.List.{position};
 ghost use Rattle.regress_meaning.specs.TableParts.{IntervalsRise, in_intervals};
 ghost use Rattle.regress_front_bytes.specs.Bitmaps.{byte_bitmap_contains};
 ghost use Rattle.regress_front_sets.specs.Intervals.{Ascend, ends_of, in_interval};
+ghost use Rattle.regress_front_sets.specs.Sets.{in_set};
 ghost use Rattle.regress_front_sets.specs.Counted.{counted_intervals, counted_probes};
 
-use regress_front_bytes::utf8_first_byte;
+use regress_front_bytes::{ByteSet, utf8_first_byte};
 use regress_front_sets::{
     ByteBitmap, CODE_POINT_MAX, CodePoint, CodePointSet, CountedIntervals, DIGITS, Error, Interval,
     LINE_TERMINATOR, Probes, WHITESPACE, WORD_CHARS, add_utf8_first_bytes_to_bitmap, bracket_index,
@@ -162,6 +163,40 @@ fn sorted_intervals_are_taken_as_they_are(rt: HostRuntime) -> Result<(), Fail> {
     let gaps = set.inverted_interval_count();
     prove!(held && shown == 1 && gaps == 2);
     has(&set, SORTED)
+}
+
+/// A set is not of ASCII alone where it has some other member.
+fn is_ascii_beside(set: &CodePointSet, member: CodePoint) -> bool
+    requires held { in_set set.now member ≡ true }
+    requires past { 0x80 ≤ member }
+    ensures { result ≡ false }
+{
+    set.is_ascii()
+}
+
+/// A set of no member past ASCII is of ASCII.
+fn is_ascii_within(set: &CodePointSet) -> bool
+    requires { (c : ℕ) → IsTrue (in_set set.now c) → c < 0x80 }
+    ensures { result ≡ true }
+{
+    set.is_ascii()
+}
+
+#[tactic(auto, unfolding(regress_meaning::specs::TableParts::in_intervals))]
+#[test]
+fn ascii_members_are_told_apart(rt: HostRuntime) -> Result<(), Fail> {
+    let mut set = CodePointSet::new(rt.alloc());
+    assert!(rt; set.is_ascii());
+    set.add(interval(0x40, 0x4FF))?;
+    let ascii = set.ascii_members();
+    let held = ascii.contains(0x40) && ascii.contains(0x7F);
+    let others = ascii.contains(0x3F) || ascii.contains(0x80);
+    prove!(held && !others);
+    assert!(rt; held && !others && !is_ascii_beside(&set, 0x80));
+    let mut low = CodePointSet::new(rt.alloc());
+    low.add_one(0x7F)?;
+    assert!(rt; is_ascii_within(&low));
+    Ok(())
 }
 
 #[test]
