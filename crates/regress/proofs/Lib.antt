@@ -3,3 +3,5 @@ pub mod RisingLemmas
 pub mod ReplacingLemmas
 pub mod LawLemmas
 pub mod AskingLemmas
+pub mod ProgramLemmas
+pub mod ShownLemmas

@@ -1,3 +1,6 @@
+pub mod Texts
+pub mod Programs
+pub mod Refusing
 pub mod Standing
 pub mod Coming
 pub mod Answering
