@@ -1,5 +1,5 @@
 -- The programs of a pattern that was read, and when they pass no count.
-use Rattle.std.proofs.Common.{◌≡◌, ◌≢◌, ℕ, ◌+◌, ◌*◌, ◌<◌, ◌≤◌, ◌⊎◌, Bool, false, List, length, map, chars, Result, Ok, Err, IfErr, inl, inr, refl, sym, ap, subst, ◌∙◌, arith}
+use Rattle.std.proofs.Common.{◌≡◌, ◌≢◌, ℕ, ◌+◌, ◌*◌, ◌<◌, ◌≤◌, ◌⊎◌, Bool, false, List, length, map, chars, inl, inr, refl, sym, ap, subst, ◌∙◌, arith}
 use Rattle.std.proofs.Math.Nat.{mul-le-mul}
 use Rattle.std.proofs.lemmas.List.{length-map}
 use Rattle.std.proofs.lemmas.Simd.{map-map}
@@ -94,10 +94,10 @@ short-passes-none t o text plain short passes = few passes.many
     groups = length (names_of passes.pattern)
 
     square : (length text + 4) * (length text + 4) ≤ 10004 * 10004
-    square = mul-le-mul (omega (arith, short)) (omega (arith, short))
+    square = let room : length text + 4 ≤ 10004 = omega (arith, short) in mul-le-mul room room
 
     looped : loops node * groups ≤ 10000 * 65535
-    looped = mul-le-mul (let few = passes.of_text.whole.few_loops in omega (arith, few, short)) passes.of_text.within.groups
+    looped = let few = passes.of_text.whole.few_loops in let room : loops node ≤ 10000 = omega (arith, few, short) in mul-le-mul room passes.of_text.within.groups
 
     few : AreTooMany (count passes.units t (is_unicode o) node) (loops node) → ⊥
     few (inl more) =
@@ -106,8 +106,6 @@ short-passes-none t o text plain short passes = few passes.many
         absurd (omega (arith, more, bounded, small, square, looped))
     few (inr more) = let few = passes.of_text.whole.few_loops in absurd (omega (arith, more, few, short))
 
--- so none is refused as too large
-pub short-fits : {A : Type 0} (t : Table) (o : Options) (text : List ℕ) (made : Result A Error) → IfErr made (MayRefuseRegex t o text)
-    → o.sets ≡ false → length text ≤ 10000 → IfErr made (λ e. e ≢ TooLarge)
-short-fits t o text (Ok r) refused plain short = tt
-short-fits t o text (Err e) refused plain short = λ large. short-passes-none t o text plain short (subst (MayRefuseRegex t o text) large refused)
+-- so it is not refused as too large
+pub refused-fits : (t : Table) (o : Options) (text : List ℕ) (e : Error) → MayRefuseRegex t o text e → o.sets ≡ false → length text ≤ 10000 → e ≢ TooLarge
+refused-fits t o text e refused plain short large = short-passes-none t o text plain short (subst (MayRefuseRegex t o text) large refused)
