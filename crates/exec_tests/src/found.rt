@@ -1,6 +1,13 @@
 //! What executors find, as text.
+ghost use Rattle.std.specs.Prelude.{◌≡◌, ℕ, true, false};
+ghost use Rattle.std.specs.Str.{IsAscii};
+ghost use Rattle.regress_front_nodes.specs.Trees.{Tree};
+ghost use Rattle.regress_front_nodes.specs.WellFormed.{IsWellFormed};
+ghost use Rattle.regress_engine_code.specs.Layout.{IsLayout};
+ghost use Rattle.regress_engine_code.specs.Standing.{target_of};
 
 use crate::programs::{byte_program, unit_program};
+use regress_engine_code::CompiledRegex;
 use regress_engine_exec::{BacktrackExecutor, ExecutorInput};
 use regress_engine_input::{AsciiInput, Ucs2Input, Utf16Input};
 use regress_front_tables::Tables;
@@ -49,6 +56,46 @@ pub(crate) fn in_utf8(
     listed(alloc, BacktrackExecutor::new(alloc, &program, text))
 }
 
+/// All matches of a program in a text of ASCII.
+fn over_ascii<'r>(
+    alloc: Global,
+    program: &'r CompiledRegex<'r>,
+    text: &'r str,
+) -> Result<String, Fail>
+    requires laid { (n : ℕ) × (t : Tree) × IsWellFormed n t × IsLayout (target_of program.now) n t }
+    requires bytes { program.now.units ≡ false }
+    requires ascii { IsAscii text.now }
+{
+    let input = AsciiInput::new(text, program.flags().is_unicode(), program.tables());
+    listed(alloc, BacktrackExecutor::with_input(alloc, program, input))
+}
+
+/// All matches of a program in 16-bit units, pairs joined.
+fn over_utf16<'r>(
+    alloc: Global,
+    program: &'r CompiledRegex<'r>,
+    units: &'r [u16],
+) -> Result<String, Fail>
+    requires laid { (n : ℕ) × (t : Tree) × IsWellFormed n t × IsLayout (target_of program.now) n t }
+    requires units { program.now.units ≡ true }
+{
+    let input = Utf16Input::new(units, program.flags().is_unicode(), program.tables());
+    listed(alloc, BacktrackExecutor::with_input(alloc, program, input))
+}
+
+/// All matches of a program in 16-bit units, each one character.
+fn over_ucs2<'r>(
+    alloc: Global,
+    program: &'r CompiledRegex<'r>,
+    units: &'r [u16],
+) -> Result<String, Fail>
+    requires laid { (n : ℕ) × (t : Tree) × IsWellFormed n t × IsLayout (target_of program.now) n t }
+    requires units { program.now.units ≡ true }
+{
+    let input = Ucs2Input::new(units, program.flags().is_unicode(), program.tables());
+    listed(alloc, BacktrackExecutor::with_input(alloc, program, input))
+}
+
 /// All matches over ASCII.
 pub(crate) fn in_ascii(
     alloc: Global,
@@ -61,8 +108,7 @@ pub(crate) fn in_ascii(
     }
     let tables = Tables::small(alloc)?;
     let program = byte_program(alloc, pattern, flags, &tables)?;
-    let input = AsciiInput::new(text, program.flags().is_unicode(), program.tables());
-    listed(alloc, BacktrackExecutor::with_input(alloc, &program, input))
+    over_ascii(alloc, &program, text)
 }
 
 /// All matches over 16-bit units, pairs joined.
@@ -74,8 +120,7 @@ pub(crate) fn in_utf16(
 ) -> Result<String, Fail> {
     let tables = Tables::small(alloc)?;
     let program = unit_program(alloc, pattern, flags, &tables)?;
-    let input = Utf16Input::new(units, program.flags().is_unicode(), program.tables());
-    listed(alloc, BacktrackExecutor::with_input(alloc, &program, input))
+    over_utf16(alloc, &program, units)
 }
 
 /// All matches over 16-bit units, each one character.
@@ -87,8 +132,7 @@ pub(crate) fn in_ucs2(
 ) -> Result<String, Fail> {
     let tables = Tables::small(alloc)?;
     let program = unit_program(alloc, pattern, flags, &tables)?;
-    let input = Ucs2Input::new(units, program.flags().is_unicode(), program.tables());
-    listed(alloc, BacktrackExecutor::with_input(alloc, &program, input))
+    over_ucs2(alloc, &program, units)
 }
 
 /// The first match over UTF-8 by a search alone.
