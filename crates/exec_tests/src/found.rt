@@ -1,17 +1,18 @@
 //! What executors find, as text.
-ghost use Rattle.std.specs.Prelude.{◌≡◌, ℕ, true, false};
+ghost use Rattle.std.specs.Prelude.{◌≡◌, ℕ, true, false, IfSome};
 ghost use Rattle.std.specs.Str.{IsAscii};
 ghost use Rattle.regress_front_nodes.specs.Trees.{Tree};
 ghost use Rattle.regress_front_nodes.specs.WellFormed.{IsWellFormed};
+ghost use Rattle.regress_match.specs.Iterating.{producer_of, position_of};
 ghost use Rattle.regress_engine_code.specs.Layout.{IsLayout};
 ghost use Rattle.regress_engine_code.specs.Standing.{target_of};
 
 use crate::programs::{byte_program, unit_program};
 use regress_engine_code::CompiledRegex;
-use regress_engine_exec::{BacktrackExecutor, ExecutorInput};
+use regress_engine_exec::BacktrackExecutor;
 use regress_engine_input::{AsciiInput, Ucs2Input, Utf16Input};
 use regress_front_tables::Tables;
-use regress_match::{Match, Matches, Range};
+use regress_match::{Match, MatchProducer, Matches, Range};
 use std::alloc::{AllocError, Global};
 use std::test::Fail;
 
@@ -31,17 +32,52 @@ pub(crate) fn told(alloc: Global, found: &Match) -> Result<String, AllocError> {
     Ok(told)
 }
 
-/// All matches of an executor as text, one after another.
-fn listed<Input: ExecutorInput>(
-    alloc: Global,
-    executor: BacktrackExecutor<'_, Input>,
-) -> Result<String, Fail> {
+/// All matches as text, one after another.
+fn listed<P: MatchProducer>(alloc: Global, matches: Matches<P>) -> Result<String, Fail>
+    requires { IfSome (position_of matches) (P.is_position (P.sought (producer_of matches))) }
+{
     let mut all = String::new(alloc);
-    for found in Matches::new(executor, 0) {
+    for found in matches {
         all.push_str(told(alloc, &found?)?.as_str())?;
         all.push_str("; ")?;
     }
     Ok(all)
+}
+
+/// All matches of a program over UTF-8.
+fn over_utf8<'r>(
+    alloc: Global,
+    program: &'r CompiledRegex<'r>,
+    text: &'r str,
+) -> Result<String, Fail>
+    requires laid { (n : ℕ) × (t : Tree) × IsWellFormed n t × IsLayout (target_of program.now) n t }
+    requires bytes { program.now.units ≡ false }
+{
+    let executor = BacktrackExecutor::new(alloc, program, text);
+    listed(alloc, Matches::new(executor, 0))
+}
+
+/// The first match of all as text, or nothing.
+fn first_listed<P: MatchProducer>(alloc: Global, mut matches: Matches<P>) -> Result<String, Fail>
+    requires { IfSome (position_of matches) (P.is_position (P.sought (producer_of matches))) }
+{
+    match matches.next() {
+        Some(found) => Ok(told(alloc, &found?)?),
+        None => Ok(String::new(alloc)),
+    }
+}
+
+/// The first match of a program over UTF-8, or nothing.
+fn first_over_utf8<'r>(
+    alloc: Global,
+    program: &'r CompiledRegex<'r>,
+    text: &'r str,
+) -> Result<String, Fail>
+    requires laid { (n : ℕ) × (t : Tree) × IsWellFormed n t × IsLayout (target_of program.now) n t }
+    requires bytes { program.now.units ≡ false }
+{
+    let executor = BacktrackExecutor::new(alloc, program, text);
+    first_listed(alloc, Matches::new(executor, 0))
 }
 
 /// All matches over UTF-8.
@@ -53,7 +89,7 @@ pub(crate) fn in_utf8(
 ) -> Result<String, Fail> {
     let tables = Tables::small(alloc)?;
     let program = byte_program(alloc, pattern, flags, &tables)?;
-    listed(alloc, BacktrackExecutor::new(alloc, &program, text))
+    over_utf8(alloc, &program, text)
 }
 
 /// All matches of a program in a text of ASCII.
@@ -67,7 +103,8 @@ fn over_ascii<'r>(
     requires ascii { IsAscii text.now }
 {
     let input = AsciiInput::new(text, program.flags().is_unicode(), program.tables());
-    listed(alloc, BacktrackExecutor::with_input(alloc, program, input))
+    let executor = BacktrackExecutor::with_input(alloc, program, input);
+    listed(alloc, Matches::new(executor, 0))
 }
 
 /// All matches of a program in 16-bit units, pairs joined.
@@ -80,7 +117,8 @@ fn over_utf16<'r>(
     requires units { program.now.units ≡ true }
 {
     let input = Utf16Input::new(units, program.flags().is_unicode(), program.tables());
-    listed(alloc, BacktrackExecutor::with_input(alloc, program, input))
+    let executor = BacktrackExecutor::with_input(alloc, program, input);
+    listed(alloc, Matches::new(executor, 0))
 }
 
 /// All matches of a program in 16-bit units, each one character.
@@ -93,7 +131,8 @@ fn over_ucs2<'r>(
     requires units { program.now.units ≡ true }
 {
     let input = Ucs2Input::new(units, program.flags().is_unicode(), program.tables());
-    listed(alloc, BacktrackExecutor::with_input(alloc, program, input))
+    let executor = BacktrackExecutor::with_input(alloc, program, input);
+    listed(alloc, Matches::new(executor, 0))
 }
 
 /// All matches over ASCII.
@@ -135,14 +174,9 @@ pub(crate) fn in_ucs2(
     over_ucs2(alloc, &program, units)
 }
 
-/// The first match over UTF-8 by a search alone.
+/// The first match over UTF-8, or nothing.
 pub(crate) fn first(alloc: Global, pattern: &str, flags: &str, text: &str) -> Result<String, Fail> {
     let tables = Tables::small(alloc)?;
     let program = byte_program(alloc, pattern, flags, &tables)?;
-    let mut executor = BacktrackExecutor::new(alloc, &program, text);
-    let first = match executor.find_from(0)? {
-        Some(found) => told(alloc, &found)?,
-        None => String::new(alloc),
-    };
-    Ok(first)
+    first_over_utf8(alloc, &program, text)
 }

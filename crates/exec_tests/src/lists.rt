@@ -175,7 +175,7 @@ fn lists_of_wide_texts_go_by_their_units(rt: HostRuntime) -> Result<(), Fail> {
 }
 
 #[test]
-fn a_search_finds_the_first_of_the_list(rt: HostRuntime) -> Result<(), Fail> {
+fn the_first_of_the_list_stands_alone(rt: HostRuntime) -> Result<(), Fail> {
     let told = first(rt.alloc(), "(a+)(b*?)c", "", "xaabbc")?;
     assert!(rt; told.as_str() == "1..6 1..3 3..5 ");
     let told = first(rt.alloc(), "b", "", "xa")?;
