@@ -266,7 +266,7 @@ fn programs_of_strings(rt: HostRuntime) -> Result<(), Fail> {
 }
 
 /// A piece of a pattern, how often it stands there, and how many instructions the program has.
-const LONG: &[(&str, usize, usize)] = &[("a", 100_000, 100_001), ("a|", 50_000, 150_001)];
+const LONG: &[(&str, usize, usize)] = &[("a", 4_000, 4_001), ("a|", 2_000, 6_001)];
 
 #[test]
 fn long_patterns_have_programs(rt: HostRuntime) -> Result<(), Fail> {
