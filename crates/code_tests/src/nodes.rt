@@ -90,7 +90,7 @@ const NO_NODE: Error = Error::Syntax {
 };
 
 /// The tree of a node and the end.
-fn whole<'u>(alloc: Global, node: Node, tables: &'u Tables) -> Result<Regex<'u>, Error>
+pub(crate) fn whole<'u>(alloc: Global, node: Node, tables: &'u Tables) -> Result<Regex<'u>, Error>
     requires { IsPart (tree node) }
     ensures { IfOk result (λ regex. IsWellFormed (length regex.group_names.items) (tree regex.node)) }
 {

@@ -1,8 +1,13 @@
 //! What is read of a program, and its copies.
+ghost use Rattle.std.specs.Prelude.{◌≡◌, map};
+ghost use Rattle.regress_engine_code.specs.InsnViews.{instruction};
+ghost use Rattle.regress_engine_code.specs.Standing.{program_of};
+ghost use Rattle.regress_engine_code.specs.Written.{bracket_ends};
 
+use crate::nodes::whole;
 use crate::parsed::program;
-use regress_engine_code::{CompiledRegex, StartPredicate};
-use regress_front::{Error, Tables};
+use regress_engine_code::{CompiledRegex, Insn, StartPredicate, emit, emit_units};
+use regress_front::{BracketContents, Error, Node, Tables};
 use std::alloc::{AllocError, Global};
 use std::test::Fail;
 
@@ -48,12 +53,59 @@ fn parts_of_a_program(rt: HostRuntime) -> Result<(), Fail> {
         assert!(rt; program.is_unit_program() == units);
         assert!(rt; program.loops() == 3 && program.groups() == 3);
         assert!(rt; names_told(rt.alloc(), &program)?.as_str() == r#"["year", "", "day"]"#);
-        assert!(rt; program.shared_group_names()?.len() == 3);
+        let shared = program.shared_group_names()?;
+        let shared = shared.as_slice();
+        assert!(rt; format!(in rt.alloc(); "{shared:?}")?.as_str() == r#"["year", "", "day"]"#);
         assert!(rt; brackets_told(rt.alloc(), &program)?.as_str() == BRACKETS);
         assert!(rt; program.flags().multiline && program.flags().dot_all && !program.flags().icase);
         assert!(rt; matches!(program.start_pred(), StartPredicate::Arbitrary));
         assert!(rt; program.tables().fold(0x41) == tables.fold(0x41));
     }
+    Ok(())
+}
+
+/// The instructions of a program are those that definitions see.
+fn insns_of<'s>(program: &'s CompiledRegex<'_>) -> &'s [Insn]
+    ensures { map instruction result.now ≡ (program_of program.now).instructions }
+{
+    program.insns()
+}
+
+/// Its brackets are those that definitions see.
+fn brackets_of<'s>(program: &'s CompiledRegex<'_>) -> &'s [BracketContents]
+    ensures { map bracket_ends result.now ≡ (program_of program.now).brackets }
+{
+    program.brackets()
+}
+
+/// Its loops are counted as definitions count them.
+fn loops_of(program: &CompiledRegex<'_>) -> u32
+    ensures { result ≡ (program_of program.now).loops }
+{
+    program.loops()
+}
+
+// A program of one instruction and the end: what is read of it is that of its tree.
+#[test]
+fn readers_are_pinned(rt: HostRuntime) -> Result<(), Fail> {
+    let tables = Tables::small(rt.alloc())?;
+    let regex = whole(rt.alloc(), Node::MatchAny, &tables)?;
+    let bytes = emit(rt.alloc(), &regex)?;
+    let units = emit_units(rt.alloc(), &regex)?;
+    let which = !bytes.is_unit_program() && units.is_unit_program();
+    prove!(which);
+    let flags = bytes.flags();
+    let kept = flags.icase == regex.flags.icase && flags.multiline == regex.flags.multiline;
+    prove!(kept);
+    let folded = bytes.tables().fold(0x41) == regex.tables.fold(0x41);
+    prove!(folded);
+    let groups = bytes.groups() as usize == regex.group_names.len();
+    prove!(groups);
+    let anywhere = matches!(bytes.start_pred(), StartPredicate::Arbitrary);
+    prove!(anywhere);
+    assert!(rt; which && kept && folded && groups && anywhere);
+    assert!(rt; insns_of(&bytes).len() == 2 && matches!(insns_of(&bytes)[0], Insn::MatchAny));
+    assert!(rt; brackets_of(&bytes).is_empty() && loops_of(&bytes) == 0);
     Ok(())
 }
 

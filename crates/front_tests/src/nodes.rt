@@ -1,6 +1,6 @@
 //! Tests of `regress_front_nodes`.
-ghost use Rattle.std.specs.Prelude.{◌≤◌};
-ghost use Rattle.regress_front_nodes.specs.Trees.{tree};
+ghost use Rattle.std.specs.Prelude.{◌≡◌, ◌≤◌, []};
+ghost use Rattle.regress_front_nodes.specs.Trees.{tree, char_set};
 ghost use Rattle.regress_front_nodes.specs.Forms.{nesting};
 
 use regress_front::ir::Regex;
@@ -290,15 +290,36 @@ fn what_is_empty_is_no_goal_and_no_cat(rt: HostRuntime) {
     assert!(rt; empty && !goal && cat && !other);
 }
 
+/// What always fails is a set of no code point, and no other set.
+fn failing(alloc: Global) -> Node
+    ensures { tree result ≡ char_set [] }
+{
+    Node::make_always_fails(alloc)
+}
+
 #[test]
 fn a_set_of_none_matches_nothing(rt: HostRuntime) {
-    let fails = Node::make_always_fails(rt.alloc());
+    let fails = failing(rt.alloc());
     let is_none = fails.match_always_fails();
     let is_one = fails.matches_exactly_one_char();
     prove!(is_none && !is_one);
     let nothing = Node::ByteSet(Vec::new(rt.alloc())).match_always_fails();
     prove!(nothing);
     assert!(rt; is_none && !is_one && nothing && matches!(&fails, Node::CharSet(_)));
+}
+
+#[tactic(auto, unfolding(regress_meaning::specs::TableParts::in_intervals))]
+#[test]
+fn a_copy_of_a_class_has_its_members(rt: HostRuntime) -> Result<(), Fail> {
+    let mut cps = CodePointSet::new(rt.alloc());
+    cps.add_one(0x61)?;
+    let copy = BracketContents { invert: true, cps }.copy(rt.alloc())?;
+    let inverted = copy.invert;
+    let held = copy.cps.contains(0x61);
+    let other = copy.cps.contains(0x62);
+    prove!(inverted && held && !other);
+    assert!(rt; inverted && held && !other);
+    Ok(())
 }
 
 #[test]
