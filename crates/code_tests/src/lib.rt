@@ -8,4 +8,6 @@ mod parsed;
 #[cfg(test)]
 mod readers;
 #[cfg(test)]
+mod rewritten;
+#[cfg(test)]
 mod told;
