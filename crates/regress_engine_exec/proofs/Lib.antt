@@ -12,3 +12,4 @@ pub mod LeaveLemmas
 pub mod DispatchLemmas
 pub mod TryLemmas
 pub mod SearchLemmas
+pub mod ProducerLemmas

@@ -5,3 +5,4 @@ pub mod Tasks
 pub mod Leaving
 pub mod Trying
 pub mod Sought
+pub mod SoughtOnce

@@ -1,37 +1,97 @@
--- What an executor seeks, and what a search finds.
-use Rattle.std.specs.Prelude.{◌≡◌, ℕ, not, [], ◌∷◌, Option, Some, None}
+-- What an executor seeks, and what it finds.
+use Rattle.std.specs.Prelude.{◌≡◌, ℕ, zero, suc, ◌-◌, ◌≤◌, not, List, [], ◌∷◌, length, Option, Some, None, All, IfSome, if◌then◌else◌, nat_le}
+use Rattle.std.proofs.Common.{arith}
+use Rattle.std.proofs.lemmas.Bool.{cond_both}
 use Rattle.regress_meaning.specs.Meaning.{Forward}
 use Rattle.regress_meaning.specs.Inputs.{Input}
+use Rattle.regress_meaning.specs.Matches.{Item}
+use Rattle.regress_meaning.specs.Offsets.{Reading, offset, Begins}
+use Rattle.regress_match.specs.declared.found.Match.{Match}
+use Rattle.regress_match.specs.GroupViews.{names_of_match}
+use Rattle.regress_match.specs.Views as match
 use Rattle.regress_engine_input.specs.Views.{View, are_bytes, input_of, reading_of}
 use Rattle.regress_engine_code.specs.Instructions.{Program}
-use Rattle.regress_engine_code.specs.Standing.{target_of}
+use Rattle.regress_engine_code.specs.Standing.{names_of, program_of, target_of}
 use Rattle.regress_engine_code.specs.declared.compiled.CompiledRegex.{CompiledRegex}
 use Rattle.regress_engine_runs.specs.States.{Whole, first_state}
 use Rattle.regress_engine_runs.specs.Computed.{IsComputed}
-use Rattle.regress_engine_runs.specs.Items.{Finds, item_of}
-use Rattle.regress_engine_runs.specs.Meets.{IsAtPlace}
+use Rattle.regress_engine_runs.specs.Items.{Finds, Lists, begins_at, item_of}
+use Rattle.regress_engine_runs.specs.Meets.{IsAtPlace, AreAtPlaces}
 use Rattle.regress_engine_runs.specs.Stand.{IsMadeFor}
 use Rattle.regress_engine_runs.specs.UndoStack.{ReadOn, outermost}
-use Rattle.regress_engine_exec.specs.declared.search.BacktrackExecutor.{BacktrackExecutor}
 use Rattle.regress_engine_exec.specs.Held.{Held}
 use Rattle.regress_engine_exec.specs.Ready.{Suits}
-
--- the program and the text that are sought in
-abbrev pub sought_in : {I A B C D E : Type 0} → BacktrackExecutor I A B C D E → CompiledRegex × I
-sought_in e = (e.program.now, e.input)
 
 -- A program is made for a text: of bytes or of units as it is, with its table and its mode.
 pub record IsMadeOf (compiled : CompiledRegex) (v : View) : Type 0 where
   pub kind : are_bytes v.kind ≡ not compiled.units
   pub made : IsMadeFor (target_of compiled) (input_of v)
 
--- A program may be sought in a text: from each place its run ends, and reads at places.
+-- both ends of an item are at places, and so are those of each range that a group took
+abbrev pub IsItemAtPlaces : Reading → Item → Type 0
+IsItemAtPlaces reading i = AreAtPlaces reading (i.start, i.end) × All (λ g. IfSome g (AreAtPlaces reading)) i.groups
+
+-- The items that searches find one behind another from an offset on, all of them at places.
+pub record Listed (program : Program) (v : View) (at : ℕ) : Type 0 where
+  pub items : List Item
+  pub lists : ∥ Lists program (input_of v) (Some at) items ∥₁
+  pub inside : All (IsItemAtPlaces (reading_of v)) items
+
+-- A program may be sought in a text: from each place its run ends, and reads at places, and searches find items one behind
+-- another.
 pub record IsSought (program : Program) (v : View) : Type 0 where
   pub suits : Suits program v
   pub ends : (o : ℕ) → IsAtPlace (reading_of v) o → IsComputed program (input_of v) Forward (first_state program o ∷ [])
   pub reads : (o : ℕ) → IsAtPlace (reading_of v) o → ReadOn program (input_of v) (reading_of v) Forward (first_state program o ∷ []) (outermost [])
+  pub lists : (p : ℕ) → p ≤ length (reading_of v).points → Listed program v (offset (reading_of v) p)
 
 -- A search from an offset found an answer between two others, whose groups are held; or none.
 abbrev pub IsFound : Program → Input → ℕ → Option (ℕ × ℕ) → Held → Type 0
 IsFound program input at None k = Finds program input at None
 IsFound program input at (Some (start, end)) k = (w : Whole) × Finds program input at (Some (item_of start w)) × (w.offset ≡ end) × (w.groups ≡ k.groups)
+
+-- What is sought: a program, in what is shown of a text.
+pub record Sought : Type 0 where
+  pub compiled : CompiledRegex
+  pub view : View
+  pub sought : IsSought (program_of compiled) view
+
+-- of the places up to one, the last that has no greater offset
+unfoldable pub last_place : Reading → (at : ℕ) → ℕ → ℕ
+last_place reading at zero = zero
+last_place reading at (suc p) = if nat_le (offset reading (suc p)) at then suc p else last_place reading at p
+
+-- the place at an offset
+abbrev pub place_at : Reading → ℕ → ℕ
+place_at reading at = last_place reading at (length reading.points)
+
+pub last_place-le : (reading : Reading) (at p : ℕ) → last_place reading at p ≤ p
+unfolding last_place
+last_place-le reading at zero = omega arith
+last_place-le reading at (suc p) =
+    let before = last_place-le reading at p in
+    cond_both (nat_le (offset reading (suc p)) at) (suc p) (last_place reading at p) (λ q. q ≤ suc p) (λ _. omega arith) (λ _. omega (arith, before))
+
+-- the items from an offset on
+abbrev pub items_from : Sought → ℕ → List Item
+items_from s at = (s.sought.lists (place_at (reading_of s.view) at) (last_place-le (reading_of s.view) at (length (reading_of s.view).points))).items
+
+-- how many places lie behind that of an offset
+abbrev pub places_behind : Sought → ℕ → ℕ
+places_behind s at = length (reading_of s.view).points - place_at (reading_of s.view) at
+
+-- an offset is that of a place of the text
+abbrev pub IsPosition : Sought → ℕ → Type 0
+IsPosition s at = IsAtPlace (reading_of s.view) at
+
+-- a search may start at the offset of a place, or past the end
+abbrev pub IsStart : Sought → ℕ → Type 0
+IsStart s at = (place : ℕ) × Begins (reading_of s.view) at place
+
+-- a search begins where it starts, and past the end nowhere
+abbrev pub StartsAt : Sought → ℕ → Option ℕ → Type 0
+StartsAt s at position = position ≡ begins_at (input_of s.view) at
+
+-- a match lies in the text that is searched, between characters, and its groups have the program's names
+abbrev pub IsMatchOf : Sought → Match → Type 0
+IsMatchOf s m = IsItemAtPlaces (reading_of s.view) (match.item_of m) × (names_of_match m ≡ names_of s.compiled)

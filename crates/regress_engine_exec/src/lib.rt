@@ -3,13 +3,19 @@
 
 mod attempt;
 mod back;
+mod laws;
 mod leave;
 mod memory;
+mod producer;
 mod reads;
 mod search;
+mod shown;
 mod singles;
 mod step;
 mod steps;
+mod subject;
 mod undo;
 
+pub use laws::executors_list_matches;
 pub use search::BacktrackExecutor;
+pub use shown::{ExecutorInput, Shown};

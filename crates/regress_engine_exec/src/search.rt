@@ -1,32 +1,37 @@
 //! The search for the first place from which a run has an answer.
-ghost use Rattle.std.specs.Prelude.{◌≡◌, ℕ, List, map, option_map, IfOk, OnOk, IsOkUnless};
+ghost use Rattle.std.specs.Prelude.{◌≡◌, ℕ, false, List, map, option_map, IfOk, IfSome, OnOk, IsOkUnless};
 ghost use Rattle.regress_front_nodes.specs.Trees.{Tree};
 ghost use Rattle.regress_front_nodes.specs.WellFormed.{IsWellFormed};
+ghost use Rattle.regress_match.specs.GroupViews.{names_of_match};
 ghost use Rattle.regress_match.specs.Views.{item_of, ends};
 ghost use Rattle.regress_engine_code.specs.Layout.{IsLayout};
-ghost use Rattle.regress_engine_code.specs.Standing.{program_of, target_of};
-ghost use Rattle.regress_engine_input.specs.Views.{input_of, reading_of};
+ghost use Rattle.regress_engine_code.specs.Standing.{names_of, program_of, target_of};
+ghost use Rattle.regress_front_core.specs.FlagWords.{options};
+ghost use Rattle.regress_meaning.specs.Flags.{is_unicode};
+ghost use Rattle.regress_front_tables.specs.TableViews.{table};
+ghost use Rattle.regress_engine_input.specs.Views.{input_of, reading_of, utf8};
 ghost use Rattle.regress_engine_runs.specs.States.{range_of};
 ghost use Rattle.regress_engine_runs.specs.Items.{Finds};
 ghost use Rattle.regress_engine_runs.specs.Meets.{IsAtPlace};
 ghost use Rattle.regress_engine_exec.specs.Held.{held, marks_of};
-ghost use Rattle.regress_engine_exec.specs.Sought.{IsSought, IsMadeOf, IsFound, sought_in};
+ghost use Rattle.regress_engine_exec.specs.Sought.{IsMadeOf, IsFound, IsItemAtPlaces};
 
 use crate::attempt::Attempt;
 use crate::memory::Memory;
+use crate::shown::{ExecutorInput, Shown};
+use crate::subject::Subject;
 use regress_engine_code::CompiledRegex;
-use regress_engine_matchers::CharInput;
+use regress_engine_input::Utf8Input;
 use regress_front_core::{Error, GroupData};
-use regress_match::{Match, Range};
+use regress_match::{Match, MatchProducer, Range};
 use std::alloc::{AllocError, Global};
 
 /// Finds the matches of a program in a text. It holds one state and one stack of what is to be undone, which it keeps from one
 /// search to the next, and no call of it calls it again.
 #[derive(Debug, Drop)]
-pub struct BacktrackExecutor<'r, Input: CharInput> {
+pub struct BacktrackExecutor<'r, Input: Shown> {
     alloc: Global,
-    program: &'r CompiledRegex<'r>,
-    input: Input,
+    pub(crate) subject: Subject<'r, Input>,
     memory: Memory,
     answer: Vec<GroupData<usize>>,
 }
@@ -52,19 +57,24 @@ fn captures(alloc: Global, groups: &[GroupData<usize>]) -> Result<Vec<Option<Ran
     Ok(found)
 }
 
-impl<'r, Input: CharInput> BacktrackExecutor<'r, Input> {
+impl<'r, Input: ExecutorInput> BacktrackExecutor<'r, Input> {
     /// The executor of a program over a text.
+    ///
+    /// Asks that the program is one of a tree, and made for the text: of units over UTF-16 and UCS-2, else of bytes, with the
+    /// text's tables and mode.
     ///
     /// ```rust
     /// let mut executor = BacktrackExecutor::with_input(alloc, &program, input);
     /// ```
     pub fn with_input(alloc: Global, program: &'r CompiledRegex<'r>, input: Input) -> Self
-        ensures { sought_in result ≡ (program.entry.now, input) }
+        requires sought { (n : ℕ) × (t : Tree) × IsWellFormed n t × IsLayout (target_of program.now) n t }
+        requires made { IsMadeOf program.now (Input.view input) }
+        ensures program { (⟦<BacktrackExecutor<'r, Input> as MatchProducer>⟧.sought result).compiled ≡ program.entry.now }
+        ensures text { (⟦<BacktrackExecutor<'r, Input> as MatchProducer>⟧.sought result).view ≡ Input.view input }
     {
         BacktrackExecutor {
             alloc,
-            program,
-            input,
+            subject: Subject { program, input },
             memory: Memory::new(alloc),
             answer: Vec::new(alloc),
         }
@@ -73,13 +83,12 @@ impl<'r, Input: CharInput> BacktrackExecutor<'r, Input> {
     /// Searches from an offset on. It answers the offset from which the first run has an answer, and where that ends; the
     /// answer's groups are then held.
     fn search(&mut self, offset: usize) -> Result<Option<(usize, usize)>, AllocError>
-        requires sought { IsSought (program_of self.old.program.now) (Input.view self.old.input) }
-        requires place { IsAtPlace (reading_of (Input.view self.old.input)) offset }
-        ensures found { IfOk result (λ found. IsFound (program_of self.old.program.now) (input_of (Input.view self.old.input)) offset found (held self.new.memory)) }
-        ensures kept { sought_in self.new ≡ sought_in self.old }
+        requires { IsAtPlace (reading_of (Input.view self.old.subject.input)) offset }
+        ensures found { IfOk result (λ found. IsFound (program_of self.old.subject.program.now) (input_of (Input.view self.old.subject.input)) offset found (held self.new.memory)) }
+        ensures kept { self.new.subject ≡ self.old.subject }
     {
-        let program = self.program;
-        let input = self.input;
+        let program = self.subject.program;
+        let input = self.subject.input;
         let mut start = offset;
         'places: loop {
             let attempt = Attempt {
@@ -101,25 +110,44 @@ impl<'r, Input: CharInput> BacktrackExecutor<'r, Input> {
     /// with nothing set ("RegExpBuiltinExec"). `None` where no run from there on has an answer. It errs with `OutOfMemory`
     /// alone, and may then be asked again.
     ///
-    /// Asks that the program is one of a tree, and made for the text: of units over UTF-16 and UCS-2, else of bytes, with
-    /// the text's tables and mode; and that the offset is that of a place of the text.
+    /// Asks that the offset is that of a place of the text.
     ///
     /// ```rust
     /// let found = executor.find_from(0)?;
     /// ```
     pub fn find_from(&mut self, offset: usize) -> Result<Option<Match>, Error>
-        requires sought { (n : ℕ) × (t : Tree) × IsWellFormed n t × IsLayout (target_of self.old.program.now) n t }
-        requires made { IsMadeOf self.old.program.now (Input.view self.old.input) }
-        requires place { IsAtPlace (reading_of (Input.view self.old.input)) offset }
-        ensures found { IfOk result (λ found. Finds (program_of self.old.program.now) (input_of (Input.view self.old.input)) offset (option_map item_of found)) }
-        ensures kept { sought_in self.new ≡ sought_in self.old }
+        requires { IsAtPlace (reading_of (Input.view self.old.subject.input)) offset }
+        ensures found { IfOk result (λ found. Finds (program_of self.old.subject.program.now) (input_of (Input.view self.old.subject.input)) offset (option_map item_of found)) }
+        ensures inside { IfOk result (λ found. IfSome found (λ m. IsItemAtPlaces (reading_of (Input.view self.old.subject.input)) (item_of m))) }
+        ensures named { IfOk result (λ found. IfSome found (λ m. names_of_match m ≡ names_of self.old.subject.program.now)) }
+        ensures kept { self.new.subject ≡ self.old.subject }
         ensures refused { IsOkUnless result Error.OutOfMemory }
     {
         let Some((start, end)) = self.search(offset)? else {
             return Ok(None);
         };
         let captures = captures(self.alloc, &self.memory.groups)?;
-        let names = self.program.shared_group_names()?;
+        let names = self.subject.program.shared_group_names()?;
         Ok(Some(Match::new(start..end, captures, names)))
+    }
+}
+
+impl<'r, 't> BacktrackExecutor<'r, Utf8Input<'r, 't>> {
+    /// The executor of a program over a text of UTF-8, with the program's tables and mode.
+    ///
+    /// Asks that the program is one of bytes, of a tree.
+    ///
+    /// ```rust
+    /// let mut executor = BacktrackExecutor::new(alloc, &program, "aab");
+    /// ```
+    pub fn new(alloc: Global, program: &'r CompiledRegex<'r>, text: &'t str) -> Self
+        requires sought { (n : ℕ) × (t : Tree) × IsWellFormed n t × IsLayout (target_of program.now) n t }
+        requires bytes { program.now.units ≡ false }
+        ensures program { (⟦<BacktrackExecutor<'r, Utf8Input<'r, 't>> as MatchProducer>⟧.sought result).compiled ≡ program.entry.now }
+        ensures text { (⟦<BacktrackExecutor<'r, Utf8Input<'r, 't>> as MatchProducer>⟧.sought result).view ≡ record { kind = utf8; units = text.now; table = table program.entry.now.tables.now; unicode = is_unicode (options program.entry.now.flags) } }
+    {
+        let unicode = program.flags().is_unicode();
+        let input = Utf8Input::new(text, unicode, program.tables());
+        BacktrackExecutor::with_input(alloc, program, input)
     }
 }

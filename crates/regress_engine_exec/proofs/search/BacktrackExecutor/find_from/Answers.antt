@@ -1,26 +1,27 @@
 use Rattle.std.proofs.Common.{ap, ◌∙◌, subst, refl}
 use Rattle.std.proofs.Common.{map}
 use Rattle.std.specs.Prelude.{option_map}
-use Rattle.regress_match.specs.Views.{ends}
-use Rattle.regress_engine_code.specs.Standing.{program_of, target_of}
+use Rattle.regress_match.specs.Views.{ends, item_of}
+use Rattle.regress_engine_code.specs.Standing.{program_of}
 use Rattle.regress_engine_input.specs.Views.{input_of}
+use Rattle.regress_engine_runs.specs.Items.{Finds}
 use Rattle.regress_engine_runs.specs.States.{range_of}
 use Rattle.regress_engine_exec.specs.Held.{held, marks_of}
-use Rattle.regress_engine_exec.specs.Sought.{IsFound}
-use Rattle.regress_engine_exec.proofs.SearchLemmas.{layout-sought, found-match}
+use Rattle.regress_engine_exec.specs.Sought.{IsFound, IsSought}
+use Rattle.regress_engine_exec.proofs.SearchLemmas.{found-match, found-inside}
 use Rattle.regress_engine_exec.proofs.search.BacktrackExecutor.find_from.Goals as goal
-
-pub search-requires-clause-sought : goal.search-requires-clause-sought
-search-requires-clause-sought g c =
-    let (n, t, formed, layout) = c.requires.sought in
-    layout-sought (target_of c.args.self.now.program.now) (g.Input.InputIndexer.view c.args.self.now.input) (g.met.Input.InputIndexer.are_of_kind c.args.self.now.input)
-    c.requires.made.kind c.requires.made.made n t formed layout
 
 pub returns-clause-found : goal.returns-clause-found
 returns-clause-found g c =
-    let program = program_of c.args.self.now.program.now in
-    let input = input_of (g.Input.InputIndexer.view c.args.self.now.input) in
+    let program = program_of c.args.self.now.subject.program.now in
+    let input = input_of (g.Input.InputIndexer.view c.args.self.now.subject.input) in
     found-match program input c.args.offset c.in-Some.start c.in-Some.end (held c.search.new.self.memory) c.new.result c.search.new.self.memory.groups.items
     (subst (λ x. IsFound program input c.args.offset x (held c.search.new.self.memory)) c.in-Some.is c.in_ok-start.ensures.found)
     refl (ap (λ r. r.start) c.new.ensures.range) (ap (λ r. r.end) c.new.ensures.range)
     (ap (λ v. map (option_map ends) v.items) c.new.ensures.captures ∙ c.in_ok-captures.ensures ∙ ap (map (λ x. range_of (marks_of x))) c.deref.ensures.value)
+
+pub returns-clause-inside : goal.returns-clause-inside
+returns-clause-inside g c =
+    found-inside (program_of c.args.self.now.subject.program.now) (g.Input.InputIndexer.view c.args.self.now.subject.input)
+    (subst (IsSought (program_of c.args.self.now.subject.program.now)) (g.met.Input.ExecutorInput.shows c.args.self.now.subject.input) c.args.self.now.subject.sought)
+    c.args.offset c.requires (item_of c.new.result) (returns-clause-found g c)

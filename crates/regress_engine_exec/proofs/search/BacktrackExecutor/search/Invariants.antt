@@ -2,7 +2,6 @@ use Rattle.std.proofs.Common.{◌≡◌, ◌-◌, length}
 use Rattle.regress_engine_code.specs.Standing.{program_of}
 use Rattle.regress_engine_input.specs.Views.{input_of, reading_of}
 use Rattle.regress_engine_runs.specs.Meets.{IsAtPlace}
-use Rattle.regress_engine_exec.specs.Sought.{sought_in}
 use Rattle.regress_engine_exec.proofs.SearchLemmas.{FindsOn}
 use Rattle.regress_engine_exec.proofs.search.BacktrackExecutor.search.Given as goal
 
@@ -11,7 +10,7 @@ abbrev pub invariant-places : goal.invariant-places
 invariant-places g l = record {
   finds : FindsOn (program_of l.program) (input_of (g.Input.InputIndexer.view l.input)) l.offset l.start;
   place : IsAtPlace (reading_of (g.Input.InputIndexer.view l.input)) l.start;
-  kept : sought_in l.self ≡ sought_in l.initial.self;
+  kept : l.self.subject ≡ l.initial.self.subject;
 }
 
 abbrev pub decreases-places : goal.decreases-places

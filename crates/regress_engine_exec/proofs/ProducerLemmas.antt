@@ -1,0 +1,217 @@
+-- The items of a producer: what is found, and what comes behind it.
+use Rattle.std.specs.Prelude.{option_map, All, IfSome, nat_le, not, map}
+use Rattle.std.specs.Str.{IsUtf8, IsCharBoundary}
+use Rattle.std.specs.declared.ops.Range.{Range}
+use Rattle.std.proofs.lemmas.List.Elements.{All-nil, All-cons, All-head, All-tail}
+use Rattle.std.proofs.Common.{◌≡◌, ℕ, zero, suc, ◌-◌, ◌<◌, ◌≤◌, ◌⊎◌, inl, inr, ◌==◌, Bool, List, [], ◌∷◌, length, Option, Some, None, if◌then◌else◌, refl, sym, ap, ◌∙◌, subst, arith}
+use Rattle.std.proofs.Math.Logic.{∥∥₁_map}
+use Rattle.std.proofs.lemmas.Bool.{cases_lt, cond_both, eq-eqb, le-leb, lt-leb, ne_eqb}
+use Rattle.regress_meaning.specs.Meaning.{Forward}
+use Rattle.regress_meaning.specs.Inputs.{Input, context_of}
+use Rattle.regress_meaning.specs.Matches.{Item}
+use Rattle.regress_meaning.specs.Offsets.{offset, of_utf8, told, Begins}
+use Rattle.regress_front_nodes.specs.Trees.{Tree}
+use Rattle.regress_front_nodes.specs.WellFormed.{IsWellFormed}
+use Rattle.regress_front_nodes.specs.NodeMatches.{node_match_list}
+use Rattle.regress_match.specs.declared.found.Match.{Match}
+use Rattle.regress_match.specs.Views.{ends, item_of}
+use Rattle.regress_match.specs.TextRanges.{LiesBetween, LiesInText}
+use Rattle.regress_match.specs.Iterating.{coming_on}
+use Rattle.regress_match.proofs.TextLemmas.{offset-le, offset_is_boundary}
+use Rattle.regress_engine_input.specs.Views.{View, Kind, utf8, AreOfKind, input_of, reading_of, reading_of_kind}
+use Rattle.regress_engine_input.proofs.KindLemmas.{tells, tells_bytes, end}
+use Rattle.regress_engine_code.specs.Instructions.{Program}
+use Rattle.regress_engine_code.specs.Standing.{program_of, target_of}
+use Rattle.regress_engine_code.specs.Layout.{IsLayout}
+use Rattle.regress_engine_runs.specs.Items.{Finds, Lists, found, later, nowhere, over, no_item, next_item, goes_on, begins_at}
+use Rattle.regress_engine_runs.specs.Meets.{IsAtPlace, AreAtPlaces}
+use Rattle.regress_engine_runs.specs.Stand.{RunsAsTree}
+use Rattle.regress_engine_runs.proofs.ItemLemmas.{lists, lists-from_offset}
+use Rattle.regress_engine_runs.proofs.WholeTree.{runs_as_tree}
+use Rattle.regress_engine_exec.specs.Sought.{IsMadeOf, IsItemAtPlaces, Sought, last_place, place_at, last_place-le, items_from, places_behind, IsPosition}
+use Rattle.regress_engine_exec.specs.SoughtOnce.{rises, same_items}
+use Rattle.regress_engine_exec.proofs.BackLemmas.{moves}
+use Rattle.regress_engine_exec.proofs.PlaceLemmas.{next-place}
+
+-- at the offset of a place the last place is that place
+last_place-is : (v : View) (n p : ℕ) → n ≤ length (reading_of v).points → p ≤ n → last_place (reading_of v) (offset (reading_of v) p) n ≡ p
+unfolding last_place
+last_place-is v zero p room low = omega (arith, low)
+last_place-is v (suc n) p room low = by_order (cases_lt p (suc n)) (last_place-is v n p)
+  where
+    abbrev chosen : Bool → ℕ
+    chosen b = if b then suc n else last_place (reading_of v) (offset (reading_of v) p) n
+
+    by_order : (p < suc n) ⊎ (suc n ≤ p) → (n ≤ length (reading_of v).points → p ≤ n → last_place (reading_of v) (offset (reading_of v) p) n ≡ p)
+        → chosen (nat_le (offset (reading_of v) (suc n)) (offset (reading_of v) p)) ≡ p
+    by_order (inl less) rest =
+        ap chosen (lt-leb (offset (reading_of v) (suc n)) (offset (reading_of v) p) (rises v.kind v.units p (suc n) less room)) ∙ rest (omega (arith, room)) (omega (arith, less))
+    by_order (inr more) rest =
+        let same : suc n ≡ p = omega (arith, low, more) in
+        ap chosen (le-leb (offset (reading_of v) (suc n)) (offset (reading_of v) p) (offset-le (reading_of v) (suc n) p more)) ∙ same
+
+pub place_at-is : (v : View) (p : ℕ) → p ≤ length (reading_of v).points → place_at (reading_of v) (offset (reading_of v) p) ≡ p
+place_at-is v p room = last_place-is v (length (reading_of v).points) p (omega arith) room
+
+-- of two places the later one has fewer behind it
+behind-less : (s : Sought) (at q : ℕ) → IsPosition s at → IsPosition s q → at < q → places_behind s q < places_behind s at
+behind-less s at q (p, room, e) (r, inside, f) less =
+    let here : place_at (reading_of s.view) at ≡ p = ap (place_at (reading_of s.view)) e ∙ place_at-is s.view p room in
+    let there : place_at (reading_of s.view) q ≡ r = ap (place_at (reading_of s.view)) f ∙ place_at-is s.view r inside in
+    let order : p < r = by_order (cases_lt p r) in
+    omega (arith, here, there, order, inside)
+  where
+    by_order : (p < r) ⊎ (r ≤ p) → p < r
+    by_order (inl h) = h
+    by_order (inr h) = absurd (omega (arith, less, e, f, offset-le (reading_of s.view) r p h))
+
+module _ (s : Sought) where
+  abbrev program : Program
+  program = program_of s.compiled
+
+  abbrev input : Input
+  input = input_of s.view
+
+  -- from a position on searches list the items from there on
+  pub items-listed : (at : ℕ) → IsPosition s at → ∥ Lists program input (Some at) (items_from s at) ∥₁
+  items-listed at (p, room, e) =
+      let place : ℕ = place_at (reading_of s.view) at in
+      let here : place ≡ p = ap (place_at (reading_of s.view)) e ∙ place_at-is s.view p room in
+      let back : offset (reading_of s.view) place ≡ at = ap (offset (reading_of s.view)) here ∙ sym e in
+      subst (λ o. ∥ Lists program input (Some o) (items_from s at) ∥₁) back
+      (s.sought.lists place (last_place-le (reading_of s.view) at (length (reading_of s.view).points))).lists
+
+  -- and nothing else
+  pub items-are : (at : ℕ) → IsPosition s at → (items : List Item) → ∥ Lists program input (Some at) items ∥₁ → items_from s at ≡ items
+  items-are at place items l = same_items program s.view (Some at) (items_from s at) items (items-listed at place) l
+
+  -- none where a search finds none
+  pub items-none : (at : ℕ) → IsPosition s at → Finds program input at None → items_from s at ≡ []
+  items-none at place finds = items-are at place [] ∣ no_item finds ∣₁
+
+  -- what comes on from where a search goes on behind an item
+  coming-listed : (i : Item) (next : Option ℕ) → next ≡ goes_on program input i → IfSome next (IsPosition s)
+      → ∥ Lists program input (goes_on program input i) (coming_on (items_from s) next) ∥₁
+  coming-listed i None e inside = ∣ subst (λ o. Lists program input o []) e (over) ∣₁
+  coming-listed i (Some q) e inside = ∥∥₁_map (items-listed q inside) (λ l. subst (λ o. Lists program input o (items_from s q)) e l)
+
+  -- what a search finds, and then what comes behind it
+  pub items-next : (at : ℕ) → IsPosition s at → (i : Item) (next : Option ℕ) → Finds program input at (Some i) → next ≡ goes_on program input i → IfSome next (IsPosition s)
+      → items_from s at ≡ i ∷ coming_on (items_from s) next
+  items-next at place i next finds e inside =
+      items-are at place (i ∷ coming_on (items_from s) next) (∥∥₁_map (coming-listed i next e inside) (λ l. next_item finds l))
+
+  module _ (all : AreOfKind s.view.kind s.view.units) where
+    -- a search goes on at a place
+    pub goes_on-place : (i : Item) → IsItemAtPlaces (reading_of s.view) i → (next : Option ℕ) → next ≡ goes_on program input i → IfSome next (IsPosition s)
+    goes_on-place i inside next e =
+        subst (λ o. IfSome o (IsPosition s)) (sym e)
+        (cond_both (i.start == i.end) (option_map (λ x. x.1) (input.next Forward i.end)) (Some i.end) (λ o. IfSome o (IsPosition s))
+        (λ _. by_next (input.next Forward i.end) refl) (λ _. inside.0.1))
+      where
+        by_next : (x : Option (ℕ × ℕ)) → input.next Forward i.end ≡ x → IfSome (option_map (λ x. x.1) x) (IsPosition s)
+        by_next None f = tt
+        by_next (Some x) f = next-place s.view all Forward i.end x.0 x.1 inside.0.1 f
+
+  -- a search finds what begins no earlier than it
+  finds-from : {at : ℕ} {o : Option Item} → Finds program input at o → IfSome o (λ i. at ≤ i.start)
+  finds-from (found a) = omega arith
+  finds-from (later {at = at} {c = c} {next = next} {i = i} a e h) = by_item i (finds-from h)
+    where
+      by_item : (o : Option Item) → IfSome o (λ i. next ≤ i.start) → IfSome o (λ i. at ≤ i.start)
+      by_item None low = tt
+      by_item (Some j) low = let past = moves s.view Forward at c next e in omega (arith, low, past)
+  finds-from (nowhere a e) = tt
+
+  -- and goes on behind where it began
+  goes_on-past : (i : Item) → IsItemAtPlaces (reading_of s.view) i → (q : ℕ) → goes_on program input i ≡ Some q → i.start < q
+  goes_on-past i inside q e =
+      by_ends (cases_lt i.start i.end)
+    where
+      abbrev on : Bool → Option ℕ
+      on b = if b then option_map (λ (x : ℕ × ℕ). x.1) (input.next Forward i.end) else Some i.end
+
+      by_next : (x : Option (ℕ × ℕ)) → input.next Forward i.end ≡ x → option_map (λ (x : ℕ × ℕ). x.1) x ≡ Some q → i.end < q
+      by_next None f g = absurd (cc)
+      by_next (Some x) f g = let same : x.1 ≡ q = cc in let past = moves s.view Forward i.end x.0 x.1 f in omega (arith, same, past)
+
+      by_ends : (i.start < i.end) ⊎ (i.end ≤ i.start) → i.start < q
+      by_ends (inl less) =
+          let f : Some i.end ≡ Some q = sym (ap on (ne_eqb i.start i.end (λ same. absurd (omega (arith, same, less))))) ∙ e in
+          let same : i.end ≡ q = cc in
+          omega (arith, same, less)
+      by_ends (inr more) =
+          let same : i.start ≡ i.end = omega (arith, more, inside.0.2) in
+          let past = by_next (input.next Forward i.end) refl (sym (ap on (eq-eqb i.start i.end same)) ∙ e) in
+          omega (arith, same, past)
+
+  -- fewer places lie behind where a search goes on
+  pub goes_on-nearer : (at : ℕ) → IsPosition s at → (i : Item) → Finds program input at (Some i) → IsItemAtPlaces (reading_of s.view) i
+      → (next : Option ℕ) → next ≡ goes_on program input i → IfSome next (IsPosition s) → IfSome next (λ q. places_behind s q < places_behind s at)
+  goes_on-nearer at place i finds inside None e there = tt
+  goes_on-nearer at place i finds inside (Some q) e there =
+      let from : at ≤ i.start = finds-from finds in
+      let past = goes_on-past i inside q (sym e) in
+      behind-less s at q place there (omega (arith, from, past))
+
+  -- a search that starts at an offset begins at a place, if at any
+  pub start-place : AreOfKind s.view.kind s.view.units → (at p : ℕ) → Begins (reading_of s.view) at p → (o : Option ℕ) → o ≡ begins_at input at → IfSome o (IsPosition s)
+  start-place all at p (inl (room, e)) o f =
+      subst (λ x. IfSome x (IsPosition s)) (sym f)
+      (cond_both (nat_le at (length input.units)) (Some at) None (λ x. IfSome x (IsPosition s)) (λ _. (p, room, sym e)) (λ _. tt))
+  start-place all at p (inr (past, more)) o f =
+      let last = end s.view.kind s.view.units all in
+      let none : begins_at input at ≡ None = ap (λ (b : Bool). if b then Some at else None) (lt-leb at (length s.view.units) (omega (arith, more, last))) in
+      subst (λ x. IfSome x (IsPosition s)) (sym (f ∙ none)) (tt)
+
+  -- the items are those of each tree that the program is a layout of
+  module _ (all : AreOfKind s.view.kind s.view.units) (is_made : IsMadeOf s.compiled s.view) (n : ℕ) (t : Tree) (formed : IsWellFormed n t) (layout : IsLayout (target_of s.compiled) n t) where
+    runs : RunsAsTree program input (reading_of s.view) n t
+    runs =
+        runs_as_tree (target_of s.compiled) input (reading_of s.view) (tells s.view.kind s.view.table s.view.unicode s.view.units all)
+        (λ none. tells_bytes s.view.kind s.view.table s.view.unicode s.view.units all (is_made.kind ∙ ap not none)) is_made.made n t formed layout
+
+    abbrev told_from : ℕ → List Item
+    told_from p = map (told (reading_of s.view)) (node_match_list (context_of (reading_of s.view) input) n t p)
+
+    pub items-of_tree : (p : ℕ) → p ≤ length (reading_of s.view).points → items_from s (offset (reading_of s.view) p) ≡ told_from p
+    items-of_tree p room =
+        items-are (offset (reading_of s.view) p) (p, room, refl) (told_from p)
+        ∣ lists program input (reading_of s.view) (tells s.view.kind s.view.table s.view.unicode s.view.units all) n t runs p room ∣₁
+
+    pub items-asked : (at p : ℕ) → Begins (reading_of s.view) at p → (o : Option ℕ) → o ≡ begins_at input at → coming_on (items_from s) o ≡ told_from p
+    items-asked at p begins o e =
+        same_items program s.view (begins_at input at) (coming_on (items_from s) o) (told_from p) (asked o e (start-place all at p begins o e))
+        ∣ (lists-from_offset program input (reading_of s.view) (tells s.view.kind s.view.table s.view.unicode s.view.units all) n t runs (end s.view.kind s.view.units all) at p begins (told_from p)).1 refl ∣₁
+      where
+        asked : (o : Option ℕ) → o ≡ begins_at input at → IfSome o (IsPosition s) → ∥ Lists program input (begins_at input at) (coming_on (items_from s) o) ∥₁
+        asked None e inside = ∣ subst (λ x. Lists program input x []) e (over) ∣₁
+        asked (Some q) e inside = ∥∥₁_map (items-listed q inside) (λ l. subst (λ x. Lists program input x (items_from s q)) e l)
+
+-- ---- over UTF-8
+
+module _ (bytes : List ℕ) (utf8_text : IsUtf8 bytes) where
+  -- a place lies between characters
+  boundary : (o : ℕ) → IsAtPlace (of_utf8 bytes) o → IsCharBoundary bytes o
+  boundary o (p, room, e) = subst (IsCharBoundary bytes) (sym e) (offset_is_boundary bytes utf8_text p)
+
+  between : (r : Range ℕ) → AreAtPlaces (of_utf8 bytes) (ends r) → LiesBetween bytes r
+  between r inside = (inside.2, boundary r.start inside.0, boundary r.end inside.1)
+
+  group-between : (g : Option (Range ℕ)) → IfSome (option_map ends g) (AreAtPlaces (of_utf8 bytes)) → IfSome g (LiesBetween bytes)
+  group-between None inside = tt
+  group-between (Some r) inside = between r inside
+
+  groups-between : (gs : List (Option (Range ℕ))) → All (λ g. IfSome g (AreAtPlaces (of_utf8 bytes))) (map (option_map ends) gs) → All (λ g. IfSome g (LiesBetween bytes)) gs
+  groups-between [] inside = All-nil (λ g. IfSome g (LiesBetween bytes))
+  groups-between (g ∷ gs) inside =
+      All-cons (λ g. IfSome g (LiesBetween bytes)) g gs (group-between g (All-head (λ g. IfSome g (AreAtPlaces (of_utf8 bytes))) (option_map ends g) (map (option_map ends) gs) inside))
+      (groups-between gs (All-tail (λ g. IfSome g (AreAtPlaces (of_utf8 bytes))) (option_map ends g) (map (option_map ends) gs) inside))
+
+  lies-in_text : (m : Match) → IsItemAtPlaces (of_utf8 bytes) (item_of m) → LiesInText bytes m
+  lies-in_text m inside = (between m.range inside.0, groups-between m.captures.items inside.1)
+
+-- over UTF-8 a match lies in the text, between characters
+pub match-in_utf8 : (kind : Kind) (units : List ℕ) → kind ≡ utf8 → IsUtf8 units → (m : Match) → IsItemAtPlaces (reading_of_kind kind units) (item_of m) → LiesInText units m
+match-in_utf8 kind units e text m inside =
+    lies-in_text units text m (subst (λ k. IsItemAtPlaces (reading_of_kind k units) (item_of m)) e inside)

@@ -1,0 +1,23 @@
+//! Laws of executors, each the contract of a function with an empty body.
+ghost use Rattle.std.specs.Prelude.{◌≡◌, ◌≤◌, ℕ, Option, length, map};
+ghost use Rattle.std.specs.Str.{IsUtf8};
+ghost use Rattle.regress_meaning.specs.Inputs.{context_of};
+ghost use Rattle.regress_meaning.specs.Offsets.{Begins, offset, told};
+ghost use Rattle.regress_front_nodes.specs.Trees.{Tree};
+ghost use Rattle.regress_front_nodes.specs.WellFormed.{IsWellFormed};
+ghost use Rattle.regress_front_nodes.specs.NodeMatches.{node_match_list};
+ghost use Rattle.regress_match.specs.declared.found.Match.{Match};
+ghost use Rattle.regress_match.specs.Iterating.{coming_on};
+ghost use Rattle.regress_match.specs.TextRanges.{IsMatchIn};
+ghost use Rattle.regress_engine_input.specs.Views.{AreOfKind, utf8, input_of, reading_of};
+ghost use Rattle.regress_engine_code.specs.Layout.{IsLayout};
+ghost use Rattle.regress_engine_code.specs.Standing.{names_of, target_of};
+ghost use Rattle.regress_engine_exec.specs.Sought.{Sought, IsMadeOf, IsMatchOf, StartsAt, items_from};
+
+/// What an executor finds is the match list of each tree that its program is a layout of, told in offsets: from each place, and
+/// from each offset at which a search may start. Over UTF-8 its matches lie in the text, between characters.
+pub fn executors_list_matches()
+    ensures items { (s : Sought) → AreOfKind s.view.kind s.view.units → IsMadeOf s.compiled s.view → (n : ℕ) → (t : Tree) → IsWellFormed n t → IsLayout (target_of s.compiled) n t → (p : ℕ) → p ≤ length (reading_of s.view).points → items_from s (offset (reading_of s.view) p) ≡ map (told (reading_of s.view)) (node_match_list (context_of (reading_of s.view) (input_of s.view)) n t p) }
+    ensures asked { (s : Sought) → AreOfKind s.view.kind s.view.units → IsMadeOf s.compiled s.view → (n : ℕ) → (t : Tree) → IsWellFormed n t → IsLayout (target_of s.compiled) n t → (at p : ℕ) → Begins (reading_of s.view) at p → (position : Option ℕ) → StartsAt s at position → coming_on (items_from s) position ≡ map (told (reading_of s.view)) (node_match_list (context_of (reading_of s.view) (input_of s.view)) n t p) }
+    ensures in_utf8 { (s : Sought) → s.view.kind ≡ utf8 → IsUtf8 s.view.units → (m : Match) → IsMatchOf s m → IsMatchIn s.view.units (names_of s.compiled) m }
+{}

@@ -1,0 +1,55 @@
+//! What is sought, and where.
+ghost use Rattle.std.specs.Prelude.{◌≡◌, length, option_map};
+ghost use Rattle.regress_meaning.specs.Meaning.{Forward};
+ghost use Rattle.regress_match.specs.Views.{item_of};
+ghost use Rattle.regress_engine_input.specs.Views.{CanRead, input_of, reading_of};
+ghost use Rattle.regress_engine_code.specs.Standing.{program_of};
+ghost use Rattle.regress_engine_runs.specs.Items.{goes_on};
+ghost use Rattle.regress_engine_exec.specs.Sought.{IsSought, IsItemAtPlaces};
+ghost use Rattle.regress_engine_exec.specs.SoughtOnce.{IsSought-prop};
+
+use crate::shown::{ExecutorInput, Shown};
+use regress_engine_code::CompiledRegex;
+use regress_engine_input::{InputIndexer, PositionType};
+use regress_match::Match;
+
+/// A program, and a text in which it may be sought.
+#[derive(Debug, Drop)]
+pub(crate) struct Subject<'r, Input: Shown> {
+    pub(crate) program: &'r CompiledRegex<'r>,
+    pub(crate) input: Input,
+    pub(crate) ghost sought: { IsSought (program_of program.now) (Input.shown input) } by { IsSought-prop (program_of program.now) (Input.shown input) },
+}
+
+impl<'r, Input: ExecutorInput> Subject<'r, Input> {
+    /// How many units the text has.
+    pub(crate) fn text_len(&self) -> usize
+        ensures { result ≡ length (Input.view self.now.input).units }
+    {
+        self.input.pos_to_offset(self.input.right_end())
+    }
+
+    /// The offset behind the character that begins at one, or `None` where the text ends there.
+    fn behind(&self, offset: usize) -> Option<usize>
+        requires { CanRead (Input.view self.now.input) offset }
+        ensures { result ≡ option_map (λ x. x.1) ((input_of (Input.view self.now.input)).next Forward offset) }
+    {
+        let position = <Input::Position as PositionType>::new(offset);
+        let behind = self.input.next_right_pos(position)?;
+        Some(self.input.pos_to_offset(behind))
+    }
+
+    /// Where a search goes on behind a match: where the match ends, or behind an empty match behind the next character;
+    /// `None` where no character follows ("AdvanceStringIndex").
+    pub(crate) fn goes_on(&self, found: &Match) -> Option<usize>
+        requires { IsItemAtPlaces (reading_of (Input.view self.now.input)) (item_of found.now) }
+        ensures { result ≡ goes_on (program_of self.now.program.now) (input_of (Input.view self.now.input)) (item_of found.now) }
+    {
+        let end = found.end();
+        if found.start() == end {
+            self.behind(end)
+        } else {
+            Some(end)
+        }
+    }
+}
