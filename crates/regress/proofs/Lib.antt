@@ -5,3 +5,4 @@ pub mod LawLemmas
 pub mod AskingLemmas
 pub mod ProgramLemmas
 pub mod ShownLemmas
+pub mod ListedLemmas

@@ -1,5 +1,6 @@
 -- The programs of a pattern that was read, and when they pass no count.
-use Rattle.std.proofs.Common.{◌≡◌, ◌≢◌, ℕ, ◌+◌, ◌*◌, ◌<◌, ◌≤◌, ◌⊎◌, Bool, false, List, length, map, chars, Result, Ok, Err, IfErr, inl, inr, refl, sym, ap, subst, ◌∙◌, arith}
+use Rattle.std.proofs.Common.{◌≡◌, ◌≢◌, ℕ, ◌+◌, ◌*◌, ◌<◌, ◌≤◌, ◌⊎◌, Bool, false, List, length, map, chars, inl, inr, refl, sym, ap, subst, ◌∙◌, arith}
+use Rattle.std.proofs.Math.Logic.{∥∥₁_map}
 use Rattle.std.proofs.Math.Nat.{mul-le-mul}
 use Rattle.std.proofs.lemmas.List.{length-map}
 use Rattle.std.proofs.lemmas.Simd.{map-map}
@@ -94,10 +95,10 @@ short-passes-none t o text plain short passes = few passes.many
     groups = length (names_of passes.pattern)
 
     square : (length text + 4) * (length text + 4) ≤ 10004 * 10004
-    square = mul-le-mul (omega (arith, short)) (omega (arith, short))
+    square = let room : length text + 4 ≤ 10004 = omega (arith, short) in mul-le-mul room room
 
     looped : loops node * groups ≤ 10000 * 65535
-    looped = mul-le-mul (let few = passes.of_text.whole.few_loops in omega (arith, few, short)) passes.of_text.within.groups
+    looped = let few = passes.of_text.whole.few_loops in let room : loops node ≤ 10000 = omega (arith, few, short) in mul-le-mul room passes.of_text.within.groups
 
     few : AreTooMany (count passes.units t (is_unicode o) node) (loops node) → ⊥
     few (inl more) =
@@ -106,8 +107,25 @@ short-passes-none t o text plain short passes = few passes.many
         absurd (omega (arith, more, bounded, small, square, looped))
     few (inr more) = let few = passes.of_text.whole.few_loops in absurd (omega (arith, more, few, short))
 
--- so none is refused as too large
-pub short-fits : {A : Type 0} (t : Table) (o : Options) (text : List ℕ) (made : Result A Error) → IfErr made (MayRefuseRegex t o text)
-    → o.sets ≡ false → length text ≤ 10000 → IfErr made (λ e. e ≢ TooLarge)
-short-fits t o text (Ok r) refused plain short = tt
-short-fits t o text (Err e) refused plain short = λ large. short-passes-none t o text plain short (subst (MayRefuseRegex t o text) large refused)
+-- so it is not refused as too large
+pub refused-fits : (t : Table) (o : Options) (text : List ℕ) (e : Error) → MayRefuseRegex t o text e → o.sets ≡ false → length text ≤ 10000 → e ≢ TooLarge
+refused-fits t o text e refused plain short large = short-passes-none t o text plain short (subst (MayRefuseRegex t o text) large refused)
+
+copied-target : (compiled copy : CompiledRegex) → code.IsCopyOf compiled copy → target_of copy ≡ target_of compiled
+copied-target compiled copy same = λ i. record { program = same.program i; table = table (same.tables i); unicode = is_unicode (options (same.flags i)) }
+
+-- a copy of a program is one of the same tree
+pub copied-tree : (compiled copy : CompiledRegex) → code.IsCopyOf compiled copy → ∥ IsOfTree compiled ∥₁ → ∥ IsOfTree copy ∥₁
+copied-tree compiled copy same of_tree = ∥∥₁_map of_tree (λ (n, t, formed, layout). (n, t, formed, subst (λ target. IsLayout target n t) (sym (copied-target compiled copy same)) layout))
+
+-- and of the same pattern
+pub copied-program : (compiled copy : CompiledRegex) → code.IsCopyOf compiled copy → (t : Table) (o : Options) (p : Pattern) → IsProgramOf compiled t o p → IsProgramOf copy t o p
+copied-program compiled copy same t o p stands = record {
+  table = ap table same.tables ∙ stands.table;
+  flags = ap options same.flags ∙ stands.flags;
+  names = ap (map chars) same.names ∙ stands.names;
+  node = stands.node;
+  well_formed = stands.well_formed;
+  layout = subst (λ target. IsLayout target (length (names_of p)) stands.node) (sym (copied-target compiled copy same)) stands.layout;
+  alike = stands.alike;
+}

@@ -17,12 +17,9 @@ use Rattle.regress.specs.Programs.{IsProgramOf}
 abbrev pub source_of : Regex → List ℕ
 source_of r = string_bytes r.source
 
--- The compiled pattern stands for the tree, under this table and these options: its groups have the
--- same names, it is alike it, and its programs are the tree's.
+-- The compiled pattern stands for the tree, under this table and these options: its groups have the same names, and both its
+-- programs are the tree's.
 pub record StandsFor (r : Regex) (t : Table) (o : Options) (p : Pattern) : Type 0 where
-  pub tables : table r.tables.now ≡ t
-  pub flags : options r.flags ≡ o
   pub names : map chars (shared_names r.group_names) ≡ names_of p
-  pub alike : IsAlike t (is_unicode o) (λ context. node_outcomes context (tree r.node) Forward) (λ context. outcomes context p Forward (first_settings o))
   pub bytes : IsProgramOf r.byte_program t o p
   pub units : IsProgramOf r.unit_program t o p

@@ -1,5 +1,6 @@
 //! The user's calls.
 ghost use Rattle.std.specs.Iterator.{HoldsAfterAnyCalls};
+ghost use Rattle.std.proofs.Props.{props};
 ghost use Rattle.std.specs.Prelude.{◌≡◌, ◌≢◌, ◌≤◌, ◌↔◌, ℕ, true, false, All, IsTrue, IfOk, IfErr, IfSome, Some, Err, IsOkUnless, IsCharBoundary, chars, length, map, slice_get, option_map};
 ghost use Rattle.regress_meaning.specs.Table.{Table};
 ghost use Rattle.regress_meaning.specs.Pattern.{Pattern};
@@ -21,7 +22,7 @@ ghost use Rattle.regress.specs.Texts.{shown_text};
 use crate::matches::Matches;
 use crate::text::{code_points, text_of};
 use regress_engine_code::{CompiledRegex, emit, emit_units};
-use regress_front::{CaptureGroupName, Error, Flags, Node, Tables, try_parse};
+use regress_front::{CaptureGroupName, Error, Flags, Tables, try_parse};
 use regress_match::Match;
 use std::alloc::Global;
 use std::sync::ArcSlice;
@@ -41,10 +42,7 @@ pub fn is_start(text: &str, start: usize) -> bool
 #[derive(Debug, Drop)]
 pub struct Regex<'u> {
     pub(crate) alloc: Global,
-    pub(crate) tables: &'u Tables,
-    pub(crate) flags: Flags,
     pub(crate) source: String,
-    pub(crate) node: Node,
     pub(crate) group_names: ArcSlice<CaptureGroupName>,
     pub(crate) byte_program: CompiledRegex<'u>,
     pub(crate) unit_program: CompiledRegex<'u>,
@@ -128,10 +126,7 @@ impl<'u> Regex<'u> {
         let group_names = byte_program.shared_group_names()?;
         Ok(Regex {
             alloc,
-            tables,
-            flags,
             source,
-            node: tree.node,
             group_names,
             byte_program,
             unit_program,
@@ -205,6 +200,6 @@ impl<'u> Regex<'u> {
         ensures named { IfOk result (λ ms. sought_names ms ≡ shared_names self.now.group_names) }
         ensures refused { IsOkUnless result Error.OutOfMemory }
     {
-        Matches::new(self, text, start)
+        Ok(Matches::new(self, text, start))
     }
 }

@@ -65,6 +65,29 @@ impl<'u> Regex<'u> {
     {
         self.group_names.len() + 1
     }
+    /// The same regex once more: it stands for the same pattern, and has the same text. Errs with `OutOfMemory` alone.
+    ///
+    /// ```rust
+    /// let copy = regex.try_clone()?;
+    /// ```
+    pub fn try_clone(&self) -> Result<Regex<'u>, Error>
+        ensures stands { (t : Table) → (o : Options) → (p : Pattern) → StandsFor self.now t o p → IfOk result (λ r. StandsFor r t o p) }
+        ensures named { IfOk result (λ r. shared_names r.group_names ≡ shared_names self.now.group_names) }
+        ensures text { IfOk result (λ r. source_of r ≡ source_of self.now) }
+        ensures refused { IsOkUnless result Error.OutOfMemory }
+    {
+        let byte_program = self.byte_program.try_clone(self.alloc)?;
+        let unit_program = self.unit_program.try_clone(self.alloc)?;
+        let group_names = byte_program.shared_group_names()?;
+        Ok(Regex {
+            alloc: self.alloc,
+            source: self.source.clone()?,
+            group_names,
+            byte_program,
+            unit_program,
+        })
+    }
+
     /// The pattern's text. In that of a pattern that was given as code points, U+FFFD stands for each surrogate.
     ///
     /// ```rust

@@ -67,7 +67,7 @@ impl<'r, Input: ExecutorInput> BacktrackExecutor<'r, Input> {
     /// let mut executor = BacktrackExecutor::with_input(alloc, &program, input);
     /// ```
     pub fn with_input(alloc: Global, program: &'r CompiledRegex<'r>, input: Input) -> Self
-        requires sought { (n : ℕ) × (t : Tree) × IsWellFormed n t × IsLayout (target_of program.now) n t }
+        requires sought { ∥ (n : ℕ) × (t : Tree) × IsWellFormed n t × IsLayout (target_of program.now) n t ∥₁ }
         requires made { IsMadeOf program.now (Input.view input) }
         ensures program { (⟦<BacktrackExecutor<'r, Input> as MatchProducer>⟧.sought result).compiled ≡ program.entry.now }
         ensures text { (⟦<BacktrackExecutor<'r, Input> as MatchProducer>⟧.sought result).view ≡ Input.view input }
@@ -141,7 +141,7 @@ impl<'r, 't> BacktrackExecutor<'r, Utf8Input<'r, 't>> {
     /// let mut executor = BacktrackExecutor::new(alloc, &program, "aab");
     /// ```
     pub fn new(alloc: Global, program: &'r CompiledRegex<'r>, text: &'t str) -> Self
-        requires sought { (n : ℕ) × (t : Tree) × IsWellFormed n t × IsLayout (target_of program.now) n t }
+        requires sought { ∥ (n : ℕ) × (t : Tree) × IsWellFormed n t × IsLayout (target_of program.now) n t ∥₁ }
         requires bytes { program.now.units ≡ false }
         ensures program { (⟦<BacktrackExecutor<'r, Utf8Input<'r, 't>> as MatchProducer>⟧.sought result).compiled ≡ program.entry.now }
         ensures text { (⟦<BacktrackExecutor<'r, Utf8Input<'r, 't>> as MatchProducer>⟧.sought result).view ≡ record { kind = utf8; units = text.now; table = table program.entry.now.tables.now; unicode = is_unicode (options program.entry.now.flags) } }

@@ -72,3 +72,14 @@ fn a_surrogate_is_shown_as_another_character(rt: HostRuntime) -> Result<(), Fail
     assert!(rt; regex.as_str() == "a\u{FFFD}\u{FFFD}\u{10FFFF}");
     Ok(())
 }
+
+#[test]
+fn a_copy_searches_as_the_first_does(rt: HostRuntime) -> Result<(), Fail> {
+    let tables = Tables::small(rt.alloc())?;
+    let regex = compiled(rt.alloc(), "(?:)|(é)", "i", &tables)?;
+    let copy = regex.try_clone()?;
+    let told = matches_from(rt.alloc(), &copy, "xé", 1)?;
+    assert!(rt; told.as_str() == matches_from(rt.alloc(), &regex, "xé", 1)?.as_str());
+    assert!(rt; told.as_str() == "1..1 -|3..3 -" && copy.as_str() == "(?:)|(é)");
+    Ok(())
+}
