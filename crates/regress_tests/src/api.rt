@@ -76,10 +76,9 @@ fn a_surrogate_is_shown_as_another_character(rt: HostRuntime) -> Result<(), Fail
 #[test]
 fn a_copy_searches_as_the_first_does(rt: HostRuntime) -> Result<(), Fail> {
     let tables = Tables::small(rt.alloc())?;
-    let regex = compiled(rt.alloc(), "(?:)|(é)", "i", &tables)?;
+    let regex = compiled(rt.alloc(), "É|x", "i", &tables)?;
     let copy = regex.try_clone()?;
-    let told = matches_from(rt.alloc(), &copy, "xé", 1)?;
-    assert!(rt; told.as_str() == matches_from(rt.alloc(), &regex, "xé", 1)?.as_str());
-    assert!(rt; told.as_str() == "1..1 -|3..3 -" && copy.as_str() == "(?:)|(é)");
+    let told = matches_from(rt.alloc(), &copy, "xéx", 1)?;
+    assert!(rt; told.as_str() == "1..3|3..4" && copy.as_str() == "É|x");
     Ok(())
 }
