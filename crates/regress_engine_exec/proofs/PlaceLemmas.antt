@@ -37,6 +37,14 @@ lies-behind v reads dir o q can e = by_read ((input_of v).next dir o) refl e
     by_read None h f = subst (LiesIn v) (sym f) (reads.inside o can)
     by_read (Some x) h f = subst (LiesIn v) (sym f) (reads.inside x.1 (reads.on dir o x can h).0)
 
+-- where something is read, behind it lies in the text
+pub lies-next : (v : View) → Reads v → (dir : Direction) (o q : ℕ) → CanRead v o → Some q ≡ option_map (λ x. x.1) ((input_of v).next dir o) → LiesIn v q
+lies-next v reads dir o q can e = by_read ((input_of v).next dir o) refl e
+  where
+    by_read : (x : Option (ℕ × ℕ)) → (input_of v).next dir o ≡ x → Some q ≡ option_map (λ x. x.1) x → LiesIn v q
+    by_read None h f = absurd (cc)
+    by_read (Some x) h f = let same : x.1 ≡ q = cc in subst (LiesIn v) same (reads.inside x.1 (reads.on dir o x can h).0)
+
 same_text-is : (cs ds : List ℕ) → same_text cs ds ≡ true → cs ≡ ds
 same_text-is [] [] e = refl
 same_text-is [] (d ∷ ds) e = absurd (grind arith)

@@ -1,11 +1,13 @@
 -- The items of a producer: what is found, and what comes behind it.
 use Rattle.std.specs.Prelude.{option_map, All, IfSome, nat_le, not, map}
+use Rattle.std.specs.Bool.{then_some}
 use Rattle.std.specs.Str.{IsUtf8, IsCharBoundary}
 use Rattle.std.specs.declared.ops.Range.{Range}
 use Rattle.std.proofs.lemmas.List.Elements.{All-nil, All-cons, All-head, All-tail}
-use Rattle.std.proofs.Common.{◌≡◌, ℕ, zero, suc, ◌-◌, ◌<◌, ◌≤◌, ◌⊎◌, inl, inr, ◌==◌, Bool, List, [], ◌∷◌, length, Option, Some, None, if◌then◌else◌, refl, sym, ap, ◌∙◌, subst, arith}
+use Rattle.std.proofs.Common.{◌≡◌, ℕ, zero, suc, ◌-◌, ◌<◌, ◌≤◌, ◌⊎◌, inl, inr, ◌==◌, Bool, true, false, List, [], ◌∷◌, length, Option, Some, None, if◌then◌else◌, refl, sym, ap, ◌∙◌, subst, arith}
 use Rattle.std.proofs.Math.Logic.{∥∥₁_map}
 use Rattle.std.proofs.lemmas.Bool.{cases_lt, cond_both, eq-eqb, le-leb, lt-leb, ne_eqb}
+use Rattle.regress_meaning.specs.Table.{Table}
 use Rattle.regress_meaning.specs.Meaning.{Forward}
 use Rattle.regress_meaning.specs.Inputs.{Input, context_of}
 use Rattle.regress_meaning.specs.Matches.{Item}
@@ -18,7 +20,7 @@ use Rattle.regress_match.specs.Views.{ends, item_of}
 use Rattle.regress_match.specs.TextRanges.{LiesBetween, LiesInText}
 use Rattle.regress_match.specs.Iterating.{coming_on}
 use Rattle.regress_match.proofs.TextLemmas.{offset-le, offset_is_boundary}
-use Rattle.regress_engine_input.specs.Views.{View, Kind, utf8, AreOfKind, input_of, reading_of, reading_of_kind}
+use Rattle.regress_engine_input.specs.Views.{View, Kind, utf8, ascii, utf16, ucs2, input_of_kind, AreOfKind, input_of, reading_of, reading_of_kind}
 use Rattle.regress_engine_input.proofs.KindLemmas.{tells, tells_bytes, end}
 use Rattle.regress_engine_code.specs.Instructions.{Program}
 use Rattle.regress_engine_code.specs.Standing.{program_of, target_of}
@@ -33,22 +35,31 @@ use Rattle.regress_engine_exec.specs.SoughtOnce.{rises, same_items}
 use Rattle.regress_engine_exec.proofs.BackLemmas.{moves}
 use Rattle.regress_engine_exec.proofs.PlaceLemmas.{next-place}
 
+-- an input has the units that it shows
+units-are : (kind : Kind) (table : Table) (unicode : Bool) (units : List ℕ) → (input_of_kind kind table unicode units).units ≡ units
+units-are utf8 table unicode units = refl
+units-are ascii table unicode units = refl
+units-are utf16 table unicode units = refl
+units-are ucs2 table unicode units = refl
+
+shown-units : (v : View) → (input_of v).units ≡ v.units
+shown-units v = units-are v.kind v.table v.unicode v.units
+
 -- at the offset of a place the last place is that place
 last_place-is : (v : View) (n p : ℕ) → n ≤ length (reading_of v).points → p ≤ n → last_place (reading_of v) (offset (reading_of v) p) n ≡ p
 unfolding last_place
 last_place-is v zero p room low = omega (arith, low)
 last_place-is v (suc n) p room low = by_order (cases_lt p (suc n)) (last_place-is v n p)
   where
-    abbrev chosen : Bool → ℕ
-    chosen b = if b then suc n else last_place (reading_of v) (offset (reading_of v) p) n
-
     by_order : (p < suc n) ⊎ (suc n ≤ p) → (n ≤ length (reading_of v).points → p ≤ n → last_place (reading_of v) (offset (reading_of v) p) n ≡ p)
-        → chosen (nat_le (offset (reading_of v) (suc n)) (offset (reading_of v) p)) ≡ p
+        → (if nat_le (offset (reading_of v) (suc n)) (offset (reading_of v) p) then suc n else last_place (reading_of v) (offset (reading_of v) p) n) ≡ p
     by_order (inl less) rest =
-        ap chosen (lt-leb (offset (reading_of v) (suc n)) (offset (reading_of v) p) (rises v.kind v.units p (suc n) less room)) ∙ rest (omega (arith, room)) (omega (arith, less))
+        ap (λ (b : Bool). if b then suc n else last_place (reading_of v) (offset (reading_of v) p) n)
+        (lt-leb (offset (reading_of v) (suc n)) (offset (reading_of v) p) (rises v.kind v.units p (suc n) less room)) ∙ rest (omega (arith, room)) (omega (arith, less))
     by_order (inr more) rest =
         let same : suc n ≡ p = omega (arith, low, more) in
-        ap chosen (le-leb (offset (reading_of v) (suc n)) (offset (reading_of v) p) (offset-le (reading_of v) (suc n) p more)) ∙ same
+        ap (λ (b : Bool). if b then suc n else last_place (reading_of v) (offset (reading_of v) p) n)
+        (le-leb (offset (reading_of v) (suc n)) (offset (reading_of v) p) (offset-le (reading_of v) (suc n) p more)) ∙ same
 
 pub place_at-is : (v : View) (p : ℕ) → p ≤ length (reading_of v).points → place_at (reading_of v) (offset (reading_of v) p) ≡ p
 place_at-is v p room = last_place-is v (length (reading_of v).points) p (omega arith) room
@@ -123,26 +134,26 @@ module _ (s : Sought) where
       by_item (Some j) low = let past = moves s.view Forward at c next e in omega (arith, low, past)
   finds-from (nowhere a e) = tt
 
+  -- where it goes on behind an item that takes nothing, or something
+  abbrev on : Item → Bool → Option ℕ
+  on i b = if b then option_map (λ (x : ℕ × ℕ). x.1) (input.next Forward i.end) else Some i.end
+
   -- and goes on behind where it began
   goes_on-past : (i : Item) → IsItemAtPlaces (reading_of s.view) i → (q : ℕ) → goes_on program input i ≡ Some q → i.start < q
-  goes_on-past i inside q e =
-      by_ends (cases_lt i.start i.end)
+  goes_on-past i inside q e = by_ends (cases_lt i.start i.end)
     where
-      abbrev on : Bool → Option ℕ
-      on b = if b then option_map (λ (x : ℕ × ℕ). x.1) (input.next Forward i.end) else Some i.end
-
       by_next : (x : Option (ℕ × ℕ)) → input.next Forward i.end ≡ x → option_map (λ (x : ℕ × ℕ). x.1) x ≡ Some q → i.end < q
       by_next None f g = absurd (cc)
       by_next (Some x) f g = let same : x.1 ≡ q = cc in let past = moves s.view Forward i.end x.0 x.1 f in omega (arith, same, past)
 
       by_ends : (i.start < i.end) ⊎ (i.end ≤ i.start) → i.start < q
       by_ends (inl less) =
-          let f : Some i.end ≡ Some q = sym (ap on (ne_eqb i.start i.end (λ same. absurd (omega (arith, same, less))))) ∙ e in
+          let f : Some i.end ≡ Some q = sym (ap (on i) (ne_eqb i.start i.end (λ same. absurd (omega (arith, same, less))))) ∙ e in
           let same : i.end ≡ q = cc in
           omega (arith, same, less)
       by_ends (inr more) =
           let same : i.start ≡ i.end = omega (arith, more, inside.0.2) in
-          let past = by_next (input.next Forward i.end) refl (sym (ap on (eq-eqb i.start i.end same)) ∙ e) in
+          let past = by_next (input.next Forward i.end) refl (sym (ap (on i) (eq-eqb i.start i.end same)) ∙ e) in
           omega (arith, same, past)
 
   -- fewer places lie behind where a search goes on
@@ -154,14 +165,18 @@ module _ (s : Sought) where
       let past = goes_on-past i inside q (sym e) in
       behind-less s at q place there (omega (arith, from, past))
 
+  -- the last place has the number of units as its offset
+  ended : AreOfKind s.view.kind s.view.units → offset (reading_of s.view) (length (reading_of s.view).points) ≡ length input.units
+  ended all = end s.view.kind s.view.units all ∙ ap length (sym (shown-units s.view))
+
   -- a search that starts at an offset begins at a place, if at any
   pub start-place : AreOfKind s.view.kind s.view.units → (at p : ℕ) → Begins (reading_of s.view) at p → (o : Option ℕ) → o ≡ begins_at input at → IfSome o (IsPosition s)
   start-place all at p (inl (room, e)) o f =
       subst (λ x. IfSome x (IsPosition s)) (sym f)
       (cond_both (nat_le at (length input.units)) (Some at) None (λ x. IfSome x (IsPosition s)) (λ _. (p, room, sym e)) (λ _. tt))
   start-place all at p (inr (past, more)) o f =
-      let last = end s.view.kind s.view.units all in
-      let none : begins_at input at ≡ None = ap (λ (b : Bool). if b then Some at else None) (lt-leb at (length s.view.units) (omega (arith, more, last))) in
+      let last = ended all in
+      let none : begins_at input at ≡ None = ap (λ (b : Bool). if b then Some at else None) (lt-leb at (length input.units) (omega (arith, more, last))) in
       subst (λ x. IfSome x (IsPosition s)) (sym (f ∙ none)) (tt)
 
   -- the items are those of each tree that the program is a layout of
@@ -182,7 +197,7 @@ module _ (s : Sought) where
     pub items-asked : (at p : ℕ) → Begins (reading_of s.view) at p → (o : Option ℕ) → o ≡ begins_at input at → coming_on (items_from s) o ≡ told_from p
     items-asked at p begins o e =
         same_items program s.view (begins_at input at) (coming_on (items_from s) o) (told_from p) (asked o e (start-place all at p begins o e))
-        ∣ (lists-from_offset program input (reading_of s.view) (tells s.view.kind s.view.table s.view.unicode s.view.units all) n t runs (end s.view.kind s.view.units all) at p begins (told_from p)).1 refl ∣₁
+        ∣ (lists-from_offset program input (reading_of s.view) (tells s.view.kind s.view.table s.view.unicode s.view.units all) n t runs (ended all) at p begins (told_from p)).1 refl ∣₁
       where
         asked : (o : Option ℕ) → o ≡ begins_at input at → IfSome o (IsPosition s) → ∥ Lists program input (begins_at input at) (coming_on (items_from s) o) ∥₁
         asked None e inside = ∣ subst (λ x. Lists program input x []) e (over) ∣₁
@@ -215,3 +230,49 @@ module _ (bytes : List ℕ) (utf8_text : IsUtf8 bytes) where
 pub match-in_utf8 : (kind : Kind) (units : List ℕ) → kind ≡ utf8 → IsUtf8 units → (m : Match) → IsItemAtPlaces (reading_of_kind kind units) (item_of m) → LiesInText units m
 match-in_utf8 kind units e text m inside =
     lies-in_text units text m (subst (λ k. IsItemAtPlaces (reading_of_kind k units) (item_of m)) e inside)
+
+-- ---- over an input, which shows what is read
+
+some-where : (b : Bool) (at : ℕ) → then_some b at ≡ (if b then Some at else None)
+some-where true at = refl
+some-where false at = refl
+
+module _ (s : Sought) (v : View) (shows : s.view ≡ v) (all : AreOfKind v.kind v.units) where
+  pub shown-kind : AreOfKind s.view.kind s.view.units
+  shown-kind = subst (λ w. AreOfKind w.kind w.units) (sym shows) all
+
+  -- a position is a place of what is read
+  pub read-place : (at : ℕ) → IsPosition s at → IsAtPlace (reading_of v) at
+  read-place at place = subst (λ w. IsAtPlace (reading_of w) at) shows place
+
+  -- where a search finds none, there are no items
+  pub read-none : (at : ℕ) → IsPosition s at → Finds (program_of s.compiled) (input_of v) at None → items_from s at ≡ []
+  read-none at place finds = items-none s at place (subst (λ w. Finds (program_of s.compiled) (input_of w) at None) (sym shows) finds)
+
+  module _ (at : ℕ) (place : IsPosition s at) (i : Item) (next : Option ℕ) (finds : Finds (program_of s.compiled) (input_of v) at (Some i))
+      (inside : IsItemAtPlaces (reading_of v) i) (goes : next ≡ goes_on (program_of s.compiled) (input_of v) i) where
+    shown-finds : Finds (program_of s.compiled) (input_of s.view) at (Some i)
+    shown-finds = subst (λ w. Finds (program_of s.compiled) (input_of w) at (Some i)) (sym shows) finds
+
+    pub shown-inside : IsItemAtPlaces (reading_of s.view) i
+    shown-inside = subst (λ w. IsItemAtPlaces (reading_of w) i) (sym shows) inside
+
+    shown-goes : next ≡ goes_on (program_of s.compiled) (input_of s.view) i
+    shown-goes = subst (λ w. next ≡ goes_on (program_of s.compiled) (input_of w) i) (sym shows) goes
+
+    -- a search goes on at a position
+    pub next-position : IfSome next (IsPosition s)
+    next-position = goes_on-place s shown-kind i shown-inside next shown-goes
+
+    -- behind which fewer places lie
+    pub next-nearer : IfSome next (λ q. places_behind s q < places_behind s at)
+    next-nearer = goes_on-nearer s at place i shown-finds shown-inside next shown-goes next-position
+
+    -- and the item is the first, before those from there on
+    pub next-items : items_from s at ≡ i ∷ coming_on (items_from s) next
+    next-items = items-next s at place i next shown-finds shown-goes next-position
+
+  -- an offset that is no greater than the length is where a search begins
+  pub read-starts : (at n : ℕ) (b : Bool) (o : Option ℕ) → n ≡ length v.units → b ≡ nat_le at n → o ≡ then_some b at → o ≡ begins_at (input_of s.view) at
+  read-starts at n b o e test is =
+      is ∙ some-where b at ∙ ap (λ (c : Bool). if c then Some at else None) (test ∙ ap (nat_le at) (e ∙ ap (λ (w : View). length w.units) (sym shows) ∙ ap length (sym (shown-units s.view))))

@@ -57,7 +57,8 @@ module _ (reading : Reading) where
   item-at_places : (i : Item) → IsItemInside reading.points i → IsItemAtPlaces reading (told_in reading i)
   item-at_places i inside =
       (range-at_places (i.start, i.end) inside.range,
-      All-map _ (option_map (offset_range reading)) i.groups (All-weaker _ _ group-at_places i.groups inside.groups))
+      All-map (λ g. IfSome g (AreAtPlaces reading)) (option_map (offset_range reading)) i.groups
+      (All-weaker (λ g. IfSome g (LiesIn (length reading.points))) (λ g. IfSome (option_map (offset_range reading) g) (AreAtPlaces reading)) group-at_places i.groups inside.groups))
 
 -- the program of a tree may be sought
 pub layout-sought : (target : Target) (v : View) → AreOfKind v.kind v.units → are_bytes v.kind ≡ not target.program.units → IsMadeFor target (input_of v)
@@ -98,7 +99,9 @@ layout-sought target v all kind made n t formed layout = record {
         record {
           items = map (told_in (reading_of v)) found;
           lists = ∣ lists target.program (input_of v) (reading_of v) told n t (runs_as_tree target (input_of v) (reading_of v) told bytes made n t formed layout) p room ∣₁;
-          inside = All-map _ (told_in (reading_of v)) found (All-weaker _ _ (λ i h. item-at_places (reading_of v) i h.0) found (matches_lie context n t p));
+          inside = All-map (IsItemAtPlaces (reading_of v)) (told_in (reading_of v)) found
+              (All-weaker (λ i. IsItemInside (reading_of v).points i × (length i.groups ≡ n)) (λ i. IsItemAtPlaces (reading_of v) (told_in (reading_of v) i))
+              (λ i h. item-at_places (reading_of v) i h.0) found (matches_lie context n t p));
         }
 
 -- what a search from one place finds is what one from another does

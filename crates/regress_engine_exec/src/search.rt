@@ -72,9 +72,10 @@ impl<'r, Input: ExecutorInput> BacktrackExecutor<'r, Input> {
         ensures program { (⟦<BacktrackExecutor<'r, Input> as MatchProducer>⟧.sought result).compiled ≡ program.entry.now }
         ensures text { (⟦<BacktrackExecutor<'r, Input> as MatchProducer>⟧.sought result).view ≡ Input.view input }
     {
+        let subject = Subject { program, input };
         BacktrackExecutor {
             alloc,
-            subject: Subject { program, input },
+            subject,
             memory: Memory::new(alloc),
             answer: Vec::new(alloc),
         }
