@@ -1,5 +1,4 @@
-use Rattle.std.proofs.Common.{◌∙◌, true, false, map, chars, ap, rules, arith}
-use Rattle.std.proofs.lemmas.Grind.{common_steps}
+use Rattle.std.proofs.Common.{◌∙◌, true, false, map, chars, ap}
 use Rattle.std.specs.String.{string_bytes}
 use Rattle.std.proofs.lemmas.Result.{err_from_is_err_and}
 use Rattle.regress_front.specs.FlagWords.{options}
@@ -15,7 +14,7 @@ returns-in_err-byte_program-clause-fits c = λ plain short.
     let refused = program-refused _ _ _ p c.in_ok-tree.tree read false _ c.in_err-byte_program.ensures.refused in
     let other = refused-fits (table c.args.tables.now) (options c.args.flags) c.args.points.now _ refused plain short in
     let answered = err_from_is_err_and c.from_residual-in_err-byte_program.result c.from_residual-in_err-byte_program.ensures.1 in
-    first_of (rw (answered.1, answered.2) other, search (rules, other), grind (arith, common_steps, other))
+    rw (answered.1, answered.2) other
 
 pub returns-in_err-unit_program-clause-fits : goal.returns-in_err-unit_program-clause-fits
 returns-in_err-unit_program-clause-fits c = λ plain short.
@@ -25,7 +24,7 @@ returns-in_err-unit_program-clause-fits c = λ plain short.
     let refused = program-refused _ _ _ p c.in_ok-tree.tree read true _ c.in_err-unit_program.ensures.refused in
     let other = refused-fits (table c.args.tables.now) (options c.args.flags) c.args.points.now _ refused plain short in
     let answered = err_from_is_err_and c.from_residual-in_err-unit_program.result c.from_residual-in_err-unit_program.ensures.1 in
-    first_of (rw (answered.1, answered.2) other, search (rules, other), grind (arith, common_steps, other))
+    rw (answered.1, answered.2) other
 
 pub invariant_of-result : goal.invariant_of-result
 invariant_of-result c =

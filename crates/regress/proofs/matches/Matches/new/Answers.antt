@@ -1,5 +1,9 @@
 use Rattle.std.proofs.Common.{◌∙◌, sym, ap, not}
-use Rattle.regress_engine_input.specs.Views.{View, are_bytes}
+use Rattle.regress_meaning.specs.Flags.{is_unicode}
+use Rattle.regress_front.specs.FlagWords.{options}
+use Rattle.regress_front.specs.TableViews.{table}
+use Rattle.regress_engine_input.specs.InputViews.{utf8_view}
+use Rattle.regress_engine_input.specs.Views.{View}
 use Rattle.regress.proofs.matches.Matches.new.Goals as goal
 
 pub returns-clause-over : goal.returns-clause-over
