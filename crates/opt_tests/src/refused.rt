@@ -11,9 +11,8 @@ const PATTERN: &str = "(?:ab|){2}[^][xy](?:|)(?:z[]|x+?y)(?:$)*(?<=(?:x){2}y)(?:
 
 const TEXT: &str = "ababéxxxyceab";
 
-/// All matches of the pattern, before its tree is rewritten and after, also where memory was refused to rewriting, and once it
-/// is rewritten again.
-fn matches(alloc: Global) -> Result<(String, String, String), Error> {
+/// All matches of the pattern, before its tree is rewritten and after, also where memory was refused to rewriting.
+fn matches(alloc: Global) -> Result<(String, String), Error> {
     let tables = Tables::small(alloc).map_err(|_| Error::OutOfMemory)?;
     let mut regex = parsed(alloc, PATTERN, "", &tables)?;
     let before = list(alloc, &regex, TEXT)?;
@@ -22,20 +21,18 @@ fn matches(alloc: Global) -> Result<(String, String, String), Error> {
     if !matches!(outcome, Ok(()) | Err(Error::OutOfMemory)) {
         outcome?;
     }
-    optimize(alloc, &mut regex)?;
-    let again = list(alloc, &regex, TEXT)?;
-    Ok((before, after, again))
+    Ok((before, after))
 }
 
 // A run may refuse one request for memory, each in turn (`rt try --test --fail-alloc N`): then the tree that rewriting leaves has
-// the same matches, and can be rewritten.
+// the same matches.
 #[test]
 fn refused_memory_leaves_the_matches(rt: HostRuntime) -> Result<(), Fail> {
-    let (before, after, again) = match matches(rt.alloc()) {
+    let (before, after) = match matches(rt.alloc()) {
         Err(Error::OutOfMemory) => matches(rt.alloc())?,
         outcome => outcome?,
     };
     assert!(rt; before.as_str() == "0..12");
-    assert!(rt; after.as_str() == before.as_str() && again.as_str() == before.as_str());
+    assert!(rt; after.as_str() == before.as_str());
     Ok(())
 }
