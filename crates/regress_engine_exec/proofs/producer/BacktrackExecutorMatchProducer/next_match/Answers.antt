@@ -1,4 +1,4 @@
-use Rattle.std.proofs.Common.{◌≡◌, refl, sym, subst}
+use Rattle.std.proofs.Common.{◌≡◌, refl, rules, sym, subst}
 use Rattle.std.specs.Prelude.{option_map, IfSome}
 use Rattle.regress_match.specs.GroupViews.{names_of_match}
 use Rattle.regress_match.specs.Views.{item_of}
