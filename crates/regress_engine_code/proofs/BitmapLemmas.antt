@@ -1,6 +1,6 @@
 -- Bitmaps as lists of their members.
 use Rattle.std.specs.List.{range_with_len}
-use Rattle.std.proofs.Common.{◌≡◌, ℕ, zero, suc, ◌+◌, ◌<◌, ◌≤◌, ◌||◌, ◌&&◌, ◌==◌, nat_lt, Bool, true, false, List, [], ◌∷◌, cond, refl, sym, ap, ◌∙◌, arith}
+use Rattle.std.proofs.Common.{◌≡◌, ℕ, zero, suc, ◌+◌, ◌<◌, ◌≤◌, ◌||◌, ◌&&◌, ◌==◌, ◌≢◌, nat_lt, Bool, true, false, List, [], ◌∷◌, cond, refl, sym, ap, ◌∙◌, arith}
 use Rattle.std.specs.Prelude.{filter}
 use Rattle.std.proofs.lemmas.Bool.{eqb-true, and_parts, lt-ltb, ltb-true}
 use Rattle.std.proofs.lemmas.Bool.Decides.{nat_tests}
@@ -35,14 +35,31 @@ holds-range : (n a c : ℕ) → a ≤ c → c < a + n → holds (range_with_len 
 holds-range zero a c from to = absurd (omega arith)
 holds-range (suc n) a c from to = range-step n a c (λ more. holds-range n (a + 1) c more (omega arith)) from (a == c) refl
 
+apart : (a c : ℕ) → a ≢ c → (a == c) ≡ false
+apart a c h = grind (arith, nat_tests)
+
+range-none : (n a c : ℕ) → a + n ≤ c → holds (range_with_len a n) c ≡ false
+range-none zero a c beyond = refl
+range-none (suc n) a c beyond = rw (apart a c (omega arith)) (range-none n (a + 1) c (omega arith))
+
+-- of a byte: a member is one that is kept
+pub member_byte : (f : ℕ → Bool) (c : ℕ) → c < 256 → holds (members f) c ≡ f c
+unfolding all_bytes
+member_byte f c small = holds-filter f all_bytes c ∙ ap (λ b. b && f c) (holds-range 256 0 c (omega arith) (omega (arith, small)))
+
+-- beyond bytes there is none
+pub member_beyond : (f : ℕ → Bool) (c : ℕ) → 256 ≤ c → holds (members f) c ≡ false
+unfolding all_bytes
+member_beyond f c large = holds-filter f all_bytes c ∙ ap (λ b. b && f c) (range-none 256 0 c (omega (arith, large)))
+
 -- a set of bytes, as the list of its members
 pub holds-members : (f : ℕ → Bool) → ((c : ℕ) → f c ≡ true → c < 256) → (c : ℕ) → holds (members f) c ≡ f c
 unfolding all_bytes
-holds-members f bytes c = holds-filter f all_bytes c ∙ by_test (f c) refl
+holds-members f bytes c = by_test (f c) refl
   where
-    by_test : (t : Bool) → f c ≡ t → (holds all_bytes c && f c) ≡ f c
-    by_test true p = let h = holds-range 256 0 c (omega arith) (omega (arith, bytes c p)) in rw h refl
-    by_test false p = rw p (gone (holds all_bytes c))
+    by_test : (t : Bool) → f c ≡ t → holds (members f) c ≡ f c
+    by_test true p = member_byte f c (bytes c p)
+    by_test false p = holds-filter f all_bytes c ∙ ap (λ b. holds all_bytes c && b) p ∙ gone (holds all_bytes c) ∙ sym p
 
 -- a test that passes below a number alone
 pub passes-below : (n c : ℕ) (held : Bool) → (held ≡ true → c < n) → (nat_lt c n && held) ≡ held

@@ -1,6 +1,6 @@
 -- What is undone, and where it is gone on.
 use Rattle.std.specs.Prelude.{get_or, slice_set, nat_lt, ◌^◌}
-use Rattle.std.proofs.Common.{◌≡◌, ℕ, zero, suc, ◌+◌, ◌-◌, ◌<◌, ◌≤◌, ◌==◌, Bool, true, false, not, List, [], ◌∷◌, length, Option, Some, None, if◌then◌else◌, ◌⊎◌, refl, sym, ap, ◌∙◌, subst, arith}
+use Rattle.std.proofs.Common.{◌≡◌, ℕ, zero, suc, ◌+◌, ◌-◌, ◌<◌, ◌≤◌, Bool, true, false, not, List, [], ◌∷◌, length, Some, None, ◌⊎◌, refl, sym, ap, ◌∙◌, subst, arith}
 use Rattle.std.proofs.lemmas.Bool.Decides.{nat_tests}
 use Rattle.std.proofs.lemmas.List.{length-set}
 use Rattle.regress_meaning.specs.Meaning.{Direction}
@@ -8,7 +8,7 @@ use Rattle.regress_meaning.specs.Inputs.{Input}
 use Rattle.regress_engine_input.specs.Views.{View, Kind, utf8, ascii, utf16, ucs2, way, input_of, reading_of}
 use Rattle.regress_engine_code.specs.Instructions.{Program, Instruction, Stands}
 use Rattle.regress_engine_runs.specs.States.{Whole, Marks}
-use Rattle.regress_engine_runs.specs.Runs.{against, gap, back_to, advance, one_more, after_look}
+use Rattle.regress_engine_runs.specs.Runs.{against, gap, advance, one_more, after_look}
 use Rattle.regress_engine_runs.specs.Meets.{IsAtPlace}
 use Rattle.regress_engine_runs.specs.UndoStack.{Undo, Frame, Work, old_loop, old_group, resume, iterate, give_back, take_on, frame, whole, first_do, stands_for, at_each, MovesOn}
 use Rattle.regress_engine_runs.proofs.UndoLemmas.{given_back_last, given_back_one, taken_on_last, taken_on_one, frame_exhausted}
@@ -18,13 +18,16 @@ use Rattle.regress_engine_input.specs.Views.{AreOfKind}
 use Rattle.regress_engine_runs.specs.Closed.{takes_character}
 use Rattle.regress_engine_runs.proofs.RunViews.{one_stands}
 use Rattle.regress_engine_exec.specs.Ready.{Suits, IsReady}
-use Rattle.regress_engine_exec.proofs.PlaceLemmas.{body-place, body-ready}
+use Rattle.regress_engine_exec.proofs.PlaceLemmas.{body-ready}
 use Rattle.regress_engine_exec.specs.declared.undo.Spot.{Spot}
 use Rattle.regress_engine_exec.specs.Held.{Held, pushed, loop_written}
 use Rattle.regress_engine_exec.specs.Sound.{IsBody, IsSound, IsHeld}
 use Rattle.regress_engine_exec.specs.Tasks.{Task, task, state_at, Leads}
 use Rattle.regress_engine_exec.proofs.LeadLemmas.{leads-then, leads-same, leads-first}
 use Rattle.regress_engine_exec.proofs.StepLemmas.{iterate-leads}
+use Rattle.regress_engine_runs.proofs.BodyPlaces.{body-place}
+use Rattle.regress_engine_runs.proofs.Iterations.{back_to-none}
+use Rattle.regress_engine_input.proofs.KindLemmas.{tells, tells_bytes}
 
 -- the other way
 pub way-against : (b : Bool) → way (not b) ≡ against (way b)
@@ -120,21 +123,12 @@ module _ (program : Program) (input : Input) where
   give_back-last p h at near far e =
       resumed p h (give_back at near far) h.stack at far (given_back_last program input (way p.forward) h.stack h.loops h.groups at near far e)
 
-  back_to-none : (n : ℕ) (dir : Direction) (near far : ℕ) → input.next (against dir) far ≡ None → back_to input n dir near far ≡ far ∷ []
-  unfolding back_to
-  back_to-none zero dir near far e = refl
-  back_to-none (suc n) dir near far e = by_gap (gap dir near far == 0)
-    where
-      by_gap : (b : Bool) → (if b then far ∷ [] else far ∷ elim (input.next (against dir) far) [ None ↦ [] | Some x ↦ back_to input n dir near x.1 ]) ≡ far ∷ []
-      by_gap true = refl
-      by_gap false = ap (λ (o : Option (ℕ × ℕ)). far ∷ elim o [ None ↦ [] | Some x ↦ back_to input n dir near x.1 ]) e
-
   pub give_back-none : (p : Spot) (h : Held) (at near far : ℕ) → input.next (against (way p.forward)) far ≡ None
       → Leads program input 0 (task program input false p (pushed (give_back at near far) h)) (task program input true (record p { at = at; offset = far }) h)
   unfolding stands_for
   give_back-none p h at near far e =
       resumed p h (give_back at near far) h.stack at far
-      (ap (λ os. first_do (at_each program input at h.loops h.groups os) (stands_for program input (way p.forward) h.stack h.loops h.groups)) (back_to-none (gap (way p.forward) near far) (way p.forward) near far e))
+      (ap (λ os. first_do (at_each program input at h.loops h.groups os) (stands_for program input (way p.forward) h.stack h.loops h.groups)) (back_to-none input (gap (way p.forward) near far) (way p.forward) near far e))
 
   pub give_back-more : (p : Spot) (h k : Held) (at near far c q : ℕ) → MovesOn input → 0 < gap (way p.forward) near far → input.next (against (way p.forward)) far ≡ Some (c, q)
       → k ≡ pushed (give_back at near q) h
@@ -236,7 +230,7 @@ module _ (v : View) (all : AreOfKind v.kind v.units) (program : Program) (suits 
   body-next at o q j dir groups (i, here, takes, place, some) there e =
       let same : i ≡ j = one_stands program (input_of v) (at - 1) i j here there in
       let takes' : takes_character j ≡ true = ap takes_character (sym same) ∙ takes in
-      (j, there, takes', body-place v all program suits (at - 1) j dir groups o q (suits.closed (at - 1) j there) takes' place e, some)
+      (j, there, takes', body-place (input_of v) (reading_of v) (tells v.kind v.table v.unicode v.units all) program (λ none. tells_bytes v.kind v.table v.unicode v.units all (suits.kind ∙ ap not none)) (at - 1) j dir groups o q (suits.closed (at - 1) j there) takes' place e, some)
 
 -- a record, told otherwise
 pub held-as : (program : Program) (v : View) (u x : Undo) (h : Held) → u ≡ x → IsHeld program v (pushed u h) → IsHeld program v (pushed x h)

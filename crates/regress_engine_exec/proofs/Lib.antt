@@ -1,5 +1,4 @@
 pub mod BracketLemmas
-pub mod MemberLemmas
 pub mod RepeatLemmas
 pub mod MemoryLemmas
 pub mod PlaceLemmas

@@ -5,8 +5,8 @@ use Rattle.std.specs.Str.{IsUtf8, IsCharBoundary}
 use Rattle.std.specs.declared.ops.Range.{Range}
 use Rattle.std.proofs.lemmas.List.Elements.{All-nil, All-cons, All-head, All-tail}
 use Rattle.std.proofs.Common.{◌≡◌, ℕ, zero, suc, ◌-◌, ◌<◌, ◌≤◌, ◌⊎◌, inl, inr, ◌==◌, Bool, true, false, List, [], ◌∷◌, length, Option, Some, None, if◌then◌else◌, refl, sym, ap, ◌∙◌, subst, arith}
+use Rattle.std.proofs.lemmas.Bool.{cases_lt, cond_both, le-leb, lt-leb}
 use Rattle.std.proofs.Math.Logic.{∥∥₁_map}
-use Rattle.std.proofs.lemmas.Bool.{cases_lt, cond_both, eq-eqb, le-leb, lt-leb, ne_eqb}
 use Rattle.regress_meaning.specs.Table.{Table}
 use Rattle.regress_meaning.specs.Meaning.{Forward}
 use Rattle.regress_meaning.specs.Inputs.{Input, context_of}
@@ -25,7 +25,7 @@ use Rattle.regress_engine_input.proofs.KindLemmas.{tells, tells_bytes, end}
 use Rattle.regress_engine_code.specs.Instructions.{Program}
 use Rattle.regress_engine_code.specs.Standing.{program_of, target_of}
 use Rattle.regress_engine_code.specs.Layout.{IsLayout}
-use Rattle.regress_engine_runs.specs.Items.{Finds, Lists, found, later, nowhere, over, no_item, next_item, goes_on, begins_at}
+use Rattle.regress_engine_runs.specs.Items.{Finds, Lists, found, later, over, no_item, next_item, goes_on, begins_at}
 use Rattle.regress_engine_runs.specs.Meets.{IsAtPlace, AreAtPlaces}
 use Rattle.regress_engine_runs.specs.Stand.{RunsAsTree}
 use Rattle.regress_engine_runs.proofs.ItemLemmas.{lists, lists-from_offset}
@@ -34,6 +34,7 @@ use Rattle.regress_engine_exec.specs.Sought.{IsMadeOf, IsItemAtPlaces, Sought, l
 use Rattle.regress_engine_exec.specs.SoughtOnce.{rises, same_items}
 use Rattle.regress_engine_exec.proofs.BackLemmas.{moves}
 use Rattle.regress_engine_exec.proofs.PlaceLemmas.{next-place}
+use Rattle.regress_engine_runs.proofs.FoundItems.{finds-from, goes_on-past}
 
 -- an input has the units that it shows
 units-are : (kind : Kind) (table : Table) (unicode : Bool) (units : List ℕ) → (input_of_kind kind table unicode units).units ≡ units
@@ -124,45 +125,13 @@ module _ (s : Sought) where
         by_next None f = tt
         by_next (Some x) f = next-place s.view all Forward i.end x.0 x.1 inside.0.1 f
 
-  -- a search finds what begins no earlier than it
-  finds-from : {at : ℕ} {o : Option Item} → Finds program input at o → IfSome o (λ i. at ≤ i.start)
-  finds-from (found a) = omega arith
-  finds-from (later {at = at} {c = c} {next = next} {i = i} a e h) = by_item i (finds-from h)
-    where
-      by_item : (o : Option Item) → IfSome o (λ i. next ≤ i.start) → IfSome o (λ i. at ≤ i.start)
-      by_item None low = tt
-      by_item (Some j) low = let past = moves s.view Forward at c next e in omega (arith, low, past)
-  finds-from (nowhere a e) = tt
-
-  -- where it goes on behind an item that takes nothing, or something
-  abbrev on : Item → Bool → Option ℕ
-  on i b = if b then option_map (λ (x : ℕ × ℕ). x.1) (input.next Forward i.end) else Some i.end
-
-  -- and goes on behind where it began
-  goes_on-past : (i : Item) → IsItemAtPlaces (reading_of s.view) i → (q : ℕ) → goes_on program input i ≡ Some q → i.start < q
-  goes_on-past i inside q e = by_ends (cases_lt i.start i.end)
-    where
-      by_next : (x : Option (ℕ × ℕ)) → input.next Forward i.end ≡ x → option_map (λ (x : ℕ × ℕ). x.1) x ≡ Some q → i.end < q
-      by_next None f g = absurd (cc)
-      by_next (Some x) f g = let same : x.1 ≡ q = cc in let past = moves s.view Forward i.end x.0 x.1 f in omega (arith, same, past)
-
-      by_ends : (i.start < i.end) ⊎ (i.end ≤ i.start) → i.start < q
-      by_ends (inl less) =
-          let f : Some i.end ≡ Some q = sym (ap (on i) (ne_eqb i.start i.end (λ same. absurd (omega (arith, same, less))))) ∙ e in
-          let same : i.end ≡ q = cc in
-          omega (arith, same, less)
-      by_ends (inr more) =
-          let same : i.start ≡ i.end = omega (arith, more, inside.0.2) in
-          let past = by_next (input.next Forward i.end) refl (sym (ap (on i) (eq-eqb i.start i.end same)) ∙ e) in
-          omega (arith, same, past)
-
   -- fewer places lie behind where a search goes on
   pub goes_on-nearer : (at : ℕ) → IsPosition s at → (i : Item) → Finds program input at (Some i) → IsItemAtPlaces (reading_of s.view) i
       → (next : Option ℕ) → next ≡ goes_on program input i → IfSome next (IsPosition s) → IfSome next (λ q. places_behind s q < places_behind s at)
   goes_on-nearer at place i finds inside None e there = tt
   goes_on-nearer at place i finds inside (Some q) e there =
-      let from : at ≤ i.start = finds-from finds in
-      let past = goes_on-past i inside q (sym e) in
+      let from : at ≤ i.start = finds-from program input (moves s.view) finds in
+      let past = goes_on-past program input (moves s.view) i inside.0.2 q (sym e) in
       behind-less s at q place there (omega (arith, from, past))
 
   -- the last place has the number of units as its offset
@@ -237,6 +206,13 @@ some-where : (b : Bool) (at : ℕ) → then_some b at ≡ (if b then Some at els
 some-where true at = refl
 some-where false at = refl
 
+-- A search from an offset found an item, and goes on from a position that is nearer to the end.
+pub record WentOn (s : Sought) (at : ℕ) (i : Item) (next : Option ℕ) : Type 0 where
+  pub inside : IsItemAtPlaces (reading_of s.view) i
+  pub position : IfSome next (IsPosition s)
+  pub nearer : IfSome next (λ q. places_behind s q < places_behind s at)
+  pub items : items_from s at ≡ i ∷ coming_on (items_from s) next
+
 module _ (s : Sought) (v : View) (shows : s.view ≡ v) (all : AreOfKind v.kind v.units) where
   pub shown-kind : AreOfKind s.view.kind s.view.units
   shown-kind = subst (λ w. AreOfKind w.kind w.units) (sym shows) all
@@ -249,28 +225,20 @@ module _ (s : Sought) (v : View) (shows : s.view ≡ v) (all : AreOfKind v.kind 
   pub read-none : (at : ℕ) → IsPosition s at → Finds (program_of s.compiled) (input_of v) at None → items_from s at ≡ []
   read-none at place finds = items-none s at place (subst (λ w. Finds (program_of s.compiled) (input_of w) at None) (sym shows) finds)
 
-  module _ (at : ℕ) (place : IsPosition s at) (i : Item) (next : Option ℕ) (finds : Finds (program_of s.compiled) (input_of v) at (Some i))
-      (inside : IsItemAtPlaces (reading_of v) i) (goes : next ≡ goes_on (program_of s.compiled) (input_of v) i) where
-    shown-finds : Finds (program_of s.compiled) (input_of s.view) at (Some i)
-    shown-finds = subst (λ w. Finds (program_of s.compiled) (input_of w) at (Some i)) (sym shows) finds
-
-    pub shown-inside : IsItemAtPlaces (reading_of s.view) i
-    shown-inside = subst (λ w. IsItemAtPlaces (reading_of w) i) (sym shows) inside
-
-    shown-goes : next ≡ goes_on (program_of s.compiled) (input_of s.view) i
-    shown-goes = subst (λ w. next ≡ goes_on (program_of s.compiled) (input_of w) i) (sym shows) goes
-
-    -- a search goes on at a position
-    pub next-position : IfSome next (IsPosition s)
-    next-position = goes_on-place s shown-kind i shown-inside next shown-goes
-
-    -- behind which fewer places lie
-    pub next-nearer : IfSome next (λ q. places_behind s q < places_behind s at)
-    next-nearer = goes_on-nearer s at place i shown-finds shown-inside next shown-goes next-position
-
-    -- and the item is the first, before those from there on
-    pub next-items : items_from s at ≡ i ∷ coming_on (items_from s) next
-    next-items = items-next s at place i next shown-finds shown-goes next-position
+  -- the item is the first, before those from where a search goes on, behind which fewer places lie
+  pub goes-on : (at : ℕ) → IsPosition s at → (i : Item) (next : Option ℕ) → Finds (program_of s.compiled) (input_of v) at (Some i) → IsItemAtPlaces (reading_of v) i
+      → next ≡ goes_on (program_of s.compiled) (input_of v) i → WentOn s at i next
+  goes-on at place i next finds inside goes =
+      let shown_finds : Finds (program_of s.compiled) (input_of s.view) at (Some i) = subst (λ w. Finds (program_of s.compiled) (input_of w) at (Some i)) (sym shows) finds in
+      let shown_inside : IsItemAtPlaces (reading_of s.view) i = subst (λ w. IsItemAtPlaces (reading_of w) i) (sym shows) inside in
+      let shown_goes : next ≡ goes_on (program_of s.compiled) (input_of s.view) i = subst (λ w. next ≡ goes_on (program_of s.compiled) (input_of w) i) (sym shows) goes in
+      let position = goes_on-place s shown-kind i shown_inside next shown_goes in
+      record {
+        inside = shown_inside;
+        position = position;
+        nearer = goes_on-nearer s at place i shown_finds shown_inside next shown_goes position;
+        items = items-next s at place i next shown_finds shown_goes position;
+      }
 
   -- an offset that is no greater than the length is where a search begins
   pub read-starts : (at n : ℕ) (b : Bool) (o : Option ℕ) → n ≡ length v.units → b ≡ nat_le at n → o ≡ then_some b at → o ≡ begins_at (input_of s.view) at

@@ -1,9 +1,9 @@
 -- A search from place to place.
-use Rattle.std.specs.Prelude.{option_map, All, IfSome}
+use Rattle.std.specs.Prelude.{option_map, IfSome}
 use Rattle.std.proofs.Common.{◌≡◌, ℕ, ◌-◌, ◌<◌, ◌≤◌, Bool, true, false, not, List, [], ◌∷◌, length, map, Option, Some, None, refl, sym, ap, ◌∙◌, subst, arith}
-use Rattle.regress_meaning.specs.Meaning.{Forward}
 use Rattle.std.proofs.Math.Logic.{∥∥₁_elim}
-use Rattle.std.proofs.lemmas.List.Elements.{All-head, All-map, All-weaker}
+use Rattle.regress_meaning.specs.Meaning.{Forward}
+use Rattle.std.proofs.lemmas.List.Elements.{All-map, All-weaker}
 use Rattle.regress_meaning.specs.Inputs.{Input, Tells, context_of}
 use Rattle.regress_meaning.specs.Laws.{IsItemInside, LiesIn}
 use Rattle.regress_meaning.specs.Matches.{Item}
@@ -20,7 +20,7 @@ use Rattle.regress_engine_code.specs.Instructions.{Program}
 use Rattle.regress_engine_code.specs.Layout.{Target, IsLayout}
 use Rattle.regress_engine_runs.specs.States.{first_state}
 use Rattle.regress_engine_runs.specs.Computed.{IsComputed}
-use Rattle.regress_engine_runs.specs.Items.{Finds, Lists, found, later, nowhere, over, no_item, next_item, item_of}
+use Rattle.regress_engine_runs.specs.Items.{Finds, found, later, nowhere, item_of}
 use Rattle.regress_engine_runs.specs.Meets.{IsAtPlace, AreAtPlaces}
 use Rattle.regress_engine_runs.specs.Stand.{IsMadeFor}
 use Rattle.regress_engine_runs.specs.UndoStack.{meets_alone, ReadOn, outermost}
@@ -35,12 +35,13 @@ use Rattle.regress_match.specs.Views as match
 use Rattle.regress_match.specs.Views.{ends}
 use Rattle.regress_engine_runs.specs.States.{range_of}
 use Rattle.regress_engine_exec.specs.Held.{Held, marks_of}
-use Rattle.regress_engine_runs.proofs.ItemLemmas.{lists, one_find}
+use Rattle.regress_engine_runs.proofs.ItemLemmas.{lists}
 use Rattle.regress_engine_exec.specs.Sought.{IsItemAtPlaces, Listed, IsSought, IsFound}
 use Rattle.regress_engine_exec.specs.SoughtOnce.{IsItemAtPlaces-prop}
 use Rattle.regress_engine_exec.specs.Trying.{IsAnswer}
 use Rattle.regress_engine_exec.proofs.BackLemmas.{moves}
 use Rattle.regress_engine_exec.proofs.PlaceLemmas.{can-read, next-place}
+use Rattle.regress_engine_runs.proofs.FoundItems.{first-holds}
 
 bytes-units : (k u : Bool) → k ≡ not u → u ≡ false → k ≡ true
 bytes-units k u same none = same ∙ ap not none
@@ -141,20 +142,6 @@ found-match program input at start end k m gs (w, finds, last, groups) held firs
     let ranges : map range_of w.groups ≡ map (option_map ends) m.captures.items = ap (map range_of) (groups ∙ held) ∙ ranges-are gs ∙ sym captures in
     let same : item_of start w ≡ match.item_of m = (λ i. record { start = sym first i; end = (last ∙ sym ended) i; groups = ranges i }) in
     subst (λ x. Finds program input at (Some x)) same finds
-
--- the first of the items that searches list is what a search finds
-module _ (program : Program) (input : Input) (P : Item → Type 0) where
-  abbrev HoldsOfFirst : Option ℕ → List Item → Type 0
-  HoldsOfFirst None items = Unit {0}
-  HoldsOfFirst (Some at) items = (i : Item) → Finds program input at (Some i) → All P items → P i
-
-  first-holds : {o : Option ℕ} {items : List Item} → Lists program input o items → HoldsOfFirst o items
-  first-holds over = tt
-  first-holds (no_item h) = λ i finds all. let e : ◌≡◌ {A = Option Item} None (Some i) = one_find program input h finds in absurd (cc)
-  first-holds (next_item {i = j} {items = items} h rest) = λ i finds all.
-      let e : ◌≡◌ {A = Option Item} (Some j) (Some i) = one_find program input h finds in
-      let same : j ≡ i = cc in
-      subst P same (All-head P j items all)
 
 -- a match that a search finds is at places
 pub found-inside : (program : Program) (v : View) → IsSought program v → (at : ℕ) → IsAtPlace (reading_of v) at → (i : Item) → Finds program (input_of v) at (Some i)

@@ -1,12 +1,12 @@
 -- One-character loops.
-use Rattle.std.specs.Prelude.{slice_get, option_and_then}
-use Rattle.std.proofs.Common.{◌≡◌, ℕ, zero, suc, ◌+◌, ◌-◌, ◌<◌, ◌≤◌, Bool, true, false, List, [], Option, Some, None, if◌then◌else◌, map, refl, sym, ap, ◌∙◌, subst, arith}
+use Rattle.std.specs.Prelude.{slice_get}
+use Rattle.std.proofs.Common.{◌≡◌, ℕ, suc, ◌+◌, ◌-◌, Bool, true, false, List, [], Option, Some, None, if◌then◌else◌, map, sym, ap, ◌∙◌, subst, arith}
 use Rattle.regress_meaning.specs.Meaning.{Direction}
 use Rattle.regress_meaning.specs.Inputs.{Input}
 use Rattle.regress_engine_input.specs.Views.{View, way, reading_of}
 use Rattle.regress_engine_code.specs.Instructions.{Instruction, Program, Stands, single_loop}
-use Rattle.regress_engine_runs.specs.States.{Whole, Marks}
-use Rattle.regress_engine_runs.specs.Runs.{advance, after_times, as_far, one_by_one, given_back, counted, successors}
+use Rattle.regress_engine_runs.specs.States.{Whole}
+use Rattle.regress_engine_runs.specs.Runs.{after_times, as_far, one_by_one, given_back, counted, successors}
 use Rattle.regress_engine_runs.specs.Meets.{IsAtPlace}
 use Rattle.regress_engine_runs.specs.UndoStack.{give_back, take_on, at_each, taken_on, first_do, stands_for}
 use Rattle.regress_engine_exec.specs.declared.undo.Spot.{Spot}
@@ -18,42 +18,6 @@ use Rattle.regress_engine_exec.proofs.LeadLemmas.{leads-same, leads-later}
 -- at another place
 pub body-at : (program : Program) (v : View) (at o q : ℕ) → IsBody program v at o → IsAtPlace (reading_of v) q → IsBody program v at q
 body-at program v at o q (i, here, takes, place, some) there = (i, here, takes, there, some)
-
-module _ (program : Program) (input : Input) (i : Instruction) (dir : Direction) (groups : List Marks) where
-  pub after-goes : (left o q : ℕ) → 0 < left → Some q ≡ advance program input i dir groups o
-      → after_times program input (left - 1) i dir groups q ≡ after_times program input left i dir groups o
-  unfolding after_times
-  after-goes zero o q some e = absurd (omega (arith, some))
-  after-goes (suc n) o q some e =
-      let same : suc n - 1 ≡ n = omega arith in
-      ap (λ m. after_times program input m i dir groups q) same ∙ ap (option_and_then (after_times program input n i dir groups)) e
-
-  pub after-stops : (left o : ℕ) → 0 < left → None ≡ advance program input i dir groups o → None ≡ after_times program input left i dir groups o
-  unfolding after_times
-  after-stops zero o some e = absurd (omega (arith, some))
-  after-stops (suc n) o some e = ap (option_and_then (after_times program input n i dir groups)) e
-
-  pub after-all : (left o : ℕ) → left ≤ 0 → Some o ≡ after_times program input left i dir groups o
-  unfolding after_times
-  after-all zero o none = refl
-  after-all (suc n) o none = absurd (omega (arith, none))
-
-  pub far-goes : (left o q : ℕ) → 0 < left → Some q ≡ advance program input i dir groups o → as_far program input (left - 1) i dir groups q ≡ as_far program input left i dir groups o
-  unfolding as_far
-  far-goes zero o q some e = absurd (omega (arith, some))
-  far-goes (suc n) o q some e =
-      let same : suc n - 1 ≡ n = omega arith in
-      ap (λ m. as_far program input m i dir groups q) same ∙ ap (λ (x : Option ℕ). elim x [ None ↦ o | Some q ↦ as_far program input n i dir groups q ]) e
-
-  pub far-stops : (left o : ℕ) → 0 < left → None ≡ advance program input i dir groups o → o ≡ as_far program input left i dir groups o
-  unfolding as_far
-  far-stops zero o some e = absurd (omega (arith, some))
-  far-stops (suc n) o some e = ap (λ (x : Option ℕ). elim x [ None ↦ o | Some q ↦ as_far program input n i dir groups q ]) e
-
-  pub far-all : (left o : ℕ) → left ≤ 0 → o ≡ as_far program input left i dir groups o
-  unfolding as_far
-  far-all zero o none = refl
-  far-all (suc n) o none = absurd (omega (arith, none))
 
 -- what is recorded of a loop
 module _ (program : Program) (input : Input) (i : Instruction) (p : Spot) (h : Held) (here : Stands program (p.at + 1) i) (least most : ℕ) where

@@ -5,7 +5,7 @@ use Rattle.std.proofs.lemmas.Bool.Decides.{nat_tests}
 use Rattle.regress_engine_input.specs.Views.{way}
 use Rattle.regress_engine_code.specs.Instructions.{LoopFields}
 use Rattle.regress_engine_runs.specs.States.{Whole, Marks, onward}
-use Rattle.regress_engine_runs.specs.Runs.{count_of, one_more, ordered, choices, is_idle}
+use Rattle.regress_engine_runs.specs.Runs.{count_of, one_more, choices, is_idle}
 use Rattle.regress_engine_runs.specs.UndoStack.{stands_for, resume, iterate}
 use Rattle.regress_engine_exec.specs.declared.undo.Spot.{Spot}
 use Rattle.regress_engine_exec.specs.Held.{Held, loop_written, group_written, pushed}
@@ -13,6 +13,7 @@ use Rattle.regress_engine_exec.specs.Sound.{IsSound, IsHeld}
 use Rattle.regress_engine_exec.specs.Tasks.{Task, task_of, task, state_at, Leads, GoesOn, StaysSound}
 use Rattle.regress_engine_exec.proofs.LeadLemmas.{leads-then, leads-same, leads-later, leads-loop, leads-group}
 use Rattle.regress_engine_exec.proofs.SoundLemmas.{held-loop, held-group}
+use Rattle.regress_engine_runs.proofs.Choices.{choices-are, ordered-none, ordered-out, ordered-more}
 
 -- one way now and one later
 pub fork-leads : (p : Spot) (h k : Held) (target : ℕ) → k ≡ pushed (resume target p.offset) h
@@ -65,23 +66,6 @@ iterate-leads p h k id count begin counted is program input =
     (subst (λ a. Leads program input 0 from (task program input true (record p { at = a }) (loop_written id (count + 1, p.offset) h))) at
     (subst (λ n. Leads program input 0 from (task program input true (record p { at = suc begin }) (loop_written id (n, p.offset) h))) more
     (leads-loop program input (s ∷ []) p h id (suc (get_or h.loops id (0, 0)).0, p.offset))))
-
--- the choices, by the tests
-choices-are : (f : LoopFields) (begin : ℕ) (s : Whole) (g m o : Bool) → f.greedy ≡ g → nat_lt (count_of f.loop_id s) f.most ≡ m → nat_le f.least (count_of f.loop_id s) ≡ o
-    → choices f begin s ≡ ordered g m o (one_more f.loop_id begin s) (record s { at = f.exit })
-choices-are f begin s g m o greedy more out = (λ i. ordered (greedy i) (more i) (out i) (one_more f.loop_id begin s) (record s { at = f.exit }))
-
-ordered-none : (g : Bool) (s t : Whole) → ordered g false false s t ≡ []
-ordered-none true s t = refl
-ordered-none false s t = refl
-
-ordered-out : (g : Bool) (s t : Whole) → ordered g false true s t ≡ t ∷ []
-ordered-out true s t = refl
-ordered-out false s t = refl
-
-ordered-more : (g : Bool) (s t : Whole) → ordered g true false s t ≡ s ∷ []
-ordered-more true s t = refl
-ordered-more false s t = refl
 
 module _ (f : LoopFields) (begin : ℕ) (p : Spot) (h : Held) (count : ℕ) (counted : count ≡ (get_or h.loops f.loop_id (0, 0)).0) where
   abbrev here : Whole

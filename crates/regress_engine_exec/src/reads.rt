@@ -111,7 +111,7 @@ impl<'a, 'r, Input: CharInput> Attempt<'a, 'r, Input> {
 
     /// The offset behind the character beside one, where that is in a set of ASCII.
     #[inline]
-    #[tactic(auto, using(crate::proofs::MemberLemmas::member_byte, crate::proofs::MemberLemmas::member_beyond))]
+    #[tactic(auto, using(regress_engine_code::proofs::BitmapLemmas::member_byte, regress_engine_code::proofs::BitmapLemmas::member_beyond))]
     pub(crate) fn ascii_bracket(
         &self,
         forward: bool,

@@ -27,4 +27,9 @@ pub mod Stuck
 pub mod ClosedLemmas
 pub mod ItemLemmas
 pub mod Emitted
+pub mod Iterations
+pub mod MixedGroups
+pub mod Choices
+pub mod FoundItems
+pub mod BodyPlaces
 mod Rows

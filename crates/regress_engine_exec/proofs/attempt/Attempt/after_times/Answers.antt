@@ -5,8 +5,9 @@ use Rattle.regress_engine_code.specs.Standing.{program_of}
 use Rattle.regress_engine_input.specs.Views.{way, input_of}
 use Rattle.regress_engine_exec.specs.Held.{marks_of}
 use Rattle.regress_engine_exec.proofs.BackLemmas.{body-asked, body-next}
-use Rattle.regress_engine_exec.proofs.SingleLemmas.{body-at, after-goes, after-stops, after-all}
+use Rattle.regress_engine_exec.proofs.SingleLemmas.{body-at}
 use Rattle.regress_engine_exec.proofs.attempt.Attempt.after_times.Goals as goal
+use Rattle.regress_engine_runs.proofs.Iterations.{after-goes, after-stops, after-all}
 
 pub advance-requires-clause-ready : goal.advance-requires-clause-ready
 advance-requires-clause-ready g c =

@@ -5,8 +5,9 @@ use Rattle.regress_engine_code.specs.Standing.{program_of}
 use Rattle.regress_engine_input.specs.Views.{way, input_of}
 use Rattle.regress_engine_exec.specs.Held.{marks_of}
 use Rattle.regress_engine_exec.proofs.BackLemmas.{body-asked, body-next}
-use Rattle.regress_engine_exec.proofs.SingleLemmas.{body-at, far-goes, far-stops, far-all}
+use Rattle.regress_engine_exec.proofs.SingleLemmas.{body-at}
 use Rattle.regress_engine_exec.proofs.attempt.Attempt.as_far.Goals as goal
+use Rattle.regress_engine_runs.proofs.Iterations.{far-goes, far-stops, far-all}
 
 pub advance-requires-clause-ready : goal.advance-requires-clause-ready
 advance-requires-clause-ready g c =

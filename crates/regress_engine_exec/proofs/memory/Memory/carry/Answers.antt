@@ -3,9 +3,10 @@ use Rattle.std.proofs.lemmas.Bool.{cases_lt}
 use Rattle.std.proofs.lemmas.List.{length-map, get_or-map}
 use Rattle.regress_engine_runs.specs.States.{unset, mixed}
 use Rattle.regress_engine_exec.specs.Held.{Held, held, marks_of}
-use Rattle.regress_engine_exec.proofs.LeaveLemmas.{mixed-none, carried, carried-same, carried-count}
+use Rattle.regress_engine_exec.proofs.LeaveLemmas.{carried, carried-same, carried-count}
 use Rattle.regress_engine_exec.proofs.StepLemmas.{mark-sound, sound-then}
 use Rattle.regress_engine_exec.proofs.memory.Memory.carry.Goals as goal
+use Rattle.regress_engine_runs.proofs.MixedGroups.{mixed-none}
 
 pub loop-group-init : goal.loop-group-init
 loop-group-init c = record {

@@ -1,4 +1,4 @@
-use Rattle.std.proofs.Common.{◌≡◌, refl, sym, subst}
+use Rattle.std.proofs.Common.{◌≡◌, refl, rules, sym, subst}
 use Rattle.std.specs.Prelude.{option_map, IfSome}
 use Rattle.regress_match.specs.GroupViews.{names_of_match}
 use Rattle.regress_match.specs.Views.{item_of}
@@ -6,7 +6,7 @@ use Rattle.regress_engine_code.specs.Standing.{names_of, program_of}
 use Rattle.regress_engine_input.specs.Views.{input_of, reading_of}
 use Rattle.regress_engine_runs.specs.Items.{Finds, goes_on}
 use Rattle.regress_engine_exec.specs.Sought.{Sought, IsItemAtPlaces}
-use Rattle.regress_engine_exec.proofs.ProducerLemmas.{read-place, read-none, shown-inside, next-position, next-nearer, next-items}
+use Rattle.regress_engine_exec.proofs.ProducerLemmas.{read-place, read-none, goes-on}
 use Rattle.regress_engine_exec.proofs.producer.BacktrackExecutorMatchProducer.next_match.Goals as goal
 
 pub find_from-requires : goal.find_from-requires
@@ -30,35 +30,22 @@ returns-in_default-clause-found g c =
       refl,
     )
 
-pub returns-clause-found : goal.returns-clause-found
-returns-clause-found g c =
+pub returns : goal.returns
+returns g c =
     let subject = c.args.self.now.subject in
     let v = g.Input.InputIndexer.view subject.input in
     let s : Sought = record { compiled = subject.program.now; view = g.Input.Shown.shown subject.input; sought = subject.sought } in
+    let i = item_of c.in-Some.found in
     let found = subst (λ o. Finds (program_of subject.program.now) (input_of v) c.args.position (option_map item_of o)) c.in-Some.is c.in_ok-found.ensures.found in
     let inside = subst (λ o. IfSome o (λ m. IsItemAtPlaces (reading_of v) (item_of m))) c.in-Some.is c.in_ok-found.ensures.inside in
-    let goes = subst (λ u. c.goes_on.result ≡ goes_on (program_of u.program.now) (input_of (g.Input.InputIndexer.view u.input)) (item_of c.in-Some.found)) c.find_from.ensures.kept c.goes_on.ensures in
-    let named = subst (λ o. IfSome o (λ m. names_of_match m ≡ names_of subject.program.now)) c.in-Some.is c.in_ok-found.ensures.named in (
-      next-items s v (g.met.Input.ExecutorInput.shows subject.input) (g.met.Input.InputIndexer.are_of_kind subject.input) c.args.position c.requires (item_of c.in-Some.found) c.goes_on.result found inside goes,
-      (shown-inside s v (g.met.Input.ExecutorInput.shows subject.input) (g.met.Input.InputIndexer.are_of_kind subject.input) c.args.position c.requires (item_of c.in-Some.found) c.goes_on.result found inside goes, named),
-    )
-
-pub returns-clause-inside : goal.returns-clause-inside
-returns-clause-inside g c =
-    let subject = c.args.self.now.subject in
-    let v = g.Input.InputIndexer.view subject.input in
-    let s : Sought = record { compiled = subject.program.now; view = g.Input.Shown.shown subject.input; sought = subject.sought } in
-    let found = subst (λ o. Finds (program_of subject.program.now) (input_of v) c.args.position (option_map item_of o)) c.in-Some.is c.in_ok-found.ensures.found in
-    let inside = subst (λ o. IfSome o (λ m. IsItemAtPlaces (reading_of v) (item_of m))) c.in-Some.is c.in_ok-found.ensures.inside in
-    let goes = subst (λ u. c.goes_on.result ≡ goes_on (program_of u.program.now) (input_of (g.Input.InputIndexer.view u.input)) (item_of c.in-Some.found)) c.find_from.ensures.kept c.goes_on.ensures in
-    next-position s v (g.met.Input.ExecutorInput.shows subject.input) (g.met.Input.InputIndexer.are_of_kind subject.input) c.args.position c.requires (item_of c.in-Some.found) c.goes_on.result found inside goes
-
-pub returns-clause-nearer : goal.returns-clause-nearer
-returns-clause-nearer g c =
-    let subject = c.args.self.now.subject in
-    let v = g.Input.InputIndexer.view subject.input in
-    let s : Sought = record { compiled = subject.program.now; view = g.Input.Shown.shown subject.input; sought = subject.sought } in
-    let found = subst (λ o. Finds (program_of subject.program.now) (input_of v) c.args.position (option_map item_of o)) c.in-Some.is c.in_ok-found.ensures.found in
-    let inside = subst (λ o. IfSome o (λ m. IsItemAtPlaces (reading_of v) (item_of m))) c.in-Some.is c.in_ok-found.ensures.inside in
-    let goes = subst (λ u. c.goes_on.result ≡ goes_on (program_of u.program.now) (input_of (g.Input.InputIndexer.view u.input)) (item_of c.in-Some.found)) c.find_from.ensures.kept c.goes_on.ensures in
-    next-nearer s v (g.met.Input.ExecutorInput.shows subject.input) (g.met.Input.InputIndexer.are_of_kind subject.input) c.args.position c.requires (item_of c.in-Some.found) c.goes_on.result found inside goes
+    let goes = subst (λ u. c.goes_on.result ≡ goes_on (program_of u.program.now) (input_of (g.Input.InputIndexer.view u.input)) i) c.find_from.ensures.kept c.goes_on.ensures in
+    let named = subst (λ o. IfSome o (λ m. names_of_match m ≡ names_of subject.program.now)) c.in-Some.is c.in_ok-found.ensures.named in
+    let on = goes-on s v (g.met.Input.ExecutorInput.shows subject.input) (g.met.Input.InputIndexer.are_of_kind subject.input) c.args.position c.requires i c.goes_on.result found inside goes in
+    record {
+      found = (on.items, (on.inside, named));
+      inside = on.position;
+      nearer = on.nearer;
+      kept = search rules;
+      last = search rules;
+      refused = search rules;
+    }
