@@ -4,5 +4,3 @@ pub mod ReplacingLemmas
 pub mod LawLemmas
 pub mod AskingLemmas
 pub mod SplittingLemmas
-pub mod ProgramLemmas
-pub mod ShownLemmas
