@@ -1,6 +1,6 @@
 //! Tables of a caller's own, by the calls of `regress` alone.
 
-use regress::{CodePoint, Flags, Interval, Regex, TableError, TableParts, Tables};
+use regress::{CodePoint, Error, Flags, Interval, Regex, TableError, TableParts, Tables};
 use std::alloc::{AllocError, Global};
 use std::test::Fail;
 
@@ -37,17 +37,26 @@ fn tables(alloc: Global) -> Result<Tables, TableError> {
     )
 }
 
+/// Where the first match of a pattern begins and ends, under a caller's own tables.
+fn first_in(
+    alloc: Global,
+    tables: &Tables,
+    pattern: &str,
+    flags: &str,
+    text: &str,
+) -> Result<Option<(usize, usize)>, Error> {
+    let regex = Regex::with_flags(alloc, pattern, Flags::from(flags), tables)?;
+    match regex.find(text)? {
+        Some(found) => Ok(Some((found.start(), found.end()))),
+        None => Ok(None),
+    }
+}
+
 #[test]
 fn patterns_ask_a_callers_tables(rt: HostRuntime) -> Result<(), Fail> {
     let tables = tables(rt.alloc())?;
-    let vowels = Regex::with_flags(rt.alloc(), r"\p{Vowel}+", Flags::from("u"), &tables)?;
-    let found = vowels.find("xAeix")?.ok_or("no match")?;
-    assert!(rt; found.range() == (2..4));
-    let of_any_case = Regex::with_flags(rt.alloc(), r"\p{Vowel}+", Flags::from("iu"), &tables)?;
-    let found = of_any_case.find("xAeix")?.ok_or("no match")?;
-    assert!(rt; found.range() == (1..4));
-    let pair = Regex::with_flags(rt.alloc(), r"\p{Pair}", Flags::from("v"), &tables)?;
-    let found = pair.find("aéa")?.ok_or("no match")?;
-    assert!(rt; found.range() == (1..4));
+    assert!(rt; first_in(rt.alloc(), &tables, r"\p{Vowel}+", "u", "xAeix")? == Some((2, 4)));
+    assert!(rt; first_in(rt.alloc(), &tables, r"\p{Vowel}+", "iu", "xAeix")? == Some((1, 4)));
+    assert!(rt; first_in(rt.alloc(), &tables, r"\p{Pair}", "v", "aéa")? == Some((1, 4)));
     Ok(())
 }
