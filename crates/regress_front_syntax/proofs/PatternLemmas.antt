@@ -1,7 +1,7 @@
 -- What the answer for a whole text says of what the text spells.
 use Rattle.std.specs.Prelude.{count_by}
 use Rattle.std.proofs.lemmas.Bool.{eqb-true}
-use Rattle.std.proofs.Common.{◌≡◌, ℕ, zero, suc, ◌-◌, ◌≤◌, ◌<◌, ◌↔◌, Bool, true, false, not, ◌&&◌, ◌==◌, List, [], ◌∷◌, ◌++◌, length, drop, Option, Some, None, option_and_then, option_map, unwrap_or, Ok, Err, slice_get, is_some, suc-ne-zero, refl, ap, ◌∙◌, length-append, arith}
+use Rattle.std.proofs.Common.{◌≡◌, ℕ, zero, suc, ◌-◌, ◌≤◌, ◌<◌, ◌↔◌, Bool, true, false, not, ◌&&◌, ◌==◌, List, [], ◌∷◌, ◌++◌, length, drop, Option, Some, None, option_and_then, option_map, unwrap_or, Result, Ok, Err, subst, slice_get, is_some, suc-ne-zero, refl, ap, ◌∙◌, length-append, arith}
 use Rattle.std.specs.Prelude.{if◌then◌else◌}
 use Rattle.regress_meaning.specs.Text.{is_at}
 use Rattle.regress_meaning.specs.Table.{Table}
@@ -79,6 +79,11 @@ module _ (m : Mode) (t : List ℕ) where
       ((λ p e. let (f, read, tree) = whole-front (disjunction_at m t 0) p e in let many = fronts f read in let same : quantifiers f.tree ≡ quantifiers p = ap quantifiers tree in omega arith), (λ none. omega arith))
   whole-refused steps TooLarge r = r
   whole-refused steps OutOfMemory r = r
+
+-- what is answered to a text in a mode, where that is another text in another mode
+pub answer-moved : (m n : Mode) (u t : List ℕ) (r : Result Syntax Error) → u ≡ t → m ≡ n → IsWholeAnswer (whole_at m u) u r → IsWholeAnswer (whole_at n t) t r
+answer-moved m n u t r text mode answer =
+    subst (λ (k : Mode). IsWholeAnswer (whole_at k t) t r) mode (subst (λ v. IsWholeAnswer (whole_at m v) v r) text answer)
 
 -- a text whose mode is that of its scan
 module _ (table : Table) (o : Options) (t : List ℕ) where

@@ -1,11 +1,9 @@
-use Rattle.std.proofs.Common.{Ok, Err, ap, ◌∙◌, subst}
+use Rattle.std.proofs.Common.{Ok, Err, ap, ◌∙◌}
 use Rattle.regress_meaning.specs.Tokens.{Mode}
 use Rattle.regress_front_core.specs.FlagWords.{options}
 use Rattle.regress_front_tables.specs.TableViews.{table}
-use Rattle.regress_front_tokens.specs.Escapes.{mode_view}
 use Rattle.regress_front_tokens.specs.Trees.{tree}
-use Rattle.regress_front_syntax.specs.Parsing.{IsWholeAnswer, whole_at}
-use Rattle.regress_front_syntax.proofs.PatternLemmas.{spelled, refused}
+use Rattle.regress_front_syntax.proofs.PatternLemmas.{spelled, refused, answer-moved}
 use Rattle.regress_front_syntax.proofs.whole.parse_telling_place.Goals as goal
 
 pub returns-in-Ok-pattern-clause-accepted : goal.returns-in-Ok-pattern-clause-accepted
@@ -14,18 +12,14 @@ returns-in-Ok-pattern-clause-accepted c =
     let o = options c.args.flags in
     let t = c.args.points.now in
     let s = c.in-Ok-pattern.syntax in
-    let read = subst (λ u. IsWholeAnswer (whole_at (mode_view c.in-Ok.mode) u) u (Ok s)) c.new-parser.ensures.text c.in-Ok-pattern.ensures in
-    spelled tb o t (c.reading_decides_the_grammar.ensures tb o t) s (subst (λ (m : Mode). IsWholeAnswer (whole_at m t) t (Ok s)) c.in-Ok.ensures.mode read)
+    spelled tb o t (c.reading_decides_the_grammar.ensures tb o t) s (answer-moved _ _ _ t (Ok s) c.new-parser.ensures.text c.in-Ok.ensures.mode c.in-Ok-pattern.ensures)
 
 pub returns-in-Ok-pattern-clause-named : goal.returns-in-Ok-pattern-clause-named
 returns-in-Ok-pattern-clause-named c =
     let tb = table c.args.tables.now in
     let o = options c.args.flags in
-    let t = c.args.points.now in
-    let s = c.in-Ok-pattern.syntax in
-    let read = subst (λ u. IsWholeAnswer (whole_at (mode_view c.in-Ok.mode) u) u (Ok s)) c.new-parser.ensures.text c.in-Ok-pattern.ensures in
-    let accepted = spelled tb o t (c.reading_decides_the_grammar.ensures tb o t) s (subst (λ (m : Mode). IsWholeAnswer (whole_at m t) t (Ok s)) c.in-Ok.ensures.mode read) in
-    ap (λ (m : Mode). m.names) c.in-Ok.ensures.mode ∙ c.names_are_found_by_a_scan.ensures tb o t (tree s) accepted.0
+    let accepted = returns-in-Ok-pattern-clause-accepted c in
+    ap (λ (m : Mode). m.names) c.in-Ok.ensures.mode ∙ c.names_are_found_by_a_scan.ensures tb o c.args.points.now (tree c.in-Ok-pattern.syntax) accepted.0
 
 pub returns-in-Err-pattern-clause-refused : goal.returns-in-Err-pattern-clause-refused
 returns-in-Err-pattern-clause-refused c =
@@ -33,5 +27,4 @@ returns-in-Err-pattern-clause-refused c =
     let o = options c.args.flags in
     let t = c.args.points.now in
     let e = c.in-Err-pattern.error in
-    let read = subst (λ u. IsWholeAnswer (whole_at (mode_view c.in-Ok.mode) u) u (Err e)) c.new-parser.ensures.text c.in-Err-pattern.ensures in
-    refused tb o t (c.reading_decides_the_grammar.ensures tb o t) e (subst (λ (m : Mode). IsWholeAnswer (whole_at m t) t (Err e)) c.in-Ok.ensures.mode read)
+    refused tb o t (c.reading_decides_the_grammar.ensures tb o t) e (answer-moved _ _ _ t (Err e) c.new-parser.ensures.text c.in-Ok.ensures.mode c.in-Err-pattern.ensures)
