@@ -4,7 +4,7 @@ use Rattle.std.proofs.lemmas.List.{length-map, nil_from_length}
 use Rattle.std.specs.Prelude.{slice_get}
 use Rattle.std.specs.Option.{option_transpose}
 use Rattle.std.specs.Iterator.{Yields, HoldsAfterAnyCalls}
-use Rattle.std.specs.Arc.{arc_slice_items}
+use Rattle.std.specs.Arc.{arc_slice_items, arc_value}
 use Rattle.std.specs.String.{string_bytes}
 use Rattle.std.specs.Str.{chars, IsUtf8, IsCharBoundary}
 use Rattle.regress_meaning.specs.Table.{Table}
@@ -52,8 +52,8 @@ coming-made ms bytes r t o p at place utf8 sought over starts stands begins =
     let listed : (q : ℕ) → matches_of pattern points q ≡ match_list t o p points q = λ q.
     ap (λ (names : _). node_match_list (searching pattern points) (group_count names) (tree pattern.node.now) q) sought.names
     ∙ ap (λ (n : Node). node_match_list (searching pattern points) (group_count r.group_names) (tree n) q) sought.node
-    ∙ ap (λ (context : Context). node_match_list context (group_count r.group_names) (tree r.node) q) (λ i. record { text = points; table = tables i; unicode = unicode i })
-    ∙ match_list-same t o p points (tree r.node) (group_count r.group_names) counted stands.alike characters q in
+    ∙ ap (λ (context : Context). node_match_list context (group_count r.group_names) (tree (arc_value r.node)) q) (λ i. record { text = points; table = tables i; unicode = unicode i })
+    ∙ match_list-same t o p points (tree (arc_value r.node)) (group_count r.group_names) counted stands.alike characters q in
     ap (coming_on (items_from search)) (starts place begins') ∙ coming_on_within (items_from search) (length points) place none
     ∙ ap (map (told (utf8_reading points))) (listed place) ∙ rw read refl
 

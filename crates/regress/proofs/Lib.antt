@@ -1,4 +1,5 @@
 pub mod IterationLemmas
+pub mod ShownLemmas
 pub mod RisingLemmas
 pub mod ReplacingLemmas
 pub mod LawLemmas

@@ -1,5 +1,6 @@
 -- The matches that an iterator has still to yield, and what a caller may do with each.
 use Rattle.std.specs.Prelude.{◌≡◌, ℕ, List, Option, Some, Result, Ok}
+use Rattle.std.specs.Arc.{arc_value}
 use Rattle.std.specs.Iterator.{Yields}
 use Rattle.regress_meaning.specs.Flags.{is_unicode}
 use Rattle.regress_meaning.specs.Matches.{Item}
@@ -19,7 +20,7 @@ use Rattle.regress.specs.declared.matches.Matches.{Matches}
 
 -- What is sought is the pattern that a regex holds.
 pub record IsPatternOf (r : Regex) (pattern : CompiledPattern) : Type 0 where
-  pub node : pattern.node.now ≡ r.node
+  pub node : pattern.node.now ≡ arc_value r.node
   pub tables : table pattern.tables.now ≡ table r.tables.now
   pub unicode : pattern.unicode ≡ is_unicode (options r.flags)
   pub names : pattern.group_names.now ≡ r.group_names

@@ -1,3 +1,4 @@
+pub mod Texts
 pub mod Standing
 pub mod Coming
 pub mod Answering

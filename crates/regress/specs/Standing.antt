@@ -1,5 +1,6 @@
 -- What a compiled pattern stands for.
-use Rattle.std.specs.Prelude.{◌≡◌, map, chars}
+use Rattle.std.specs.Prelude.{◌≡◌, ℕ, List, map, chars}
+use Rattle.std.specs.Arc.{arc_value, arc_str_bytes}
 use Rattle.regress_meaning.specs.Table.{Table}
 use Rattle.regress_meaning.specs.Pattern.{Pattern, names_of}
 use Rattle.regress_meaning.specs.Flags.{Options, is_unicode, first_settings}
@@ -12,10 +13,14 @@ use Rattle.regress_front.specs.Alike.{IsAlike}
 use Rattle.regress.specs.declared.api.Regex.{Regex}
 use Rattle.regress_match.specs.GroupNames.{shared_names}
 
+-- the bytes of the pattern's text
+abbrev pub source_of : Regex → List ℕ
+source_of r = arc_str_bytes r.source
+
 -- The compiled pattern stands for the tree, under this table and these options: its groups have the
 -- same names, and it is alike it.
 pub record StandsFor (r : Regex) (t : Table) (o : Options) (p : Pattern) : Type 0 where
   pub tables : table r.tables.now ≡ t
   pub flags : options r.flags ≡ o
   pub names : map chars (shared_names r.group_names) ≡ names_of p
-  pub alike : IsAlike t (is_unicode o) (λ context. node_outcomes context (tree r.node) Forward) (λ context. outcomes context p Forward (first_settings o))
+  pub alike : IsAlike t (is_unicode o) (λ context. node_outcomes context (tree (arc_value r.node)) Forward) (λ context. outcomes context p Forward (first_settings o))

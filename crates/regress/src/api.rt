@@ -13,13 +13,14 @@ ghost use Rattle.regress_front.specs.TableViews.{table};
 ghost use Rattle.regress_match.specs.Views.{item_of};
 ghost use Rattle.regress_front.specs.FlagWords.{options};
 ghost use Rattle.regress_front.specs.Refusals.{MayRefuse};
+ghost use Rattle.regress.specs.Texts.{shown_text};
 
 use crate::matches::Matches;
-use crate::text::code_points;
+use crate::text::{code_points, text_of};
 use regress_front::{CaptureGroupName, Error, Flags, Node, Tables, try_parse};
 use regress_match::Match;
 use std::alloc::Global;
-use std::sync::ArcSlice;
+use std::sync::{Arc, ArcSlice, ArcStr};
 
 /// Whether a search in `text` may begin at `start`, an offset in bytes: at a boundary between characters, or past the end.
 ///
@@ -38,12 +39,13 @@ pub struct Regex<'u> {
     pub(crate) alloc: Global,
     pub(crate) tables: &'u Tables,
     pub(crate) flags: Flags,
-    pub(crate) node: Node,
+    pub(crate) source: ArcStr,
+    pub(crate) node: Arc<Node>,
     pub(crate) group_names: ArcSlice<CaptureGroupName>,
 }
 
 impl<'u> Regex<'u> {
-    ghost use Rattle.regress.specs.Standing.{StandsFor};
+    ghost use Rattle.regress.specs.Standing.{StandsFor, source_of};
     ghost use Rattle.regress.specs.Coming.{searched, sought_names, coming, BeginsAndEndsAtStarts, HoldsOfEach};
     ghost use Rattle.regress_match.specs.GroupNames.{shared_names};
     ghost use Rattle.regress_match.specs.GroupViews.{names_of_match};
@@ -58,6 +60,7 @@ impl<'u> Regex<'u> {
     /// ```
     pub fn new(alloc: Global, pattern: &str, tables: &'u Tables) -> Result<Regex<'u>, Error>
         ensures accepted { IfOk result (λ r. (p : Pattern) × Spells (table tables.now) no_flags (chars pattern.now) p × WithinLimits p × StandsFor r (table tables.now) no_flags p) }
+        ensures text { IfOk result (λ r. source_of r ≡ pattern.now) }
         ensures refused { IfErr result (MayRefuse (table tables.now) no_flags (chars pattern.now)) }
     {
         Regex::with_flags(alloc, pattern, Flags::default(), tables)
@@ -78,13 +81,15 @@ impl<'u> Regex<'u> {
         tables: &'u Tables,
     ) -> Result<Regex<'u>, Error>
         ensures accepted { IfOk result (λ r. (p : Pattern) × Spells (table tables.now) (options flags) (chars pattern.now) p × WithinLimits p × StandsFor r (table tables.now) (options flags) p) }
+        ensures text { IfOk result (λ r. source_of r ≡ pattern.now) }
         ensures refused { IfErr result (MayRefuse (table tables.now) (options flags) (chars pattern.now)) }
     {
         let points = code_points(alloc, pattern)?;
         Regex::from_unicode(alloc, &points, flags, tables)
     }
 
-    /// Compiles a pattern that is given as code points; raw surrogates are never joined.
+    /// Compiles a pattern that is given as code points; raw surrogates are never joined. In its text, as `as_str` has it,
+    /// U+FFFD stands for each.
     ///
     /// Asks that all are code points, as `are_code_points` tells. Refused as `with_flags` says.
     ///
@@ -99,15 +104,19 @@ impl<'u> Regex<'u> {
     ) -> Result<Regex<'u>, Error>
         requires { All (λ c. c ≤ 0x10_FFFF) points.now }
         ensures accepted { IfOk result (λ r. (p : Pattern) × Spells (table tables.now) (options flags) points.now p × WithinLimits p × StandsFor r (table tables.now) (options flags) p) }
+        ensures text { IfOk result (λ r. source_of r ≡ shown_text points.now) }
         ensures refused { IfErr result (MayRefuse (table tables.now) (options flags) points.now) }
     {
+        let source = ArcStr::from_string(text_of(alloc, points)?)?;
         let tree = try_parse(alloc, points, flags, tables)?;
+        let node = Arc::new(alloc, tree.node)?;
         let group_names = ArcSlice::from_vec(tree.group_names)?;
         Ok(Regex {
             alloc,
             tables,
             flags,
-            node: tree.node,
+            source,
+            node,
             group_names,
         })
     }

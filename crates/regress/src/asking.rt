@@ -1,15 +1,17 @@
 //! What is asked of a compiled pattern beside its matches.
-ghost use Rattle.std.specs.Prelude.{◌≡◌, ◌+◌, ◌↔◌, ◌≢◌, ℕ, [], length, map, chars, string_bytes, IfOk, IsTrue, IsOkUnless};
+ghost use Rattle.std.specs.Prelude.{◌≡◌, ◌+◌, ◌↔◌, ◌≢◌, ℕ, [], length, map, chars, string_bytes, Some, IfOk, IsTrue, IsOkUnless};
 ghost use Rattle.regress_meaning.specs.Table.{Table};
 ghost use Rattle.regress_meaning.specs.Pattern.{Pattern};
 ghost use Rattle.regress_meaning.specs.Flags.{Options};
 ghost use Rattle.regress_meaning.specs.Matches.{match_list};
 ghost use Rattle.regress_meaning.specs.Offsets.{of_utf8, Begins};
 ghost use Rattle.regress_match.specs.GroupNames.{shared_names};
-ghost use Rattle.regress.specs.Standing.{StandsFor};
+ghost use Rattle.regress.specs.Standing.{StandsFor, source_of};
 
 use crate::api::Regex;
 use regress_front::{CaptureGroupName, Error};
+use std::fmt;
+use std::sync::{Arc, ArcStr};
 
 impl<'u> Regex<'u> {
     /// Whether there is a match in a text ("RegExp.prototype.test"). Errs with `OutOfMemory` alone.
@@ -63,5 +65,50 @@ impl<'u> Regex<'u> {
         ensures { result ≡ length (shared_names self.now.group_names) + 1 }
     {
         self.group_names.len() + 1
+    }
+
+    /// The same regex once more: it stands for the same pattern, and has the same text. What was compiled is shared, not copied.
+    /// Errs with `OutOfMemory` alone.
+    ///
+    /// ```rust
+    /// let copy = regex.try_clone()?;
+    /// ```
+    pub fn try_clone(&self) -> Result<Regex<'u>, Error>
+        ensures stands { (t : Table) → (o : Options) → (p : Pattern) → StandsFor self.now t o p → IfOk result (λ r. StandsFor r t o p) }
+        ensures named { IfOk result (λ r. shared_names r.group_names ≡ shared_names self.now.group_names) }
+        ensures text { IfOk result (λ r. source_of r ≡ source_of self.now) }
+        ensures refused { IsOkUnless result Error.OutOfMemory }
+    {
+        let source: ArcStr = self.source.clone()?;
+        let node = Arc::try_clone(&self.node)?;
+        let group_names = self.group_names.clone()?;
+        Ok(Regex {
+            alloc: self.alloc,
+            tables: self.tables,
+            flags: self.flags,
+            source,
+            node,
+            group_names,
+        })
+    }
+
+    /// The pattern's text. In that of a pattern that was given as code points, U+FFFD stands for each surrogate.
+    ///
+    /// ```rust
+    /// let text = regex.as_str(); // `a+b`
+    /// ```
+    pub fn as_str(&self) -> &str
+        ensures { result.now ≡ source_of self.now }
+    {
+        self.source.as_str()
+    }
+}
+
+/// The pattern's text, as `as_str` answers it.
+impl<'u> fmt::Display for Regex<'u> {
+    ghost output = { λ r. Some (source_of r) };
+
+    fn fmt<W: fmt::Write>(&self, f: &mut fmt::Formatter<W>) -> fmt::Result {
+        f.write_str(self.as_str())
     }
 }

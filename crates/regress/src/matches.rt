@@ -31,7 +31,7 @@ impl<'r, 't> Matches<'r, 't> {
         ensures refused { IsOkUnless result Error.OutOfMemory }
     {
         let pattern = CompiledPattern {
-            node: &regex.node,
+            node: &*regex.node,
             tables: regex.tables,
             unicode: regex.flags.is_unicode(),
             group_names: &regex.group_names,

@@ -1,7 +1,7 @@
 //! Tests of the calls that compile and search.
 
 use crate::told::{compiled, match_first, matches_from};
-use regress::{Tables, is_start};
+use regress::{Flags, Regex, Tables, is_start};
 use regress_rows::NOT_ASCII;
 use std::test::Fail;
 
@@ -32,4 +32,33 @@ fn a_lookbehind_sees_what_stands_before_the_start(rt: HostRuntime) -> Result<(),
 #[test]
 fn what_is_not_ascii_takes_k_by_case(rt: HostRuntime) -> Result<(), Fail> {
     match_first(rt.alloc(), NOT_ASCII)
+}
+
+#[test]
+fn a_regex_has_its_text(rt: HostRuntime) -> Result<(), Fail> {
+    let tables = Tables::small(rt.alloc())?;
+    let regex = compiled(rt.alloc(), "é+(?<b>😀)", "i", &tables)?;
+    let told = format!(in rt.alloc(); "<{regex}>")?;
+    assert!(rt; regex.as_str() == "é+(?<b>😀)" && told.as_str() == "<é+(?<b>😀)>");
+    Ok(())
+}
+
+#[test]
+fn a_copy_of_a_regex_finds_the_same(rt: HostRuntime) -> Result<(), Fail> {
+    let tables = Tables::small(rt.alloc())?;
+    let regex = compiled(rt.alloc(), "(?<b>a)+", "i", &tables)?;
+    let copy = regex.try_clone()?;
+    let told = matches_from(rt.alloc(), &copy, "xAa", 0)?;
+    assert!(rt; copy.as_str() == regex.as_str() && copy.captures_len() == regex.captures_len());
+    assert!(rt; told.as_str() == "1..3 2..3");
+    Ok(())
+}
+
+#[test]
+fn a_surrogate_is_shown_as_another_character(rt: HostRuntime) -> Result<(), Fail> {
+    let tables = Tables::small(rt.alloc())?;
+    let points = [0x61, 0xD83D, 0xDE00, 0x10_FFFF];
+    let regex = Regex::from_unicode(rt.alloc(), &points, Flags::default(), &tables)?;
+    assert!(rt; regex.as_str() == "a\u{FFFD}\u{FFFD}\u{10FFFF}");
+    Ok(())
 }

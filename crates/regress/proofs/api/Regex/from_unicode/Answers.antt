@@ -16,6 +16,6 @@ returns-clause-accepted c =
             ap (λ (ns : List (String Global)). map chars (map string_bytes ns)) c.in_ok-group_names.ensures
             ∙ map-map chars string_bytes c.in_ok-tree.tree.group_names.items
             ∙ named;
-        alike = made.alike;
+        alike = rw c.in_ok-node.ensures.ok made.alike;
       },
     )
