@@ -14,7 +14,7 @@ use regress_front_tables::{CodePoint, Error, is_ascii_word};
 use std::alloc::{AllocError, Global};
 
 /// Why an escape is refused.
-const INVALID_ESCAPE: &str = "Invalid escape";
+pub const INVALID_ESCAPE: &str = "Invalid escape";
 
 /// Why a reference is refused.
 const INVALID_REFERENCE: &str = "Invalid backreference";
@@ -120,7 +120,7 @@ impl Cursor<'_> {
             return Ok(Escape::Point(point));
         }
         if self.is_at_digit() && !self.is_at('0') {
-            return self.octal_or_digit(mode, INVALID_REFERENCE);
+            return self.octal_or_digit(mode, INVALID_ESCAPE);
         }
         if !self.is_at('k') {
             return self.escape(alloc, mode);
@@ -257,7 +257,7 @@ impl Cursor<'_> {
     {
         if !self.eat('<') {
             return Err(Error::Syntax {
-                text: "Invalid group name",
+                text: INVALID_ESCAPE,
             });
         }
         let name = self.name(alloc, mode.tables)?;
