@@ -8,7 +8,7 @@ ghost use Rattle.regress_front_tokens.specs.Escapes.{class_control, mode_view, e
 ghost use Rattle.regress_front_tokens.specs.Trees.{class_view};
 
 use crate::cursor::{Cursor, is_one_of};
-use crate::mode::{Mode, groups_of_name};
+use crate::mode::Mode;
 use crate::syntax::Class;
 use regress_front_tables::{CodePoint, Error, is_ascii_word};
 use std::alloc::{AllocError, Global};
@@ -261,7 +261,7 @@ impl Cursor<'_> {
             });
         }
         let name = self.name(alloc, mode.tables)?;
-        let groups = groups_of_name(alloc, &mode.names, &name)?;
+        let groups = mode.groups.of(alloc, &name)?;
         if groups.is_empty() {
             return Err(Error::Syntax {
                 text: INVALID_REFERENCE,

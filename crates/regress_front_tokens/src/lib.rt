@@ -3,6 +3,7 @@
 
 mod cursor;
 mod escape;
+mod groups;
 mod mode;
 mod names;
 mod numbers;
