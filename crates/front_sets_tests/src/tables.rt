@@ -221,19 +221,59 @@ fn intervals_are_in_order(rt: HostRuntime) -> Result<(), Fail> {
     let mut parts = TableParts::small(rt.alloc())?;
     assert!(rt; parts.id_start.len() > 1);
     parts.id_start.swap(0, 1);
+    assert!(rt; parts.key_out_of_place().is_none());
     assert!(rt; is_told(rt.alloc(), parts, &TableLaw::Canonical, 0x41));
     Ok(())
 }
 
+const CAPITAL_LETTERS: Interval = Interval {
+    first: 0x41,
+    last: 0x5A,
+};
+
+const SMALL_LETTERS: Interval = Interval {
+    first: 0x61,
+    last: 0x7A,
+};
+
+const OVERLAPPING: Interval = Interval {
+    first: 0x5A,
+    last: 0x60,
+};
+
+const ADJACENT: Interval = Interval {
+    first: 0x5B,
+    last: 0x60,
+};
+
+/// Whether of parts with these two intervals under the key `Letters` just this start is told, and the key where it is.
+fn are_told(
+    alloc: Global,
+    first: Interval,
+    second: Interval,
+    expected: Option<CodePoint>,
+) -> Result<bool, Fail> {
+    let mut parts = TableParts::small(alloc)?;
+    let intervals = vec![in alloc; first, second]?;
+    parts
+        .properties
+        .push((String::from_str(alloc, "Letters")?, intervals))?;
+    let key = parts.key_out_of_place();
+    Ok(match expected {
+        Some(start) => {
+            key == Some("Letters") && is_told(alloc, parts, &TableLaw::Canonical, start)
+        }
+        None => key.is_none() && Tables::new(alloc, parts).is_ok(),
+    })
+}
+
 #[test]
-fn laws_on_identifiers_are_told(rt: HostRuntime) -> Result<(), Fail> {
-    let mut parts = TableParts::small(rt.alloc())?;
-    parts.id_start.insert(0, DOLLAR)?;
-    let is_dollar = is_told(rt.alloc(), parts, &TableLaw::Identifier, 0x24);
-    let mut parts = TableParts::small(rt.alloc())?;
-    parts.id_continue.push(WITH_SURROGATES)?;
-    let is_surrogate = is_told(rt.alloc(), parts, &TableLaw::Identifier, 0xD800);
-    assert!(rt; is_dollar && is_surrogate);
+fn intervals_of_a_property_are_apart(rt: HostRuntime) -> Result<(), Fail> {
+    let alloc = rt.alloc();
+    assert!(rt; are_told(alloc, SMALL_LETTERS, CAPITAL_LETTERS, Some(0x41))?);
+    assert!(rt; are_told(alloc, CAPITAL_LETTERS, OVERLAPPING, Some(0x5A))?);
+    assert!(rt; are_told(alloc, CAPITAL_LETTERS, ADJACENT, Some(0x5B))?);
+    assert!(rt; are_told(alloc, CAPITAL_LETTERS, SMALL_LETTERS, None)?);
     Ok(())
 }
 
@@ -248,56 +288,56 @@ const TEXTS: &[(TableError, &str)] = &[
             law: TableLaw::Range,
             code_point: 0,
         },
-        "the table has a number past the last code point",
+        "Range: the table has a number past the last code point",
     ),
     (
         TableError::Broken {
             law: TableLaw::Order,
             code_point: 0,
         },
-        "the table's pairs are out of order",
+        "Order: the table's pairs are out of order",
     ),
     (
         TableError::Broken {
             law: TableLaw::AsciiCase,
             code_point: 0,
         },
-        "the table's case of ASCII is wrong",
+        "AsciiCase: the table's case of ASCII is wrong",
     ),
     (
         TableError::Broken {
             law: TableLaw::Idempotent,
             code_point: 0,
         },
-        "the table maps a code point twice",
+        "Idempotent: the table maps a code point twice",
     ),
     (
         TableError::Broken {
             law: TableLaw::ClassSize,
             code_point: 0,
         },
-        "the table maps too many code points to one",
+        "ClassSize: the table maps too many code points to one",
     ),
     (
         TableError::Broken {
             law: TableLaw::Surrogate,
             code_point: 0,
         },
-        "the table maps a code point to a surrogate",
+        "Surrogate: the table maps a code point to a surrogate",
     ),
     (
         TableError::Broken {
             law: TableLaw::Canonical,
             code_point: 0,
         },
-        "the table's intervals are out of order",
+        "Canonical: the table's intervals are out of order, overlap or are adjacent",
     ),
     (
         TableError::Broken {
             law: TableLaw::Identifier,
             code_point: 0,
         },
-        "the table's identifiers have a wrong code point",
+        "Identifier: the table's identifiers have a wrong code point",
     ),
     (TableError::OutOfMemory, "out of memory"),
 ];

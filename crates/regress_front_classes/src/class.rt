@@ -15,7 +15,7 @@ ghost use Rattle.regress_front_tokens.specs.Cursors.{unread, SameText};
 
 use crate::class_ranges::{INVALID_CLASS, UNBALANCED_BRACKET, class_of, members};
 use regress_front_tables::{CodePoint, Error, MAX_NESTING_DEPTH};
-use regress_front_tokens::{Class, Cursor, Escape, Mode, is_one_of};
+use regress_front_tokens::{Class, Cursor, Escape, INVALID_ESCAPE, Mode, is_one_of};
 use std::alloc::Global;
 
 /// What stands side by side in a class.
@@ -207,7 +207,8 @@ fn eat_opening_of_strings(cursor: &mut Cursor) -> bool
     found
 }
 
-/// Behind a backslash ("ClassSetCharacter", "CharacterClassEscape").
+/// Behind a backslash ("ClassSetCharacter", "CharacterClassEscape"). A syntax error where no escape stands here; a reference is
+/// none in a class.
 fn set_escape(cursor: &mut Cursor, alloc: Global, mode: &Mode) -> Result<SetItem, Error>
     requires { HasFewGroups mode.now }
     ensures read { IsRead item_view (read_set_escape (mode_view mode.now)) (unread cursor.old) result (unread cursor.new) }
@@ -219,12 +220,17 @@ fn set_escape(cursor: &mut Cursor, alloc: Global, mode: &Mode) -> Result<SetItem
     if let Some(mark) = eat_any(cursor, "&-!#%,:;<=>@`~") {
         return Ok(SetItem::Point(mark));
     }
-    match cursor.escape(alloc, mode)? {
-        Escape::Point(point) => Ok(SetItem::Point(point)),
-        Escape::Set(class) => Ok(SetItem::Set(class)),
-        Escape::Groups(_) => Err(Error::Syntax {
-            text: INVALID_CLASS,
+    let refers = cursor.is_at_any("k123456789");
+    match cursor.escape(alloc, mode) {
+        Ok(Escape::Point(point)) => Ok(SetItem::Point(point)),
+        Ok(Escape::Set(class)) => Ok(SetItem::Set(class)),
+        Ok(Escape::Groups(_)) => Err(Error::Syntax {
+            text: INVALID_ESCAPE,
         }),
+        Err(Error::Syntax { .. }) if refers => Err(Error::Syntax {
+            text: INVALID_ESCAPE,
+        }),
+        Err(error) => Err(error),
     }
 }
 

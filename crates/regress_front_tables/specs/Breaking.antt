@@ -1,5 +1,5 @@
 -- Which law of a table's parts is told as broken, and for which code point.
-use Rattle.std.specs.Prelude.{◌≡◌, ℕ, ◌+◌, ◌<◌, nat_lt, List, [], ◌∷◌, ◌++◌, Option, Some, None, map, filter, min, if◌then◌else◌}
+use Rattle.std.specs.Prelude.{◌≡◌, ℕ, ◌+◌, ◌<◌, nat_lt, List, [], ◌∷◌, ◌++◌, Option, Some, None, is_some, map, filter, min, if◌then◌else◌}
 use Rattle.std.specs.List.{Contains, flat_map, reduce}
 use Rattle.std.specs.Option.{option_or}
 use Rattle.regress_meaning.specs.Table.{last_code_point}
@@ -54,6 +54,11 @@ out_of_order parts = first_some (map first_out_of_order (parts.fold ∷ parts.up
 -- the first interval of a list that is out of place
 abbrev pub out_of_place : TableParts → Option ℕ
 out_of_place parts = first_some (map first_out_of_place (parts.id_start ∷ parts.id_continue ∷ map (λ e. e.1) parts.properties))
+
+-- the key of the first property with an interval that is out of place
+abbrev pub key_out_of_place : List (List ℕ × List (ℕ × ℕ)) → Option (List ℕ)
+key_out_of_place [] = None
+key_out_of_place (e ∷ properties) = if is_some (first_out_of_place e.1) then Some e.0 else key_out_of_place properties
 
 -- the parts keep the law
 abbrev pub Keeps : TableLaw → TableParts → Type 0

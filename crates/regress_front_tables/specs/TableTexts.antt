@@ -5,16 +5,16 @@ use Rattle.regress_front_tables.specs.declared.tables.law.TableError.TheVariants
 use Rattle.regress_front_tables.specs.declared.tables.law.TableLaw.{TableLaw}
 use Rattle.regress_front_tables.specs.declared.tables.law.TableLaw.TheVariants.{Range, Order, AsciiCase, Idempotent, ClassSize, Surrogate, Canonical, Identifier}
 
--- what is wrong with a table's parts that break the law
+-- what is wrong with a table's parts that break the law, behind its name
 abbrev pub law_text : TableLaw → List ℕ
-law_text Range = codes "the table has a number past the last code point"
-law_text Order = codes "the table's pairs are out of order"
-law_text AsciiCase = codes "the table's case of ASCII is wrong"
-law_text Idempotent = codes "the table maps a code point twice"
-law_text ClassSize = codes "the table maps too many code points to one"
-law_text Surrogate = codes "the table maps a code point to a surrogate"
-law_text Canonical = codes "the table's intervals are out of order"
-law_text Identifier = codes "the table's identifiers have a wrong code point"
+law_text Range = codes "Range: the table has a number past the last code point"
+law_text Order = codes "Order: the table's pairs are out of order"
+law_text AsciiCase = codes "AsciiCase: the table's case of ASCII is wrong"
+law_text Idempotent = codes "Idempotent: the table maps a code point twice"
+law_text ClassSize = codes "ClassSize: the table maps too many code points to one"
+law_text Surrogate = codes "Surrogate: the table maps a code point to a surrogate"
+law_text Canonical = codes "Canonical: the table's intervals are out of order, overlap or are adjacent"
+law_text Identifier = codes "Identifier: the table's identifiers have a wrong code point"
 
 -- why no tables were made
 abbrev pub table_error_text : TableError → List ℕ

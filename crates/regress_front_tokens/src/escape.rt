@@ -8,13 +8,13 @@ ghost use Rattle.regress_front_tokens.specs.Escapes.{class_control, mode_view, e
 ghost use Rattle.regress_front_tokens.specs.Trees.{class_view};
 
 use crate::cursor::{Cursor, is_one_of};
-use crate::mode::{Mode, groups_of_name};
+use crate::mode::Mode;
 use crate::syntax::Class;
 use regress_front_tables::{CodePoint, Error, is_ascii_word};
 use std::alloc::{AllocError, Global};
 
 /// Why an escape is refused.
-const INVALID_ESCAPE: &str = "Invalid escape";
+pub const INVALID_ESCAPE: &str = "Invalid escape";
 
 /// Why a reference is refused.
 const INVALID_REFERENCE: &str = "Invalid backreference";
@@ -120,7 +120,7 @@ impl Cursor<'_> {
             return Ok(Escape::Point(point));
         }
         if self.is_at_digit() && !self.is_at('0') {
-            return self.octal_or_digit(mode, INVALID_REFERENCE);
+            return self.octal_or_digit(mode, INVALID_ESCAPE);
         }
         if !self.is_at('k') {
             return self.escape(alloc, mode);
@@ -257,11 +257,11 @@ impl Cursor<'_> {
     {
         if !self.eat('<') {
             return Err(Error::Syntax {
-                text: "Invalid group name",
+                text: INVALID_ESCAPE,
             });
         }
         let name = self.name(alloc, mode.tables)?;
-        let groups = groups_of_name(alloc, &mode.names, &name)?;
+        let groups = mode.groups.of(alloc, &name)?;
         if groups.is_empty() {
             return Err(Error::Syntax {
                 text: INVALID_REFERENCE,

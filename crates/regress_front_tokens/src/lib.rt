@@ -3,6 +3,7 @@
 
 mod cursor;
 mod escape;
+mod groups;
 mod mode;
 mod names;
 mod numbers;
@@ -10,7 +11,7 @@ mod scan;
 mod syntax;
 
 pub use cursor::{Cursor, is_one_of};
-pub use escape::Escape;
+pub use escape::{Escape, INVALID_ESCAPE};
 pub use mode::Mode;
 pub use regress_front_tables::Quantifier;
 pub use scan::mode_of;

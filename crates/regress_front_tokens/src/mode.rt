@@ -1,12 +1,12 @@
 //! What holds for a whole pattern while it is read.
-ghost use Rattle.std.specs.Prelude.{◌≡◌, ◌≤◌, length, IfOk, map, chars};
-ghost use Rattle.regress_meaning.specs.Tokens.{numbers_from, begins_name, continues_name};
+ghost use Rattle.std.specs.Prelude.{◌≡◌};
+ghost use Rattle.regress_meaning.specs.Tokens.{begins_name, continues_name};
 ghost use Rattle.regress_front_tables.specs.TableViews.{table};
-ghost use Rattle.regress_front_tokens.specs.Words.{code_points_of};
+ghost use Rattle.regress_front_tokens.specs.Groups.{IsIndex};
 
 use crate::cursor::is_one_of;
+use crate::groups::GroupsByName;
 use regress_front_tables::{CaptureGroupName, CodePoint, Tables};
-use std::alloc::{AllocError, Global};
 
 /// What holds for the whole pattern: how its escapes and classes are read ("Patterns", its grammar parameters).
 #[derive(Debug, Drop)]
@@ -21,6 +21,9 @@ pub struct Mode<'t> {
     pub named: bool,
     /// The name of each capturing group, empty where it has none.
     pub names: Vec<CaptureGroupName>,
+    /// The groups of each name.
+    pub(crate) groups: GroupsByName,
+    ghost indexed: { IsIndex groups names.items },
 }
 
 /// Whether a group's name may begin with the code point ("RegExpIdentifierStart").
@@ -37,22 +40,4 @@ pub(crate) fn continues_name(tables: &Tables, point: CodePoint) -> bool
     begins_name(tables, point)
         || tables.id_continue(point)
         || matches!(char::from_u32(point), Some('\u{200C}' | '\u{200D}'))
-}
-
-/// The numbers of the groups that have the name, from 0 ("GroupSpecifiersThatMatch").
-pub(crate) fn groups_of_name(
-    alloc: Global,
-    names: &[CaptureGroupName],
-    name: &str,
-) -> Result<Vec<u16>, AllocError>
-    requires { length names.now ≤ 65535 }
-    ensures { IfOk result (λ groups. groups.items ≡ numbers_from 0 (chars name.now) (map code_points_of names.now)) }
-{
-    let mut groups = Vec::new(alloc);
-    for (group, other) in names.iter().enumerate() {
-        if other.as_str() == name {
-            groups.push(group as u16)?;
-        }
-    }
-    Ok(groups)
 }

@@ -7,6 +7,7 @@ ghost use Rattle.regress_front_tables.specs.TableViews.{table};
 ghost use Rattle.regress_front_tokens.specs.Escapes.{mode_view, texts, opened};
 
 use crate::cursor::Cursor;
+use crate::groups::GroupsByName;
 use crate::mode::Mode;
 use regress_front_tables::{CaptureGroupName, CodePoint, Error, Flags, Tables};
 use std::alloc::{AllocError, Global};
@@ -80,12 +81,14 @@ pub fn mode_of<'t>(
     let unicode = flags.is_unicode();
     let named = unicode || holds_a_name(points);
     let names = group_names(alloc, points, tables, named)?;
+    let groups = GroupsByName::new(alloc, &names)?;
     Ok(Mode {
         tables,
         unicode,
         sets: flags.unicode_sets,
         named,
         names,
+        groups,
     })
 }
 

@@ -6,6 +6,8 @@ use Rattle.std.proofs.lemmas.Bool.{and_parts, eqb-true, cases_Bool, or_cases, fa
 use Rattle.std.proofs.lemmas.Bool.Decides.{nat_tests}
 use Rattle.std.proofs.lemmas.List.{take_more, map-append, get_or-map, length-map}
 use Rattle.std.proofs.lemmas.List.Elements.{filter-append, All-get_or, All-head, All-tail}
+use Rattle.std.specs.Ordering.{is_eq}
+use Rattle.std.proofs.lemmas.Map.Text.{is_eq-slice_cmp}
 use Rattle.std.proofs.lemmas.List.Folds.{list_any-append}
 use Rattle.regress_meaning.specs.Text.{between, same_text}
 use Rattle.regress_meaning.specs.Table.{closure}
@@ -17,7 +19,7 @@ use Rattle.regress_front_sets.specs.declared.interval.Interval.{Interval}
 use Rattle.regress_front_sets.specs.declared.code_point_set.CodePointSet.{CodePointSet}
 use Rattle.regress_front_sets.specs.Intervals.{ends_of}
 use Rattle.regress_front_sets.specs.Sets.{in_set}
-use Rattle.regress_front_tree.specs.ClassValues.{lists}
+use Rattle.regress_front_tree.specs.ClassValues.{lists, by_order}
 use Rattle.std.proofs.Math.Bool.{or-false, and-true}
 use Rattle.regress_meaning.proofs.TableLemmas.{same_bool, some_below-from, some_below-true}
 
@@ -75,6 +77,11 @@ lists-more strings k s inside is =
 pub among-lists : (strings : List (Vec ℕ Global)) (s : List ℕ) → list_any (λ (t : Vec ℕ Global). same_text s t.items) strings ≡ among (lists strings) s
 among-lists [] s = refl
 among-lists (t ∷ strings) s = ap (λ b. same_text s t.items || b) (among-lists strings s)
+
+-- a string is found by order among strings exactly if it stands among them
+pub member-among : (s : Vec ℕ Global) (strings : List (Vec ℕ Global)) → list_any (λ (t : Vec ℕ Global). is_eq (by_order s t)) strings ≡ among (lists strings) s.items
+member-among s [] = refl
+member-among s (t ∷ strings) = rw (is_eq-slice_cmp s.items t.items) (ap (λ b. same_text s.items t.items || b) (member-among s strings))
 
 -- what passes of strings, and the same of them as lists
 pub filter-lists : (test : List ℕ → Bool) (strings : List (Vec ℕ Global)) → lists (filter (λ (t : Vec ℕ Global). test t.items) strings) ≡ filter test (lists strings)

@@ -1,5 +1,9 @@
 -- What the values of classes hold.
-use Rattle.std.specs.Prelude.{ℕ, false, ◌&&◌, ◌||◌, not, List, ◌++◌, Vec, map, filter, fold}
+use Rattle.std.specs.Prelude.{◌≡◌, ℕ, false, ◌&&◌, ◌||◌, not, List, ◌++◌, Vec, map, filter, fold}
+use Rattle.std.specs.BTreeSet.{BTreeSet, contains}
+use Rattle.std.specs.Cmp.Lexicographic.{slice_cmp}
+use Rattle.std.specs.Ordering.{nat_cmp}
+use Rattle.std.specs.declared.cmp.Ordering.{Ordering}
 use Rattle.std.specs.declared.alloc.Global.{Global}
 use Rattle.regress_meaning.specs.Class.{Strings, only, among}
 use Rattle.regress_front_sets.specs.Sets.{in_set}
@@ -8,6 +12,14 @@ use Rattle.regress_front_tree.specs.declared.class_value.ClassValue.{ClassValue}
 -- the strings of a list, as lists
 abbrev pub lists : List (Vec ℕ Global) → List (List ℕ)
 lists = map (λ s. s.items)
+
+-- the order of strings, by the first code points that differ
+abbrev pub by_order : Vec ℕ Global → Vec ℕ Global → Ordering
+by_order s t = slice_cmp nat_cmp s.items t.items
+
+-- the set holds just the strings of the list
+abbrev pub HoldsStrings : BTreeSet (Vec ℕ Global) → List (List ℕ) → Type 0
+HoldsStrings set strings = (s : Vec ℕ Global) → contains by_order set s ≡ among strings s.items
 
 -- the strings that a value holds
 abbrev pub strings_of : ClassValue → Strings

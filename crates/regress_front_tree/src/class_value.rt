@@ -2,7 +2,7 @@
 ghost use Rattle.std.specs.Prelude.{◌≡◌, ◌≤◌, ℕ, false, [], ◌==◌, ◌&&◌, ◌||◌, not, nat_le, length, map, fold, chars, All, unwrap_or, IfOk, OnOk};
 ghost use Rattle.regress_meaning.specs.TableParts.{is_code_point, in_intervals, IntervalsRise};
 ghost use Rattle.regress_meaning.specs.Class as meaning;
-ghost use Rattle.regress_meaning.specs.Class.{Strings, intersection, difference, only, of_list, among, complement_of, is_word, value_of};
+ghost use Rattle.regress_meaning.specs.Class.{Strings, intersection, difference, only, of_list, complement_of, is_word, value_of};
 ghost use Rattle.regress_meaning.specs.Points.{ClassIsOfPoints};
 ghost use Rattle.regress_front_sets.specs.Intervals.{ends_of};
 ghost use Rattle.regress_front_sets.specs.Sets.{in_set, intervals_of};
@@ -15,6 +15,7 @@ use regress_front_tables::{
     whitespace, word_chars,
 };
 use std::alloc::{AllocError, Global};
+use std::collections::BTreeSet;
 
 /// The strings that a class stands for, before case is ignored ("CharSet").
 #[derive(Debug, Drop)]
@@ -71,22 +72,24 @@ impl ClassValue {
     }
 
     /// The members that are also members of another value ("ClassIntersection").
-    fn intersection(self, other: &ClassValue) -> Result<ClassValue, AllocError>
-        ensures { IfOk result (λ value. strings_of value ≡ intersected (strings_of self) (strings_of other.now)) }
+    fn intersection(self, alloc: Global, other: ClassValue) -> Result<ClassValue, AllocError>
+        ensures { IfOk result (λ value. strings_of value ≡ intersected (strings_of self) (strings_of other)) }
     {
         let singles = without(&self.singles, inverted(&other.singles)?)?;
+        let others = string_set(alloc, other.strings)?;
         let mut strings = self.strings;
-        strings.retain(|string| is_among(&other.strings, string));
+        strings.retain(|string| others.contains(string));
         Ok(ClassValue { singles, strings })
     }
 
     /// The members that are no members of another value ("ClassSubtraction").
-    fn difference(self, other: ClassValue) -> Result<ClassValue, AllocError>
+    fn difference(self, alloc: Global, other: ClassValue) -> Result<ClassValue, AllocError>
         ensures { IfOk result (λ value. strings_of value ≡ subtracted (strings_of self) (strings_of other)) }
     {
-        let mut strings = self.strings;
-        strings.retain(|string| !is_among(&other.strings, string));
         let singles = without(&self.singles, other.singles)?;
+        let others = string_set(alloc, other.strings)?;
+        let mut strings = self.strings;
+        strings.retain(|string| !others.contains(string));
         Ok(ClassValue { singles, strings })
     }
 
@@ -98,13 +101,16 @@ impl ClassValue {
     }
 }
 
-ghost use Rattle.regress_front_tree.specs.ClassValues.{lists, strings_of, united, all_united};
+ghost use Rattle.regress_front_tree.specs.ClassValues.{lists, strings_of, united, all_united, HoldsStrings};
 
-/// Whether the string is one of these.
-fn is_among(strings: &[Vec<CodePoint>], string: &[CodePoint]) -> bool
-    ensures { result ≡ among (lists strings.now) string.now }
+/// The strings as a set, in which each is looked up.
+fn string_set(
+    alloc: Global,
+    strings: Vec<Vec<CodePoint>>,
+) -> Result<BTreeSet<Vec<CodePoint>>, AllocError>
+    ensures { IfOk result (λ set. HoldsStrings set (lists strings.items)) }
 {
-    strings.iter().any(|other| string == other.as_slice())
+    strings.into_iter().collect(alloc)
 }
 
 /// The code points that are no members of a set.
@@ -231,7 +237,7 @@ fn intersected_value(
     let mut value = first;
     for other in others {
         let other = class_value(alloc, tables, folded, other)?;
-        value = value.intersection(&other)?;
+        value = value.intersection(alloc, other)?;
     }
     Ok(value)
 }
@@ -252,7 +258,7 @@ fn subtracted_value(
     let mut value = first;
     for other in others {
         let other = class_value(alloc, tables, folded, other)?;
-        value = value.difference(other)?;
+        value = value.difference(alloc, other)?;
     }
     Ok(value)
 }

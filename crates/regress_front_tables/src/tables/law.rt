@@ -50,7 +50,7 @@ pub fn lawful_parts_break_no_law()
     ensures { (parts : TableParts) → IsLawful parts → (law : TableLaw) → (c : ℕ) → Tells law parts c → ⊥ }
 {}
 
-/// A few words on the law that is broken, without the code point, or `out of memory`.
+/// The name of the law that is broken, and a few words on it, without the code point; or `out of memory`.
 impl fmt::Display for TableError {
     ghost use Rattle.regress_front_tables.specs.TableTexts.{table_error_text};
 
@@ -64,19 +64,20 @@ impl fmt::Display for TableError {
     }
 }
 
-/// What is wrong with a table's parts that break the law.
+/// What is wrong with a table's parts that break the law, behind its name.
 fn law_text(law: &TableLaw) -> &'static str
     ensures { result.now ≡ law_text law.now }
 {
     match law {
-        TableLaw::Range => "the table has a number past the last code point",
-        TableLaw::Order => "the table's pairs are out of order",
-        TableLaw::AsciiCase => "the table's case of ASCII is wrong",
-        TableLaw::Idempotent => "the table maps a code point twice",
-        TableLaw::ClassSize => "the table maps too many code points to one",
-        TableLaw::Surrogate => "the table maps a code point to a surrogate",
-        TableLaw::Canonical => "the table's intervals are out of order",
-        TableLaw::Identifier => "the table's identifiers have a wrong code point",
+        TableLaw::Range => "Range: the table has a number past the last code point",
+        TableLaw::Order => "Order: the table's pairs are out of order",
+        TableLaw::AsciiCase => "AsciiCase: the table's case of ASCII is wrong",
+        TableLaw::Idempotent => "Idempotent: the table maps a code point twice",
+        TableLaw::ClassSize => "ClassSize: the table maps too many code points to one",
+        TableLaw::Surrogate => "Surrogate: the table maps a code point to a surrogate",
+        TableLaw::Canonical =>
+            "Canonical: the table's intervals are out of order, overlap or are adjacent",
+        TableLaw::Identifier => "Identifier: the table's identifiers have a wrong code point",
     }
 }
 

@@ -1,10 +1,11 @@
 //! What is out of order in the parts of tables.
-ghost use Rattle.std.specs.Prelude.{◌≡◌, IfNone, IfSome, map};
+ghost use Rattle.std.specs.Prelude.{◌≡◌, IfNone, IfSome, map, option_map, chars};
 ghost use Rattle.regress_meaning.specs.TableParts.{KeepsOrder, KeepsCanonical};
 ghost use Rattle.regress_front_tables.specs.Parts.{parts_of};
 ghost use Rattle.regress_front_sets.specs.Intervals.{ends_of};
 ghost use Rattle.regress_front_tables.specs.declared.tables.law.TableLaw.TheVariants as law;
-ghost use Rattle.regress_front_tables.specs.Breaking.{Tells, first_out_of_order, first_out_of_place, first_some};
+ghost use Rattle.regress_front_tables.specs.Breaking.{Tells, first_out_of_order, first_out_of_place, first_some, key_out_of_place};
+ghost use Rattle.regress_front_tables.specs.Entries.{entry_of};
 
 use super::parts::TableParts;
 use regress_front_sets::{CodePoint, Interval};
@@ -35,6 +36,18 @@ fn first_property_out_of_place(properties: &[(String, Vec<Interval>)]) -> Option
         let told = first_out_of_place(intervals);
         if told.is_some() {
             return told;
+        }
+    }
+    None
+}
+
+/// The key of the first property with an interval that does not lie above the one before it, with a code point between.
+pub(crate) fn key_out_of_place(properties: &[(String, Vec<Interval>)]) -> Option<&str>
+    ensures { option_map (λ key. chars key.now) result ≡ key_out_of_place (map (entry_of (λ v. ends_of v.items)) properties.now) }
+{
+    for (key, intervals) in properties {
+        if first_out_of_place(intervals).is_some() {
+            return Some(key.as_str());
         }
     }
     None

@@ -5,6 +5,7 @@ ghost use Rattle.regress_front_sets.specs.Intervals.{ends, ends_of};
 ghost use Rattle.regress_front_tables.specs.Entries.{entry_of};
 
 use super::law::TableError;
+use super::order::key_out_of_place;
 use regress_front_sets::{CODE_POINT_MAX, CodePoint, Interval};
 use std::alloc::{AllocError, Global};
 
@@ -26,7 +27,9 @@ pub struct TableParts {
 }
 
 impl TableParts {
+    ghost use Rattle.std.specs.Prelude.{option_map, chars};
     ghost use Rattle.regress_front_tables.specs.Parts.{parts_of};
+    ghost use Rattle.regress_front_tables.specs.Breaking.{key_out_of_place};
 
     /// The parts of the small table: ASCII, a few letters beyond it and four keys. `TableParts::small(alloc)?.id_start` holds
     /// letters alone. The only error is `OutOfMemory`.
@@ -42,6 +45,18 @@ impl TableParts {
             properties: small_properties(alloc)?,
             sequences: small_sequences(alloc)?,
         })
+    }
+
+    /// The key of the first property whose intervals don't rise, overlap or are adjacent, where there is one. Where `Tables::new`
+    /// would tell the law `Canonical` and this is `None`, the intervals are those of an identifier's code points.
+    ///
+    /// ```rust
+    /// let key = parts.key_out_of_place(); // `Some("ASCII")`, where that has the intervals 0 to 0x3F and 0x40 to 0x7F
+    /// ```
+    pub fn key_out_of_place(&self) -> Option<&str>
+        ensures { option_map (λ key. chars key.now) result ≡ key_out_of_place (parts_of self.now).properties }
+    {
+        key_out_of_place(&self.properties)
     }
 }
 

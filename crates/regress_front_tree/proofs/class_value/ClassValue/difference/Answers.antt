@@ -1,9 +1,10 @@
 use Rattle.std.proofs.Common.{ℕ, ◌≡◌, ◌∙◌, ap, not, Bool, List, Vec, Global, filter, rules}
 use Rattle.std.proofs.Math.Path.{fun_ext}
 use Rattle.std.proofs.lemmas.Fn.{filter_same}
+use Rattle.std.specs.BTreeSet.{contains}
 use borrow.Author.Tests.{tests}
 use Rattle.regress_meaning.specs.Class.{among}
-use Rattle.regress_front_tree.specs.ClassValues.{lists}
+use Rattle.regress_front_tree.specs.ClassValues.{lists, by_order}
 use Rattle.regress_front_tree.proofs.ClassLemmas.{filter-lists}
 use Rattle.regress_front_tree.proofs.class_value.ClassValue.difference.Goals as goal
 
@@ -12,6 +13,9 @@ returns c =
     let other = lists c.args.other.strings.items in
     let test : List ℕ → Bool = λ s. not (among other s) in
     let singles = fun_ext c.in_ok-singles.ensures in
-    let kept : c.retain.new.self.items ≡ filter (λ (s : Vec ℕ Global). test s.items) c.args.self.strings.items = filter_same _ (λ (s : Vec ℕ Global). test s.items) _ (λ x b f r. search (rules, tests)) _ _ c.retain.ensures.filtered in
-    let others : lists c.retain.new.self.items ≡ filter test (lists c.args.self.strings.items) = ap lists kept ∙ filter-lists test c.args.self.strings.items in
+    let strings = c.args.self.strings.items in
+    let set = c.in_ok-others.others in
+    let kept : c.retain.new.self.items ≡ filter (λ (s : Vec ℕ Global). not (contains by_order set s)) strings = filter_same _ (λ (s : Vec ℕ Global). not (contains by_order set s)) _ (λ x b f r. search (rules, tests)) _ _ c.retain.ensures.filtered in
+    let looked_up : filter (λ (s : Vec ℕ Global). not (contains by_order set s)) strings ≡ filter (λ (s : Vec ℕ Global). test s.items) strings = ap (λ (t : Vec ℕ Global → Bool). filter t strings) (fun_ext (λ (s : Vec ℕ Global). ap not (c.in_ok-others.ensures s))) in
+    let others : lists c.retain.new.self.items ≡ filter test (lists strings) = ap lists (kept ∙ looked_up) ∙ filter-lists test strings in
     λ i. record { singles = singles i; others = others i }
