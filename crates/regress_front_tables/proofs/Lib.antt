@@ -5,6 +5,7 @@ pub mod ImageLemmas
 pub mod LawLemmas
 pub mod ListLemmas
 pub mod OrderLemmas
+pub mod PagesLemmas
 pub mod RangeLemmas
 pub mod SurrogateLemmas
 pub mod TellingLemmas

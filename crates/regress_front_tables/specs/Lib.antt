@@ -2,6 +2,7 @@ pub mod Breaking
 pub mod Entries
 pub mod Folding
 pub mod Listed
+pub mod Pages
 pub mod Parts
 pub mod TableTexts
 pub mod TableViews

@@ -88,7 +88,11 @@ fn pairs_of(tables: &Tables, unicode: bool) -> &[(CodePoint, CodePoint)]
     ensures lawful { IsCaseMap result.now }
     ensures canon { image result.now ≡ canon (table tables.now) unicode }
 {
-    if unicode { &tables.fold } else { &tables.upper }
+    if unicode {
+        &tables.fold.pairs
+    } else {
+        &tables.upper.pairs
+    }
 }
 
 /// The code points that a map takes to where it takes this one, from low to high.

@@ -1,0 +1,75 @@
+//! A map of case, by pages.
+ghost use Rattle.std.specs.Prelude.{◌≡◌, ◌<◌, ◌/◌, ◌%◌, ℕ, All, IfOk, option_map, unwrap_or, slice_index_or};
+ghost use Rattle.regress_meaning.specs.TableParts.{image, PairsRise};
+ghost use Rattle.regress_front_tables.specs.Folding.{IsCaseMap, IsCaseMap-prop};
+ghost use Rattle.regress_front_tables.specs.Pages.{number_at};
+
+use super::image::image;
+use super::pages::{PAGE_COUNT, PAGE_SIZE, Page, Pages};
+use regress_front_sets::CodePoint;
+use std::alloc::{AllocError, Global};
+
+/// A map of case: each code point has an image, mostly itself.
+#[derive(Debug, Drop)]
+pub(crate) struct CaseMap {
+    /// The code points that have images of their own, with these, from low to high.
+    pub(crate) pairs: Vec<(CodePoint, CodePoint)>,
+    /// The images of all code points. Where no code point of a page is in a pair, there is no page.
+    images: Pages,
+    pub(crate) ghost lawful: { IsCaseMap pairs.items } by { IsCaseMap-prop pairs.items },
+    ghost told: { (c : ℕ) → unwrap_or (number_at images c) c ≡ image pairs.items c },
+}
+
+impl CaseMap {
+    /// The map with these pairs. Errs where memory is refused.
+    pub(crate) fn new(
+        alloc: Global,
+        pairs: Vec<(CodePoint, CodePoint)>,
+    ) -> Result<CaseMap, AllocError>
+        requires { IsCaseMap pairs.items }
+        ensures { IfOk result (λ map. map.pairs.items ≡ pairs.items) }
+    {
+        let images = image_pages(alloc, &pairs)?;
+        Ok(CaseMap { pairs, images })
+    }
+
+    /// The image of a code point.
+    pub(crate) fn image(&self, c: CodePoint) -> CodePoint
+        ensures { result ≡ image self.now.pairs.items c }
+    {
+        self.images.get(c).unwrap_or(c)
+    }
+}
+
+/// The images of all code points, by pages.
+fn image_pages(alloc: Global, pairs: &[(CodePoint, CodePoint)]) -> Result<Pages, AllocError>
+    requires { IsCaseMap pairs.now }
+    ensures { IfOk result (λ images. (c : ℕ) → unwrap_or (number_at images c) c ≡ image pairs.now c) }
+{
+    let mut images = Pages::new(alloc);
+    for n in 0..PAGE_COUNT {
+        images.push(image_page(alloc, pairs, n)?)?;
+    }
+    Ok(images)
+}
+
+/// The images of the code points of a page, if one of them is in a pair.
+fn image_page(
+    alloc: Global,
+    pairs: &[(CodePoint, CodePoint)],
+    n: u32,
+) -> Result<Option<Page>, AllocError>
+    requires order { PairsRise pairs.now }
+    requires place { n < 4352 }
+    ensures { IfOk result (λ page. (c : ℕ) → c / 256 ≡ n
+        → unwrap_or (option_map (λ p. slice_index_or p.numbers.items (c % 256) 0) page) c ≡ image pairs.now c) }
+{
+    if let Err(_) = pairs.binary_search_by_key(&n, |pair| pair.0 / PAGE_SIZE) {
+        return Ok(None);
+    }
+    let first = n * PAGE_SIZE;
+    let numbers = (first..first + PAGE_SIZE)
+        .map(|c| image(pairs, c))
+        .collect(alloc)?;
+    Ok(Some(Page { numbers }))
+}
