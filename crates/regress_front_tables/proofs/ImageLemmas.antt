@@ -108,26 +108,34 @@ surrogates-unlisted pairs c h own = ap is_surrogate (image-unlisted pairs c h) �
 
 -- ---- a map by halving
 
-module _ (pairs : List (ℕ × ℕ)) (rise : PairsRise pairs) (key : ℕ → ℕ) (grows : (x y : ℕ) → x ≤ y → key x ≤ key y) (t : ℕ) where
-  -- the comparisons of the keys rise along the pairs
-  comparisons_rise : IsNonDecreasingBy (λ p. ordering_index (nat_cmp (key p.0) t)) pairs
-  comparisons_rise i j d le l =
-      let firsts_rise : (get_or pairs i d).0 ≤ (get_or pairs j d).0 =
-      grind (arith, PairsRise-at pairs rise i j d, λ (same : i ≡ j). ap (λ k. (get_or pairs k d).0) same) in
-      let keys_rise = grows _ _ firsts_rise in
-      grind (arith, nat_tests, keys_rise)
+module _ {X : Type 0} (xs : List X) (key : X → ℕ)
+    (rises : (i j : ℕ) (d : X) → i ≤ j → j < length xs → key (get_or xs i d) ≤ key (get_or xs j d)) (t : ℕ) where
+  -- the comparisons of the keys rise along the list
+  comparisons_rise : IsNonDecreasingBy (λ x. ordering_index (nat_cmp (key x) t)) xs
+  comparisons_rise i j d le l = let keys_rise = rises i j d le l in grind (arith, nat_tests, keys_rise)
 
-  -- where a binary search for a key finds nothing, no pair has it
+  -- where a binary search for a key finds nothing, nothing has it
   pub key-absent : (k : ℕ)
-      → (IsNonDecreasingBy (λ p. ordering_index (nat_cmp (key p.0) t)) pairs
-      → IsPartitionPoint (λ p. nat_cmp (key p.0) t ≡ Less) (λ p. nat_cmp (key p.0) t ≡ Greater) pairs k)
-      → All (λ p. key p.0 ≢ t) pairs
+      → (IsNonDecreasingBy (λ x. ordering_index (nat_cmp (key x) t)) xs
+      → IsPartitionPoint (λ x. nat_cmp (key x) t ≡ Less) (λ x. nat_cmp (key x) t ≡ Greater) xs k)
+      → All (λ x. key x ≢ t) xs
   key-absent k parted i d l same =
       let parts = parted comparisons_rise in
       elim (cases_lt i k) [
         | inl before ↦ omega (arith, ranked _ t _ (sym (parts.0 i d (omega arith) before)))
         | inr behind ↦ omega (arith, ranked _ t _ (sym (parts.1 i d behind l)))
       ]
+
+-- the first parts of pairs in order never fall
+pub firsts-rise : (pairs : List (ℕ × ℕ)) → PairsRise pairs → (i j : ℕ) (d : ℕ × ℕ) → i ≤ j → j < length pairs
+    → (get_or pairs i d).0 ≤ (get_or pairs j d).0
+firsts-rise pairs rise i j d le l =
+    grind (arith, PairsRise-at pairs rise i j d, λ (same : i ≡ j). ap (λ k. (get_or pairs k d).0) same)
+
+-- and neither do their pages
+pages-rise : (pairs : List (ℕ × ℕ)) → PairsRise pairs → (i j : ℕ) (d : ℕ × ℕ) → i ≤ j → j < length pairs
+    → (get_or pairs i d).0 / 256 ≤ (get_or pairs j d).0 / 256
+pages-rise pairs rise i j d le l = omega (arith, firsts-rise pairs rise i j d le l)
 
 module _ (pairs : List (ℕ × ℕ)) (rise : PairsRise pairs) (c : ℕ) where
   -- what a binary search for c finds is its pair
@@ -142,7 +150,7 @@ module _ (pairs : List (ℕ × ℕ)) (rise : PairsRise pairs) (c : ℕ) where
       → (IsNonDecreasingBy (λ p. ordering_index (nat_cmp p.0 c)) pairs
       → IsPartitionPoint (λ p. nat_cmp p.0 c ≡ Less) (λ p. nat_cmp p.0 c ≡ Greater) pairs k)
       → image pairs c ≡ c
-  image-absent k parted = image-unlisted pairs c (key-absent pairs rise (λ x. x) (λ x y le. le) c k parted)
+  image-absent k parted = image-unlisted pairs c (key-absent pairs (λ p. p.0) (firsts-rise pairs rise) c k parted)
 
   -- where a binary search for its page finds nothing, neither
   pub image-unpaged : (k n : ℕ) → c / 256 ≡ n
@@ -150,7 +158,7 @@ module _ (pairs : List (ℕ × ℕ)) (rise : PairsRise pairs) (c : ℕ) where
       → IsPartitionPoint (λ p. nat_cmp (p.0 / 256) n ≡ Less) (λ p. nat_cmp (p.0 / 256) n ≡ Greater) pairs k)
       → image pairs c ≡ c
   image-unpaged k n e parted =
-      let absent = key-absent pairs rise (λ x. x / 256) (λ x y le. omega (arith, le)) n k parted in
+      let absent = key-absent pairs (λ p. p.0 / 256) (pages-rise pairs rise) n k parted in
       image-unlisted pairs c (λ i d l same. absent i d l (ap (λ x. x / 256) same ∙ e))
 
 -- past the code points each number is its own image

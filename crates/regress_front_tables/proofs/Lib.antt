@@ -6,6 +6,8 @@ pub mod LawLemmas
 pub mod ListLemmas
 pub mod OrderLemmas
 pub mod PagesLemmas
+pub mod PlaceLemmas
 pub mod RangeLemmas
+pub mod SharedLemmas
 pub mod SurrogateLemmas
 pub mod TellingLemmas

@@ -1,6 +1,7 @@
 -- What pages give.
 use Rattle.std.proofs.Common.{◌≡◌, ◌≢◌, ℕ, ◌+◌, ◌-◌, ◌/◌, ◌%◌, ◌<◌, ◌≤◌, ◌==◌, false, cond, List, [], ◌∷◌, ◌++◌, length, get_or, All, Option, Some, None, unwrap_or, refl, sym, ap, ◌∙◌, inl, inr, arith, length-append}
-use Rattle.std.proofs.lemmas.Bool.{eq-eqb, ne_eqb, cases_eq, cases_lt}
+use Rattle.std.specs.Option.{is_some}
+use Rattle.std.proofs.lemmas.Bool.{false≢true, eq-eqb, ne_eqb, cases_eq, cases_lt}
 use Rattle.std.proofs.lemmas.List.{get_or_append_left, get_or-append_right, get_or_past}
 use Rattle.regress_meaning.specs.Table.{last_code_point}
 use Rattle.regress_front_tables.specs.Pages.{number_in}
@@ -18,6 +19,24 @@ module _ (root : List ℕ) (pages : List (List ℕ)) (c : ℕ) where
   number_in-some k e l =
       let there : (k == 0) ≡ false = ne_eqb k 0 (λ z. omega (arith, z)) in
       rw (e, there) refl
+
+-- where a code point has no page, nothing in its page has one
+pub number_in-page : (root : List ℕ) (pages : List (List ℕ)) (c d : ℕ) → d / 256 ≡ c / 256 → number_in root pages c ≡ None
+    → number_in root pages d ≡ None
+number_in-page root pages c d e none = elim (cases_eq (get_or root (c / 256) 0) 0) [
+  | inl z ↦ number_in-none root pages d (ap (λ i. get_or root i 0) e ∙ z)
+  | inr there ↦
+      let told = number_in-some root pages c (get_or root (c / 256) 0) refl (omega (arith, there)) in
+      absurd (none≢some (sym none ∙ told))
+]
+  where
+    none≢some : {x : ℕ} → None ≡ Some x → ⊥
+    none≢some e = false≢true (ap is_some e)
+
+-- an option that has nothing is none
+pub none_is : (o : Option ℕ) → is_some o ≡ false → o ≡ None
+none_is None e = refl
+none_is (Some x) e = absurd (false≢true (sym e))
 
 -- the entry that was put last
 last_entry : (root : List ℕ) (k i : ℕ) → i ≡ length root → get_or (root ++ k ∷ []) i 0 ≡ k

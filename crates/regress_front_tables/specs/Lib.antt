@@ -1,4 +1,5 @@
 pub mod Breaking
+pub mod Classes
 pub mod Entries
 pub mod Folding
 pub mod Listed

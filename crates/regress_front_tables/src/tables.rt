@@ -9,6 +9,7 @@ ghost use Rattle.regress_front_tables.specs.Listed.{listed};
 
 pub(crate) mod case_map;
 mod check;
+pub(crate) mod classes;
 pub(crate) mod image;
 pub(crate) mod law;
 mod order;

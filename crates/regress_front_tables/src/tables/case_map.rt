@@ -1,9 +1,11 @@
 //! A map of case, by pages.
-ghost use Rattle.std.specs.Prelude.{◌≡◌, ◌<◌, ◌/◌, ◌%◌, ℕ, All, IfOk, option_map, unwrap_or, slice_index_or};
+ghost use Rattle.std.specs.Prelude.{◌≡◌, ◌<◌, ◌/◌, ◌%◌, ℕ, true, IfOk, option_map, unwrap_or, slice_index_or};
 ghost use Rattle.regress_meaning.specs.TableParts.{image, PairsRise};
-ghost use Rattle.regress_front_tables.specs.Folding.{IsCaseMap, IsCaseMap-prop};
+ghost use Rattle.regress_front_tables.specs.Folding.{IsCaseMap, IsCaseMap-prop, IsClass, IsClass-prop};
 ghost use Rattle.regress_front_tables.specs.Pages.{number_at};
+ghost use Rattle.regress_front_tables.specs.Classes.{class_at};
 
+use super::classes::Classes;
 use super::image::image;
 use super::pages::{PAGE_COUNT, PAGE_SIZE, Page, Pages};
 use regress_front_sets::CodePoint;
@@ -18,6 +20,9 @@ pub(crate) struct CaseMap {
     images: Pages,
     pub(crate) ghost lawful: { IsCaseMap pairs.items } by { IsCaseMap-prop pairs.items },
     ghost told: { (c : ℕ) → unwrap_or (number_at images c) c ≡ image pairs.items c },
+    /// The code points of each image that more than one has.
+    classes: Classes,
+    ghost gathered: { (to : ℕ) → IsClass (image pairs.items) to (class_at classes to) } by { Prim.hlevel (IsClass-prop (image pairs.items)) },
 }
 
 impl CaseMap {
@@ -30,7 +35,12 @@ impl CaseMap {
         ensures { IfOk result (λ map. map.pairs.items ≡ pairs.items) }
     {
         let images = image_pages(alloc, &pairs)?;
-        Ok(CaseMap { pairs, images })
+        let classes = Classes::new(alloc, &pairs)?;
+        Ok(CaseMap {
+            pairs,
+            images,
+            classes,
+        })
     }
 
     /// The image of a code point.
@@ -38,6 +48,26 @@ impl CaseMap {
         ensures { result ≡ image self.now.pairs.items c }
     {
         self.images.get(c).unwrap_or(c)
+    }
+
+    /// The code points with this image, from low to high, if they are more than one.
+    pub(crate) fn class(&self, to: CodePoint) -> Option<&[CodePoint]>
+        ensures { IsClass (image self.now.pairs.items) to (option_map (λ members. members.now) result) }
+    {
+        self.classes.get(to)
+    }
+
+    /// Whether each code point of the page of this one is the only one with its image, so that no page is kept for it.
+    pub(crate) fn is_alone(&self, c: CodePoint) -> bool
+        ensures { result ≡ true → (d e : ℕ) → d / 256 ≡ c / 256
+            → image self.now.pairs.items e ≡ image self.now.pairs.items d → e ≡ d }
+    {
+        self.images.get(c).is_none() && self.classes.is_unpaged(c)
+    }
+
+    /// Where its memory is from.
+    pub(crate) fn allocator(&self) -> Global {
+        *self.pairs.allocator()
     }
 }
 
