@@ -1,119 +1,85 @@
 -- What maps of case gather: closures, and the code points with one image.
-use Rattle.std.proofs.Common.{◌≡◌, ℕ, zero, suc, ◌+◌, ◌-◌, ◌<◌, ◌≤◌, ◌==◌, ◌&&◌, ◌||◌, nat_le, Bool, true, false, cond, List, [], ◌∷◌, length, get_or, take, filter, map, All, Contains, Result, Ok, Err, refl, sym, ap, ap₂, ◌∙◌, subst, inl, inr, arith}
+use Rattle.std.proofs.Common.{◌≡◌, ℕ, zero, suc, ◌+◌, ◌-◌, ◌<◌, ◌≤◌, ◌==◌, ◌&&◌, ◌||◌, nat_le, nat_lt, Bool, true, false, cond, List, [], ◌∷◌, length, get_or, take, filter, map, All, Contains, Some, None, Result, Ok, Err, refl, sym, ap, ap₂, ◌∙◌, subst, inl, inr, arith}
 use Rattle.std.specs.List.{AllPairs, insert, list_any}
 use Rattle.std.specs.List.Sorted.{IsStrictlyIncreasing, IsBinarySearchResult}
 use Rattle.std.specs.Ordering.{nat_cmp}
 use Rattle.std.specs.Result.{MatchResult}
 use Rattle.std.proofs.lemmas.Bool.{and_parts, and_from, or_cases, or_left, or_right, cases_eq, cases_lt, both_ways, false≢true, eqb-true, eq-eqb, ne_eqb, leb-true, le-leb}
-use Rattle.std.proofs.lemmas.List.{get_or-map, length-map}
+use Rattle.std.proofs.lemmas.List.{get_or-map, length-map, map-append, take_more}
 use Rattle.std.proofs.lemmas.List.Edits.{length-insert, get_or-insert_below, get_or-insert_at, get_or-insert_above}
-use Rattle.std.proofs.lemmas.List.Elements.{All-nil, All-more, All-weaker, All-contains}
-use Rattle.std.proofs.lemmas.List.Folds.{Any-from_list_any, list_any_at, list_any_none}
+use Rattle.std.proofs.lemmas.List.Elements.{All-contains}
+use Rattle.std.proofs.lemmas.List.Folds.{Any-from_list_any, list_any_at, list_any_none, list_any_more, list_any-append}
 use Rattle.std.proofs.lemmas.List.Kept.{AllPairs-filter, AllPairs-from_increasing}
 use Rattle.std.proofs.lemmas.List.Sorted.{IsPermutation-insert, list_any-IsPermutation, searched}
-use Rattle.regress_meaning.specs.Text.{holds}
+use Rattle.std.proofs.lemmas.Bool.Decides.{nat_tests}
+use Rattle.regress_meaning.specs.Text.{holds, between}
 use Rattle.regress_meaning.specs.Table.{count_below, closure, code_points, last_code_point}
-use Rattle.regress_meaning.specs.TableParts.{TableParts, IsLawful, image, PairsRise, is_code_point}
-use Rattle.regress_front_tables.specs.Folding.{Lists, IsCaseMap, GrowsInside}
+use Rattle.regress_meaning.specs.TableParts.{TableParts, IsLawful, image, PairsRise, is_code_point, in_intervals}
+use Rattle.regress_front_sets.specs.declared.interval.Interval.{Interval}
+use Rattle.regress_front_sets.specs.Intervals.{ends, ends_of, in_interval}
+use Rattle.regress_front_tables.specs.Folding.{Lists, IsCaseMap, IsClass, Unites}
 use Rattle.regress_meaning.proofs.TableLemmas.{same_bool, closure-true, closure-from, count_below-mono}
 use Rattle.regress_front_tables.proofs.ClassLemmas.{count_below-same}
-use Rattle.regress_front_tables.proofs.ImageLemmas.{PairsRise-at, All-image, image-listed, image-unlisted, image_cases}
+use Rattle.regress_front_tables.proofs.ImageLemmas.{PairsRise-at, image-listed, image-unlisted, image_cases}
 
 -- ---- closures
 
--- what has the image of something in a closure is in the closure
-closure-alike : (map_of : ℕ → ℕ) (members : ℕ → Bool) (c d : ℕ)
-    → closure map_of members d ≡ true → map_of d ≡ map_of c → closure map_of members c ≡ true
-closure-alike map_of members c d h e =
-    let r = closure-true map_of members d h in closure-from map_of members c r.0 r.1 r.2 (r.3 ∙ e)
-
--- the code points of a set are code points
-abbrev pub IsBounded : (ℕ → Bool) → Type 0
-IsBounded members = (c : ℕ) → members c ≡ true → c < code_points
-
--- a set stays inside its closure if it does so twice
-GrowsInside-trans : (map_of : ℕ → ℕ) (a b c : ℕ → Bool) → GrowsInside map_of a b → GrowsInside map_of b c → GrowsInside map_of a c
-GrowsInside-trans map_of a b c h k = record {
-  keeps = λ d m. k.keeps d (h.keeps d m);
-  inside = λ d m. let r = closure-true map_of b d (k.inside d m) in closure-alike map_of a d r.0 (h.inside r.0 r.2) r.3;
-}
-
--- a set that takes in the images of its members, and then what is mapped to these, is the closure
-pub closure-from_both : (pairs : List (ℕ × ℕ)) (a b c : ℕ → Bool) → GrowsInside (image pairs) a b → GrowsInside (image pairs) b c
-    → ((d : ℕ) → a d ≡ true → b (image pairs d) ≡ true) → ((d : ℕ) → b (image pairs d) ≡ true → c d ≡ true)
-    → (d : ℕ) → c d ≡ closure (image pairs) a d
-closure-from_both pairs a b c h k images sources d = same_bool _ _
-    ((GrowsInside-trans (image pairs) a b c h k).inside d)
-    (λ m. let r = closure-true (image pairs) a d m in sources d (ap b (sym r.3) ∙ images r.0 r.2))
-
--- ---- a set that grows along the pairs
-
--- Where a set holds the one part of a pair, it takes in the other: so far, of the pairs in this list.
-pub record Takes (pairs : List (ℕ × ℕ)) (given taken : ℕ × ℕ → ℕ) (done : List (ℕ × ℕ)) (old new : ℕ → Bool) : Type 0 where
-  pub inside : GrowsInside (image pairs) old new
-  pub each : All (λ p. old (given p) ≡ true → new (taken p) ≡ true) done
-
--- the parts of a pair have one image
-pub All-alike : (pairs : List (ℕ × ℕ)) → IsCaseMap pairs → All (λ p. image pairs p.0 ≡ image pairs p.1) pairs
-All-alike pairs lawful k d l =
-    let p = get_or pairs k d in
-    let listed = All-image pairs lawful.order k d l in
-    sym (lawful.idempotent p.0) ∙ ap (image pairs) listed
-
-module _ (pairs : List (ℕ × ℕ)) (given taken : ℕ × ℕ → ℕ) (old : ℕ → Bool) where
-  pub Takes-none : IsBounded old → Takes pairs given taken [] old old
-  Takes-none bounded = record {
-    inside = record { keeps = λ c m. m; inside = λ c m. closure-from (image pairs) old c c (bounded c m) m refl };
-    each = All-nil (λ p. old (given p) ≡ true → old (taken p) ≡ true);
+module _ (map_of : ℕ → ℕ) where
+  -- nothing is asked of what doesn't pass
+  pub Unites-none : (test old new : ℕ → Bool) → ((c : ℕ) → test c ≡ false) → ((c : ℕ) → new c ≡ old c) → Unites map_of test old new
+  Unites-none test old new none same = record {
+    keeps = λ c m. same c ∙ m;
+    inside = λ c m. inl (sym (same c) ∙ m);
+    all = λ d t c e. absurd (both_ways _ (none d) t);
   }
 
-  -- a pair whose given part is no member is passed over
-  pub Takes-passed : (new : ℕ → Bool) (n : ℕ) (d : ℕ × ℕ) → n < length pairs → Takes pairs given taken (take n pairs) old new
-      → new (given (get_or pairs n d)) ≡ false → Takes pairs given taken (take (n + 1) pairs) old new
-  Takes-passed new n d l h none = record {
-    inside = h.inside;
-    each = All-more (λ p. old (given p) ≡ true → new (taken p) ≡ true) pairs n d l h.each
-        (λ m. absurd (both_ways _ none (h.inside.keeps _ m)));
+  -- it is the same of tests that agree
+  pub Unites-same : (s t old new : ℕ → Bool) → ((c : ℕ) → s c ≡ t c) → Unites map_of s old new → Unites map_of t old new
+  Unites-same s t old new same h = record {
+    keeps = h.keeps;
+    inside = λ c m. elim (h.inside c m) [
+      | inl own ↦ inl own
+      | inr from ↦ inr (from.0, sym (same from.0) ∙ from.1, from.2)
+    ];
+    all = λ d passes c e. h.all d (same d ∙ passes) c e;
   }
 
-  -- and else its other part is taken in
-  pub Takes-taken : (new newer : ℕ → Bool) (n : ℕ) (d : ℕ × ℕ) → n < length pairs → Takes pairs given taken (take n pairs) old new
-      → new (given (get_or pairs n d)) ≡ true → image pairs (given (get_or pairs n d)) ≡ image pairs (taken (get_or pairs n d))
-      → ((c : ℕ) → newer c ≡ (new c || c == taken (get_or pairs n d)))
-      → Takes pairs given taken (take (n + 1) pairs) old newer
-  Takes-taken new newer n d l h member alike added =
-      let p = get_or pairs n d in
-      let grows = λ (c : ℕ) (m : new c ≡ true). added c ∙ or_left _ (c == taken p) m in record {
-        inside = record {
-          keeps = λ c m. grows c (h.inside.keeps c m);
-          inside = λ c m. elim (or_cases (new c) _ (sym (added c) ∙ m)) [
-            | inl own ↦ h.inside.inside c own
-            | inr same ↦ closure-alike (image pairs) old c (given p) (h.inside.inside _ member) (alike ∙ ap (image pairs) (sym (eqb-true c _ same)))
-          ];
-        };
-        each = All-more (λ q. old (given q) ≡ true → newer (taken q) ≡ true) pairs n d l
-            (All-weaker (λ q. old (given q) ≡ true → new (taken q) ≡ true) (λ q. old (given q) ≡ true → newer (taken q) ≡ true)
-            (λ q k m. grows _ (k m)) _ h.each)
-            (λ m. added (taken p) ∙ or_right (new (taken p)) _ (eq-eqb (taken p) _ refl));
-      }
+  -- what passes and is alone with its image has nothing to take in
+  pub Unites-alone : (test old : ℕ → Bool) → ((d : ℕ) → test d ≡ true → old d ≡ true)
+      → ((d c : ℕ) → test d ≡ true → map_of c ≡ map_of d → c ≡ d) → Unites map_of test old old
+  Unites-alone test old within alone = record {
+    keeps = λ c m. m;
+    inside = λ c m. inl m;
+    all = λ d t c e. ap old (alone d c t e) ∙ within d t;
+  }
 
--- after all pairs, the images of members are members
-pub images-taken : (pairs : List (ℕ × ℕ)) (old new : ℕ → Bool) → Takes pairs (λ p. p.0) (λ p. p.1) pairs old new
-    → (c : ℕ) → old c ≡ true → new (image pairs c) ≡ true
-images-taken pairs old new h c m =
-    elim (image_cases pairs c) [
-      | inl unlisted ↦ ap new (image-unlisted pairs c unlisted) ∙ h.inside.keeps c m
-      | inr listed ↦ All-contains (λ p. old p.0 ≡ true → new p.1 ≡ true) pairs (c, image pairs c) h.each listed m
-    ]
+  -- what passes one test or another is taken in one after the other
+  pub Unites-both : (s t u old mid new : ℕ → Bool) → ((c : ℕ) → u c ≡ (s c || t c)) → Unites map_of s old mid → Unites map_of t mid new
+      → Unites map_of u old new
+  Unites-both s t u old mid new either h k = record {
+    keeps = λ c m. k.keeps c (h.keeps c m);
+    inside = λ c m. elim (k.inside c m) [
+      | inl before ↦ elim (h.inside c before) [
+        | inl first ↦ inl first
+        | inr from ↦ inr (from.0, either from.0 ∙ or_left (s from.0) (t from.0) from.1, from.2)
+      ]
+      | inr from ↦ inr (from.0, either from.0 ∙ or_right (s from.0) (t from.0) from.1, from.2)
+    ];
+    all = λ d passes c e. elim (or_cases (s d) (t d) (sym (either d) ∙ passes)) [
+      | inl first ↦ k.keeps c (h.all d first c e)
+      | inr second ↦ k.all d second c e
+    ];
+  }
 
--- after all pairs, what maps to a member is a member
-pub sources-taken : (pairs : List (ℕ × ℕ)) (old new : ℕ → Bool) → Takes pairs (λ p. p.1) (λ p. p.0) pairs old new
-    → (c : ℕ) → old (image pairs c) ≡ true → new c ≡ true
-sources-taken pairs old new h c m =
-    elim (image_cases pairs c) [
-      | inl unlisted ↦ h.inside.keeps c (ap old (sym (image-unlisted pairs c unlisted)) ∙ m)
-      | inr listed ↦ All-contains (λ p. old p.1 ≡ true → new p.0 ≡ true) pairs (c, image pairs c) h.each listed m
-    ]
+  -- a set that has taken in the classes of all its members is its closure
+  pub closure-united : (members new : ℕ → Bool) → ((c : ℕ) → members c ≡ true → c < code_points) → Unites map_of members members new
+      → (c : ℕ) → new c ≡ closure map_of members c
+  closure-united members new bounded h c = same_bool _ _
+      (λ m. elim (h.inside c m) [
+        | inl own ↦ closure-from map_of members c c (bounded c own) own refl
+        | inr from ↦ closure-from map_of members c from.0 (bounded from.0 from.1) from.1 from.2
+      ])
+      (λ m. let r = closure-true map_of members c m in h.all r.0 r.2 c (sym r.3))
 
 -- ---- numbers below a bound that pass
 
@@ -297,6 +263,148 @@ module _ (pairs : List (ℕ × ℕ)) (lawful : IsCaseMap pairs) (a : ℕ) (bound
           (λ i. Lists (λ c. image pairs c == image pairs a) (insert (sources (image pairs a) pairs) i (image pairs a)))
       go (Ok i) h = Lists-found i h.0 h.1
       go (Err i) h = Lists-inserted i h.0 h.1 h.2
+
+-- what a class is told to be, for a code point with its image
+pub Lists-told : (pairs : List (ℕ × ℕ)) (c : ℕ) (members : List ℕ) → IsClass (image pairs) (image pairs c) (Some members)
+    → Lists (λ d. image pairs d == image pairs c) members
+Lists-told pairs c members h = h
+
+-- a code point that nothing else has the image of is all there is
+pub Lists-alone : (pairs : List (ℕ × ℕ)) (c : ℕ) → c ≤ last_code_point → IsClass (image pairs) (image pairs c) None
+    → Lists (λ d. image pairs d == image pairs c) (c ∷ [])
+Lists-alone pairs c bound alone = record {
+  rises = λ k l. absurd (omega (arith, l));
+  members = λ d. same_bool _ _
+      (λ m. let e : c ≡ d = elim (or_cases (c == d) false m) [
+        | inl own ↦ eqb-true c d own
+        | inr none ↦ absurd (false≢true none)
+      ] in
+      and_from _ _ (le-leb d last_code_point (omega (arith, bound, e))) (eq-eqb _ _ (ap (image pairs) (sym e))))
+      (λ m. let same = eqb-true (image pairs d) (image pairs c) (and_parts (nat_le d last_code_point) _ m).1 in
+      or_left (c == d) false (eq-eqb c d (alone c refl ∙ sym (alone d same))));
+}
+
+-- at least one code point has the image of a code point, and at most four
+pub Lists-few : (pairs : List (ℕ × ℕ)) → IsCaseMap pairs → (c : ℕ) (cs : List ℕ) → c ≤ last_code_point
+    → Lists (λ d. image pairs d == image pairs c) cs → (0 < length cs) × (length cs ≤ 4)
+Lists-few pairs lawful c cs bound h =
+    let own = Lists-own _ cs c h bound (eq-eqb _ _ refl) in
+    (length-holding cs c own, omega (arith, length-Lists _ cs h, lawful.class_size (image pairs c)))
+
+-- ---- classes that are taken in
+
+-- each member of a class is a code point
+pub Lists-bounded : (test : ℕ → Bool) (cs : List ℕ) → Lists test cs → (k : ℕ) → k < length cs → get_or cs k 0 ≤ last_code_point
+Lists-bounded test cs h k l =
+    let own = list_any_at (λ x. x == get_or cs k 0) cs k 0 l (eq-eqb _ _ refl) in
+    leb-true _ _ (and_parts (nat_le (get_or cs k 0) last_code_point) _ (sym (h.members _) ∙ own)).0
+
+-- what has been taken in is the class
+pub Unites-class : (pairs : List (ℕ × ℕ)) → IsCaseMap pairs → (c : ℕ) (members : List ℕ) (old new : ℕ → Bool) → c ≤ last_code_point
+    → Lists (λ d. image pairs d == image pairs c) members → ((d : ℕ) → new d ≡ (old d || holds members d))
+    → Unites (image pairs) (λ d. d == c) old new
+Unites-class pairs lawful c members old new bound h taken = record {
+  keeps = λ d m. taken d ∙ or_left (old d) (holds members d) m;
+  inside = λ d m. elim (or_cases (old d) (holds members d) (sym (taken d) ∙ m)) [
+    | inl own ↦ inl own
+    | inr listed ↦
+        let same = eqb-true _ _ (and_parts (nat_le d last_code_point) _ (sym (h.members d) ∙ listed)).1 in
+        inr (c, eq-eqb c c refl, sym same)
+  ];
+  all = λ d passes x e.
+      let same : image pairs x ≡ image pairs c = e ∙ ap (image pairs) (eqb-true d c passes) in
+      let small = sharing-bounded pairs lawful c bound x same in
+      taken x ∙ or_right (old x) (holds members x) (h.members x ∙ and_from _ _ (le-leb x last_code_point small) (eq-eqb _ _ same));
+}
+
+-- what is alone with its image needs nothing
+pub Unites-no_class : (pairs : List (ℕ × ℕ)) (c : ℕ) (old : ℕ → Bool) → old c ≡ true → IsClass (image pairs) (image pairs c) None
+    → Unites (image pairs) (λ d. d == c) old old
+Unites-no_class pairs c old own alone =
+    Unites-alone (image pairs) (λ d. d == c) old (λ d t. ap old (eqb-true d c t) ∙ own)
+    (λ d x t e. let same = eqb-true d c t in alone x (e ∙ ap (image pairs) same) ∙ sym (alone c refl) ∙ sym same)
+
+-- one number more of a list
+holds-more : (cs : List ℕ) (k d : ℕ) → k < length cs → holds (take (k + 1) cs) d ≡ (holds (take k cs) d || get_or cs k 0 == d)
+holds-more cs k d l = list_any_more (λ x. x == d) cs k 0 l
+
+-- an alternative that never holds may be left out
+pub or_none : (b : Bool) → (b || false) ≡ b
+or_none true = refl
+or_none false = refl
+
+-- a test of an alternative may be split either way
+or_split : (a b c : Bool) → ((a || b) || c) ≡ (a || (b || c))
+or_split true b c = refl
+or_split false b c = refl
+
+module _ (s added old : ℕ → Bool) (cs : List ℕ) (k : ℕ) (l : k < length cs)
+    (so_far : (d : ℕ) → (s d || added d) ≡ ((s d || old d) || holds (take k cs) d)) where
+  -- a member is taken in
+  pub member-added : (newer : ℕ → Bool) → ((d : ℕ) → newer d ≡ (added d || d == get_or cs k 0))
+      → (d : ℕ) → (s d || newer d) ≡ ((s d || old d) || holds (take (k + 1) cs) d)
+  member-added newer more d =
+      let turned : (d == get_or cs k 0) ≡ (get_or cs k 0 == d) = grind (arith, nat_tests) in
+      ap (λ b. s d || b) (more d) ∙ sym (or_split (s d) (added d) (d == get_or cs k 0))
+      ∙ ap₂ (λ a b. a || b) (so_far d) turned ∙ or_split (s d || old d) (holds (take k cs) d) (get_or cs k 0 == d)
+      ∙ ap (λ b. (s d || old d) || b) (sym (holds-more cs k d l))
+
+  -- or it is there
+  pub member-there : s (get_or cs k 0) ≡ true → (d : ℕ) → (s d || added d) ≡ ((s d || old d) || holds (take (k + 1) cs) d)
+  member-there own d = so_far d ∙ elim (cases_eq (get_or cs k 0) d) [
+    | inl e ↦
+        let here : (s d || old d) ≡ true = or_left (s d) (old d) (ap s (sym e) ∙ own) in
+        or_left _ (holds (take k cs) d) here ∙ sym (or_left _ (holds (take (k + 1) cs) d) here)
+    | inr ne ↦
+        let same : holds (take (k + 1) cs) d ≡ holds (take k cs) d =
+        holds-more cs k d l ∙ ap (λ b. holds (take k cs) d || b) (ne_eqb _ d ne) ∙ or_none (holds (take k cs) d) in
+        ap (λ b. (s d || old d) || b) (sym same)
+  ]
+
+-- ---- the code points of an interval, in order
+
+module _ (first last c d : ℕ) where
+  -- up to a further place there are those before and those from here on
+  pub walk-further : (next : ℕ) → c ≤ next
+      → (between first last d && nat_lt d next) ≡ ((between first last d && nat_lt d c) || ((between first last d && nat_le c d) && nat_lt d next))
+  walk-further next le = grind (arith, nat_tests)
+
+  -- up to the next there is one more
+  pub walk-on : first ≤ c → c ≤ last → (between first last d && nat_lt d (c + 1)) ≡ ((between first last d && nat_lt d c) || d == c)
+  walk-on low high = grind (arith, nat_tests)
+
+  -- at first there is none
+  pub walk-none : c ≤ first → (between first last d && nat_lt d c) ≡ false
+  walk-none le = grind (arith, nat_tests)
+
+  -- and at last there are all
+  pub walk-all : last < c → (between first last d && nat_lt d c) ≡ between first last d
+  walk-all past = grind (arith, nat_tests)
+
+-- ---- the intervals of a set, one by one
+
+-- nothing lies in no intervals
+pub in_intervals-none : (c : ℕ) → in_intervals [] c ≡ false
+unfolding in_intervals
+in_intervals-none c = refl
+
+-- one interval more
+pub in_intervals-more : (intervals : List Interval) (k : ℕ) (i : Interval) (c : ℕ) → k < length intervals
+    → in_intervals (ends_of (take (k + 1) intervals)) c ≡ (in_intervals (ends_of (take k intervals)) c || in_interval (get_or intervals k i) c)
+unfolding in_intervals
+in_intervals-more intervals k i c l =
+    let one = get_or intervals k i in
+    rw (take_more intervals k i l, map-append ends (take k intervals) (one ∷ []), list_any-append (λ p. between p.0 p.1 c) (ends_of (take k intervals)) (ends_of (one ∷ [])))
+    (ap (λ b. in_intervals (ends_of (take k intervals)) c || b) (or_none (in_interval one c)))
+
+-- what lies in one of the intervals lies in them
+pub in_intervals-at : (intervals : List Interval) (k : ℕ) (i : Interval) (c : ℕ) → k < length intervals
+    → in_interval (get_or intervals k i) c ≡ true → in_intervals (ends_of intervals) c ≡ true
+unfolding in_intervals
+in_intervals-at intervals k i c l inside =
+    let one = get_or-map ends intervals k i (0, 0) l in
+    list_any_at (λ p. between p.0 p.1 c) (ends_of intervals) k (0, 0) (omega (arith, l, length-map intervals ends))
+    (ap (λ (p : ℕ × ℕ). between p.0 p.1 c) one ∙ inside)
 
 -- ---- the maps of lawful parts
 

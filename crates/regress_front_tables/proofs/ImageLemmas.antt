@@ -1,5 +1,5 @@
 -- What a map of case gives, whose pairs rise.
-use Rattle.std.proofs.Common.{◌≡◌, ◌≢◌, ℕ, zero, suc, ◌<◌, ◌≤◌, ◌⊎◌, ◌==◌, not, ◌&&◌, Bool, true, false, cond, List, [], ◌∷◌, length, get_or, All, Contains, refl, sym, ap, subst, ◌∙◌, inl, inr, arith}
+use Rattle.std.proofs.Common.{◌≡◌, ◌≢◌, ℕ, zero, suc, ◌/◌, ◌<◌, ◌≤◌, ◌⊎◌, ◌==◌, not, ◌&&◌, Bool, true, false, cond, List, [], ◌∷◌, length, get_or, All, Contains, refl, sym, ap, ◌∙◌, inl, inr, arith}
 use Rattle.std.specs.List.Sorted.{IsNonDecreasingBy, IsPartitionPoint}
 use Rattle.std.specs.List.{HoldsAt}
 use Rattle.std.specs.Ordering.{nat_cmp, ordering_index}
@@ -8,7 +8,8 @@ use Rattle.std.proofs.lemmas.Bool.{eqb-true, eqb-false, eq-eqb, ne_eqb, cases_lt
 use Rattle.std.proofs.lemmas.Bool.Decides.{nat_tests}
 use Rattle.std.proofs.lemmas.Cmp.{ranked}
 use Rattle.std.proofs.lemmas.List.Elements.{All-nil, All-cons, All-head, All-tail, All-contains}
-use Rattle.regress_meaning.specs.TableParts.{image, is_surrogate, PairsRise, IsIdempotentAt, AvoidsSurrogates}
+use Rattle.regress_meaning.specs.Table.{last_code_point}
+use Rattle.regress_meaning.specs.TableParts.{image, is_code_point, is_surrogate, PairsRise, IsIdempotentAt, AvoidsSurrogates}
 
 -- ---- pairs that rise
 
@@ -107,14 +108,36 @@ surrogates-unlisted pairs c h own = ap is_surrogate (image-unlisted pairs c h) �
 
 -- ---- a map by halving
 
-module _ (pairs : List (ℕ × ℕ)) (rise : PairsRise pairs) (c : ℕ) where
-  -- the comparisons with c rise along the pairs
-  comparisons_rise : IsNonDecreasingBy (λ p. ordering_index (nat_cmp p.0 c)) pairs
-  comparisons_rise i j d le l =
-      let keys_rise : (get_or pairs i d).0 ≤ (get_or pairs j d).0 =
-      grind (arith, PairsRise-at pairs rise i j d, λ (same : i ≡ j). ap (λ k. (get_or pairs k d).0) same) in
-      grind (arith, nat_tests)
+module _ {X : Type 0} (xs : List X) (key : X → ℕ)
+    (rises : (i j : ℕ) (d : X) → i ≤ j → j < length xs → key (get_or xs i d) ≤ key (get_or xs j d)) (t : ℕ) where
+  -- the comparisons of the keys rise along the list
+  comparisons_rise : IsNonDecreasingBy (λ x. ordering_index (nat_cmp (key x) t)) xs
+  comparisons_rise i j d le l = let keys_rise = rises i j d le l in grind (arith, nat_tests, keys_rise)
 
+  -- where a binary search for a key finds nothing, nothing has it
+  pub key-absent : (k : ℕ)
+      → (IsNonDecreasingBy (λ x. ordering_index (nat_cmp (key x) t)) xs
+      → IsPartitionPoint (λ x. nat_cmp (key x) t ≡ Less) (λ x. nat_cmp (key x) t ≡ Greater) xs k)
+      → All (λ x. key x ≢ t) xs
+  key-absent k parted i d l same =
+      let parts = parted comparisons_rise in
+      elim (cases_lt i k) [
+        | inl before ↦ omega (arith, ranked _ t _ (sym (parts.0 i d (omega arith) before)))
+        | inr behind ↦ omega (arith, ranked _ t _ (sym (parts.1 i d behind l)))
+      ]
+
+-- the first parts of pairs in order never fall
+pub firsts-rise : (pairs : List (ℕ × ℕ)) → PairsRise pairs → (i j : ℕ) (d : ℕ × ℕ) → i ≤ j → j < length pairs
+    → (get_or pairs i d).0 ≤ (get_or pairs j d).0
+firsts-rise pairs rise i j d le l =
+    grind (arith, PairsRise-at pairs rise i j d, λ (same : i ≡ j). ap (λ k. (get_or pairs k d).0) same)
+
+-- and neither do their pages
+pages-rise : (pairs : List (ℕ × ℕ)) → PairsRise pairs → (i j : ℕ) (d : ℕ × ℕ) → i ≤ j → j < length pairs
+    → (get_or pairs i d).0 / 256 ≤ (get_or pairs j d).0 / 256
+pages-rise pairs rise i j d le l = omega (arith, firsts-rise pairs rise i j d le l)
+
+module _ (pairs : List (ℕ × ℕ)) (rise : PairsRise pairs) (c : ℕ) where
   -- what a binary search for c finds is its pair
   pub image-found : (k : ℕ) → k < length pairs → HoldsAt (λ p. nat_cmp p.0 c ≡ Equal) pairs k
       → image pairs c ≡ (get_or pairs k (0, 0)).1
@@ -127,9 +150,18 @@ module _ (pairs : List (ℕ × ℕ)) (rise : PairsRise pairs) (c : ℕ) where
       → (IsNonDecreasingBy (λ p. ordering_index (nat_cmp p.0 c)) pairs
       → IsPartitionPoint (λ p. nat_cmp p.0 c ≡ Less) (λ p. nat_cmp p.0 c ≡ Greater) pairs k)
       → image pairs c ≡ c
-  image-absent k parted =
-      let parts = parted comparisons_rise in
-      image-unlisted pairs c (λ i d l same. elim (cases_lt i k) [
-        | inl before ↦ omega (arith, ranked _ c _ (sym (parts.0 i d (omega arith) before)))
-        | inr behind ↦ omega (arith, ranked _ c _ (sym (parts.1 i d behind l)))
-      ])
+  image-absent k parted = image-unlisted pairs c (key-absent pairs (λ p. p.0) (firsts-rise pairs rise) c k parted)
+
+  -- where a binary search for its page finds nothing, neither
+  pub image-unpaged : (k n : ℕ) → c / 256 ≡ n
+      → (IsNonDecreasingBy (λ p. ordering_index (nat_cmp (p.0 / 256) n)) pairs
+      → IsPartitionPoint (λ p. nat_cmp (p.0 / 256) n ≡ Less) (λ p. nat_cmp (p.0 / 256) n ≡ Greater) pairs k)
+      → image pairs c ≡ c
+  image-unpaged k n e parted =
+      let absent = key-absent pairs (λ p. p.0 / 256) (pages-rise pairs rise) n k parted in
+      image-unlisted pairs c (λ i d l same. absent i d l (ap (λ x. x / 256) same ∙ e))
+
+-- past the code points each number is its own image
+pub image-past : (pairs : List (ℕ × ℕ)) → All (λ p. is_code_point p.0 × is_code_point p.1) pairs → (c : ℕ) → last_code_point < c
+    → image pairs c ≡ c
+image-past pairs range c past = image-unlisted pairs c (λ k d l same. omega (arith, (range k d l).0, same, past))

@@ -1,7 +1,7 @@
 -- Of a law that is kept nothing is told, and what is told of the first that isn't.
-use Rattle.std.proofs.Common.{◌≡◌, ℕ, ◌<◌, Result, Ok, Err, IfErr, IsOkUnless, refl, arith}
+use Rattle.std.proofs.Common.{ℕ, Result, Ok, Err, IfErr, IsOkUnless, refl, arith}
 use Rattle.std.proofs.lemmas.List.Elements.{All-contains}
-use Rattle.regress_meaning.specs.TableParts.{TableParts, IsLawful, BothMaps, HasAsciiCase, IsIdempotentAt, HasSmallClass, AvoidsSurrogates, KeepsIdentifierAt, KeepsRange, KeepsOrder, KeepsCanonical, is_code_point}
+use Rattle.regress_meaning.specs.TableParts.{TableParts, IsLawful, is_code_point}
 use Rattle.regress_front_tables.specs.declared.tables.law.TableError.{TableError}
 use Rattle.regress_front_tables.specs.declared.tables.law.TableError.TheVariants.{Broken, OutOfMemory}
 use Rattle.regress_front_tables.specs.declared.tables.law.TableLaw.{TableLaw}

@@ -5,6 +5,9 @@ pub mod ImageLemmas
 pub mod LawLemmas
 pub mod ListLemmas
 pub mod OrderLemmas
+pub mod PagesLemmas
+pub mod PlaceLemmas
 pub mod RangeLemmas
+pub mod SharedLemmas
 pub mod SurrogateLemmas
 pub mod TellingLemmas

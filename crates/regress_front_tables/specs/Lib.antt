@@ -1,7 +1,9 @@
 pub mod Breaking
+pub mod Classes
 pub mod Entries
 pub mod Folding
 pub mod Listed
+pub mod Pages
 pub mod Parts
 pub mod TableTexts
 pub mod TableViews

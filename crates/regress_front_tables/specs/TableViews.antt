@@ -6,7 +6,7 @@ use Rattle.regress_front_tables.specs.Listed.{listed}
 
 -- the parts of tables, as plain lists
 abbrev pub parts : Tables → TableParts
-parts t = listed t.fold.items t.upper.items t.id_start t.id_continue t.properties.items t.sequences.items
+parts t = listed t.fold.pairs.items t.upper.pairs.items t.id_start t.id_continue t.properties.items t.sequences.items
 
 -- what tables tell of code points
 abbrev pub table : Tables → Table

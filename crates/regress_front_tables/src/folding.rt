@@ -1,16 +1,18 @@
 //! Code points where case is ignored: what they fold to, which fold alike, and sets closed under that.
-ghost use Rattle.std.specs.Prelude.{◌≡◌, ◌+◌, ◌<◌, ◌≤◌, ◌==◌, ℕ, Bool, true, false, ◌∷◌, [], vec_len, IfOk, OnOk, IsOkUnless};
+ghost use Rattle.std.specs.Prelude.{◌≡◌, ◌+◌, ◌<◌, ◌≤◌, ◌==◌, ◌||◌, ℕ, Bool, true, false, ◌∷◌, [], vec_len, IfOk, OnOk, IsOkUnless};
 ghost use Rattle.regress_meaning.specs.Text.{holds};
 ghost use Rattle.regress_meaning.specs.Table.{canon, closure};
 ghost use Rattle.regress_meaning.specs.TableParts.{image};
 ghost use Rattle.regress_front_tables.specs.declared.tables.Tables.{Tables};
 ghost use Rattle.regress_front_tables.specs.TableViews.{table};
 ghost use Rattle.regress_front_sets.specs.Sets.{in_set};
-ghost use Rattle.regress_front_tables.specs.Folding.{Lists, IsCaseMap, GrowsInside};
+ghost use Rattle.regress_front_sets.specs.Intervals.{in_interval};
+ghost use Rattle.regress_front_tables.specs.Folding.{Lists, Unites};
 
 use crate::tables::Tables;
-use crate::tables::image::image;
-use regress_front_sets::{CODE_POINT_MAX, CodePoint, CodePointSet, Error};
+use crate::tables::case_map::CaseMap;
+use crate::tables::pages::PAGE_SIZE;
+use regress_front_sets::{CODE_POINT_MAX, CodePoint, CodePointSet, Error, Interval};
 use std::alloc::{AllocError, Global};
 
 /// The simple case folding of a code point, which is itself where it has no other ("Canonicalize"): `fold(&tables, 0x4B)` is
@@ -29,7 +31,7 @@ pub fn unfold_char(alloc: Global, c: CodePoint, tables: &Tables) -> Result<Vec<C
     ensures members { IfOk result (λ cs. Lists (λ d. (table tables.now).fold d == (table tables.now).fold c) cs.items) }
     ensures refused { IsOkUnless result Error.OutOfMemory }
 {
-    Ok(sharing(alloc, pairs_of(tables, true), c)?)
+    Ok(sharing(alloc, map_of(tables, true), c)?)
 }
 
 /// All code points that fold to what a member of the set folds to ("CharacterSetMatcher", where case is ignored in Unicode
@@ -49,7 +51,7 @@ pub fn closure(set: CodePointSet, unicode: bool, tables: &Tables) -> Result<Code
     ensures members { IfOk result (λ all. (c : ℕ) → in_set all c ≡ closure (canon (table tables.now) unicode) (in_set set) c) }
     ensures refused { IsOkUnless result Error.OutOfMemory }
 {
-    closed_by(set, pairs_of(tables, unicode))
+    closed_by(set, map_of(tables, unicode))
 }
 
 /// The code points that a code point of a pattern stands for, from low to high: itself, or where case is ignored all with its
@@ -71,7 +73,7 @@ pub fn expand_code_point(
     ensures refused { IsOkUnless result Error.OutOfMemory }
 {
     if icase {
-        Ok(sharing(alloc, pairs_of(tables, unicode), cp)?)
+        Ok(sharing(alloc, map_of(tables, unicode), cp)?)
     } else {
         Ok(vec![in alloc; cp]?)
     }
@@ -83,74 +85,80 @@ pub fn fold_is_idempotent()
     ensures upper { (tables : Tables) → (c : ℕ) → (table tables).upper ((table tables).upper c) ≡ (table tables).upper c }
 {}
 
-/// The pairs by which case is ignored: those of the fold in Unicode mode, and else those of the upper case.
-fn pairs_of(tables: &Tables, unicode: bool) -> &[(CodePoint, CodePoint)]
-    ensures lawful { IsCaseMap result.now }
-    ensures canon { image result.now ≡ canon (table tables.now) unicode }
+/// The map by which case is ignored: the fold in Unicode mode, and else the upper case.
+fn map_of(tables: &Tables, unicode: bool) -> &CaseMap
+    ensures { image result.now.pairs.items ≡ canon (table tables.now) unicode }
 {
     if unicode { &tables.fold } else { &tables.upper }
 }
 
 /// The code points that a map takes to where it takes this one, from low to high.
-fn sharing(
-    alloc: Global,
-    pairs: &[(CodePoint, CodePoint)],
-    c: CodePoint,
-) -> Result<Vec<CodePoint>, AllocError>
-    requires lawful { IsCaseMap pairs.now }
-    requires code_point { c ≤ CODE_POINT_MAX }
-    ensures members { IfOk result (λ cs. Lists (λ d. image pairs.now d == image pairs.now c) cs.items) }
+fn sharing(alloc: Global, map: &CaseMap, c: CodePoint) -> Result<Vec<CodePoint>, AllocError>
+    requires { c ≤ CODE_POINT_MAX }
+    ensures members { IfOk result (λ cs. Lists (λ d. image map.now.pairs.items d == image map.now.pairs.items c) cs.items) }
     ensures few { IfOk result (λ cs. (0 < vec_len cs) × (vec_len cs ≤ 4)) }
 {
-    let to = image(pairs, c);
-    let mut sharing: Vec<CodePoint> = pairs
-        .iter()
-        .filter(|pair| pair.1 == to)
-        .map(|pair| pair.0)
-        .collect(alloc)?;
-    if let Err(place) = sharing.binary_search(&to) {
-        sharing.insert(place, to)?;
-    }
-    Ok(sharing)
+    Ok(match map.class(map.image(c)) {
+        Some(members) => Vec::from_slice(alloc, members)?,
+        None => vec![in alloc; c]?,
+    })
 }
 
 /// The code points that a map takes to where it takes a member.
-fn closed_by(set: CodePointSet, pairs: &[(CodePoint, CodePoint)]) -> Result<CodePointSet, Error>
-    requires { IsCaseMap pairs.now }
-    ensures members { IfOk result (λ closed. (c : ℕ) → in_set closed c ≡ closure (image pairs.now) (in_set set) c) }
+fn closed_by(set: CodePointSet, map: &CaseMap) -> Result<CodePointSet, Error>
+    ensures members { IfOk result (λ closed. (c : ℕ) → in_set closed c ≡ closure (image map.now.pairs.items) (in_set set) c) }
     ensures refused { IsOkUnless result Error.OutOfMemory }
 {
+    let mut added = CodePointSet::new(map.allocator());
+    for interval in set.intervals() {
+        add_classes(&mut added, &set, *interval, map)?;
+    }
     let mut closed = set;
-    add_images(&mut closed, pairs)?;
-    add_sources(&mut closed, pairs)?;
+    closed.add_set(added)?;
     Ok(closed)
 }
 
-/// Adds what a map takes the members to.
-fn add_images(set: &mut CodePointSet, pairs: &[(CodePoint, CodePoint)]) -> Result<(), Error>
-    requires { IsCaseMap pairs.now }
-    ensures inside { OnOk result (GrowsInside (image pairs.now) (in_set set.old) (in_set set.new)) }
-    ensures images { OnOk result ((c : ℕ) → in_set set.old c ≡ true → in_set set.new (image pairs.now c) ≡ true) }
+/// Adds what has the image of a code point of an interval, all of which is in a set, unless it is in the set as well.
+fn add_classes(
+    added: &mut CodePointSet,
+    set: &CodePointSet,
+    interval: Interval,
+    map: &CaseMap,
+) -> Result<(), Error>
+    requires { (c : ℕ) → in_interval interval c ≡ true → in_set set.now c ≡ true }
+    ensures members { OnOk result (Unites (image map.now.pairs.items) (in_interval interval)
+        (λ c. in_set set.now c || in_set added.old c) (λ c. in_set set.now c || in_set added.new c)) }
     ensures refused { IsOkUnless result Error.OutOfMemory }
 {
-    for (from, to) in pairs {
-        if set.contains(*from) {
-            set.add_one(*to)?;
+    let mut c = interval.first;
+    while c <= interval.last {
+        if map.is_alone(c) {
+            c = (c / PAGE_SIZE + 1) * PAGE_SIZE;
+        } else {
+            add_class(added, set, c, map)?;
+            c += 1;
         }
     }
     Ok(())
 }
 
-/// Adds what a map takes to the members.
-fn add_sources(set: &mut CodePointSet, pairs: &[(CodePoint, CodePoint)]) -> Result<(), Error>
-    requires { IsCaseMap pairs.now }
-    ensures inside { OnOk result (GrowsInside (image pairs.now) (in_set set.old) (in_set set.new)) }
-    ensures sources { OnOk result ((c : ℕ) → in_set set.old (image pairs.now c) ≡ true → in_set set.new c ≡ true) }
+/// Adds what has the image of a code point of a set, unless it is in the set as well.
+fn add_class(
+    added: &mut CodePointSet,
+    set: &CodePointSet,
+    c: CodePoint,
+    map: &CaseMap,
+) -> Result<(), Error>
+    requires { in_set set.now c ≡ true }
+    ensures members { OnOk result (Unites (image map.now.pairs.items) (λ d. d == c)
+        (λ d. in_set set.now d || in_set added.old d) (λ d. in_set set.now d || in_set added.new d)) }
     ensures refused { IsOkUnless result Error.OutOfMemory }
 {
-    for (from, to) in pairs {
-        if set.contains(*to) {
-            set.add_one(*from)?;
+    if let Some(members) = map.class(map.image(c)) {
+        for member in members {
+            if !set.contains(*member) {
+                added.add_one(*member)?;
+            }
         }
     }
     Ok(())

@@ -7,16 +7,19 @@ ghost use Rattle.regress_front_sets.specs.Sets.{ends_in};
 ghost use Rattle.regress_front_tables.specs.Entries.{entry_of};
 ghost use Rattle.regress_front_tables.specs.Listed.{listed};
 
+pub(crate) mod case_map;
 mod check;
+pub(crate) mod classes;
 pub(crate) mod image;
 pub(crate) mod law;
 mod order;
+pub(crate) mod pages;
 pub(crate) mod parts;
 mod range;
 pub(crate) mod single;
 
+use case_map::CaseMap;
 use check::check_laws;
-use image::image;
 use law::TableError;
 use parts::TableParts;
 use regress_front_sets::{CodePoint, CodePointSet, Interval};
@@ -25,13 +28,13 @@ use std::alloc::{AllocError, Global};
 /// Case and properties of code points, which patterns are compiled by. They keep all laws (`TableLaw`).
 #[derive(Debug, Drop)]
 pub struct Tables {
-    pub(crate) fold: Vec<(CodePoint, CodePoint)>,
-    pub(crate) upper: Vec<(CodePoint, CodePoint)>,
+    pub(crate) fold: CaseMap,
+    pub(crate) upper: CaseMap,
     id_start: CodePointSet,
     id_continue: CodePointSet,
     properties: Vec<(String, CodePointSet)>,
     sequences: Vec<(String, Vec<Vec<CodePoint>>)>,
-    pub ghost lawful: { IsLawful (listed fold.items upper.items id_start id_continue properties.items sequences.items) } by { IsLawful-prop (listed fold.items upper.items id_start id_continue properties.items sequences.items) },
+    pub ghost lawful: { IsLawful (listed fold.pairs.items upper.pairs.items id_start id_continue properties.items sequences.items) } by { IsLawful-prop (listed fold.pairs.items upper.pairs.items id_start id_continue properties.items sequences.items) },
 }
 
 impl Tables {
@@ -54,8 +57,8 @@ impl Tables {
         check_laws(alloc, &parts)?;
         let properties = property_sets(alloc, parts.properties)?;
         Ok(Tables {
-            fold: parts.fold,
-            upper: parts.upper,
+            fold: CaseMap::new(alloc, parts.fold)?,
+            upper: CaseMap::new(alloc, parts.upper)?,
             id_start: CodePointSet::from_sorted_disjoint_intervals(parts.id_start),
             id_continue: CodePointSet::from_sorted_disjoint_intervals(parts.id_continue),
             properties,
@@ -78,7 +81,7 @@ impl Tables {
     pub fn fold(&self, c: CodePoint) -> CodePoint
         ensures { result ≡ (table self.now).fold c }
     {
-        image(&self.fold, c)
+        self.fold.image(c)
     }
 
     /// The simple upper case of a code point, which is itself where it has no other ("Canonicalize"): `tables.upper(0x6B)` is
@@ -86,7 +89,7 @@ impl Tables {
     pub fn upper(&self, c: CodePoint) -> CodePoint
         ensures { result ≡ (table self.now).upper c }
     {
-        image(&self.upper, c)
+        self.upper.image(c)
     }
 
     /// What two code points have alike where case is ignored: the fold in Unicode mode, and else the upper case

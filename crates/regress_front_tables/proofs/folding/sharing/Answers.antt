@@ -1,42 +1,22 @@
-use Rattle.std.proofs.Common.{◌≡◌, ◌==◌, refl, rules, arith}
-use Rattle.std.proofs.lemmas.Bool.{eq-eqb}
-use borrow.Author.Tests.{tests}
-use Rattle.std.specs.List.Sorted.{IsBinarySearchResult}
-use Rattle.std.specs.Ordering.{nat_cmp}
-use Rattle.std.proofs.lemmas.Iterator.{YieldsList-from_slice, YieldsList-from_map, items_from_collect}
-use Rattle.std.proofs.lemmas.Iterator.Consumers.{YieldsList-at, YieldsList-from_filter}
+use Rattle.std.proofs.Common.{◌==◌, arith}
 use Rattle.regress_meaning.specs.TableParts.{image}
 use Rattle.regress_front_tables.specs.Folding.{Lists}
-use Rattle.regress_front_tables.proofs.FoldingLemmas.{sources, Lists-searched, Lists-own, length-Lists, length-holding}
-use Rattle.regress_front_tables.proofs.folding.sharing.Goals.{in-Err+in_ok-insert, in_default}
+use Rattle.regress_front_tables.proofs.FoldingLemmas.{Lists-told, Lists-alone, Lists-few}
+use Rattle.regress_front_tables.proofs.folding.sharing.Goals.{in-Some+in_ok-from_slice-in-Some, in-None+in_ok-vec-in-None}
 use Rattle.regress_front_tables.proofs.folding.sharing.Goals as goal
-
--- what the search says of the sources of the image, with the image at its place
-listed : (c : goal.Joined-binary_search) → Lists (λ d. image c.args.pairs.now d == image c.args.pairs.now c.args.c) c.match-binary_search.sharing.items
-listed c =
-    let pairs = c.args.pairs.now in
-    let to = image pairs c.args.c in
-    let collected = items_from_collect _ c.collect.ensures.ran (YieldsList-from_map _ (λ p. p.0) (YieldsList-at c.map.ensures.source
-    (YieldsList-from_filter _ (λ p. p.1 == to) (YieldsList-at c.filter.ensures.source (YieldsList-from_slice pairs cc))
-    c.filter.ensures.closure (λ x b q k. search (rules, tests)))) c.map.ensures.closure (λ x r q k. search rules)) in
-    let gathered : c.in_ok-sharing.sharing.items ≡ sources to pairs = rw c.in_ok-sharing.was at collected in
-    let found : IsBinarySearchResult (λ d. nat_cmp d to) (sources to pairs) c.binary_search.result =
-    rw (c.deref.ensures.value, gathered, c.image-to.ensures) at c.binary_search.ensures.position in
-    let told = Lists-searched pairs c.requires.lawful c.args.c c.requires.code_point c.binary_search.result found in
-    elim c.match-binary_search.branch [
-      | in-Err+in_ok-insert w ↦
-          rw (w.sharing-is, w.in_ok-insert.ensures.items, gathered, c.image-to.ensures) (rw w.in-Err.is at told)
-      | in_default w ↦ rw (w.sharing-is, gathered) (rw w.in_default.is at told)
-    ]
-
-pub returns-clause-members : goal.returns-clause-members
-returns-clause-members c = listed c
 
 pub returns-clause-few : goal.returns-clause-few
 returns-clause-few c =
-    let pairs = c.args.pairs.now in
-    let own = Lists-own _ _ c.args.c (listed c) c.requires.code_point (eq-eqb _ _ refl) in
-    let len = c.match-binary_search.sharing.ok.0 in (
-      omega (arith, len, length-holding _ c.args.c own),
-      omega (arith, len, length-Lists _ _ (listed c), c.requires.lawful.class_size (image pairs c.args.c)),
-    )
+    let map = c.args.map.now in
+    let pairs = map.pairs.items in
+    let listed : Lists (λ d. image pairs d == image pairs c.args.c) c.match-class.result.items = elim c.match-class.branch [
+      | in-Some+in_ok-from_slice-in-Some w ↦
+          rw (w.result-is, w.in_ok-from_slice-in-Some.ensures.items)
+          (Lists-told pairs c.args.c w.in-Some.members.now (rw (w.in-Some.is, c.image.ensures) at c.class.ensures))
+      | in-None+in_ok-vec-in-None w ↦
+          rw (w.result-is, w.in_ok-vec-in-None.ensures.items)
+          (Lists-alone pairs c.args.c c.requires (rw (w.in-None.is, c.image.ensures) at c.class.ensures))
+    ] in
+    let few = Lists-few pairs map.lawful c.args.c c.match-class.result.items c.requires listed in
+    let len = c.match-class.result.ok.0 in
+    (omega (arith, few.0, len), omega (arith, few.1, len))

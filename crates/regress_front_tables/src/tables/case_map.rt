@@ -1,0 +1,105 @@
+//! A map of case, by pages.
+ghost use Rattle.std.specs.Prelude.{◌≡◌, ◌<◌, ◌/◌, ◌%◌, ℕ, true, IfOk, option_map, unwrap_or, slice_index_or};
+ghost use Rattle.regress_meaning.specs.TableParts.{image, PairsRise};
+ghost use Rattle.regress_front_tables.specs.Folding.{IsCaseMap, IsCaseMap-prop, IsClass, IsClass-prop};
+ghost use Rattle.regress_front_tables.specs.Pages.{number_at};
+ghost use Rattle.regress_front_tables.specs.Classes.{class_at};
+
+use super::classes::Classes;
+use super::image::image;
+use super::pages::{PAGE_COUNT, PAGE_SIZE, Page, Pages};
+use regress_front_sets::CodePoint;
+use std::alloc::{AllocError, Global};
+
+/// A map of case: each code point has an image, mostly itself.
+#[derive(Debug, Drop)]
+pub(crate) struct CaseMap {
+    /// The code points that have images of their own, with these, from low to high.
+    pub(crate) pairs: Vec<(CodePoint, CodePoint)>,
+    /// The images of all code points. Where no code point of a page is in a pair, there is no page.
+    images: Pages,
+    pub(crate) ghost lawful: { IsCaseMap pairs.items } by { IsCaseMap-prop pairs.items },
+    ghost told: { (c : ℕ) → unwrap_or (number_at images c) c ≡ image pairs.items c },
+    /// The code points of each image that more than one has.
+    classes: Classes,
+    ghost gathered: { (to : ℕ) → IsClass (image pairs.items) to (class_at classes to) } by { Prim.hlevel (IsClass-prop (image pairs.items)) },
+}
+
+impl CaseMap {
+    /// The map with these pairs. Errs where memory is refused.
+    pub(crate) fn new(
+        alloc: Global,
+        pairs: Vec<(CodePoint, CodePoint)>,
+    ) -> Result<CaseMap, AllocError>
+        requires { IsCaseMap pairs.items }
+        ensures { IfOk result (λ map. map.pairs.items ≡ pairs.items) }
+    {
+        let images = image_pages(alloc, &pairs)?;
+        let classes = Classes::new(alloc, &pairs)?;
+        Ok(CaseMap {
+            pairs,
+            images,
+            classes,
+        })
+    }
+
+    /// The image of a code point.
+    pub(crate) fn image(&self, c: CodePoint) -> CodePoint
+        ensures { result ≡ image self.now.pairs.items c }
+    {
+        self.images.get(c).unwrap_or(c)
+    }
+
+    /// The code points with this image, from low to high, if they are more than one.
+    pub(crate) fn class(&self, to: CodePoint) -> Option<&[CodePoint]>
+        ensures { IsClass (image self.now.pairs.items) to (option_map (λ members. members.now) result) }
+    {
+        self.classes.get(to)
+    }
+
+    /// Whether each code point of the page of this one is the only one with its image, so that no page is kept for it.
+    pub(crate) fn is_alone(&self, c: CodePoint) -> bool
+        ensures { result ≡ true → (d e : ℕ) → d / 256 ≡ c / 256
+            → image self.now.pairs.items e ≡ image self.now.pairs.items d → e ≡ d }
+    {
+        self.images.get(c).is_none() && self.classes.is_unpaged(c)
+    }
+
+    /// Where its memory is from.
+    pub(crate) fn allocator(&self) -> Global {
+        *self.pairs.allocator()
+    }
+}
+
+/// The images of all code points, by pages.
+fn image_pages(alloc: Global, pairs: &[(CodePoint, CodePoint)]) -> Result<Pages, AllocError>
+    requires { IsCaseMap pairs.now }
+    ensures { IfOk result (λ images. (c : ℕ) → unwrap_or (number_at images c) c ≡ image pairs.now c) }
+{
+    let mut images = Pages::new(alloc);
+    for n in 0..PAGE_COUNT {
+        images.push(image_page(alloc, pairs, n)?)?;
+    }
+    Ok(images)
+}
+
+/// The images of the code points of a page, if one of them is in a pair.
+fn image_page(
+    alloc: Global,
+    pairs: &[(CodePoint, CodePoint)],
+    n: u32,
+) -> Result<Option<Page>, AllocError>
+    requires order { PairsRise pairs.now }
+    requires place { n < 4352 }
+    ensures { IfOk result (λ page. (c : ℕ) → c / 256 ≡ n
+        → unwrap_or (option_map (λ p. slice_index_or p.numbers.items (c % 256) 0) page) c ≡ image pairs.now c) }
+{
+    if let Err(_) = pairs.binary_search_by_key(&n, |pair| pair.0 / PAGE_SIZE) {
+        return Ok(None);
+    }
+    let first = n * PAGE_SIZE;
+    let numbers = (first..first + PAGE_SIZE)
+        .map(|c| image(pairs, c))
+        .collect(alloc)?;
+    Ok(Some(Page { numbers }))
+}
