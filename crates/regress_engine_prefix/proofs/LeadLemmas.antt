@@ -1,13 +1,17 @@
 -- The first bytes of characters.
-use Rattle.std.proofs.Common.{◌≡◌, ℕ, ◌+◌, ◌<◌, ◌≤◌, ◌⊎◌, ◌↔◌, ◌||◌, ◌&&◌, not, Bool, true, false, List, [], ◌∷◌, ◌++◌, length, take, get_or, nat_le, slice_get, Some, All, refl, sym, ap, subst, ◌∙◌, inl, inr, arith}
+use Rattle.std.proofs.Common.{◌≡◌, ℕ, ◌+◌, ◌<◌, ◌≤◌, ◌⊎◌, ◌↔◌, ◌||◌, ◌&&◌, not, Bool, true, false, List, [], ◌∷◌, ◌++◌, length, take, get_or, map, nat_le, slice_get, Some, All, Global, refl, sym, ap, subst, ◌∙◌, inl, inr, arith}
 use Rattle.std.specs.Prelude.{encode_utf8, ◌==◌}
 use Rattle.std.specs.List.{list_any}
-use Rattle.std.proofs.lemmas.Bool.{eqb-true, le-leb}
+use Rattle.std.specs.Box.{boxed_slice_items}
+use Rattle.std.specs.declared.boxed.BoxedSlice.{BoxedSlice}
+use Rattle.regress_meaning.specs.Meaning.{is_some_and}
+use Rattle.std.proofs.lemmas.Bool.{eqb-true, eq-eqb, le-leb}
 use Rattle.std.proofs.lemmas.Bool.Decides.{nat_tests}
 use Rattle.std.proofs.Math.Bool.{or-false}
-use Rattle.std.proofs.lemmas.List.{map-append, take_more}
+use Rattle.std.proofs.lemmas.List.{map-append, take_more, get_or-map, length-map}
 use Rattle.std.proofs.lemmas.List.Folds.{list_any-append}
-use Rattle.std.proofs.lemmas.List.Elements.{All-head, All-tail}
+use Rattle.std.proofs.lemmas.List.Elements.{All-head, All-tail, All-push, All-nil}
+use Rattle.std.proofs.lemmas.Option.{slice_get_within}
 use Rattle.std.proofs.lemmas.Str.{encode_ascii}
 use Rattle.regress_meaning.specs.Text.{holds, between}
 use Rattle.regress_meaning.specs.TableParts.{is_code_point, in_intervals}
@@ -16,7 +20,7 @@ use Rattle.regress_front_sets.specs.Intervals.{ends, ends_of, in_interval}
 use Rattle.regress_front_sets.specs.FirstBytes.{BeginsSome}
 use Rattle.regress_front_sets.proofs.FirstByteLemmas.{lead, lead-first, lead-unique}
 use Rattle.regress_front_nodes.specs.TreeMeaning.{bracket_has}
-use Rattle.regress_engine_prefix.specs.FirstBytes.{BeginsOneOf, AreFirstOf, MayLead}
+use Rattle.regress_engine_prefix.specs.FirstBytes.{BeginsOneOf, AreFirstOf, MayLead, begins_one, AreFirstOfStrings}
 
 -- a first byte may be one
 MayLead-lead : (c : ℕ) → c ≤ 0x10_FFFF → MayLead (lead c)
@@ -145,3 +149,57 @@ pub AreFirstOf-inverted : (intervals inverse : List (ℕ × ℕ)) (set : ℕ →
 AreFirstOf-inverted intervals inverse set outside first =
     AreFirstOf-same (in_intervals inverse) (bracket_has true intervals) set
     (λ c below. outside c ∙ ap (λ b. b && not (in_intervals intervals c)) (le-leb c 0x10_FFFF below)) first
+
+-- the first bytes of one string more
+pub AreFirstOf-string : (before : List (List ℕ)) (string : List ℕ) (c val : ℕ) (set both : ℕ → Bool) → slice_get string 0 ≡ Some c → is_code_point c
+    → slice_get (encode_utf8 c) 0 ≡ Some val → ((b : ℕ) → both b ≡ (set b || (val == b))) → AreFirstOf (begins_one before) set
+    → AreFirstOf (begins_one (before ++ string ∷ [])) both
+AreFirstOf-string before string c val set both begins below first adds known =
+    AreFirstOf-more (begins_one before) (begins_one (before ++ string ∷ [])) starts set both known
+    (λ d. list_any-append (λ cs. is_some_and (slice_get cs 0) (λ e. e == d)) before (string ∷ []) ∙ ap (λ t. begins_one before d || t) (or-false (starts d)))
+    (λ b. (to b, from b))
+  where
+    starts : ℕ → Bool
+    starts d = is_some_and (slice_get string 0) (λ e. e == d)
+
+    to : (b : ℕ) → both b ≡ true → (set b ≡ true) ⊎ BeginsOneOf starts b
+    to b e = by_either (set b) (val == b) (sym (adds b) ∙ e) (λ old. inl old)
+        (λ new. inr (c, below, rw begins (eq-eqb c c refl), first ∙ ap Some (eqb-true val b new)))
+
+    from : (b : ℕ) → (set b ≡ true) ⊎ BeginsOneOf starts b → both b ≡ true
+    from b (inl old) = adds b ∙ to_left (set b) (val == b) old
+    from b (inr (d, code_point, begun, byte)) =
+        let is : c ≡ d = eqb-true c d (rw begins at begun) in
+        let same : Some val ≡ Some b = sym first ∙ ap (λ e. slice_get (encode_utf8 e) 0) is ∙ byte in
+        let equal : val ≡ b = cc in adds b ∙ to_right (set b) (val == b) (eq-eqb val b equal)
+
+-- of the strings up to the next
+pub AreFirstOfStrings-more : (strings : List (BoxedSlice ℕ Global)) (k : ℕ) (string : BoxedSlice ℕ Global) (c val : ℕ) (set both : ℕ → Bool)
+    → k < length strings → string ≡ get_or strings k string → slice_get (boxed_slice_items string) 0 ≡ Some c → is_code_point c
+    → slice_get (encode_utf8 c) 0 ≡ Some val → ((b : ℕ) → both b ≡ (set b || (val == b)))
+    → AreFirstOfStrings (map boxed_slice_items (take k strings)) set → AreFirstOfStrings (map boxed_slice_items (take (k + 1) strings)) both
+AreFirstOfStrings-more strings k string c val set both within is begins below first adds known =
+    let items = boxed_slice_items string in
+    let front = map boxed_slice_items (take k strings) in
+    let more : map boxed_slice_items (take (k + 1) strings) ≡ front ++ items ∷ [] =
+    ap (map boxed_slice_items) (take_more strings k string within ∙ ap (λ s. take k strings ++ s ∷ []) (sym is)) ∙ map-append boxed_slice_items (take k strings) (string ∷ []) in
+    subst (λ ss. AreFirstOfStrings ss both) (sym more)
+    (record {
+      some = All-push (λ cs. 0 < length cs) front items known.some (slice_get_within items 0 c begins);
+      first = AreFirstOf-string front items c val set both begins below first adds known.first;
+    })
+
+pub AreFirstOfStrings-none : (set : ℕ → Bool) → ((b : ℕ) → set b ≡ false) → AreFirstOfStrings [] set
+AreFirstOfStrings-none set no_byte = record { some = All-nil (λ cs. 0 < length cs); first = AreFirstOf-none (begins_one []) set (λ c. refl) no_byte }
+
+-- the first code point of a string of code points is one
+pub string-points : (strings : List (BoxedSlice ℕ Global)) (k : ℕ) (string : BoxedSlice ℕ Global) (c : ℕ) → k < length strings → string ≡ get_or strings k string
+    → All (All is_code_point) (map boxed_slice_items strings) → slice_get (boxed_slice_items string) 0 ≡ Some c → is_code_point c
+string-points strings k string c within is points begins =
+    let at : All is_code_point (boxed_slice_items (get_or strings k string)) = subst (All is_code_point) (get_or-map boxed_slice_items strings k string (boxed_slice_items string) within)
+    (points k (boxed_slice_items string) (rw length-map within)) in
+    first-point (boxed_slice_items string) c (subst (λ s. All is_code_point (boxed_slice_items s)) (sym is) at) begins
+  where
+    first-point : (cs : List ℕ) (d : ℕ) → All is_code_point cs → slice_get cs 0 ≡ Some d → is_code_point d
+    first-point [] d all e = absurd (cc)
+    first-point (x ∷ xs) d all e = let same : x ≡ d = cc in subst is_code_point same (All-head is_code_point x xs all)

@@ -2,7 +2,9 @@
 use Rattle.std.proofs.Common.{◌≡◌, ℕ, zero, suc, ◌+◌, ◌-◌, ◌<◌, ◌≤◌, Bool, true, false, ◌&&◌, ◌||◌, List, [], ◌∷◌, ◌++◌, length, take, drop, get_or, map, slice_get, slice_range, nat_le, Option, Some, None, IfSome, All, Vec, Global, encode_utf8_all, if◌then◌else◌, refl, sym, ap, subst, ◌∙◌, arith}
 use Rattle.std.specs.Prelude.{encode_utf8, ◌==◌, nat_eq}
 use Rattle.std.specs.List.{list_all}
-use Rattle.std.proofs.lemmas.Bool.{leb-true, eqb-true}
+use Rattle.std.proofs.lemmas.Bool.{leb-true, eqb-true, eq-eqb}
+use Rattle.std.proofs.lemmas.List.Folds.{list_any_at}
+use Rattle.regress_meaning.specs.Table.{Table}
 use Rattle.std.proofs.Math.Bool.{or-false}
 use Rattle.std.proofs.lemmas.List.{take-append-drop, take_at, length-take-le, length-drop}
 use Rattle.std.proofs.lemmas.List.Elements.{All-nil, All-cons, All-append, All-map, All-head, All-tail, All-take, All-drop}
@@ -10,18 +12,18 @@ use Rattle.std.proofs.lemmas.Str.{encodes-append, encodes-chars}
 use Rattle.std.specs.Str.{chars, IsUtf8}
 use Rattle.regress_meaning.specs.TableParts.{is_code_point}
 use Rattle.regress_meaning.specs.Text.{same_text, holds}
-use Rattle.regress_meaning.specs.Meaning.{State, Forward, Outcomes, Context, beside, stepped, step, cleared, iterations, looked, captured, keep_if, is_some_and}
+use Rattle.regress_meaning.specs.Meaning.{State, Forward, Outcomes, Context, beside, stepped, step, cleared, iterations, looked, captured, keep_if, is_some_and, same_all}
 use Rattle.regress_meaning.proofs.StepLaws.{All-flat_map}
 use Rattle.regress_front_bytes.specs.declared.bitmaps.ByteBitmap.{ByteBitmap}
 use Rattle.regress_front_bytes.specs.Bitmaps.{byte_bitmap_contains}
-use Rattle.regress_front_nodes.specs.Trees.{Tree, tree, anchor_of, empty, goal, char, bytes, byte_set, char_set, cat, cat_of, no_part, alt, line_start, line_end, boundary, capture, bracket, look, loop, single_loop}
+use Rattle.regress_front_nodes.specs.Trees.{Tree, tree, anchor_of, empty, goal, char, bytes, byte_set, char_set, cat, cat_of, no_part, alt, line_start, line_end, boundary, capture, bracket, string_set, look, loop, single_loop}
 use Rattle.regress_front_nodes.specs.TreeMeaning.{bracket_has, one, node_outcomes, direction}
 use Rattle.regress_front_nodes.specs.WellFormed.{AreLawful}
 use Rattle.regress_front_nodes.specs.declared.node.AnchorType.{AnchorType}
 use Rattle.regress_front_nodes.specs.declared.node.AnchorType.TheVariants.{StartOfLine, EndOfLine}
 use Rattle.regress_front_nodes.specs.declared.node.Node.{Node}
 use Rattle.regress_match.proofs.TextLemmas.{chars-code_points}
-use Rattle.regress_engine_prefix.specs.FirstBytes.{AreFirstOf, MayLead}
+use Rattle.regress_engine_prefix.specs.FirstBytes.{AreFirstOf, MayLead, begins_one, AreFirstOfStrings}
 use Rattle.regress_engine_prefix.specs.Prefixes.{IsLawful, first_literal, HasBytes, Holds, HoldsFrom, IsWeaker, LeadsCharacters, Foretells}
 use Rattle.regress_engine_prefix.specs.declared.prefix.Prefix.{Prefix}
 use Rattle.regress_engine_prefix.specs.declared.prefix.Prefix.TheVariants.{Still, Unknown, Start, Bytes, First}
@@ -215,6 +217,37 @@ Foretells-bytes front bs same utf8 = record {
       (λ cs rest points passes is size. rw same (literal-told bs (drop s.place context.text) cs rest utf8 passes is));
   leads = rw same (first-leads bs (chars bs) (chars-code_points bs utf8) (encodes-chars bs utf8));
   spelled = same;
+}
+
+-- ---- sets of strings
+
+-- the first byte of the text from a place on, where a string stands that begins with a character that passes
+string-told : (test set : ℕ → Bool) → AreFirstOf test set → (table : Table) (unicode : Bool) (cs text ds rest : List ℕ) → 0 < length cs
+    → ((c : ℕ) → slice_get cs 0 ≡ Some c → test c ≡ true) → All is_code_point ds → same_all table unicode false cs ds ≡ true
+    → text ≡ ds ++ rest → is_some_and (slice_get (encode_utf8_all text) 0) set ≡ true
+string-told test set first table unicode [] text ds rest some begins points passes is = absurd (omega arith)
+string-told test set first table unicode (c ∷ cs) text [] rest some begins points passes is = absurd (cc)
+string-told test set first table unicode (c ∷ cs) text (d ∷ ds) rest some begins points passes is =
+    rw is (some-passes _ (lead d) set (slice_get-front (encode_utf8 d) (encode_utf8_all (ds ++ rest)) (lead d) (has-lead d))
+    (first-in test set first d (All-head is_code_point d ds points) (begins d (ap Some (same_head (c == d) refl passes))) (lead d) (has-lead d)))
+  where
+    same_head : (b : Bool) → (c == d) ≡ b → (b && same_all table unicode false cs ds) ≡ true → c ≡ d
+    same_head true h k = eqb-true c d h
+    same_head false h k = absurd (cc)
+
+pub Foretells-string_set : (strings : List (List ℕ)) (set : ByteBitmap) → AreFirstOfStrings strings (byte_bitmap_contains set) → Foretells (First set) (string_set strings false)
+unfolding node_outcomes
+Foretells-string_set strings set known = record {
+  each = λ context valid s.
+      let Q : Type 0 = is_some_and (slice_get (encode_utf8_all (drop s.place context.text)) 0) (byte_bitmap_contains set) ≡ true in
+      let P : List ℕ → Type 0 = λ cs. (0 < length cs) × ((c : ℕ) → slice_get cs 0 ≡ Some c → begins_one strings c ≡ true) in
+      All-flat_map P (λ (u : State). Q) (λ cs. step context Forward (length cs) (same_all context.table context.unicode false cs) s)
+      (λ cs h. step-told context valid s Q (length cs) (same_all context.table context.unicode false cs)
+      (λ ds rest points passes is size. string-told (begins_one strings) (byte_bitmap_contains set) known.first context.table context.unicode cs (drop s.place context.text) ds rest h.0 h.1 points passes is))
+      strings
+      (λ k d l. (known.some k d l, λ c e. list_any_at (λ cs. is_some_and (slice_get cs 0) (λ x. x == c)) strings k d l (rw e (eq-eqb c c refl))));
+  leads = MayLead-of (begins_one strings) (byte_bitmap_contains set) known.first;
+  spelled = tt;
 }
 
 -- ---- parts one after another

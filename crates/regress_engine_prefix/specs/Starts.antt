@@ -58,3 +58,9 @@ KeepsLiteral t start = IfSome (first_literal t) (λ bs. 2 ≤ length bs → IsSe
 pub record IsStartOf (start : StartPredicate) (t : Tree) : Type 0 where
   pub each : (bytes : List ℕ) → IsUtf8 bytes → (context : Context) → context.text ≡ chars bytes → (s : State)
       → node_outcomes context t Forward s ≢ [] → BeginsAs start bytes (offset (of_utf8 bytes) s.place)
+
+-- they are equal, a sequence in its bytes
+abbrev pub IsSameStart : StartPredicate → StartPredicate → Type 0
+IsSameStart (ByteSeq bytes) (ByteSeq others) = others.items ≡ bytes.items
+IsSameStart (ByteSeq bytes) _ = ⊥
+IsSameStart start other = other ≡ start

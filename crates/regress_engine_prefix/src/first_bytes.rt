@@ -1,17 +1,19 @@
 //! The first bytes of sets of code points in UTF-8.
-ghost use Rattle.std.specs.Prelude.{◌≡◌, ◌<◌, ℕ, All, IfOk, IfErr};
+ghost use Rattle.std.specs.Prelude.{◌≡◌, ◌<◌, ℕ, All, IfOk, IfErr, IfSome, map};
+ghost use Rattle.std.specs.Box.{boxed_slice_items};
 ghost use Rattle.regress_meaning.specs.Text.{holds};
 ghost use Rattle.regress_meaning.specs.TableParts.{is_code_point, in_intervals};
 ghost use Rattle.regress_front_bytes.specs.Bitmaps.{byte_bitmap_contains};
 ghost use Rattle.regress_front_sets.specs.Intervals.{ends_of};
 ghost use Rattle.regress_front_sets.specs.Sets.{ends_in};
 ghost use Rattle.regress_front_nodes.specs.TreeMeaning.{bracket_has};
-ghost use Rattle.regress_engine_prefix.specs.FirstBytes.{AreFirstOf};
+ghost use Rattle.regress_engine_prefix.specs.FirstBytes.{AreFirstOf, AreFirstOfStrings};
 
 use regress_front_bytes::{ByteBitmap, utf8_first_byte};
 use regress_front_core::Error;
 use regress_front_nodes::BracketContents;
 use regress_front_sets::{CodePoint, Interval, add_utf8_first_bytes_to_bitmap};
+use std::boxed::BoxedSlice;
 
 /// The first bytes of some code points.
 pub(crate) fn first_of_chars(chars: &[CodePoint]) -> ByteBitmap
@@ -56,4 +58,17 @@ pub(crate) fn first_of_ascii(bytes: &[u8]) -> ByteBitmap
     ensures { AreFirstOf (holds bytes.now) (byte_bitmap_contains result) }
 {
     ByteBitmap::new(bytes)
+}
+
+/// The first bytes of some strings, or `None` where one of them is empty.
+pub(crate) fn first_of_strings(strings: &[BoxedSlice<CodePoint>]) -> Option<ByteBitmap>
+    requires { All (All is_code_point) (map boxed_slice_items strings.now) }
+    ensures { IfSome result (λ set. AreFirstOfStrings (map boxed_slice_items strings.now) (byte_bitmap_contains set)) }
+{
+    let mut set = ByteBitmap::default();
+    for string in strings {
+        let first = string.first()?;
+        set.set(utf8_first_byte(*first));
+    }
+    Some(set)
 }

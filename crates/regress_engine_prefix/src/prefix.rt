@@ -1,14 +1,18 @@
 //! What is known of a match of a node before it is made.
 ghost use Rattle.std.specs.Prelude.{◌≡◌, ◌≤◌, ℕ, All, map, IfOk, IfErr};
-ghost use Rattle.regress_front_nodes.specs.Trees.{tree, cat_of, anchor_of, loop, single_loop};
+ghost use Rattle.std.specs.Box.{boxed_slice_items};
+ghost use Rattle.regress_meaning.specs.TableParts.{is_code_point};
+ghost use Rattle.regress_front_nodes.specs.Trees.{tree, cat_of, anchor_of, string_set, loop, single_loop};
 ghost use Rattle.regress_engine_prefix.specs.Prefixes.{IsLawful, Foretells};
 
-use crate::first_bytes::{first_of_ascii, first_of_bracket, first_of_chars};
+use crate::first_bytes::{first_of_ascii, first_of_bracket, first_of_chars, first_of_strings};
 use crate::joining::either;
 use regress_front_bytes::ByteBitmap;
 use regress_front_core::Error;
 use regress_front_nodes::{AnchorType, Node, Quantifier};
+use regress_front_tables::CodePoint;
 use std::alloc::Global;
+use std::boxed::BoxedSlice;
 
 /// What holds of each match from a place on.
 #[derive(Drop)]
@@ -32,6 +36,20 @@ fn of_anchor(anchor_type: AnchorType, multiline: bool) -> Prefix
     match anchor_type {
         AnchorType::StartOfLine if !multiline => Prefix::Start,
         _ => Prefix::Still,
+    }
+}
+
+/// What holds of each match of one of some strings: nothing is known where case is ignored or one is empty.
+fn of_strings(strings: &[BoxedSlice<CodePoint>], icase: bool) -> Prefix
+    requires { All (All is_code_point) (map boxed_slice_items strings.now) }
+    ensures { Foretells result (string_set (map boxed_slice_items strings.now) icase) }
+{
+    if icase {
+        return Prefix::Unknown;
+    }
+    match first_of_strings(strings) {
+        Some(set) => Prefix::First(set),
+        None => Prefix::Unknown,
     }
 }
 
@@ -65,7 +83,10 @@ pub(crate) fn prefix_of(alloc: Global, node: &Node) -> Result<Prefix, Error>
         } => Ok(of_anchor(*anchor_type, *multiline)),
         Node::CaptureGroup { contents, .. } => prefix_of(alloc, contents),
         Node::Bracket(contents) => Ok(Prefix::First(first_of_bracket(contents)?)),
-        Node::StringSet { .. } => Ok(Prefix::Unknown),
+        Node::StringSet {
+            alternatives,
+            icase,
+        } => Ok(of_strings(alternatives, *icase)),
         Node::Loop { loopee, quant, .. } => prefix_of_loop(alloc, loopee, *quant),
         Node::Loop1CharBody { loopee, quant } => prefix_of_loop(alloc, loopee, *quant),
     }

@@ -3,13 +3,13 @@ ghost use Rattle.std.specs.Prelude.{◌≡◌, false, length, IfOk, IfErr};
 ghost use Rattle.regress_front_nodes.specs.Trees.{tree};
 ghost use Rattle.regress_front_nodes.specs.WellFormed.{IsWellFormed};
 ghost use Rattle.regress_engine_prefix.specs.Prefixes.{LeadsCharacters};
-ghost use Rattle.regress_engine_prefix.specs.Starts.{IsStartOf, SaysNoMore, HitsBoundaries, IsAnchoredOnlyIf, KeepsSequence, KeepsLiteral};
+ghost use Rattle.regress_engine_prefix.specs.Starts.{IsStartOf, SaysNoMore, HitsBoundaries, IsAnchoredOnlyIf, KeepsSequence, KeepsLiteral, IsSameStart};
 
 use crate::prefix::{Prefix, prefix_of};
 use regress_front_bytes::ByteBitmap;
 use regress_front_core::Error;
 use regress_front_nodes::ir::Regex;
-use std::alloc::Global;
+use std::alloc::{AllocError, Global};
 
 /// Where a match may begin, told by the bytes there.
 #[derive(Debug, Drop)]
@@ -28,6 +28,27 @@ pub enum StartPredicate {
     ByteBracket(ByteBitmap),
     /// At the start of the text alone.
     StartAnchored,
+}
+
+impl StartPredicate {
+    /// The same predicate once more. It errs only where memory is refused.
+    ///
+    /// ```rust
+    /// let copy = start.copy(alloc)?;
+    /// ```
+    pub fn copy(&self, alloc: Global) -> Result<StartPredicate, AllocError>
+        ensures { IfOk result (IsSameStart self.now) }
+    {
+        Ok(match self {
+            StartPredicate::Arbitrary => StartPredicate::Arbitrary,
+            StartPredicate::ByteSet1(bytes) => StartPredicate::ByteSet1(*bytes),
+            StartPredicate::ByteSet2(bytes) => StartPredicate::ByteSet2(*bytes),
+            StartPredicate::ByteSet3(bytes) => StartPredicate::ByteSet3(*bytes),
+            StartPredicate::ByteSeq(bytes) => StartPredicate::ByteSeq(bytes.to_vec(alloc)?),
+            StartPredicate::ByteBracket(bitmap) => StartPredicate::ByteBracket(*bitmap),
+            StartPredicate::StartAnchored => StartPredicate::StartAnchored,
+        })
+    }
 }
 
 /// At the bytes of a set, by how many there are.

@@ -77,7 +77,7 @@ prefix_of-returns-in-MatchAny-clause-foretold t c = elim c.in-MatchAny.is [
 ]
 
 pub prefix_of-returns-in-StringSet-clause-foretold : goal.prefix_of-returns-in-StringSet-clause-foretold
-prefix_of-returns-in-StringSet-clause-foretold t c = rw (c.in-StringSet.is, tree-StringSet) (Foretells-unknown _ tt)
+prefix_of-returns-in-StringSet-clause-foretold t c = rw (c.in-StringSet.is, tree-StringSet, ← c.deref-in-StringSet.ensures.value) c.of_strings.ensures
 
 pub prefix_of-returns-in-Loop-clause-foretold : goal.prefix_of-returns-in-Loop-clause-foretold
 prefix_of-returns-in-Loop-clause-foretold t c =
