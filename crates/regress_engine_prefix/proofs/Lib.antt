@@ -1,0 +1,3 @@
+pub mod LeadLemmas
+pub mod PrefixLemmas
+pub mod StartLemmas

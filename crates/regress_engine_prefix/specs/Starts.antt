@@ -1,0 +1,66 @@
+-- What start predicates say of the bytes at an offset.
+use Rattle.std.specs.Prelude.{◌≡◌, ◌≢◌, ℕ, ◌≤◌, Bool, true, false, List, [], length, take, drop, slice_get, chars, IfSome}
+use Rattle.std.specs.Str.{IsUtf8, IsCharBoundary}
+use Rattle.regress_meaning.specs.Text.{holds}
+use Rattle.regress_meaning.specs.Meaning.{Context, State, Forward, is_some_and}
+use Rattle.regress_meaning.specs.Offsets.{of_utf8, offset}
+use Rattle.regress_front_bytes.specs.Bitmaps.{byte_bitmap_contains}
+use Rattle.regress_front_nodes.specs.Trees.{Tree}
+use Rattle.regress_front_nodes.specs.TreeMeaning.{node_outcomes}
+use Rattle.regress_engine_prefix.specs.Prefixes.{Holds, first_literal, HasBytes}
+use Rattle.regress_engine_prefix.specs.declared.prefix.Prefix.{Prefix}
+use Rattle.regress_engine_prefix.specs.declared.start.StartPredicate.{StartPredicate}
+use Rattle.regress_engine_prefix.specs.declared.start.StartPredicate.TheVariants.{Arbitrary, ByteSet1, ByteSet2, ByteSet3, ByteSeq, ByteBracket, StartAnchored}
+
+-- the bytes from the offset on begin as the predicate says
+abbrev pub BeginsAs : StartPredicate → List ℕ → ℕ → Type 0
+BeginsAs Arbitrary bytes at = Unit {0}
+BeginsAs (ByteSet1 set) bytes at = is_some_and (slice_get bytes at) (holds set) ≡ true
+BeginsAs (ByteSet2 set) bytes at = is_some_and (slice_get bytes at) (holds set) ≡ true
+BeginsAs (ByteSet3 set) bytes at = is_some_and (slice_get bytes at) (holds set) ≡ true
+BeginsAs (ByteSeq front) bytes at = take (length front.items) (drop at bytes) ≡ front.items
+BeginsAs (ByteBracket set) bytes at = is_some_and (slice_get bytes at) (byte_bitmap_contains set) ≡ true
+BeginsAs StartAnchored bytes at = at ≡ 0
+
+-- wherever the prefix holds, the bytes begin as the predicate says
+abbrev pub SaysNoMore : StartPredicate → Prefix → Type 0
+SaysNoMore start prefix = (place : ℕ) (bytes : List ℕ) (at : ℕ) (end : ℕ) → (place ≡ 0 → at ≡ 0)
+    → Holds prefix place (drop at bytes) end → BeginsAs start bytes at
+
+-- it is `Arbitrary`
+abbrev pub is_arbitrary : StartPredicate → Bool
+is_arbitrary Arbitrary = true
+is_arbitrary _ = false
+
+-- wherever the bytes of a text begin as the predicate says a character begins or the text ends, unless it is `Arbitrary`
+abbrev pub HitsBoundaries : StartPredicate → Type 0
+HitsBoundaries start = is_arbitrary start ≡ false → (bytes : List ℕ) → IsUtf8 bytes → (at : ℕ) → BeginsAs start bytes at → IsCharBoundary bytes at
+
+-- it is `StartAnchored` only if the condition holds
+abbrev pub IsAnchoredOnlyIf : Type 0 → StartPredicate → Type 0
+IsAnchoredOnlyIf condition StartAnchored = condition
+IsAnchoredOnlyIf condition _ = Unit {0}
+
+-- these bytes are looked for
+abbrev pub IsSequence : StartPredicate → List ℕ → Type 0
+IsSequence (ByteSeq front) bs = front.items ≡ bs
+IsSequence _ bs = ⊥
+
+-- where two or more bytes are known, all of them are looked for
+abbrev pub KeepsSequence : Prefix → StartPredicate → Type 0
+KeepsSequence prefix start = (bs : List ℕ) → HasBytes prefix bs → 2 ≤ length bs → IsSequence start bs
+
+-- a literal of two or more bytes with which a tree begins is looked for
+abbrev pub KeepsLiteral : Tree → StartPredicate → Type 0
+KeepsLiteral t start = IfSome (first_literal t) (λ bs. 2 ≤ length bs → IsSequence start bs)
+
+-- In each text of UTF-8 the bytes begin so at the offset of each place from which the tree has an outcome.
+pub record IsStartOf (start : StartPredicate) (t : Tree) : Type 0 where
+  pub each : (bytes : List ℕ) → IsUtf8 bytes → (context : Context) → context.text ≡ chars bytes → (s : State)
+      → node_outcomes context t Forward s ≢ [] → BeginsAs start bytes (offset (of_utf8 bytes) s.place)
+
+-- they are equal, a sequence in its bytes
+abbrev pub IsSameStart : StartPredicate → StartPredicate → Type 0
+IsSameStart (ByteSeq bytes) (ByteSeq others) = others.items ≡ bytes.items
+IsSameStart (ByteSeq bytes) _ = ⊥
+IsSameStart start other = other ≡ start

@@ -1,0 +1,74 @@
+//! The first bytes of sets of code points in UTF-8.
+ghost use Rattle.std.specs.Prelude.{◌≡◌, ◌<◌, ℕ, All, IfOk, IfErr, IfSome, map};
+ghost use Rattle.std.specs.Box.{boxed_slice_items};
+ghost use Rattle.regress_meaning.specs.Text.{holds};
+ghost use Rattle.regress_meaning.specs.TableParts.{is_code_point, in_intervals};
+ghost use Rattle.regress_front_bytes.specs.Bitmaps.{byte_bitmap_contains};
+ghost use Rattle.regress_front_sets.specs.Intervals.{ends_of};
+ghost use Rattle.regress_front_sets.specs.Sets.{ends_in};
+ghost use Rattle.regress_front_nodes.specs.TreeMeaning.{bracket_has};
+ghost use Rattle.regress_engine_prefix.specs.FirstBytes.{AreFirstOf, AreFirstOfStrings};
+
+use regress_front_bytes::{ByteBitmap, utf8_first_byte};
+use regress_front_core::Error;
+use regress_front_nodes::BracketContents;
+use regress_front_sets::{CodePoint, Interval, add_utf8_first_bytes_to_bitmap};
+use std::boxed::BoxedSlice;
+
+/// The first bytes of some code points.
+pub(crate) fn first_of_chars(chars: &[CodePoint]) -> ByteBitmap
+    requires { All is_code_point chars.now }
+    ensures { AreFirstOf (holds chars.now) (byte_bitmap_contains result) }
+{
+    let mut set = ByteBitmap::default();
+    for c in chars {
+        set.set(utf8_first_byte(*c));
+    }
+    set
+}
+
+/// The first bytes of the code points of some intervals.
+fn first_of_intervals(intervals: &[Interval]) -> ByteBitmap
+    ensures { AreFirstOf (in_intervals (ends_of intervals.now)) (byte_bitmap_contains result) }
+{
+    let mut set = ByteBitmap::default();
+    for interval in intervals {
+        add_utf8_first_bytes_to_bitmap(*interval, &mut set);
+    }
+    set
+}
+
+/// The first bytes of the code points that a bracket matches. It errs with `OutOfMemory` alone.
+pub(crate) fn first_of_bracket(contents: &BracketContents) -> Result<ByteBitmap, Error>
+    ensures first { IfOk result (λ set.
+        AreFirstOf (bracket_has contents.now.invert (ends_in contents.now.cps)) (byte_bitmap_contains set)) }
+    ensures refused { IfErr result (λ e. e ≡ Error.OutOfMemory) }
+{
+    if contents.invert {
+        let others = contents.cps.inverted()?;
+        Ok(first_of_intervals(others.intervals()))
+    } else {
+        Ok(first_of_intervals(contents.cps.intervals()))
+    }
+}
+
+/// The set of some ASCII bytes, each the first of its character.
+pub(crate) fn first_of_ascii(bytes: &[u8]) -> ByteBitmap
+    requires { All (λ b. b < 0x80) bytes.now }
+    ensures { AreFirstOf (holds bytes.now) (byte_bitmap_contains result) }
+{
+    ByteBitmap::new(bytes)
+}
+
+/// The first bytes of some strings, or `None` where one of them is empty.
+pub(crate) fn first_of_strings(strings: &[BoxedSlice<CodePoint>]) -> Option<ByteBitmap>
+    requires { All (All is_code_point) (map boxed_slice_items strings.now) }
+    ensures { IfSome result (λ set. AreFirstOfStrings (map boxed_slice_items strings.now) (byte_bitmap_contains set)) }
+{
+    let mut set = ByteBitmap::default();
+    for string in strings {
+        let first = string.first()?;
+        set.set(utf8_first_byte(*first));
+    }
+    Some(set)
+}

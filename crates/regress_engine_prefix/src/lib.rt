@@ -1,0 +1,9 @@
+//! Where the matches of a tree may begin, told by the bytes there.
+#![tactic(auto)]
+
+mod first_bytes;
+mod joining;
+mod prefix;
+mod start;
+
+pub use start::{StartPredicate, predicate_for_re};
