@@ -4,7 +4,7 @@ use crate::closures::{first_as_it_stands, starts};
 use crate::named;
 use crate::splitting::{first_parts, parts};
 use crate::told::{compiled, is_same};
-use regress::{Error, Match, Regex, Tables, escape};
+use regress::{Error, Flags, Match, Regex, Tables, escape, syntax_error};
 use std::alloc::Global;
 use std::test::Fail;
 
@@ -27,6 +27,7 @@ enum Call {
     IsMatch,
     NamedGroups,
     Copy,
+    SyntaxError,
 }
 
 /// The groups of a match, the whole match first, each as its range or `-`, with a space behind it.
@@ -59,6 +60,15 @@ fn copied(alloc: Global, regex: &Regex<'_>) -> Result<String, Error> {
     }
 }
 
+/// Where reading stops in a text that is no pattern.
+fn stop(alloc: Global) -> Result<String, Error> {
+    let tables = Tables::small(alloc).map_err(|_| Error::OutOfMemory)?;
+    match syntax_error(alloc, "é(?<n>a))", Flags::default(), &tables)? {
+        Some(found) => Ok(format!(in alloc; "{}", found.place)?),
+        None => Ok(String::new(alloc)),
+    }
+}
+
 /// What a call answers, as text.
 fn answer(alloc: Global, regex: &Regex<'_>, call: Call) -> Result<String, Error> {
     match call {
@@ -72,6 +82,7 @@ fn answer(alloc: Global, regex: &Regex<'_>, call: Call) -> Result<String, Error>
         Call::IsMatch => Ok(format!(in alloc; "{}", regex.is_match(TEXT)?)?),
         Call::NamedGroups => first_named(alloc, regex),
         Call::Copy => copied(alloc, regex),
+        Call::SyntaxError => stop(alloc),
     }
 }
 
@@ -87,6 +98,7 @@ const ANSWERS: &[(Call, &str)] = &[
     (Call::IsMatch, "true"),
     (Call::NamedGroups, "n=2..3 m=-"),
     (Call::Copy, "2..3 2..3 - "),
+    (Call::SyntaxError, "8"),
 ];
 
 /// The small table, asked for once more where memory is refused.
