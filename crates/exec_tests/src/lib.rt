@@ -1,0 +1,9 @@
+//! Tests of the executor that undoes, by public calls alone. The library itself is empty.
+#![tactic(auto)]
+
+#[cfg(test)]
+mod found;
+#[cfg(test)]
+mod lists;
+#[cfg(test)]
+mod parsed;
