@@ -4,3 +4,5 @@ pub mod ReplacingLemmas
 pub mod LawLemmas
 pub mod AskingLemmas
 pub mod SplittingLemmas
+pub mod ProgramLemmas
+pub mod ShownLemmas

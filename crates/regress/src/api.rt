@@ -1,6 +1,7 @@
 //! The user's calls.
 ghost use Rattle.std.specs.Iterator.{HoldsAfterAnyCalls};
-ghost use Rattle.std.specs.Prelude.{◌≡◌, ◌≤◌, ◌↔◌, ℕ, All, IsTrue, IfOk, IfErr, IfSome, Err, IsOkUnless, IsCharBoundary, chars, length, map, slice_get, option_map};
+ghost use Rattle.std.proofs.Props.{props};
+ghost use Rattle.std.specs.Prelude.{◌≡◌, ◌≢◌, ◌≤◌, ◌↔◌, ℕ, true, false, All, IsTrue, IfOk, IfErr, IfSome, Some, Err, IsOkUnless, IsCharBoundary, chars, length, map, slice_get, option_map};
 ghost use Rattle.regress_meaning.specs.Table.{Table};
 ghost use Rattle.regress_meaning.specs.Pattern.{Pattern};
 ghost use Rattle.regress_meaning.specs.Flags.{Options, no_flags};
@@ -12,10 +13,15 @@ ghost use Rattle.regress_meaning.specs.Offsets.{of_utf8, told, Begins};
 ghost use Rattle.regress_front.specs.TableViews.{table};
 ghost use Rattle.regress_match.specs.Views.{item_of};
 ghost use Rattle.regress_front.specs.FlagWords.{options};
-ghost use Rattle.regress_front.specs.Refusals.{MayRefuse};
+ghost use Rattle.regress_engine_code.specs.Standing.{names_of};
+ghost use Rattle.regress_match.specs.GroupNames.{shared_names};
+ghost use Rattle.regress.specs.Programs.{IsOfTree};
+ghost use Rattle.regress.specs.Refusing.{MayRefuseRegex};
+ghost use Rattle.regress.specs.Texts.{shown_text};
 
 use crate::matches::Matches;
-use crate::text::code_points;
+use crate::text::{code_points, text_of};
+use regress_engine_code::{CompiledRegex, emit, emit_units};
 use regress_front::{CaptureGroupName, Error, Flags, Node, Tables, try_parse};
 use regress_match::Match;
 use std::alloc::Global;
@@ -38,14 +44,21 @@ pub struct Regex<'u> {
     pub(crate) alloc: Global,
     pub(crate) tables: &'u Tables,
     pub(crate) flags: Flags,
+    pub(crate) source: String,
     pub(crate) node: Node,
     pub(crate) group_names: ArcSlice<CaptureGroupName>,
+    pub(crate) byte_program: CompiledRegex<'u>,
+    pub(crate) unit_program: CompiledRegex<'u>,
+    ghost of_bytes: { byte_program.units ≡ false },
+    ghost of_units: { unit_program.units ≡ true },
+    ghost byte_tree: { ∥ IsOfTree byte_program ∥₁ },
+    ghost unit_tree: { ∥ IsOfTree unit_program ∥₁ },
+    ghost named: { shared_names group_names ≡ names_of byte_program } by { Prim.hlevel props },
 }
 
 impl<'u> Regex<'u> {
-    ghost use Rattle.regress.specs.Standing.{StandsFor};
+    ghost use Rattle.regress.specs.Standing.{StandsFor, source_of};
     ghost use Rattle.regress.specs.Coming.{searched, sought_names, coming, BeginsAndEndsAtStarts, HoldsOfEach};
-    ghost use Rattle.regress_match.specs.GroupNames.{shared_names};
     ghost use Rattle.regress_match.specs.GroupViews.{names_of_match};
     ghost use Rattle.regress_match.specs.TextRanges.{LiesBetween, LiesInText};
 
@@ -58,7 +71,9 @@ impl<'u> Regex<'u> {
     /// ```
     pub fn new(alloc: Global, pattern: &str, tables: &'u Tables) -> Result<Regex<'u>, Error>
         ensures accepted { IfOk result (λ r. (p : Pattern) × Spells (table tables.now) no_flags (chars pattern.now) p × WithinLimits p × StandsFor r (table tables.now) no_flags p) }
-        ensures refused { IfErr result (MayRefuse (table tables.now) no_flags (chars pattern.now)) }
+        ensures text { IfOk result (λ r. source_of r ≡ pattern.now) }
+        ensures refused { IfErr result (MayRefuseRegex (table tables.now) no_flags (chars pattern.now)) }
+        ensures fits { length (chars pattern.now) ≤ 10000 → IfErr result (λ e. e ≢ Error.TooLarge) }
     {
         Regex::with_flags(alloc, pattern, Flags::default(), tables)
     }
@@ -66,7 +81,8 @@ impl<'u> Regex<'u> {
     /// Compiles a pattern under flags ("RegExpInitialize").
     ///
     /// Answers a `Regex` for the tree that the pattern spells. Refused as `Syntax` where the text spells no tree, under the
-    /// name of a limit that it passes, and as `OutOfMemory`.
+    /// name of a limit that it passes, as `TooLarge` where a program of it has more than 2^32 - 1 instructions, which without
+    /// `v` no pattern of at most 10000 characters has, and as `OutOfMemory`.
     ///
     /// ```rust
     /// let regex = Regex::with_flags(alloc, "a+b", Flags::from("im"), &tables)?;
@@ -78,13 +94,16 @@ impl<'u> Regex<'u> {
         tables: &'u Tables,
     ) -> Result<Regex<'u>, Error>
         ensures accepted { IfOk result (λ r. (p : Pattern) × Spells (table tables.now) (options flags) (chars pattern.now) p × WithinLimits p × StandsFor r (table tables.now) (options flags) p) }
-        ensures refused { IfErr result (MayRefuse (table tables.now) (options flags) (chars pattern.now)) }
+        ensures text { IfOk result (λ r. source_of r ≡ pattern.now) }
+        ensures refused { IfErr result (MayRefuseRegex (table tables.now) (options flags) (chars pattern.now)) }
+        ensures fits { (options flags).sets ≡ false → length (chars pattern.now) ≤ 10000 → IfErr result (λ e. e ≢ Error.TooLarge) }
     {
         let points = code_points(alloc, pattern)?;
         Regex::from_unicode(alloc, &points, flags, tables)
     }
 
-    /// Compiles a pattern that is given as code points; raw surrogates are never joined.
+    /// Compiles a pattern that is given as code points; raw surrogates are never joined. In its text, as `as_str` has it,
+    /// U+FFFD stands for each.
     ///
     /// Asks that all are code points, as `are_code_points` tells. Refused as `with_flags` says.
     ///
@@ -99,16 +118,24 @@ impl<'u> Regex<'u> {
     ) -> Result<Regex<'u>, Error>
         requires { All (λ c. c ≤ 0x10_FFFF) points.now }
         ensures accepted { IfOk result (λ r. (p : Pattern) × Spells (table tables.now) (options flags) points.now p × WithinLimits p × StandsFor r (table tables.now) (options flags) p) }
-        ensures refused { IfErr result (MayRefuse (table tables.now) (options flags) points.now) }
+        ensures text { IfOk result (λ r. source_of r ≡ shown_text points.now) }
+        ensures refused { IfErr result (MayRefuseRegex (table tables.now) (options flags) points.now) }
+        ensures fits { (options flags).sets ≡ false → length points.now ≤ 10000 → IfErr result (λ e. e ≢ Error.TooLarge) }
     {
+        let source = text_of(alloc, points)?;
         let tree = try_parse(alloc, points, flags, tables)?;
-        let group_names = ArcSlice::from_vec(tree.group_names)?;
+        let byte_program = emit(alloc, &tree)?;
+        let unit_program = emit_units(alloc, &tree)?;
+        let group_names = byte_program.shared_group_names()?;
         Ok(Regex {
             alloc,
             tables,
             flags,
+            source,
             node: tree.node,
             group_names,
+            byte_program,
+            unit_program,
         })
     }
 

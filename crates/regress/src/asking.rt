@@ -1,15 +1,16 @@
 //! What is asked of a compiled pattern beside its matches.
-ghost use Rattle.std.specs.Prelude.{◌≡◌, ◌+◌, ◌↔◌, ◌≢◌, ℕ, [], length, map, chars, string_bytes, IfOk, IsTrue, IsOkUnless};
+ghost use Rattle.std.specs.Prelude.{◌≡◌, ◌+◌, ◌↔◌, ◌≢◌, ℕ, [], length, map, chars, string_bytes, Some, IfOk, IsTrue, IsOkUnless};
 ghost use Rattle.regress_meaning.specs.Table.{Table};
 ghost use Rattle.regress_meaning.specs.Pattern.{Pattern};
 ghost use Rattle.regress_meaning.specs.Flags.{Options};
 ghost use Rattle.regress_meaning.specs.Matches.{match_list};
 ghost use Rattle.regress_meaning.specs.Offsets.{of_utf8, Begins};
 ghost use Rattle.regress_match.specs.GroupNames.{shared_names};
-ghost use Rattle.regress.specs.Standing.{StandsFor};
+ghost use Rattle.regress.specs.Standing.{StandsFor, source_of};
 
 use crate::api::Regex;
 use regress_front::{CaptureGroupName, Error};
+use std::fmt;
 
 impl<'u> Regex<'u> {
     /// Whether there is a match in a text ("RegExp.prototype.test"). Errs with `OutOfMemory` alone.
@@ -63,5 +64,24 @@ impl<'u> Regex<'u> {
         ensures { result ≡ length (shared_names self.now.group_names) + 1 }
     {
         self.group_names.len() + 1
+    }
+    /// The pattern's text. In that of a pattern that was given as code points, U+FFFD stands for each surrogate.
+    ///
+    /// ```rust
+    /// let text = regex.as_str(); // `a+b`
+    /// ```
+    pub fn as_str(&self) -> &str
+        ensures { result.now ≡ source_of self.now }
+    {
+        self.source.as_str()
+    }
+}
+
+/// The pattern's text, as `as_str` answers it.
+impl<'u> fmt::Display for Regex<'u> {
+    ghost output = { λ r. Some (source_of r) };
+
+    fn fmt<W: fmt::Write>(&self, f: &mut fmt::Formatter<W>) -> fmt::Result {
+        f.write_str(self.as_str())
     }
 }

@@ -1,7 +1,8 @@
 //! Texts as code points.
-ghost use Rattle.std.specs.Prelude.{◌≡◌, chars, IfOk};
+ghost use Rattle.std.specs.Prelude.{◌≡◌, chars, string_bytes, IfOk};
+ghost use Rattle.regress.specs.Texts.{shown, shown_text};
 
-use regress_front::CodePoint;
+use regress_front::{CodePoint, to_char_sat};
 use std::alloc::{AllocError, Global};
 
 /// The code points of a text. Fails only where memory is refused.
@@ -9,4 +10,18 @@ pub(crate) fn code_points(alloc: Global, text: &str) -> Result<Vec<CodePoint>, A
     ensures { IfOk result (λ points. points.items ≡ chars text.now) }
 {
     text.chars().map(CodePoint::from).collect(alloc)
+}
+
+/// The character that stands for a code point in a text: itself, and U+FFFD for a surrogate.
+fn shown(c: CodePoint) -> char
+    ensures { result ≡ shown c }
+{
+    to_char_sat(c)
+}
+
+/// Code points as a text. Fails only where memory is refused.
+pub(crate) fn text_of(alloc: Global, points: &[CodePoint]) -> Result<String, AllocError>
+    ensures { IfOk result (λ text. string_bytes text ≡ shown_text points.now) }
+{
+    points.iter().map(|c| shown(*c)).collect(alloc)
 }

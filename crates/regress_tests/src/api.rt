@@ -1,7 +1,7 @@
 //! Tests of the calls that compile and search.
 
 use crate::told::{compiled, match_first, matches_from};
-use regress::{Tables, is_start};
+use regress::{Flags, Regex, Tables, is_start};
 use regress_rows::NOT_ASCII;
 use std::test::Fail;
 
@@ -32,4 +32,22 @@ fn a_lookbehind_sees_what_stands_before_the_start(rt: HostRuntime) -> Result<(),
 #[test]
 fn what_is_not_ascii_takes_k_by_case(rt: HostRuntime) -> Result<(), Fail> {
     match_first(rt.alloc(), NOT_ASCII)
+}
+
+#[test]
+fn a_regex_has_its_text(rt: HostRuntime) -> Result<(), Fail> {
+    let tables = Tables::small(rt.alloc())?;
+    let regex = compiled(rt.alloc(), "é+(?<b>😀)", "i", &tables)?;
+    let told = format!(in rt.alloc(); "<{regex}>")?;
+    assert!(rt; regex.as_str() == "é+(?<b>😀)" && told.as_str() == "<é+(?<b>😀)>");
+    Ok(())
+}
+
+#[test]
+fn a_surrogate_is_shown_as_another_character(rt: HostRuntime) -> Result<(), Fail> {
+    let tables = Tables::small(rt.alloc())?;
+    let points = [0x61, 0xD83D, 0xDE00, 0x10_FFFF];
+    let regex = Regex::from_unicode(rt.alloc(), &points, Flags::default(), &tables)?;
+    assert!(rt; regex.as_str() == "a\u{FFFD}\u{FFFD}\u{10FFFF}");
+    Ok(())
 }

@@ -1,5 +1,14 @@
+use Rattle.std.proofs.Common.{◌∙◌}
 use Rattle.regress_match.proofs.TextLemmas.{chars-code_points}
+use Rattle.regress.proofs.ShownLemmas.{text-as}
 use Rattle.regress.proofs.api.Regex.with_flags.Goals as goal
 
 pub from_unicode-requires : goal.from_unicode-requires
 from_unicode-requires c = rw (c.deref.ensures.value, c.in_ok-points.ensures) (chars-code_points c.args.pattern.now c.utf8.pattern)
+
+pub returns-clause-text : goal.returns-clause-text
+returns-clause-text c =
+    text-as c.from_unicode.result _ c.args.pattern.now c.utf8.pattern (c.deref.ensures.value ∙ c.in_ok-points.ensures) c.from_unicode.ensures.text
+
+pub returns-clause-fits : goal.returns-clause-fits
+returns-clause-fits c = λ plain short. c.from_unicode.ensures.fits plain (rw (c.deref.ensures.value, c.in_ok-points.ensures) short)
