@@ -6,3 +6,4 @@ pub mod AskingLemmas
 pub mod SplittingLemmas
 pub mod ProgramLemmas
 pub mod ShownLemmas
+pub mod ListedLemmas

@@ -1,7 +1,6 @@
 //! The user's calls.
 ghost use Rattle.std.specs.Iterator.{HoldsAfterAnyCalls};
-ghost use Rattle.std.proofs.Props.{props};
-ghost use Rattle.std.specs.Prelude.{◌≡◌, ◌≢◌, ◌≤◌, ◌↔◌, ℕ, true, false, All, IsTrue, IfOk, IfErr, IfSome, Some, Err, IsOkUnless, IsCharBoundary, chars, length, map, slice_get, option_map};
+ghost use Rattle.std.specs.Prelude.{◌≡◌, ◌≢◌, ◌≤◌, ◌↔◌, ℕ, false, All, IsTrue, IfOk, IfErr, IfSome, Some, Err, IsOkUnless, IsCharBoundary, chars, length, map, slice_get, option_map};
 ghost use Rattle.regress_meaning.specs.Table.{Table};
 ghost use Rattle.regress_meaning.specs.Pattern.{Pattern};
 ghost use Rattle.regress_meaning.specs.Flags.{Options, no_flags};
@@ -13,19 +12,16 @@ ghost use Rattle.regress_meaning.specs.Offsets.{of_utf8, told, Begins};
 ghost use Rattle.regress_front.specs.TableViews.{table};
 ghost use Rattle.regress_match.specs.Views.{item_of};
 ghost use Rattle.regress_front.specs.FlagWords.{options};
-ghost use Rattle.regress_engine_code.specs.Standing.{names_of};
-ghost use Rattle.regress_match.specs.GroupNames.{shared_names};
-ghost use Rattle.regress.specs.Programs.{IsOfTree};
 ghost use Rattle.regress.specs.Refusing.{MayRefuseRegex};
 ghost use Rattle.regress.specs.Texts.{shown_text};
 
+use crate::compiled::Compiled;
 use crate::matches::Matches;
-use crate::text::{code_points, text_of};
-use regress_engine_code::{CompiledRegex, emit, emit_units};
-use regress_front::{CaptureGroupName, Error, Flags, Node, Tables, try_parse};
+use crate::text::code_points;
+use regress_front::{Error, Flags, Tables};
 use regress_match::Match;
-use std::alloc::Global;
-use std::sync::ArcSlice;
+use std::alloc::{AllocError, Global};
+use std::sync::Arc;
 
 /// Whether a search in `text` may begin at `start`, an offset in bytes: at a boundary between characters, or past the end.
 ///
@@ -42,22 +38,11 @@ pub fn is_start(text: &str, start: usize) -> bool
 #[derive(Debug, Drop)]
 pub struct Regex<'u> {
     pub(crate) alloc: Global,
-    pub(crate) tables: &'u Tables,
-    pub(crate) flags: Flags,
-    pub(crate) source: String,
-    pub(crate) node: Node,
-    pub(crate) group_names: ArcSlice<CaptureGroupName>,
-    pub(crate) byte_program: CompiledRegex<'u>,
-    pub(crate) unit_program: CompiledRegex<'u>,
-    ghost of_bytes: { byte_program.units ≡ false },
-    ghost of_units: { unit_program.units ≡ true },
-    ghost byte_tree: { ∥ IsOfTree byte_program ∥₁ },
-    ghost unit_tree: { ∥ IsOfTree unit_program ∥₁ },
-    ghost named: { shared_names group_names ≡ names_of byte_program } by { Prim.hlevel props },
+    pub(crate) compiled: Arc<Compiled<'u>>,
 }
 
 impl<'u> Regex<'u> {
-    ghost use Rattle.regress.specs.Standing.{StandsFor, source_of};
+    ghost use Rattle.regress.specs.Standing.{StandsFor, source_of, names_of_regex};
     ghost use Rattle.regress.specs.Coming.{searched, sought_names, coming, BeginsAndEndsAtStarts, HoldsOfEach};
     ghost use Rattle.regress_match.specs.GroupViews.{names_of_match};
     ghost use Rattle.regress_match.specs.TextRanges.{LiesBetween, LiesInText};
@@ -122,21 +107,9 @@ impl<'u> Regex<'u> {
         ensures refused { IfErr result (MayRefuseRegex (table tables.now) (options flags) points.now) }
         ensures fits { (options flags).sets ≡ false → length points.now ≤ 10000 → IfErr result (λ e. e ≢ Error.TooLarge) }
     {
-        let source = text_of(alloc, points)?;
-        let tree = try_parse(alloc, points, flags, tables)?;
-        let byte_program = emit(alloc, &tree)?;
-        let unit_program = emit_units(alloc, &tree)?;
-        let group_names = byte_program.shared_group_names()?;
-        Ok(Regex {
-            alloc,
-            tables,
-            flags,
-            source,
-            node: tree.node,
-            group_names,
-            byte_program,
-            unit_program,
-        })
+        let compiled = Compiled::new(alloc, points, flags, tables)?;
+        let compiled = Arc::new(alloc, compiled).map_err(AllocError::from)?;
+        Ok(Regex { alloc, compiled })
     }
 
     /// The first match in a text, its ranges told in bytes ("RegExpBuiltinExec").
@@ -152,7 +125,7 @@ impl<'u> Regex<'u> {
         ensures inside { IfOk result (λ found. IfSome found (λ m. (m.range.start ≤ m.range.end) × IsCharBoundary text.now m.range.start × IsCharBoundary text.now m.range.end)) }
         ensures groups_inside { IfOk result (λ found. IfSome found (λ m. All (λ g. IfSome g (LiesBetween text.now)) m.captures.items)) }
         ensures starts { IfOk result (λ found. IfSome found (BeginsAndEndsAtStarts text.now)) }
-        ensures named { IfOk result (λ found. IfSome found (λ m. names_of_match m ≡ shared_names self.now.group_names)) }
+        ensures named { IfOk result (λ found. IfSome found (λ m. names_of_match m ≡ names_of_regex self.now)) }
         ensures refused { IsOkUnless result Error.OutOfMemory }
     {
         self.find_iter(text)?.next().transpose()
@@ -175,7 +148,7 @@ impl<'u> Regex<'u> {
         ensures inside { IfOk result (HoldsOfEach ⟦<Matches<'r, 't> as Iterator>⟧.next_gives (LiesInText text.now)) }
         ensures starts { IfOk result (HoldsOfEach ⟦<Matches<'r, 't> as Iterator>⟧.next_gives (BeginsAndEndsAtStarts text.now)) }
         ensures rise { IfOk result (λ ms. ItemsRise (coming ms)) }
-        ensures named { IfOk result (λ ms. sought_names ms ≡ shared_names self.now.group_names) }
+        ensures named { IfOk result (λ ms. sought_names ms ≡ names_of_regex self.now) }
         ensures refused { IsOkUnless result Error.OutOfMemory }
     {
         self.find_from(text, 0)
@@ -203,9 +176,9 @@ impl<'u> Regex<'u> {
         ensures inside { IfOk result (HoldsOfEach ⟦<Matches<'r, 't> as Iterator>⟧.next_gives (LiesInText text.now)) }
         ensures starts { IfOk result (HoldsOfEach ⟦<Matches<'r, 't> as Iterator>⟧.next_gives (BeginsAndEndsAtStarts text.now)) }
         ensures rise { IfOk result (λ ms. ItemsRise (coming ms)) }
-        ensures named { IfOk result (λ ms. sought_names ms ≡ shared_names self.now.group_names) }
+        ensures named { IfOk result (λ ms. sought_names ms ≡ names_of_regex self.now) }
         ensures refused { IsOkUnless result Error.OutOfMemory }
     {
-        Matches::new(self, text, start)
+        Ok(Matches::new(self, text, start))
     }
 }

@@ -5,6 +5,7 @@
 
 mod api;
 mod asking;
+mod compiled;
 mod laws;
 mod matches;
 mod refusing;

@@ -1,12 +1,16 @@
 //! The matches of a compiled pattern in a text.
-ghost use Rattle.std.specs.Prelude.{◌≡◌, chars, encode_utf8_all, IfOk, IsOkUnless};
+ghost use Rattle.std.specs.Prelude.{ℕ};
 ghost use Rattle.std.specs.Iterator.{at_most};
-ghost use Rattle.regress_evaluator.specs.Searching.{pattern_of, points_of, StartsAt};
-ghost use Rattle.regress_match.specs.Iterating.{producer_of, position_of, GivesMatch};
+ghost use Rattle.regress_meaning.specs.Offsets.{of_utf8, Begins};
+ghost use Rattle.regress_engine_input.specs.InputViews.{utf8_view};
+ghost use Rattle.regress_engine_exec.specs.Sought.{StartsAt};
+ghost use Rattle.regress_match.specs.Iterating.{position_of, GivesMatch};
 ghost use Rattle.regress_match.specs.TextRanges.{IsMatchIn};
+ghost use Rattle.regress.specs.Positions.{IsPlaced, IsPlaced-prop};
 
 use crate::api::Regex;
-use regress_evaluator::{CompiledPattern, Search};
+use regress_engine_exec::BacktrackExecutor;
+use regress_engine_input::Utf8Input;
 use regress_front::Error;
 use regress_match::Match;
 use std::iter::FusedIterator;
@@ -15,34 +19,28 @@ use std::iter::FusedIterator;
 /// `Regex::find_from`.
 #[derive(Debug, Drop)]
 pub struct Matches<'r, 't> {
-    inner: regress_match::Matches<Search<'r>>,
-    source: &'t str,
-    ghost read: { points_of (producer_of inner) ≡ chars source.now },
-    ghost spelled: { encode_utf8_all (points_of (producer_of inner)) ≡ source.now },
+    inner: regress_match::Matches<BacktrackExecutor<'r, Utf8Input<'r, 't>>>,
+    ghost placed: { IsPlaced (utf8_view inner.producer.subject.input) (position_of inner) } by { IsPlaced-prop (utf8_view inner.producer.subject.input) (position_of inner) },
 }
 
 impl<'r, 't> Matches<'r, 't> {
-    ghost use Rattle.regress.specs.Coming.{IsPatternOf, searched, search_of, place_of};
+    ghost use Rattle.std.specs.Prelude.{◌≡◌};
+    ghost use Rattle.regress.specs.Coming.{Seeks, sought_by, next_from};
 
     /// The matches of a pattern in a text, from an offset in bytes on.
-    pub(crate) fn new(regex: &'r Regex<'r>, source: &'t str, start: usize) -> Result<Self, Error>
-        ensures over { IfOk result (λ ms. IsPatternOf regex.now (pattern_of (search_of ms)) × (searched ms ≡ source.now)) }
-        ensures begins { IfOk result (λ ms. StartsAt (search_of ms) start (place_of ms)) }
-        ensures refused { IsOkUnless result Error.OutOfMemory }
+    pub(crate) fn new(regex: &'r Regex<'r>, source: &'t str, start: usize) -> Self
+        requires { (place : ℕ) × Begins (of_utf8 source.now) start place }
+        ensures over { Seeks regex.now source.now result }
+        ensures begins { StartsAt (sought_by result) start (next_from result) }
     {
-        let pattern = CompiledPattern {
-            node: &regex.node,
-            tables: regex.tables,
-            unicode: regex.flags.is_unicode(),
-            group_names: &regex.group_names,
-        };
-        let search = Search::new(regex.alloc, pattern, source)?;
-        let inner = regress_match::Matches::new(search, start);
-        Ok(Matches { inner, source })
+        let executor = BacktrackExecutor::new(regex.alloc, &regex.compiled.byte_program, source);
+        let inner = regress_match::Matches::new(executor, start);
+        Matches { inner }
     }
 }
 
 impl<'r, 't> Iterator for Matches<'r, 't> {
+    ghost use Rattle.std.specs.Prelude.{◌≡◌};
     ghost use Rattle.regress.specs.Coming.{searched, sought_names, coming, steps_left, HasEnded};
 
     type Item = Result<Match, Error>;
