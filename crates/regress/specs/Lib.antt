@@ -7,3 +7,4 @@ pub mod Coming
 pub mod Answering
 pub mod Behind
 pub mod Splitting
+pub mod Units
