@@ -5,4 +5,3 @@ pub mod InsnViews
 pub mod Written
 pub mod Emitting
 pub mod Standing
-pub mod Starts

@@ -14,7 +14,7 @@ use Rattle.regress_engine_code.specs.InsnViews.{instruction}
 use Rattle.regress_engine_code.specs.Counts.{count}
 use Rattle.regress_engine_code.specs.Layout.{Target, IsLayout}
 use Rattle.regress_engine_code.specs.Written.{bracket_ends}
-use Rattle.regress_engine_code.specs.Starts.{IsSameStart}
+use Rattle.regress_engine_prefix.specs.Starts.{IsSameStart}
 
 -- what a program is to definitions
 abbrev pub program_of : CompiledRegex → Program

@@ -10,7 +10,8 @@ ghost use Rattle.regress_engine_code.specs.Standing.{length_for, StandsFor, IsCo
 use crate::brackets::copies_of;
 use crate::code::Code;
 use crate::emitter::Emitter;
-use crate::insn::{Insn, StartPredicate};
+use crate::insn::Insn;
+use regress_engine_prefix::StartPredicate;
 use regress_front_core::{CaptureGroupName, Error, Flags};
 use regress_front_nodes::BracketContents;
 use regress_front_nodes::ir::Regex;
