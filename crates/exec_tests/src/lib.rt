@@ -1,0 +1,15 @@
+//! Tests of the executor that undoes, by public calls alone. The library itself is empty.
+#![tactic(auto)]
+
+#[cfg(test)]
+mod evaluated;
+#[cfg(test)]
+mod found;
+#[cfg(test)]
+mod lists;
+#[cfg(test)]
+mod long;
+#[cfg(test)]
+mod parsed;
+#[cfg(test)]
+mod unit_lists;
