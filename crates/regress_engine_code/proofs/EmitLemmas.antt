@@ -5,6 +5,7 @@ use Rattle.std.proofs.Common.{Box, String, Option, Some, Global, option_map, cha
 use Rattle.std.specs.Result.{IsErrAnd, IfErr}
 use Rattle.std.proofs.lemmas.Result.{err_from_is_err_and}
 use Rattle.regress_meaning.specs.Table.{Table}
+use Rattle.regress_meaning.specs.Text.{holds}
 use Rattle.regress_front_core.specs.declared.error.Error.{Error}
 use Rattle.regress_front_nodes.specs.declared.node.AnchorType.{AnchorType}
 use Rattle.regress_front_nodes.specs.declared.node.AnchorType.TheVariants.{StartOfLine, EndOfLine}
@@ -17,6 +18,7 @@ use Rattle.regress_front_nodes.proofs.TreeLaws.{tree-CaptureGroup, tree-Alt}
 use Rattle.regress_front_nodes.specs.Singles.{takes_one}
 use Rattle.regress_front_nodes.specs.Sizes.{loops}
 use Rattle.regress_front_nodes.specs.WellFormed.{AreLawful}
+use Rattle.regress_front_nodes.specs.TreeMeaning.{bracket_has}
 use Rattle.regress_engine_code.specs.Counts.{count}
 use Rattle.regress_engine_code.specs.Instructions.{Instruction, Program, Stands, StandFrom}
 use Rattle.regress_engine_code.specs.Instructions as code
@@ -113,6 +115,13 @@ module _ (units : Bool) (table : Table) (unicode : Bool) where
       subst (λ (js : List Instruction). StandFrom program (length w.instructions) js × (end w' ≡ later (end w) (length js)))
       (told ∙ ap (λ (u : Bool). in_reading_order b (if u then map code.char (chars bs) else map code.byte_seq (chunks (length bs) bs))) (sym same)) h)
       (Adds-all units w w' is e)
+
+  -- a bracket of ASCII
+  pub AddsTree-ascii_bracket : (b inverted : Bool) (intervals : List (ℕ × ℕ)) (cs : List ℕ) (w w' : Written) → ((c : ℕ) → holds cs c ≡ bracket_has inverted intervals c)
+      → w' ≡ with w (code.ascii_bracket cs ∷ []) → AddsTree units table unicode b (node.bracket inverted intervals) w w'
+  AddsTree-ascii_bracket b inverted intervals cs w w' same e =
+      let adds = Adds-one units w w' (code.ascii_bracket cs) e in
+      record { kept = adds.kept; lie = λ program units' has. (code.ascii_bracket cs, same, adds.lie program units' has) }
 
   -- a bracket
   pub AddsTree-bracket : (b inverted : Bool) (intervals : List (ℕ × ℕ)) (k : ℕ) (w v w' : Written) → k ≡ length w.brackets
