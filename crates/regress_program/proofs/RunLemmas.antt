@@ -55,6 +55,12 @@ searched flags pattern text slice bytes (Some input) new Wrote r e u a w =
       wrote = subst (λ t. Wrote (output small (options_of (chars flags)) a.tree t)) (u.0 ∙ same) w;
     }
 
+-- what was read is no text
+pub not-text : (slice bytes : List ℕ) (old new : Option (List ℕ)) → IfSome old (λ input. (bytes ≡ input) × (new ≡ Some [])) → slice ≡ bytes → ¬ IsUtf8 slice
+    → IfSome old (λ input. (new ≡ Some []) × ¬ IsUtf8 input)
+not-text slice bytes None new r e k = tt
+not-text slice bytes (Some input) new r e k = (r.1, subst (λ t. ¬ IsUtf8 t) (e ∙ r.0) k)
+
 -- a pattern that is compiled is accepted, and the compiled pattern stands for its tree
 pub accepted : (flags pattern : List ℕ) (t : Table) (f : Flags) (r : Regex) → t ≡ small → f ≡ flags_of (chars flags)
     → ((p : Pattern) × Spells t (options f) (chars pattern) p × WithinLimits p × StandsFor r t (options f) p)
