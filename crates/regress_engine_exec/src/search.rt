@@ -1,5 +1,5 @@
 //! The search for the first place from which a run has an answer.
-ghost use Rattle.std.specs.Prelude.{◌≡◌, ℕ, false, List, map, option_map, IfOk, IfSome, OnOk, IsOkUnless};
+ghost use Rattle.std.specs.Prelude.{◌≡◌, ℕ, false, List, map, option_map, IfOk, IfSome};
 ghost use Rattle.regress_front_nodes.specs.Trees.{Tree};
 ghost use Rattle.regress_front_nodes.specs.WellFormed.{IsWellFormed};
 ghost use Rattle.regress_match.specs.GroupViews.{names_of_match};
@@ -22,7 +22,7 @@ use crate::shown::{ExecutorInput, Shown};
 use crate::subject::Subject;
 use regress_engine_code::CompiledRegex;
 use regress_engine_input::Utf8Input;
-use regress_front_core::{Error, GroupData};
+use regress_front_core::GroupData;
 use regress_match::{Match, MatchProducer, Range};
 use std::alloc::{AllocError, Global};
 
@@ -108,21 +108,20 @@ impl<'r, Input: ExecutorInput> BacktrackExecutor<'r, Input> {
     }
 
     /// The match at the least place from an offset on: that of the program's run from there, begun at the first instruction
-    /// with nothing set ("RegExpBuiltinExec"). `None` where no run from there on has an answer. It errs with `OutOfMemory`
-    /// alone, and may then be asked again.
+    /// with nothing set ("RegExpBuiltinExec"). `None` where no run from there on has an answer. It errs where memory is
+    /// refused alone, and may then be asked again.
     ///
     /// Asks that the offset is that of a place of the text.
     ///
     /// ```rust
     /// let found = executor.find_from(0)?;
     /// ```
-    pub fn find_from(&mut self, offset: usize) -> Result<Option<Match>, Error>
+    pub fn find_from(&mut self, offset: usize) -> Result<Option<Match>, AllocError>
         requires { IsAtPlace (reading_of (Input.view self.old.subject.input)) offset }
         ensures found { IfOk result (λ found. Finds (program_of self.old.subject.program.now) (input_of (Input.view self.old.subject.input)) offset (option_map item_of found)) }
         ensures inside { IfOk result (λ found. IfSome found (λ m. IsItemAtPlaces (reading_of (Input.view self.old.subject.input)) (item_of m))) }
         ensures named { IfOk result (λ found. IfSome found (λ m. names_of_match m ≡ names_of self.old.subject.program.now)) }
         ensures kept { self.new.subject ≡ self.old.subject }
-        ensures refused { IsOkUnless result Error.OutOfMemory }
     {
         let Some((start, end)) = self.search(offset)? else {
             return Ok(None);

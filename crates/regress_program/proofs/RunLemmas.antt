@@ -1,5 +1,5 @@
 -- From what the parts of a run ensure to what the run does.
-use Rattle.std.proofs.Common.{◌≡◌, ℕ, ◌+◌, ◌-◌, ◌≤◌, true, false, List, [], ◌∷◌, ◌++◌, length, take, drop, Option, Some, None, Result, Ok, Err, is_err, IfSome, OnOk, OnErr, chars, IsUtf8, refl, ◌∙◌, sym, ap, subst, append-nil, length-take, arith}
+use Rattle.std.proofs.Common.{◌≡◌, ℕ, ◌+◌, ◌-◌, ◌≤◌, true, false, List, [], ◌∷◌, ◌++◌, length, take, drop, Option, Some, None, Result, Ok, Err, is_err, IfSome, IfErr, ◌⊎◌, inl, inr, OnOk, OnErr, chars, IsUtf8, refl, ◌∙◌, sym, ap, subst, append-nil, length-take, arith}
 use Rattle.std.proofs.lemmas.List.{take-take, append_assoc, take-append-drop}
 use Rattle.std.proofs.Math.Seq.{take-add, take-append_seam}
 use Rattle.std.proofs.KnownBytes.{Appends-trans}
@@ -54,6 +54,18 @@ searched flags pattern text slice bytes (Some input) new Wrote r e u a w =
       accepted = a;
       wrote = subst (λ t. Wrote (output small (options_of (chars flags)) a.tree t)) (u.0 ∙ same) w;
     }
+
+-- what was read is no text
+pub not-text : (slice bytes : List ℕ) (old new : Option (List ℕ)) → IfSome old (λ input. (bytes ≡ input) × (new ≡ Some [])) → slice ≡ bytes → ¬ IsUtf8 slice
+    → IfSome old (λ input. (new ≡ Some []) × ¬ IsUtf8 input)
+not-text slice bytes None new r e k = tt
+not-text slice bytes (Some input) new r e k = (r.1, subst (λ t. ¬ IsUtf8 t) (e ∙ r.0) k)
+
+-- an error that is one of two is no third one
+pub no-third : {T E : Type 0} (r : Result T E) (x a b : E) → r ≡ Err x → IfErr r (λ e. (e ≡ a) ⊎ (e ≡ b)) → (x ≡ a → ⊥) → (x ≡ b → ⊥) → ⊥
+no-third (Ok v) x a b h k m n = cc
+no-third (Err e) x a b h (inl p) m n = m (cc (h, p))
+no-third (Err e) x a b h (inr p) m n = n (cc (h, p))
 
 -- a pattern that is compiled is accepted, and the compiled pattern stands for its tree
 pub accepted : (flags pattern : List ℕ) (t : Table) (f : Flags) (r : Regex) → t ≡ small → f ≡ flags_of (chars flags)
