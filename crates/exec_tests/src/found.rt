@@ -1,10 +1,8 @@
 //! What the executor finds, as text.
-ghost use Rattle.std.specs.Prelude.{◌≡◌, ℕ, false, length, IfSome};
-ghost use Rattle.regress_front_nodes.specs.Trees.{Tree, tree};
+ghost use Rattle.std.specs.Prelude.{◌≡◌, false, length, IfSome};
+ghost use Rattle.regress_front_nodes.specs.Trees.{tree};
 ghost use Rattle.regress_front_nodes.specs.WellFormed.{IsWellFormed};
 ghost use Rattle.regress_match.specs.Iterating.{producer_of, position_of};
-ghost use Rattle.regress_engine_code.specs.Layout.{IsLayout};
-ghost use Rattle.regress_engine_code.specs.Standing.{target_of};
 
 use regress_engine_code::{CompiledRegex, emit};
 use regress_engine_exec::BacktrackExecutor;
@@ -48,8 +46,7 @@ fn over_utf8<'r>(
     program: &'r CompiledRegex<'r>,
     text: &'r str,
 ) -> Result<Option<String>, AllocError>
-    requires laid { (n : ℕ) × (t : Tree) × IsWellFormed n t × IsLayout (target_of program.now) n t }
-    requires bytes { program.now.units ≡ false }
+    requires { program.now.units ≡ false }
 {
     let executor = BacktrackExecutor::new(alloc, program, text);
     listed(alloc, Matches::new(executor, 0))

@@ -1,7 +1,10 @@
 pub mod Texts
+pub mod Programs
+pub mod Refusing
+pub mod Positions
 pub mod Standing
 pub mod Coming
 pub mod Answering
 pub mod Behind
 pub mod Splitting
-pub mod Refusing
+pub mod Units

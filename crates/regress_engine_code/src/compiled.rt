@@ -4,13 +4,15 @@ ghost use Rattle.std.specs.Arc.{arc_slice_items};
 ghost use Rattle.regress_front_nodes.specs.Trees.{tree};
 ghost use Rattle.regress_front_nodes.specs.Sizes.{loops};
 ghost use Rattle.regress_front_nodes.specs.WellFormed.{IsWellFormed};
+ghost use Rattle.regress_engine_code.specs.Laid.{program_from, target_from, IsLaid};
 ghost use Rattle.regress_engine_code.specs.Written.{MayRefuse};
 ghost use Rattle.regress_engine_code.specs.Standing.{length_for, StandsFor, IsCopyOf};
 
 use crate::brackets::copies_of;
 use crate::code::Code;
 use crate::emitter::Emitter;
-use crate::insn::{Insn, StartPredicate};
+use crate::insn::Insn;
+use regress_engine_prefix::StartPredicate;
 use regress_front_core::{CaptureGroupName, Error, Flags};
 use regress_front_nodes::BracketContents;
 use regress_front_nodes::ir::Regex;
@@ -30,6 +32,7 @@ pub struct CompiledRegex<'u> {
     pub(crate) flags: Flags,
     pub(crate) tables: &'u Tables,
     pub(crate) units: bool,
+    ghost laid: { ∥ IsLaid (target_from (program_from insns.items brackets.items loops groups units) tables.now flags) ∥₁ },
 }
 
 impl<'u> CompiledRegex<'u> {

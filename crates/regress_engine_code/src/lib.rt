@@ -11,5 +11,6 @@ mod leaves;
 mod strings;
 
 pub use compiled::{CompiledRegex, emit, emit_units};
-pub use insn::{Insn, LoopFields, MAX_BYTE_SEQ_LENGTH, StartPredicate};
+pub use insn::{Insn, LoopFields, MAX_BYTE_SEQ_LENGTH};
 pub use laws::layouts_are_counted;
+pub use regress_engine_prefix::StartPredicate;

@@ -1,0 +1,39 @@
+use Rattle.std.proofs.Common.{true, false, ap}
+use Rattle.std.proofs.lemmas.Result.{err_from_is_err_and}
+use Rattle.regress_front.specs.FlagWords.{options}
+use Rattle.regress_front.specs.TableViews.{table}
+use Rattle.regress.proofs.ProgramLemmas.{IsReadAs, read-program, program-refused, refused-fits}
+use Rattle.regress.proofs.compiled.Compiled.new.Goals as goal
+
+pub returns-in_err-byte_program-clause-fits : goal.returns-in_err-byte_program-clause-fits
+returns-in_err-byte_program-clause-fits c = λ plain short.
+    let (p, of_text, named) = c.in_ok-tree.ensures.accepted in
+    let read : IsReadAs (table c.args.tables.now) (options c.args.flags) c.args.points.now p c.in_ok-tree.tree =
+    record { of_text = of_text; named = named; flags = ap options c.in_ok-tree.ensures.kept.0; table = ap table c.in_ok-tree.ensures.kept.1 } in
+    let refused = program-refused _ _ _ p c.in_ok-tree.tree read false _ c.in_err-byte_program.ensures.refused in
+    let other = refused-fits (table c.args.tables.now) (options c.args.flags) c.args.points.now _ refused plain short in
+    let answered = err_from_is_err_and c.from_residual-in_err-byte_program.result c.from_residual-in_err-byte_program.ensures.1 in
+    rw (answered.1, answered.2) other
+
+pub returns-in_err-unit_program-clause-fits : goal.returns-in_err-unit_program-clause-fits
+returns-in_err-unit_program-clause-fits c = λ plain short.
+    let (p, of_text, named) = c.in_ok-tree.ensures.accepted in
+    let read : IsReadAs (table c.args.tables.now) (options c.args.flags) c.args.points.now p c.in_ok-tree.tree =
+    record { of_text = of_text; named = named; flags = ap options c.in_ok-tree.ensures.kept.0; table = ap table c.in_ok-tree.ensures.kept.1 } in
+    let refused = program-refused _ _ _ p c.in_ok-tree.tree read true _ c.in_err-unit_program.ensures.refused in
+    let other = refused-fits (table c.args.tables.now) (options c.args.flags) c.args.points.now _ refused plain short in
+    let answered = err_from_is_err_and c.from_residual-in_err-unit_program.result c.from_residual-in_err-unit_program.ensures.1 in
+    rw (answered.1, answered.2) other
+
+pub returns-clause-accepted : goal.returns-clause-accepted
+returns-clause-accepted c =
+    let (p, of_text, named) = c.in_ok-tree.ensures.accepted in
+    let read : IsReadAs (table c.args.tables.now) (options c.args.flags) c.args.points.now p c.in_ok-tree.tree =
+    record { of_text = of_text; named = named; flags = ap options c.in_ok-tree.ensures.kept.0; table = ap table c.in_ok-tree.ensures.kept.1 } in
+    (
+      p,
+      of_text.spelled,
+      of_text.within,
+      read-program _ _ _ p c.in_ok-tree.tree read c.in_ok-byte_program.byte_program c.in_ok-byte_program.ensures.emitted,
+      read-program _ _ _ p c.in_ok-tree.tree read c.in_ok-unit_program.unit_program c.in_ok-unit_program.ensures.emitted,
+    )
