@@ -13,7 +13,7 @@ use Rattle.regress_engine_code.specs.Written.{written, AddsTree}
 use Rattle.regress_engine_code.proofs.BeginLemmas.{all-begin}
 use Rattle.regress_engine_code.proofs.EmitLemmas.{err-refused}
 use Rattle.regress_engine_code.proofs.StandingLemmas.{groups-few, told-layout, whole-counted}
-use Rattle.regress_engine_code.proofs.compiled.whole_program.Goals as goal
+use Rattle.regress_engine_code.proofs.emission.whole_program.Goals as goal
 
 pub returns-clause-emitted : goal.returns-clause-emitted
 returns-clause-emitted c =
