@@ -11,5 +11,5 @@ invariant_of-subject g c =
     let compiled = c.args.program.now in
     let v = g.Input.InputIndexer.view c.args.input in
     let read : IsSought (program_of compiled) v = ∥∥₁_elim compiled.laid (IsSought-prop (program_of compiled) v)
-    (λ (n, t, formed, layout). layout-sought (target_of compiled) v (g.met.Input.InputIndexer.are_of_kind c.args.input) c.requires.kind c.requires.made n t formed layout) in
+    (λ (n, t, formed, layout). layout-sought (target_of compiled) v (g.met.Input.InputIndexer.are_of_kind c.args.input) c.requires.made.kind c.requires.made.made n t formed layout) in
     record { sought = subst (IsSought (program_of compiled)) (sym (g.met.Input.ExecutorInput.shows c.args.input)) read }
