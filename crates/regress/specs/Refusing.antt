@@ -8,16 +8,16 @@ use Rattle.regress_front_core.specs.declared.error.Error.TheVariants.{Syntax, To
 use Rattle.regress_front.specs.Refusals as reading
 use Rattle.regress_front.specs.Trees.{Tree}
 use Rattle.regress_front.specs.Sizes.{loops}
-use Rattle.regress_front.specs.Parsed.{IsTreeOf}
 use Rattle.regress_engine_code.specs.Counts.{count}
 use Rattle.regress_engine_code.specs.Written.{AreTooMany}
+use Rattle.regress.specs.Programs.{IsTreeFor}
 
 -- A program of the pattern that the text spells, in bytes or in units, passes its count of instructions or of loops.
 pub record PassesCount (table : Table) (o : Options) (text : List ℕ) : Type 0 where
   pub pattern : Pattern
   pub node : Tree
   pub units : Bool
-  pub of_text : IsTreeOf table o text pattern node
+  pub of_text : IsTreeFor table o text pattern node
   pub many : AreTooMany (count units table (is_unicode o) node) (loops node)
 
 -- A refusal that a pattern may meet when it is compiled: one of its reading, or that a program of it passes its count.

@@ -9,7 +9,7 @@ pub returns-in_err-byte_program-clause-fits : goal.returns-in_err-byte_program-c
 returns-in_err-byte_program-clause-fits c = λ plain short.
     let (p, of_text, named) = c.in_ok-tree.ensures.accepted in
     let read : IsReadAs (table c.args.tables.now) (options c.args.flags) c.args.points.now p c.in_ok-tree.tree =
-    record { of_text = of_text; named = named; flags = ap options c.in_ok-tree.ensures.kept.0; table = ap table c.in_ok-tree.ensures.kept.1 } in
+    as-parsed _ _ _ p c.in_ok-tree.tree of_text named (ap options c.in_ok-tree.ensures.kept.0) (ap table c.in_ok-tree.ensures.kept.1) in
     let refused = program-refused _ _ _ p c.in_ok-tree.tree read false _ c.in_err-byte_program.ensures.refused in
     let other = refused-fits (table c.args.tables.now) (options c.args.flags) c.args.points.now _ refused plain short in
     let answered = err_from_is_err_and c.from_residual-in_err-byte_program.result c.from_residual-in_err-byte_program.ensures.1 in
@@ -19,7 +19,7 @@ pub returns-in_err-unit_program-clause-fits : goal.returns-in_err-unit_program-c
 returns-in_err-unit_program-clause-fits c = λ plain short.
     let (p, of_text, named) = c.in_ok-tree.ensures.accepted in
     let read : IsReadAs (table c.args.tables.now) (options c.args.flags) c.args.points.now p c.in_ok-tree.tree =
-    record { of_text = of_text; named = named; flags = ap options c.in_ok-tree.ensures.kept.0; table = ap table c.in_ok-tree.ensures.kept.1 } in
+    as-parsed _ _ _ p c.in_ok-tree.tree of_text named (ap options c.in_ok-tree.ensures.kept.0) (ap table c.in_ok-tree.ensures.kept.1) in
     let refused = program-refused _ _ _ p c.in_ok-tree.tree read true _ c.in_err-unit_program.ensures.refused in
     let other = refused-fits (table c.args.tables.now) (options c.args.flags) c.args.points.now _ refused plain short in
     let answered = err_from_is_err_and c.from_residual-in_err-unit_program.result c.from_residual-in_err-unit_program.ensures.1 in
@@ -29,7 +29,7 @@ pub returns-clause-accepted : goal.returns-clause-accepted
 returns-clause-accepted c =
     let (p, of_text, named) = c.in_ok-tree.ensures.accepted in
     let read : IsReadAs (table c.args.tables.now) (options c.args.flags) c.args.points.now p c.in_ok-tree.tree =
-    record { of_text = of_text; named = named; flags = ap options c.in_ok-tree.ensures.kept.0; table = ap table c.in_ok-tree.ensures.kept.1 } in
+    as-parsed _ _ _ p c.in_ok-tree.tree of_text named (ap options c.in_ok-tree.ensures.kept.0) (ap table c.in_ok-tree.ensures.kept.1) in
     (
       p,
       of_text.spelled,
