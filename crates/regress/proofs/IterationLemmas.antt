@@ -3,46 +3,16 @@ use Rattle.std.proofs.Common.{◌≡◌, ℕ, List, [], ◌∷◌, map, option_m
 use Rattle.std.specs.Prelude.{slice_get}
 use Rattle.std.specs.Option.{option_transpose}
 use Rattle.std.specs.Iterator.{Yields}
-use Rattle.std.specs.Str.{chars, IsUtf8, IsCharBoundary}
-use Rattle.regress_meaning.specs.Table.{Table}
-use Rattle.regress_meaning.specs.Pattern.{Pattern}
-use Rattle.regress_meaning.specs.Flags.{Options}
-use Rattle.regress_meaning.specs.Laws.{ItemsRise}
-use Rattle.regress_meaning.specs.Matches.{Item, match_list}
-use Rattle.regress_meaning.specs.Offsets.{of_utf8, told, Begins}
+use Rattle.std.specs.Str.{IsUtf8, IsCharBoundary}
+use Rattle.regress_meaning.specs.Matches.{Item}
 use Rattle.regress_front_core.specs.declared.error.Error.{Error}
 use Rattle.regress_match.specs.declared.found.Match.{Match}
 use Rattle.regress_match.specs.Views.{item_of}
 use Rattle.regress_match.specs.Iterating.{GivesFirst, GivesMatch}
 use Rattle.regress_match.specs.TextRanges.{LiesInText, IsMatchIn}
-use Rattle.regress_match.proofs.TextLemmas.{chars-code_points, place_of_boundary}
-use Rattle.regress_engine_exec.specs.Sought.{StartsAt}
-use Rattle.regress.specs.declared.api.Regex.{Regex}
+use Rattle.regress_match.proofs.TextLemmas.{place_of_boundary}
 use Rattle.regress.specs.declared.matches.Matches.{Matches}
-use Rattle.regress.specs.Programs.{IsProgramOf}
-use Rattle.regress.specs.Standing.{StandsFor}
-use Rattle.regress.specs.Coming.{Seeks, sought_by, next_from, searched, sought_names, coming, HasEnded, IsStart, BeginsAndEndsAtStarts, HoldsOfEach}
-use Rattle.regress.proofs.ListedLemmas.{pattern-coming, coming-rises}
-
--- an iterator that was made for a start has that part of the match list still to come
-pub coming-made : (ms : Matches) (bytes : List ℕ) (r : Regex) (t : Table) (o : Options) (p : Pattern) (at place : ℕ) → IsUtf8 bytes
-    → Seeks r bytes ms → StartsAt (sought_by ms) at (next_from ms) → StandsFor r t o p → Begins (of_utf8 bytes) at place
-    → coming ms ≡ map (told (of_utf8 bytes)) (match_list t o p (chars bytes) place)
-coming-made ms bytes r t o p at place utf8 seeks starts stands begins =
-    let s = sought_by ms in
-    let utf8' : IsUtf8 (searched ms) = subst IsUtf8 (sym seeks.over) utf8 in
-    let begins' : Begins (of_utf8 (searched ms)) at place = subst (λ bs. Begins (of_utf8 bs) at place) (sym seeks.over) begins in
-    let program : IsProgramOf s.compiled t o p = subst (λ c. IsProgramOf c t o p) (sym seeks.program) stands.bytes in
-    pattern-coming s utf8' seeks.made at place begins' (next_from ms) starts t o p program (chars-code_points (searched ms) utf8')
-    ∙ ap (λ bs. map (told (of_utf8 bs)) (match_list t o p (chars bs) place)) seeks.over
-
--- and it rises
-pub coming-made-rises : (ms : Matches) (bytes : List ℕ) (r : Regex) (at place : ℕ) → IsUtf8 bytes → Seeks r bytes ms
-    → StartsAt (sought_by ms) at (next_from ms) → Begins (of_utf8 bytes) at place → ItemsRise (coming ms)
-coming-made-rises ms bytes r at place utf8 seeks starts begins =
-    let utf8' : IsUtf8 (searched ms) = subst IsUtf8 (sym seeks.over) utf8 in
-    let begins' : Begins (of_utf8 (searched ms)) at place = subst (λ bs. Begins (of_utf8 bs) at place) (sym seeks.over) begins in
-    coming-rises (sought_by ms) utf8' seeks.made at place begins' (next_from ms) starts
+use Rattle.regress.specs.Coming.{searched, sought_names, coming, HasEnded, IsStart, BeginsAndEndsAtStarts, HoldsOfEach}
 
 -- the first item of a list is what a step over it gives
 pub first-given : (IsInside : Match → Type 0) (before after : List Item) (given : Option (Result Match Error)) (tell : Item → Item) (items : List Item)

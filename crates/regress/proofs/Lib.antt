@@ -7,3 +7,4 @@ pub mod SplittingLemmas
 pub mod ProgramLemmas
 pub mod ShownLemmas
 pub mod ListedLemmas
+pub mod StepLemmas

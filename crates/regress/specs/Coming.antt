@@ -8,8 +8,7 @@ use Rattle.regress_match.specs.declared.found.Match.{Match}
 use Rattle.regress_match.specs.Iterating.{coming_on, steps_on}
 use Rattle.regress_engine_input.specs.InputViews.{utf8_view}
 use Rattle.regress_engine_code.specs.Standing.{names_of}
-use Rattle.regress_engine_exec.specs.Sought.{Sought, IsMadeOf, items_from, places_behind}
-use Rattle.regress.specs.declared.api.Regex.{Regex}
+use Rattle.regress_engine_exec.specs.Sought.{Sought, items_from, places_behind}
 use Rattle.regress.specs.declared.matches.Matches.{Matches}
 
 -- what is sought, and in what text
@@ -31,12 +30,6 @@ searched ms = (sought_by ms).view.units
 -- The names of the groups of the pattern that is sought, as bytes of UTF-8.
 abbrev pub sought_names : Matches → List (List ℕ)
 sought_names ms = names_of (sought_by ms).compiled
-
--- What is sought is the byte program of a regex, in this text, with the tables and the mode of the program.
-pub record Seeks (r : Regex) (bytes : List ℕ) (ms : Matches) : Type 0 where
-  pub over : searched ms ≡ bytes
-  pub program : (sought_by ms).compiled ≡ r.compiled.byte_program
-  pub made : IsMadeOf (sought_by ms).compiled (sought_by ms).view
 
 -- The items that are still to come, told in bytes.
 abbrev pub coming : Matches → List Item

@@ -1,5 +1,6 @@
 pub mod Texts
 pub mod Programs
+pub mod Seeking
 pub mod Refusing
 pub mod Positions
 pub mod Standing

@@ -3,8 +3,7 @@ use Rattle.std.specs.Prelude.{◌≡◌, ℕ, List, None}
 use Rattle.regress_meaning.specs.Matches.{Item}
 use Rattle.regress_match.specs.Iterating.{coming_on, steps_on}
 use Rattle.regress_engine_input.specs.InputViews.{utf16_view, ucs2_view}
-use Rattle.regress_engine_exec.specs.Sought.{Sought, IsMadeOf, items_from, places_behind}
-use Rattle.regress.specs.declared.api.Regex.{Regex}
+use Rattle.regress_engine_exec.specs.Sought.{Sought, items_from, places_behind}
 use Rattle.regress.specs.declared.units.Utf16Matches.{Utf16Matches}
 use Rattle.regress.specs.declared.units.Ucs2Matches.{Ucs2Matches}
 
@@ -23,12 +22,6 @@ sought_in_ucs2 ms = record {
   view = ucs2_view ms.executor.subject.input;
   sought = ms.executor.subject.sought;
 }
-
--- What is sought is the unit program of a regex, in these units, with the tables and the mode of the program.
-pub record SeeksUnits (r : Regex) (units : List ℕ) (s : Sought) : Type 0 where
-  pub over : s.view.units ≡ units
-  pub program : s.compiled ≡ r.compiled.unit_program
-  pub made : IsMadeOf s.compiled s.view
 
 -- the items that are still to come in units of UTF-16, told in units
 abbrev pub coming_in_utf16 : Utf16Matches → List Item

@@ -26,12 +26,13 @@ pub struct Matches<'r, 't> {
 
 impl<'r, 't> Matches<'r, 't> {
     ghost use Rattle.std.specs.Prelude.{◌≡◌};
-    ghost use Rattle.regress.specs.Coming.{Seeks, sought_by, next_from};
+    ghost use Rattle.regress.specs.Seeking.{Seeks};
+    ghost use Rattle.regress.specs.Coming.{sought_by, next_from};
 
     /// The matches of a pattern in a text, from an offset in bytes on.
     pub(crate) fn new(regex: &'r Regex<'r>, source: &'t str, start: usize) -> Self
         requires { (place : ℕ) × Begins (of_utf8 source.now) start place }
-        ensures over { Seeks regex.now source.now result }
+        ensures over { Seeks regex.now.compiled.byte_program source.now (sought_by result) }
         ensures begins { StartsAt (sought_by result) start (next_from result) }
     {
         let executor = BacktrackExecutor::new(regex.alloc, &regex.compiled.byte_program, source);
@@ -63,10 +64,12 @@ impl<'r, 't> Iterator for Matches<'r, 't> {
     fn next(&mut self) -> Option<Result<Match, Error>> {
         let position = self.position.take()?;
         let mut next = None;
-        let found = self.executor.advance(position, &mut next);
-        self.position = next;
-        match found {
-            Ok(found) => found.map(Ok),
+        match self.executor.advance(position, &mut next) {
+            Ok(Some(found)) => {
+                self.position = next;
+                Some(Ok(found))
+            }
+            Ok(None) => None,
             Err(refused) => Some(Err(Error::from(refused))),
         }
     }

@@ -32,12 +32,13 @@ pub struct Ucs2Matches<'r, 't> {
 }
 
 impl<'r, 't> Utf16Matches<'r, 't> {
-    ghost use Rattle.regress.specs.Units.{SeeksUnits, sought_in_utf16};
+    ghost use Rattle.regress.specs.Seeking.{Seeks};
+    ghost use Rattle.regress.specs.Units.{sought_in_utf16};
 
     /// The matches of a pattern in units, from an offset on.
     fn new(regex: &'r Regex<'r>, units: &'t [u16], start: usize) -> Self
         requires { (place : ℕ) × Begins (of_utf16 units.now) start place }
-        ensures over { SeeksUnits regex.now units.now (sought_in_utf16 result) }
+        ensures over { Seeks regex.now.compiled.unit_program units.now (sought_in_utf16 result) }
         ensures begins { StartsAt (sought_in_utf16 result) start result.position }
     {
         let program = &regex.compiled.unit_program;
@@ -49,12 +50,13 @@ impl<'r, 't> Utf16Matches<'r, 't> {
 }
 
 impl<'r, 't> Ucs2Matches<'r, 't> {
-    ghost use Rattle.regress.specs.Units.{SeeksUnits, sought_in_ucs2};
+    ghost use Rattle.regress.specs.Seeking.{Seeks};
+    ghost use Rattle.regress.specs.Units.{sought_in_ucs2};
 
     /// The matches of a pattern in units, from an offset on.
     fn new(regex: &'r Regex<'r>, units: &'t [u16], start: usize) -> Self
         requires { (place : ℕ) × Begins (of_ucs2 units.now) start place }
-        ensures over { SeeksUnits regex.now units.now (sought_in_ucs2 result) }
+        ensures over { Seeks regex.now.compiled.unit_program units.now (sought_in_ucs2 result) }
         ensures begins { StartsAt (sought_in_ucs2 result) start result.position }
     {
         let program = &regex.compiled.unit_program;
@@ -87,10 +89,12 @@ impl<'r, 't> Iterator for Utf16Matches<'r, 't> {
     fn next(&mut self) -> Option<Result<Match, Error>> {
         let position = self.position.take()?;
         let mut next = None;
-        let found = self.executor.advance(position, &mut next);
-        self.position = next;
-        match found {
-            Ok(found) => found.map(Ok),
+        match self.executor.advance(position, &mut next) {
+            Ok(Some(found)) => {
+                self.position = next;
+                Some(Ok(found))
+            }
+            Ok(None) => None,
             Err(refused) => Some(Err(Error::from(refused))),
         }
     }
@@ -120,10 +124,12 @@ impl<'r, 't> Iterator for Ucs2Matches<'r, 't> {
     fn next(&mut self) -> Option<Result<Match, Error>> {
         let position = self.position.take()?;
         let mut next = None;
-        let found = self.executor.advance(position, &mut next);
-        self.position = next;
-        match found {
-            Ok(found) => found.map(Ok),
+        match self.executor.advance(position, &mut next) {
+            Ok(Some(found)) => {
+                self.position = next;
+                Some(Ok(found))
+            }
+            Ok(None) => None,
             Err(refused) => Some(Err(Error::from(refused))),
         }
     }

@@ -2,23 +2,22 @@ use Rattle.std.proofs.Common.{◌∙◌, sym, ap, not}
 use Rattle.regress_meaning.specs.Flags.{is_unicode}
 use Rattle.regress_front.specs.FlagWords.{options}
 use Rattle.regress_front.specs.TableViews.{table}
-use Rattle.regress_engine_input.specs.InputViews.{utf8_view}
 use Rattle.regress_engine_input.specs.Views.{View}
+use Rattle.regress_engine_code.specs.declared.compiled.CompiledRegex.{CompiledRegex}
 use Rattle.regress.proofs.matches.Matches.new.Goals as goal
 
 pub returns-clause-over : goal.returns-clause-over
 returns-clause-over c =
-    let over = c.new-inner.ensures.over in
-    let program = ap (λ e. e.subject.program.now) over ∙ c.new-executor.ensures.program in
-    let text = ap (λ e. utf8_view e.subject.input) over ∙ c.new-executor.ensures.text in
+    let program = c.new-executor.ensures.program in
+    let text = c.new-executor.ensures.text in
     record {
       over = ap (λ (v : View). v.units) text;
       program = program;
       made = record {
-        kind = sym (ap not (ap (λ compiled. compiled.units) program ∙ c.args.regex.now.compiled.of_bytes));
+        kind = sym (ap not (ap (λ (compiled : CompiledRegex). compiled.units) program ∙ c.args.regex.now.compiled.of_bytes));
         made = record {
-          table = ap (λ compiled. table compiled.tables.now) program ∙ sym (ap (λ (v : View). v.table) text);
-          unicode = ap (λ compiled. is_unicode (options compiled.flags)) program ∙ sym (ap (λ (v : View). v.unicode) text);
+          table = ap (λ (compiled : CompiledRegex). table compiled.tables.now) program ∙ sym (ap (λ (v : View). v.table) text);
+          unicode = ap (λ (compiled : CompiledRegex). is_unicode (options compiled.flags)) program ∙ sym (ap (λ (v : View). v.unicode) text);
         };
       };
     }
