@@ -33,12 +33,12 @@ starts-inside : (bytes : List ℕ) → IsUtf8 bytes → (m : Match) → LiesInTe
 starts-inside bytes utf8 m lies = (start_of_boundary bytes utf8 m.range.start lies.0.1, start_of_boundary bytes utf8 m.range.end lies.0.2)
 
 -- so does what a step gave
-pub starts-given : (bytes : List ℕ) → IsUtf8 bytes → (names : List (List ℕ)) (before after : List Item) (given : Option (Result Match Error))
-    → GivesFirst (IsMatchIn bytes names) before given after
+pub starts-given : (bytes : List ℕ) → IsUtf8 bytes → (text : List ℕ) → text ≡ bytes → (names : List (List ℕ)) (before after : List Item)
+    (given : Option (Result Match Error)) → GivesFirst (IsMatchIn text names) before given after
     → IfOk (option_transpose given) (λ found. IfSome found (BeginsAndEndsAtStarts bytes))
-starts-given bytes utf8 names before after None first = tt
-starts-given bytes utf8 names before after (Some (Ok m)) first = starts-inside bytes utf8 m first.1.0
-starts-given bytes utf8 names before after (Some (Err e)) first = tt
+starts-given bytes utf8 text same names before after None first = tt
+starts-given bytes utf8 text same names before after (Some (Ok m)) first = starts-inside bytes utf8 m (subst (λ (t : List ℕ). LiesInText t m) same first.1.0)
+starts-given bytes utf8 text same names before after (Some (Err e)) first = tt
 
 -- what a step of the iterator is
 abbrev pub gives_next : Matches → Option (Result Match Error) → Matches → Type 0

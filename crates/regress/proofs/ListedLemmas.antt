@@ -2,7 +2,9 @@
 use Rattle.std.proofs.Common.{◌≡◌, ℕ, ◌≤◌, List, [], ◌∷◌, length, map, Option, All, refl, sym, ap, ◌∙◌, subst, arith}
 use Rattle.std.proofs.Math.Logic.{∥∥₁_elim}
 use Rattle.std.proofs.lemmas.List.Elements.{All-head, All-tail}
-use Rattle.std.specs.Coded.{×_prop, Unit-prop, le_prop}
+use Rattle.std.specs.Coded.{le_prop}
+use mathlib.Core.HLevel.{Unit-prop}
+use denote.Struct.Props as logic
 use Rattle.regress_meaning.specs.Table.{Table}
 use Rattle.regress_meaning.specs.Pattern.{Pattern, names_of}
 use Rattle.regress_meaning.specs.Flags.{Options, is_unicode}
@@ -45,7 +47,7 @@ told-rise r up P inside (i ∷ j ∷ items) all rises =
 ItemsRise-prop : (items : List Item) → IsProp (ItemsRise items)
 ItemsRise-prop [] = Unit-prop
 ItemsRise-prop (i ∷ []) = le_prop
-ItemsRise-prop (i ∷ j ∷ items) = ×_prop le_prop (×_prop le_prop (×_prop le_prop (ItemsRise-prop (j ∷ items))))
+ItemsRise-prop (i ∷ j ∷ items) = let rest = ItemsRise-prop (j ∷ items) in Prim.hlevel (rest, logic.props)
 
 module _ (s : Sought) (all : AreOfKind s.view.kind s.view.units) (made : IsMadeOf s.compiled s.view)
     (at place : ℕ) (begins : Begins (reading_of s.view) at place) (position : Option ℕ) (starts : StartsAt s at position) where

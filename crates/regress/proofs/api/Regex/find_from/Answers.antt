@@ -1,4 +1,4 @@
-use Rattle.std.proofs.Common.{ap}
+use Rattle.std.proofs.Common.{ap, ◌∙◌}
 use Rattle.regress_engine_code.specs.Standing.{names_of}
 use Rattle.regress.specs.Coming.{sought_by, next_from}
 use Rattle.regress.proofs.IterationLemmas.{searched-along, inside-each, starts-each}
