@@ -2,8 +2,14 @@
 #![tactic(auto)]
 
 #[cfg(test)]
+mod evaluated;
+#[cfg(test)]
 mod found;
 #[cfg(test)]
 mod lists;
 #[cfg(test)]
+mod long;
+#[cfg(test)]
 mod parsed;
+#[cfg(test)]
+mod unit_lists;
