@@ -74,6 +74,21 @@ fn starts_behind(
     Ok(starts)
 }
 
+/// The units that each match takes, in units of UTF-16.
+fn unit_parts<'t>(
+    alloc: Global,
+    regex: &Regex<'_>,
+    units: &'t [u16],
+) -> Result<Vec<&'t [u16]>, Error> {
+    let mut parts = Vec::new(alloc);
+    for found in regex.find_from_utf16(units, 0)? {
+        if let Some(part) = units.get(found?.range()) {
+            parts.push(part)?;
+        }
+    }
+    Ok(parts)
+}
+
 #[test]
 fn parts_of_a_text(rt: HostRuntime) -> Result<(), Fail> {
     let tables = Tables::small(rt.alloc())?;
@@ -103,5 +118,15 @@ fn what_stands_behind_a_match(rt: HostRuntime) -> Result<(), Fail> {
     assert!(rt; found.range() == (3..5));
     let starts = starts_behind(rt.alloc(), &regex, "éaé")?;
     assert!(rt; starts.as_slice() == [Some(3), None].as_slice());
+    Ok(())
+}
+
+#[test]
+fn parts_of_units(rt: HostRuntime) -> Result<(), Fail> {
+    let tables = Tables::small(rt.alloc())?;
+    let regex = Regex::new(rt.alloc(), "[^a]", &tables)?;
+    let units = [0xD83D, 0xDE00, 0x61, 0xE9];
+    let parts = unit_parts(rt.alloc(), &regex, &units)?;
+    assert!(rt; parts.len() == 2 && parts[0] == &units[..2] && parts[1] == &units[3..]);
     Ok(())
 }

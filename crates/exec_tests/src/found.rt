@@ -1,13 +1,13 @@
-//! What the executor finds, as text.
-ghost use Rattle.std.specs.Prelude.{◌≡◌, ℕ, false, length, IfSome};
-ghost use Rattle.regress_front_nodes.specs.Trees.{Tree, tree};
+//! What the executor finds over each input, as text.
+ghost use Rattle.std.specs.Prelude.{◌≡◌, true, false, length, IfSome};
+ghost use Rattle.std.specs.Str.{IsAscii};
+ghost use Rattle.regress_front_nodes.specs.Trees.{tree};
 ghost use Rattle.regress_front_nodes.specs.WellFormed.{IsWellFormed};
 ghost use Rattle.regress_match.specs.Iterating.{producer_of, position_of};
-ghost use Rattle.regress_engine_code.specs.Layout.{IsLayout};
-ghost use Rattle.regress_engine_code.specs.Standing.{target_of};
 
-use regress_engine_code::{CompiledRegex, emit};
+use regress_engine_code::{CompiledRegex, emit, emit_units};
 use regress_engine_exec::BacktrackExecutor;
+use regress_engine_input::{AsciiInput, Ucs2Input, Utf16Input};
 use regress_front_nodes::ir::Regex;
 use regress_front_tables::Error;
 use regress_match::{MatchProducer, Matches};
@@ -48,10 +48,49 @@ fn over_utf8<'r>(
     program: &'r CompiledRegex<'r>,
     text: &'r str,
 ) -> Result<Option<String>, AllocError>
-    requires laid { (n : ℕ) × (t : Tree) × IsWellFormed n t × IsLayout (target_of program.now) n t }
     requires bytes { program.now.units ≡ false }
 {
     let executor = BacktrackExecutor::new(alloc, program, text);
+    listed(alloc, Matches::new(executor, 0))
+}
+
+/// All matches of a program of bytes in a text of ASCII.
+fn over_ascii<'r>(
+    alloc: Global,
+    program: &'r CompiledRegex<'r>,
+    text: &'r str,
+) -> Result<Option<String>, AllocError>
+    requires bytes { program.now.units ≡ false }
+    requires ascii { IsAscii text.now }
+{
+    let input = AsciiInput::new(text, program.flags().is_unicode(), program.tables());
+    let executor = BacktrackExecutor::with_input(alloc, program, input);
+    listed(alloc, Matches::new(executor, 0))
+}
+
+/// All matches of a program of units in units of UTF-16.
+fn over_utf16<'r>(
+    alloc: Global,
+    program: &'r CompiledRegex<'r>,
+    units: &'r [u16],
+) -> Result<Option<String>, AllocError>
+    requires units { program.now.units ≡ true }
+{
+    let input = Utf16Input::new(units, program.flags().is_unicode(), program.tables());
+    let executor = BacktrackExecutor::with_input(alloc, program, input);
+    listed(alloc, Matches::new(executor, 0))
+}
+
+/// All matches of a program of units in units of which each is a character.
+fn over_ucs2<'r>(
+    alloc: Global,
+    program: &'r CompiledRegex<'r>,
+    units: &'r [u16],
+) -> Result<Option<String>, AllocError>
+    requires units { program.now.units ≡ true }
+{
+    let input = Ucs2Input::new(units, program.flags().is_unicode(), program.tables());
+    let executor = BacktrackExecutor::with_input(alloc, program, input);
     listed(alloc, Matches::new(executor, 0))
 }
 
@@ -61,4 +100,27 @@ pub(crate) fn in_utf8(alloc: Global, regex: &Regex<'_>, text: &str) -> Result<St
 {
     let program = emit(alloc, regex)?;
     whole(over_utf8(alloc, &program, text)?)
+}
+
+/// All matches of a tree in a text of ASCII.
+pub(crate) fn in_ascii(alloc: Global, regex: &Regex<'_>, text: &str) -> Result<String, Error>
+    requires well_formed { IsWellFormed (length regex.now.group_names.items) (tree regex.now.node) }
+    requires ascii { IsAscii text.now }
+{
+    let program = emit(alloc, regex)?;
+    whole(over_ascii(alloc, &program, text)?)
+}
+
+/// All matches of a tree in units: of UTF-16, and where each unit is a character.
+pub(crate) fn in_units(
+    alloc: Global,
+    regex: &Regex<'_>,
+    units: &[u16],
+) -> Result<(String, String), Error>
+    requires { IsWellFormed (length regex.now.group_names.items) (tree regex.now.node) }
+{
+    let program = emit_units(alloc, regex)?;
+    let in_pairs = whole(over_utf16(alloc, &program, units)?)?;
+    let alone = whole(over_ucs2(alloc, &program, units)?)?;
+    Ok((in_pairs, alone))
 }

@@ -2,8 +2,12 @@
 #![tactic(auto)]
 
 #[cfg(test)]
+mod evaluated;
+#[cfg(test)]
 mod found;
 #[cfg(test)]
 mod lists;
+#[cfg(test)]
+mod long;
 #[cfg(test)]
 mod parsed;

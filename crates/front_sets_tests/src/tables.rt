@@ -437,3 +437,51 @@ fn a_set_is_closed(rt: HostRuntime) -> Result<(), Fail> {
     );
     Ok(())
 }
+
+/// The first and the last code point of an interval, and the ends of the intervals of its closure in Unicode mode.
+const CLOSURES: &[(CodePoint, CodePoint, &[(CodePoint, CodePoint)])] = &[
+    (0, CODE_POINT_MAX, &[(0, CODE_POINT_MAX)]),
+    (
+        0x100,
+        CODE_POINT_MAX,
+        &[
+            (0x4B, 0x4B),
+            (0x53, 0x53),
+            (0x6B, 0x6B),
+            (0x73, 0x73),
+            (0x100, CODE_POINT_MAX),
+        ],
+    ),
+    (
+        0x3B8,
+        0x3B8,
+        &[
+            (0x398, 0x398),
+            (0x3B8, 0x3B8),
+            (0x3D1, 0x3D1),
+            (0x3F4, 0x3F4),
+        ],
+    ),
+    (0xFF, 0x180, &[(0x53, 0x53), (0x73, 0x73), (0xFF, 0x180)]),
+    (0x2000, 0x20FF, &[(0x2000, 0x20FF)]),
+];
+
+/// Whether a set has exactly the intervals with these ends.
+fn has_ends(set: &CodePointSet, expected: &[(CodePoint, CodePoint)]) -> bool {
+    let mut pairs = set.intervals().iter().zip(expected);
+    set.intervals().len() == expected.len() && pairs.all(|(i, e)| i.first == e.0 && i.last == e.1)
+}
+
+#[test]
+fn intervals_are_closed(rt: HostRuntime) -> Result<(), Fail> {
+    let tables = Tables::small(rt.alloc())?;
+    for (row, (first, last, expected)) in CLOSURES.iter().enumerate() {
+        let last = CODE_POINT_MAX.min(*last);
+        let first = last.min(*first);
+        let mut set = CodePointSet::new(rt.alloc());
+        set.add(Interval { first, last })?;
+        let closed = closure(set, true, &tables)?;
+        expect(has_ends(&closed, expected), row)?;
+    }
+    Ok(())
+}

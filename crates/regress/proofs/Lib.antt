@@ -1,7 +1,11 @@
 pub mod IterationLemmas
-pub mod ShownLemmas
 pub mod RisingLemmas
 pub mod ReplacingLemmas
 pub mod LawLemmas
 pub mod AskingLemmas
 pub mod SplittingLemmas
+pub mod ProgramLemmas
+pub mod ShownLemmas
+pub mod ListedLemmas
+pub mod StepLemmas
+pub mod UnitLemmas

@@ -1,57 +1,47 @@
 -- The matches that an iterator has still to yield, and what a caller may do with each.
-use Rattle.std.specs.Prelude.{◌≡◌, ℕ, List, Option, Some, Result, Ok}
-use Rattle.std.specs.Arc.{arc_value}
+use Rattle.std.specs.Prelude.{◌≡◌, ℕ, List, Option, Some, None, Result, Ok}
 use Rattle.std.specs.Iterator.{Yields}
-use Rattle.regress_meaning.specs.Flags.{is_unicode}
 use Rattle.regress_meaning.specs.Matches.{Item}
 use Rattle.regress_meaning.specs.Offsets.{of_utf8, Begins}
 use Rattle.regress_front_core.specs.declared.error.Error.{Error}
-use Rattle.regress_front.specs.FlagWords.{options}
-use Rattle.regress_front.specs.TableViews.{table}
 use Rattle.regress_match.specs.declared.found.Match.{Match}
-use Rattle.regress_match.specs.GroupNames.{shared_names}
-use Rattle.regress_match.specs.Iterating as iterating
-use Rattle.regress_match.specs.Iterating.{coming_on, steps_on, producer_of, position_of}
-use Rattle.regress_evaluator.specs.declared.search.CompiledPattern.{CompiledPattern}
-use Rattle.regress_evaluator.specs.declared.search.Search.{Search}
-use Rattle.regress_evaluator.specs.Searching.{pattern_of, items_from, places_behind}
-use Rattle.regress.specs.declared.api.Regex.{Regex}
+use Rattle.regress_match.specs.Iterating.{coming_on, steps_on}
+use Rattle.regress_engine_input.specs.InputViews.{utf8_view}
+use Rattle.regress_engine_code.specs.Standing.{names_of}
+use Rattle.regress_engine_exec.specs.Sought.{Sought, items_from, places_behind}
 use Rattle.regress.specs.declared.matches.Matches.{Matches}
 
--- What is sought is the pattern that a regex holds.
-pub record IsPatternOf (r : Regex) (pattern : CompiledPattern) : Type 0 where
-  pub node : pattern.node.now ≡ arc_value r.node
-  pub tables : table pattern.tables.now ≡ table r.tables.now
-  pub unicode : pattern.unicode ≡ is_unicode (options r.flags)
-  pub names : pattern.group_names.now ≡ r.group_names
+-- what is sought, and in what text
+abbrev pub sought_by : Matches → Sought
+sought_by ms = record {
+  compiled = ms.executor.subject.program.now;
+  view = utf8_view ms.executor.subject.input;
+  sought = ms.executor.subject.sought;
+}
 
--- what finds the matches
-abbrev pub search_of : Matches → Search
-search_of ms = producer_of ms.inner
-
--- the place from which the next search goes, and none where the iterator has ended
-abbrev pub place_of : Matches → Option ℕ
-place_of ms = position_of ms.inner
+-- the offset from which the next search goes, and none where the iterator has ended
+abbrev pub next_from : Matches → Option ℕ
+next_from ms = ms.position
 
 -- The bytes of the text that is searched.
 abbrev pub searched : Matches → List ℕ
-searched ms = ms.source.now
+searched ms = (sought_by ms).view.units
 
 -- The names of the groups of the pattern that is sought, as bytes of UTF-8.
 abbrev pub sought_names : Matches → List (List ℕ)
-sought_names ms = shared_names (pattern_of (search_of ms)).group_names.now
+sought_names ms = names_of (sought_by ms).compiled
 
 -- The items that are still to come, told in bytes.
 abbrev pub coming : Matches → List Item
-coming ms = coming_on (items_from (search_of ms)) (place_of ms)
+coming ms = coming_on (items_from (sought_by ms)) (next_from ms)
 
 -- how many steps there may be up to the end
 abbrev pub steps_left : Matches → ℕ
-steps_left ms = steps_on (places_behind (search_of ms)) (place_of ms)
+steps_left ms = steps_on (places_behind (sought_by ms)) (next_from ms)
 
 -- The search is over.
 abbrev pub HasEnded : Matches → Type 0
-HasEnded ms = iterating.HasEnded ms.inner
+HasEnded ms = next_from ms ≡ None
 
 -- A search in the text may begin at the offset.
 abbrev pub IsStart : List ℕ → ℕ → Type 0
@@ -61,7 +51,8 @@ IsStart bytes at = (place : ℕ) × Begins (of_utf8 bytes) at place
 abbrev pub BeginsAndEndsAtStarts : List ℕ → Match → Type 0
 BeginsAndEndsAtStarts bytes m = IsStart bytes m.range.start × IsStart bytes m.range.end
 
--- The fact holds of each match that calls from here on give.
-abbrev pub HoldsOfEach : (Matches → Option (Result Match Error) → Matches → Type 0) → (Match → Type 0) → Matches → Type 0
-HoldsOfEach next_gives Q ms = (given : List (Result Match Error)) (old new : Matches) (r : Option (Result Match Error)) (m : Match)
-    → Yields next_gives ms given old → next_gives old r new → r ≡ Some (Ok m) → Q m
+module _ {S : Type 0} where
+  -- The fact holds of each match that calls from here on give.
+  abbrev pub HoldsOfEach : (S → Option (Result Match Error) → S → Type 0) → (Match → Type 0) → S → Type 0
+  HoldsOfEach next_gives Q ms = (given : List (Result Match Error)) (old new : S) (r : Option (Result Match Error)) (m : Match)
+      → Yields next_gives ms given old → next_gives old r new → r ≡ Some (Ok m) → Q m

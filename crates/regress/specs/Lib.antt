@@ -1,7 +1,11 @@
 pub mod Texts
+pub mod Programs
+pub mod Seeking
+pub mod Refusing
+pub mod Positions
 pub mod Standing
 pub mod Coming
 pub mod Answering
 pub mod Behind
 pub mod Splitting
-pub mod Refusing
+pub mod Units

@@ -1,6 +1,29 @@
--- Errors of compiling, apart.
+-- Why a pattern is not compiled.
+use Rattle.std.specs.Prelude.{ℕ, Bool, List}
+use Rattle.regress_meaning.specs.Table.{Table}
+use Rattle.regress_meaning.specs.Flags.{Options, is_unicode}
+use Rattle.regress_meaning.specs.Pattern.{Pattern}
 use Rattle.regress_front_core.specs.declared.error.Error.{Error}
-use Rattle.regress_front_core.specs.declared.error.Error.TheVariants.{Syntax}
+use Rattle.regress_front_core.specs.declared.error.Error.TheVariants.{Syntax, TooLarge}
+use Rattle.regress_front.specs.Refusals as reading
+use Rattle.regress_front.specs.Trees.{Tree}
+use Rattle.regress_front.specs.Sizes.{loops}
+use Rattle.regress_engine_code.specs.Counts.{count}
+use Rattle.regress_engine_code.specs.Written.{AreTooMany}
+use Rattle.regress.specs.Programs.{IsTreeFor}
+
+-- A program of the pattern that the text spells, in bytes or in units, passes its count of instructions or of loops.
+pub record PassesCount (table : Table) (o : Options) (text : List ℕ) : Type 0 where
+  pub pattern : Pattern
+  pub node : Tree
+  pub units : Bool
+  pub of_text : IsTreeFor table o text pattern node
+  pub many : AreTooMany (count units table (is_unicode o) node) (loops node)
+
+-- A refusal that a pattern may meet when it is compiled: one of its reading, or that a program of it passes its count.
+abbrev pub MayRefuseRegex : Table → Options → List ℕ → Error → Type 0
+MayRefuseRegex table o text TooLarge = PassesCount table o text
+MayRefuseRegex table o text e = reading.MayRefuse table o text e
 
 -- the error does not say that a text is no pattern
 abbrev pub IsNoSyntaxError : Error → Type 0

@@ -1,26 +1,25 @@
 -- What a compiled pattern stands for.
-use Rattle.std.specs.Prelude.{◌≡◌, ℕ, List, map, chars}
-use Rattle.std.specs.Arc.{arc_value, arc_str_bytes}
+use Rattle.std.specs.Prelude.{ℕ, List}
+use Rattle.std.specs.Arc.{arc_str_bytes}
 use Rattle.regress_meaning.specs.Table.{Table}
-use Rattle.regress_meaning.specs.Pattern.{Pattern, names_of}
-use Rattle.regress_meaning.specs.Flags.{Options, is_unicode, first_settings}
-use Rattle.regress_meaning.specs.Meaning.{Forward, outcomes}
-use Rattle.regress_front.specs.TableViews.{table}
-use Rattle.regress_front.specs.FlagWords.{options}
-use Rattle.regress_front.specs.Trees.{tree}
-use Rattle.regress_front.specs.TreeMeaning.{node_outcomes}
-use Rattle.regress_front.specs.Alike.{IsAlike}
+use Rattle.regress_meaning.specs.Pattern.{Pattern}
+use Rattle.regress_meaning.specs.Flags.{Options}
+use Rattle.regress_engine_code.specs.Standing.{names_of}
 use Rattle.regress.specs.declared.api.Regex.{Regex}
-use Rattle.regress_match.specs.GroupNames.{shared_names}
+use Rattle.regress.specs.Programs.{IsProgramOf}
 
 -- the bytes of the pattern's text
 abbrev pub source_of : Regex → List ℕ
 source_of r = arc_str_bytes r.source
 
--- The compiled pattern stands for the tree, under this table and these options: its groups have the
--- same names, and it is alike it.
-pub record StandsFor (r : Regex) (t : Table) (o : Options) (p : Pattern) : Type 0 where
-  pub tables : table r.tables.now ≡ t
-  pub flags : options r.flags ≡ o
-  pub names : map chars (shared_names r.group_names) ≡ names_of p
-  pub alike : IsAlike t (is_unicode o) (λ context. node_outcomes context (tree (arc_value r.node)) Forward) (λ context. outcomes context p Forward (first_settings o))
+-- the names of its groups by their numbers, as bytes of UTF-8
+abbrev pub names_of_regex : Regex → List (List ℕ)
+names_of_regex r = names_of r.compiled.byte_program
+
+-- The compiled pattern stands for the tree in texts, under this table and these options: its program of bytes is the tree's.
+abbrev pub StandsFor : Regex → Table → Options → Pattern → Type 0
+StandsFor r t o p = IsProgramOf r.compiled.byte_program t o p
+
+-- The compiled pattern stands for the tree in 16-bit units: its program of units is the tree's.
+abbrev pub StandsInUnits : Regex → Table → Options → Pattern → Type 0
+StandsInUnits r t o p = IsProgramOf r.compiled.unit_program t o p

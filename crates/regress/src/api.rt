@@ -1,6 +1,6 @@
 //! The user's calls.
 ghost use Rattle.std.specs.Iterator.{HoldsAfterAnyCalls};
-ghost use Rattle.std.specs.Prelude.{◌≡◌, ◌≤◌, ◌↔◌, ℕ, All, IsTrue, IfOk, IfErr, IfSome, Err, IsOkUnless, IsCharBoundary, chars, length, map, slice_get, option_map};
+ghost use Rattle.std.specs.Prelude.{◌≡◌, ◌≢◌, ◌≤◌, ◌↔◌, ℕ, false, All, IsTrue, IfOk, IfErr, IfSome, Some, Err, IsOkUnless, IsCharBoundary, chars, length, map, slice_get, option_map};
 ghost use Rattle.regress_meaning.specs.Table.{Table};
 ghost use Rattle.regress_meaning.specs.Pattern.{Pattern};
 ghost use Rattle.regress_meaning.specs.Flags.{Options, no_flags};
@@ -12,15 +12,16 @@ ghost use Rattle.regress_meaning.specs.Offsets.{of_utf8, told, Begins};
 ghost use Rattle.regress_front.specs.TableViews.{table};
 ghost use Rattle.regress_match.specs.Views.{item_of};
 ghost use Rattle.regress_front.specs.FlagWords.{options};
-ghost use Rattle.regress_front.specs.Refusals.{MayRefuse};
+ghost use Rattle.regress.specs.Refusing.{MayRefuseRegex};
 ghost use Rattle.regress.specs.Texts.{shown_text};
 
+use crate::compiled::Compiled;
 use crate::matches::Matches;
 use crate::text::{code_points, text_of};
-use regress_front::{CaptureGroupName, Error, Flags, Node, Tables, try_parse};
+use regress_front::{Error, Flags, Tables};
 use regress_match::Match;
 use std::alloc::Global;
-use std::sync::{Arc, ArcSlice, ArcStr};
+use std::sync::ArcStr;
 
 /// Whether a search in `text` may begin at `start`, an offset in bytes: at a boundary between characters, or past the end.
 ///
@@ -37,17 +38,13 @@ pub fn is_start(text: &str, start: usize) -> bool
 #[derive(Debug, Drop)]
 pub struct Regex<'u> {
     pub(crate) alloc: Global,
-    pub(crate) tables: &'u Tables,
-    pub(crate) flags: Flags,
     pub(crate) source: ArcStr,
-    pub(crate) node: Arc<Node>,
-    pub(crate) group_names: ArcSlice<CaptureGroupName>,
+    pub(crate) compiled: Compiled<'u>,
 }
 
 impl<'u> Regex<'u> {
-    ghost use Rattle.regress.specs.Standing.{StandsFor, source_of};
+    ghost use Rattle.regress.specs.Standing.{StandsFor, StandsInUnits, source_of, names_of_regex};
     ghost use Rattle.regress.specs.Coming.{searched, sought_names, coming, BeginsAndEndsAtStarts, HoldsOfEach};
-    ghost use Rattle.regress_match.specs.GroupNames.{shared_names};
     ghost use Rattle.regress_match.specs.GroupViews.{names_of_match};
     ghost use Rattle.regress_match.specs.TextRanges.{LiesBetween, LiesInText};
 
@@ -59,9 +56,10 @@ impl<'u> Regex<'u> {
     /// let regex = Regex::new(alloc, "a+b", &tables)?;
     /// ```
     pub fn new(alloc: Global, pattern: &str, tables: &'u Tables) -> Result<Regex<'u>, Error>
-        ensures accepted { IfOk result (λ r. (p : Pattern) × Spells (table tables.now) no_flags (chars pattern.now) p × WithinLimits p × StandsFor r (table tables.now) no_flags p) }
+        ensures accepted { IfOk result (λ r. (p : Pattern) × Spells (table tables.now) no_flags (chars pattern.now) p × WithinLimits p × StandsFor r (table tables.now) no_flags p × StandsInUnits r (table tables.now) no_flags p) }
         ensures text { IfOk result (λ r. source_of r ≡ pattern.now) }
-        ensures refused { IfErr result (MayRefuse (table tables.now) no_flags (chars pattern.now)) }
+        ensures refused { IfErr result (MayRefuseRegex (table tables.now) no_flags (chars pattern.now)) }
+        ensures fits { length (chars pattern.now) ≤ 10000 → IfErr result (λ e. e ≢ Error.TooLarge) }
     {
         Regex::with_flags(alloc, pattern, Flags::default(), tables)
     }
@@ -69,7 +67,8 @@ impl<'u> Regex<'u> {
     /// Compiles a pattern under flags ("RegExpInitialize").
     ///
     /// Answers a `Regex` for the tree that the pattern spells. Refused as `Syntax` where the text spells no tree, under the
-    /// name of a limit that it passes, and as `OutOfMemory`.
+    /// name of a limit that it passes, as `TooLarge` where a program of it has more than 2^32 - 1 instructions, which without
+    /// `v` no pattern of at most 10000 characters has, and as `OutOfMemory`.
     ///
     /// ```rust
     /// let regex = Regex::with_flags(alloc, "a+b", Flags::from("im"), &tables)?;
@@ -80,9 +79,10 @@ impl<'u> Regex<'u> {
         flags: Flags,
         tables: &'u Tables,
     ) -> Result<Regex<'u>, Error>
-        ensures accepted { IfOk result (λ r. (p : Pattern) × Spells (table tables.now) (options flags) (chars pattern.now) p × WithinLimits p × StandsFor r (table tables.now) (options flags) p) }
+        ensures accepted { IfOk result (λ r. (p : Pattern) × Spells (table tables.now) (options flags) (chars pattern.now) p × WithinLimits p × StandsFor r (table tables.now) (options flags) p × StandsInUnits r (table tables.now) (options flags) p) }
         ensures text { IfOk result (λ r. source_of r ≡ pattern.now) }
-        ensures refused { IfErr result (MayRefuse (table tables.now) (options flags) (chars pattern.now)) }
+        ensures refused { IfErr result (MayRefuseRegex (table tables.now) (options flags) (chars pattern.now)) }
+        ensures fits { (options flags).sets ≡ false → length (chars pattern.now) ≤ 10000 → IfErr result (λ e. e ≢ Error.TooLarge) }
     {
         let points = code_points(alloc, pattern)?;
         Regex::from_unicode(alloc, &points, flags, tables)
@@ -103,21 +103,17 @@ impl<'u> Regex<'u> {
         tables: &'u Tables,
     ) -> Result<Regex<'u>, Error>
         requires { All (λ c. c ≤ 0x10_FFFF) points.now }
-        ensures accepted { IfOk result (λ r. (p : Pattern) × Spells (table tables.now) (options flags) points.now p × WithinLimits p × StandsFor r (table tables.now) (options flags) p) }
+        ensures accepted { IfOk result (λ r. (p : Pattern) × Spells (table tables.now) (options flags) points.now p × WithinLimits p × StandsFor r (table tables.now) (options flags) p × StandsInUnits r (table tables.now) (options flags) p) }
         ensures text { IfOk result (λ r. source_of r ≡ shown_text points.now) }
-        ensures refused { IfErr result (MayRefuse (table tables.now) (options flags) points.now) }
+        ensures refused { IfErr result (MayRefuseRegex (table tables.now) (options flags) points.now) }
+        ensures fits { (options flags).sets ≡ false → length points.now ≤ 10000 → IfErr result (λ e. e ≢ Error.TooLarge) }
     {
         let source = ArcStr::from_string(text_of(alloc, points)?)?;
-        let tree = try_parse(alloc, points, flags, tables)?;
-        let node = Arc::new(alloc, tree.node)?;
-        let group_names = ArcSlice::from_vec(tree.group_names)?;
+        let compiled = Compiled::new(alloc, points, flags, tables)?;
         Ok(Regex {
             alloc,
-            tables,
-            flags,
             source,
-            node,
-            group_names,
+            compiled,
         })
     }
 
@@ -134,7 +130,7 @@ impl<'u> Regex<'u> {
         ensures inside { IfOk result (λ found. IfSome found (λ m. (m.range.start ≤ m.range.end) × IsCharBoundary text.now m.range.start × IsCharBoundary text.now m.range.end)) }
         ensures groups_inside { IfOk result (λ found. IfSome found (λ m. All (λ g. IfSome g (LiesBetween text.now)) m.captures.items)) }
         ensures starts { IfOk result (λ found. IfSome found (BeginsAndEndsAtStarts text.now)) }
-        ensures named { IfOk result (λ found. IfSome found (λ m. names_of_match m ≡ shared_names self.now.group_names)) }
+        ensures named { IfOk result (λ found. IfSome found (λ m. names_of_match m ≡ names_of_regex self.now)) }
         ensures refused { IsOkUnless result Error.OutOfMemory }
     {
         self.find_iter(text)?.next().transpose()
@@ -157,7 +153,7 @@ impl<'u> Regex<'u> {
         ensures inside { IfOk result (HoldsOfEach ⟦<Matches<'r, 't> as Iterator>⟧.next_gives (LiesInText text.now)) }
         ensures starts { IfOk result (HoldsOfEach ⟦<Matches<'r, 't> as Iterator>⟧.next_gives (BeginsAndEndsAtStarts text.now)) }
         ensures rise { IfOk result (λ ms. ItemsRise (coming ms)) }
-        ensures named { IfOk result (λ ms. sought_names ms ≡ shared_names self.now.group_names) }
+        ensures named { IfOk result (λ ms. sought_names ms ≡ names_of_regex self.now) }
         ensures refused { IsOkUnless result Error.OutOfMemory }
     {
         self.find_from(text, 0)
@@ -185,9 +181,9 @@ impl<'u> Regex<'u> {
         ensures inside { IfOk result (HoldsOfEach ⟦<Matches<'r, 't> as Iterator>⟧.next_gives (LiesInText text.now)) }
         ensures starts { IfOk result (HoldsOfEach ⟦<Matches<'r, 't> as Iterator>⟧.next_gives (BeginsAndEndsAtStarts text.now)) }
         ensures rise { IfOk result (λ ms. ItemsRise (coming ms)) }
-        ensures named { IfOk result (λ ms. sought_names ms ≡ shared_names self.now.group_names) }
+        ensures named { IfOk result (λ ms. sought_names ms ≡ names_of_regex self.now) }
         ensures refused { IsOkUnless result Error.OutOfMemory }
     {
-        Matches::new(self, text, start)
+        Ok(Matches::new(self, text, start))
     }
 }

@@ -5,13 +5,12 @@ ghost use Rattle.regress_meaning.specs.Pattern.{Pattern};
 ghost use Rattle.regress_meaning.specs.Flags.{Options};
 ghost use Rattle.regress_meaning.specs.Matches.{match_list};
 ghost use Rattle.regress_meaning.specs.Offsets.{of_utf8, Begins};
-ghost use Rattle.regress_match.specs.GroupNames.{shared_names};
-ghost use Rattle.regress.specs.Standing.{StandsFor, source_of};
+ghost use Rattle.regress.specs.Standing.{StandsFor, StandsInUnits, source_of, names_of_regex};
 
 use crate::api::Regex;
 use regress_front::{CaptureGroupName, Error};
 use std::fmt;
-use std::sync::{Arc, ArcStr};
+use std::sync::ArcStr;
 
 impl<'u> Regex<'u> {
     /// Whether there is a match in a text ("RegExp.prototype.test"). Errs with `OutOfMemory` alone.
@@ -51,9 +50,9 @@ impl<'u> Regex<'u> {
     /// let names = regex.group_names(); // for `(?<year>\d+)-(\d+)` it is `["year", ""]`
     /// ```
     pub fn group_names(&self) -> &[CaptureGroupName]
-        ensures { map string_bytes result.now ≡ shared_names self.now.group_names }
+        ensures { map string_bytes result.now ≡ names_of_regex self.now }
     {
-        &self.group_names
+        self.compiled.byte_program.group_names()
     }
 
     /// How many groups a match has, the whole match among them: as many as `Match::groups` gives.
@@ -62,33 +61,30 @@ impl<'u> Regex<'u> {
     /// let count = regex.captures_len(); // for `(?<year>\d+)-(\d+)` it is 3
     /// ```
     pub fn captures_len(&self) -> usize
-        ensures { result ≡ length (shared_names self.now.group_names) + 1 }
+        ensures { result ≡ length (names_of_regex self.now) + 1 }
     {
-        self.group_names.len() + 1
+        self.group_names().len() + 1
     }
 
-    /// The same regex once more: it stands for the same pattern, and has the same text. What was compiled is shared, not copied.
-    /// Errs with `OutOfMemory` alone.
+    /// The same regex once more: it stands for the same pattern, and has the same text. Errs with
+    /// `OutOfMemory` alone.
     ///
     /// ```rust
     /// let copy = regex.try_clone()?;
     /// ```
     pub fn try_clone(&self) -> Result<Regex<'u>, Error>
         ensures stands { (t : Table) → (o : Options) → (p : Pattern) → StandsFor self.now t o p → IfOk result (λ r. StandsFor r t o p) }
-        ensures named { IfOk result (λ r. shared_names r.group_names ≡ shared_names self.now.group_names) }
+        ensures stands_in_units { (t : Table) → (o : Options) → (p : Pattern) → StandsInUnits self.now t o p → IfOk result (λ r. StandsInUnits r t o p) }
+        ensures named { IfOk result (λ r. names_of_regex r ≡ names_of_regex self.now) }
         ensures text { IfOk result (λ r. source_of r ≡ source_of self.now) }
         ensures refused { IsOkUnless result Error.OutOfMemory }
     {
         let source: ArcStr = self.source.clone()?;
-        let node = Arc::try_clone(&self.node)?;
-        let group_names = self.group_names.clone()?;
+        let compiled = self.compiled.try_clone(self.alloc)?;
         Ok(Regex {
             alloc: self.alloc,
-            tables: self.tables,
-            flags: self.flags,
             source,
-            node,
-            group_names,
+            compiled,
         })
     }
 

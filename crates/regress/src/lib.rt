@@ -5,12 +5,15 @@
 
 mod api;
 mod asking;
+mod compiled;
 mod laws;
 mod matches;
+mod programs;
 mod refusing;
 mod replacing;
 mod splitting;
 mod text;
+mod units;
 
 pub use api::{Regex, is_start};
 pub use laws::{
@@ -19,6 +22,8 @@ pub use laws::{
 };
 pub use matches::Matches;
 pub use refusing::{SyntaxError, syntax_error};
+pub use regress_engine_code::CompiledRegex;
+pub use regress_engine_input::{is_unit_start, is_well_formed_utf16};
 pub use regress_front::{
     CodePoint, Error, Flags, Interval, TableError, TableLaw, TableParts, Tables, are_code_points,
     flags_are_read_back,
@@ -26,3 +31,4 @@ pub use regress_front::{
 pub use regress_match::{Groups, Match, NamedGroups, Range};
 pub use regress_replacing::escape;
 pub use splitting::{Split, SplitN};
+pub use units::{Ucs2Matches, Utf16Matches};

@@ -1,48 +1,48 @@
 //! The matches of a compiled pattern in a text.
-ghost use Rattle.std.specs.Prelude.{◌≡◌, chars, encode_utf8_all, IfOk, IsOkUnless};
+ghost use Rattle.std.specs.Prelude.{ℕ};
 ghost use Rattle.std.specs.Iterator.{at_most};
-ghost use Rattle.regress_evaluator.specs.Searching.{pattern_of, points_of, StartsAt};
-ghost use Rattle.regress_match.specs.Iterating.{producer_of, position_of, GivesMatch};
+ghost use Rattle.regress_meaning.specs.Offsets.{of_utf8, Begins};
+ghost use Rattle.regress_engine_input.specs.InputViews.{utf8_view};
+ghost use Rattle.regress_engine_exec.specs.Sought.{StartsAt};
+ghost use Rattle.regress_match.specs.Iterating.{GivesMatch};
 ghost use Rattle.regress_match.specs.TextRanges.{IsMatchIn};
+ghost use Rattle.regress.specs.Positions.{IsPlaced, IsPlaced-prop};
 
 use crate::api::Regex;
-use regress_evaluator::{CompiledPattern, Search};
+use regress_engine_exec::BacktrackExecutor;
+use regress_engine_input::Utf8Input;
 use regress_front::Error;
-use regress_match::Match;
+use regress_match::{Match, MatchProducer};
 use std::iter::FusedIterator;
 
 /// The matches of a compiled pattern in a text, each after the one before: from `Regex::find_iter` and
 /// `Regex::find_from`.
 #[derive(Debug, Drop)]
 pub struct Matches<'r, 't> {
-    inner: regress_match::Matches<Search<'r>>,
-    source: &'t str,
-    ghost read: { points_of (producer_of inner) ≡ chars source.now },
-    ghost spelled: { encode_utf8_all (points_of (producer_of inner)) ≡ source.now },
+    executor: BacktrackExecutor<'r, Utf8Input<'r, 't>>,
+    position: Option<usize>,
+    ghost placed: { IsPlaced (utf8_view executor.subject.input) position } by { IsPlaced-prop (utf8_view executor.subject.input) position },
 }
 
 impl<'r, 't> Matches<'r, 't> {
-    ghost use Rattle.regress.specs.Coming.{IsPatternOf, searched, search_of, place_of};
+    ghost use Rattle.std.specs.Prelude.{◌≡◌};
+    ghost use Rattle.regress.specs.Seeking.{Seeks};
+    ghost use Rattle.regress.specs.Coming.{sought_by, next_from};
 
     /// The matches of a pattern in a text, from an offset in bytes on.
-    pub(crate) fn new(regex: &'r Regex<'r>, source: &'t str, start: usize) -> Result<Self, Error>
-        ensures over { IfOk result (λ ms. IsPatternOf regex.now (pattern_of (search_of ms)) × (searched ms ≡ source.now)) }
-        ensures begins { IfOk result (λ ms. StartsAt (search_of ms) start (place_of ms)) }
-        ensures refused { IsOkUnless result Error.OutOfMemory }
+    pub(crate) fn new(regex: &'r Regex<'r>, source: &'t str, start: usize) -> Self
+        requires { (place : ℕ) × Begins (of_utf8 source.now) start place }
+        ensures over { Seeks regex.now.compiled.byte_program source.now (sought_by result) }
+        ensures begins { StartsAt (sought_by result) start (next_from result) }
     {
-        let pattern = CompiledPattern {
-            node: &*regex.node,
-            tables: regex.tables,
-            unicode: regex.flags.is_unicode(),
-            group_names: &regex.group_names,
-        };
-        let search = Search::new(regex.alloc, pattern, source)?;
-        let inner = regress_match::Matches::new(search, start);
-        Ok(Matches { inner, source })
+        let executor = BacktrackExecutor::new(regex.alloc, &regex.compiled.byte_program, source);
+        let position = executor.initial_position(start);
+        Matches { executor, position }
     }
 }
 
 impl<'r, 't> Iterator for Matches<'r, 't> {
+    ghost use Rattle.std.specs.Prelude.{◌≡◌};
     ghost use Rattle.regress.specs.Coming.{searched, sought_names, coming, steps_left, HasEnded};
 
     type Item = Result<Match, Error>;
@@ -62,7 +62,16 @@ impl<'r, 't> Iterator for Matches<'r, 't> {
     /// let first = matches.next().transpose()?;
     /// ```
     fn next(&mut self) -> Option<Result<Match, Error>> {
-        self.inner.next()
+        let position = self.position.take()?;
+        let mut next = None;
+        match self.executor.advance(position, &mut next) {
+            Ok(Some(found)) => {
+                self.position = next;
+                Some(Ok(found))
+            }
+            Ok(None) => None,
+            Err(refused) => Some(Err(Error::from(refused))),
+        }
     }
 }
 

@@ -23,8 +23,8 @@ pub struct SyntaxError {
 
 /// What is wrong with a text that is no pattern under flags, and where, for a program that points at it ("ParsePattern").
 ///
-/// Answers `None` where the text spells a pattern within the limits, as `Regex::with_flags` accepts it, and else, where that
-/// errs with `Error::Syntax`, its text with the place. Errs with all other errors of that call.
+/// Answers `None` where the text spells a pattern within the limits, and else, where `Regex::with_flags` errs with
+/// `Error::Syntax`, its text with the place. Errs with all other errors of reading: a limit that is passed, or `OutOfMemory`.
 ///
 /// ```rust
 /// let found = syntax_error(alloc, "é)", Flags::default(), &tables)?; // `Some`, with the place 1

@@ -6,9 +6,8 @@ ghost use Rattle.regress_meaning.specs.Pattern.{Pattern};
 ghost use Rattle.regress_meaning.specs.Flags.{Options};
 ghost use Rattle.regress_meaning.specs.Matches.{match_list};
 ghost use Rattle.regress_meaning.specs.Offsets.{of_utf8, told};
-ghost use Rattle.regress_match.specs.GroupNames.{shared_names};
 ghost use Rattle.regress_replacing.specs.Replacing.{expansion, replaced};
-ghost use Rattle.regress.specs.Standing.{StandsFor};
+ghost use Rattle.regress.specs.Standing.{StandsFor, names_of_regex};
 ghost use Rattle.regress.specs.Answering.{AnswersEach, RefusesOne};
 
 use crate::api::Regex;
@@ -39,7 +38,7 @@ impl<'u> Regex<'u> {
     pub fn replace(&self, text: &str, replacement: &str) -> Result<String, Error>
         ensures replaced { (t : Table) → (o : Options) → (p : Pattern) → StandsFor self.now t o p →
             let items = take 1 (map (told (of_utf8 text.now)) (match_list t o p (chars text.now) 0)) in
-            IfOk result (λ s. string_bytes s ≡ replaced text.now items (map (expansion (shared_names self.now.group_names) replacement.now text.now) items)) }
+            IfOk result (λ s. string_bytes s ≡ replaced text.now items (map (expansion (names_of_regex self.now) replacement.now text.now) items)) }
         ensures refused { IsOkUnless result Error.OutOfMemory }
     {
         let mut written = String::new(self.alloc);
@@ -65,7 +64,7 @@ impl<'u> Regex<'u> {
     pub fn replace_all(&self, text: &str, replacement: &str) -> Result<String, Error>
         ensures replaced { (t : Table) → (o : Options) → (p : Pattern) → StandsFor self.now t o p →
             let items = map (told (of_utf8 text.now)) (match_list t o p (chars text.now) 0) in
-            IfOk result (λ s. string_bytes s ≡ replaced text.now items (map (expansion (shared_names self.now.group_names) replacement.now text.now) items)) }
+            IfOk result (λ s. string_bytes s ≡ replaced text.now items (map (expansion (names_of_regex self.now) replacement.now text.now) items)) }
         ensures refused { IsOkUnless result Error.OutOfMemory }
     {
         let read = Replacement::new(self.alloc, replacement)?;
@@ -97,11 +96,11 @@ impl<'u> Regex<'u> {
         requires { F.IsAlwaysCallable with }
         ensures replaced { (t : Table) → (o : Options) → (p : Pattern) → StandsFor self.now t o p →
             let items = take 1 (map (told (of_utf8 text.now)) (match_list t o p (chars text.now) 0)) in
-            IfOk result (λ s. (news : List (List ℕ)) × AnswersEach (FnOnceReturnsAt F.FnOnce with) (shared_names self.now.group_names) items news
+            IfOk result (λ s. (news : List (List ℕ)) × AnswersEach (FnOnceReturnsAt F.FnOnce with) (names_of_regex self.now) items news
             × (string_bytes s ≡ replaced text.now items news)) }
         ensures refused { (t : Table) → (o : Options) → (p : Pattern) → StandsFor self.now t o p →
             let items = take 1 (map (told (of_utf8 text.now)) (match_list t o p (chars text.now) 0)) in
-            IfErr result (λ e. E.from_gives Error.OutOfMemory e ⊎ RefusesOne (FnOnceReturnsAt F.FnOnce with) (shared_names self.now.group_names) items e) }
+            IfErr result (λ e. E.from_gives Error.OutOfMemory e ⊎ RefusesOne (FnOnceReturnsAt F.FnOnce with) (names_of_regex self.now) items e) }
     {
         let mut written = String::new(self.alloc);
         let Some(found) = self.find(text)? else {
@@ -130,11 +129,11 @@ impl<'u> Regex<'u> {
         requires { F.IsAlwaysCallable with }
         ensures replaced { (t : Table) → (o : Options) → (p : Pattern) → StandsFor self.now t o p →
             let items = map (told (of_utf8 text.now)) (match_list t o p (chars text.now) 0) in
-            IfOk result (λ s. (news : List (List ℕ)) × AnswersEach (FnReturnsAt F.Fn with) (shared_names self.now.group_names) items news
+            IfOk result (λ s. (news : List (List ℕ)) × AnswersEach (FnReturnsAt F.Fn with) (names_of_regex self.now) items news
             × (string_bytes s ≡ replaced text.now items news)) }
         ensures refused { (t : Table) → (o : Options) → (p : Pattern) → StandsFor self.now t o p →
             let items = map (told (of_utf8 text.now)) (match_list t o p (chars text.now) 0) in
-            IfErr result (λ e. E.from_gives Error.OutOfMemory e ⊎ RefusesOne (FnReturnsAt F.Fn with) (shared_names self.now.group_names) items e) }
+            IfErr result (λ e. E.from_gives Error.OutOfMemory e ⊎ RefusesOne (FnReturnsAt F.Fn with) (names_of_regex self.now) items e) }
     {
         let mut written = String::new(self.alloc);
         let mut behind = 0;

@@ -4,7 +4,6 @@ use Rattle.regress_front_core.specs.declared.error.Error.{Error}
 use Rattle.regress_front_tables.specs.TableViews.{table}
 use Rattle.regress_front_nodes.specs.Trees.{Tree}
 use Rattle.regress_front_nodes.specs.Sizes.{loops}
-use Rattle.regress_front_nodes.specs.WellFormed.{AreLawful}
 use Rattle.regress_front_nodes.specs.declared.node.AnchorType.{AnchorType}
 use Rattle.regress_front_nodes.specs.declared.node.AnchorType.TheVariants.{StartOfLine, EndOfLine}
 use Rattle.regress_engine_code.specs.Instructions.{Instruction, Program, line_start, line_end}
@@ -17,10 +16,6 @@ use Rattle.regress_engine_code.specs.Written.{Written, closed, Adds, AddsTree, M
 abbrev pub anchor_code : AnchorType → Bool → Instruction
 anchor_code StartOfLine multiline = line_start multiline
 anchor_code EndOfLine multiline = line_end multiline
-
--- each node of the tree is as it has to be, for some number of groups
-abbrev pub IsLawful : Tree → Type 0
-IsLawful t = (n : ℕ) × AreLawful n t
 
 -- the tree is added
 abbrev pub Emits : Emitter → (backward : Bool) → Tree → Written → Written → Type 0

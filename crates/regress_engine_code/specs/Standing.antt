@@ -10,29 +10,18 @@ use Rattle.regress_front_nodes.specs.Sizes.{loops}
 use Rattle.regress_front_nodes.specs.declared.ir.Regex.{Regex}
 use Rattle.regress_engine_code.specs.declared.compiled.CompiledRegex.{CompiledRegex}
 use Rattle.regress_engine_code.specs.Instructions.{Program, begins_loop}
-use Rattle.regress_engine_code.specs.InsnViews.{instruction}
 use Rattle.regress_engine_code.specs.Counts.{count}
 use Rattle.regress_engine_code.specs.Layout.{Target, IsLayout}
-use Rattle.regress_engine_code.specs.Written.{bracket_ends}
-use Rattle.regress_engine_code.specs.Starts.{IsSameStart}
+use Rattle.regress_engine_code.specs.Laid.{program_from, target_from}
+use Rattle.regress_engine_prefix.specs.Starts.{IsSameStart}
 
 -- what a program is to definitions
 abbrev pub program_of : CompiledRegex → Program
-program_of compiled = record {
-  instructions = map instruction compiled.insns.items;
-  brackets = map bracket_ends compiled.brackets.items;
-  loops = compiled.loops;
-  groups = compiled.groups;
-  units = compiled.units;
-}
+program_of compiled = program_from compiled.insns.items compiled.brackets.items compiled.loops compiled.groups compiled.units
 
 -- the program with what it is made for
 abbrev pub target_of : CompiledRegex → Target
-target_of compiled = record {
-  program = program_of compiled;
-  table = table compiled.tables.now;
-  unicode = is_unicode (options compiled.flags);
-}
+target_of compiled = target_from (program_of compiled) compiled.tables.now compiled.flags
 
 -- the names of its groups by their numbers, as bytes of UTF-8
 abbrev pub names_of : CompiledRegex → List (List ℕ)

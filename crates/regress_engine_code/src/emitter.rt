@@ -3,10 +3,11 @@ ghost use Rattle.std.specs.Prelude.{◌≡◌, ℕ, Bool, List, Option, None, ma
 ghost use Rattle.regress_front_core.specs.Quantifiers.{most};
 ghost use Rattle.regress_front_nodes.specs.Trees.{tree, cat_of, capture, loop, single_loop};
 ghost use Rattle.regress_front_nodes.specs.Trees as node;
+ghost use Rattle.regress_engine_prefix.specs.Prefixes.{IsLawful};
 ghost use Rattle.regress_engine_code.specs.Instructions as code;
 ghost use Rattle.regress_engine_code.specs.InsnViews.{instruction};
 ghost use Rattle.regress_engine_code.specs.Written.{written};
-ghost use Rattle.regress_engine_code.specs.Emitting.{anchor_code, IsLawful, Emits, Refuses};
+ghost use Rattle.regress_engine_code.specs.Emitting.{anchor_code, Emits, Refuses};
 
 use crate::code::Code;
 use crate::insn::{Insn, LoopFields};

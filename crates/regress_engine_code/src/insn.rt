@@ -1,11 +1,8 @@
 //! The instructions of a program.
-ghost use Rattle.std.specs.Prelude.{IfOk};
-ghost use Rattle.regress_engine_code.specs.Starts.{IsSameStart};
 
-use regress_front_bytes::{AsciiBitmap, ByteArraySet, ByteBitmap};
+use regress_front_bytes::{AsciiBitmap, ByteArraySet};
 use regress_front_core::{CaptureGroupID, LoopID, MAX_CHAR_SET_LENGTH};
 use regress_front_tables::CodePoint;
-use std::alloc::{AllocError, Global};
 
 /// At most this many bytes are compared by one instruction.
 pub const MAX_BYTE_SEQ_LENGTH: usize = 16;
@@ -150,40 +147,4 @@ pub enum Insn {
     ByteSeq16([u8; 16]),
     /// Nothing matches.
     JustFail,
-}
-
-/// Where a match may begin, told by the bytes there.
-#[derive(Debug, Drop)]
-pub enum StartPredicate {
-    /// Anywhere.
-    Arbitrary,
-    /// At this byte.
-    ByteSet1([u8; 1]),
-    /// At one of two bytes.
-    ByteSet2([u8; 2]),
-    /// At one of three bytes.
-    ByteSet3([u8; 3]),
-    /// At these bytes.
-    ByteSeq(Vec<u8>),
-    /// At one of some bytes.
-    ByteBracket(ByteBitmap),
-    /// At the start of the text alone.
-    StartAnchored,
-}
-
-impl StartPredicate {
-    /// The same start.
-    pub(crate) fn copy(&self, alloc: Global) -> Result<StartPredicate, AllocError>
-        ensures { IfOk result (IsSameStart self.now) }
-    {
-        Ok(match self {
-            StartPredicate::Arbitrary => StartPredicate::Arbitrary,
-            StartPredicate::ByteSet1(bytes) => StartPredicate::ByteSet1(*bytes),
-            StartPredicate::ByteSet2(bytes) => StartPredicate::ByteSet2(*bytes),
-            StartPredicate::ByteSet3(bytes) => StartPredicate::ByteSet3(*bytes),
-            StartPredicate::ByteSeq(bytes) => StartPredicate::ByteSeq(bytes.to_vec(alloc)?),
-            StartPredicate::ByteBracket(bitmap) => StartPredicate::ByteBracket(*bitmap),
-            StartPredicate::StartAnchored => StartPredicate::StartAnchored,
-        })
-    }
 }

@@ -4,12 +4,15 @@
 mod brackets;
 mod code;
 mod compiled;
+mod emission;
 mod emitter;
 mod insn;
 mod laws;
 mod leaves;
 mod strings;
 
-pub use compiled::{CompiledRegex, emit, emit_units};
-pub use insn::{Insn, LoopFields, MAX_BYTE_SEQ_LENGTH, StartPredicate};
+pub use compiled::CompiledRegex;
+pub use emission::{emit, emit_units};
+pub use insn::{Insn, LoopFields, MAX_BYTE_SEQ_LENGTH};
 pub use laws::layouts_are_counted;
+pub use regress_engine_prefix::StartPredicate;

@@ -1,9 +1,8 @@
 -- The items of a producer: what is found, and what comes behind it.
-use Rattle.std.specs.Prelude.{option_map, All, IfSome, nat_le, not, map}
+use Rattle.std.specs.Prelude.{map, option_map, IfSome, nat_le, not}
 use Rattle.std.specs.Bool.{then_some}
 use Rattle.std.specs.Str.{IsUtf8, IsCharBoundary}
 use Rattle.std.specs.declared.ops.Range.{Range}
-use Rattle.std.proofs.lemmas.List.Elements.{All-nil, All-cons, All-head, All-tail}
 use Rattle.std.proofs.Common.{◌≡◌, ℕ, zero, suc, ◌-◌, ◌<◌, ◌≤◌, ◌⊎◌, inl, inr, ◌==◌, Bool, true, false, List, [], ◌∷◌, length, Option, Some, None, if◌then◌else◌, refl, sym, ap, ◌∙◌, subst, arith}
 use Rattle.std.proofs.lemmas.Bool.{cases_lt, cond_both, le-leb, lt-leb}
 use Rattle.std.proofs.Math.Logic.{∥∥₁_map}
@@ -20,6 +19,7 @@ use Rattle.regress_match.specs.Views.{ends, item_of}
 use Rattle.regress_match.specs.TextRanges.{LiesBetween, LiesInText}
 use Rattle.regress_match.specs.Iterating.{coming_on}
 use Rattle.regress_match.proofs.TextLemmas.{offset-le, offset_is_boundary}
+use Rattle.regress_match.proofs.TakenLemmas.{of_groups}
 use Rattle.regress_engine_input.specs.Views.{View, Kind, utf8, ascii, utf16, ucs2, input_of_kind, AreOfKind, input_of, reading_of, reading_of_kind}
 use Rattle.regress_engine_input.proofs.KindLemmas.{tells, tells_bytes, end}
 use Rattle.regress_engine_code.specs.Instructions.{Program}
@@ -182,18 +182,8 @@ module _ (bytes : List ℕ) (utf8_text : IsUtf8 bytes) where
   between : (r : Range ℕ) → AreAtPlaces (of_utf8 bytes) (ends r) → LiesBetween bytes r
   between r inside = (inside.2, boundary r.start inside.0, boundary r.end inside.1)
 
-  group-between : (g : Option (Range ℕ)) → IfSome (option_map ends g) (AreAtPlaces (of_utf8 bytes)) → IfSome g (LiesBetween bytes)
-  group-between None inside = tt
-  group-between (Some r) inside = between r inside
-
-  groups-between : (gs : List (Option (Range ℕ))) → All (λ g. IfSome g (AreAtPlaces (of_utf8 bytes))) (map (option_map ends) gs) → All (λ g. IfSome g (LiesBetween bytes)) gs
-  groups-between [] inside = All-nil (λ g. IfSome g (LiesBetween bytes))
-  groups-between (g ∷ gs) inside =
-      All-cons (λ g. IfSome g (LiesBetween bytes)) g gs (group-between g (All-head (λ g. IfSome g (AreAtPlaces (of_utf8 bytes))) (option_map ends g) (map (option_map ends) gs) inside))
-      (groups-between gs (All-tail (λ g. IfSome g (AreAtPlaces (of_utf8 bytes))) (option_map ends g) (map (option_map ends) gs) inside))
-
   lies-in_text : (m : Match) → IsItemAtPlaces (of_utf8 bytes) (item_of m) → LiesInText bytes m
-  lies-in_text m inside = (between m.range inside.0, groups-between m.captures.items inside.1)
+  lies-in_text m inside = (between m.range inside.0, of_groups (AreAtPlaces (of_utf8 bytes)) (LiesBetween bytes) between m.captures.items inside.1)
 
 -- over UTF-8 a match lies in the text, between characters
 pub match-in_utf8 : (kind : Kind) (units : List ℕ) → kind ≡ utf8 → IsUtf8 units → (m : Match) → IsItemAtPlaces (reading_of_kind kind units) (item_of m) → LiesInText units m

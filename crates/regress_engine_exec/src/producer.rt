@@ -1,10 +1,44 @@
 //! The matches of a program in a text, one after another.
+ghost use Rattle.std.specs.Prelude.{◌≡◌, ◌<◌, None, IfOk, IfSome, OnErr};
+ghost use Rattle.regress_match.specs.Iterating.{Finds};
 ghost use Rattle.regress_engine_exec.specs.Sought.{Sought, items_from, places_behind, IsPosition, IsStart, StartsAt, IsMatchOf};
 
 use crate::search::BacktrackExecutor;
 use crate::shown::ExecutorInput;
 use regress_front_core::Error;
 use regress_match::{Match, MatchProducer};
+use std::alloc::AllocError;
+
+impl<'r, Input: ExecutorInput> BacktrackExecutor<'r, Input> {
+    /// The first match from an offset on, and in `next` the offset to go on from, as `next_match` finds them
+    /// ("RegExpBuiltinExec"). Its one error is that memory is refused.
+    ///
+    /// Asks that the offset is that of a place of the text.
+    ///
+    /// ```rust
+    /// let mut next = None;
+    /// let found = executor.advance(0, &mut next)?;
+    /// ```
+    pub fn advance(
+        &mut self,
+        position: usize,
+        next: &mut Option<usize>,
+    ) -> Result<Option<Match>, AllocError>
+        requires { IsPosition (⟦<BacktrackExecutor<'r, Input> as MatchProducer>⟧.sought self.old) position }
+        ensures kept { ⟦<BacktrackExecutor<'r, Input> as MatchProducer>⟧.sought self.new ≡ ⟦<BacktrackExecutor<'r, Input> as MatchProducer>⟧.sought self.old }
+        ensures found { IfOk result (λ found. Finds (items_from (⟦<BacktrackExecutor<'r, Input> as MatchProducer>⟧.sought self.old)) (IsMatchOf (⟦<BacktrackExecutor<'r, Input> as MatchProducer>⟧.sought self.old)) position found next.new) }
+        ensures inside { IfSome next.new (IsPosition (⟦<BacktrackExecutor<'r, Input> as MatchProducer>⟧.sought self.old)) }
+        ensures nearer { IfSome next.new (λ p. places_behind (⟦<BacktrackExecutor<'r, Input> as MatchProducer>⟧.sought self.old) p < places_behind (⟦<BacktrackExecutor<'r, Input> as MatchProducer>⟧.sought self.old) position) }
+        ensures last { OnErr result (next.new ≡ None) }
+    {
+        *next = None;
+        let Some(found) = self.find_from(position)? else {
+            return Ok(None);
+        };
+        *next = self.subject.goes_on(&found);
+        Ok(Some(found))
+    }
+}
 
 impl<'r, Input: ExecutorInput> MatchProducer for BacktrackExecutor<'r, Input> {
     type Position = usize;
@@ -36,11 +70,6 @@ impl<'r, Input: ExecutorInput> MatchProducer for BacktrackExecutor<'r, Input> {
         position: usize,
         next: &mut Option<usize>,
     ) -> Result<Option<Match>, Error> {
-        *next = None;
-        let Some(found) = self.find_from(position)? else {
-            return Ok(None);
-        };
-        *next = self.subject.goes_on(&found);
-        Ok(Some(found))
+        Ok(self.advance(position, next)?)
     }
 }

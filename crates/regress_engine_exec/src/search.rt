@@ -1,11 +1,8 @@
 //! The search for the first place from which a run has an answer.
-ghost use Rattle.std.specs.Prelude.{◌≡◌, ℕ, false, List, map, option_map, IfOk, IfSome, OnOk, IsOkUnless};
-ghost use Rattle.regress_front_nodes.specs.Trees.{Tree};
-ghost use Rattle.regress_front_nodes.specs.WellFormed.{IsWellFormed};
+ghost use Rattle.std.specs.Prelude.{◌≡◌, ℕ, false, List, map, option_map, IfOk, IfSome};
 ghost use Rattle.regress_match.specs.GroupViews.{names_of_match};
 ghost use Rattle.regress_match.specs.Views.{item_of, ends};
-ghost use Rattle.regress_engine_code.specs.Layout.{IsLayout};
-ghost use Rattle.regress_engine_code.specs.Standing.{names_of, program_of, target_of};
+ghost use Rattle.regress_engine_code.specs.Standing.{names_of, program_of};
 ghost use Rattle.regress_front_core.specs.FlagWords.{options};
 ghost use Rattle.regress_meaning.specs.Flags.{is_unicode};
 ghost use Rattle.regress_front_tables.specs.TableViews.{table};
@@ -22,7 +19,7 @@ use crate::shown::{ExecutorInput, Shown};
 use crate::subject::Subject;
 use regress_engine_code::CompiledRegex;
 use regress_engine_input::Utf8Input;
-use regress_front_core::{Error, GroupData};
+use regress_front_core::GroupData;
 use regress_match::{Match, MatchProducer, Range};
 use std::alloc::{AllocError, Global};
 
@@ -60,14 +57,13 @@ fn captures(alloc: Global, groups: &[GroupData<usize>]) -> Result<Vec<Option<Ran
 impl<'r, Input: ExecutorInput> BacktrackExecutor<'r, Input> {
     /// The executor of a program over a text.
     ///
-    /// Asks that the program is one of a tree, and made for the text: of units over UTF-16 and UCS-2, else of bytes, with the
-    /// text's tables and mode.
+    /// Asks that the program is made for the text: of units over UTF-16 and UCS-2, else of bytes, with the text's tables and
+    /// mode.
     ///
     /// ```rust
     /// let mut executor = BacktrackExecutor::with_input(alloc, &program, input);
     /// ```
     pub fn with_input(alloc: Global, program: &'r CompiledRegex<'r>, input: Input) -> Self
-        requires sought { (n : ℕ) × (t : Tree) × IsWellFormed n t × IsLayout (target_of program.now) n t }
         requires made { IsMadeOf program.now (Input.view input) }
         ensures program { (⟦<BacktrackExecutor<'r, Input> as MatchProducer>⟧.sought result).compiled ≡ program.entry.now }
         ensures text { (⟦<BacktrackExecutor<'r, Input> as MatchProducer>⟧.sought result).view ≡ Input.view input }
@@ -108,21 +104,20 @@ impl<'r, Input: ExecutorInput> BacktrackExecutor<'r, Input> {
     }
 
     /// The match at the least place from an offset on: that of the program's run from there, begun at the first instruction
-    /// with nothing set ("RegExpBuiltinExec"). `None` where no run from there on has an answer. It errs with `OutOfMemory`
-    /// alone, and may then be asked again.
+    /// with nothing set ("RegExpBuiltinExec"). `None` where no run from there on has an answer. It errs where memory is
+    /// refused alone, and may then be asked again.
     ///
     /// Asks that the offset is that of a place of the text.
     ///
     /// ```rust
     /// let found = executor.find_from(0)?;
     /// ```
-    pub fn find_from(&mut self, offset: usize) -> Result<Option<Match>, Error>
+    pub fn find_from(&mut self, offset: usize) -> Result<Option<Match>, AllocError>
         requires { IsAtPlace (reading_of (Input.view self.old.subject.input)) offset }
         ensures found { IfOk result (λ found. Finds (program_of self.old.subject.program.now) (input_of (Input.view self.old.subject.input)) offset (option_map item_of found)) }
         ensures inside { IfOk result (λ found. IfSome found (λ m. IsItemAtPlaces (reading_of (Input.view self.old.subject.input)) (item_of m))) }
         ensures named { IfOk result (λ found. IfSome found (λ m. names_of_match m ≡ names_of self.old.subject.program.now)) }
         ensures kept { self.new.subject ≡ self.old.subject }
-        ensures refused { IsOkUnless result Error.OutOfMemory }
     {
         let Some((start, end)) = self.search(offset)? else {
             return Ok(None);
@@ -136,13 +131,12 @@ impl<'r, Input: ExecutorInput> BacktrackExecutor<'r, Input> {
 impl<'r, 't> BacktrackExecutor<'r, Utf8Input<'r, 't>> {
     /// The executor of a program over a text of UTF-8, with the program's tables and mode.
     ///
-    /// Asks that the program is one of bytes, of a tree.
+    /// Asks that the program is one of bytes.
     ///
     /// ```rust
     /// let mut executor = BacktrackExecutor::new(alloc, &program, "aab");
     /// ```
     pub fn new(alloc: Global, program: &'r CompiledRegex<'r>, text: &'t str) -> Self
-        requires sought { (n : ℕ) × (t : Tree) × IsWellFormed n t × IsLayout (target_of program.now) n t }
         requires bytes { program.now.units ≡ false }
         ensures program { (⟦<BacktrackExecutor<'r, Utf8Input<'r, 't>> as MatchProducer>⟧.sought result).compiled ≡ program.entry.now }
         ensures text { (⟦<BacktrackExecutor<'r, Utf8Input<'r, 't>> as MatchProducer>⟧.sought result).view ≡ record { kind = utf8; units = text.now; table = table program.entry.now.tables.now; unicode = is_unicode (options program.entry.now.flags) } }

@@ -24,5 +24,6 @@ pub use laws::{
 pub use position::{DefPosition, IndexPosition, PositionType};
 pub use std::ops::Range;
 pub use ucs2_input::Ucs2Input;
+pub use units::{is_unit_start, is_well_formed_utf16};
 pub use utf8_input::Utf8Input;
 pub use utf16_input::Utf16Input;

@@ -1,8 +1,11 @@
 //! What stands beside an offset of 16-bit units.
-ghost use Rattle.std.specs.Prelude.{◌≡◌, ◌≤◌, true, length};
+ghost use Rattle.std.specs.Prelude.{◌≡◌, ◌≤◌, ◌↔◌, ℕ, true, not, length, IsTrue};
+ghost use Rattle.std.specs.List.{list_any};
 ghost use Rattle.regress_meaning.specs.Meaning.{Forward, Backward};
 ghost use Rattle.regress_meaning.specs.Tokens.{is_high, is_low, joined};
 ghost use Rattle.regress_meaning.specs.Inputs.{Input, single_next, utf16_next};
+ghost use Rattle.regress_meaning.specs.TableParts.{is_surrogate};
+ghost use Rattle.regress_meaning.specs.Offsets.{Begins, characters, of_utf16};
 ghost use Rattle.regress_meaning.specs.Steps.{literal, splits, unless_split};
 ghost use Rattle.regress_engine_input.specs.Views.{way};
 
@@ -169,4 +172,41 @@ pub(crate) fn outside_pair(units: &[u16], found: Option<usize>) -> Option<usize>
         Some(at) if !lies_in_pair(units, at) => Some(at),
         _ => None,
     }
+}
+
+/// Whether a search in units of UTF-16 may begin at `start`, an offset in units: not between a high unit and the low unit
+/// behind it. Past the end it may.
+///
+/// ```rust
+/// let inside = is_unit_start(&[0xD83D, 0xDE00], 1); // false: 1 stands inside a pair
+/// ```
+pub fn is_unit_start(units: &[u16], start: usize) -> bool
+    ensures { IsTrue result ↔ ((place : ℕ) × Begins (of_utf16 units.now) start place) }
+{
+    !lies_in_pair(units, start)
+}
+
+/// Whether the character is one half of a pair.
+fn is_half(c: u32) -> bool
+    ensures { result ≡ is_surrogate c }
+{
+    0xD800 <= c && c <= 0xDFFF
+}
+
+/// Whether 16-bit units are well-formed UTF-16: no high or low unit stands outside a pair.
+///
+/// ```rust
+/// let whole = is_well_formed_utf16(&[0x61, 0xD83D, 0xDE00]); // true
+/// ```
+pub fn is_well_formed_utf16(units: &[u16]) -> bool
+    ensures { result ≡ not (list_any is_surrogate (characters units.now)) }
+{
+    let mut rest = units;
+    while let Some((c, next)) = utf16_right(rest, 0) {
+        if is_half(c) {
+            return false;
+        }
+        rest = &rest[next..];
+    }
+    true
 }

@@ -3,3 +3,4 @@ pub mod NameLemmas
 pub mod TextLemmas
 pub mod RangeLemmas
 pub mod NamedLemmas
+pub mod TakenLemmas

@@ -14,7 +14,7 @@ use Rattle.regress_meaning.specs.Output.{line_of, lines_of}
 use Rattle.regress.specs.declared.api.Regex.{Regex}
 use Rattle.regress_front_core.specs.declared.flags.Flags.{Flags}
 use Rattle.regress_front.specs.FlagWords.{flags_of}
-use Rattle.regress.specs.Standing.{StandsFor}
+use Rattle.regress.specs.Standing.{StandsFor, StandsInUnits}
 use Rattle.regress_front.specs.FlagWords.{options}
 use Rattle.regress_program.specs.Running.{small, output, AppendsFront, Accepted, Searched}
 
@@ -63,7 +63,7 @@ not-text slice bytes (Some input) new r e k = (r.1, subst (λ t. ¬ IsUtf8 t) (e
 
 -- a pattern that is compiled is accepted, and the compiled pattern stands for its tree
 pub accepted : (flags pattern : List ℕ) (t : Table) (f : Flags) (r : Regex) → t ≡ small → f ≡ flags_of (chars flags)
-    → ((p : Pattern) × Spells t (options f) (chars pattern) p × WithinLimits p × StandsFor r t (options f) p)
+    → ((p : Pattern) × Spells t (options f) (chars pattern) p × WithinLimits p × StandsFor r t (options f) p × StandsInUnits r t (options f) p)
     → (a : Accepted flags pattern) × StandsFor r small (options_of (chars flags)) a.tree
 accepted flags pattern t f r same e s = let k = rw (same, e) at s in (record { tree = k.0; spelled = k.1; within = k.2 }, k.3)
 

@@ -9,7 +9,7 @@ use Rattle.std.specs.declared.io.Error as io
 use Rattle.regress_meaning.specs.Flags.{options_of}
 use Rattle.regress_front_core.specs.declared.error.Error as library
 use Rattle.regress_front_core.specs.declared.error.Error.TheVariants as library_error
-use Rattle.regress_front.specs.Refusals.{MayRefuse}
+use Rattle.regress.specs.Refusing.{MayRefuseRegex}
 use Rattle.regress_program.specs.declared.error.ToolError.{ToolError}
 use Rattle.regress_program.specs.declared.error.ToolError.TheVariants.{Pattern, Read, NotUtf8, Write, OutOfMemory}
 use Rattle.regress_program.specs.declared.words.Request.{Request}
@@ -23,7 +23,7 @@ Asks words request = IsOkAnd words (λ ws. request_of (into_iter_items ws) ≡ O
 -- What a run with these flags and this pattern does, from a source and a sink to what they are after it, and what it answers.
 pub record Runs {R W : Type 0} (left : R → Option (List ℕ)) (read_failed : R → Bool) (written : W → Option (List ℕ)) (write_failed : W → Bool) (flags pattern : List ℕ) (before after : R) (sink sink2 : W) (answer : Result (Unit {0}) ToolError) : Type 0 where
   pub ok : OnOk answer (IfSome (left before) (λ input. Searched flags pattern input (left after) (Appends (written sink) (written sink2))))
-  pub pattern_error : (e : library.Error) → IsErrOf answer (Pattern e) → MayRefuse small (options_of (chars flags)) (chars pattern) e × (e ≢ library_error.OutOfMemory) × (after ≡ before) × (sink2 ≡ sink)
+  pub pattern_error : (e : library.Error) → IsErrOf answer (Pattern e) → MayRefuseRegex small (options_of (chars flags)) (chars pattern) e × (e ≢ library_error.OutOfMemory) × (after ≡ before) × (sink2 ≡ sink)
   pub read : IsErrOf answer Read ↔ (read_failed after ≡ true)
   pub on_read : IsErrOf answer Read → Accepted flags pattern × (sink2 ≡ sink)
   pub not_utf8 : IsErrOf answer NotUtf8 → Accepted flags pattern × (sink2 ≡ sink) × IfSome (left before) (λ input. (left after ≡ Some []) × ¬ IsUtf8 input)

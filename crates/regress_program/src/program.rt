@@ -9,7 +9,7 @@ ghost use Rattle.regress_meaning.specs.Flags.{Options, options_of};
 ghost use Rattle.regress_front_core.specs.declared.error.Error as library;
 ghost use Rattle.regress_front_core.specs.declared.error.Error.TheVariants as library_error;
 ghost use Rattle.regress.specs.Standing.{StandsFor};
-ghost use Rattle.regress_front.specs.Refusals.{MayRefuse};
+ghost use Rattle.regress.specs.Refusing.{MayRefuseRegex};
 ghost use Rattle.regress_program.specs.Answering.{Asks, Runs};
 ghost use Rattle.regress_program.specs.Endings.{ending_of};
 ghost use Rattle.regress_program.specs.Words.{request_of};
@@ -91,7 +91,7 @@ pub fn run<R: Source, W: Sink>(
 
     // An error of the pattern is found first.
     ensures pattern { (e : library.Error) → IsErrOf result (ToolError.Pattern e)
-        → MayRefuse small (options_of (chars flags.now)) (chars pattern.now) e × (e ≢ library_error.OutOfMemory)
+        → MayRefuseRegex small (options_of (chars flags.now)) (chars pattern.now) e × (e ≢ library_error.OutOfMemory)
         × (source.new ≡ source.old) × (sink.new ≡ sink.old) }
 
     // Then a read that fails, and then what is not UTF-8.

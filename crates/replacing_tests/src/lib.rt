@@ -8,6 +8,8 @@ mod escaping;
 #[cfg(test)]
 mod named;
 #[cfg(test)]
+mod refused;
+#[cfg(test)]
 mod replacing;
 #[cfg(test)]
 mod splitting;

@@ -6,7 +6,7 @@ use std::alloc::Global;
 use std::test::Fail;
 
 /// The names of a match, each with its range in bytes, or `-`, parted by spaces.
-fn told(alloc: Global, found: &Match) -> Result<String, Error> {
+pub(crate) fn told(alloc: Global, found: &Match) -> Result<String, Error> {
     let mut told = String::new(alloc);
     for (name, range) in found.named_groups() {
         if !told.is_empty() {

@@ -6,4 +6,6 @@ mod case;
 #[cfg(test)]
 mod figures;
 #[cfg(test)]
+mod matching;
+#[cfg(test)]
 mod properties;

@@ -15,4 +15,4 @@ pub returns-clause-starts : goal.returns-clause-starts
 returns-clause-starts c =
     let bytes = c.args.text.now in
     rw (c.transpose.ensures)
-    (starts-given bytes c.utf8.text _ _ _ c.next.result (rw c.in_ok-find_iter.ensures.over at c.next.ensures.steps.2.first))
+    (starts-given bytes c.utf8.text _ c.in_ok-find_iter.ensures.over _ _ _ c.next.result c.next.ensures.steps.2.first)

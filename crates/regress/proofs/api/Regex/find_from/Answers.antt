@@ -1,19 +1,29 @@
-use Rattle.regress.proofs.IterationLemmas.{coming-made_or_refused, searched-along_or_refused, inside-each_or_refused, starts-each_or_refused}
-use Rattle.regress.proofs.RisingLemmas.{coming-rise_or_refused}
+use Rattle.std.proofs.Common.{ap, ◌∙◌}
+use Rattle.regress_engine_code.specs.Standing.{names_of}
+use Rattle.regress.specs.Coming.{sought_by, next_from}
+use Rattle.regress.proofs.IterationLemmas.{searched-along, inside-each, starts-each}
+use Rattle.regress.proofs.ListedLemmas.{coming-sought, sought-rises}
 use Rattle.regress.proofs.api.Regex.find_from.Goals as goal
 
 pub returns-clause-matches : goal.returns-clause-matches
 returns-clause-matches c = λ t o p stands place begins.
-    coming-made_or_refused c.new.result c.args.text.now c.args.self.now t o p c.args.start place c.utf8.text c.new.ensures.over c.new.ensures.begins stands begins
+    coming-sought (sought_by c.new.result) c.args.self.now.compiled.byte_program c.args.text.now c.new.ensures.over c.utf8.text c.args.start place begins
+    (next_from c.new.result) c.new.ensures.begins t o p stands
 
 pub returns-clause-along : goal.returns-clause-along
-returns-clause-along c = searched-along_or_refused c.new.result c.args.text.now c.args.self.now c.new.ensures.over
+returns-clause-along c = record { at = λ given now yields. searched-along c.new.result now given yields ∙ c.new.ensures.over.over }
 
 pub returns-clause-inside : goal.returns-clause-inside
-returns-clause-inside c = inside-each_or_refused c.new.result c.args.text.now c.args.self.now c.new.ensures.over
+returns-clause-inside c = inside-each c.new.result c.args.text.now c.new.ensures.over.over
 
 pub returns-clause-starts : goal.returns-clause-starts
-returns-clause-starts c = starts-each_or_refused c.new.result c.args.text.now c.args.self.now c.utf8.text c.new.ensures.over
+returns-clause-starts c = starts-each c.new.result c.args.text.now c.utf8.text c.new.ensures.over.over
 
 pub returns-clause-rise : goal.returns-clause-rise
-returns-clause-rise c = coming-rise_or_refused c.new.result
+returns-clause-rise c =
+    let (place, begins) = c.requires in
+    sought-rises (sought_by c.new.result) c.args.self.now.compiled.byte_program c.args.text.now c.new.ensures.over c.utf8.text c.args.start place begins
+    (next_from c.new.result) c.new.ensures.begins
+
+pub returns-clause-named : goal.returns-clause-named
+returns-clause-named c = ap names_of c.new.ensures.over.program

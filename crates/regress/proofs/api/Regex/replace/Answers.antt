@@ -1,7 +1,7 @@
 use Rattle.std.proofs.Common.{◌≡◌, ◌++◌, drop, slice_range, chars, string_bytes, Some, refl, ◌∙◌}
 use Rattle.regress_meaning.specs.Matches.{match_list}
 use Rattle.regress_meaning.specs.Offsets.{of_utf8, told}
-use Rattle.regress_match.specs.GroupNames.{shared_names}
+use Rattle.regress.specs.Standing.{names_of_regex}
 use Rattle.regress_match.specs.Views.{item_of}
 use Rattle.regress_replacing.specs.Replacing.{expansion}
 use Rattle.regress.proofs.ReplacingLemmas.{first-is, replaced-one, replaced-none}
@@ -20,7 +20,7 @@ returns-clause-replaced c = λ t o p stands.
     let found = rw c.in-Some.is at c.in_ok-found.ensures.found t o p stands in
     let called = rw c.in-Some.is at c.in_ok-found.ensures.named in
     let first = first-is (told (of_utf8 text)) (match_list t o p (chars text) 0) (Some m) found in
-    let new = expansion (shared_names c.args.self.now.group_names) c.args.replacement.now text (item_of m) in
+    let new = expansion (names_of_regex c.args.self.now) c.args.replacement.now text (item_of m) in
     let front : string_bytes c.push_str-2.new.self ≡ slice_range text 0 m.range.start =
     rw (c.in_ok-push_str-2.ensures.bytes, c.new-written.ensures.bytes, c.range.ensures.value, c.start.ensures) refl in
     let both : string_bytes c.write.new.written ≡ slice_range text 0 m.range.start ++ new =

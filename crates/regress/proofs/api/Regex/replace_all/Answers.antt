@@ -2,7 +2,7 @@ use Rattle.std.proofs.Common.{◌≡◌, ◌++◌, map, chars, slice_range, stri
 use Rattle.std.proofs.lemmas.Grind.{common_steps}
 use Rattle.regress_meaning.specs.Matches.{match_list}
 use Rattle.regress_meaning.specs.Offsets.{of_utf8, told}
-use Rattle.regress_match.specs.GroupNames.{shared_names}
+use Rattle.regress.specs.Standing.{names_of_regex}
 use Rattle.regress_match.specs.Views.{item_of}
 use Rattle.regress_replacing.specs.Replacing.{expansion}
 use Rattle.regress_replacing.specs.Views.{source_of}
@@ -15,14 +15,14 @@ loop-found-init c =
     let made = c.in_ok-found-items.ensures in
     record {
       behind = rw c.into_iter-found-iterator.ensures.into_iter_gives
-          (behind-start c.args.text.now (shared_names c.args.self.now.group_names) c.in_ok-found-items.found-items c.utf8.text made.over made.named made.rise);
+          (behind-start c.args.text.now (names_of_regex c.args.self.now) c.in_ok-found-items.found-items c.utf8.text made.over made.named made.rise);
       written = refl;
     }
 
 pub loop-found-preserved : goal.loop-found-preserved
 loop-found-preserved c =
     let text = c.args.text.now in
-    let names = shared_names c.args.self.now.group_names in
+    let names = names_of_regex c.args.self.now in
     let m = c.in_ok-found.found in
     let new_text = expansion names (source_of c.in_ok-read.read) text in
     let given : IsGiven text names c.loop-found.behind c.loop-found.found-iterator m c.next.new.self =
@@ -39,7 +39,7 @@ loop-found-preserved c =
 pub returns-clause-replaced : goal.returns-clause-replaced
 returns-clause-replaced c = λ t o p stands.
     let text = c.args.text.now in
-    let names = shared_names c.args.self.now.group_names in
+    let names = names_of_regex c.args.self.now in
     let new_text = expansion names (source_of c.in_ok-read.read) text in
     let left = given-none c.loop-found.found-iterator c.next.new.self c.next.result c.next.ensures.steps (grind (arith, common_steps)) in
     let items : coming c.into_iter-found-iterator.result ≡ map (told (of_utf8 text)) (match_list t o p (chars text) 0) =

@@ -3,7 +3,7 @@ use Rattle.std.proofs.lemmas.Grind.{common_steps}
 use Rattle.std.proofs.lemmas.Result.{err_from_is_err_and}
 use Rattle.regress_meaning.specs.Matches.{match_list}
 use Rattle.regress_meaning.specs.Offsets.{of_utf8, told}
-use Rattle.regress_match.specs.GroupNames.{shared_names}
+use Rattle.regress.specs.Standing.{names_of_regex}
 use Rattle.regress_match.specs.Views.{item_of}
 use Rattle.std.specs.Fn.{FnReturnsAt}
 use Rattle.regress.specs.Answering.{AnswersText}
@@ -16,7 +16,7 @@ loop-found-init g c =
     let made = c.in_ok-found-items.ensures in
     record {
       behind = rw c.into_iter-found-iterator.ensures.into_iter_gives
-          (behind-start c.args.text.now (shared_names c.args.self.now.group_names) c.in_ok-found-items.found-items c.utf8.text made.over made.named made.rise);
+          (behind-start c.args.text.now (names_of_regex c.args.self.now) c.in_ok-found-items.found-items c.utf8.text made.over made.named made.rise);
       written = λ rest answers. (rest, answers, rw c.new-written.ensures.bytes refl);
       refuses = λ e refused. refused;
     }
@@ -24,7 +24,7 @@ loop-found-init g c =
 pub returns-in_err-new-clause-refused : goal.returns-in_err-new-clause-refused
 returns-in_err-new-clause-refused g c = λ t o p stands.
     let text = c.args.text.now in
-    let names = shared_names c.args.self.now.group_names in
+    let names = names_of_regex c.args.self.now in
     let m = c.in_ok-found.found in
     let given : IsGiven text names c.loop-found.behind c.loop-found.found-iterator m c.next.new.self =
     given-one text names c.loop-found.behind c.loop-found.found-iterator c.next.new.self c.next.result m c.loop-found.invariant.behind c.next.ensures.steps (grind (arith, common_steps)) in
@@ -39,7 +39,7 @@ returns-in_err-new-clause-refused g c = λ t o p stands.
 pub loop-found-preserved : goal.loop-found-preserved
 loop-found-preserved g c =
     let text = c.args.text.now in
-    let names = shared_names c.args.self.now.group_names in
+    let names = names_of_regex c.args.self.now in
     let m = c.in_ok-found.found in
     let given : IsGiven text names c.loop-found.behind c.loop-found.found-iterator m c.next.new.self =
     given-one text names c.loop-found.behind c.loop-found.found-iterator c.next.new.self c.next.result m c.loop-found.invariant.behind c.next.ensures.steps (grind (arith, common_steps)) in
@@ -65,5 +65,5 @@ returns-clause-replaced g c = λ t o p stands.
     let items : coming c.into_iter-found-iterator.result ≡ map (told (of_utf8 text)) (match_list t o p (chars text) 0) =
     ap coming c.into_iter-found-iterator.ensures.into_iter_gives ∙ c.in_ok-found-items.ensures.matches t o p stands in
     rw (c.in_ok-append-2.ensures.added, c.range_from.ensures.value, append-nil, ← items)
-    (written-end (FnReturnsAt g.F.Fn c.args.with) (shared_names c.args.self.now.group_names) text (coming c.into_iter-found-iterator.result)
+    (written-end (FnReturnsAt g.F.Fn c.args.with) (names_of_regex c.args.self.now) text (coming c.into_iter-found-iterator.result)
     (string_bytes c.loop-found.written) c.loop-found.behind (coming c.loop-found.found-iterator) c.loop-found.invariant.written left)

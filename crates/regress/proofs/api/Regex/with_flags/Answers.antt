@@ -9,3 +9,6 @@ from_unicode-requires c = rw (c.deref.ensures.value, c.in_ok-points.ensures) (ch
 pub returns-clause-text : goal.returns-clause-text
 returns-clause-text c =
     text-as c.from_unicode.result _ c.args.pattern.now c.utf8.pattern (c.deref.ensures.value ∙ c.in_ok-points.ensures) c.from_unicode.ensures.text
+
+pub returns-clause-fits : goal.returns-clause-fits
+returns-clause-fits c = λ plain short. c.from_unicode.ensures.fits plain (rw (c.deref.ensures.value, c.in_ok-points.ensures) short)

@@ -1,12 +1,23 @@
-use Rattle.std.proofs.Common.{◌≡◌, ap, ◌∙◌}
-use Rattle.std.proofs.lemmas.Str.{encodes-chars}
-use Rattle.std.specs.Str.{encode_utf8_all, chars}
-use Rattle.regress_match.specs.Iterating.{producer_of}
-use Rattle.regress_evaluator.specs.Searching.{points_of}
+use Rattle.std.proofs.Common.{◌∙◌, sym, ap, not}
+use Rattle.regress_meaning.specs.Flags.{is_unicode}
+use Rattle.regress_front.specs.FlagWords.{options}
+use Rattle.regress_front.specs.TableViews.{table}
+use Rattle.regress_engine_input.specs.Views.{View}
+use Rattle.regress_engine_code.specs.declared.compiled.CompiledRegex.{CompiledRegex}
 use Rattle.regress.proofs.matches.Matches.new.Goals as goal
 
-pub invariant_of-result : goal.invariant_of-result
-invariant_of-result c =
-    let read : points_of (producer_of c.new-inner.result) ≡ chars c.args.source.now =
-    ap points_of c.new-inner.ensures.over ∙ c.in_ok-search.ensures.over.1 in
-    record { read = read; spelled = ap encode_utf8_all read ∙ encodes-chars c.args.source.now c.utf8.source }
+pub returns-clause-over : goal.returns-clause-over
+returns-clause-over c =
+    let program = c.new-executor.ensures.program in
+    let text = c.new-executor.ensures.text in
+    record {
+      over = ap (λ (v : View). v.units) text;
+      program = program;
+      made = record {
+        kind = sym (ap not (ap (λ (compiled : CompiledRegex). compiled.units) program ∙ c.args.regex.now.compiled.of_bytes));
+        made = record {
+          table = ap (λ (compiled : CompiledRegex). table compiled.tables.now) program ∙ sym (ap (λ (v : View). v.table) text);
+          unicode = ap (λ (compiled : CompiledRegex). is_unicode (options compiled.flags)) program ∙ sym (ap (λ (v : View). v.unicode) text);
+        };
+      };
+    }

@@ -7,7 +7,7 @@ use Rattle.regress_engine_input.specs.Views.{input_of, reading_of}
 use Rattle.regress_engine_runs.specs.Items.{Finds, goes_on}
 use Rattle.regress_engine_exec.specs.Sought.{Sought, IsItemAtPlaces}
 use Rattle.regress_engine_exec.proofs.ProducerLemmas.{read-place, read-none, goes-on}
-use Rattle.regress_engine_exec.proofs.producer.BacktrackExecutorMatchProducer.next_match.Goals as goal
+use Rattle.regress_engine_exec.proofs.search.BacktrackExecutor.advance.Goals as goal
 
 pub find_from-requires : goal.find_from-requires
 find_from-requires g c =
@@ -47,5 +47,4 @@ returns g c =
       nearer = on.nearer;
       kept = search rules;
       last = search rules;
-      refused = search rules;
     }

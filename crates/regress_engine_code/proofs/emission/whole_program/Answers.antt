@@ -7,14 +7,13 @@ use Rattle.regress_front_core.specs.FlagWords.{options}
 use Rattle.regress_front_tables.specs.TableViews.{table}
 use Rattle.regress_front_nodes.specs.Trees.{tree}
 use Rattle.regress_front_nodes.proofs.CopyLemmas.{map-AllZip}
-use Rattle.regress_engine_code.specs.Instructions.{Program}
 use Rattle.regress_engine_code.specs.InsnViews.{instruction}
 use Rattle.regress_engine_code.specs.Layout.{Target}
 use Rattle.regress_engine_code.specs.Written.{written, AddsTree}
 use Rattle.regress_engine_code.proofs.BeginLemmas.{all-begin}
 use Rattle.regress_engine_code.proofs.EmitLemmas.{err-refused}
-use Rattle.regress_engine_code.proofs.StandingLemmas.{groups-few, whole-layout, whole-counted}
-use Rattle.regress_engine_code.proofs.compiled.whole_program.Goals as goal
+use Rattle.regress_engine_code.proofs.StandingLemmas.{groups-few, told-layout, whole-counted}
+use Rattle.regress_engine_code.proofs.emission.whole_program.Goals as goal
 
 pub returns-clause-emitted : goal.returns-clause-emitted
 returns-clause-emitted c =
@@ -26,11 +25,13 @@ returns-clause-emitted c =
     let w = written c.node.new.code in
     let adds = subst (λ (u : Bool). AddsTree c.args.units (table regex.tables.now) u false t start w) c.is_unicode.ensures c.in_ok-node.ensures.added in
     let counted = whole-counted c.args.units (table regex.tables.now) unicode n t start w c.new-code.ensures c.requires.lawful adds in
-    let program : Program = record { instructions = w.instructions; brackets = w.brackets; loops = c.from.result; groups = c.in_ok-groups.groups; units = c.args.units } in
-    let target : Target = record { program = program; table = table regex.tables.now; unicode = unicode } in
-    let loops_told : c.from.result ≡ w.loops = c.from.ensures in
-    let layout = whole-layout c.args.units (table regex.tables.now) unicode n t start w program c.new-code.ensures adds refl refl refl loops_told
-    (c.in_ok-groups.ensures.ok ∙ ap length c.deref.ensures.value) in
+    let target : Target = record {
+      program = record { instructions = w.instructions; brackets = w.brackets; loops = c.from.result; groups = c.in_ok-groups.groups; units = c.args.units };
+      table = table regex.tables.now;
+      unicode = unicode;
+    } in
+    let layout = told-layout c.args.units (table regex.tables.now) unicode _ n t start w c.from.result c.in_ok-groups.groups
+    c.new-code.ensures c.is_unicode.ensures c.in_ok-node.ensures.added c.from.ensures (c.in_ok-groups.ensures.ok ∙ ap length c.deref.ensures.value) in
     record {
       flags = refl;
       table = refl;
@@ -38,9 +39,19 @@ returns-clause-emitted c =
           (arc_slice_items c.in_ok-group_names.group_names) c.in_ok-group_names.ensures.ok ∙ ap (map string_bytes) c.deref-2.ensures.value;
       layout = layout;
       counted = sym (length-map c.node.new.code.insns.items instruction) ∙ counted.0;
-      loops = loops_told ∙ counted.1;
+      loops = c.from.ensures ∙ counted.1;
       begun = all-begin target n t layout;
     }
+
+pub invariant_of-result : goal.invariant_of-result
+invariant_of-result c =
+    let regex = c.args.regex.now in
+    let n = length regex.group_names.items in
+    let t = tree regex.node in
+    record { laid = ∣ (n, t, c.requires,
+      told-layout c.args.units (table regex.tables.now) (is_unicode (options regex.flags)) _ n t (written c.new-code.result) (written c.node.new.code)
+      c.from.result c.in_ok-groups.groups c.new-code.ensures c.is_unicode.ensures c.in_ok-node.ensures.added c.from.ensures
+      (c.in_ok-groups.ensures.ok ∙ ap length c.deref.ensures.value)) ∣₁ }
 
 pub returns-in_err-groups-clause-refused : goal.returns-in_err-groups-clause-refused
 returns-in_err-groups-clause-refused c =

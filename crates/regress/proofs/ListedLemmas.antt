@@ -1,0 +1,95 @@
+-- What an executor of a program lists: the matches of its pattern, told in offsets, one behind the other.
+use Rattle.std.proofs.Common.{◌≡◌, ℕ, ◌≤◌, List, [], ◌∷◌, length, map, Option, All, refl, sym, ap, ◌∙◌, subst, arith}
+use Rattle.std.proofs.Math.Logic.{∥∥₁_elim}
+use Rattle.std.proofs.lemmas.List.Elements.{All-head, All-tail}
+use Rattle.std.specs.Coded.{le_prop}
+use mathlib.Core.HLevel.{Unit-prop}
+use denote.Struct.Props as logic
+use Rattle.regress_meaning.specs.Table.{Table}
+use Rattle.regress_meaning.specs.Pattern.{Pattern, names_of}
+use Rattle.regress_meaning.specs.Flags.{Options, is_unicode}
+use Rattle.regress_meaning.specs.Meaning.{Context}
+use Rattle.regress_meaning.specs.Inputs.{context_of}
+use Rattle.regress_meaning.specs.Laws.{IsItemInside, ItemsRise, OffsetsRise}
+use Rattle.regress_meaning.specs.Matches.{Item, match_list}
+use Rattle.regress_meaning.specs.Offsets.{Reading, told, Begins}
+use Rattle.regress_front.specs.NodeMatches.{node_match_list}
+use Rattle.regress_front_nodes.proofs.AlikeMatches.{match_list-same}
+use Rattle.regress_front_nodes.proofs.MatchLemmas.{matches_rise, matches_lie}
+use Rattle.regress_match.specs.Iterating.{coming_on}
+use Rattle.regress_match.proofs.TextLemmas.{offset-le}
+use Rattle.regress_engine_input.specs.Views.{AreOfKind, input_of, reading_of, reading_of_kind}
+use Rattle.regress_engine_input.proofs.KindLemmas.{tells}
+use Rattle.regress_engine_code.specs.declared.compiled.CompiledRegex.{CompiledRegex}
+use Rattle.regress_engine_code.specs.Laid.{IsLaid}
+use Rattle.regress_engine_code.specs.Standing.{target_of}
+use Rattle.regress_engine_exec.specs.Sought.{Sought, IsMadeOf, StartsAt, items_from}
+use Rattle.regress_engine_exec.specs.SoughtOnce.{rises}
+use Rattle.regress_engine_exec.proofs.ProducerLemmas.{items-asked}
+use Rattle.regress.specs.Programs.{IsProgramOf}
+use Rattle.regress.specs.Seeking.{Seeks}
+
+-- items that rise do so told in offsets, where each lies in the text
+told-rise : (r : Reading) → OffsetsRise r → (P : Item → Type 0) → ((i : Item) → P i → IsItemInside r.points i) → (items : List Item) → All P items
+    → ItemsRise items → ItemsRise (map (told r) items)
+told-rise r up P inside [] all rises = tt
+told-rise r up P inside (i ∷ []) all rises = offset-le r i.start i.end rises
+told-rise r up P inside (i ∷ j ∷ items) all rises =
+    let others = All-tail P i (j ∷ items) all in
+    let next = inside j (All-head P j items others) in (
+      offset-le r i.start i.end rises.0,
+      up i.start j.start rises.1 (omega (arith, next.range)),
+      offset-le r i.end j.start rises.2,
+      told-rise r up P inside (j ∷ items) others rises.3,
+    )
+
+-- that items rise has one proof at most
+ItemsRise-prop : (items : List Item) → IsProp (ItemsRise items)
+ItemsRise-prop [] = Unit-prop
+ItemsRise-prop (i ∷ []) = le_prop
+ItemsRise-prop (i ∷ j ∷ items) = let rest = ItemsRise-prop (j ∷ items) in Prim.hlevel (rest, logic.props)
+
+module _ (s : Sought) (all : AreOfKind s.view.kind s.view.units) (made : IsMadeOf s.compiled s.view)
+    (at place : ℕ) (begins : Begins (reading_of s.view) at place) (position : Option ℕ) (starts : StartsAt s at position) where
+  abbrev reading : Reading
+  reading = reading_of s.view
+
+  -- an executor of a pattern's program has the pattern's matches still to find
+  pub pattern-coming : (t : Table) (o : Options) (p : Pattern) → IsProgramOf s.compiled t o p
+      → coming_on (items_from s) position ≡ map (told reading) (match_list t o p reading.points place)
+  pattern-coming t o p stands =
+      let n = length (names_of p) in
+      let table = sym made.made.table ∙ stands.table in
+      let unicode = sym made.made.unicode ∙ ap is_unicode stands.flags in
+      items-asked s all made n stands.node stands.well_formed stands.layout at place begins position starts
+      ∙ ap (λ (context : Context). map (told reading) (node_match_list context n stands.node place))
+      (λ i. record { text = reading.points; table = table i; unicode = unicode i })
+      ∙ ap (map (told reading)) (match_list-same t o p reading.points stands.node n refl stands.alike (tells s.view.kind s.view.table s.view.unicode s.view.units all).points place)
+
+  -- what an executor has still to find rises, since its program is laid out from a tree
+  pub coming-rises : ItemsRise (coming_on (items_from s) position)
+  coming-rises = ∥∥₁_elim s.compiled.laid (ItemsRise-prop (coming_on (items_from s) position)) rise
+    where
+      rise : IsLaid (target_of s.compiled) → ItemsRise (coming_on (items_from s) position)
+      rise (n, t, formed, layout) =
+          let context = context_of reading (input_of s.view) in
+          subst ItemsRise (sym (items-asked s all made n t formed layout at place begins position starts))
+          (told-rise reading (rises s.view.kind s.view.units) (λ i. IsItemInside reading.points i × (length i.groups ≡ n)) (λ i h. h.0)
+          (node_match_list context n t place) (matches_lie context n t place) (matches_rise context n t place))
+
+module _ (s : Sought) (compiled : CompiledRegex) (units : List ℕ) (seeks : Seeks compiled units s) (all : AreOfKind s.view.kind units)
+    (at place : ℕ) (begins : Begins (reading_of_kind s.view.kind units) at place) (position : Option ℕ) (starts : StartsAt s at position) where
+  -- what seeks a pattern's program has that part of the pattern's match list still to come
+  pub coming-sought : (t : Table) (o : Options) (p : Pattern) → IsProgramOf compiled t o p
+      → coming_on (items_from s) position ≡ map (told (reading_of_kind s.view.kind units)) (match_list t o p (reading_of_kind s.view.kind units).points place)
+  coming-sought t o p stands =
+      subst (λ us. AreOfKind s.view.kind us → Begins (reading_of_kind s.view.kind us) at place
+      → coming_on (items_from s) position ≡ map (told (reading_of_kind s.view.kind us)) (match_list t o p (reading_of_kind s.view.kind us).points place)) seeks.over
+      (λ among start. pattern-coming s among seeks.made at place start position starts t o p (subst (λ c. IsProgramOf c t o p) (sym seeks.program) stands))
+      all begins
+
+  -- and it rises
+  pub sought-rises : ItemsRise (coming_on (items_from s) position)
+  sought-rises =
+      subst (λ us. AreOfKind s.view.kind us → Begins (reading_of_kind s.view.kind us) at place → ItemsRise (coming_on (items_from s) position)) seeks.over
+      (λ among start. coming-rises s among seeks.made at place start position starts) all begins

@@ -1,0 +1,165 @@
+-- The programs of a pattern that was read, and when they pass no count.
+use Rattle.std.proofs.Common.{◌≡◌, ◌≢◌, ℕ, ◌+◌, ◌*◌, ◌<◌, ◌≤◌, ◌⊎◌, Bool, false, List, length, map, chars, inl, inr, refl, sym, ap, subst, ◌∙◌, arith}
+use Rattle.std.proofs.Math.Nat.{mul-le-mul}
+use Rattle.std.proofs.lemmas.List.{length-map}
+use Rattle.std.proofs.lemmas.Simd.{map-map}
+use Rattle.std.specs.String.{string_bytes}
+use Rattle.regress_meaning.specs.Table.{Table}
+use Rattle.regress_meaning.specs.Pattern.{Pattern, names_of}
+use Rattle.regress_meaning.specs.Flags.{Options, is_unicode}
+use Rattle.regress_front_core.specs.declared.error.Error.{Error}
+use Rattle.regress_front_core.specs.declared.error.Error.TheVariants.{Syntax, TooDeep, TooManyGroups, TooManyLoops, TooLarge, OutOfMemory}
+use Rattle.regress_front.specs.Escapes.{texts}
+use Rattle.regress_front.specs.FlagWords.{options}
+use Rattle.regress_front.specs.Parsed.{IsTreeOf}
+use Rattle.regress_front.specs.RewritingLaws.{IsRewritten}
+use Rattle.regress_front.specs.Rules.{stays}
+use Rattle.regress_front.specs.Refusals as reading
+use Rattle.regress_front.specs.Sizes.{loops, size}
+use Rattle.regress_front.specs.TableViews.{table}
+use Rattle.regress_front.specs.Trees.{Tree, tree}
+use Rattle.regress_front.specs.WellFormed.{IsWellFormed}
+use Rattle.regress_front_nodes.specs.declared.ir.Regex as ir
+use Rattle.regress_front_rules.proofs.RewriteLemmas.{wholes-right}
+use Rattle.regress_engine_code.specs.declared.compiled.CompiledRegex.{CompiledRegex}
+use Rattle.regress_engine_code.specs.Counts.{count}
+use Rattle.regress_engine_code.specs.Layout.{IsLayout}
+use Rattle.regress_engine_code.specs.Standing as code
+use Rattle.regress_engine_code.specs.Standing.{target_of}
+use Rattle.regress_engine_code.specs.Written as code_refusals
+use Rattle.regress_engine_code.specs.Written.{AreTooMany}
+use Rattle.regress_engine_runs.proofs.SizeLemmas.{count-bounded}
+use Rattle.regress.specs.Programs.{IsTreeFor, IsProgramOf}
+use Rattle.regress.specs.Refusing.{PassesCount, MayRefuseRegex}
+
+-- A tree was read from a text under a table and flags, and rewritten or not: it is a tree of a pattern that the text spells,
+-- with its names.
+pub record IsReadAs (t : Table) (o : Options) (text : List ℕ) (p : Pattern) (regex : ir.Regex) : Type 0 where
+  pub of_text : IsTreeFor t o text p (tree regex.node)
+  pub named : texts regex.group_names ≡ names_of p
+  pub flags : options regex.flags ≡ o
+  pub table : table regex.tables.now ≡ t
+
+-- so it is as it is parsed
+pub as-parsed : (t : Table) (o : Options) (text : List ℕ) (p : Pattern) (regex : ir.Regex) → IsTreeOf t o text p (tree regex.node)
+    → texts regex.group_names ≡ names_of p → options regex.flags ≡ o → table regex.tables.now ≡ t → IsReadAs t o text p regex
+as-parsed t o text p regex of_text named flags of_table = record {
+  of_text = record {
+    parsed = tree regex.node;
+    of_text = of_text;
+    rewritten = wholes-right (length (names_of p)) (tree regex.node) (tree regex.node) stays of_text.whole.well_formed;
+  };
+  named = named;
+  flags = flags;
+  table = of_table;
+}
+
+-- and as it is rewritten then
+pub as-rewritten : (t : Table) (o : Options) (text : List ℕ) (p : Pattern) (parsed regex : ir.Regex) → IsTreeOf t o text p (tree parsed.node)
+    → texts parsed.group_names ≡ names_of p → options parsed.flags ≡ o → table parsed.tables.now ≡ t
+    → ((n : ℕ) → IsWellFormed n (tree parsed.node) → IsRewritten n (tree parsed.node) (tree regex.node))
+    → regex.flags ≡ parsed.flags → regex.group_names ≡ parsed.group_names → regex.tables ≡ parsed.tables → IsReadAs t o text p regex
+as-rewritten t o text p parsed regex of_text named flags of_table rewritten same_flags same_names same_tables = record {
+  of_text = record {
+    parsed = tree parsed.node;
+    of_text = of_text;
+    rewritten = rewritten (length (names_of p)) of_text.whole.well_formed;
+  };
+  named = ap texts same_names ∙ named;
+  flags = ap options same_flags ∙ flags;
+  table = ap (λ tables. table tables.now) same_tables ∙ of_table;
+}
+
+module _ (t : Table) (o : Options) (text : List ℕ) (p : Pattern) (regex : ir.Regex) (read : IsReadAs t o text p regex) where
+  counted : length regex.group_names.items ≡ length (names_of p)
+  counted = sym (length-map regex.group_names.items (λ name. chars (string_bytes name))) ∙ ap length read.named
+
+  -- it is well formed, so that programs are made of it
+  pub read-formed : IsWellFormed (length regex.group_names.items) (tree regex.node)
+  read-formed = subst (λ n. IsWellFormed n (tree regex.node)) (sym counted) read.of_text.rewritten.well_formed
+
+  -- a program that stands for it is one of the pattern
+  pub read-program : (compiled : CompiledRegex) → code.StandsFor regex compiled → IsProgramOf compiled t o p
+  read-program compiled stands = record {
+    table = stands.table ∙ read.table;
+    flags = ap options stands.flags ∙ read.flags;
+    names = ap (map chars) stands.names ∙ map-map chars string_bytes regex.group_names.items ∙ read.named;
+    node = tree regex.node;
+    well_formed = read.of_text.rewritten.well_formed;
+    layout = subst (λ n. IsLayout (target_of compiled) n (tree regex.node)) counted stands.layout;
+    alike = λ searched points s inside.
+        sym (read.of_text.rewritten.alike t (is_unicode o) searched points s inside) ∙ read.of_text.of_text.alike searched points s inside;
+  }
+
+  -- a refusal of a program is one of the pattern
+  pub program-refused : (units : Bool) (e : Error) → code_refusals.MayRefuse (code.length_for units regex) (loops (tree regex.node)) e → MayRefuseRegex t o text e
+  program-refused units e (inl memory) = subst (MayRefuseRegex t o text) (sym memory) tt
+  program-refused units e (inr (large, many)) = subst (MayRefuseRegex t o text) (sym large) record {
+    pattern = p;
+    node = tree regex.node;
+    units = units;
+    of_text = read.of_text;
+    many = subst (λ n. AreTooMany n (loops (tree regex.node))) same many;
+  }
+    where
+      same : code.length_for units regex ≡ count units t (is_unicode o) (tree regex.node)
+      same = λ i. count units (read.table i) (is_unicode (read.flags i)) (tree regex.node)
+
+-- a refusal of reading is one of the pattern
+pub reading-refused : (t : Table) (o : Options) (text : List ℕ) (e : Error) → reading.MayRefuse t o text e → MayRefuseRegex t o text e
+reading-refused t o text (Syntax message) refused = refused
+reading-refused t o text TooDeep refused = refused
+reading-refused t o text TooManyGroups refused = refused
+reading-refused t o text TooManyLoops refused = refused
+reading-refused t o text TooLarge refused = absurd refused
+reading-refused t o text OutOfMemory refused = refused
+
+-- without `v` no program of a short text passes its count
+short-passes-none : (t : Table) (o : Options) (text : List ℕ) → o.sets ≡ false → length text ≤ 10000 → PassesCount t o text → ⊥
+short-passes-none t o text plain short passes = few passes.many
+  where
+    node : Tree
+    node = passes.node
+
+    groups : ℕ
+    groups = length (names_of passes.pattern)
+
+    square : (length text + 4) * (length text + 4) ≤ 10004 * 10004
+    square = let room : length text + 4 ≤ 10004 = omega (arith, short) in mul-le-mul room room
+
+    few_loops : loops node ≤ 10000
+    few_loops =
+        let before = passes.of_text.of_text.whole.few_loops in
+        let fewer = passes.of_text.rewritten.few_loops in
+        omega (arith, before, fewer, short)
+
+    looped : loops node * groups ≤ 10000 * 65535
+    looped = mul-le-mul few_loops passes.of_text.of_text.within.groups
+
+    few : AreTooMany (count passes.units t (is_unicode o) node) (loops node) → ⊥
+    few (inl more) =
+        let bounded = count-bounded passes.units t (is_unicode o) groups node passes.of_text.rewritten.well_formed in
+        let small = passes.of_text.of_text.whole.small plain in
+        let before = passes.of_text.of_text.whole.few_loops in
+        let grown = passes.of_text.rewritten.few_nodes in
+        absurd (omega (arith, more, bounded, small, grown, before, short, square, looped))
+    few (inr more) = absurd (omega (arith, more, few_loops))
+
+-- so it is not refused as too large
+pub refused-fits : (t : Table) (o : Options) (text : List ℕ) (e : Error) → MayRefuseRegex t o text e → o.sets ≡ false → length text ≤ 10000 → e ≢ TooLarge
+refused-fits t o text e refused plain short large = short-passes-none t o text plain short (subst (MayRefuseRegex t o text) large refused)
+
+copied-target : (compiled copy : CompiledRegex) → code.IsCopyOf compiled copy → target_of copy ≡ target_of compiled
+copied-target compiled copy same = λ i. record { program = same.program i; table = table (same.tables i); unicode = is_unicode (options (same.flags i)) }
+
+-- a copy of a program is one of the same pattern
+pub copied-program : (compiled copy : CompiledRegex) → code.IsCopyOf compiled copy → (t : Table) (o : Options) (p : Pattern) → IsProgramOf compiled t o p → IsProgramOf copy t o p
+copied-program compiled copy same t o p stands = record {
+  table = ap table same.tables ∙ stands.table;
+  flags = ap options same.flags ∙ stands.flags;
+  names = ap (map chars) same.names ∙ stands.names;
+  node = stands.node;
+  well_formed = stands.well_formed;
+  layout = subst (λ target. IsLayout target (length (names_of p)) stands.node) (sym (copied-target compiled copy same)) stands.layout;
+  alike = stands.alike;
+}

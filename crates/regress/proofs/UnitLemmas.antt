@@ -1,0 +1,40 @@
+-- Each match in 16-bit units lies in them.
+use Rattle.std.proofs.Common.{◌≡◌, ℕ, List, [], ◌∷◌, length, Option, Some, Result, Ok, inl, sym, ap, ◌∙◌, subst, arith}
+use Rattle.std.specs.Iterator.{Yields}
+use Rattle.std.specs.declared.ops.Range.{Range}
+use Rattle.regress_meaning.specs.Offsets.{Reading, offset}
+use Rattle.regress_front_core.specs.declared.error.Error.{Error}
+use Rattle.regress_match.specs.declared.found.Match.{Match}
+use Rattle.regress_match.specs.Views.{ends, item_of}
+use Rattle.regress_match.proofs.TextLemmas.{offset-le}
+use Rattle.regress_match.proofs.TakenLemmas.{of_groups}
+use Rattle.regress_engine_runs.specs.Meets.{AreAtPlaces}
+use Rattle.regress_engine_exec.specs.Sought.{Sought, IsItemAtPlaces, IsMatchOf}
+use Rattle.regress.specs.Coming.{HoldsOfEach}
+use Rattle.regress.specs.Units.{LiesInUnits, IsMatchInUnits}
+
+module _ (reading : Reading) (units : List ℕ) (end : offset reading (length reading.points) ≡ length units) where
+  -- a range between places lies in the units
+  range-in : (r : Range ℕ) → AreAtPlaces reading (ends r) → LiesInUnits reading units r
+  range-in r inside =
+      let (p, before, start) = inside.0 in
+      let (q, room, there) = inside.1 in
+      let within = offset-le reading q (length reading.points) room in
+      (inside.2, omega (arith, within, there, end), (p, inl (before, sym start)), (q, inl (room, sym there)))
+
+  -- and so does a match between places
+  pub match-in : (m : Match) → IsItemAtPlaces reading (item_of m) → IsMatchInUnits reading units m
+  match-in m inside = (range-in m.range inside.0, of_groups (AreAtPlaces reading) (LiesInUnits reading units) range-in m.captures.items inside.1)
+
+module _ {S : Type 0} (sought : S → Sought) (gives : S → Option (Result Match Error) → S → Type 0)
+    (keeps : (old new : S) (r : Option (Result Match Error)) → gives old r new → sought new ≡ sought old)
+    (finds : (old new : S) (m : Match) → gives old (Some (Ok m)) new → IsMatchOf (sought old) m) where
+  -- steps seek the same
+  sought-along : (ms old : S) (given : List (Result Match Error)) → Yields gives ms given old → sought old ≡ sought ms
+  sought-along ms old [] same = ap sought (sym same)
+  sought-along ms old (x ∷ given) (next, step, others) = sought-along next old given others ∙ keeps ms next (Some x) step
+
+  -- what is said of each match of what is sought is said of each that steps give
+  pub each-match : (Q : Match → Type 0) (ms : S) → ((m : Match) → IsMatchOf (sought ms) m → Q m) → HoldsOfEach gives Q ms
+  each-match Q ms said given old new r m yields step found =
+      said m (subst (λ (s : Sought). IsMatchOf s m) (sought-along ms old given yields) (finds old new m (subst (λ x. gives old x new) found step)))

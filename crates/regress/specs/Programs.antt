@@ -1,0 +1,35 @@
+-- The programs that a compiled pattern holds.
+use Rattle.std.specs.Prelude.{◌≡◌, ℕ, List, length, map, chars}
+use Rattle.regress_meaning.specs.Table.{Table}
+use Rattle.regress_meaning.specs.Pattern.{Pattern, names_of}
+use Rattle.regress_meaning.specs.Flags.{Options, is_unicode, first_settings}
+use Rattle.regress_meaning.specs.Meaning.{Forward, outcomes}
+use Rattle.regress_front.specs.TableViews.{table}
+use Rattle.regress_front.specs.FlagWords.{options}
+use Rattle.regress_front.specs.Trees.{Tree}
+use Rattle.regress_front.specs.WellFormed.{IsWellFormed}
+use Rattle.regress_front.specs.TreeMeaning.{node_outcomes}
+use Rattle.regress_front.specs.Alike.{IsAlike}
+use Rattle.regress_front.specs.Parsed.{IsTreeOf}
+use Rattle.regress_front.specs.RewritingLaws.{IsRewritten}
+use Rattle.regress_engine_code.specs.declared.compiled.CompiledRegex.{CompiledRegex}
+use Rattle.regress_engine_code.specs.Layout.{IsLayout}
+use Rattle.regress_engine_code.specs.Standing as code
+use Rattle.regress_engine_code.specs.Standing.{target_of}
+
+-- A tree of a pattern that a text spells within the limits: the one that it is read as, rewritten or not.
+pub record IsTreeFor (table : Table) (o : Options) (text : List ℕ) (p : Pattern) (t : Tree) : Type 0 where
+  pub parsed : Tree
+  pub of_text : IsTreeOf table o text p parsed
+  pub rewritten : IsRewritten (length (names_of p)) parsed t
+
+-- The program is one of a pattern, under this table and these options: it is the layout of a well-formed tree that is alike
+-- the pattern, and its groups have the pattern's names.
+pub record IsProgramOf (compiled : CompiledRegex) (t : Table) (o : Options) (p : Pattern) : Type 0 where
+  pub table : table compiled.tables.now ≡ t
+  pub flags : options compiled.flags ≡ o
+  pub names : map chars (code.names_of compiled) ≡ names_of p
+  pub node : Tree
+  pub well_formed : IsWellFormed (length (names_of p)) node
+  pub layout : IsLayout (target_of compiled) (length (names_of p)) node
+  pub alike : IsAlike t (is_unicode o) (λ context. node_outcomes context node Forward) (λ context. outcomes context p Forward (first_settings o))

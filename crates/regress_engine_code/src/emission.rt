@@ -1,0 +1,94 @@
+//! How a tree becomes a program.
+ghost use Rattle.std.specs.Prelude.{◌≡◌, true, false, length, IfOk, IfErr};
+ghost use Rattle.regress_front_nodes.specs.Trees.{tree};
+ghost use Rattle.regress_front_nodes.specs.Sizes.{loops};
+ghost use Rattle.regress_front_nodes.specs.WellFormed.{IsWellFormed};
+ghost use Rattle.regress_engine_code.specs.Written.{MayRefuse};
+ghost use Rattle.regress_engine_code.specs.Standing.{length_for, StandsFor};
+
+use crate::code::Code;
+use crate::compiled::CompiledRegex;
+use crate::emitter::Emitter;
+use regress_engine_prefix::StartPredicate;
+use regress_front_core::{CaptureGroupName, Error};
+use regress_front_nodes::ir::Regex;
+use std::alloc::Global;
+use std::sync::ArcSlice;
+
+/// The program of bytes of a tree.
+///
+/// It is the tree's layout, for the tree's flags, names and tables, and a match may begin anywhere. Asks for a well-formed tree
+/// with a name for each group, as `try_parse` makes it. It errs with `TooLarge` only where the instructions pass `u32::MAX` or
+/// the loops pass 65535, and with `OutOfMemory`.
+///
+/// ```rust
+/// let program = emit(alloc, &regex)?;
+/// ```
+pub fn emit<'u>(alloc: Global, regex: &Regex<'u>) -> Result<CompiledRegex<'u>, Error>
+    requires { IsWellFormed (length regex.now.group_names.items) (tree regex.now.node) }
+    ensures emitted { IfOk result (StandsFor regex.now) }
+    ensures of_bytes { IfOk result (λ compiled. compiled.units ≡ false) }
+    ensures anywhere { IfOk result (λ compiled. compiled.start_pred ≡ StartPredicate.Arbitrary) }
+    ensures refused { IfErr result (MayRefuse (length_for false regex.now) (loops (tree regex.now.node))) }
+{
+    whole_program(alloc, regex, false)
+}
+
+/// The program of 16-bit units of a tree, as `emit` makes that of bytes.
+///
+/// ```rust
+/// let program = emit_units(alloc, &regex)?;
+/// ```
+pub fn emit_units<'u>(alloc: Global, regex: &Regex<'u>) -> Result<CompiledRegex<'u>, Error>
+    requires { IsWellFormed (length regex.now.group_names.items) (tree regex.now.node) }
+    ensures emitted { IfOk result (StandsFor regex.now) }
+    ensures of_units { IfOk result (λ compiled. compiled.units ≡ true) }
+    ensures anywhere { IfOk result (λ compiled. compiled.start_pred ≡ StartPredicate.Arbitrary) }
+    ensures refused { IfErr result (MayRefuse (length_for true regex.now) (loops (tree regex.now.node))) }
+{
+    whole_program(alloc, regex, true)
+}
+
+/// How many groups there are, by their names. It errs with `TooLarge` past `u32::MAX`; a tree has no fewer instructions, so this
+/// sets no limit of its own.
+fn group_count(names: &[CaptureGroupName]) -> Result<u32, Error>
+    ensures ok { IfOk result (λ n. n ≡ length names.now) }
+    ensures err { IfErr result (MayRefuse (length names.now) 0) }
+{
+    u32::try_from(names.len()).map_err(|_| Error::TooLarge)
+}
+
+/// The program of a tree, of units or else of bytes.
+fn whole_program<'u>(
+    alloc: Global,
+    regex: &Regex<'u>,
+    units: bool,
+) -> Result<CompiledRegex<'u>, Error>
+    requires { IsWellFormed (length regex.now.group_names.items) (tree regex.now.node) }
+    ensures emitted { IfOk result (StandsFor regex.now) }
+    ensures told { IfOk result (λ compiled. compiled.units ≡ units) }
+    ensures anywhere { IfOk result (λ compiled. compiled.start_pred ≡ StartPredicate.Arbitrary) }
+    ensures refused { IfErr result (MayRefuse (length_for units regex.now) (loops (tree regex.now.node))) }
+{
+    let emitter = Emitter {
+        alloc,
+        tables: regex.tables,
+        unicode: regex.flags.is_unicode(),
+        units,
+    };
+    let mut code = Code::new(alloc);
+    emitter.node(&mut code, &regex.node, false)?;
+    let groups = group_count(&regex.group_names)?;
+    let group_names = ArcSlice::from_clones(alloc, &regex.group_names)?;
+    Ok(CompiledRegex {
+        insns: code.insns,
+        brackets: code.brackets,
+        start_pred: StartPredicate::Arbitrary,
+        loops: u32::from(code.loops),
+        groups,
+        group_names,
+        flags: regex.flags,
+        tables: regex.tables,
+        units,
+    })
+}
