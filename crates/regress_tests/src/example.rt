@@ -1,4 +1,4 @@
-//! The example of the repository's README, word for word, and a test of it.
+//! The example of the repository's README, word for word, and tests of it.
 use regress::{Error, Flags, Regex, Tables};
 use std::alloc::Global;
 
@@ -14,10 +14,24 @@ fn years(alloc: Global, text: &str, tables: &Tables) -> Result<Vec<(usize, usize
     Ok(years)
 }
 
+/// A text whose dates have the month before the year.
+fn month_first(alloc: Global, text: &str, tables: &Tables) -> Result<String, Error> {
+    let regex = Regex::new(alloc, r"(\d{4})-(\d\d)", tables)?;
+    regex.replace_all(text, "$2/$1")
+}
+
 #[test]
 fn years_of_dates_are_found(rt: HostRuntime) -> Result<(), std::test::Fail> {
     let tables = Tables::small(rt.alloc())?;
     let years = years(rt.alloc(), "from 1998-07 to 2025-06", &tables)?;
     assert!(rt; years.as_slice() == [(5, 9), (16, 20)].as_slice());
+    Ok(())
+}
+
+#[test]
+fn months_stand_before_years(rt: HostRuntime) -> Result<(), std::test::Fail> {
+    let tables = Tables::small(rt.alloc())?;
+    let turned = month_first(rt.alloc(), "from 1998-07 to 2025-06", &tables)?;
+    assert!(rt; turned.as_str() == "from 07/1998 to 06/2025");
     Ok(())
 }

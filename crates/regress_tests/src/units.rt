@@ -148,9 +148,9 @@ fn match_so(alloc: Global, rows: &[UnitRow]) -> Result<(), Fail> {
         let told = in_pairs(alloc, &regex, units, 0)?;
         let told_alone = alone(alloc, &regex, units, 0)?;
         if told.as_str() != *pairs || told_alone.as_str() != *single {
-            return Err(Fail::new(
-                format!(in alloc; "{pattern} in {units:?}: {told} and {told_alone}")?,
-            ));
+            return Err(Fail::new(format!(in alloc;
+                "{pattern} in {units:?}: {told} and {told_alone}"
+            )?));
         }
     }
     Ok(())

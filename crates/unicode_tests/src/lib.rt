@@ -4,6 +4,8 @@
 #[cfg(test)]
 mod case;
 #[cfg(test)]
+mod example;
+#[cfg(test)]
 mod figures;
 #[cfg(test)]
 mod matching;
