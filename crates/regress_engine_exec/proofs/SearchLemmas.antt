@@ -43,7 +43,8 @@ use Rattle.regress_engine_exec.proofs.BackLemmas.{moves}
 use Rattle.regress_engine_exec.proofs.PlaceLemmas.{can-read, next-place}
 use Rattle.regress_engine_runs.proofs.FoundItems.{first-holds}
 
-bytes-units : (k u : Bool) → k ≡ not u → u ≡ false → k ≡ true
+-- a program that is not of units is for bytes
+pub bytes-units : (k u : Bool) → k ≡ not u → u ≡ false → k ≡ true
 bytes-units k u same none = same ∙ ap not none
 
 -- the items of a tree, told in offsets, are at places

@@ -9,6 +9,7 @@ mod memory;
 mod producer;
 mod reads;
 mod search;
+mod seeker;
 mod shown;
 mod singles;
 mod step;

@@ -1,3 +1,4 @@
 pub mod LeadLemmas
 pub mod PrefixLemmas
+pub mod ServingLemmas
 pub mod StartLemmas
