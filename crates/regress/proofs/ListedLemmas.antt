@@ -70,8 +70,8 @@ module _ (s : Sought) (all : AreOfKind s.view.kind s.view.units) (made : IsMadeO
   pub coming-rises : ItemsRise (coming_on (items_from s) position)
   coming-rises = ∥∥₁_elim s.compiled.laid (ItemsRise-prop (coming_on (items_from s) position)) rise
     where
-      rise : IsLaid (target_of s.compiled) → ItemsRise (coming_on (items_from s) position)
-      rise (n, t, formed, layout) =
+      rise : IsLaid (target_of s.compiled) s.compiled.start_pred → ItemsRise (coming_on (items_from s) position)
+      rise (n, t, formed, layout, serves) =
           let context = context_of reading (input_of s.view) in
           subst ItemsRise (sym (items-asked s all made n t formed layout at place begins position starts))
           (told-rise reading (rises s.view.kind s.view.units) (λ i. IsItemInside reading.points i × (length i.groups ≡ n)) (λ i h. h.0)

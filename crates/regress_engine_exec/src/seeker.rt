@@ -42,7 +42,7 @@ fn find_three(set: [u8; 3], bytes: &[u8]) -> Option<usize>
 impl<'r> Seeker<'r> {
     /// What looks for a start predicate.
     pub(crate) fn new(start: &'r StartPredicate) -> Seeker<'r>
-        ensures { result.start ≡ start }
+        ensures { result.start ≡ start.entry }
     {
         let literal: &'r [u8] = match start {
             StartPredicate::ByteSeq(bytes) => bytes.as_slice(),
