@@ -66,9 +66,7 @@ fn match_so(alloc: Global, over: Over, rows: &[Row]) -> Result<(), Fail> {
     for row in rows {
         let (before, after) = before_and_after(alloc, over, row)?;
         if before.as_str() != row.3 || after.as_str() != row.3 {
-            return Err(Fail::new(
-                format!(in alloc; "{} in {}: {before}, {after}", row.0, row.2)?,
-            ));
+            return Err(Fail::new(format!(in alloc; "{} in {}: {before}, {after}", row.0, row.2)?));
         }
     }
     Ok(())
@@ -80,9 +78,7 @@ fn begin_so(alloc: Global, over: Over, rows: &[Row]) -> Result<(), Fail> {
         let (before, after) = before_and_after(alloc, over, row)?;
         let same = before.as_str() == after.as_str();
         if !same || before.split('|').next() != Some(row.3) {
-            return Err(Fail::new(
-                format!(in alloc; "{} in {}: {before}, {after}", row.0, row.2)?,
-            ));
+            return Err(Fail::new(format!(in alloc; "{} in {}: {before}, {after}", row.0, row.2)?));
         }
     }
     Ok(())

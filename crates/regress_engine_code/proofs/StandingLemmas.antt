@@ -116,8 +116,11 @@ whole-layout units table unicode n t start w program from adds same instructions
 pub told-layout : (units : Bool) (table : Table) (unicode told : Bool) (n : ℕ) (t : Tree) (start w : Written) (loops groups : ℕ)
     → start ≡ record { instructions = []; brackets = []; loops = 0 } → told ≡ unicode → AddsTree units table told false t start w
     → loops ≡ w.loops → groups ≡ n
-    → IsLayout (record { program = record { instructions = w.instructions; brackets = w.brackets; loops = loops; groups = groups; units = units };
-      table = table; unicode = unicode }) n t
+    → IsLayout (record {
+      program = record { instructions = w.instructions; brackets = w.brackets; loops = loops; groups = groups; units = units };
+      table = table;
+      unicode = unicode;
+    }) n t
 told-layout units table unicode told n t start w loops groups from same adds looped grouped =
     whole-layout units table unicode n t start w _ from (subst (λ (u : Bool). AddsTree units table u false t start w) same adds) refl refl refl looped grouped
 

@@ -49,10 +49,17 @@ invariant_of-result c =
     let regex = c.args.regex.now in
     let n = length regex.group_names.items in
     let t = tree regex.node in
-    record { laid = ∣ (n, t, c.requires,
-      told-layout c.args.units (table regex.tables.now) (is_unicode (options regex.flags)) _ n t (written c.new-code.result) (written c.node.new.code)
-      c.from.result c.in_ok-groups.groups c.new-code.ensures c.is_unicode.ensures c.in_ok-node.ensures.added c.from.ensures
-      (c.in_ok-groups.ensures.ok ∙ ap length c.deref.ensures.value), c.in_ok-start_pred.ensures.serves) ∣₁ }
+    record {
+      laid = ∣ (
+        n,
+        t,
+        c.requires,
+        told-layout c.args.units (table regex.tables.now) (is_unicode (options regex.flags)) _ n t (written c.new-code.result) (written c.node.new.code)
+            c.from.result c.in_ok-groups.groups c.new-code.ensures c.is_unicode.ensures c.in_ok-node.ensures.added c.from.ensures
+            (c.in_ok-groups.ensures.ok ∙ ap length c.deref.ensures.value),
+        c.in_ok-start_pred.ensures.serves,
+      ) ∣₁;
+    }
 
 pub returns-in_err-groups-clause-refused : goal.returns-in_err-groups-clause-refused
 returns-in_err-groups-clause-refused c =

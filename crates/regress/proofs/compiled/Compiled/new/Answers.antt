@@ -72,8 +72,7 @@ returns-clause-accepted c =
     as-parsed _ _ _ p c.in_ok-tree.tree of_text named (ap options c.in_ok-tree.ensures.kept.0) (ap table c.in_ok-tree.ensures.kept.1) in
     let rewritten : IsReadAs (table c.args.tables.now) (options c.args.flags) c.args.points.now p c.rewrite.new.regex =
     as-rewritten _ _ _ p c.in_ok-tree.tree c.rewrite.new.regex of_text named (ap options c.in_ok-tree.ensures.kept.0) (ap table c.in_ok-tree.ensures.kept.1)
-    c.rewrite.ensures.rewritten c.rewrite.ensures.kept.0 c.rewrite.ensures.kept.1 c.rewrite.ensures.kept.2 in
-    (
+    c.rewrite.ensures.rewritten c.rewrite.ensures.kept.0 c.rewrite.ensures.kept.1 c.rewrite.ensures.kept.2 in (
       p,
       of_text.spelled,
       of_text.within,

@@ -59,8 +59,7 @@ returns-in-Err-clause-steps c =
       view = utf16_view c.advance.new.self.subject.input;
       sought = c.advance.new.self.subject.sought;
     } in
-    let was : c.args.self.now.position ≡ Some c.in_ok-position.position = search rules in
-    (
+    let was : c.args.self.now.position ≡ Some c.in_ok-position.position = search rules in (
       c.advance.ensures.kept,
       record { first = (c.from.ensures, ap (coming_on (items_from after)) c.take.ensures.after); ends = c.take.ensures.after; ended = λ none. step-begun s after c.advance.ensures.kept c.args.self.now.position c.in_ok-position.position was none },
     )
