@@ -1,8 +1,10 @@
 -- What a seeker finds in bytes.
-use Rattle.std.specs.Prelude.{slice_get, slice_index, option_map, position, IfSome}
+use Rattle.std.specs.Prelude.{slice_get, slice_index, option_map, position, IfSome, ◌==◌, ◌||◌}
 use Rattle.std.specs.List.{position_or_len}
-use Rattle.std.proofs.Common.{◌≡◌, ◌⊎◌, inl, inr, ℕ, zero, suc, ◌+◌, ◌-◌, ◌<◌, ◌≤◌, Bool, true, false, List, [], ◌∷◌, length, take, drop, get_or, Option, Some, None, refl, sym, ap, ◌∙◌, subst, arith, length-drop, length-take}
-use Rattle.std.proofs.lemmas.Bool.{cases_lt, true≢false}
+use Rattle.std.proofs.Common.{◌≡◌, ◌≢◌, ◌⊎◌, inl, inr, ap₂, ℕ, zero, suc, ◌+◌, ◌-◌, ◌<◌, ◌≤◌, Bool, true, false, List, [], ◌∷◌, length, take, drop, get_or, Option, Some, None, refl, sym, ap, ◌∙◌, subst, arith, length-drop, length-take}
+use Rattle.std.proofs.Math.Bool.{or-false}
+use Rattle.std.proofs.lemmas.Grind.{common_steps}
+use Rattle.std.proofs.lemmas.Bool.{cases_lt, cases_eq, eq-eqb, ne_eqb, true≢false}
 use Rattle.std.proofs.lemmas.List.Sums.{fails_before_first}
 use Rattle.std.proofs.lemmas.List.Quantifiers.{position-Some}
 use Rattle.memchr.proofs.lemmas.MatchLemmas.{OccursAt-part, OccursAt-from_part}
@@ -17,23 +19,36 @@ use Rattle.regress_engine_exec.specs.Hits.{IsLeast, IsNextHit, is_anchored}
 
 -- ---- sets of bytes
 
+-- a test for equality may be turned round
+eq-turned : (x a : ℕ) → (x == a) ≡ (a == x)
+eq-turned x a = by_order (cases_eq x a)
+  where
+    by_order : (x ≡ a) ⊎ (x ≢ a) → (x == a) ≡ (a == x)
+    by_order (inl same) = eq-eqb x a same ∙ sym (eq-eqb a x (sym same))
+    by_order (inr other) = ne_eqb x a other ∙ sym (ne_eqb a x (λ e. other (sym e)))
+
+or-grouped : (p q r : Bool) → ((p || q) || r) ≡ (p || (q || r))
+or-grouped true q r = refl
+or-grouped false q r = refl
+
 -- a set of few bytes by its bytes
 pub one-held : (set : List ℕ) → length set ≡ 1 → (x : ℕ) → is_byte (slice_index set 0) x ≡ holds set x
 one-held [] size x = absurd (omega (arith, size))
-one-held (a ∷ []) size x = search
+one-held (a ∷ []) size x = eq-turned x a ∙ sym (or-false (a == x))
 one-held (a ∷ b ∷ set) size x = absurd (omega (arith, size))
 
 pub two-held : (set : List ℕ) → length set ≡ 2 → (x : ℕ) → is_byte2 (slice_index set 0) (slice_index set 1) x ≡ holds set x
 two-held [] size x = absurd (omega (arith, size))
 two-held (a ∷ []) size x = absurd (omega (arith, size))
-two-held (a ∷ b ∷ []) size x = search
+two-held (a ∷ b ∷ []) size x = ap₂ ◌||◌ (eq-turned x a) (eq-turned x b ∙ sym (or-false (b == x)))
 two-held (a ∷ b ∷ c ∷ set) size x = absurd (omega (arith, size))
 
 pub three-held : (set : List ℕ) → length set ≡ 3 → (x : ℕ) → is_byte3 (slice_index set 0) (slice_index set 1) (slice_index set 2) x ≡ holds set x
 three-held [] size x = absurd (omega (arith, size))
 three-held (a ∷ []) size x = absurd (omega (arith, size))
 three-held (a ∷ b ∷ []) size x = absurd (omega (arith, size))
-three-held (a ∷ b ∷ c ∷ []) size x = search
+three-held (a ∷ b ∷ c ∷ []) size x =
+    ap₂ ◌||◌ (ap₂ ◌||◌ (eq-turned x a) (eq-turned x b)) (eq-turned x c ∙ sym (or-false (c == x))) ∙ or-grouped (a == x) (b == x) (c == x || false)
 three-held (a ∷ b ∷ c ∷ d ∷ set) size x = absurd (omega (arith, size))
 
 -- what is first by one test is so by another that is the same
@@ -118,15 +133,20 @@ module _ (bytes front : List ℕ) where
 -- ---- an offset behind which the bytes are searched
 
 slice_get-behind : (bytes : List ℕ) (from k : ℕ) → slice_get (drop from bytes) k ≡ slice_get bytes (from + k)
-slice_get-behind bytes zero k = refl
+slice_get-behind bytes zero k = let e : k ≡ 0 + k = omega arith in ap (slice_get bytes) e
 slice_get-behind [] (suc from) k = refl
-slice_get-behind (b ∷ bytes) (suc from) k = slice_get-behind bytes from k
+slice_get-behind (b ∷ bytes) (suc from) k =
+    let e : suc (from + k) ≡ suc from + k = omega arith in slice_get-behind bytes from k ∙ ap (slice_get (b ∷ bytes)) e
+
+drop-nothing : (n : ℕ) → ◌≡◌ {A = List ℕ} (drop n []) []
+drop-nothing zero = refl
+drop-nothing (suc n) = refl
 
 drop-behind : (bytes : List ℕ) (from k : ℕ) → drop k (drop from bytes) ≡ drop (from + k) bytes
-drop-behind bytes zero k = refl
-drop-behind [] (suc from) zero = refl
-drop-behind [] (suc from) (suc k) = refl
-drop-behind (b ∷ bytes) (suc from) k = drop-behind bytes from k
+drop-behind bytes zero k = let e : k ≡ 0 + k = omega arith in ap (λ n. drop n bytes) e
+drop-behind [] (suc from) k = drop-nothing k ∙ sym (drop-nothing (suc from + k))
+drop-behind (b ∷ bytes) (suc from) k =
+    let e : suc (from + k) ≡ suc from + k = omega arith in drop-behind bytes from k ∙ ap (λ n. drop n (b ∷ bytes)) e
 
 -- Bytes behind an offset go on so at an index where all of them do at the offset of it.
 pub record SameBehind (start : StartPredicate) (bytes : List ℕ) (from k : ℕ) : Type 0 where

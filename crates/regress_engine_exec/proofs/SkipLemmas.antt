@@ -1,6 +1,7 @@
 -- What a search skips.
-use Rattle.std.specs.Prelude.{All, option_map, slice_get, sum_by, replicate, take, len_utf8}
+use Rattle.std.specs.Prelude.{All, option_map, slice_get, sum_by, replicate, take}
 use Rattle.std.proofs.Common.{◌≡◌, ◌≢◌, ◌⊎◌, inl, inr, ℕ, suc, ◌+◌, ◌-◌, ◌<◌, ◌≤◌, Bool, true, false, not, List, [], ◌∷◌, length, Option, Some, None, refl, sym, ap, ◌∙◌, subst, arith}
+use Rattle.std.specs.Char.{len_utf8}
 use Rattle.std.specs.Str.{IsUtf8, IsAscii, IsCharBoundary}
 use Rattle.std.proofs.Common.{length-take-le}
 use Rattle.std.proofs.lemmas.Bool.{cases_lt, true≢false}
@@ -15,8 +16,8 @@ use Rattle.regress_front_nodes.specs.Trees.{Tree}
 use Rattle.regress_front_nodes.specs.TreeMeaning.{node_outcomes}
 use Rattle.regress_front_nodes.specs.WellFormed.{IsWellFormed}
 use Rattle.regress_front_nodes.specs.ByteInputs.{TellsBytes}
-use Rattle.regress_engine_input.specs.Views.{View, Kind, utf8, ascii, utf16, ucs2, AreOfKind, are_bytes, input_of, input_of_kind, reading_of, reading_of_kind}
-use Rattle.regress_engine_input.proofs.KindLemmas.{tells, tells_bytes}
+use Rattle.regress_engine_input.specs.Views.{View, Kind, utf8, ascii, utf16, ucs2, AreOfKind, are_bytes, in_bytes, input_of, input_of_kind, reading_of, reading_of_kind}
+use Rattle.regress_engine_input.proofs.KindLemmas.{tells, tells_bytes as bytes-told}
 use Rattle.regress_engine_input.proofs.UnitTexts.{single_offset}
 use Rattle.regress_engine_prefix.specs.Starts.{BeginsAs, is_arbitrary, tells_bytes, HoldsAtStart, HitsBoundaries, Serves}
 use Rattle.regress_engine_prefix.specs.declared.start.StartPredicate.{StartPredicate}
@@ -30,18 +31,33 @@ use Rattle.regress_engine_runs.specs.Meets.{IsAtPlace}
 use Rattle.regress_engine_runs.proofs.Computed.{computed-runs, one_run}
 use Rattle.regress_engine_runs.proofs.ItemLemmas.{skips}
 use Rattle.regress_engine_runs.proofs.WholeTree.{runs_as_tree}
+use Rattle.regress_engine_matchers.proofs.ViewLemmas.{view_reads}
+use Rattle.regress_engine_exec.proofs.PlaceLemmas.{can-read}
 use Rattle.regress_engine_exec.specs.Sought.{IsSought}
 use Rattle.regress_engine_exec.specs.SoughtOnce.{rises}
 use Rattle.regress_engine_exec.specs.Hits.{IsNextHit, MaySkip}
 use Rattle.regress_engine_exec.proofs.SearchLemmas.{FindsOn, bytes-units}
 
+-- ---- bytes that hold a text
+
+-- they are its units
+pub held-bytes : (kind : Kind) (units bytes : List ℕ) → Some bytes ≡ in_bytes kind (Some units) → bytes ≡ units
+held-bytes utf8 units bytes e = cc
+held-bytes ascii units bytes e = cc
+held-bytes utf16 units bytes e = absurd (cc)
+held-bytes ucs2 units bytes e = absurd (cc)
+
+-- a place lies in the text
+pub place-lies : (v : View) → AreOfKind v.kind v.units → (o : ℕ) → IsAtPlace (reading_of v) o → o ≤ length v.units
+place-lies v all o place = (view_reads v all).inside o (can-read v all o place)
+
 -- ---- what a start predicate of a program's tree lets a search skip
 
 -- the offset of a place in ASCII is its number
 ascii-offset : (bytes : List ℕ) → IsAscii bytes → (p : ℕ) → p ≤ length bytes → offset (of_utf8 bytes) p ≡ p
-ascii-offset bytes ascii p room =
-    ap (λ cs. sum_by len_utf8 (take p cs)) (chars-IsAscii bytes ascii)
-    ∙ sym (length-encodes (take p bytes)) ∙ ap length (encodes-IsAscii (take p bytes) (IsAscii-take bytes p ascii)) ∙ length-take-le p bytes room
+ascii-offset bytes low p room =
+    ap (λ cs. sum_by len_utf8 (take p cs)) (chars-IsAscii bytes low)
+    ∙ sym (length-encodes (take p bytes)) ∙ ap length (encodes-IsAscii (take p bytes) (IsAscii-take bytes p low)) ∙ length-take-le p bytes room
 
 not-units : (units : Bool) → false ≡ not units → units ≡ true
 not-units true e = refl
@@ -110,7 +126,7 @@ layout-skips target v all kind made n t formed layout start serves = record {
     told = tells v.kind v.table v.unicode v.units all
 
     bytes : target.program.units ≡ false → TellsBytes (reading_of v) (input_of v)
-    bytes none = tells_bytes v.kind v.table v.unicode v.units all (bytes-units (are_bytes v.kind) target.program.units kind none)
+    bytes none = bytes-told v.kind v.table v.unicode v.units all (bytes-units (are_bytes v.kind) target.program.units kind none)
 
     are : tells_bytes start ≡ true → are_bytes v.kind ≡ true
     are told = by_units target.program.units refl

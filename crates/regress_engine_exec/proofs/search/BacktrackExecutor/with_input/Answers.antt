@@ -1,4 +1,4 @@
-use Rattle.std.proofs.Common.{sym, subst}
+use Rattle.std.proofs.Common.{rules, sym, subst}
 use Rattle.std.proofs.Math.Logic.{∥∥₁_elim}
 use Rattle.regress_engine_code.specs.Standing.{program_of, target_of}
 use Rattle.regress_engine_exec.specs.Sought.{IsSought}
@@ -14,7 +14,7 @@ invariant_of-subject g c =
     let v = g.Input.InputIndexer.view c.args.input in
     let all = g.met.Input.InputIndexer.are_of_kind c.args.input in
     let made = c.requires.made in
-    let start = c.new-seeker.result.start.now in
+    let start = c.new.result.start.now in
     let read : IsSought (program_of compiled) v = ∥∥₁_elim compiled.laid (IsSought-prop (program_of compiled) v)
     (λ (n, t, formed, layout, serves). layout-sought (target_of compiled) v all made.kind made.made n t formed layout) in
     let skip : MaySkip (program_of compiled) compiled.start_pred v = ∥∥₁_elim compiled.laid (MaySkip-prop (program_of compiled) compiled.start_pred v)
