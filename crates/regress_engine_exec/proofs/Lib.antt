@@ -11,6 +11,5 @@ pub mod LeaveLemmas
 pub mod DispatchLemmas
 pub mod TryLemmas
 pub mod SearchLemmas
-pub mod SeekLemmas
 pub mod SkipLemmas
 pub mod ProducerLemmas

@@ -35,7 +35,8 @@ use Rattle.regress_engine_matchers.proofs.ViewLemmas.{view_reads}
 use Rattle.regress_engine_exec.proofs.PlaceLemmas.{can-read}
 use Rattle.regress_engine_exec.specs.Sought.{IsSought}
 use Rattle.regress_engine_exec.specs.SoughtOnce.{rises}
-use Rattle.regress_engine_exec.specs.Hits.{IsNextHit, MaySkip}
+use Rattle.regress_engine_prefix.specs.Seeking.{IsNextHit}
+use Rattle.regress_engine_exec.specs.Skipping.{MaySkip}
 use Rattle.regress_engine_exec.proofs.SearchLemmas.{FindsOn, bytes-units}
 
 -- ---- bytes that hold a text

@@ -5,5 +5,5 @@ pub mod Tasks
 pub mod Leaving
 pub mod Trying
 pub mod Sought
-pub mod Hits
+pub mod Skipping
 pub mod SoughtOnce

@@ -24,7 +24,7 @@ use Rattle.regress_engine_runs.proofs.OneAnswer.{IsComputed-prop}
 use Rattle.regress_engine_prefix.specs.Starts.{BeginsAs, is_arbitrary}
 use Rattle.regress_engine_prefix.specs.declared.start.StartPredicate.{StartPredicate}
 use Rattle.regress_engine_prefix.specs.declared.start.StartPredicate.TheVariants.{Arbitrary, ByteSet1, ByteSet2, ByteSet3, ByteSeq, ByteBracket, StartAnchored}
-use Rattle.regress_engine_exec.specs.Hits.{MaySkip}
+use Rattle.regress_engine_exec.specs.Skipping.{MaySkip}
 use Rattle.regress_engine_exec.specs.Ready.{Suits}
 use Rattle.regress_engine_exec.specs.Sought.{IsItemAtPlaces, Listed, IsSought}
 

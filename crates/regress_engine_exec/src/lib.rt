@@ -9,7 +9,6 @@ mod memory;
 mod producer;
 mod reads;
 mod search;
-mod seeker;
 mod shown;
 mod singles;
 mod step;

@@ -15,11 +15,11 @@ ghost use Rattle.regress_engine_exec.specs.Sought.{IsMadeOf, IsFound, IsItemAtPl
 
 use crate::attempt::Attempt;
 use crate::memory::Memory;
-use crate::seeker::Seeker;
 use crate::shown::{ExecutorInput, Shown};
 use crate::subject::Subject;
 use regress_engine_code::CompiledRegex;
 use regress_engine_input::Utf8Input;
+use regress_engine_prefix::Seeker;
 use regress_front_core::GroupData;
 use regress_match::{Match, MatchProducer, Range};
 use std::alloc::{AllocError, Global};

@@ -7,13 +7,14 @@ ghost use Rattle.regress_engine_code.specs.Standing.{program_of};
 ghost use Rattle.regress_engine_runs.specs.Items.{goes_on};
 ghost use Rattle.regress_engine_runs.specs.Meets.{IsAtPlace};
 ghost use Rattle.regress_engine_exec.specs.Sought.{IsSought, IsItemAtPlaces};
-ghost use Rattle.regress_engine_exec.specs.Hits.{IsNextHit, MaySkip};
+ghost use Rattle.regress_engine_prefix.specs.Seeking.{IsNextHit};
+ghost use Rattle.regress_engine_exec.specs.Skipping.{MaySkip};
 ghost use Rattle.regress_engine_exec.specs.SoughtOnce.{IsSought-prop, MaySkip-prop};
 
-use crate::seeker::Seeker;
 use crate::shown::{ExecutorInput, Shown};
 use regress_engine_code::CompiledRegex;
 use regress_engine_input::{InputIndexer, PositionType};
+use regress_engine_prefix::Seeker;
 use regress_match::Match;
 
 /// A program, and a text in which it may be sought.

@@ -4,7 +4,8 @@ use Rattle.regress_engine_code.specs.Standing.{program_of}
 use Rattle.regress_engine_input.specs.Views.{input_of}
 use Rattle.regress_engine_exec.specs.Held.{held}
 use Rattle.regress_engine_exec.specs.Sought.{IsSought}
-use Rattle.regress_engine_exec.specs.Hits.{IsNextHit, MaySkip}
+use Rattle.regress_engine_prefix.specs.Seeking.{IsNextHit}
+use Rattle.regress_engine_exec.specs.Skipping.{MaySkip}
 use Rattle.regress_engine_exec.specs.Trying.{IsAnswer}
 use Rattle.regress_engine_exec.proofs.PlaceLemmas.{can-read, next-place}
 use Rattle.regress_engine_exec.proofs.SearchLemmas.{search-found, search-none, search-on, search-less}

@@ -2,7 +2,7 @@ use Rattle.std.proofs.Common.{rules, sym, subst}
 use Rattle.std.proofs.Math.Logic.{∥∥₁_elim}
 use Rattle.regress_engine_code.specs.Standing.{program_of, target_of}
 use Rattle.regress_engine_exec.specs.Sought.{IsSought}
-use Rattle.regress_engine_exec.specs.Hits.{MaySkip}
+use Rattle.regress_engine_exec.specs.Skipping.{MaySkip}
 use Rattle.regress_engine_exec.specs.SoughtOnce.{IsSought-prop, MaySkip-prop}
 use Rattle.regress_engine_exec.proofs.SearchLemmas.{layout-sought}
 use Rattle.regress_engine_exec.proofs.SkipLemmas.{layout-skips}

@@ -1,8 +1,8 @@
 use Rattle.std.specs.Prelude.{Option, None, Some, drop}
 use Rattle.std.proofs.Common.{◌≡◌, ◌-◌, ℕ, length, take, take_all, length-drop, subst, sym, rules, arith}
-use Rattle.regress_engine_exec.specs.Hits.{IsNextHit}
-use Rattle.regress_engine_exec.proofs.SeekLemmas.{found-behind}
-use Rattle.regress_engine_exec.proofs.seeker.Seeker.find_from.Goals as goal
+use Rattle.regress_engine_prefix.specs.Seeking.{IsNextHit}
+use Rattle.regress_engine_prefix.proofs.SeekLemmas.{found-behind}
+use Rattle.regress_engine_prefix.proofs.seeker.Seeker.find_from.Goals as goal
 
 pub returns-in_err-index : goal.returns-in_err-index
 returns-in_err-index c =

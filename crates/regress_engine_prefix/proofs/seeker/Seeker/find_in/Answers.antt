@@ -1,9 +1,9 @@
 use Rattle.std.proofs.Common.{subst, sym, ap, ◌∙◌}
 use Rattle.memchr.specs.Find.{FindsNeedle}
 use Rattle.regress_front_bytes.specs.Bitmaps.{byte_bitmap_contains}
-use Rattle.regress_engine_exec.specs.Hits.{IsNextHit, literal_of}
-use Rattle.regress_engine_exec.proofs.SeekLemmas.{needle-least, position-least}
-use Rattle.regress_engine_exec.proofs.seeker.Seeker.find_in.Goals as goal
+use Rattle.regress_engine_prefix.specs.Seeking.{IsNextHit, literal_of}
+use Rattle.regress_engine_prefix.proofs.SeekLemmas.{needle-least, position-least}
+use Rattle.regress_engine_prefix.proofs.seeker.Seeker.find_in.Goals as goal
 
 pub returns-in-ByteSeq-clause-first : goal.returns-in-ByteSeq-clause-first
 returns-in-ByteSeq-clause-first c =

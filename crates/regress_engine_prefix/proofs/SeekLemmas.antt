@@ -15,7 +15,7 @@ use Rattle.regress_meaning.specs.Meaning.{is_some_and}
 use Rattle.regress_engine_prefix.specs.Starts.{BeginsAs}
 use Rattle.regress_engine_prefix.specs.declared.start.StartPredicate.{StartPredicate}
 use Rattle.regress_engine_prefix.specs.declared.start.StartPredicate.TheVariants.{Arbitrary, ByteSet1, ByteSet2, ByteSet3, ByteSeq, ByteBracket, StartAnchored}
-use Rattle.regress_engine_exec.specs.Hits.{IsLeast, IsNextHit, is_anchored}
+use Rattle.regress_engine_prefix.specs.Seeking.{IsLeast, IsNextHit, is_anchored}
 
 -- ---- sets of bytes
 

@@ -3,17 +3,18 @@ ghost use Rattle.std.specs.Prelude.{◌≡◌, ◌≤◌, ℕ, List, false, leng
 ghost use Rattle.memchr.specs.Find.{IsFirstByte};
 ghost use Rattle.regress_meaning.specs.Text.{holds};
 ghost use Rattle.regress_engine_prefix.specs.Starts.{tells_bytes};
-ghost use Rattle.regress_engine_exec.specs.Hits.{IsNextHit, is_anchored, literal_of};
+ghost use Rattle.regress_engine_prefix.specs.Seeking.{IsNextHit, is_anchored, literal_of};
 
+use crate::start::StartPredicate;
 use memchr::memmem::Finder;
 use memchr::{memchr, memchr2, memchr3};
-use regress_engine_code::StartPredicate;
-use regress_front_tables::ByteSearcher;
+use regress_front_bytes::ByteSearcher;
 
 /// Looks for what a start predicate says; a literal is prepared once.
 #[derive(Debug, Drop)]
-pub(crate) struct Seeker<'r> {
-    pub(crate) start: &'r StartPredicate,
+pub struct Seeker<'r> {
+    /// What is looked for.
+    pub start: &'r StartPredicate,
     literal: Finder<'r>,
     ghost prepared: { literal ≡ literal_of start.now },
 }
@@ -41,7 +42,11 @@ fn find_three(set: [u8; 3], bytes: &[u8]) -> Option<usize>
 
 impl<'r> Seeker<'r> {
     /// What looks for a start predicate.
-    pub(crate) fn new(start: &'r StartPredicate) -> Seeker<'r>
+    ///
+    /// ```rust
+    /// let seeker = Seeker::new(program.start_pred());
+    /// ```
+    pub fn new(start: &'r StartPredicate) -> Seeker<'r>
         ensures { result.start ≡ start.entry }
     {
         let literal: &'r [u8] = match start {
@@ -61,8 +66,13 @@ impl<'r> Seeker<'r> {
         matches!(self.start, StartPredicate::StartAnchored)
     }
 
-    /// The least offset from one on at which a text goes on as the predicate says, where that speaks of no bytes.
-    pub(crate) fn find_without_bytes(&self, offset: usize) -> Option<usize>
+    /// The least offset from one on at which a text goes on as the predicate says, whatever the text holds. Asks for a predicate
+    /// that speaks of no bytes.
+    ///
+    /// ```rust
+    /// let start = seeker.find_without_bytes(0); // of `^a` `Some(0)`, and from 1 on `None`
+    /// ```
+    pub fn find_without_bytes(&self, offset: usize) -> Option<usize>
         requires { tells_bytes self.now.start.now ≡ false }
         ensures { (units : List ℕ) → IsNextHit self.now.start.now units offset result }
     {
@@ -88,8 +98,13 @@ impl<'r> Seeker<'r> {
         }
     }
 
-    /// The least offset from one on at which a text goes on as the predicate says.
-    pub(crate) fn find_from(&self, text: &[u8], offset: usize) -> Option<usize>
+    /// The least offset from one on at which the bytes of a text go on as the predicate says, or `None` where they do nowhere.
+    /// Asks that the offset lies in the text.
+    ///
+    /// ```rust
+    /// let start = seeker.find_from(b"abcab", 1); // of `ab` `Some(3)`
+    /// ```
+    pub fn find_from(&self, text: &[u8], offset: usize) -> Option<usize>
         requires { offset ≤ length text.now }
         ensures { IsNextHit self.now.start.now text.now offset result }
     {
