@@ -51,7 +51,8 @@ fn parts_of_a_program(rt: HostRuntime) -> Result<(), Fail> {
         assert!(rt; program.shared_group_names()?.len() == 3);
         assert!(rt; brackets_told(rt.alloc(), &program)?.as_str() == BRACKETS);
         assert!(rt; program.flags().multiline && program.flags().dot_all && !program.flags().icase);
-        assert!(rt; matches!(program.start_pred(), StartPredicate::Arbitrary));
+        assert!(rt; matches!(program.start_pred(), StartPredicate::ByteBracket(_)) != units);
+        assert!(rt; matches!(program.start_pred(), StartPredicate::Arbitrary) == units);
         assert!(rt; program.tables().fold(0x41) == tables.fold(0x41));
     }
     Ok(())
@@ -67,7 +68,7 @@ fn copies_are_alike(rt: HostRuntime) -> Result<(), Fail> {
         assert!(rt; copy.is_unit_program() == units);
         assert!(rt; copy.loops() == 3 && copy.groups() == 3);
         assert!(rt; copy.flags().multiline && copy.flags().dot_all && !copy.flags().icase);
-        assert!(rt; matches!(copy.start_pred(), StartPredicate::Arbitrary));
+        assert!(rt; matches!(copy.start_pred(), StartPredicate::ByteBracket(_)) != units);
     }
     Ok(())
 }

@@ -52,6 +52,27 @@ fn long_texts_match_so(rt: HostRuntime) -> Result<(), Fail> {
     match_so(rt.alloc(), LONG)
 }
 
+/// Long texts in which what matches begin with is rare, frequent, at the end, or begins as other characters do.
+const STARTS: &[LongRow] = &[
+    ("abc", "x", 1000, "abc", "1000..1003"),
+    ("b", "a", 1_000_000, "b", "1000000..1000001"),
+    ("bcd", "abc", 300_000, "bcd", "900000..900003"),
+    ("bcd", "a", 1_000_000, "", ""),
+    ("[bc]d", "a", 1_000_000, "cd", "1000000..1000002"),
+    ("[bcd]e", "ab", 200_000, "de", "400000..400002"),
+    ("[b-e]f", "a", 1_000_000, "ef", "1000000..1000002"),
+    ("é|è", "ê", 200_000, "è", "400000..400002"),
+    ("😀", "😁", 100_000, "😀", "400000..400004"),
+    ("^b", "a", 1_000_000, "b", ""),
+    ("^a", "a", 1_000_000, "b", "0..1"),
+    ("(?:aa|ab)c", "a", 100_000, "bc", "99999..100002"),
+];
+
+#[test]
+fn long_texts_are_searched_so(rt: HostRuntime) -> Result<(), Fail> {
+    match_so(rt.alloc(), STARTS)
+}
+
 /// A pattern made of a piece so many times, a middle and an end so many times; a text; and its matches, told from the front.
 type DeepRow = (
     &'static str,

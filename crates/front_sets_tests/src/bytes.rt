@@ -122,6 +122,8 @@ fn the_first_member_is_found(rt: HostRuntime) {
     assert!(rt;
         finds(b"c", b"ab", None)
             && finds(b"cb", b"", None)
+            && finds(b"ab", b"xxxxxxx", None)
+            && finds(b"ab", b"xxxxb", Some(4))
             && finds(&ByteArraySet(*b"xyz"), b"abc", None)
     );
     assert!(rt; finds(&EmptyString, b"abc", Some(0)) && finds(&EmptyString, b"", Some(0)));

@@ -23,9 +23,9 @@ use Rattle.regress_engine_input.proofs.KindLemmas.{tells}
 use Rattle.regress_engine_code.specs.declared.compiled.CompiledRegex.{CompiledRegex}
 use Rattle.regress_engine_code.specs.Laid.{IsLaid}
 use Rattle.regress_engine_code.specs.Standing.{target_of}
-use Rattle.regress_engine_exec.specs.Sought.{Sought, IsMadeOf, StartsAt, items_from}
-use Rattle.regress_engine_exec.specs.SoughtOnce.{rises}
-use Rattle.regress_engine_exec.proofs.ProducerLemmas.{items-asked}
+use Rattle.regress_engine_sought.specs.Sought.{Sought, IsMadeOf, StartsAt, items_from}
+use Rattle.regress_engine_sought.specs.SoughtOnce.{rises}
+use Rattle.regress_engine_sought.proofs.ProducerLemmas.{items-asked}
 use Rattle.regress.specs.Programs.{IsProgramOf}
 use Rattle.regress.specs.Seeking.{Seeks}
 
@@ -70,8 +70,8 @@ module _ (s : Sought) (all : AreOfKind s.view.kind s.view.units) (made : IsMadeO
   pub coming-rises : ItemsRise (coming_on (items_from s) position)
   coming-rises = ∥∥₁_elim s.compiled.laid (ItemsRise-prop (coming_on (items_from s) position)) rise
     where
-      rise : IsLaid (target_of s.compiled) → ItemsRise (coming_on (items_from s) position)
-      rise (n, t, formed, layout) =
+      rise : IsLaid (target_of s.compiled) s.compiled.start_pred → ItemsRise (coming_on (items_from s) position)
+      rise (n, t, formed, layout, serves) =
           let context = context_of reading (input_of s.view) in
           subst ItemsRise (sym (items-asked s all made n t formed layout at place begins position starts))
           (told-rise reading (rises s.view.kind s.view.units) (λ i. IsItemInside reading.points i × (length i.groups ≡ n)) (λ i h. h.0)

@@ -1,30 +1,33 @@
--- What a step of an iterator over an executor gives.
-use Rattle.std.proofs.Common.{◌≡◌, ℕ, ◌<◌, [], ◌∷◌, Option, Some, None, IfSome, sym, ap, ◌∙◌, arith}
+-- What a step of an executor gives, told as a step of an iterator over it.
+use Rattle.std.specs.Prelude.{MatchResult, IsErrAnd}
+use Rattle.std.proofs.Common.{◌≡◌, ℕ, ◌∷◌, [], Option, Some, None, Result, Ok, Err, sym, ap, ◌∙◌, subst}
+use Rattle.regress_front_core.specs.declared.error.Error.{Error}
+use Rattle.regress_front_core.specs.declared.error.Error.TheVariants.{OutOfMemory}
 use Rattle.regress_match.specs.declared.found.Match.{Match}
 use Rattle.regress_match.specs.Views.{item_of}
-use Rattle.regress_match.specs.Iterating.{Finds, coming_on, steps_on}
-use Rattle.regress_engine_exec.specs.Sought.{Sought, IsMatchOf, items_from, places_behind}
+use Rattle.regress_match.specs.Iterating.{GivesFirst, UnlessFound, coming_on}
+use Rattle.regress_engine_sought.specs.Sought.{Sought, IsMatchOf, Steps, items_from}
 
-module _ (s after : Sought) (kept : after ≡ s) (before : Option ℕ) (position : ℕ) (was : before ≡ Some position) where
-  -- a match that is found is the first that was to come
-  pub step-found : (m : Match) (next : Option ℕ) → Finds (items_from s) (IsMatchOf s) position (Some m) next
-      → (coming_on (items_from s) before ≡ item_of m ∷ coming_on (items_from after) next) × IsMatchOf s m
-  step-found m next found =
-      (ap (coming_on (items_from s)) was ∙ found.0 ∙ ap (λ (x : Sought). item_of m ∷ coming_on (items_from x) next) (sym kept), found.1)
+-- an error is told as one of memory
+abbrev pub IsTold : {T E : Type 0} → Result T E → Result T Error → Type 0
+IsTold x r = MatchResult x (λ m. r ≡ Ok m) (λ _. IsErrAnd r (λ e. e ≡ OutOfMemory))
 
-  -- where none is found none was to come
-  pub step-none : (next : Option ℕ) → Finds (items_from s) (IsMatchOf s) position None next → coming_on (items_from s) before ≡ []
-  step-none next found = ap (coming_on (items_from s)) was ∙ found.0
+module _ {E : Type 0} (s after : Sought) (kept : after ≡ s) (before next : Option ℕ) where
+  -- nothing is given where none was coming, and none is
+  pub step-none : Steps {E = E} s before None next → GivesFirst (IsMatchOf s) (coming_on (items_from s) before) None (coming_on (items_from after) next)
+  step-none (none, ended) = (none, ap (coming_on (items_from after)) ended)
 
-  -- fewer steps are left behind one that gives anything
-  pub step-nearer : (next : Option ℕ) → IfSome next (λ p. places_behind s p < places_behind s position)
-      → steps_on (places_behind after) next < steps_on (places_behind s) before
-  step-nearer None nearer = let all = ap (steps_on (places_behind s)) was in omega (arith, all)
-  step-nearer (Some p) nearer =
-      let all = ap (steps_on (places_behind s)) was in
-      let same = ap (λ (x : Sought). places_behind x p) kept in
-      omega (arith, all, same, nearer)
+  -- what is given is the first of the items that were coming, or that memory is refused
+  pub step-first : (x : Result Match E) (r : Result Match Error) → Steps s before (Some x) next → IsTold x r
+      → GivesFirst (IsMatchOf s) (coming_on (items_from s) before) (Some r) (coming_on (items_from after) next)
+  step-first (Ok m) r (items, of) told =
+      subst (λ o. GivesFirst (IsMatchOf s) (coming_on (items_from s) before) (Some o) (coming_on (items_from after) next)) (sym told)
+      (items ∙ ap (λ (x : Sought). item_of m ∷ coming_on (items_from x) next) (sym kept), of)
+  step-first (Err e) (Ok m) ended told = absurd told
+  step-first (Err e) (Err f) ended told = (told, ap (coming_on (items_from after)) ended)
 
-  -- an iterator that has ended takes no step
-  pub step-begun : before ≡ None → {Q : Type 0} → Q
-  step-begun none = absurd (let e = sym none ∙ was in cc)
+  -- with an error it has ended
+  pub step-ends : (x : Result Match E) (r : Result Match Error) → Steps s before (Some x) next → IsTold x r → UnlessFound (Some r) (next ≡ None)
+  step-ends (Ok m) r steps told = subst (λ o. UnlessFound (Some o) (next ≡ None)) (sym told) tt
+  step-ends (Err e) (Ok m) ended told = absurd told
+  step-ends (Err e) (Err f) ended told = ended

@@ -9,7 +9,7 @@ use Rattle.regress_match.specs.Views.{ends, item_of}
 use Rattle.regress_match.proofs.TextLemmas.{offset-le}
 use Rattle.regress_match.proofs.TakenLemmas.{of_groups}
 use Rattle.regress_engine_runs.specs.Meets.{AreAtPlaces}
-use Rattle.regress_engine_exec.specs.Sought.{Sought, IsItemAtPlaces, IsMatchOf}
+use Rattle.regress_engine_sought.specs.Sought.{Sought, IsItemAtPlaces, IsMatchOf}
 use Rattle.regress.specs.Coming.{HoldsOfEach}
 use Rattle.regress.specs.Units.{LiesInUnits, IsMatchInUnits}
 

@@ -3,7 +3,7 @@ ghost use Rattle.std.specs.Prelude.{ℕ};
 ghost use Rattle.std.specs.Iterator.{at_most};
 ghost use Rattle.regress_meaning.specs.Offsets.{of_utf8, Begins};
 ghost use Rattle.regress_engine_input.specs.InputViews.{utf8_view};
-ghost use Rattle.regress_engine_exec.specs.Sought.{StartsAt};
+ghost use Rattle.regress_engine_sought.specs.Sought.{StartsAt};
 ghost use Rattle.regress_match.specs.Iterating.{GivesMatch};
 ghost use Rattle.regress_match.specs.TextRanges.{IsMatchIn};
 ghost use Rattle.regress.specs.Positions.{IsPlaced, IsPlaced-prop};
@@ -62,16 +62,8 @@ impl<'r, 't> Iterator for Matches<'r, 't> {
     /// let first = matches.next().transpose()?;
     /// ```
     fn next(&mut self) -> Option<Result<Match, Error>> {
-        let position = self.position.take()?;
-        let mut next = None;
-        match self.executor.advance(position, &mut next) {
-            Ok(Some(found)) => {
-                self.position = next;
-                Some(Ok(found))
-            }
-            Ok(None) => None,
-            Err(refused) => Some(Err(Error::from(refused))),
-        }
+        let found = self.executor.step(&mut self.position)?;
+        Some(found.map_err(Error::from))
     }
 }
 

@@ -3,7 +3,7 @@ ghost use Rattle.std.specs.Prelude.{ℕ};
 ghost use Rattle.std.specs.Iterator.{at_most};
 ghost use Rattle.regress_meaning.specs.Offsets.{of_utf16, of_ucs2, Begins};
 ghost use Rattle.regress_engine_input.specs.InputViews.{utf16_view, ucs2_view};
-ghost use Rattle.regress_engine_exec.specs.Sought.{StartsAt, IsMatchOf};
+ghost use Rattle.regress_engine_sought.specs.Sought.{StartsAt, IsMatchOf};
 ghost use Rattle.regress_match.specs.Iterating.{GivesMatch};
 ghost use Rattle.regress.specs.Positions.{IsPlaced, IsPlaced-prop};
 
@@ -87,16 +87,8 @@ impl<'r, 't> Iterator for Utf16Matches<'r, 't> {
     /// let first = regex.find_from_utf16(units, 0)?.next().transpose()?;
     /// ```
     fn next(&mut self) -> Option<Result<Match, Error>> {
-        let position = self.position.take()?;
-        let mut next = None;
-        match self.executor.advance(position, &mut next) {
-            Ok(Some(found)) => {
-                self.position = next;
-                Some(Ok(found))
-            }
-            Ok(None) => None,
-            Err(refused) => Some(Err(Error::from(refused))),
-        }
+        let found = self.executor.step(&mut self.position)?;
+        Some(found.map_err(Error::from))
     }
 }
 
@@ -122,16 +114,8 @@ impl<'r, 't> Iterator for Ucs2Matches<'r, 't> {
     /// let first = regex.find_from_ucs2(units, 0)?.next().transpose()?;
     /// ```
     fn next(&mut self) -> Option<Result<Match, Error>> {
-        let position = self.position.take()?;
-        let mut next = None;
-        match self.executor.advance(position, &mut next) {
-            Ok(Some(found)) => {
-                self.position = next;
-                Some(Ok(found))
-            }
-            Ok(None) => None,
-            Err(refused) => Some(Err(Error::from(refused))),
-        }
+        let found = self.executor.step(&mut self.position)?;
+        Some(found.map_err(Error::from))
     }
 }
 

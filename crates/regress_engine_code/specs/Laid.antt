@@ -8,6 +8,8 @@ use Rattle.regress_front_tables.specs.declared.tables.Tables.{Tables}
 use Rattle.regress_front_nodes.specs.Trees.{Tree}
 use Rattle.regress_front_nodes.specs.WellFormed.{IsWellFormed}
 use Rattle.regress_front_nodes.specs.declared.node.BracketContents.{BracketContents}
+use Rattle.regress_engine_prefix.specs.Starts.{Serves}
+use Rattle.regress_engine_prefix.specs.declared.start.StartPredicate.{StartPredicate}
 use Rattle.regress_engine_code.specs.declared.insn.Insn.{Insn}
 use Rattle.regress_engine_code.specs.Instructions.{Program}
 use Rattle.regress_engine_code.specs.InsnViews.{instruction}
@@ -28,6 +30,6 @@ program_from insns brackets loops groups units = record {
 abbrev pub target_from : Program → Tables → Flags → Target
 target_from program tables flags = record { program = program; table = table tables; unicode = is_unicode (options flags) }
 
--- It is the layout of a well-formed tree.
-abbrev pub IsLaid : Target → Type 0
-IsLaid target = (n : ℕ) × (t : Tree) × IsWellFormed n t × IsLayout target n t
+-- It is the layout of a well-formed tree, which a start predicate serves.
+abbrev pub IsLaid : Target → StartPredicate → Type 0
+IsLaid target start = (n : ℕ) × (t : Tree) × IsWellFormed n t × IsLayout target n t × Serves target.program.units t start

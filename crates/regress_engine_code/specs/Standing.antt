@@ -13,7 +13,7 @@ use Rattle.regress_engine_code.specs.Instructions.{Program, begins_loop}
 use Rattle.regress_engine_code.specs.Counts.{count}
 use Rattle.regress_engine_code.specs.Layout.{Target, IsLayout}
 use Rattle.regress_engine_code.specs.Laid.{program_from, target_from}
-use Rattle.regress_engine_prefix.specs.Starts.{IsSameStart}
+use Rattle.regress_engine_prefix.specs.Starts.{IsSameStart, Serves}
 
 -- what a program is to definitions
 abbrev pub program_of : CompiledRegex → Program
@@ -32,7 +32,7 @@ abbrev pub length_for : (units : Bool) → Regex → ℕ
 length_for units regex = count units (table regex.tables.now) (is_unicode (options regex.flags)) (tree regex.node)
 
 -- The program stands for a tree: its flags, its table and the names of its groups are the tree's, it is the tree's layout,
--- with a group for each name, and as many repetitions begin in it as it has loops.
+-- with a group for each name, as many repetitions begin in it as it has loops, and its start predicate serves the tree.
 pub record StandsFor (regex : Regex) (compiled : CompiledRegex) : Type 0 where
   pub flags : compiled.flags ≡ regex.flags
   pub table : table compiled.tables.now ≡ table regex.tables.now
@@ -41,6 +41,7 @@ pub record StandsFor (regex : Regex) (compiled : CompiledRegex) : Type 0 where
   pub counted : length compiled.insns.items ≡ length_for compiled.units regex
   pub loops : compiled.loops ≡ loops (tree regex.node)
   pub begun : count_by begins_loop (program_of compiled).instructions ≡ compiled.loops
+  pub start : Serves compiled.units (tree regex.node) compiled.start_pred
 
 -- A program is a copy of another: the same program, with the same names of groups, flags, tables and start.
 pub record IsCopyOf (compiled copy : CompiledRegex) : Type 0 where

@@ -24,7 +24,7 @@ pub struct CompiledRegex<'u> {
     pub(crate) flags: Flags,
     pub(crate) tables: &'u Tables,
     pub(crate) units: bool,
-    pub(crate) ghost laid: { ∥ IsLaid (target_from (program_from insns.items brackets.items loops groups units) tables.now flags) ∥₁ },
+    pub(crate) ghost laid: { ∥ IsLaid (target_from (program_from insns.items brackets.items loops groups units) tables.now flags) start_pred ∥₁ },
 }
 
 impl<'u> CompiledRegex<'u> {
@@ -44,7 +44,7 @@ impl<'u> CompiledRegex<'u> {
         &self.brackets
     }
 
-    /// Where a match may begin.
+    /// Where a match may begin, told by the bytes there; of a program of units `StartAnchored` or `Arbitrary`.
     pub fn start_pred(&self) -> &StartPredicate
         ensures { result.now ≡ self.now.start_pred }
     {

@@ -3,13 +3,14 @@ ghost use Rattle.std.specs.Prelude.{◌≡◌, true, false, length, IfOk, IfErr}
 ghost use Rattle.regress_front_nodes.specs.Trees.{tree};
 ghost use Rattle.regress_front_nodes.specs.Sizes.{loops};
 ghost use Rattle.regress_front_nodes.specs.WellFormed.{IsWellFormed};
+ghost use Rattle.regress_engine_prefix.specs.Starts.{Serves, KeepsLiteral, IsAnchoredOnlyIf};
 ghost use Rattle.regress_engine_code.specs.Written.{MayRefuse};
 ghost use Rattle.regress_engine_code.specs.Standing.{length_for, StandsFor};
 
 use crate::code::Code;
 use crate::compiled::CompiledRegex;
 use crate::emitter::Emitter;
-use regress_engine_prefix::StartPredicate;
+use regress_engine_prefix::{StartPredicate, predicate_for_re};
 use regress_front_core::{CaptureGroupName, Error};
 use regress_front_nodes::ir::Regex;
 use std::alloc::Global;
@@ -17,9 +18,9 @@ use std::sync::ArcSlice;
 
 /// The program of bytes of a tree.
 ///
-/// It is the tree's layout, for the tree's flags, names and tables, and a match may begin anywhere. Asks for a well-formed tree
-/// with a name for each group, as `try_parse` makes it. It errs with `TooLarge` only where the instructions pass `u32::MAX` or
-/// the loops pass 65535, and with `OutOfMemory`.
+/// It is the tree's layout, for the tree's flags, names and tables, and holds the tree's start predicate. Asks for a well-formed
+/// tree with a name for each group, as `try_parse` makes it. It errs with `TooLarge` only where the instructions pass `u32::MAX`
+/// or the loops pass 65535, and with `OutOfMemory`.
 ///
 /// ```rust
 /// let program = emit(alloc, &regex)?;
@@ -28,13 +29,14 @@ pub fn emit<'u>(alloc: Global, regex: &Regex<'u>) -> Result<CompiledRegex<'u>, E
     requires { IsWellFormed (length regex.now.group_names.items) (tree regex.now.node) }
     ensures emitted { IfOk result (StandsFor regex.now) }
     ensures of_bytes { IfOk result (λ compiled. compiled.units ≡ false) }
-    ensures anywhere { IfOk result (λ compiled. compiled.start_pred ≡ StartPredicate.Arbitrary) }
+    ensures literal { IfOk result (λ compiled. KeepsLiteral (tree regex.now.node) compiled.start_pred) }
+    ensures anchored { IfOk result (λ compiled. IsAnchoredOnlyIf (regex.now.flags.multiline ≡ false) compiled.start_pred) }
     ensures refused { IfErr result (MayRefuse (length_for false regex.now) (loops (tree regex.now.node))) }
 {
     whole_program(alloc, regex, false)
 }
 
-/// The program of 16-bit units of a tree, as `emit` makes that of bytes.
+/// The program of 16-bit units of a tree, as `emit` makes that of bytes, but that its start predicate tells no bytes.
 ///
 /// ```rust
 /// let program = emit_units(alloc, &regex)?;
@@ -43,7 +45,7 @@ pub fn emit_units<'u>(alloc: Global, regex: &Regex<'u>) -> Result<CompiledRegex<
     requires { IsWellFormed (length regex.now.group_names.items) (tree regex.now.node) }
     ensures emitted { IfOk result (StandsFor regex.now) }
     ensures of_units { IfOk result (λ compiled. compiled.units ≡ true) }
-    ensures anywhere { IfOk result (λ compiled. compiled.start_pred ≡ StartPredicate.Arbitrary) }
+    ensures anchored { IfOk result (λ compiled. IsAnchoredOnlyIf (regex.now.flags.multiline ≡ false) compiled.start_pred) }
     ensures refused { IfErr result (MayRefuse (length_for true regex.now) (loops (tree regex.now.node))) }
 {
     whole_program(alloc, regex, true)
@@ -58,6 +60,21 @@ fn group_count(names: &[CaptureGroupName]) -> Result<u32, Error>
     u32::try_from(names.len()).map_err(|_| Error::TooLarge)
 }
 
+/// Where a match of a tree may begin; over units at the start of the text, or anywhere. It errs with `OutOfMemory` alone.
+fn start_of(alloc: Global, regex: &Regex, units: bool) -> Result<StartPredicate, Error>
+    requires { IsWellFormed (length regex.now.group_names.items) (tree regex.now.node) }
+    ensures serves { IfOk result (Serves units (tree regex.now.node)) }
+    ensures literal { IfOk result (λ start. units ≡ false → KeepsLiteral (tree regex.now.node) start) }
+    ensures anchored { IfOk result (IsAnchoredOnlyIf (regex.now.flags.multiline ≡ false)) }
+    ensures refused { IfErr result (λ e. e ≡ Error.OutOfMemory) }
+{
+    match predicate_for_re(alloc, regex)? {
+        StartPredicate::StartAnchored => Ok(StartPredicate::StartAnchored),
+        _ if units => Ok(StartPredicate::Arbitrary),
+        start => Ok(start),
+    }
+}
+
 /// The program of a tree, of units or else of bytes.
 fn whole_program<'u>(
     alloc: Global,
@@ -67,7 +84,8 @@ fn whole_program<'u>(
     requires { IsWellFormed (length regex.now.group_names.items) (tree regex.now.node) }
     ensures emitted { IfOk result (StandsFor regex.now) }
     ensures told { IfOk result (λ compiled. compiled.units ≡ units) }
-    ensures anywhere { IfOk result (λ compiled. compiled.start_pred ≡ StartPredicate.Arbitrary) }
+    ensures literal { IfOk result (λ compiled. units ≡ false → KeepsLiteral (tree regex.now.node) compiled.start_pred) }
+    ensures anchored { IfOk result (λ compiled. IsAnchoredOnlyIf (regex.now.flags.multiline ≡ false) compiled.start_pred) }
     ensures refused { IfErr result (MayRefuse (length_for units regex.now) (loops (tree regex.now.node))) }
 {
     let emitter = Emitter {
@@ -80,10 +98,11 @@ fn whole_program<'u>(
     emitter.node(&mut code, &regex.node, false)?;
     let groups = group_count(&regex.group_names)?;
     let group_names = ArcSlice::from_clones(alloc, &regex.group_names)?;
+    let start_pred = start_of(alloc, regex, units)?;
     Ok(CompiledRegex {
         insns: code.insns,
         brackets: code.brackets,
-        start_pred: StartPredicate::Arbitrary,
+        start_pred,
         loops: u32::from(code.loops),
         groups,
         group_names,

@@ -13,11 +13,11 @@ use Rattle.regress_engine_runs.specs.Meets.{IsAtPlace}
 use Rattle.regress_engine_runs.specs.UndoStack.{Undo, Frame, Work, old_loop, old_group, resume, iterate, give_back, take_on, frame, whole, first_do, stands_for, at_each, MovesOn}
 use Rattle.regress_engine_runs.proofs.UndoLemmas.{given_back_last, given_back_one, taken_on_last, taken_on_one, frame_exhausted}
 use Rattle.regress_engine_runs.proofs.ReadLemmas.{read_exhausted}
-use Rattle.regress_engine_runs.proofs.InputsMove.{utf8-moves-on, ascii-moves-on, utf16-moves-on, ucs2-moves-on}
 use Rattle.regress_engine_input.specs.Views.{AreOfKind}
 use Rattle.regress_engine_runs.specs.Closed.{takes_character}
 use Rattle.regress_engine_runs.proofs.RunViews.{one_stands}
-use Rattle.regress_engine_exec.specs.Ready.{Suits, IsReady}
+use Rattle.regress_engine_sought.specs.Sought.{Suits}
+use Rattle.regress_engine_exec.specs.Ready.{IsReady}
 use Rattle.regress_engine_exec.proofs.PlaceLemmas.{body-ready}
 use Rattle.regress_engine_exec.specs.declared.undo.Spot.{Spot}
 use Rattle.regress_engine_exec.specs.Held.{Held, pushed, loop_written}
@@ -207,23 +207,13 @@ module _ (program : Program) (v : View) where
       let there = held.sound.0 in let same = held.loops in
       (omega (arith, there, same), held.sound.1, held.sound.2, record { loops = held.loops; groups = held.groups; sound = held.sound.3 })
 
--- each input moves on
-pub moves : (v : View) → MovesOn (input_of v)
-moves v = by_kind v.kind
-  where
-    by_kind : (k : Kind) → MovesOn (input_of (record v { kind = k }))
-    by_kind utf8 = utf8-moves-on v.table v.unicode v.units
-    by_kind ascii = ascii-moves-on v.table v.unicode v.units
-    by_kind utf16 = utf16-moves-on v.table v.unicode v.units
-    by_kind ucs2 = ucs2-moves-on v.table v.unicode v.units
-
 -- what is repeated is the same instruction
 module _ (v : View) (all : AreOfKind v.kind v.units) (program : Program) (suits : Suits program v) where
   pub body-asked : (at o : ℕ) (j : Instruction) (groups : List Marks) → IsBody program v at o → Stands program (at - 1) j → length groups ≡ program.groups → IsReady program v j groups o
   body-asked at o j groups (i, here, takes, place, some) there count =
       let same : i ≡ j = one_stands program (input_of v) (at - 1) i j here there in
       let takes' : takes_character j ≡ true = ap takes_character (sym same) ∙ takes in
-      body-ready v all program suits (at - 1) j groups o (suits.closed (at - 1) j there) takes' count place
+      body-ready v program (at - 1) j groups o (suits.closed (at - 1) j there) takes' count place
 
   pub body-next : (at o q : ℕ) (j : Instruction) (dir : Direction) (groups : List Marks) → IsBody program v at o → Stands program (at - 1) j
       → advance program (input_of v) j dir groups o ≡ Some q → IsBody program v at q

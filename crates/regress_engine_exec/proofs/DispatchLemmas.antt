@@ -21,7 +21,8 @@ use Rattle.regress_engine_runs.proofs.ReadLemmas.{read_inside}
 use Rattle.regress_engine_runs.proofs.RunViews.{one_stands}
 use Rattle.regress_engine_exec.specs.declared.undo.Spot.{Spot}
 use Rattle.regress_engine_exec.specs.Held.{Held, pushed}
-use Rattle.regress_engine_exec.specs.Ready.{Suits, IsReady, is_simple}
+use Rattle.regress_engine_sought.specs.Sought.{Suits}
+use Rattle.regress_engine_exec.specs.Ready.{IsReady, is_simple}
 use Rattle.regress_engine_exec.specs.Sound.{IsHeld}
 use Rattle.regress_engine_exec.specs.Tasks.{Task, task_of, task, state_at, Leads, GoesOn}
 use Rattle.regress_engine_exec.proofs.LeadLemmas.{leads-then, leads-same, leads-plain}

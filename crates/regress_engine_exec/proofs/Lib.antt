@@ -11,4 +11,3 @@ pub mod LeaveLemmas
 pub mod DispatchLemmas
 pub mod TryLemmas
 pub mod SearchLemmas
-pub mod ProducerLemmas

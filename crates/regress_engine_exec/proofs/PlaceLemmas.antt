@@ -1,21 +1,16 @@
 -- Offsets that are read at.
-use Rattle.std.proofs.Common.{◌≡◌, ℕ, true, List, [], length, Option, Some, None, option_map, refl, sym, ap, subst, arith}
+use Rattle.std.proofs.Common.{◌≡◌, ℕ, true, List, [], length, Option, Some, None, option_map, refl, sym, subst, arith}
 use Rattle.regress_meaning.specs.Meaning.{Direction}
-use Rattle.regress_meaning.specs.Inputs.{Tells}
-use Rattle.regress_meaning.specs.Steps.{passed}
-use Rattle.regress_engine_input.specs.Views.{View, AreOfKind, CanRead, LiesIn, behind, input_of, reading_of}
-use Rattle.regress_engine_input.proofs.KindLemmas.{tells, readable}
+use Rattle.regress_engine_input.specs.Views.{View, CanRead, LiesIn, behind, input_of, reading_of}
 use Rattle.regress_engine_code.specs.Instructions.{Instruction, Program}
 use Rattle.regress_engine_code.specs.Instructions as code
 use Rattle.regress_engine_runs.specs.States.{Marks}
 use Rattle.regress_engine_runs.specs.Meets.{IsAtPlace, ReadsPlaces}
 use Rattle.regress_engine_runs.specs.Closed.{Fits, takes_character}
 use Rattle.regress_engine_runs.specs.UndoStack.{whole}
-use Rattle.regress_engine_runs.proofs.Literals.{place-on}
-use Rattle.regress_engine_runs.proofs.Literals as literals
-use Rattle.regress_engine_matchers.proofs.MatcherLemmas.{Reads}
-use Rattle.regress_engine_exec.specs.Ready.{Suits, IsReady}
 use Rattle.regress_engine_runs.proofs.BodyPlaces.{fits-anywhere}
+use Rattle.regress_engine_matchers.proofs.MatcherLemmas.{Reads}
+use Rattle.regress_engine_exec.specs.Ready.{IsReady}
 
 -- behind what is read lies in the text
 pub lies-behind : (v : View) → Reads v → (dir : Direction) (o q : ℕ) → CanRead v o → q ≡ behind o ((input_of v).next dir o) → LiesIn v q
@@ -33,24 +28,12 @@ lies-next v reads dir o q can e = by_read ((input_of v).next dir o) refl e
     by_read None h f = absurd (cc)
     by_read (Some x) h f = let same : x.1 ≡ q = cc in subst (LiesIn v) same (reads.inside x.1 (reads.on dir o x can h).0)
 
--- what is read at a place ends at a place
-module _ (v : View) (all : AreOfKind v.kind v.units) where
-  told : Tells (reading_of v) (input_of v)
-  told = tells v.kind v.table v.unicode v.units all
-
-  -- characters may be read there
-  pub can-read : (o : ℕ) → IsAtPlace (reading_of v) o → CanRead v o
-  can-read o (p, room, e) = subst (CanRead v) (sym e) (readable v.kind v.table v.unicode v.units all p room)
-
-  pub next-place : (dir : Direction) (o c q : ℕ) → IsAtPlace (reading_of v) o → (input_of v).next dir o ≡ Some (c, q) → IsAtPlace (reading_of v) q
-  next-place dir o c q place e = place-on (input_of v) (reading_of v) told dir (λ c. true) o q place (ap (passed (λ c. true)) e)
-
-  module _ (program : Program) (suits : Suits program v) where
-    -- and may be asked at one
-    pub body-ready : (at : ℕ) (i : Instruction) (groups : List Marks) (o : ℕ) → Fits program at i → takes_character i ≡ true → length groups ≡ program.groups
-        → IsAtPlace (reading_of v) o → IsReady program v i groups o
-    body-ready at i groups o fits takes count place = record { fits = fits-anywhere program at i fits takes; count = count; reads = λ reads. alone i takes }
-      where
-        alone : (i : Instruction) → takes_character i ≡ true → ReadsPlaces (reading_of v) i (whole 0 o [] groups)
-        alone (code.back k icase) takes = absurd (grind arith)
-        alone _ takes = (place, tt)
+module _ (v : View) (program : Program) where
+  -- what takes one character may be asked at a place
+  pub body-ready : (at : ℕ) (i : Instruction) (groups : List Marks) (o : ℕ) → Fits program at i → takes_character i ≡ true → length groups ≡ program.groups
+      → IsAtPlace (reading_of v) o → IsReady program v i groups o
+  body-ready at i groups o fits takes count place = record { fits = fits-anywhere program at i fits takes; count = count; reads = λ reads. alone i takes }
+    where
+      alone : (i : Instruction) → takes_character i ≡ true → ReadsPlaces (reading_of v) i (whole 0 o [] groups)
+      alone (code.back k icase) takes = absurd (grind arith)
+      alone _ takes = (place, tt)

@@ -10,7 +10,7 @@ use Rattle.regress_engine_matchers.specs.References.{IsPlace}
 use Rattle.regress_engine_matchers.proofs.MatcherLemmas.{Reads}
 use Rattle.regress_engine_matchers.proofs.ViewLemmas.{view_reads}
 use Rattle.regress_engine_exec.specs.Ready.{IsReady}
-use Rattle.regress_engine_exec.proofs.PlaceLemmas.{can-read}
+use Rattle.regress_engine_sought.proofs.PlaceLemmas.{can-read}
 
 -- an offset of a place, as the matchers have it
 pub place_is : (v : View) (o : ℕ) → IsAtPlace (reading_of v) o → IsPlace v o

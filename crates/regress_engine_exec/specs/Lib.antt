@@ -4,5 +4,3 @@ pub mod Sound
 pub mod Tasks
 pub mod Leaving
 pub mod Trying
-pub mod Sought
-pub mod SoughtOnce

@@ -1,17 +1,12 @@
 -- When what an instruction reads is there.
-use Rattle.std.specs.Prelude.{◌≡◌, ℕ, Bool, true, false, not, List, [], length}
-use Rattle.regress_engine_input.specs.Views.{View, are_bytes, reading_of}
+use Rattle.std.specs.Prelude.{◌≡◌, ℕ, Bool, true, false, List, [], length}
+use Rattle.regress_engine_input.specs.Views.{View, reading_of}
 use Rattle.regress_engine_code.specs.Instructions.{Instruction, Program}
 use Rattle.regress_engine_code.specs.Instructions as code
 use Rattle.regress_engine_runs.specs.States.{Marks}
 use Rattle.regress_engine_runs.specs.Meets.{reads_character, ReadsPlaces}
-use Rattle.regress_engine_runs.specs.Closed.{Fits, IsClosed}
+use Rattle.regress_engine_runs.specs.Closed.{Fits}
 use Rattle.regress_engine_runs.specs.UndoStack.{whole}
-
--- A program reads a text: it is closed, and of bytes or of units as the text is.
-pub record Suits (program : Program) (v : View) : Type 0 where
-  pub closed : IsClosed program
-  pub kind : are_bytes v.kind ≡ not program.units
 
 -- An instruction may be asked at an offset: it fits the program, and what it reads is at places.
 pub record IsReady (program : Program) (v : View) (i : Instruction) (groups : List Marks) (o : ℕ) : Type 0 where

@@ -1,10 +1,10 @@
--- A run that is tried from an offset, and its answer.
+-- A run that is tried from an offset, its answer, and what a search finds by such runs.
 use Rattle.std.specs.Prelude.{◌≡◌, ℕ, ◌≤◌, [], ◌∷◌, Option, Some, None}
 use Rattle.regress_meaning.specs.Inputs.{Input}
 use Rattle.regress_engine_input.specs.Views.{View, way, input_of, reading_of}
 use Rattle.regress_engine_code.specs.Instructions.{Program}
 use Rattle.regress_engine_runs.specs.States.{Whole}
-use Rattle.regress_engine_runs.specs.Items.{Answers}
+use Rattle.regress_engine_runs.specs.Items.{Answers, Finds, item_of}
 use Rattle.regress_engine_runs.specs.UndoStack.{Comes, ReadOn}
 use Rattle.regress_engine_exec.specs.declared.undo.Spot.{Spot}
 use Rattle.regress_engine_exec.specs.Held.{Held}
@@ -22,3 +22,8 @@ pub record IsTrying (program : Program) (v : View) (n : ℕ) (r : Option Whole) 
   pub comes : (m : ℕ) × (m ≤ n) × Comes program (input_of v) (way p.forward) (state_at p h ∷ []) (work_of program (input_of v) (way p.forward) h) m r
   pub reads : ReadOn program (input_of v) (reading_of v) (way p.forward) (state_at p h ∷ []) (work_of program (input_of v) (way p.forward) h)
   pub held : IsHeld program v h
+
+-- A search from an offset found an answer between two others, whose groups are held; or none.
+abbrev pub IsFound : Program → Input → ℕ → Option (ℕ × ℕ) → Held → Type 0
+IsFound program input at None k = Finds program input at None
+IsFound program input at (Some (start, end)) k = (w : Whole) × Finds program input at (Some (item_of start w)) × (w.offset ≡ end) × (w.groups ≡ k.groups)

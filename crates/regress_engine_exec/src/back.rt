@@ -5,7 +5,7 @@ ghost use Rattle.regress_engine_input.specs.Views.{way, input_of};
 ghost use Rattle.regress_engine_runs.specs.Runs.{gap, after_look};
 ghost use Rattle.regress_engine_runs.specs.UndoStack.{give_back, take_on, whole};
 ghost use Rattle.regress_engine_exec.specs.Held.{held, undo_of, pushed};
-ghost use Rattle.regress_engine_exec.specs.Ready.{Suits};
+ghost use Rattle.regress_engine_sought.specs.Sought.{Suits};
 ghost use Rattle.regress_engine_exec.specs.Sound.{IsHeld};
 ghost use Rattle.regress_engine_exec.specs.Tasks.{task, Leads};
 

@@ -3,7 +3,6 @@
 
 mod attempt;
 mod back;
-mod laws;
 mod leave;
 mod memory;
 mod producer;
@@ -16,6 +15,5 @@ mod steps;
 mod subject;
 mod undo;
 
-pub use laws::executors_list_matches;
 pub use search::BacktrackExecutor;
 pub use shown::{ExecutorInput, Shown};

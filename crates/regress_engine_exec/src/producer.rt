@@ -1,7 +1,7 @@
 //! The matches of a program in a text, one after another.
 ghost use Rattle.std.specs.Prelude.{◌≡◌, ◌<◌, None, IfOk, IfSome, OnErr};
-ghost use Rattle.regress_match.specs.Iterating.{Finds};
-ghost use Rattle.regress_engine_exec.specs.Sought.{Sought, items_from, places_behind, IsPosition, IsStart, StartsAt, IsMatchOf};
+ghost use Rattle.regress_match.specs.Iterating.{Finds, steps_on};
+ghost use Rattle.regress_engine_sought.specs.Sought.{Sought, items_from, places_behind, IsPosition, IsStart, StartsAt, IsMatchOf, Steps};
 
 use crate::search::BacktrackExecutor;
 use crate::shown::ExecutorInput;
@@ -10,16 +10,33 @@ use regress_match::{Match, MatchProducer};
 use std::alloc::AllocError;
 
 impl<'r, Input: ExecutorInput> BacktrackExecutor<'r, Input> {
-    /// The first match from an offset on, and in `next` the offset to go on from, as `next_match` finds them
-    /// ("RegExpBuiltinExec"). Its one error is that memory is refused.
+    /// One step of an iterator over the matches: the first match from a position on, which becomes the offset to go on from
+    /// behind the match ("RegExpBuiltinExec"). Answers `None` where there is no match, and an error where memory is refused;
+    /// after either there is no position, and from none there is no match.
     ///
-    /// Asks that the offset is that of a place of the text.
+    /// Asks that the position is the offset of a place of the text, as `initial_position` and this give it.
     ///
     /// ```rust
-    /// let mut next = None;
-    /// let found = executor.advance(0, &mut next)?;
+    /// let mut position = executor.initial_position(0);
+    /// while let Some(found) = executor.step(&mut position) {
+    ///     let range = found?.range();
+    /// }
     /// ```
-    pub fn advance(
+    pub fn step(&mut self, position: &mut Option<usize>) -> Option<Result<Match, AllocError>>
+        requires { IfSome position.old (IsPosition (⟦<BacktrackExecutor<'r, Input> as MatchProducer>⟧.sought self.old)) }
+        ensures kept { ⟦<BacktrackExecutor<'r, Input> as MatchProducer>⟧.sought self.new ≡ ⟦<BacktrackExecutor<'r, Input> as MatchProducer>⟧.sought self.old }
+        ensures stepped { Steps (⟦<BacktrackExecutor<'r, Input> as MatchProducer>⟧.sought self.old) position.old result position.new }
+        ensures inside { IfSome position.new (IsPosition (⟦<BacktrackExecutor<'r, Input> as MatchProducer>⟧.sought self.old)) }
+        ensures nearer { IfSome result (λ _. steps_on (places_behind (⟦<BacktrackExecutor<'r, Input> as MatchProducer>⟧.sought self.old)) position.new < steps_on (places_behind (⟦<BacktrackExecutor<'r, Input> as MatchProducer>⟧.sought self.old)) position.old) }
+        ensures ended { position.old ≡ None → result ≡ None }
+    {
+        let from = position.take()?;
+        self.advance(from, position).transpose()
+    }
+
+    /// The first match from an offset on, and in `next` the offset to go on from, as `next_match` finds them. Its one error is
+    /// that memory is refused.
+    fn advance(
         &mut self,
         position: usize,
         next: &mut Option<usize>,

@@ -15,7 +15,8 @@ ghost use Rattle.regress_engine_runs.specs.Meets.{reads_character, AreAtPlaces, 
 ghost use Rattle.regress_engine_runs.specs.Runs.{advance};
 ghost use Rattle.regress_engine_runs.specs.Closed.{Fits};
 ghost use Rattle.regress_engine_exec.specs.Held.{marks_of};
-ghost use Rattle.regress_engine_exec.specs.Ready.{Suits, IsReady};
+ghost use Rattle.regress_engine_sought.specs.Sought.{Suits};
+ghost use Rattle.regress_engine_exec.specs.Ready.{IsReady};
 
 use crate::attempt::Attempt;
 use regress_engine_code::Insn;

@@ -11,7 +11,8 @@ ghost use Rattle.regress_engine_runs.specs.States.{range_of};
 ghost use Rattle.regress_engine_runs.specs.Items.{Finds};
 ghost use Rattle.regress_engine_runs.specs.Meets.{IsAtPlace};
 ghost use Rattle.regress_engine_exec.specs.Held.{held, marks_of};
-ghost use Rattle.regress_engine_exec.specs.Sought.{IsMadeOf, IsFound, IsItemAtPlaces};
+ghost use Rattle.regress_engine_sought.specs.Sought.{IsMadeOf, IsItemAtPlaces};
+ghost use Rattle.regress_engine_exec.specs.Trying.{IsFound};
 
 use crate::attempt::Attempt;
 use crate::memory::Memory;
@@ -19,6 +20,7 @@ use crate::shown::{ExecutorInput, Shown};
 use crate::subject::Subject;
 use regress_engine_code::CompiledRegex;
 use regress_engine_input::Utf8Input;
+use regress_engine_prefix::Seeker;
 use regress_front_core::GroupData;
 use regress_match::{Match, MatchProducer, Range};
 use std::alloc::{AllocError, Global};
@@ -68,7 +70,11 @@ impl<'r, Input: ExecutorInput> BacktrackExecutor<'r, Input> {
         ensures program { (⟦<BacktrackExecutor<'r, Input> as MatchProducer>⟧.sought result).compiled ≡ program.entry.now }
         ensures text { (⟦<BacktrackExecutor<'r, Input> as MatchProducer>⟧.sought result).view ≡ Input.view input }
     {
-        let subject = Subject { program, input };
+        let subject = Subject {
+            program,
+            input,
+            seeker: Seeker::new(program.start_pred()),
+        };
         BacktrackExecutor {
             alloc,
             subject,
@@ -77,8 +83,8 @@ impl<'r, Input: ExecutorInput> BacktrackExecutor<'r, Input> {
         }
     }
 
-    /// Searches from an offset on. It answers the offset from which the first run has an answer, and where that ends; the
-    /// answer's groups are then held.
+    /// Searches from an offset on, where the text goes on as the program's start predicate says. It answers the offset from
+    /// which the first run has an answer, and where that ends; the answer's groups are then held.
     fn search(&mut self, offset: usize) -> Result<Option<(usize, usize)>, AllocError>
         requires { IsAtPlace (reading_of (Input.view self.old.subject.input)) offset }
         ensures found { IfOk result (λ found. IsFound (program_of self.old.subject.program.now) (input_of (Input.view self.old.subject.input)) offset found (held self.new.memory)) }
@@ -86,8 +92,11 @@ impl<'r, Input: ExecutorInput> BacktrackExecutor<'r, Input> {
     {
         let program = self.subject.program;
         let input = self.subject.input;
-        let mut start = offset;
+        let mut from = offset;
         'places: loop {
+            let Some(start) = self.subject.next_start(from) else {
+                return Ok(None);
+            };
             let attempt = Attempt {
                 program,
                 input,
@@ -99,7 +108,7 @@ impl<'r, Input: ExecutorInput> BacktrackExecutor<'r, Input> {
             let Some((_, behind)) = attempt.beside(true, start) else {
                 return Ok(None);
             };
-            start = behind;
+            from = behind;
         }
     }
 

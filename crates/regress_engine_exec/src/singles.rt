@@ -8,7 +8,7 @@ ghost use Rattle.regress_engine_runs.specs.Runs.{after_times, as_far, successors
 ghost use Rattle.regress_engine_runs.specs.Meets.{IsAtPlace};
 ghost use Rattle.regress_engine_code.specs.Instructions.{single_loop};
 ghost use Rattle.regress_engine_exec.specs.Held.{held, marks_of};
-ghost use Rattle.regress_engine_exec.specs.Ready.{Suits};
+ghost use Rattle.regress_engine_sought.specs.Sought.{Suits};
 ghost use Rattle.regress_engine_exec.specs.Sound.{IsBody, IsHeld};
 ghost use Rattle.regress_engine_exec.specs.Tasks.{task_of, task, state_at, Leads};
 

@@ -5,12 +5,16 @@ ghost use Rattle.regress_match.specs.Views.{item_of};
 ghost use Rattle.regress_engine_input.specs.Views.{CanRead, input_of, reading_of};
 ghost use Rattle.regress_engine_code.specs.Standing.{program_of};
 ghost use Rattle.regress_engine_runs.specs.Items.{goes_on};
-ghost use Rattle.regress_engine_exec.specs.Sought.{IsSought, IsItemAtPlaces};
-ghost use Rattle.regress_engine_exec.specs.SoughtOnce.{IsSought-prop};
+ghost use Rattle.regress_engine_runs.specs.Meets.{IsAtPlace};
+ghost use Rattle.regress_engine_sought.specs.Sought.{IsSought, IsItemAtPlaces};
+ghost use Rattle.regress_engine_prefix.specs.Seeking.{IsNextHit};
+ghost use Rattle.regress_engine_sought.specs.Skipping.{MaySkip};
+ghost use Rattle.regress_engine_sought.specs.SoughtOnce.{IsSought-prop, MaySkip-prop};
 
 use crate::shown::{ExecutorInput, Shown};
 use regress_engine_code::CompiledRegex;
 use regress_engine_input::{InputIndexer, PositionType};
+use regress_engine_prefix::Seeker;
 use regress_match::Match;
 
 /// A program, and a text in which it may be sought.
@@ -18,7 +22,9 @@ use regress_match::Match;
 pub(crate) struct Subject<'r, Input: Shown> {
     pub(crate) program: &'r CompiledRegex<'r>,
     pub(crate) input: Input,
+    pub(crate) seeker: Seeker<'r>,
     pub(crate) ghost sought: { IsSought (program_of program.now) (Input.shown input) } by { IsSought-prop (program_of program.now) (Input.shown input) },
+    pub(crate) ghost skips: { MaySkip (program_of program.now) seeker.start.now (Input.shown input) } by { MaySkip-prop (program_of program.now) seeker.start.now (Input.shown input) },
 }
 
 impl<'r, Input: ExecutorInput> Subject<'r, Input> {
@@ -27,6 +33,18 @@ impl<'r, Input: ExecutorInput> Subject<'r, Input> {
         ensures { result ≡ length (Input.view self.now.input).units }
     {
         self.input.pos_to_offset(self.input.right_end())
+    }
+
+    /// The least offset from one on at which the text goes on as the start predicate says: at no place before it has a run of
+    /// the program an answer. `None` where there is none.
+    pub(crate) fn next_start(&self, offset: usize) -> Option<usize>
+        requires { IsAtPlace (reading_of (Input.view self.now.input)) offset }
+        ensures { IsNextHit self.now.seeker.start.now (Input.view self.now.input).units offset result }
+    {
+        match self.input.bytes() {
+            Some(bytes) => self.seeker.find_from(bytes, offset),
+            None => self.seeker.find_without_bytes(offset),
+        }
     }
 
     /// The offset behind the character that begins at one, or `None` where the text ends there.

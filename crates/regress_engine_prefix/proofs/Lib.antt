@@ -1,3 +1,5 @@
 pub mod LeadLemmas
 pub mod PrefixLemmas
+pub mod ServingLemmas
 pub mod StartLemmas
+pub mod SeekLemmas

@@ -19,10 +19,11 @@ use Rattle.regress_front_nodes.specs.TreeMeaning.{node_outcomes}
 use Rattle.regress_match.proofs.TextLemmas.{length-encodes, chars-code_points}
 use Rattle.regress_engine_prefix.specs.FirstBytes.{MayLead}
 use Rattle.regress_engine_prefix.specs.Prefixes.{Holds, HoldsFrom, first_literal, HasBytes, Foretells}
-use Rattle.regress_engine_prefix.specs.Starts.{SaysNoMore, IsAnchoredOnlyIf, IsSequence, KeepsSequence, KeepsLiteral, IsStartOf}
+use Rattle.regress_engine_prefix.specs.Starts.{SaysNoMore, IsAnchoredOnlyIf, IsAtStart, HoldsAtStart, IsSequence, KeepsSequence, KeepsLiteral, IsStartOf}
 use Rattle.regress_engine_prefix.specs.declared.prefix.Prefix.{Prefix}
 use Rattle.regress_engine_prefix.specs.declared.start.StartPredicate.{StartPredicate}
-use Rattle.regress_engine_prefix.specs.declared.start.StartPredicate.TheVariants.{StartAnchored}
+use Rattle.regress_engine_prefix.specs.declared.prefix.Prefix.TheVariants.{Still, Unknown, Start, Bytes, First}
+use Rattle.regress_engine_prefix.specs.declared.start.StartPredicate.TheVariants.{Arbitrary, ByteSet1, ByteSet2, ByteSet3, ByteSeq, ByteBracket, StartAnchored}
 
 -- ---- bytes at an offset
 
@@ -160,6 +161,20 @@ start-of start prefix t says told = record {
       says s.place bytes (offset (of_utf8 bytes) s.place) held.0 (offset-start bytes s.place)
       (subst (λ rest. Holds prefix s.place rest held.0) (ap (λ text. encode_utf8_all (drop s.place text)) same ∙ sym (rest-of-text bytes utf8 s.place)) held.1);
 }
+
+-- what is foretold to be at the start of the text is there
+pub holds-at_start : (start : StartPredicate) (prefix : Prefix) (t : Tree) → IsAnchoredOnlyIf (IsAtStart prefix) start → Foretells prefix t → HoldsAtStart t start
+holds-at_start StartAnchored Start t is told = λ context points s some. (some-holds Start context s (node_outcomes context t Forward s) some (told.each context points s)).1
+holds-at_start StartAnchored Still t is told = absurd is
+holds-at_start StartAnchored Unknown t is told = absurd is
+holds-at_start StartAnchored (Bytes _) t is told = absurd is
+holds-at_start StartAnchored (First _) t is told = absurd is
+holds-at_start Arbitrary prefix t is told = tt
+holds-at_start (ByteSet1 _) prefix t is told = tt
+holds-at_start (ByteSet2 _) prefix t is told = tt
+holds-at_start (ByteSet3 _) prefix t is told = tt
+holds-at_start (ByteSeq _) prefix t is told = tt
+holds-at_start (ByteBracket _) prefix t is told = tt
 
 -- of a condition that holds sooner
 pub anchored-weaker : (strong weak : Type 0) → (strong → weak) → (start : StartPredicate) → IsAnchoredOnlyIf strong start → IsAnchoredOnlyIf weak start

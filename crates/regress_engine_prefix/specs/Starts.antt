@@ -1,7 +1,8 @@
 -- What start predicates say of the bytes at an offset.
-use Rattle.std.specs.Prelude.{◌≡◌, ◌≢◌, ℕ, ◌≤◌, Bool, true, false, List, [], length, take, drop, slice_get, chars, IfSome}
+use Rattle.std.specs.Prelude.{◌≡◌, ◌≢◌, ℕ, ◌≤◌, Bool, true, false, List, [], length, take, drop, slice_get, chars, All, IfSome}
 use Rattle.std.specs.Str.{IsUtf8, IsCharBoundary}
 use Rattle.regress_meaning.specs.Text.{holds}
+use Rattle.regress_meaning.specs.TableParts.{is_code_point}
 use Rattle.regress_meaning.specs.Meaning.{Context, State, Forward, is_some_and}
 use Rattle.regress_meaning.specs.Offsets.{of_utf8, offset}
 use Rattle.regress_front_bytes.specs.Bitmaps.{byte_bitmap_contains}
@@ -9,6 +10,7 @@ use Rattle.regress_front_nodes.specs.Trees.{Tree}
 use Rattle.regress_front_nodes.specs.TreeMeaning.{node_outcomes}
 use Rattle.regress_engine_prefix.specs.Prefixes.{Holds, first_literal, HasBytes}
 use Rattle.regress_engine_prefix.specs.declared.prefix.Prefix.{Prefix}
+use Rattle.regress_engine_prefix.specs.declared.prefix.Prefix.TheVariants.{Start}
 use Rattle.regress_engine_prefix.specs.declared.start.StartPredicate.{StartPredicate}
 use Rattle.regress_engine_prefix.specs.declared.start.StartPredicate.TheVariants.{Arbitrary, ByteSet1, ByteSet2, ByteSet3, ByteSeq, ByteBracket, StartAnchored}
 
@@ -58,6 +60,30 @@ KeepsLiteral t start = IfSome (first_literal t) (λ bs. 2 ≤ length bs → IsSe
 pub record IsStartOf (start : StartPredicate) (t : Tree) : Type 0 where
   pub each : (bytes : List ℕ) → IsUtf8 bytes → (context : Context) → context.text ≡ chars bytes → (s : State)
       → node_outcomes context t Forward s ≢ [] → BeginsAs start bytes (offset (of_utf8 bytes) s.place)
+
+-- the prefix is that the place is the start of the text
+abbrev pub IsAtStart : Prefix → Type 0
+IsAtStart Start = Unit {0}
+IsAtStart _ = ⊥
+
+-- where it is `StartAnchored` the tree has outcomes at the start of a text alone
+abbrev pub HoldsAtStart : Tree → StartPredicate → Type 0
+HoldsAtStart t StartAnchored = (context : Context) → All is_code_point context.text → (s : State) → node_outcomes context t Forward s ≢ [] → s.place ≡ 0
+HoldsAtStart t _ = Unit {0}
+
+-- it speaks of bytes
+abbrev pub tells_bytes : StartPredicate → Bool
+tells_bytes Arbitrary = false
+tells_bytes StartAnchored = false
+tells_bytes _ = true
+
+-- A start predicate serves a tree, for a program of bytes or of units: the bytes begin so wherever the tree has an outcome, only
+-- where a character begins or the text ends they begin so, and of units it tells the start of the text or nothing.
+pub record Serves (units : Bool) (t : Tree) (start : StartPredicate) : Type 0 where
+  pub begins : IsStartOf start t
+  pub boundary : HitsBoundaries start
+  pub first : HoldsAtStart t start
+  pub bytes : units ≡ true → tells_bytes start ≡ false
 
 -- they are equal, a sequence in its bytes
 abbrev pub IsSameStart : StartPredicate → StartPredicate → Type 0

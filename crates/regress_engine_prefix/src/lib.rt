@@ -4,6 +4,8 @@
 mod first_bytes;
 mod joining;
 mod prefix;
+mod seeker;
 mod start;
 
+pub use seeker::Seeker;
 pub use start::{StartPredicate, predicate_for_re};

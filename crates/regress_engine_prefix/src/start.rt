@@ -3,7 +3,7 @@ ghost use Rattle.std.specs.Prelude.{◌≡◌, false, length, IfOk, IfErr};
 ghost use Rattle.regress_front_nodes.specs.Trees.{tree};
 ghost use Rattle.regress_front_nodes.specs.WellFormed.{IsWellFormed};
 ghost use Rattle.regress_engine_prefix.specs.Prefixes.{LeadsCharacters};
-ghost use Rattle.regress_engine_prefix.specs.Starts.{IsStartOf, SaysNoMore, HitsBoundaries, IsAnchoredOnlyIf, KeepsSequence, KeepsLiteral, IsSameStart};
+ghost use Rattle.regress_engine_prefix.specs.Starts.{IsStartOf, SaysNoMore, HitsBoundaries, IsAnchoredOnlyIf, IsAtStart, HoldsAtStart, KeepsSequence, KeepsLiteral, IsSameStart};
 
 use crate::prefix::{Prefix, prefix_of};
 use regress_front_bytes::ByteBitmap;
@@ -73,6 +73,7 @@ fn of_prefix(prefix: Prefix, multiline: bool) -> StartPredicate
     ensures begins { SaysNoMore result prefix }
     ensures boundary { HitsBoundaries result }
     ensures anchored { IsAnchoredOnlyIf (multiline ≡ false) result }
+    ensures start { IsAnchoredOnlyIf (IsAtStart prefix) result }
     ensures sequence { KeepsSequence prefix result }
 {
     match prefix {
@@ -91,7 +92,9 @@ fn of_prefix(prefix: Prefix, multiline: bool) -> StartPredicate
 ///
 /// At the offset of each place of a text of UTF-8 from which the tree has an outcome the bytes begin as the predicate says; and
 /// wherever they begin so is a boundary of characters, unless the predicate is `Arbitrary`. `StartAnchored` is chosen only where
-/// `flags.multiline` is off, and a literal of two or more bytes with which the tree begins is a `ByteSeq`. Asks for a well-formed tree, rewritten or not. It errs with `OutOfMemory` alone.
+/// `flags.multiline` is off and the tree has outcomes at the start of a text alone, whatever holds the text; and a literal of two
+/// or more bytes with which the tree begins is a `ByteSeq`. Asks for a well-formed tree, rewritten or not. It errs with
+/// `OutOfMemory` alone.
 ///
 /// ```rust
 /// let start = predicate_for_re(alloc, &regex)?; // of `abc` the `ByteSeq` of `abc`, of `a|b` a `ByteSet2`, of `a*` `Arbitrary`
@@ -102,6 +105,7 @@ pub fn predicate_for_re(alloc: Global, regex: &Regex) -> Result<StartPredicate, 
     ensures boundary { IfOk result HitsBoundaries }
     ensures literal { IfOk result (KeepsLiteral (tree regex.now.node)) }
     ensures anchored { IfOk result (IsAnchoredOnlyIf (regex.now.flags.multiline ≡ false)) }
+    ensures first { IfOk result (HoldsAtStart (tree regex.now.node)) }
     ensures refused { IfErr result (λ e. e ≡ Error.OutOfMemory) }
 {
     let prefix = prefix_of(alloc, &regex.node)?;

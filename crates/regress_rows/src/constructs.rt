@@ -4,6 +4,10 @@ use crate::row::Row;
 
 /// Characters and alternatives.
 pub const CHARACTERS_AND_ALTERNATIVES: &[Row] = &[
+    ("(?:a|)", "", "ba", "0..0|1..2|2..2"),
+    ("é|è", "", "\u{C3}", ""),
+    ("é|è", "", "xè", "1..3"),
+    ("(?:a[])?b", "", "ab", "1..2"),
     ("a", "", "abca", "0..1|3..4"),
     ("abc", "", "xabcabc", "1..4|4..7"),
     ("", "", "ab", "0..0|1..1|2..2"),
@@ -137,6 +141,7 @@ pub const ASSERTIONS: &[Row] = &[
     (r"\b", "iu", "\u{17F}", "0..0|2..2"),
     (r"\B", "iu", "\u{17F}", ""),
     ("(?:^a|b)c", "", "bcac", "0..2"),
+    ("^a|b", "", "ab", "0..1|1..2"),
     ("a^b", "", "ab", ""),
     ("a$b", "", "ab", ""),
     ("a(?:$)", "", "a", "0..1"),
@@ -144,6 +149,12 @@ pub const ASSERTIONS: &[Row] = &[
 
 /// Lookahead and lookbehind.
 pub const LOOKAROUND: &[Row] = &[
+    (
+        "(?<=abcdefghijklmnopqrst)u",
+        "",
+        "abcdefghijklmnopqrstu",
+        "20..21",
+    ),
     ("(?=a)", "", "ba", "1..1"),
     ("(?=a)a", "", "ba", "1..2"),
     ("(?!a)", "", "ab", "1..1|2..2"),

@@ -41,6 +41,7 @@ returns-clause-emitted c =
       counted = sym (length-map c.node.new.code.insns.items instruction) ∙ counted.0;
       loops = c.from.ensures ∙ counted.1;
       begun = all-begin target n t layout;
+      start = c.in_ok-start_pred.ensures.serves;
     }
 
 pub invariant_of-result : goal.invariant_of-result
@@ -56,6 +57,7 @@ invariant_of-result c =
         told-layout c.args.units (table regex.tables.now) (is_unicode (options regex.flags)) _ n t (written c.new-code.result) (written c.node.new.code)
             c.from.result c.in_ok-groups.groups c.new-code.ensures c.is_unicode.ensures c.in_ok-node.ensures.added c.from.ensures
             (c.in_ok-groups.ensures.ok ∙ ap length c.deref.ensures.value),
+        c.in_ok-start_pred.ensures.serves,
       ) ∣₁;
     }
 

@@ -7,7 +7,7 @@ use Rattle.regress_front_core.specs.declared.error.Error.{Error}
 use Rattle.regress_match.specs.declared.found.Match.{Match}
 use Rattle.regress_match.specs.Views.{item_of}
 use Rattle.regress_match.specs.Iterating.{GivesMatch}
-use Rattle.regress_engine_exec.specs.Sought.{IsItemAtPlaces, IsMatchOf}
+use Rattle.regress_engine_sought.specs.Sought.{IsItemAtPlaces, IsMatchOf}
 use Rattle.regress.specs.declared.units.Ucs2Matches.{Ucs2Matches}
 use Rattle.regress.specs.Units.{sought_in_ucs2, coming_in_ucs2, HasEndedUcs2, IsMatchInUnits}
 use Rattle.regress.proofs.UnitLemmas.{match-in, each-match}

@@ -3,8 +3,8 @@ use Rattle.regress_match.specs.Iterating.{Finds, coming_on}
 use Rattle.regress_engine_input.specs.Views.{utf8}
 use Rattle.regress_engine_input.specs.InputViews.{utf8_view}
 use Rattle.regress_engine_code.specs.Standing.{names_of}
-use Rattle.regress_engine_exec.specs.Sought.{Sought, IsPosition, IsMatchOf, items_from}
-use Rattle.regress_engine_exec.proofs.ProducerLemmas.{match-in_utf8}
+use Rattle.regress_engine_sought.specs.Sought.{Sought, IsPosition, IsMatchOf, items_from}
+use Rattle.regress_engine_sought.proofs.ProducerLemmas.{match-in_utf8}
 use Rattle.regress.specs.Coming.{sought_by, searched}
 use Rattle.regress.proofs.StepLemmas.{step-found, step-none, step-nearer, step-begun}
 use Rattle.regress.proofs.matches.MatchesIterator.next.Goals as goal

@@ -1,7 +1,7 @@
 use Rattle.std.proofs.Common.{◌≡◌, Some, IfSome, rules, refl, sym, ap, subst}
 use Rattle.regress_match.specs.Iterating.{Finds, coming_on}
 use Rattle.regress_engine_input.specs.InputViews.{ucs2_view}
-use Rattle.regress_engine_exec.specs.Sought.{Sought, IsPosition, IsMatchOf, items_from}
+use Rattle.regress_engine_sought.specs.Sought.{Sought, IsPosition, IsMatchOf, items_from}
 use Rattle.regress.specs.Units.{sought_in_ucs2}
 use Rattle.regress.proofs.StepLemmas.{step-found, step-none, step-nearer, step-begun}
 use Rattle.regress.proofs.units.Ucs2MatchesIterator.next.Goals as goal

@@ -1,6 +1,6 @@
 use Rattle.std.proofs.Common.{nat_le, refl}
-use Rattle.regress_engine_exec.specs.Sought.{Sought}
-use Rattle.regress_engine_exec.proofs.ProducerLemmas.{shown-kind, read-starts, start-place}
+use Rattle.regress_engine_sought.specs.Sought.{Sought}
+use Rattle.regress_engine_sought.proofs.ProducerLemmas.{shown-kind, read-starts, start-place}
 use Rattle.regress_engine_exec.proofs.producer.BacktrackExecutorMatchProducer.initial_position.Goals as goal
 
 pub returns-clause-inside : goal.returns-clause-inside

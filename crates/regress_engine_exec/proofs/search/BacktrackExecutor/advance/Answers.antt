@@ -5,8 +5,8 @@ use Rattle.regress_match.specs.Views.{item_of}
 use Rattle.regress_engine_code.specs.Standing.{names_of, program_of}
 use Rattle.regress_engine_input.specs.Views.{input_of, reading_of}
 use Rattle.regress_engine_runs.specs.Items.{Finds, goes_on}
-use Rattle.regress_engine_exec.specs.Sought.{Sought, IsItemAtPlaces}
-use Rattle.regress_engine_exec.proofs.ProducerLemmas.{read-place, read-none, goes-on}
+use Rattle.regress_engine_sought.specs.Sought.{Sought, IsItemAtPlaces}
+use Rattle.regress_engine_sought.proofs.ProducerLemmas.{read-place, read-none, goes-on}
 use Rattle.regress_engine_exec.proofs.search.BacktrackExecutor.advance.Goals as goal
 
 pub find_from-requires : goal.find_from-requires

@@ -6,8 +6,10 @@ use Rattle.regress_engine_code.specs.Standing.{program_of}
 use Rattle.regress_engine_input.specs.Views.{input_of}
 use Rattle.regress_engine_runs.specs.States.{range_of}
 use Rattle.regress_engine_exec.specs.Held.{held, marks_of}
-use Rattle.regress_engine_exec.specs.Sought.{IsFound, IsSought}
-use Rattle.regress_engine_exec.proofs.SearchLemmas.{found-match, found-inside}
+use Rattle.regress_engine_sought.specs.Sought.{IsSought}
+use Rattle.regress_engine_exec.specs.Trying.{IsFound}
+use Rattle.regress_engine_sought.proofs.SearchLemmas.{found-inside}
+use Rattle.regress_engine_exec.proofs.SearchLemmas.{found-match}
 use Rattle.regress_engine_exec.proofs.search.BacktrackExecutor.find_from.Goals as goal
 
 pub returns-clause-found : goal.returns-clause-found

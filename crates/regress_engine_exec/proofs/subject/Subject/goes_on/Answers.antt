@@ -1,6 +1,6 @@
 use Rattle.std.proofs.Common.{sym, subst}
 use Rattle.regress_engine_input.specs.Views.{CanRead}
-use Rattle.regress_engine_exec.proofs.PlaceLemmas.{can-read}
+use Rattle.regress_engine_sought.proofs.PlaceLemmas.{can-read}
 use Rattle.regress_engine_exec.proofs.subject.Subject.goes_on.Goals as goal
 
 pub behind-requires : goal.behind-requires

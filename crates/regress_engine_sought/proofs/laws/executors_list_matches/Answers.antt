@@ -1,5 +1,5 @@
-use Rattle.regress_engine_exec.proofs.ProducerLemmas.{items-of_tree, items-asked, match-in_utf8}
-use Rattle.regress_engine_exec.proofs.laws.executors_list_matches.Goals as goal
+use Rattle.regress_engine_sought.proofs.ProducerLemmas.{items-of_tree, items-asked, match-in_utf8}
+use Rattle.regress_engine_sought.proofs.laws.executors_list_matches.Goals as goal
 
 pub returns-clause-items : goal.returns-clause-items
 returns-clause-items c = items-of_tree

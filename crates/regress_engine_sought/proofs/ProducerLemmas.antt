@@ -3,7 +3,7 @@ use Rattle.std.specs.Prelude.{map, option_map, IfSome, nat_le, not}
 use Rattle.std.specs.Bool.{then_some}
 use Rattle.std.specs.Str.{IsUtf8, IsCharBoundary}
 use Rattle.std.specs.declared.ops.Range.{Range}
-use Rattle.std.proofs.Common.{◌≡◌, ℕ, zero, suc, ◌-◌, ◌<◌, ◌≤◌, ◌⊎◌, inl, inr, ◌==◌, Bool, true, false, List, [], ◌∷◌, length, Option, Some, None, if◌then◌else◌, refl, sym, ap, ◌∙◌, subst, arith}
+use Rattle.std.proofs.Common.{◌≡◌, ℕ, zero, suc, ◌<◌, ◌≤◌, ◌⊎◌, inl, inr, ◌==◌, Bool, true, false, List, [], ◌∷◌, length, Option, Some, None, if◌then◌else◌, refl, sym, ap, ◌∙◌, subst, arith}
 use Rattle.std.proofs.lemmas.Bool.{cases_lt, cond_both, le-leb, lt-leb}
 use Rattle.std.proofs.Math.Logic.{∥∥₁_map}
 use Rattle.regress_meaning.specs.Table.{Table}
@@ -25,15 +25,15 @@ use Rattle.regress_engine_input.proofs.KindLemmas.{tells, tells_bytes, end}
 use Rattle.regress_engine_code.specs.Instructions.{Program}
 use Rattle.regress_engine_code.specs.Standing.{program_of, target_of}
 use Rattle.regress_engine_code.specs.Layout.{IsLayout}
-use Rattle.regress_engine_runs.specs.Items.{Finds, Lists, found, later, over, no_item, next_item, goes_on, begins_at}
+use Rattle.regress_engine_runs.specs.Items.{Finds, Lists, over, no_item, next_item, goes_on, begins_at}
 use Rattle.regress_engine_runs.specs.Meets.{IsAtPlace, AreAtPlaces}
 use Rattle.regress_engine_runs.specs.Stand.{RunsAsTree}
 use Rattle.regress_engine_runs.proofs.ItemLemmas.{lists, lists-from_offset}
 use Rattle.regress_engine_runs.proofs.WholeTree.{runs_as_tree}
-use Rattle.regress_engine_exec.specs.Sought.{IsMadeOf, IsItemAtPlaces, Sought, last_place, place_at, last_place-le, items_from, places_behind, IsPosition}
-use Rattle.regress_engine_exec.specs.SoughtOnce.{rises, same_items}
-use Rattle.regress_engine_exec.proofs.BackLemmas.{moves}
-use Rattle.regress_engine_exec.proofs.PlaceLemmas.{next-place}
+use Rattle.regress_engine_sought.specs.Sought.{IsMadeOf, IsItemAtPlaces, Sought, last_place, place_at, last_place-le, items_from, places_behind, IsPosition}
+use Rattle.regress_engine_sought.specs.SoughtOnce.{rises, same_items}
+use Rattle.regress_engine_sought.proofs.PlaceLemmas.{moves}
+use Rattle.regress_engine_sought.proofs.PlaceLemmas.{next-place}
 use Rattle.regress_engine_runs.proofs.FoundItems.{finds-from, goes_on-past}
 
 -- an input has the units that it shows

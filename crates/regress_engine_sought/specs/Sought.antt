@@ -1,26 +1,30 @@
--- What an executor seeks, and what it finds.
-use Rattle.std.specs.Prelude.{◌≡◌, ℕ, zero, suc, ◌-◌, ◌≤◌, not, List, [], ◌∷◌, length, Option, Some, None, All, IfSome, if◌then◌else◌, nat_le}
+-- What a program is sought in, and what searches find.
+use Rattle.std.specs.Prelude.{◌≡◌, ℕ, zero, suc, ◌-◌, ◌≤◌, not, List, [], ◌∷◌, length, Option, Some, None, Result, Ok, Err, All, IfSome, if◌then◌else◌, nat_le}
 use Rattle.std.proofs.Common.{arith}
 use Rattle.std.proofs.lemmas.Bool.{cond_both}
 use Rattle.regress_meaning.specs.Meaning.{Forward}
-use Rattle.regress_meaning.specs.Inputs.{Input}
 use Rattle.regress_meaning.specs.Matches.{Item}
 use Rattle.regress_meaning.specs.Offsets.{Reading, offset, Begins}
 use Rattle.regress_match.specs.declared.found.Match.{Match}
 use Rattle.regress_match.specs.GroupViews.{names_of_match}
+use Rattle.regress_match.specs.Iterating.{coming_on}
 use Rattle.regress_match.specs.Views as match
 use Rattle.regress_engine_input.specs.Views.{View, are_bytes, input_of, reading_of}
 use Rattle.regress_engine_code.specs.Instructions.{Program}
 use Rattle.regress_engine_code.specs.Standing.{names_of, program_of, target_of}
 use Rattle.regress_engine_code.specs.declared.compiled.CompiledRegex.{CompiledRegex}
-use Rattle.regress_engine_runs.specs.States.{Whole, first_state}
+use Rattle.regress_engine_runs.specs.States.{first_state}
 use Rattle.regress_engine_runs.specs.Computed.{IsComputed}
-use Rattle.regress_engine_runs.specs.Items.{Finds, Lists, begins_at, item_of}
+use Rattle.regress_engine_runs.specs.Closed.{IsClosed}
+use Rattle.regress_engine_runs.specs.Items.{Lists, begins_at}
 use Rattle.regress_engine_runs.specs.Meets.{IsAtPlace, AreAtPlaces}
 use Rattle.regress_engine_runs.specs.Stand.{IsMadeFor}
 use Rattle.regress_engine_runs.specs.UndoStack.{ReadOn, outermost}
-use Rattle.regress_engine_exec.specs.Held.{Held}
-use Rattle.regress_engine_exec.specs.Ready.{Suits}
+
+-- A program reads a text: it is closed, and of bytes or of units as the text is.
+pub record Suits (program : Program) (v : View) : Type 0 where
+  pub closed : IsClosed program
+  pub kind : are_bytes v.kind ≡ not program.units
 
 -- A program is made for a text: of bytes or of units as it is, with its table and its mode.
 pub record IsMadeOf (compiled : CompiledRegex) (v : View) : Type 0 where
@@ -44,11 +48,6 @@ pub record IsSought (program : Program) (v : View) : Type 0 where
   pub ends : (o : ℕ) → IsAtPlace (reading_of v) o → IsComputed program (input_of v) Forward (first_state program o ∷ [])
   pub reads : (o : ℕ) → IsAtPlace (reading_of v) o → ReadOn program (input_of v) (reading_of v) Forward (first_state program o ∷ []) (outermost [])
   pub lists : (p : ℕ) → p ≤ length (reading_of v).points → Listed program v (offset (reading_of v) p)
-
--- A search from an offset found an answer between two others, whose groups are held; or none.
-abbrev pub IsFound : Program → Input → ℕ → Option (ℕ × ℕ) → Held → Type 0
-IsFound program input at None k = Finds program input at None
-IsFound program input at (Some (start, end)) k = (w : Whole) × Finds program input at (Some (item_of start w)) × (w.offset ≡ end) × (w.groups ≡ k.groups)
 
 -- What is sought: a program, in what is shown of a text.
 pub record Sought : Type 0 where
@@ -95,3 +94,10 @@ StartsAt s at position = position ≡ begins_at (input_of s.view) at
 -- a match lies in the text that is searched, between characters, and its groups have the program's names
 abbrev pub IsMatchOf : Sought → Match → Type 0
 IsMatchOf s m = IsItemAtPlaces (reading_of s.view) (match.item_of m) × (names_of_match m ≡ names_of s.compiled)
+
+-- What a step of an iterator gave, from one position to another: the first of the items that were coming, before the others;
+-- nothing where none was coming; or an error. With nothing and with an error there is no position any more.
+abbrev pub Steps : {E : Type 0} → Sought → Option ℕ → Option (Result Match E) → Option ℕ → Type 0
+Steps s before None after = (coming_on (items_from s) before ≡ []) × (after ≡ None)
+Steps s before (Some (Ok m)) after = (coming_on (items_from s) before ≡ match.item_of m ∷ coming_on (items_from s) after) × IsMatchOf s m
+Steps s before (Some (Err e)) after = after ≡ None

@@ -1,4 +1,5 @@
--- That a program may be sought in a text has one proof at most, so a struct may keep it in a ghost field.
+-- That a program may be sought in a text has one proof at most, and what a search may skip too, so a struct may keep them in
+-- ghost fields.
 use mathlib.Core.HLevel.{is_prop→PathP, Σ_prop_path, Π_prop, ×_prop, Unit-prop}
 use Rattle.std.specs.Coded.{codes, le_prop}
 use Rattle.std.specs.Prelude.{◌≡◌, ℕ, suc, ◌<◌, ◌≤◌, Bool, true, false, not, List, [], ◌∷◌, length, Option, Some, None, All, IfSome, get_or, slice_get, ◌⊎◌}
@@ -20,8 +21,12 @@ use Rattle.regress_engine_runs.specs.Items.{Lists}
 use Rattle.regress_engine_runs.specs.Meets.{IsAtPlace, AreAtPlaces, ReadsPlaces, referred}
 use Rattle.regress_engine_runs.proofs.ItemLemmas.{one_list}
 use Rattle.regress_engine_runs.proofs.OneAnswer.{IsComputed-prop}
-use Rattle.regress_engine_exec.specs.Ready.{Suits}
-use Rattle.regress_engine_exec.specs.Sought.{IsItemAtPlaces, Listed, IsSought}
+use Rattle.regress_engine_prefix.specs.Starts.{BeginsAs}
+use Rattle.regress_engine_prefix.specs.declared.start.StartPredicate.{StartPredicate}
+use Rattle.regress_engine_prefix.specs.declared.start.StartPredicate.TheVariants.{Arbitrary, ByteSet1, ByteSet2, ByteSet3, ByteSeq, ByteBracket, StartAnchored}
+use Rattle.regress_engine_sought.specs.Skipping.{MaySkip}
+use Rattle.regress_engine_sought.specs.Sought.{Suits}
+use Rattle.regress_engine_sought.specs.Sought.{IsItemAtPlaces, Listed, IsSought}
 
 -- later places have greater offsets in each kind of text
 pub rises : (kind : Kind) (units : List ℕ) → OffsetsRise (reading_of_kind kind units)
@@ -155,3 +160,24 @@ module _ (program : Program) (v : View) where
     reads = (Π_prop (λ o. Π_prop (λ place. Π_prop (λ t. Π_prop (λ j. Π_prop (λ met. Π_prop (λ stands. Π_prop (λ reads. ReadsPlaces-prop j t)))))))) x.reads y.reads i;
     lists = (Π_prop (λ p. Π_prop (λ room. Listed-prop program v (offset (reading_of v) p)))) x.lists y.lists i;
   }
+
+-- ---- what may be skipped
+
+list-set : IsSet (List ℕ)
+list-set = hlevel codes
+
+BeginsAs-prop : (start : StartPredicate) (bytes : List ℕ) (at : ℕ) → IsProp (BeginsAs start bytes at)
+BeginsAs-prop Arbitrary bytes at = Unit-prop
+BeginsAs-prop (ByteSet1 set) bytes at = bool-set _ true
+BeginsAs-prop (ByteSet2 set) bytes at = bool-set _ true
+BeginsAs-prop (ByteSet3 set) bytes at = bool-set _ true
+BeginsAs-prop (ByteSeq front) bytes at = list-set _ front.items
+BeginsAs-prop (ByteBracket set) bytes at = bool-set _ true
+BeginsAs-prop StartAnchored bytes at = nat-set at 0
+
+pub MaySkip-prop : (program : Program) (start : StartPredicate) (v : View) → IsProp (MaySkip program start v)
+MaySkip-prop program start v x y = λ i. record {
+  begins = (Π_prop (λ o. Π_prop (λ place. Π_prop (λ w. Π_prop (λ answers. BeginsAs-prop start v.units o))))) x.begins y.begins i;
+  bytes = (Π_prop (λ known. bool-set (are_bytes v.kind) true)) x.bytes y.bytes i;
+  places = (Π_prop (λ known. Π_prop (λ o. Π_prop (λ begins. IsAtPlace-prop v o)))) x.places y.places i;
+}

@@ -1,0 +1,64 @@
+-- What serves a tree: the predicate that says nothing, and a copy of what does.
+use Rattle.std.proofs.Common.{◌≡◌, ℕ, Bool, true, List, take, drop, length, refl, sym, ap, ◌∙◌, subst}
+use Rattle.regress_front_nodes.specs.Trees.{Tree}
+use Rattle.regress_engine_prefix.specs.Starts.{BeginsAs, is_arbitrary, tells_bytes, HoldsAtStart, Serves, IsSameStart}
+use Rattle.regress_engine_prefix.specs.declared.start.StartPredicate.{StartPredicate}
+use Rattle.regress_engine_prefix.specs.declared.start.StartPredicate.TheVariants.{Arbitrary, ByteSet1, ByteSet2, ByteSet3, ByteSeq, ByteBracket, StartAnchored}
+
+-- what says nothing serves each tree
+pub nothing-serves : (units : Bool) (t : Tree) → Serves units t Arbitrary
+nothing-serves units t = record {
+  begins = record { each = λ bytes utf8 context text s some. tt };
+  boundary = λ known bytes utf8 at begins. absurd (cc);
+  first = tt;
+  bytes = λ _. refl;
+}
+
+-- two predicates say the same of bytes
+pub record SayTheSame (start other : StartPredicate) : Type 0 where
+  pub on : (bytes : List ℕ) (at : ℕ) → BeginsAs start bytes at → BeginsAs other bytes at
+  pub back : (bytes : List ℕ) (at : ℕ) → BeginsAs other bytes at → BeginsAs start bytes at
+  pub kept : is_arbitrary other ≡ is_arbitrary start
+  pub told : tells_bytes other ≡ tells_bytes start
+  pub first : (t : Tree) → HoldsAtStart t start → HoldsAtStart t other
+
+one-says : (start other : StartPredicate) → other ≡ start → SayTheSame start other
+one-says start other e = record {
+  on = λ bytes at. subst (λ p. BeginsAs p bytes at) (sym e);
+  back = λ bytes at. subst (λ p. BeginsAs p bytes at) e;
+  kept = ap is_arbitrary e;
+  told = ap tells_bytes e;
+  first = λ t. subst (HoldsAtStart t) (sym e);
+}
+
+pub same-says : (start other : StartPredicate) → IsSameStart start other → SayTheSame start other
+same-says (ByteSeq front) (ByteSeq others) e = record {
+  on = λ bytes at. subst (λ f. take (length f) (drop at bytes) ≡ f) (sym e);
+  back = λ bytes at. subst (λ f. take (length f) (drop at bytes) ≡ f) e;
+  kept = refl;
+  told = refl;
+  first = λ t h. tt;
+}
+same-says (ByteSeq front) Arbitrary e = absurd e
+same-says (ByteSeq front) (ByteSet1 _) e = absurd e
+same-says (ByteSeq front) (ByteSet2 _) e = absurd e
+same-says (ByteSeq front) (ByteSet3 _) e = absurd e
+same-says (ByteSeq front) (ByteBracket _) e = absurd e
+same-says (ByteSeq front) StartAnchored e = absurd e
+same-says Arbitrary other e = one-says Arbitrary other e
+same-says (ByteSet1 set) other e = one-says (ByteSet1 set) other e
+same-says (ByteSet2 set) other e = one-says (ByteSet2 set) other e
+same-says (ByteSet3 set) other e = one-says (ByteSet3 set) other e
+same-says (ByteBracket set) other e = one-says (ByteBracket set) other e
+same-says StartAnchored other e = one-says StartAnchored other e
+
+-- a copy of what serves a tree serves it
+pub copy-serves : (units : Bool) (t : Tree) (start other : StartPredicate) → IsSameStart start other → Serves units t start → Serves units t other
+copy-serves units t start other same serves =
+    let says = same-says start other same in
+    record {
+      begins = record { each = λ bytes utf8 context text s some. says.on bytes _ (serves.begins.each bytes utf8 context text s some) };
+      boundary = λ known bytes utf8 at begins. serves.boundary (sym says.kept ∙ known) bytes utf8 at (says.back bytes at begins);
+      first = says.first t serves.first;
+      bytes = λ is. says.told ∙ serves.bytes is;
+    }

@@ -1,0 +1,4 @@
+pub mod PlaceLemmas
+pub mod SearchLemmas
+pub mod SkipLemmas
+pub mod ProducerLemmas

@@ -1,0 +1,33 @@
+-- Places that are read at.
+use Rattle.std.proofs.Common.{ℕ, true, Some, ◌≡◌, sym, ap, subst}
+use Rattle.regress_meaning.specs.Meaning.{Direction}
+use Rattle.regress_meaning.specs.Inputs.{Tells}
+use Rattle.regress_meaning.specs.Steps.{passed}
+use Rattle.regress_engine_input.specs.Views.{View, Kind, utf8, ascii, utf16, ucs2, AreOfKind, CanRead, input_of, reading_of}
+use Rattle.regress_engine_input.proofs.KindLemmas.{tells, readable}
+use Rattle.regress_engine_runs.specs.Meets.{IsAtPlace}
+use Rattle.regress_engine_runs.specs.UndoStack.{MovesOn}
+use Rattle.regress_engine_runs.proofs.Literals.{place-on}
+use Rattle.regress_engine_runs.proofs.InputsMove.{utf8-moves-on, ascii-moves-on, utf16-moves-on, ucs2-moves-on}
+
+-- what is read at a place ends at a place
+module _ (v : View) (all : AreOfKind v.kind v.units) where
+  told : Tells (reading_of v) (input_of v)
+  told = tells v.kind v.table v.unicode v.units all
+
+  -- characters may be read there
+  pub can-read : (o : ℕ) → IsAtPlace (reading_of v) o → CanRead v o
+  can-read o (p, room, e) = subst (CanRead v) (sym e) (readable v.kind v.table v.unicode v.units all p room)
+
+  pub next-place : (dir : Direction) (o c q : ℕ) → IsAtPlace (reading_of v) o → (input_of v).next dir o ≡ Some (c, q) → IsAtPlace (reading_of v) q
+  next-place dir o c q place e = place-on (input_of v) (reading_of v) told dir (λ c. true) o q place (ap (passed (λ c. true)) e)
+
+-- each input moves on
+pub moves : (v : View) → MovesOn (input_of v)
+moves v = by_kind v.kind
+  where
+    by_kind : (k : Kind) → MovesOn (input_of (record v { kind = k }))
+    by_kind utf8 = utf8-moves-on v.table v.unicode v.units
+    by_kind ascii = ascii-moves-on v.table v.unicode v.units
+    by_kind utf16 = utf16-moves-on v.table v.unicode v.units
+    by_kind ucs2 = ucs2-moves-on v.table v.unicode v.units

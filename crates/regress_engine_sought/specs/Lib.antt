@@ -1,0 +1,3 @@
+pub mod Sought
+pub mod Skipping
+pub mod SoughtOnce
