@@ -1,5 +1,5 @@
 -- The programs of a pattern that was read, and when they pass no count.
-use Rattle.std.proofs.Common.{◌≡◌, ◌≢◌, ℕ, ◌+◌, ◌*◌, ◌<◌, ◌≤◌, ◌⊎◌, Bool, false, List, length, map, chars, inl, inr, refl, sym, ap, subst, ◌∙◌, arith}
+use Rattle.std.proofs.Common.{◌≡◌, ◌≢◌, ℕ, ◌+◌, ◌*◌, ◌≤◌, Bool, false, List, length, map, chars, inl, inr, sym, ap, subst, ◌∙◌, arith}
 use Rattle.std.proofs.Math.Nat.{mul-le-mul}
 use Rattle.std.proofs.lemmas.List.{length-map}
 use Rattle.std.proofs.lemmas.Simd.{map-map}
@@ -15,7 +15,7 @@ use Rattle.regress_front.specs.Parsed.{IsTreeOf}
 use Rattle.regress_front.specs.RewritingLaws.{IsRewritten}
 use Rattle.regress_front.specs.Rules.{stays}
 use Rattle.regress_front.specs.Refusals as reading
-use Rattle.regress_front.specs.Sizes.{loops, size}
+use Rattle.regress_front.specs.Sizes.{loops}
 use Rattle.regress_front.specs.TableViews.{table}
 use Rattle.regress_front.specs.Trees.{Tree, tree}
 use Rattle.regress_front.specs.WellFormed.{IsWellFormed}

@@ -1,5 +1,5 @@
 -- Items that rise lie one behind the other.
-use Rattle.std.proofs.Common.{◌≡◌, ℕ, ◌≤◌, List, [], ◌∷◌, arith}
+use Rattle.std.proofs.Common.{ℕ, ◌≤◌, List, [], ◌∷◌, arith}
 use Rattle.regress_meaning.specs.Laws.{ItemsRise}
 use Rattle.regress_meaning.specs.Matches.{Item}
 use Rattle.regress.specs.Behind.{LieBehind}

@@ -1,65 +1,54 @@
-use Rattle.std.proofs.Common.{◌≡◌, Some, IfSome, rules, refl, sym, ap, subst}
-use Rattle.regress_match.specs.Iterating.{Finds, coming_on}
+use Rattle.std.proofs.Common.{◌≡◌, Some, None, IfSome, rules, sym, ◌∙◌, subst}
+use Rattle.regress_match.specs.Iterating.{UnlessFound}
 use Rattle.regress_engine_input.specs.InputViews.{ucs2_view}
-use Rattle.regress_engine_sought.specs.Sought.{Sought, IsPosition, IsMatchOf, items_from}
+use Rattle.regress_engine_sought.specs.Sought.{Sought, IsPosition}
 use Rattle.regress.specs.Units.{sought_in_ucs2}
-use Rattle.regress.proofs.StepLemmas.{step-found, step-none, step-nearer, step-begun}
+use Rattle.regress.proofs.StepLemmas.{step-none, step-first, step-ends, step-nearer}
 use Rattle.regress.proofs.units.Ucs2MatchesIterator.next.Goals as goal
 
-pub invariant_of-self-in-Ok-Some : goal.invariant_of-self-in-Ok-Some
-invariant_of-self-in-Ok-Some c =
-    record { placed = subst (λ (x : Sought). IfSome c.advance.new.next (IsPosition x)) (sym c.advance.ensures.kept) c.advance.ensures.inside }
+pub invariant_of-self : goal.invariant_of-self
+invariant_of-self c = record { placed = subst (λ (x : Sought). IfSome c.step.new.position (IsPosition x)) (sym c.step.ensures.kept) c.step.ensures.inside }
 
-pub returns-in-Ok-Some-clause-steps : goal.returns-in-Ok-Some-clause-steps
-returns-in-Ok-Some-clause-steps c =
+pub returns-in_err-found-clause-steps : goal.returns-in_err-found-clause-steps
+returns-in_err-found-clause-steps c =
     let s = sought_in_ucs2 c.args.self.now in
     let after : Sought = record {
-      compiled = c.advance.new.self.subject.program.now;
-      view = ucs2_view c.advance.new.self.subject.input;
-      sought = c.advance.new.self.subject.sought;
+      compiled = c.step.new.self.subject.program.now;
+      view = ucs2_view c.step.new.self.subject.input;
+      sought = c.step.new.self.subject.sought;
     } in
-    let was : c.args.self.now.position ≡ Some c.in_ok-position.position = search rules in
-    let found = subst (λ o. Finds (items_from s) (IsMatchOf s) c.in_ok-position.position o c.advance.new.next) c.in-Ok-Some.field-0-is c.in-Ok-Some.ensures.found in
-    let given = step-found s after c.advance.ensures.kept c.args.self.now.position c.in_ok-position.position was c.in-Ok-Some.found c.advance.new.next found in (
-      c.advance.ensures.kept,
-      record { first = given; ends = tt; ended = λ none. step-begun s after c.advance.ensures.kept c.args.self.now.position c.in_ok-position.position was none },
+    let kept : after ≡ s = c.step.ensures.kept in
+    let none : c.from_residual.result ≡ None = search rules in
+    let first = step-none s after kept c.args.self.now.position c.step.new.position c.from_residual.result none c.in_err-found.ensures.stepped in (
+      kept,
+      record { first = first; ends = subst (λ o. UnlessFound o (c.step.new.position ≡ None)) (sym none) c.in_err-found.ensures.stepped.1; ended = λ _. none },
     )
 
-pub returns-in-Ok-Some-clause-goes : goal.returns-in-Ok-Some-clause-goes
-returns-in-Ok-Some-clause-goes c =
+pub returns-clause-steps : goal.returns-clause-steps
+returns-clause-steps c =
     let s = sought_in_ucs2 c.args.self.now in
     let after : Sought = record {
-      compiled = c.advance.new.self.subject.program.now;
-      view = ucs2_view c.advance.new.self.subject.input;
-      sought = c.advance.new.self.subject.sought;
+      compiled = c.step.new.self.subject.program.now;
+      view = ucs2_view c.step.new.self.subject.input;
+      sought = c.step.new.self.subject.sought;
     } in
-    let was : c.args.self.now.position ≡ Some c.in_ok-position.position = search rules in
-    record { on = λ _. (tt, tt, step-nearer s after c.advance.ensures.kept c.args.self.now.position c.in_ok-position.position was c.advance.new.next c.advance.ensures.nearer); keeps = tt; rests = λ _. tt }
-
-pub returns-in-Ok-None-clause-steps : goal.returns-in-Ok-None-clause-steps
-returns-in-Ok-None-clause-steps c =
-    let s = sought_in_ucs2 c.args.self.now in
-    let after : Sought = record {
-      compiled = c.advance.new.self.subject.program.now;
-      view = ucs2_view c.advance.new.self.subject.input;
-      sought = c.advance.new.self.subject.sought;
-    } in
-    let was : c.args.self.now.position ≡ Some c.in_ok-position.position = search rules in
-    let found = subst (λ o. Finds (items_from s) (IsMatchOf s) c.in_ok-position.position o c.advance.new.next) c.in-Ok-None.field-0-is c.in-Ok-None.ensures.found in
-    let given = step-none s after c.advance.ensures.kept c.args.self.now.position c.in_ok-position.position was c.advance.new.next found in (
-      c.advance.ensures.kept,
-      record { first = (given, ap (coming_on (items_from after)) c.take.ensures.after); ends = c.take.ensures.after; ended = λ none. refl },
+    let kept : after ≡ s = c.step.ensures.kept in
+    let was : c.step.result ≡ Some c.in_ok-found.found = search rules in
+    let first = step-first s after kept c.args.self.now.position c.step.new.position c.in_ok-found.found c.map_err.result c.in_ok-found.ensures.stepped c.map_err.ensures.cases in (
+      kept,
+      record {
+        first = first;
+        ends = step-ends s after kept c.args.self.now.position c.step.new.position c.in_ok-found.found c.map_err.result c.in_ok-found.ensures.stepped c.map_err.ensures.cases;
+        ended = λ none. absurd (let e = sym was ∙ c.step.ensures.ended none in cc);
+      },
     )
 
-pub returns-in-Err-clause-steps : goal.returns-in-Err-clause-steps
-returns-in-Err-clause-steps c =
+pub returns-clause-goes : goal.returns-clause-goes
+returns-clause-goes c =
     let s = sought_in_ucs2 c.args.self.now in
     let after : Sought = record {
-      compiled = c.advance.new.self.subject.program.now;
-      view = ucs2_view c.advance.new.self.subject.input;
-      sought = c.advance.new.self.subject.sought;
+      compiled = c.step.new.self.subject.program.now;
+      view = ucs2_view c.step.new.self.subject.input;
+      sought = c.step.new.self.subject.sought;
     } in
-    let was : c.args.self.now.position ≡ Some c.in_ok-position.position = search rules in (
-      c.advance.ensures.kept,
-      record { first = (c.from.ensures, ap (coming_on (items_from after)) c.take.ensures.after); ends = c.take.ensures.after; ended = λ none. step-begun s after c.advance.ensures.kept c.args.self.now.position c.in_ok-position.position was none },
-    )
+    record { on = λ _. (tt, tt, step-nearer s after c.step.ensures.kept c.args.self.now.position c.step.new.position c.in_ok-found.ensures.nearer); keeps = tt; rests = λ _. tt }

@@ -1,4 +1,4 @@
-use Rattle.std.proofs.Common.{◌≡◌, ◌≤◌, length, sym, ap, subst, rules}
+use Rattle.std.proofs.Common.{◌≡◌, ◌≤◌, length, sym, subst, rules}
 use Rattle.regress_engine_sought.proofs.SkipLemmas.{held-bytes, place-lies}
 use Rattle.regress_engine_exec.proofs.subject.Subject.next_start.Goals as goal
 
