@@ -4,7 +4,7 @@ ghost use Rattle.regress_meaning.specs.Text.{holds};
 ghost use Rattle.regress_front_bytes.specs.ByteSets.{members};
 ghost use Rattle.regress_front_bytes.specs.Bitmaps.{ascii_bitmap_contains, byte_bitmap_contains};
 
-use crate::byte_search::{ByteSearcher, ByteSet};
+use crate::byte_search::{ByteSearcher, ByteSet, find_by_fours};
 
 /// A set of bytes under 0x80, which is empty by default.
 #[derive(Clone, Copy, Debug)]
@@ -134,10 +134,18 @@ impl ByteBitmap {
     }
 }
 
+impl ByteSet for ByteBitmap {
+    ghost contains = { byte_bitmap_contains };
+
+    fn contains(&self, b: u8) -> bool {
+        ByteBitmap::contains(self, b)
+    }
+}
+
 impl ByteSearcher for ByteBitmap {
     ghost find_in = { λ bitmap. position (byte_bitmap_contains bitmap) };
 
     fn find_in(&self, rhs: &[u8]) -> Option<usize> {
-        rhs.iter().position(|b| self.contains(*b))
+        find_by_fours(self, rhs)
     }
 }

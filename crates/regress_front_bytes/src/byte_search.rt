@@ -36,10 +36,7 @@ pub trait SmallArraySet: Copy {
 
     /// The first index in `rhs` of a member, or `None` where there is none: of `*b"xyc"` in `b"abc"` it is `Some(2)`.
     fn find_in(self, rhs: &[u8]) -> Option<usize>
-        ensures { result ≡ position (contains self) rhs.now }
-    {
-        rhs.iter().position(|b| self.contains(*b))
-    }
+        ensures { result ≡ position (contains self) rhs.now };
 }
 
 /// The set of the bytes in an array.
@@ -50,6 +47,32 @@ pub struct ByteArraySet<ArraySet: SmallArraySet>(pub ArraySet);
 #[derive(Clone, Copy, Debug)]
 pub struct EmptyString;
 
+/// The first index of a member, tested one after another.
+fn first_of<Set: ByteSet>(set: &Set, bytes: &[u8]) -> Option<usize>
+    ensures { result ≡ position (Set.contains set.now) bytes.now }
+{
+    bytes.iter().position(|b| set.contains(*b))
+}
+
+/// The first index of a member. Bytes are passed over by chunks of four, whose tests need not wait for one another.
+pub(crate) fn find_by_fours<Set: ByteSet>(set: &Set, bytes: &[u8]) -> Option<usize>
+    ensures { result ≡ position (Set.contains set.now) bytes.now }
+{
+    let mut rest = bytes;
+    while let Some(([first, second, third, fourth], behind)) = rest.split_first_chunk::<4>() {
+        if set.contains(*first)
+            || set.contains(*second)
+            || set.contains(*third)
+            || set.contains(*fourth)
+        {
+            break;
+        }
+        rest = behind;
+    }
+    let index = first_of(set, rest)?;
+    Some(bytes.len() - rest.len() + index)
+}
+
 /// Whether the character `c` is one of `set`: `charset_contains(&[0x41, 0x61, 0x61, 0x61], 0x61)` is true.
 pub fn charset_contains(set: &[u32; MAX_CHAR_SET_LENGTH], c: u32) -> bool
     ensures { result ≡ holds set.now c }
@@ -57,12 +80,33 @@ pub fn charset_contains(set: &[u32; MAX_CHAR_SET_LENGTH], c: u32) -> bool
     set.contains(&c)
 }
 
+impl ByteSet for [u8; 2] {
+    ghost contains = { holds };
+
+    fn contains(&self, b: u8) -> bool {
+        let [first, second] = *self;
+        b == first || b == second
+    }
+}
+
 impl SmallArraySet for [u8; 2] {
     ghost contains = { holds };
 
     fn contains(self, b: u8) -> bool {
-        let [first, second] = self;
-        b == first || b == second
+        ByteSet::contains(&self, b)
+    }
+
+    fn find_in(self, rhs: &[u8]) -> Option<usize> {
+        find_by_fours(&self, rhs)
+    }
+}
+
+impl ByteSet for [u8; 3] {
+    ghost contains = { holds };
+
+    fn contains(&self, b: u8) -> bool {
+        let [first, second, third] = *self;
+        b == first || b == second || b == third
     }
 }
 
@@ -70,8 +114,20 @@ impl SmallArraySet for [u8; 3] {
     ghost contains = { holds };
 
     fn contains(self, b: u8) -> bool {
-        let [first, second, third] = self;
-        b == first || b == second || b == third
+        ByteSet::contains(&self, b)
+    }
+
+    fn find_in(self, rhs: &[u8]) -> Option<usize> {
+        find_by_fours(&self, rhs)
+    }
+}
+
+impl ByteSet for [u8; 4] {
+    ghost contains = { holds };
+
+    fn contains(&self, b: u8) -> bool {
+        let [first, second, third, fourth] = *self;
+        b == first || b == second || b == third || b == fourth
     }
 }
 
@@ -79,8 +135,11 @@ impl SmallArraySet for [u8; 4] {
     ghost contains = { holds };
 
     fn contains(self, b: u8) -> bool {
-        let [first, second, third, fourth] = self;
-        b == first || b == second || b == third || b == fourth
+        ByteSet::contains(&self, b)
+    }
+
+    fn find_in(self, rhs: &[u8]) -> Option<usize> {
+        find_by_fours(&self, rhs)
     }
 }
 
