@@ -1,5 +1,5 @@
 -- What a run reads, searches and writes.
-use Rattle.std.specs.Prelude.{◌≡◌, ℕ, List, [], take, map, Option, Some, chars, IsUtf8}
+use Rattle.std.specs.Prelude.{◌≡◌, ℕ, List, [], ◌++◌, take, map, Option, Some, chars, IsUtf8}
 use Rattle.std.specs.Io.KnownBytes.{Appends}
 use Rattle.regress_meaning.specs.Table.{Table}
 use Rattle.regress_meaning.specs.TableParts.{table_of, small_parts}
@@ -22,6 +22,10 @@ output table o p text = lines_of (map (told (of_utf8 text)) (match_list table o 
 -- written bytes grow by a beginning of these
 abbrev pub AppendsFront : Option (List ℕ) → Option (List ℕ) → List ℕ → Type 0
 AppendsFront old new bytes = (count : ℕ) × Appends old new (take count bytes)
+
+-- written bytes grew by a beginning of these, and the others of these wait to be written
+abbrev pub Waits : Option (List ℕ) → Option (List ℕ) → List ℕ → List ℕ → Type 0
+Waits old new pending bytes = (done : List ℕ) × Appends old new done × (done ++ pending ≡ bytes)
 
 -- The pattern's text spells a tree within the limits, under the flags of a word.
 pub record Accepted (flags pattern : List ℕ) : Type 0 where

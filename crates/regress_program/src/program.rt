@@ -1,5 +1,5 @@
 //! The program, and one run of it.
-ghost use Rattle.std.specs.Prelude.{◌≡◌, ◌≢◌, ◌↔◌, ◌⊎◌, [], true, false, Some, Result, chars, string_bytes, IsUtf8, OnOk, OnErr, IfOk, IfErr, IfSome, IsErrOf, is_err};
+ghost use Rattle.std.specs.Prelude.{◌≡◌, ◌≢◌, ◌↔◌, ◌⊎◌, ◌++◌, ℕ, [], take, true, false, Some, Result, chars, string_bytes, IsUtf8, OnOk, OnErr, IfOk, IfErr, IfSome, IsErrOf, is_err};
 ghost use Rattle.std.specs.IoError.{error_kind};
 ghost use Rattle.std.specs.Vec.Iter.{into_iter_items};
 ghost use Rattle.std.specs.Io.KnownBytes.{Appends};
@@ -13,7 +13,7 @@ ghost use Rattle.regress.specs.Refusing.{MayRefuseRegex};
 ghost use Rattle.regress_program.specs.Answering.{Asks, Runs};
 ghost use Rattle.regress_program.specs.Endings.{ending_of};
 ghost use Rattle.regress_program.specs.Words.{request_of};
-ghost use Rattle.regress_program.specs.Running.{small, output, AppendsFront, Accepted, Searched};
+ghost use Rattle.regress_program.specs.Running.{small, output, AppendsFront, Waits, Accepted, Searched};
 
 use crate::ending::Ending;
 use crate::error::ToolError;
@@ -29,6 +29,9 @@ use std::io::ErrorKind;
 
 /// How many bytes are asked for at a time.
 const CHUNK: usize = 4096;
+
+/// With how many bytes that wait to be written no line waits any more.
+const PENDING: usize = 65536;
 
 /// The whole program: reads its words, runs, and tells how it ends.
 ///
@@ -123,7 +126,8 @@ pub fn run<R: Source, W: Sink>(
     write_lines(alloc, &regex, text, sink)
 }
 
-/// Writes a line for each match in a text. On an error, a beginning of them was written.
+/// Writes a line for each match in a text. On an error, a beginning of them was written: where memory was refused, the lines of
+/// all matches that were found before.
 fn write_lines<W: Sink>(
     alloc: Global,
     regex: &Regex,
@@ -138,13 +142,57 @@ fn write_lines<W: Sink>(
     ensures write { IsErrOf result ToolError.Write ↔ (W.failed sink.new ≡ true) }
     ensures errors { IfErr result (λ e. (e ≡ ToolError.Write) ⊎ (e ≡ ToolError.OutOfMemory)) }
 {
+    let mut pending = Vec::new(alloc);
+    let found = put_lines(alloc, regex, text, sink, &mut pending);
+    if !sink.failed() && put_all(sink, &pending).is_err() {
+        return Err(ToolError::Write);
+    }
+    found
+}
+
+/// Puts a line for each match in a text behind the bytes that wait to be written, of which there are none yet. What no longer
+/// waits was written.
+fn put_lines<W: Sink>(
+    alloc: Global,
+    regex: &Regex,
+    text: &str,
+    sink: &mut W,
+    pending: &mut Vec<u8>,
+) -> Result<(), ToolError>
+    requires sink { W.failed sink.old ≡ false }
+    requires pending { pending.old.items ≡ [] }
+    ensures ok { (t : Table) → (o : Options) → (p : Pattern) → StandsFor regex.now t o p
+        → OnOk result (Waits (W.written sink.old) (W.written sink.new) pending.new.items (output t o p text.now)) }
+    ensures refused { (t : Table) → (o : Options) → (p : Pattern) → StandsFor regex.now t o p → IsErrOf result ToolError.OutOfMemory
+        → (count : ℕ) × Waits (W.written sink.old) (W.written sink.new) pending.new.items (take count (output t o p text.now)) }
+    ensures failed { (t : Table) → (o : Options) → (p : Pattern) → StandsFor regex.now t o p → IsErrOf result ToolError.Write
+        → AppendsFront (W.written sink.old) (W.written sink.new) (output t o p text.now) }
+    ensures write { IsErrOf result ToolError.Write ↔ (W.failed sink.new ≡ true) }
+    ensures errors { IfErr result (λ e. (e ≡ ToolError.Write) ⊎ (e ≡ ToolError.OutOfMemory)) }
+{
     for found in regex.find_iter(text)? {
         let line = line(alloc, &found?)?;
-        if put_all(sink, line.as_bytes()).is_err() {
+        if put_line(sink, pending, line.as_bytes()).is_err() {
             return Err(ToolError::Write);
         }
     }
     Ok(())
+}
+
+/// Puts a line behind the bytes that wait to be written. Where these are many, or memory for the line is refused, writes them
+/// and the line. On an error, a beginning of them was written.
+fn put_line<W: Sink>(sink: &mut W, pending: &mut Vec<u8>, line: &[u8]) -> Result<(), Failed>
+    requires { W.failed sink.old ≡ false }
+    ensures ok { OnOk result (Waits (W.written sink.old) (W.written sink.new) pending.new.items (pending.old.items ++ line.now)) }
+    ensures err { OnErr result (AppendsFront (W.written sink.old) (W.written sink.new) (pending.old.items ++ line.now)) }
+    ensures failure { W.failed sink.new ≡ is_err result }
+{
+    if pending.len() < PENDING && pending.extend_from_slice(line).is_ok() {
+        return Ok(());
+    }
+    put_all(sink, pending)?;
+    pending.clear();
+    put_all(sink, line)
 }
 
 /// Reads all that is left. Each read but the last adds to the buffer, so over a source that never ends memory is refused.

@@ -283,6 +283,42 @@ fn a_line_is_longer_than_a_chunk(rt: HostRuntime) -> Result<(), Fail> {
     Ok(())
 }
 
+/// The lines of the matches of `a` in a text of so many of it.
+fn lines_of_letters(alloc: Global, count: usize) -> Result<String, AllocError> {
+    let mut lines = String::new(alloc);
+    for end in 1..count.saturating_add(1) {
+        write!(lines, "{}..{end}\n", end.saturating_sub(1))?;
+    }
+    Ok(lines)
+}
+
+/// The length of the input, the write that fails, the answer, how many bytes are written, and how often is written.
+const MANY_LINES: &[(usize, usize, Result<(), ToolError>, usize, usize)] = &[
+    (1000, 0, Ok(()), 8783, 1),
+    (6000, 0, Ok(()), 63783, 1),
+    (12289, 0, Ok(()), 137541, 5),
+    (1000, 1, Err(ToolError::Write), 0, 1),
+    (12289, 3, Err(ToolError::Write), 65554, 3),
+];
+
+#[test]
+fn many_lines_are_few_writes(rt: HostRuntime) -> Result<(), Fail> {
+    for (length, failing, answer, count, writes) in MANY_LINES {
+        let input = &LONG[..LONG.len().min(*length)];
+        let lines = lines_of_letters(rt.alloc(), *length)?;
+        let reader = Faulty::new(rt.alloc(), input, usize::MAX, 0)?;
+        let writer = Faulty::new(rt.alloc(), b"", usize::MAX, *failing)?;
+        let expected = Outcome {
+            answer,
+            written: lines.as_str().get(..*count).ok_or(AllocError)?,
+            reads: length.div_ceil(4096).saturating_add(1),
+            writes: *writes,
+        };
+        assert!(rt; ends_so(rt.alloc(), "a", reader, writer, &expected));
+    }
+    Ok(())
+}
+
 #[test]
 fn a_new_stream_has_not_failed(rt: HostRuntime) -> Result<(), Fail> {
     let mut source = StdSource::new(Faulty::new(rt.alloc(), b"ab", 1, 1)?);

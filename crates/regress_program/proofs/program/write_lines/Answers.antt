@@ -1,66 +1,40 @@
-use Rattle.std.proofs.Common.{[], sym, ap, ◌∙◌}
-use Rattle.std.proofs.KnownBytes.{Appends-nil}
-use Rattle.std.proofs.lemmas.Result.{err_from_is_err_and}
-use Rattle.regress_meaning.specs.Output.{lines_of}
-use Rattle.regress.specs.Coming.{coming}
-use Rattle.regress_match.specs.Views.{item_of}
-use Rattle.regress_program.proofs.RunLemmas.{IsWritten-front, IsWritten-all, IsWritten-more, IsWritten-part, on_ok-at, on_err-at, on_err-always}
-use Rattle.regress_program.specs.Errors.{tool_error_of}
+use Rattle.std.proofs.Common.{◌≡◌, OnOk, OnErr, sym, ◌∙◌, subst}
+use Rattle.std.specs.Io.KnownBytes.{Appends}
+use Rattle.regress_program.specs.Running.{output, AppendsFront}
+use Rattle.regress_program.proofs.RunLemmas.{on_ok-at, on_err-at}
+use Rattle.regress_program.proofs.FoundLemmas.{found-front, found-ok, found-err, found-failed-ok, found-failed-err, still-sound}
 use Rattle.regress_program.proofs.program.write_lines.Goals as goal
-
-pub loop-found-init : goal.loop-found-init
-loop-found-init g c = (
-  c.requires,
-  λ t o p s. record {
-    done = [];
-    appended = Appends-nil _;
-    whole = ap (λ ms. lines_of (coming ms)) c.into_iter-found-iterator.ensures.into_iter_gives ∙ ap lines_of (c.in_ok-found-items.ensures.matches t o p s);
-  },
-)
-
-pub returns-in_err-found-clause-err : goal.returns-in_err-found-clause-err
-returns-in_err-found-clause-err g c = λ t o p s.
-    on_err-always c.from_residual-in_err-found.result (IsWritten-front _ _ _ _ (c.loop-found.invariant.1 t o p s))
-
-pub returns-in_err-found-clause-write : goal.returns-in_err-found-clause-write
-returns-in_err-found-clause-write g c =
-    let error = err_from_is_err_and c.from_residual-in_err-found.result c.from_residual-in_err-found.ensures.1 in
-    let refused = (rw c.in_err-found.was at c.in-Some.ensures.steps.2.first).0 in
-    let told = error.2 ∙ ap tool_error_of refused in
-    (λ h. cc (error.1, told, h), λ h. cc (h, c.loop-found.invariant.0))
-
-pub returns-in_err-line-clause-err : goal.returns-in_err-line-clause-err
-returns-in_err-line-clause-err g c = λ t o p s.
-    on_err-always c.from_residual-in_err-line.result (IsWritten-front _ _ _ _ (c.loop-found.invariant.1 t o p s))
-
-pub returns-in_err-line-clause-write : goal.returns-in_err-line-clause-write
-returns-in_err-line-clause-write g c =
-    let error = err_from_is_err_and c.from_residual-in_err-line.result c.from_residual-in_err-line.ensures.1 in
-    (λ h. cc (error.1, error.2, h), λ h. cc (h, c.loop-found.invariant.0))
-
-pub put_all-requires : goal.put_all-requires
-put_all-requires g c = c.loop-found.invariant.0
+use Rattle.regress_program.proofs.program.write_lines.Goals.{else-not-failed-via-then-not-failed+else-is_err, else-not-failed-via-else-not-failed}
 
 pub returns-then-is_err-clause-err : goal.returns-then-is_err-clause-err
 returns-then-is_err-clause-err g c = λ t o p s.
-    IsWritten-part _ _ _ _ _ (item_of c.in_ok-found.field-0) _ _ (c.loop-found.invariant.1 t o p s)
-    (rw c.in_ok-found.was at c.in-Some.ensures.steps.2.first).0
-    (c.as_bytes.ensures.value ∙ c.in_ok-line.ensures)
-    (on_err-at _ c.if-is_err.ensures.value c.put_all.ensures.err)
-
-pub loop-found-preserved : goal.loop-found-preserved
-loop-found-preserved g c = (
-  c.put_all.ensures.failure ∙ sym c.is_err.ensures.value ∙ c.if-is_err.false,
-  λ t o p s.
-      IsWritten-more _ _ _ _ _ (item_of c.in_ok-found.field-0) _ _ (c.loop-found.invariant.1 t o p s)
-      (rw c.in_ok-found.was at c.in-Some.ensures.steps.2.first).0
-      (c.as_bytes.ensures.value ∙ c.in_ok-line.ensures)
-      (on_ok-at _ (sym c.if-is_err.false ∙ c.is_err.ensures.value) c.put_all.ensures.ok),
-)
+    let lines = c.put_lines-found in
+    found-front lines.result (g.W.Sink.written c.args.sink.now) (g.W.Sink.written lines.new.sink) (g.W.Sink.written c.put_all.new.sink) lines.new.pending.items (output t o p c.args.text.now)
+    (lines.ensures.ok t o p s) (lines.ensures.refused t o p s) lines.ensures.errors (λ h. still-sound _ _ c.failed.ensures c.if-not-failed.true (lines.ensures.write.0 h))
+    (rw c.deref.ensures.value at (on_err-at _ (sym c.if-is_err.true ∙ c.is_err.ensures.value) c.put_all.ensures.err))
 
 pub returns-clause-ok : goal.returns-clause-ok
 returns-clause-ok g c = λ t o p s.
-    IsWritten-all _ _ _ _ (c.loop-found.invariant.1 t o p s) c.in-None.ensures.steps.2.first.0
+    let lines = c.put_lines-found in
+    elim c.else-not-failed.branch [
+      | else-not-failed-via-then-not-failed+else-is_err w ↦
+          subst (λ k. OnOk lines.result (Appends (g.W.Sink.written c.args.sink.now) (g.W.Sink.written k) (output t o p c.args.text.now))) (sym w.sink-is)
+          (found-ok lines.result (g.W.Sink.written c.args.sink.now) (g.W.Sink.written lines.new.sink) (g.W.Sink.written w.put_all.new.sink) lines.new.pending.items (output t o p c.args.text.now)
+          (lines.ensures.ok t o p s) (rw w.deref.ensures.value at (on_ok-at _ (sym w.if-is_err.false ∙ w.is_err.ensures.value) w.put_all.ensures.ok)))
+      | else-not-failed-via-else-not-failed w ↦ found-failed-ok lines.result _ (lines.ensures.write.1 (sym c.failed.ensures ∙ w.if-not-failed.false))
+    ]
 
-pub returns-clause-write : goal.returns-clause-write
-returns-clause-write g c = (λ h. cc h, λ h. cc (h, c.loop-found.invariant.0))
+pub returns-clause-err : goal.returns-clause-err
+returns-clause-err g c = λ t o p s.
+    let lines = c.put_lines-found in
+    elim c.else-not-failed.branch [
+      | else-not-failed-via-then-not-failed+else-is_err w ↦
+          subst (λ k. OnErr lines.result (AppendsFront (g.W.Sink.written c.args.sink.now) (g.W.Sink.written k) (output t o p c.args.text.now))) (sym w.sink-is)
+          (found-err lines.result (g.W.Sink.written c.args.sink.now) (g.W.Sink.written lines.new.sink) (g.W.Sink.written w.put_all.new.sink) lines.new.pending.items (output t o p c.args.text.now)
+          (lines.ensures.refused t o p s) lines.ensures.errors (λ h. still-sound _ _ c.failed.ensures w.if-not-failed.true (lines.ensures.write.0 h))
+          (rw w.deref.ensures.value at (on_ok-at _ (sym w.if-is_err.false ∙ w.is_err.ensures.value) w.put_all.ensures.ok)))
+      | else-not-failed-via-else-not-failed w ↦
+          subst (λ k. OnErr lines.result (AppendsFront (g.W.Sink.written c.args.sink.now) (g.W.Sink.written k) (output t o p c.args.text.now))) (sym w.sink-is)
+          (found-failed-err lines.result _ (lines.ensures.write.1 (sym c.failed.ensures ∙ w.if-not-failed.false))
+          (lines.ensures.failed t o p s (lines.ensures.write.1 (sym c.failed.ensures ∙ w.if-not-failed.false))))
+    ]
