@@ -250,6 +250,9 @@ fn a_search_begins_at_an_offset(rt: HostRuntime) -> Result<(), Fail> {
     let within = matches_from(rt.alloc(), &regex, "baa", 1)?;
     let past = matches_from(rt.alloc(), &regex, "baa", 4)?;
     assert!(rt; within.as_str() == "1..3|3..3" && past.is_empty());
+    let anchored = compiled(rt.alloc(), "^a", "", &tables)?;
+    let behind_the_start = matches_from(rt.alloc(), &anchored, "aa", 1)?;
+    assert!(rt; behind_the_start.is_empty());
     Ok(())
 }
 
