@@ -5,6 +5,11 @@ use regress::{Error, Match, Regex, Tables};
 use std::alloc::Global;
 use std::test::Fail;
 
+/// A pattern without flags. It promises nothing, so what calls it with a text of its own has little to prove.
+fn compiled<'t>(alloc: Global, pattern: &str, tables: &'t Tables) -> Result<Regex<'t>, Error> {
+    Regex::new(alloc, pattern, tables)
+}
+
 /// The text of each match.
 fn parts<'t>(alloc: Global, regex: &Regex<'_>, text: &'t str) -> Result<Vec<&'t str>, Error> {
     let mut parts = Vec::new(alloc);
@@ -92,7 +97,7 @@ fn unit_parts<'t>(
 #[test]
 fn parts_of_a_text(rt: HostRuntime) -> Result<(), Fail> {
     let tables = Tables::small(rt.alloc())?;
-    let regex = Regex::new(rt.alloc(), "(é+)|a", &tables)?;
+    let regex = compiled(rt.alloc(), "(é+)|a", &tables)?;
     assert!(rt; parts(rt.alloc(), &regex, "xaéé é")?.as_slice() == ["a", "éé", "é"].as_slice());
     assert!(rt;
         parts_of_group(rt.alloc(), &regex, "xaéé é", 1)?.as_slice() == ["éé", "é"].as_slice()
@@ -103,7 +108,7 @@ fn parts_of_a_text(rt: HostRuntime) -> Result<(), Fail> {
 #[test]
 fn fields_of_a_line(rt: HostRuntime) -> Result<(), Fail> {
     let tables = Tables::small(rt.alloc())?;
-    let comma = Regex::new(rt.alloc(), ",", &tables)?;
+    let comma = compiled(rt.alloc(), ",", &tables)?;
     let told = fields(rt.alloc(), &comma, "é, b ,,c")?;
     assert!(rt; told.as_slice() == ["é", "b", "", "c"].as_slice());
     assert!(rt; pair(&comma, "é,b,c")? == Some(("é", "b,c")) && pair(&comma, "é")?.is_none());
@@ -113,7 +118,7 @@ fn fields_of_a_line(rt: HostRuntime) -> Result<(), Fail> {
 #[test]
 fn what_stands_behind_a_match(rt: HostRuntime) -> Result<(), Fail> {
     let tables = Tables::small(rt.alloc())?;
-    let regex = Regex::new(rt.alloc(), "é", &tables)?;
+    let regex = compiled(rt.alloc(), "é", &tables)?;
     let found = second(&regex, "éaé")?.ok_or("no match")?;
     assert!(rt; found.range() == (3..5));
     let starts = starts_behind(rt.alloc(), &regex, "éaé")?;
@@ -124,7 +129,7 @@ fn what_stands_behind_a_match(rt: HostRuntime) -> Result<(), Fail> {
 #[test]
 fn parts_of_units(rt: HostRuntime) -> Result<(), Fail> {
     let tables = Tables::small(rt.alloc())?;
-    let regex = Regex::new(rt.alloc(), "[^a]", &tables)?;
+    let regex = compiled(rt.alloc(), "[^a]", &tables)?;
     let units = [0xD83D, 0xDE00, 0x61, 0xE9];
     let parts = unit_parts(rt.alloc(), &regex, &units)?;
     assert!(rt; parts.len() == 2 && parts[0] == &units[..2] && parts[1] == &units[3..]);

@@ -11,3 +11,5 @@ mod lists;
 mod long;
 #[cfg(test)]
 mod parsed;
+#[cfg(test)]
+mod singles;

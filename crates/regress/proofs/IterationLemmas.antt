@@ -40,27 +40,34 @@ starts-given bytes utf8 text same names before after None first = tt
 starts-given bytes utf8 text same names before after (Some (Ok m)) first = starts-inside bytes utf8 m (subst (λ (t : List ℕ). LiesInText t m) same first.1.0)
 starts-given bytes utf8 text same names before after (Some (Err e)) first = tt
 
--- what a step of the iterator is
+-- what a step of an iterator over a text is
+abbrev pub gives_in_text : {S : Type 0} → (S → List ℕ) → (S → List (List ℕ)) → (S → List Item) → (S → Type 0) → S → Option (Result Match Error) → S → Type 0
+gives_in_text searched names coming HasEnded old r new = (searched new ≡ searched old) × (names new ≡ names old)
+    × GivesMatch coming HasEnded (IsMatchIn (searched old) (names old)) old r new
+
+module _ {S : Type 0} (searched : S → List ℕ) (names : S → List (List ℕ)) (coming : S → List Item) (HasEnded : S → Type 0) where
+  -- steps go over one text
+  pub searched-along : (ms old : S) (given : List (Result Match Error)) → Yields (gives_in_text searched names coming HasEnded) ms given old → searched old ≡ searched ms
+  searched-along ms old [] same = ap searched (sym same)
+  searched-along ms old (x ∷ given) (next, step, others) = searched-along next old given others ∙ step.0
+
+  -- each match that steps give lies in the text
+  pub inside-each : (ms : S) (bytes : List ℕ) → searched ms ≡ bytes → HoldsOfEach (gives_in_text searched names coming HasEnded) (LiesInText bytes) ms
+  inside-each ms bytes over given old new r m yields step found =
+      let same : searched old ≡ bytes = searched-along ms old given yields ∙ over in
+      let first : GivesFirst (IsMatchIn (searched old) (names old)) (coming old) (Some (Ok m)) (coming new) = rw found at step.2.first in
+      let P : List ℕ → Type 0 = λ text. LiesInText text m in
+      subst P same first.1.0
+
+  -- and each begins and ends where a search may begin
+  pub starts-each : (ms : S) (bytes : List ℕ) → IsUtf8 bytes → searched ms ≡ bytes
+      → HoldsOfEach (gives_in_text searched names coming HasEnded) (BeginsAndEndsAtStarts bytes) ms
+  starts-each ms bytes utf8 over given old new r m yields step found =
+      starts-inside bytes utf8 m (inside-each ms bytes over given old new r m yields step found)
+
+-- what a step of the iterator over a text of UTF-8 is
 abbrev pub gives_next : Matches → Option (Result Match Error) → Matches → Type 0
-gives_next old r new = (searched new ≡ searched old) × (sought_names new ≡ sought_names old)
-    × GivesMatch coming HasEnded (IsMatchIn (searched old) (sought_names old)) old r new
-
--- steps go over one text
-pub searched-along : (ms old : Matches) (given : List (Result Match Error)) → Yields gives_next ms given old → searched old ≡ searched ms
-searched-along ms old [] same = ap searched (sym same)
-searched-along ms old (x ∷ given) (next, step, others) = searched-along next old given others ∙ step.0
-
--- each match that steps give lies in the text
-pub inside-each : (ms : Matches) (bytes : List ℕ) → searched ms ≡ bytes → HoldsOfEach gives_next (LiesInText bytes) ms
-inside-each ms bytes over given old new r m yields step found =
-    let same : searched old ≡ bytes = searched-along ms old given yields ∙ over in
-    let first : GivesFirst (IsMatchIn (searched old) (sought_names old)) (coming old) (Some (Ok m)) (coming new) = rw found at step.2.first in
-    let P : List ℕ → Type 0 = λ text. LiesInText text m in
-    subst P same first.1.0
-
--- and each begins and ends where a search may begin
-pub starts-each : (ms : Matches) (bytes : List ℕ) → IsUtf8 bytes → searched ms ≡ bytes → HoldsOfEach gives_next (BeginsAndEndsAtStarts bytes) ms
-starts-each ms bytes utf8 over given old new r m yields step found = starts-inside bytes utf8 m (inside-each ms bytes over given old new r m yields step found)
+gives_next = gives_in_text searched sought_names coming HasEnded
 
 -- a step gives the first of the items also where less is said of its match
 pub first-weaker : (P Q : Match → Type 0) → ((m : Match) → P m → Q m) → (before after : List Item) (r : Option (Result Match Error))

@@ -1,8 +1,9 @@
 -- What an executor of a program lists: the matches of its pattern, told in offsets, one behind the other.
-use Rattle.std.proofs.Common.{◌≡◌, ℕ, List, [], ◌∷◌, length, map, Option, All, refl, sym, ap, ◌∙◌, subst, arith}
+use Rattle.std.proofs.Common.{◌≡◌, ℕ, List, [], ◌∷◌, length, map, chars, Option, All, refl, sym, ap, ◌∙◌, subst, arith}
 use Rattle.std.proofs.Math.Logic.{∥∥₁_elim}
 use Rattle.std.proofs.lemmas.List.Elements.{All-head, All-tail}
 use Rattle.std.specs.Coded.{le_prop}
+use Rattle.std.specs.Str.{IsUtf8}
 use mathlib.Core.HLevel.{Unit-prop}
 use denote.Struct.Props as logic
 use Rattle.regress_meaning.specs.Table.{Table}
@@ -12,17 +13,19 @@ use Rattle.regress_meaning.specs.Meaning.{Context}
 use Rattle.regress_meaning.specs.Inputs.{context_of}
 use Rattle.regress_meaning.specs.Laws.{IsItemInside, ItemsRise, OffsetsRise}
 use Rattle.regress_meaning.specs.Matches.{Item, match_list}
-use Rattle.regress_meaning.specs.Offsets.{Reading, told, Begins}
+use Rattle.regress_meaning.specs.Offsets.{Reading, of_utf8, told, Begins}
 use Rattle.regress_front.specs.NodeMatches.{node_match_list}
 use Rattle.regress_front_nodes.proofs.AlikeMatches.{match_list-same}
 use Rattle.regress_front_nodes.proofs.MatchLemmas.{matches_rise, matches_lie}
+use Rattle.regress_match.specs.declared.found.Match.{Match}
 use Rattle.regress_match.specs.Iterating.{coming_on}
-use Rattle.regress_match.proofs.TextLemmas.{offset-le}
+use Rattle.regress_match.proofs.TextLemmas.{offset-le, chars-code_points}
 use Rattle.regress_engine_input.specs.Views.{AreOfKind, input_of, reading_of, reading_of_kind}
 use Rattle.regress_engine_input.proofs.KindLemmas.{tells}
 use Rattle.regress_engine_code.specs.declared.compiled.CompiledRegex.{CompiledRegex}
 use Rattle.regress_engine_code.specs.Laid.{IsLaid}
 use Rattle.regress_engine_code.specs.Standing.{target_of}
+use Rattle.regress_engine_sought.specs.Searching.{Searches}
 use Rattle.regress_engine_sought.specs.Sought.{Sought, IsMadeOf, StartsAt, items_from}
 use Rattle.regress_engine_sought.specs.SoughtOnce.{rises}
 use Rattle.regress_engine_sought.proofs.ProducerLemmas.{items-asked}
@@ -93,3 +96,15 @@ module _ (s : Sought) (compiled : CompiledRegex) (units : List ℕ) (seeks : See
   sought-rises =
       subst (λ us. AreOfKind s.view.kind us → Begins (reading_of_kind s.view.kind us) at place → ItemsRise (coming_on (items_from s) position)) seeks.over
       (λ among start. coming-rises s among seeks.made at place start position starts) all begins
+
+-- what finds the matches of trees by a program of bytes finds those of the program's pattern
+pub pattern-searched : {Position : Type 0} (compiled : CompiledRegex) (bytes : List ℕ) → IsUtf8 bytes → (IsStart : ℕ → Type 0) (starts_at : ℕ → Option Position → Type 0)
+    (items : Position → List Item) (IsOfSearch : Match → Type 0) → Searches compiled bytes IsStart starts_at items IsOfSearch
+    → (t : Table) (o : Options) (p : Pattern) → IsProgramOf compiled t o p → (at place : ℕ) → Begins (of_utf8 bytes) at place → (position : Option Position) → starts_at at position
+    → coming_on items position ≡ map (told (of_utf8 bytes)) (match_list t o p (chars bytes) place)
+pattern-searched compiled bytes utf8 IsStart starts_at items IsOfSearch searches t o p stands at place begins position starts =
+    let n = length (names_of p) in
+    searches.lists n stands.node stands.well_formed stands.layout at place begins position starts
+    ∙ ap (λ (context : Context). map (told (of_utf8 bytes)) (node_match_list context n stands.node place))
+    (λ i. record { text = chars bytes; table = stands.table i; unicode = is_unicode (stands.flags i) })
+    ∙ ap (map (told (of_utf8 bytes))) (match_list-same t o p (chars bytes) stands.node n refl stands.alike (chars-code_points bytes utf8) place)

@@ -1,7 +1,6 @@
 -- What a step of an executor gives, told as a step of an iterator over it.
 use Rattle.std.specs.Prelude.{MatchResult, IsErrAnd}
-use Rattle.std.specs.Str.{IsUtf8}
-use Rattle.std.proofs.Common.{◌≡◌, ℕ, ◌<◌, List, [], ◌∷◌, Option, Some, None, Result, Ok, Err, sym, ap, ◌∙◌, subst}
+use Rattle.std.proofs.Common.{◌≡◌, ℕ, ◌<◌, true, List, [], ◌∷◌, Option, Some, None, Result, Ok, Err, sym, ap, ◌∙◌, subst}
 use Rattle.regress_meaning.specs.Matches.{Item}
 use Rattle.regress_front_core.specs.declared.error.Error.{Error}
 use Rattle.regress_front_core.specs.declared.error.Error.TheVariants.{OutOfMemory}
@@ -9,16 +8,16 @@ use Rattle.regress_match.specs.declared.found.Match.{Match}
 use Rattle.regress_match.specs.Views.{item_of}
 use Rattle.regress_match.specs.Iterating.{GivesFirst, UnlessFound, coming_on, steps_on}
 use Rattle.regress_match.specs.TextRanges.{IsMatchIn}
-use Rattle.regress_engine_input.specs.Views.{utf8}
+use Rattle.regress_engine_input.specs.Views.{AreOfKind, are_bytes}
 use Rattle.regress_engine_code.specs.Standing.{names_of}
 use Rattle.regress_engine_sought.specs.Sought.{Sought, IsMatchOf, Steps, items_from, places_behind}
-use Rattle.regress_engine_sought.proofs.ProducerLemmas.{match-in_utf8}
+use Rattle.regress_engine_sought.proofs.ProducerLemmas.{match-in_bytes}
 
 -- an error is told as one of memory
 abbrev pub IsTold : {T E : Type 0} → Result T E → Result T Error → Type 0
 IsTold x r = MatchResult x (λ m. r ≡ Ok m) (λ _. IsErrAnd r (λ e. e ≡ OutOfMemory))
 
-module _ (s after : Sought) (kept : after ≡ s) (before next : Option ℕ) where
+module _ (s : Sought) {after : Sought} (kept : after ≡ s) (before next : Option ℕ) where
   -- nothing is given where none was coming, and none is
   pub step-none : (r : Option (Result Match Error)) → r ≡ None → (coming_on (items_from s) before ≡ []) × (next ≡ None)
       → GivesFirst (IsMatchOf s) (coming_on (items_from s) before) r (coming_on (items_from after) next)
@@ -44,9 +43,9 @@ module _ (s after : Sought) (kept : after ≡ s) (before next : Option ℕ) wher
   pub step-nearer : steps_on (places_behind s) next < steps_on (places_behind s) before → steps_on (places_behind after) next < steps_on (places_behind s) before
   step-nearer less = subst (λ (x : Sought). steps_on (places_behind x) next < steps_on (places_behind s) before) (sym kept) less
 
--- over UTF-8 a match that is given lies in the text
-pub given-in_utf8 : (s : Sought) → s.view.kind ≡ utf8 → IsUtf8 s.view.units → (before : List Item) (r : Option (Result Match Error)) (after : List Item)
+-- over bytes a match that is given lies in the text
+pub given-in_text : (s : Sought) → are_bytes s.view.kind ≡ true → AreOfKind s.view.kind s.view.units → (before : List Item) (r : Option (Result Match Error)) (after : List Item)
     → GivesFirst (IsMatchOf s) before r after → GivesFirst (IsMatchIn s.view.units (names_of s.compiled)) before r after
-given-in_utf8 s kind text before None after given = given
-given-in_utf8 s kind text before (Some (Ok m)) after (items, of) = (items, (match-in_utf8 s.view.kind s.view.units kind text m of.0, of.1))
-given-in_utf8 s kind text before (Some (Err e)) after given = given
+given-in_text s are all before None after given = given
+given-in_text s are all before (Some (Ok m)) after (items, of) = (items, (match-in_bytes s.view.kind s.view.units are all m of.0, of.1))
+given-in_text s are all before (Some (Err e)) after given = given

@@ -1,17 +1,27 @@
 -- Each match in 16-bit units lies in them.
-use Rattle.std.proofs.Common.{◌≡◌, ℕ, List, [], ◌∷◌, length, Option, Some, Result, Ok, inl, sym, ap, ◌∙◌, subst, arith}
+use Rattle.std.proofs.Common.{◌≡◌, ℕ, ◌+◌, ◌<◌, ◌≤◌, ◌⊎◌, List, [], ◌∷◌, length, Option, Some, Result, Ok, inl, inr, refl, sym, ap, ◌∙◌, subst, arith}
+use Rattle.std.proofs.lemmas.Bool.{cases_lt}
 use Rattle.std.specs.Iterator.{Yields}
 use Rattle.std.specs.declared.ops.Range.{Range}
-use Rattle.regress_meaning.specs.Offsets.{Reading, offset}
+use Rattle.regress_meaning.specs.Offsets.{Reading, offset, of_ucs2, Begins}
 use Rattle.regress_front_core.specs.declared.error.Error.{Error}
 use Rattle.regress_match.specs.declared.found.Match.{Match}
 use Rattle.regress_match.specs.Views.{ends, item_of}
 use Rattle.regress_match.proofs.TextLemmas.{offset-le}
 use Rattle.regress_match.proofs.TakenLemmas.{of_groups}
+use Rattle.regress_engine_input.proofs.UnitTexts.{single_offset}
 use Rattle.regress_engine_runs.specs.Meets.{AreAtPlaces}
 use Rattle.regress_engine_sought.specs.Sought.{Sought, IsItemAtPlaces, IsMatchOf}
 use Rattle.regress.specs.Coming.{HoldsOfEach}
 use Rattle.regress.specs.Units.{LiesInUnits, IsMatchInUnits}
+
+-- where each unit is a character a search may begin at any offset
+pub begins-anywhere : (units : List ℕ) (at : ℕ) → (place : ℕ) × Begins (of_ucs2 units) at place
+begins-anywhere units at = by_room (cases_lt (length units) at)
+  where
+    by_room : (length units < at) ⊎ (at ≤ length units) → (place : ℕ) × Begins (of_ucs2 units) at place
+    by_room (inl past) = (length units + 1, inr (refl, rw (single_offset units (length units) (omega arith)) past))
+    by_room (inr room) = (at, inl (room, single_offset units at room))
 
 module _ (reading : Reading) (units : List ℕ) (end : offset reading (length reading.points) ≡ length units) where
   -- a range between places lies in the units

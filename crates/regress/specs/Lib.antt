@@ -9,3 +9,4 @@ pub mod Answering
 pub mod Behind
 pub mod Splitting
 pub mod Units
+pub mod Ascii

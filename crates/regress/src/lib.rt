@@ -4,7 +4,9 @@
 #![tactic(auto)]
 
 mod api;
+mod ascii;
 mod asking;
+pub mod backends;
 mod compiled;
 mod laws;
 mod matches;
@@ -16,6 +18,7 @@ mod text;
 mod units;
 
 pub use api::{Regex, is_start};
+pub use ascii::{AsciiMatches, is_ascii_text};
 pub use laws::{
     escaped_texts_are_replaced_where_they_occur, parts_stand_between_the_matches,
     whole_matches_give_the_text_back,

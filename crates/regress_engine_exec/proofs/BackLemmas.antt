@@ -1,46 +1,24 @@
 -- What is undone, and where it is gone on.
-use Rattle.std.specs.Prelude.{get_or, slice_set, nat_lt, ◌^◌}
-use Rattle.std.proofs.Common.{◌≡◌, ℕ, zero, suc, ◌+◌, ◌-◌, ◌<◌, ◌≤◌, Bool, true, false, not, List, [], ◌∷◌, length, Some, None, ◌⊎◌, refl, sym, ap, ◌∙◌, subst, arith}
-use Rattle.std.proofs.lemmas.Bool.Decides.{nat_tests}
+use Rattle.std.specs.Prelude.{get_or, slice_set, ◌^◌}
+use Rattle.std.proofs.Common.{◌≡◌, ℕ, zero, suc, ◌+◌, ◌-◌, ◌<◌, ◌≤◌, Bool, true, false, List, [], ◌∷◌, length, Some, None, ◌⊎◌, refl, sym, ap, ◌∙◌, subst, arith}
 use Rattle.std.proofs.lemmas.List.{length-set}
-use Rattle.regress_meaning.specs.Meaning.{Direction}
 use Rattle.regress_meaning.specs.Inputs.{Input}
-use Rattle.regress_engine_input.specs.Views.{View, way, input_of, reading_of}
+use Rattle.regress_engine_input.specs.Views.{View, way, reading_of}
 use Rattle.regress_engine_code.specs.Instructions.{Program, Instruction, Stands}
 use Rattle.regress_engine_runs.specs.States.{Whole, Marks}
 use Rattle.regress_engine_runs.specs.Runs.{against, gap, advance, one_more, after_look}
 use Rattle.regress_engine_runs.specs.Meets.{IsAtPlace}
 use Rattle.regress_engine_runs.specs.UndoStack.{Undo, Frame, Work, old_loop, old_group, resume, iterate, give_back, take_on, frame, whole, first_do, stands_for, at_each, MovesOn}
-use Rattle.regress_engine_runs.proofs.UndoLemmas.{given_back_last, given_back_one, taken_on_last, taken_on_one, frame_exhausted}
-use Rattle.regress_engine_runs.proofs.ReadLemmas.{read_exhausted}
-use Rattle.regress_engine_input.specs.Views.{AreOfKind}
-use Rattle.regress_engine_runs.specs.Closed.{takes_character}
-use Rattle.regress_engine_runs.proofs.RunViews.{one_stands}
-use Rattle.regress_engine_sought.specs.Sought.{Suits}
-use Rattle.regress_engine_exec.specs.Ready.{IsReady}
-use Rattle.regress_engine_exec.proofs.PlaceLemmas.{body-ready}
+use Rattle.regress_engine_runs.proofs.UndoLemmas.{given_back_last, given_back_one, taken_on_last, taken_on_one}
+use Rattle.regress_engine_sought.specs.Ready.{IsBody}
+use Rattle.regress_engine_sought.specs.Tasks.{Task, Leads}
+use Rattle.regress_engine_sought.proofs.TaskLemmas.{leads-then, leads-same, leads-first, leads-exhausted}
 use Rattle.regress_engine_exec.specs.declared.undo.Spot.{Spot}
 use Rattle.regress_engine_exec.specs.Held.{Held, pushed, loop_written}
-use Rattle.regress_engine_exec.specs.Sound.{IsBody, IsSound, IsHeld}
-use Rattle.regress_engine_exec.specs.Tasks.{Task, task, state_at, Leads}
-use Rattle.regress_engine_exec.proofs.LeadLemmas.{leads-then, leads-same, leads-first}
+use Rattle.regress_engine_exec.specs.Sound.{IsSound, IsHeld}
+use Rattle.regress_engine_exec.specs.Tasks.{task, state_at}
 use Rattle.regress_engine_exec.proofs.StepLemmas.{iterate-leads}
-use Rattle.regress_engine_runs.proofs.BodyPlaces.{body-place}
 use Rattle.regress_engine_runs.proofs.Iterations.{back_to-none}
-use Rattle.regress_engine_input.proofs.KindLemmas.{tells, tells_bytes}
-
--- the other way
-pub way-against : (b : Bool) → way (not b) ≡ against (way b)
-way-against true = refl
-way-against false = refl
-
-pub none-ahead : (n : ℕ) → false ≡ nat_lt 0 n → n ≡ 0
-none-ahead zero e = refl
-none-ahead (suc n) e = absurd (grind (arith, nat_tests))
-
-pub some-ahead : (n : ℕ) → true ≡ nat_lt 0 n → 0 < n
-some-ahead zero e = absurd (grind (arith, nat_tests))
-some-ahead (suc n) e = omega arith
 
 module _ (program : Program) (input : Input) where
   -- a record stands for a state and the rest
@@ -96,10 +74,7 @@ module _ (program : Program) (input : Input) where
       inside_of = stands_for program input (way p.forward) (frame f ∷ h.stack) h.loops h.groups
 
       exhausted : Leads program input 0 (record { dir = way p.forward; states = []; work = inside_of }) (record { dir = f.outside; states = left f.negated; work = rest })
-      exhausted = record {
-        comes = λ n r come. (n, omega arith, frame_exhausted program input f s rest n r come);
-        reads = λ reading on. read_exhausted program input reading (way p.forward) f s rest on;
-      }
+      exhausted = leads-exhausted program input (way p.forward) f s rest
 
       from : Task
       from = task program input false p (pushed (frame f) h)
@@ -206,21 +181,6 @@ module _ (program : Program) (v : View) where
   held-iterate h id begin o held =
       let there = held.sound.0 in let same = held.loops in
       (omega (arith, there, same), held.sound.1, held.sound.2, record { loops = held.loops; groups = held.groups; sound = held.sound.3 })
-
--- what is repeated is the same instruction
-module _ (v : View) (all : AreOfKind v.kind v.units) (program : Program) (suits : Suits program v) where
-  pub body-asked : (at o : ℕ) (j : Instruction) (groups : List Marks) → IsBody program v at o → Stands program (at - 1) j → length groups ≡ program.groups → IsReady program v j groups o
-  body-asked at o j groups (i, here, takes, place, some) there count =
-      let same : i ≡ j = one_stands program (input_of v) (at - 1) i j here there in
-      let takes' : takes_character j ≡ true = ap takes_character (sym same) ∙ takes in
-      body-ready v program (at - 1) j groups o (suits.closed (at - 1) j there) takes' count place
-
-  pub body-next : (at o q : ℕ) (j : Instruction) (dir : Direction) (groups : List Marks) → IsBody program v at o → Stands program (at - 1) j
-      → advance program (input_of v) j dir groups o ≡ Some q → IsBody program v at q
-  body-next at o q j dir groups (i, here, takes, place, some) there e =
-      let same : i ≡ j = one_stands program (input_of v) (at - 1) i j here there in
-      let takes' : takes_character j ≡ true = ap takes_character (sym same) ∙ takes in
-      (j, there, takes', body-place (input_of v) (reading_of v) (tells v.kind v.table v.unicode v.units all) program (λ none. tells_bytes v.kind v.table v.unicode v.units all (suits.kind ∙ ap not none)) (at - 1) j dir groups o q (suits.closed (at - 1) j there) takes' place e, some)
 
 -- a record, told otherwise
 pub held-as : (program : Program) (v : View) (u x : Undo) (h : Held) → u ≡ x → IsHeld program v (pushed u h) → IsHeld program v (pushed x h)

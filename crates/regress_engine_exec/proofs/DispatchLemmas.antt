@@ -1,57 +1,41 @@
 -- Each instruction's step.
-use Rattle.std.specs.Prelude.{slice_set}
-use Rattle.std.proofs.Common.{◌≡◌, ℕ, suc, ◌+◌, Bool, true, false, not, [], ◌∷◌, Option, Some, None, if◌then◌else◌, refl, sym, ap, ◌∙◌, subst, arith}
-use Rattle.regress_meaning.specs.Meaning.{Direction}
+use Rattle.std.specs.Prelude.{slice_set, slice_get, get_or, is_some, option_map}
+use Rattle.std.proofs.lemmas.Option.{slice_get-map, slice_get-get_or}
+use Rattle.std.proofs.Common.{◌≡◌, ℕ, suc, ◌+◌, ◌<◌, Bool, true, false, not, List, length, map, [], ◌∷◌, Option, Some, None, if◌then◌else◌, refl, sym, ap, ◌∙◌, subst, arith}
 use Rattle.regress_meaning.specs.Inputs.{Input}
-use Rattle.regress_front_nodes.specs.TreeMeaning.{direction}
-use Rattle.regress_engine_input.specs.Views.{View, way, reading_of}
+use Rattle.regress_engine_input.specs.Views.{way}
 use Rattle.regress_engine_code.specs.Instructions.{Instruction, Program, Stands}
 use Rattle.regress_engine_code.specs.Instructions as code
 use Rattle.regress_engine_code.specs.InsnViews.{instruction}
-use Rattle.regress_engine_code.specs.declared.insn.Insn.{Insn}
-use Rattle.regress_engine_code.specs.declared.insn.Insn.TheVariants.{EnterLoop}
 use Rattle.regress_engine_code.specs.declared.insn.LoopFields as insn
-use Rattle.regress_engine_runs.specs.States.{Whole, Marks, onward}
-use Rattle.regress_engine_runs.specs.Runs.{successors, is_plain, moved_to, advance, is_idle, choices, fields_of}
-use Rattle.regress_engine_runs.specs.Meets.{reads_character, ReadsPlaces}
+use Rattle.regress_engine_code.specs.InsnViews.{instruction}
+use Rattle.regress_engine_code.specs.declared.insn.Insn.{Insn}
+use Rattle.regress_engine_runs.specs.States.{Marks, onward}
+use Rattle.regress_engine_runs.specs.Runs.{successors, is_plain, moved_to, advance, is_idle, choices}
+use Rattle.regress_engine_runs.specs.Meets.{reads_character}
 use Rattle.regress_engine_runs.specs.Closed.{Fits}
-use Rattle.regress_engine_runs.specs.UndoStack.{Frame, frame, stands_for}
-use Rattle.regress_engine_runs.proofs.UndoLemmas.{frame_pushed}
-use Rattle.regress_engine_runs.proofs.ReadLemmas.{read_inside}
-use Rattle.regress_engine_runs.proofs.RunViews.{one_stands}
+use Rattle.regress_engine_runs.specs.UndoStack.{Frame, frame, resume, stands_for}
+use Rattle.regress_engine_sought.specs.Ready.{is_simple}
+use Rattle.regress_engine_sought.specs.Tasks.{Task, Leads}
+use Rattle.regress_engine_sought.proofs.InsnLemmas.{way-direction, simple-plain, simple-successors, again-successors}
+use Rattle.regress_engine_sought.proofs.TaskLemmas.{leads-then, leads-same, leads-plain, leads-inside}
 use Rattle.regress_engine_exec.specs.declared.undo.Spot.{Spot}
 use Rattle.regress_engine_exec.specs.Held.{Held, pushed}
-use Rattle.regress_engine_sought.specs.Sought.{Suits}
-use Rattle.regress_engine_exec.specs.Ready.{IsReady, is_simple}
-use Rattle.regress_engine_exec.specs.Sound.{IsHeld}
-use Rattle.regress_engine_exec.specs.Tasks.{Task, task_of, task, state_at, Leads, GoesOn}
-use Rattle.regress_engine_exec.proofs.LeadLemmas.{leads-then, leads-same, leads-plain}
-
-pub stands-as : (program : Program) (at : ℕ) (j x : Insn) → j ≡ x → Stands program at (instruction j) → Stands program at (instruction x)
-stands-as program at j x e here = subst (λ y. Stands program at (instruction y)) e here
-
-way-direction : (b : Bool) → direction b ≡ way (not b)
-way-direction true = refl
-way-direction false = refl
-
-simple-plain : (i : Instruction) → is_simple i ≡ true → is_plain i ≡ true
-simple-plain code.goal e = absurd (grind arith)
-simple-plain (code.look negated backward first last continuation) e = absurd (grind arith)
-simple-plain _ e = refl
-
-simple-fits : (program : Program) (at : ℕ) (i : Instruction) → is_simple i ≡ true → Fits program at i → Fits program 0 i
-simple-fits program at (code.single_loop least most greedy) e fits = absurd (grind arith)
-simple-fits program at _ e fits = fits
+use Rattle.regress_engine_exec.specs.Stuck.{is_byte_seq, IsStuck}
+use Rattle.regress_engine_exec.specs.Tasks.{task_of, task, state_at, GoesOn}
+use Rattle.regress_engine_exec.proofs.LeadLemmas.{leads-fewer}
+use Rattle.regress_engine_exec.proofs.StepLemmas.{fork-leads}
+use Rattle.regress_engine_exec.proofs.BackLemmas.{resume-back}
 
 module _ (program : Program) (input : Input) where
   -- a plain instruction, and what its successors are led to
   pub step-on : (i : Instruction) (p q : Spot) (h k : Held) (going : Bool) → Stands program p.at i → is_plain i ≡ true
       → Leads program input 0 (task_of program input (successors program input i (way p.forward) (state_at p h)) p h) (task program input going q k)
       → Leads program input 1 (task program input true p h) (task program input going q k)
-  step-on i p q h k going here plain on = leads-then program input 1 0 (leads-plain program input i (state_at p h) p h here plain) on
+  step-on i p q h k going here plain on = leads-then program input 1 0 (leads-plain program input i (way p.forward) (state_at p h) (stands_for program input (way p.forward) h.stack h.loops h.groups) here plain) on
 
   pub jump-on : (p : Spot) (h : Held) (a : ℕ) → Stands program p.at (code.jump a) → Leads program input 1 (task program input true p h) (task program input true (record p { at = a }) h)
-  jump-on p h a here = leads-plain program input (code.jump a) (state_at p h) p h here refl
+  jump-on p h a here = leads-plain program input (code.jump a) (way p.forward) (state_at p h) (stands_for program input (way p.forward) h.stack h.loops h.groups) here refl
 
   -- marks, told otherwise
   pub mark-on : (i : Instruction) (p q : Spot) (h k : Held) (group : ℕ) (m n : Marks) → Stands program p.at i → is_plain i ≡ true → m ≡ n
@@ -88,32 +72,18 @@ module _ (program : Program) (input : Input) where
 
       begun_here : Leads program input 1 from (task program input true (record p { at = suc p.at; forward = not f.backward }) (pushed (frame frame_here) h))
       begun_here =
-          subst (λ d. Leads program input 1 from (record { dir = d; states = onward (state_at p h) ∷ []; work = stands_for program input d (frame frame_here ∷ h.stack) h.loops h.groups })) (way-direction f.backward) (record {
-            comes = λ n r come. let x = frame_pushed program input (state_at p h) (stands_for program input (way p.forward) h.stack h.loops h.groups) n r frame_here refl here come in let less = x.1 in (x.0, omega (arith, less), x.2);
-            reads = λ reading on. read_inside program input reading (state_at p h) (stands_for program input (way p.forward) h.stack h.loops h.groups) frame_here here on;
-          })
+          subst (λ d. Leads program input 1 from (record { dir = d; states = onward (state_at p h) ∷ []; work = stands_for program input d (frame frame_here ∷ h.stack) h.loops h.groups })) (way-direction f.backward)
+          (leads-inside program input (state_at p h) (stands_for program input (way p.forward) h.stack h.loops h.groups) frame_here here)
 
       begun : Leads program input 1 from (task program input true (record p { at = suc p.at; forward = not f.backward }) (pushed (frame f) h))
       begun = subst (λ x. Leads program input 1 from (task program input true (record p { at = suc p.at; forward = not f.backward }) (pushed (frame x) h))) same_frame begun_here
 
   -- what changes nothing but the offset
-  simple-successors : (i : Instruction) (dir : Direction) (s : Whole) → is_simple i ≡ true → successors program input i dir s ≡ moved_to s (advance program input i dir s.groups s.offset)
-  simple-successors code.goal dir s e = absurd (grind arith)
-  simple-successors (code.jump a) dir s e = absurd (grind arith)
-  simple-successors (code.alt a) dir s e = absurd (grind arith)
-  simple-successors (code.begin_group k) dir s e = absurd (grind arith)
-  simple-successors (code.end_group k) dir s e = absurd (grind arith)
-  simple-successors (code.reset_group k) dir s e = absurd (grind arith)
-  simple-successors (code.enter_loop f) dir s e = absurd (grind arith)
-  simple-successors (code.loop_again begin) dir s e = absurd (grind arith)
-  simple-successors (code.single_loop least most greedy) dir s e = absurd (grind arith)
-  simple-successors _ dir s e = refl
-
   pub take-none : (i : Instruction) (p : Spot) (h : Held) → Stands program p.at i → is_simple i ≡ true → advance program input i (way p.forward) h.groups p.offset ≡ None
       → Leads program input 1 (task program input true p h) (task program input false p h)
   take-none i p h here simple none =
       step-on i p p h h false here (simple-plain i simple)
-      (subst (λ ss. Leads program input 0 (task_of program input ss p h) (task program input false p h)) (sym (simple-successors i (way p.forward) (state_at p h) simple ∙ ap (moved_to (state_at p h)) none))
+      (subst (λ ss. Leads program input 0 (task_of program input ss p h) (task program input false p h)) (sym (simple-successors program input i (way p.forward) (state_at p h) simple ∙ ap (moved_to (state_at p h)) none))
       (leads-same program input (task program input false p h)))
 
   pub take-some : (i : Instruction) (p : Spot) (h : Held) (o : ℕ) → Stands program p.at i → is_simple i ≡ true → advance program input i (way p.forward) h.groups p.offset ≡ Some o
@@ -123,13 +93,34 @@ module _ (program : Program) (input : Input) where
       let q : Spot = record p { at = suc p.at; offset = o } in
       subst (λ a. Leads program input 1 (task program input true p h) (task program input true (record p { at = a; offset = o }) h)) next
       (step-on i p q h h true here (simple-plain i simple)
-      (subst (λ ss. Leads program input 0 (task_of program input ss p h) (task program input true q h)) (sym (simple-successors i (way p.forward) (state_at p h) simple ∙ ap (moved_to (state_at p h)) some))
+      (subst (λ ss. Leads program input 0 (task_of program input ss p h) (task program input true q h)) (sym (simple-successors program input i (way p.forward) (state_at p h) simple ∙ ap (moved_to (state_at p h)) some))
       (leads-same program input (task program input true q h))))
 
-module _ (program : Program) (v : View) (suits : Suits program v) where
-  pub simple-ready : (i : Instruction) (p : Spot) (h : Held) → Stands program p.at i → is_simple i ≡ true → IsHeld program v h
-      → (reads_character i ≡ true → ReadsPlaces (reading_of v) i (state_at p h)) → IsReady program v i h.groups p.offset
-  simple-ready i p h here simple held reads = record { fits = simple-fits program p.at i simple (suits.closed p.at i here); count = held.groups; reads = reads }
+module _ (program : Program) (input : Input) where
+  -- the first of two ways leads nowhere
+  pub alt-stuck : (p : Spot) (h : Held) (target : ℕ) → Stands program p.at (code.alt target) → IsStuck program input (way p.forward) (p.at + 1) p.offset
+      → Leads program input 1 (task program input true p h) (task program input true (record p { at = target }) h)
+  alt-stuck p h target here (i, there, simple, none) =
+      let on : Spot = record p { at = p.at + 1 } in
+      let k : Held = pushed (resume target p.offset) h in
+      leads-fewer program input 2 1 (task program input true p h) (task program input true (record p { at = target }) h) (omega arith)
+      (leads-then program input 1 1 (step-on program input (code.alt target) p on h k true here refl (fork-leads p h k target refl program input))
+      (leads-then program input 1 0 (take-none program input i on k there simple (sym (none h.groups))) (resume-back program input on h target p.offset)))
+
+-- an instruction that was read stands there
+pub stands-read : (slice insns : List Insn) (at : ℕ) (d : Insn) → slice ≡ insns → at < length slice → slice_get (map instruction insns) at ≡ Some (instruction (get_or slice at d))
+stands-read slice insns at d same within =
+    subst (λ xs. slice_get (map instruction xs) at ≡ Some (instruction (get_or slice at d))) same
+    (slice_get-map instruction slice at ∙ ap (option_map instruction) (slice_get-get_or slice at d within))
+
+-- what takes bytes reads no character
+pub bytes-simple : (program : Program) (at : ℕ) (i : Instruction) → is_byte_seq i ≡ true → Fits program at i → (is_simple i ≡ true) × (reads_character i ≡ false) × Fits program 0 i
+bytes-simple program at (code.byte_seq bs) e fits = (refl, refl, fits)
+bytes-simple program at _ e fits = absurd (grind arith)
+
+pub none-is : (x : Option ℕ) → is_some x ≡ false → None ≡ x
+none-is None e = refl
+none-is (Some o) e = absurd (cc e)
 
 module _ (program : Program) (input : Input) where
   -- an iteration ends
@@ -137,19 +128,5 @@ module _ (program : Program) (input : Input) where
       → GoesOn (if is_idle f (state_at p h) then [] else choices f begin (state_at p h)) p h going q k
       → Leads program input 1 (task program input true p h) (task program input going q k)
   again-on-step p q h k going begin f here there on =
-      let are : successors program input (code.loop_again begin) (way p.forward) (state_at p h) ≡ (if is_idle f (state_at p h) then [] else choices f begin (state_at p h)) =
-      ap (λ (x : Option Instruction). elim (fields_of x) [
-        | None ↦ []
-        | Some f ↦ if is_idle f (state_at p h) then [] else choices f begin (state_at p h)
-      ]) there in
       step-on program input (code.loop_again begin) p q h k going here refl
-      (subst (λ ss. Leads program input 0 (task_of program input ss p h) (task program input going q k)) (sym are) (on program input))
-
-  -- where a repetition begins no other instruction stands
-  pub no-repetition : (begin : ℕ) (j : Insn) (f : code.LoopFields) → Stands program begin (code.enter_loop f) → Stands program begin (instruction j)
-      → ((r : insn.LoopFields) → j ≡ EnterLoop r → ⊥) → ⊥
-  no-repetition begin j f here there other = by_kind j (one_stands program input begin (code.enter_loop f) (instruction j) here there) other
-    where
-      by_kind : (j : Insn) → code.enter_loop f ≡ instruction j → ((r : insn.LoopFields) → j ≡ EnterLoop r → ⊥) → ⊥
-      by_kind (EnterLoop r) e other = other r refl
-      by_kind _ e other = absurd (grind arith)
+      (subst (λ ss. Leads program input 0 (task_of program input ss p h) (task program input going q k)) (sym (again-successors program input (way p.forward) (state_at p h) begin f there)) (on program input))

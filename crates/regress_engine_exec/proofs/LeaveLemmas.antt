@@ -9,41 +9,15 @@ use Rattle.regress_engine_code.specs.Instructions.{Program, Stands}
 use Rattle.regress_engine_code.specs.Instructions as code
 use Rattle.regress_engine_runs.specs.States.{Whole, Marks, unset, mixed}
 use Rattle.regress_engine_runs.specs.Runs.{after_look, one_more}
-use Rattle.regress_engine_runs.specs.UndoStack.{Undo, old_loop, old_group, resume, iterate, give_back, take_on, frame, Frame, Work, outermost, inside, whole, first_do, stands_for, Comes}
-use Rattle.regress_engine_runs.proofs.UndoLemmas.{all_found, frame_found, group_recorded}
-use Rattle.regress_engine_runs.proofs.ReadLemmas.{read_found}
+use Rattle.regress_engine_runs.specs.UndoStack.{Undo, old_loop, old_group, resume, iterate, give_back, take_on, frame, Frame, Work, whole, stands_for}
+use Rattle.regress_engine_sought.specs.Tasks.{Task, Leads, outside_of}
+use Rattle.regress_engine_sought.proofs.TaskLemmas.{leads-found, ends-outermost, outside-first}
 use Rattle.regress_engine_exec.specs.declared.undo.Spot.{Spot}
+use Rattle.regress_engine_exec.proofs.LeadLemmas.{group-kept}
 use Rattle.regress_engine_exec.specs.Held.{Held, pushed, group_written}
-use Rattle.regress_engine_exec.specs.Tasks.{Task, task, state_at, Leads}
-use Rattle.regress_engine_exec.specs.Leaving.{outside_of, told_outside, work_of, Unwinds, EndsAt}
+use Rattle.regress_engine_exec.specs.Tasks.{task, state_at}
+use Rattle.regress_engine_exec.specs.Leaving.{told_outside, work_of, Unwinds, EndsAt}
 use Rattle.regress_engine_runs.proofs.MixedGroups.{mixed-more}
-
--- states that are done first change nothing outside
-pub outside-first : (ss : List Whole) (w : Work) → outside_of (first_do ss w) ≡ outside_of w
-outside-first ss (outermost ts) = refl
-outside-first ss (inside ts f s rest) = refl
-
--- ---- the answer, or what follows
-
-module _ (program : Program) (input : Input) where
-  ends-outermost : (dir : Direction) (t : Whole) (w : Work) → outside_of w ≡ None → Stands program t.at code.goal → (n : ℕ) (r : Option Whole) → Comes program input dir (t ∷ []) w n r → r ≡ Some t
-  ends-outermost dir t (outermost ts) e here n r come = all_found program input t ts n r here come
-  ends-outermost dir t (inside ts f s rest) e here n r come = absurd (grind arith)
-
-  -- what follows a lookaround that is found
-  abbrev behind_found : Whole → Frame × Whole × Work → Task
-  behind_found t y = record { dir = y.0.outside; states = after_look y.0.negated y.0.first y.0.last y.0.continuation y.1 (Some t); work = y.2 }
-
-  found-inside : (dir : Direction) (t : Whole) (w : Work) (y : Frame × Whole × Work) → outside_of w ≡ Some y → Stands program t.at code.goal
-      → Leads program input 1 (record { dir = dir; states = t ∷ []; work = w }) (behind_found t y)
-  found-inside dir t (outermost ts) y e here = absurd (grind arith)
-  found-inside dir t (inside ts f s rest) y e here =
-      let there : Frame × Whole × Work = (f, s, rest) in
-      let same : there ≡ y = cc in
-      subst (λ z. Leads program input 1 (record { dir = dir; states = t ∷ []; work = inside ts f s rest }) (behind_found t z)) same (record {
-        comes = λ n r come. let x = frame_found program input t ts f s rest n r here come in let less = x.1 in (x.0, omega (arith, less), x.2);
-        reads = λ reading on. read_found program input reading dir t ts f s rest here on;
-      })
 
 -- the whole program is left
 pub leaves-all : (p : Spot) (h k : Held) → Unwinds h None k → EndsAt p h
@@ -56,7 +30,7 @@ pub leaves-negated : (p q : Spot) (h k : Held) (f : Frame) → Unwinds h (Some f
 leaves-negated p q h k f unwinds negated turned program input here =
     subst (λ d. Leads program input 1 (task program input true p h) (record { dir = d; states = []; work = work_of program input d k })) (sym turned)
     (subst (λ b. Leads program input 1 (task program input true p h) (record { dir = f.outside; states = after_look b f.first f.last f.continuation (whole f.at f.offset k.loops k.groups) (Some (state_at p h)); work = work_of program input f.outside k })) negated
-    (found-inside program input (way p.forward) (state_at p h) (work_of program input (way p.forward) h) _ (unwinds program input (way p.forward)) here))
+    (leads-found program input (way p.forward) (state_at p h) (work_of program input (way p.forward) h) _ (unwinds program input (way p.forward)) here))
 
 -- a positive one takes the groups on
 pub leaves-positive : (p q : Spot) (h k l : Held) (f : Frame) → Unwinds h (Some f) k → f.negated ≡ false → way q.forward ≡ f.outside → q.at ≡ f.continuation → q.offset ≡ f.offset
@@ -71,7 +45,7 @@ leaves-positive p q h k l f unwinds positive turned at offset loops groups same 
     (subst (λ (w : Work). Leads program input 1 from (record { dir = way q.forward; states = state ∷ []; work = w })) (sym (same program input (way q.forward)))
     (subst (λ d. Leads program input 1 from (record { dir = d; states = state ∷ []; work = work_of program input d k })) (sym turned)
     (subst (λ b. Leads program input 1 from (record { dir = f.outside; states = after_look b f.first f.last f.continuation (whole f.at f.offset k.loops k.groups) (Some (state_at p h)); work = work_of program input f.outside k })) positive
-    (found-inside program input (way p.forward) (state_at p h) (work_of program input (way p.forward) h) _ (unwinds program input (way p.forward)) here))))
+    (leads-found program input (way p.forward) (state_at p h) (work_of program input (way p.forward) h) _ (unwinds program input (way p.forward)) here))))
 
 -- ---- one record without going on
 
@@ -122,7 +96,7 @@ carried j k g first new old m is before same from count there =
     ap (λ (h : Held). h.groups) is ∙ ap₂ (λ (ms : List Marks) x. slice_set ms g x) before same ∙ mixed-more 0 g g first new old unset (omega arith) from count there
 
 pub carried-same : (j k : Held) (g : ℕ) (m : Marks) → k ≡ group_written g m j → (program : Program) (input : Input) (dir : Direction) → work_of program input dir k ≡ work_of program input dir j
-carried-same j k g m is program input dir = ap (work_of program input dir) is ∙ group_recorded program input dir j.stack j.loops j.groups g m unset
+carried-same j k g m is program input dir = ap (work_of program input dir) is ∙ group-kept program input dir j.stack j.loops j.groups g m
 
 pub carried-count : (j k : Held) (g : ℕ) (m : Marks) → k ≡ group_written g m j → length k.groups ≡ length j.groups
 carried-count j k g m is = ap (λ (h : Held). length h.groups) is ∙ length-set j.groups g m

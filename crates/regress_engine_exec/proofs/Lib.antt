@@ -1,7 +1,4 @@
-pub mod BracketLemmas
-pub mod RepeatLemmas
 pub mod MemoryLemmas
-pub mod PlaceLemmas
 pub mod SoundLemmas
 pub mod LeadLemmas
 pub mod StepLemmas
@@ -10,4 +7,3 @@ pub mod SingleLemmas
 pub mod LeaveLemmas
 pub mod DispatchLemmas
 pub mod TryLemmas
-pub mod SearchLemmas

@@ -1,23 +1,35 @@
 -- One-character loops.
 use Rattle.std.specs.Prelude.{slice_get}
-use Rattle.std.proofs.Common.{◌≡◌, ℕ, suc, ◌+◌, ◌-◌, Bool, true, false, List, [], Option, Some, None, if◌then◌else◌, map, sym, ap, ◌∙◌, subst, arith}
+use Rattle.std.proofs.Common.{◌≡◌, ℕ, zero, suc, refl, ◌+◌, ◌-◌, Bool, true, false, List, [], Option, Some, None, if◌then◌else◌, map, sym, ap, ◌∙◌, subst, arith}
 use Rattle.regress_meaning.specs.Meaning.{Direction}
 use Rattle.regress_meaning.specs.Inputs.{Input}
-use Rattle.regress_engine_input.specs.Views.{View, way, reading_of}
+use Rattle.regress_engine_input.specs.Views.{View, AreOfKind, way, input_of, reading_of}
 use Rattle.regress_engine_code.specs.Instructions.{Instruction, Program, Stands, single_loop}
-use Rattle.regress_engine_runs.specs.States.{Whole}
-use Rattle.regress_engine_runs.specs.Runs.{after_times, as_far, one_by_one, given_back, counted, successors}
+use Rattle.regress_engine_runs.specs.States.{Marks, Whole}
+use Rattle.regress_engine_runs.specs.Runs.{advance, after_times, as_far, one_by_one, given_back, counted, successors}
 use Rattle.regress_engine_runs.specs.Meets.{IsAtPlace}
 use Rattle.regress_engine_runs.specs.UndoStack.{give_back, take_on, at_each, taken_on, first_do, stands_for}
+use Rattle.regress_engine_sought.specs.Tasks.{Leads}
+use Rattle.regress_engine_sought.proofs.InsnLemmas.{single-successors}
+use Rattle.regress_engine_sought.proofs.TaskLemmas.{leads-same, leads-later}
 use Rattle.regress_engine_exec.specs.declared.undo.Spot.{Spot}
 use Rattle.regress_engine_exec.specs.Held.{Held, pushed}
-use Rattle.regress_engine_exec.specs.Sound.{IsBody}
-use Rattle.regress_engine_exec.specs.Tasks.{task_of, task, state_at, Leads}
-use Rattle.regress_engine_exec.proofs.LeadLemmas.{leads-same, leads-later}
+use Rattle.regress_engine_sought.specs.Sought.{Suits}
+use Rattle.regress_engine_sought.specs.Ready.{IsBody}
+use Rattle.regress_engine_sought.proofs.ReadyLemmas.{body-next}
+use Rattle.regress_engine_exec.specs.Tasks.{task_of, task, state_at}
 
--- at another place
-pub body-at : (program : Program) (v : View) (at o q : ℕ) → IsBody program v at o → IsAtPlace (reading_of v) q → IsBody program v at q
-body-at program v at o q (i, here, takes, place, some) there = (i, here, takes, there, some)
+-- as far as it goes is at a place
+module _ (program : Program) (v : View) (all : AreOfKind v.kind v.units) (suits : Suits program v) (at : ℕ) (i : Instruction) (here : Stands program (at - 1) i) (dir : Direction) (groups : List Marks) where
+  pub far-place : (n o : ℕ) → IsBody program v at o → IsAtPlace (reading_of v) (as_far program (input_of v) n i dir groups o)
+  unfolding as_far
+  far-place zero o body = body.3
+  far-place (suc n) o body = by_found (advance program (input_of v) i dir groups o) refl (λ q there. far-place n q there)
+    where
+      by_found : (x : Option ℕ) → advance program (input_of v) i dir groups o ≡ x → ((q : ℕ) → IsBody program v at q → IsAtPlace (reading_of v) (as_far program (input_of v) n i dir groups q))
+          → IsAtPlace (reading_of v) (elim x [ None ↦ o | Some q ↦ as_far program (input_of v) n i dir groups q ])
+      by_found None e rest = body.3
+      by_found (Some q) e rest = rest q (body-next v all program suits at o q i dir groups body here e)
 
 -- what is recorded of a loop
 module _ (program : Program) (input : Input) (i : Instruction) (p : Spot) (h : Held) (here : Stands program (p.at + 1) i) (least most : ℕ) where
@@ -31,10 +43,7 @@ module _ (program : Program) (input : Input) (i : Instruction) (p : Spot) (h : H
   next_states greedy = successors program input (single_loop least most greedy) dir (state_at p h)
 
   next_are : (greedy : Bool) → next_states greedy ≡ behind (counted program input least most greedy i dir h.groups p.offset)
-  next_are greedy =
-      let e : suc p.at ≡ p.at + 1 = omega arith in
-      let found : slice_get program.instructions (suc p.at) ≡ Some i = ap (slice_get program.instructions) e ∙ here in
-      ap (λ (x : Option Instruction). elim x [ None ↦ [] | Some j ↦ map (λ o. record (state_at p h) { at = suc (suc p.at); offset = o }) (counted program input least most greedy j dir h.groups p.offset) ]) found
+  next_are greedy = single-successors program input dir (state_at p h) least most greedy i here
 
   abbrev counts : Bool → Option ℕ → List ℕ
   counts greedy x = elim x [

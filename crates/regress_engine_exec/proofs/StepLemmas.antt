@@ -7,11 +7,13 @@ use Rattle.regress_engine_code.specs.Instructions.{LoopFields}
 use Rattle.regress_engine_runs.specs.States.{Whole, Marks, onward}
 use Rattle.regress_engine_runs.specs.Runs.{count_of, one_more, choices, is_idle}
 use Rattle.regress_engine_runs.specs.UndoStack.{stands_for, resume, iterate}
+use Rattle.regress_engine_sought.specs.Tasks.{Task, Leads}
+use Rattle.regress_engine_sought.proofs.TaskLemmas.{leads-then, leads-same, leads-later}
 use Rattle.regress_engine_exec.specs.declared.undo.Spot.{Spot}
 use Rattle.regress_engine_exec.specs.Held.{Held, loop_written, group_written, pushed}
 use Rattle.regress_engine_exec.specs.Sound.{IsSound, IsHeld}
-use Rattle.regress_engine_exec.specs.Tasks.{Task, task_of, task, state_at, Leads, GoesOn, StaysSound}
-use Rattle.regress_engine_exec.proofs.LeadLemmas.{leads-then, leads-same, leads-later, leads-loop, leads-group}
+use Rattle.regress_engine_exec.specs.Tasks.{task_of, task, state_at, GoesOn, StaysSound}
+use Rattle.regress_engine_exec.proofs.LeadLemmas.{leads-loop, leads-group}
 use Rattle.regress_engine_exec.proofs.SoundLemmas.{held-loop, held-group}
 use Rattle.regress_engine_runs.proofs.Choices.{choices-are, ordered-none, ordered-out, ordered-more}
 

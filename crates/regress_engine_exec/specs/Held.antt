@@ -1,23 +1,14 @@
 -- What the executor holds, as the definitions have it.
-use Rattle.std.specs.Prelude.{ℕ, List, ◌∷◌, map, reverse, get_or, slice_set}
-use Rattle.regress_front_core.specs.declared.state.LoopData.{LoopData}
-use Rattle.regress_front_core.specs.declared.state.GroupData.{GroupData}
+use Rattle.std.specs.Prelude.{ℕ, List, [], ◌∷◌, map, reverse, get_or, slice_set}
 use Rattle.regress_engine_input.specs.Views.{way}
 use Rattle.regress_engine_runs.specs.States.{Marks, unset}
 use Rattle.regress_engine_runs.specs.UndoStack.{Undo, Frame}
 use Rattle.regress_engine_runs.specs.UndoStack as stack
+use Rattle.regress_engine_sought.specs.StateViews.{loop_of, marks_of}
 use Rattle.regress_engine_exec.specs.declared.undo.Undo as code
 use Rattle.regress_engine_exec.specs.declared.undo.Undo.TheVariants.{OldLoop, OldGroup, Resume, Iterate, GiveBack, TakeOn, Look}
 use Rattle.regress_engine_exec.specs.declared.undo.Frame as look
 use Rattle.regress_engine_exec.specs.declared.memory.Memory.{Memory}
-
--- how many iterations of a loop have begun, and where the last one did
-abbrev pub loop_of : LoopData ℕ → ℕ × ℕ
-loop_of d = (d.iters, d.entry)
-
--- the marks of a group
-abbrev pub marks_of : GroupData ℕ → Marks
-marks_of g = (g.start, g.end)
 
 -- a lookaround
 abbrev pub frame_of : look.Frame → Frame
@@ -60,10 +51,15 @@ held m = record {
 abbrev pub pushed : Undo → Held → Held
 pushed u h = record h { stack = u ∷ h.stack }
 
+-- A record is put on records, but on none: where there is nothing to go back to, nothing has to be undone.
+unfoldable pub recorded : Undo → List Undo → List Undo
+recorded u [] = []
+recorded u (v ∷ stack) = u ∷ v ∷ stack
+
 -- a loop's data are written, and the old ones recorded
 abbrev pub loop_written : ℕ → ℕ × ℕ → Held → Held
-loop_written id x h = record h { stack = stack.old_loop id (get_or h.loops id (0, 0)) ∷ h.stack; loops = slice_set h.loops id x }
+loop_written id x h = record h { stack = recorded (stack.old_loop id (get_or h.loops id (0, 0))) h.stack; loops = slice_set h.loops id x }
 
 -- a group's marks are written, and the old ones recorded
 abbrev pub group_written : ℕ → Marks → Held → Held
-group_written k m h = record h { stack = stack.old_group k (get_or h.groups k unset) ∷ h.stack; groups = slice_set h.groups k m }
+group_written k m h = record h { stack = recorded (stack.old_group k (get_or h.groups k unset)) h.stack; groups = slice_set h.groups k m }

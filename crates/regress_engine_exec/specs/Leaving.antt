@@ -1,20 +1,16 @@
 -- How a lookaround is left, and the whole program.
-use Rattle.std.specs.Prelude.{◌≡◌, ℕ, ◌<◌, ◌≤◌, Bool, true, [], ◌∷◌, Option, Some, None, IfSome}
+use Rattle.std.specs.Prelude.{◌≡◌, Bool, true, Option, Some, None, IfSome}
 use Rattle.regress_meaning.specs.Meaning.{Direction}
 use Rattle.regress_meaning.specs.Inputs.{Input}
-use Rattle.regress_engine_input.specs.Views.{View, way}
+use Rattle.regress_engine_input.specs.Views.{View}
 use Rattle.regress_engine_code.specs.Instructions.{Program, Stands, goal}
 use Rattle.regress_engine_runs.specs.States.{Whole}
-use Rattle.regress_engine_runs.specs.UndoStack.{Frame, Work, outermost, inside, whole, stands_for, Comes}
+use Rattle.regress_engine_runs.specs.UndoStack.{Frame, Work, whole, stands_for}
+use Rattle.regress_engine_sought.specs.Tasks.{Leads, ComesAs, outside_of, HasGroups}
 use Rattle.regress_engine_exec.specs.declared.undo.Spot.{Spot}
 use Rattle.regress_engine_exec.specs.Held.{Held}
 use Rattle.regress_engine_exec.specs.Sound.{IsHeld}
-use Rattle.regress_engine_exec.specs.Tasks.{state_at, task, Leads}
-
--- the lookaround inside of which work is to be done, the state at it, and the work outside
-abbrev pub outside_of : Work → Option (Frame × Whole × Work)
-outside_of (outermost ts) = None
-outside_of (inside ts f s rest) = Some (f, s, rest)
+use Rattle.regress_engine_exec.specs.Tasks.{state_at, task}
 
 -- the work that a stack stands for
 abbrev pub work_of : Program → Input → Direction → Held → Work
@@ -34,18 +30,13 @@ left_outside (Some f) k program input dir = told_outside (Some f) k program inpu
 abbrev pub Unwinds : Held → Option Frame → Held → Type 0
 Unwinds h found k = (program : Program) (input : Input) (dir : Direction) → outside_of (work_of program input dir h) ≡ told_outside found k program input
 
--- the groups inside a lookaround are there
-abbrev pub HasGroups : Program → Frame → Type 0
-HasGroups program f = (k : ℕ) → f.first ≤ k → k < f.last → k < program.groups
-
 -- what is held stays sound, and the lookaround's groups are there
 abbrev pub StaysUnwound : Held → Option Frame → Held → Type 0
 StaysUnwound h found k = (program : Program) (v : View) → IsHeld program v h → IsHeld program v k × IfSome found (HasGroups program)
 
 -- what is to be done comes to the state at a spot as its answer
 abbrev pub EndsAt : Spot → Held → Type 0
-EndsAt p h = (program : Program) (input : Input) → Stands program p.at goal → (n : ℕ) (r : Option Whole)
-    → Comes program input (way p.forward) (state_at p h ∷ []) (work_of program input (way p.forward) h) n r → r ≡ Some (state_at p h)
+EndsAt p h = (program : Program) (input : Input) → Stands program p.at goal → ComesAs program input (task program input true p h) (state_at p h)
 
 -- A goal is left: with no lookaround around it the state there is the answer, else it is gone on behind that, or failed.
 abbrev pub Leaves : Spot → Held → Option Bool → Spot → Held → Type 0
@@ -58,6 +49,5 @@ LeavesSound h left k = (program : Program) (v : View) → IsHeld program v h →
 
 -- A step of a program over a text: it has come to the answer, or it is gone on, or failed.
 abbrev pub Steps : Program → Input → Spot → Held → Option Bool → Spot → Held → Type 0
-Steps program input p h None q k = (q ≡ p) × (k.groups ≡ h.groups)
-    × ((n : ℕ) (r : Option Whole) → Comes program input (way p.forward) (state_at p h ∷ []) (work_of program input (way p.forward) h) n r → r ≡ Some (state_at p h))
+Steps program input p h None q k = (q ≡ p) × (k.groups ≡ h.groups) × ComesAs program input (task program input true p h) (state_at p h)
 Steps program input p h (Some going) q k = Leads program input 1 (task program input true p h) (task program input going q k)

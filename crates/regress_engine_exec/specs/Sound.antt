@@ -1,18 +1,15 @@
 -- When what an executor holds is sound: each record may be undone.
-use Rattle.std.specs.Prelude.{◌≡◌, ℕ, ◌+◌, ◌-◌, ◌^◌, ◌<◌, ◌≤◌, true, List, [], ◌∷◌, length, get_or, slice_set}
+use Rattle.std.specs.Prelude.{◌≡◌, ℕ, ◌+◌, ◌^◌, ◌<◌, List, [], ◌∷◌, length, get_or, slice_set}
 use Rattle.regress_engine_input.specs.Views.{View, reading_of}
-use Rattle.regress_engine_code.specs.Instructions.{Instruction, Program, Stands}
+use Rattle.regress_engine_code.specs.Instructions.{Program}
 use Rattle.regress_engine_runs.specs.States.{Marks}
 use Rattle.regress_engine_runs.specs.Meets.{IsAtPlace}
-use Rattle.regress_engine_runs.specs.Closed.{takes_character}
 use Rattle.regress_engine_runs.specs.UndoStack.{Undo, old_loop, old_group, resume, iterate, give_back, take_on, frame}
+use Rattle.regress_engine_sought.specs.Ready.{IsBody}
+use Rattle.regress_engine_sought.specs.Tasks.{HasGroups}
 use Rattle.regress_engine_exec.specs.Held.{Held}
 
 module _ (program : Program) (v : View) where
-  -- the instruction before an address takes one character, and may be asked at an offset
-  abbrev pub IsBody : (at offset : ℕ) → Type 0
-  IsBody at offset = (i : Instruction) × Stands program (at - 1) i × (takes_character i ≡ true) × IsAtPlace (reading_of v) offset × (0 < at)
-
   -- Each record may be undone where these are the loops and groups: loops and groups are there, a count may rise by one, and
   -- characters are read at places.
   unfoldable pub IsSound : List Undo → List (ℕ × ℕ) → List Marks → Type 0
@@ -23,8 +20,8 @@ module _ (program : Program) (v : View) where
   IsSound (iterate id begin offset ∷ stack) loops groups =
       (id < program.loops) × ((get_or loops id (0, 0)).0 + 1 < 2 ^ 64) × (begin + 1 < 2 ^ 64) × IsSound stack loops groups
   IsSound (give_back at near far ∷ stack) loops groups = IsAtPlace (reading_of v) far × IsSound stack loops groups
-  IsSound (take_on at offset left ∷ stack) loops groups = IsBody at offset × IsSound stack loops groups
-  IsSound (frame f ∷ stack) loops groups = ((k : ℕ) → f.first ≤ k → k < f.last → k < program.groups) × IsSound stack loops groups
+  IsSound (take_on at offset left ∷ stack) loops groups = IsBody program v at offset × IsSound stack loops groups
+  IsSound (frame f ∷ stack) loops groups = HasGroups program f × IsSound stack loops groups
 
   -- What is held is the program's, and sound.
   pub record IsHeld (h : Held) : Type 0 where

@@ -1,21 +1,14 @@
--- What an executor has still to do, and that a step leads on to what comes to the same.
-use Rattle.std.specs.Prelude.{ℕ, ◌+◌, ◌≤◌, Bool, List, [], ◌∷◌, Option, if◌then◌else◌}
-use Rattle.regress_meaning.specs.Meaning.{Direction}
-use Rattle.regress_meaning.specs.Offsets.{Reading}
+-- What the executor has still to do.
+use Rattle.std.specs.Prelude.{Bool, List, [], ◌∷◌, if◌then◌else◌}
 use Rattle.regress_meaning.specs.Inputs.{Input}
 use Rattle.regress_engine_code.specs.Instructions.{Program}
 use Rattle.regress_engine_runs.specs.States.{Whole}
-use Rattle.regress_engine_runs.specs.UndoStack.{Work, whole, stands_for, Comes, ReadOn}
+use Rattle.regress_engine_runs.specs.UndoStack.{whole, stands_for}
 use Rattle.regress_engine_input.specs.Views.{View, way}
+use Rattle.regress_engine_sought.specs.Tasks.{Task, Leads}
 use Rattle.regress_engine_exec.specs.Held.{Held}
 use Rattle.regress_engine_exec.specs.Sound.{IsHeld}
 use Rattle.regress_engine_exec.specs.declared.undo.Spot.{Spot}
-
--- Some states that are read in a direction, and then the work.
-pub record Task : Type 0 where
-  pub dir : Direction
-  pub states : List Whole
-  pub work : Work
 
 -- the state at a spot
 abbrev pub state_at : Spot → Held → Whole
@@ -29,13 +22,6 @@ module _ (program : Program) (input : Input) where
   -- what is to be done at a spot, or where the state there has failed
   abbrev pub task : (going : Bool) → Spot → Held → Task
   task going p h = task_of (if going then state_at p h ∷ [] else []) p h
-
-  -- A task leads to another: that comes to the same answers, in at least so many fewer steps, and reads at places where this
-  -- one does.
-  pub record Leads (steps : ℕ) (t u : Task) : Type 0 where
-    pub comes : (n : ℕ) (r : Option Whole) → Comes program input t.dir t.states t.work n r
-        → (m : ℕ) × (m + steps ≤ n) × Comes program input u.dir u.states u.work m r
-    pub reads : (reading : Reading) → ReadOn program input reading t.dir t.states t.work → ReadOn program input reading u.dir u.states u.work
 
 -- It is gone on to a spot, or failed, from these states on, whatever the program and the text.
 abbrev pub GoesOn : List Whole → Spot → Held → (going : Bool) → Spot → Held → Type 0

@@ -8,9 +8,9 @@ ghost use Rattle.regress_engine_input.specs.Views.{input_of, reading_of};
 ghost use Rattle.regress_engine_runs.specs.States.{first_state};
 ghost use Rattle.regress_engine_runs.specs.Computed.{IsComputed};
 ghost use Rattle.regress_engine_runs.specs.UndoStack.{ReadOn, outermost};
+ghost use Rattle.regress_engine_sought.specs.Answering.{IsAnswer};
 ghost use Rattle.regress_engine_exec.specs.Held.{held};
 ghost use Rattle.regress_engine_sought.specs.Sought.{Suits};
-ghost use Rattle.regress_engine_exec.specs.Trying.{IsAnswer};
 ghost use Rattle.regress_engine_runs.proofs.OneAnswer.{IsComputed-prop};
 
 use crate::memory::Memory;
@@ -50,7 +50,7 @@ impl<'a, 'r, Input: CharInput> Attempt<'a, 'r, Input> {
     ) -> Result<Option<usize>, AllocError>
         requires suits { Suits (program_of self.now.program.now) (Input.view self.now.input) }
         requires reads { ReadOn (program_of self.now.program.now) (input_of (Input.view self.now.input)) (reading_of (Input.view self.now.input)) forward (first_state (program_of self.now.program.now) self.now.start ∷ []) (outermost []) }
-        ensures { IfOk result (λ found. IsAnswer (program_of self.now.program.now) (input_of (Input.view self.now.input)) self.now.start found (held memory.new)) }
+        ensures { IfOk result (λ found. IsAnswer (program_of self.now.program.now) (input_of (Input.view self.now.input)) self.now.start found (held memory.new).groups) }
     {
         memory.begin(
             self.program.loops() as usize,

@@ -4,10 +4,11 @@ ghost use Rattle.regress_engine_code.specs.Standing.{program_of};
 ghost use Rattle.regress_engine_input.specs.Views.{way, input_of};
 ghost use Rattle.regress_engine_runs.specs.Runs.{gap, after_look};
 ghost use Rattle.regress_engine_runs.specs.UndoStack.{give_back, take_on, whole};
+ghost use Rattle.regress_engine_sought.specs.Tasks.{Leads};
 ghost use Rattle.regress_engine_exec.specs.Held.{held, undo_of, pushed};
 ghost use Rattle.regress_engine_sought.specs.Sought.{Suits};
 ghost use Rattle.regress_engine_exec.specs.Sound.{IsHeld};
-ghost use Rattle.regress_engine_exec.specs.Tasks.{task, Leads};
+ghost use Rattle.regress_engine_exec.specs.Tasks.{task};
 
 use crate::attempt::Attempt;
 use crate::memory::Memory;

@@ -5,10 +5,12 @@ ghost use Rattle.regress_meaning.specs.Inputs.{Input};
 ghost use Rattle.regress_engine_code.specs.Instructions.{Program};
 ghost use Rattle.regress_engine_input.specs.Views.{View};
 ghost use Rattle.regress_engine_runs.specs.States.{mixed};
-ghost use Rattle.regress_engine_exec.specs.Held.{held, undo_of, pushed, frame_of, marks_of};
+ghost use Rattle.regress_engine_sought.specs.StateViews.{marks_of};
+ghost use Rattle.regress_engine_sought.specs.Tasks.{outside_of};
+ghost use Rattle.regress_engine_exec.specs.Held.{held, undo_of, pushed, frame_of};
 ghost use Rattle.regress_engine_exec.specs.Sound.{IsHeld};
 ghost use Rattle.regress_engine_exec.specs.Tasks.{StaysSound};
-ghost use Rattle.regress_engine_exec.specs.Leaving.{outside_of, left_outside, told_outside, work_of, StaysUnwound, Leaves, LeavesSound};
+ghost use Rattle.regress_engine_exec.specs.Leaving.{left_outside, told_outside, work_of, StaysUnwound, Leaves, LeavesSound};
 
 use crate::memory::Memory;
 use crate::undo::{Frame, Spot, Undo};

@@ -3,17 +3,16 @@
 
 mod attempt;
 mod back;
+mod executor;
 mod leave;
 mod memory;
 mod producer;
 mod reads;
 mod search;
-mod shown;
 mod singles;
 mod step;
 mod steps;
-mod subject;
 mod undo;
 
+pub use regress_engine_sought::{ExecutorInput, Shown};
 pub use search::BacktrackExecutor;
-pub use shown::{ExecutorInput, Shown};

@@ -1,7 +1,8 @@
 //! What an executor holds: loops, groups, and the records by which both are undone.
 ghost use Rattle.std.specs.Prelude.{◌≡◌, ◌<◌, ℕ, [], None, length, map, get_or, replicate, slice_set, slice_range, MatchOption, OnOk};
 ghost use Rattle.regress_engine_runs.specs.States.{unset};
-ghost use Rattle.regress_engine_exec.specs.Held.{held, undo_of, loop_of, marks_of, pushed, loop_written, group_written};
+ghost use Rattle.regress_engine_sought.specs.StateViews.{loop_of, marks_of};
+ghost use Rattle.regress_engine_exec.specs.Held.{held, undo_of, pushed, recorded, loop_written, group_written};
 
 use crate::undo::Undo;
 use regress_front_core::{GroupData, LoopData};
@@ -44,6 +45,17 @@ impl Memory {
     {
         self.stack.push(undo)?;
         Ok(())
+    }
+
+    /// Records what is to be undone, where there is anything to go back to.
+    #[inline]
+    fn record(&mut self, undo: Undo) -> Result<(), AllocError>
+        ensures { OnOk result (held self.new ≡ record (held self.old) { stack = recorded (undo_of undo) (held self.old).stack }) }
+    {
+        if self.stack.as_slice().is_empty() {
+            return Ok(());
+        }
+        self.push(undo)
     }
 
     /// Takes the last record from the stack.
@@ -90,19 +102,19 @@ impl Memory {
         self.groups[group] = value;
     }
 
-    /// Writes a loop's data, and records the old ones.
+    /// Writes a loop's data, and records the old ones, where there is anything to go back to.
     #[inline]
     pub(crate) fn write_loop(&mut self, id: usize, value: LoopData<usize>) -> Result<(), AllocError>
         requires { id < length (held self.old).loops }
         ensures { OnOk result (held self.new ≡ loop_written id (loop_of value) (held self.old)) }
     {
         let old = self.loop_data(id);
-        self.push(Undo::OldLoop { id, data: old })?;
+        self.record(Undo::OldLoop { id, data: old })?;
         self.restore_loop(id, value);
         Ok(())
     }
 
-    /// Writes a group's marks, and records the old ones.
+    /// Writes a group's marks, and records the old ones, where there is anything to go back to.
     #[inline]
     pub(crate) fn write_group(
         &mut self,
@@ -113,7 +125,7 @@ impl Memory {
         ensures { OnOk result (held self.new ≡ group_written group (marks_of value) (held self.old)) }
     {
         let old = self.group_data(group);
-        self.push(Undo::OldGroup { group, data: old })?;
+        self.record(Undo::OldGroup { group, data: old })?;
         self.restore_group(group, value);
         Ok(())
     }

@@ -4,7 +4,7 @@ ghost use Rattle.regress_match.specs.Iterating.{Finds, steps_on};
 ghost use Rattle.regress_engine_sought.specs.Sought.{Sought, items_from, places_behind, IsPosition, IsStart, StartsAt, IsMatchOf, Steps};
 
 use crate::search::BacktrackExecutor;
-use crate::shown::ExecutorInput;
+use regress_engine_sought::{ExecutorInput, Shown};
 use regress_front_core::Error;
 use regress_match::{Match, MatchProducer};
 use std::alloc::AllocError;

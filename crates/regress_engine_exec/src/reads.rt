@@ -14,9 +14,10 @@ ghost use Rattle.regress_engine_runs.specs.States.{Marks, range_of};
 ghost use Rattle.regress_engine_runs.specs.Meets.{reads_character, AreAtPlaces, IsAtPlace};
 ghost use Rattle.regress_engine_runs.specs.Runs.{advance};
 ghost use Rattle.regress_engine_runs.specs.Closed.{Fits};
-ghost use Rattle.regress_engine_exec.specs.Held.{marks_of};
 ghost use Rattle.regress_engine_sought.specs.Sought.{Suits};
-ghost use Rattle.regress_engine_exec.specs.Ready.{IsReady};
+ghost use Rattle.regress_engine_sought.specs.StateViews.{marks_of};
+ghost use Rattle.regress_engine_sought.specs.Ready.{IsReady};
+ghost use Rattle.regress_engine_exec.specs.Stuck.{is_byte_seq, IsStuck};
 
 use crate::attempt::Attempt;
 use regress_engine_code::Insn;
@@ -24,6 +25,7 @@ use regress_engine_input::cursor::next;
 use regress_engine_input::{Backward, Direction, ElementType, Forward, InputIndexer, PositionType};
 use regress_engine_matchers::matchers::{backref, backref_icase};
 use regress_engine_matchers::{CharInput, CharProperties};
+use regress_engine_singles::ScannedBracket;
 use regress_front_bytes::{AsciiBitmap, ByteSet};
 use regress_front_core::{GroupData, MAX_CHAR_SET_LENGTH};
 use regress_front_nodes::BracketContents;
@@ -36,6 +38,32 @@ fn has_number(bytes: &[u8], number: u32) -> bool
     ensures { result ≡ holds bytes.now number }
 {
     bytes.iter().any(|byte| u32::from(*byte) == number)
+}
+
+/// Whether an instruction takes bytes.
+#[inline]
+fn takes_bytes(insn: &Insn) -> bool
+    ensures { result ≡ is_byte_seq (instruction insn.now) }
+{
+    matches!(
+        insn,
+        Insn::ByteSeq1(_)
+            | Insn::ByteSeq2(_)
+            | Insn::ByteSeq3(_)
+            | Insn::ByteSeq4(_)
+            | Insn::ByteSeq5(_)
+            | Insn::ByteSeq6(_)
+            | Insn::ByteSeq7(_)
+            | Insn::ByteSeq8(_)
+            | Insn::ByteSeq9(_)
+            | Insn::ByteSeq10(_)
+            | Insn::ByteSeq11(_)
+            | Insn::ByteSeq12(_)
+            | Insn::ByteSeq13(_)
+            | Insn::ByteSeq14(_)
+            | Insn::ByteSeq15(_)
+            | Insn::ByteSeq16(_)
+    )
 }
 
 impl<'a, 'r, Input: CharInput> Attempt<'a, 'r, Input> {
@@ -167,7 +195,7 @@ impl<'a, 'r, Input: CharInput> Attempt<'a, 'r, Input> {
         ensures { result ≡ passed (bracket_has class.now.invert (ends_of class.now.cps.intervals.items)) ((input_of (Input.view self.now.input)).next (way forward) offset) }
     {
         let (c, past) = self.beside(forward, offset)?;
-        if <Input::CharProps as CharProperties>::bracket(class, c) {
+        if (ScannedBracket { bc: class }).has(c.as_u32()) {
             Some(past)
         } else {
             None
@@ -318,6 +346,23 @@ impl<'a, 'r, Input: CharInput> Attempt<'a, 'r, Input> {
             Insn::ByteSeq16(bytes) => self.bytes(forward, offset, bytes),
             _ => None,
         }
+    }
+
+    /// Whether at an address bytes are taken that don't stand beside an offset: then nothing is led to from there.
+    #[inline]
+    pub(crate) fn is_stuck(&self, at: usize, forward: bool, offset: usize) -> bool
+        requires { Suits (program_of self.now.program.now) (Input.view self.now.input) }
+        ensures { result ≡ true → IsStuck (program_of self.now.program.now) (input_of (Input.view self.now.input)) (way forward) at offset }
+    {
+        let insns = self.program.insns();
+        if at >= insns.len() {
+            return false;
+        }
+        let insn = &insns[at];
+        if !takes_bytes(insn) {
+            return false;
+        }
+        self.byte_seq(insn, forward, offset).is_none()
     }
 
     /// The offset to which an instruction leads that changes nothing but the offset, where it leads to any.

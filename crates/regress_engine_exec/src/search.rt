@@ -1,28 +1,25 @@
 //! The search for the first place from which a run has an answer.
-ghost use Rattle.std.specs.Prelude.{◌≡◌, ℕ, false, List, map, option_map, IfOk, IfSome};
+ghost use Rattle.std.specs.Prelude.{◌≡◌, false, option_map, IfOk, IfSome};
 ghost use Rattle.regress_match.specs.GroupViews.{names_of_match};
-ghost use Rattle.regress_match.specs.Views.{item_of, ends};
+ghost use Rattle.regress_match.specs.Views.{item_of};
 ghost use Rattle.regress_engine_code.specs.Standing.{names_of, program_of};
 ghost use Rattle.regress_front_core.specs.FlagWords.{options};
 ghost use Rattle.regress_meaning.specs.Flags.{is_unicode};
 ghost use Rattle.regress_front_tables.specs.TableViews.{table};
 ghost use Rattle.regress_engine_input.specs.Views.{input_of, reading_of, utf8};
-ghost use Rattle.regress_engine_runs.specs.States.{range_of};
 ghost use Rattle.regress_engine_runs.specs.Items.{Finds};
 ghost use Rattle.regress_engine_runs.specs.Meets.{IsAtPlace};
-ghost use Rattle.regress_engine_exec.specs.Held.{held, marks_of};
+ghost use Rattle.regress_engine_sought.specs.Answering.{IsFound};
+ghost use Rattle.regress_engine_exec.specs.Held.{held};
 ghost use Rattle.regress_engine_sought.specs.Sought.{IsMadeOf, IsItemAtPlaces};
-ghost use Rattle.regress_engine_exec.specs.Trying.{IsFound};
 
 use crate::attempt::Attempt;
 use crate::memory::Memory;
-use crate::shown::{ExecutorInput, Shown};
-use crate::subject::Subject;
 use regress_engine_code::CompiledRegex;
 use regress_engine_input::Utf8Input;
-use regress_engine_prefix::Seeker;
+use regress_engine_sought::{ExecutorInput, Shown, Subject, captures};
 use regress_front_core::GroupData;
-use regress_match::{Match, MatchProducer, Range};
+use regress_match::{Match, MatchProducer};
 use std::alloc::{AllocError, Global};
 
 /// Finds the matches of a program in a text. It holds one state and one stack of what is to be undone, which it keeps from one
@@ -33,27 +30,6 @@ pub struct BacktrackExecutor<'r, Input: Shown> {
     pub(crate) subject: Subject<'r, Input>,
     memory: Memory,
     answer: Vec<GroupData<usize>>,
-}
-
-/// The range of a group, where it took part.
-fn taken(group: &GroupData<usize>) -> Option<Range>
-    ensures { option_map ends result ≡ range_of (marks_of group.now) }
-{
-    match (group.start, group.end) {
-        (Some(start), Some(end)) => Some(start..end),
-        _ => None,
-    }
-}
-
-/// The ranges of groups, of those that took part.
-fn captures(alloc: Global, groups: &[GroupData<usize>]) -> Result<Vec<Option<Range>>, AllocError>
-    ensures { IfOk result (λ found. map (option_map ends) found.items ≡ map (λ g. range_of (marks_of g)) groups.now) }
-{
-    let mut found = Vec::with_capacity(alloc, groups.len())?;
-    for group in groups {
-        found.push(taken(group))?;
-    }
-    Ok(found)
 }
 
 impl<'r, Input: ExecutorInput> BacktrackExecutor<'r, Input> {
@@ -70,14 +46,9 @@ impl<'r, Input: ExecutorInput> BacktrackExecutor<'r, Input> {
         ensures program { (⟦<BacktrackExecutor<'r, Input> as MatchProducer>⟧.sought result).compiled ≡ program.entry.now }
         ensures text { (⟦<BacktrackExecutor<'r, Input> as MatchProducer>⟧.sought result).view ≡ Input.view input }
     {
-        let subject = Subject {
-            program,
-            input,
-            seeker: Seeker::new(program.start_pred()),
-        };
         BacktrackExecutor {
             alloc,
-            subject,
+            subject: Subject::new(program, input),
             memory: Memory::new(alloc),
             answer: Vec::new(alloc),
         }
@@ -87,7 +58,7 @@ impl<'r, Input: ExecutorInput> BacktrackExecutor<'r, Input> {
     /// which the first run has an answer, and where that ends; the answer's groups are then held.
     fn search(&mut self, offset: usize) -> Result<Option<(usize, usize)>, AllocError>
         requires { IsAtPlace (reading_of (Input.view self.old.subject.input)) offset }
-        ensures found { IfOk result (λ found. IsFound (program_of self.old.subject.program.now) (input_of (Input.view self.old.subject.input)) offset found (held self.new.memory)) }
+        ensures found { IfOk result (λ found. IsFound (program_of self.old.subject.program.now) (input_of (Input.view self.old.subject.input)) offset found (held self.new.memory).groups) }
         ensures kept { self.new.subject ≡ self.old.subject }
     {
         let program = self.subject.program;

@@ -7,16 +7,20 @@ ghost use Rattle.regress_engine_input.specs.Views.{way, input_of, reading_of};
 ghost use Rattle.regress_engine_runs.specs.Runs.{after_times, as_far, successors};
 ghost use Rattle.regress_engine_runs.specs.Meets.{IsAtPlace};
 ghost use Rattle.regress_engine_code.specs.Instructions.{single_loop};
-ghost use Rattle.regress_engine_exec.specs.Held.{held, marks_of};
+ghost use Rattle.regress_engine_sought.specs.StateViews.{marks_of};
+ghost use Rattle.regress_engine_sought.specs.Ready.{IsBody};
+ghost use Rattle.regress_engine_sought.specs.Tasks.{Leads};
+ghost use Rattle.regress_engine_exec.specs.Held.{held};
 ghost use Rattle.regress_engine_sought.specs.Sought.{Suits};
-ghost use Rattle.regress_engine_exec.specs.Sound.{IsBody, IsHeld};
-ghost use Rattle.regress_engine_exec.specs.Tasks.{task_of, task, state_at, Leads};
+ghost use Rattle.regress_engine_exec.specs.Sound.{IsHeld};
+ghost use Rattle.regress_engine_exec.specs.Tasks.{task_of, task, state_at};
 
 use crate::attempt::Attempt;
 use crate::memory::Memory;
 use crate::undo::{Spot, Undo};
 use regress_engine_code::Insn;
 use regress_engine_matchers::CharInput;
+use regress_engine_singles::as_far_ahead;
 use regress_front_core::GroupData;
 use std::alloc::AllocError;
 
@@ -63,6 +67,11 @@ impl<'a, 'r, Input: CharInput> Attempt<'a, 'r, Input> {
         ensures far { result ≡ as_far (program_of self.now.program.now) (input_of (Input.view self.now.input)) times (instruction insn.now) (way forward) (map marks_of groups.now) offset }
         ensures place { IsAtPlace (reading_of (Input.view self.now.input)) result }
     {
+        if forward {
+            if let Some(far) = as_far_ahead(self.program, &self.input, insn, times, offset) {
+                return far;
+            }
+        }
         let mut behind = offset;
         let mut left = times;
         while left > 0 {

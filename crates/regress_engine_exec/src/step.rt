@@ -5,11 +5,12 @@ ghost use Rattle.regress_engine_code.specs.InsnViews.{instruction};
 ghost use Rattle.regress_engine_code.specs.Standing.{program_of};
 ghost use Rattle.regress_engine_input.specs.Views.{input_of, reading_of};
 ghost use Rattle.regress_engine_runs.specs.Meets.{reads_character, ReadsPlaces};
+ghost use Rattle.regress_engine_sought.specs.Ready.{is_simple};
+ghost use Rattle.regress_engine_sought.specs.Tasks.{Leads};
 ghost use Rattle.regress_engine_exec.specs.Held.{held};
 ghost use Rattle.regress_engine_sought.specs.Sought.{Suits};
-ghost use Rattle.regress_engine_exec.specs.Ready.{is_simple};
 ghost use Rattle.regress_engine_exec.specs.Sound.{IsHeld};
-ghost use Rattle.regress_engine_exec.specs.Tasks.{state_at, task, Leads};
+ghost use Rattle.regress_engine_exec.specs.Tasks.{state_at, task};
 ghost use Rattle.regress_engine_exec.specs.Leaving.{Steps};
 
 use crate::attempt::Attempt;
@@ -78,6 +79,10 @@ impl<'a, 'r, Input: CharInput> Attempt<'a, 'r, Input> {
                 Ok(Some(true))
             }
             Insn::Alt { secondary } => {
+                if self.is_stuck(spot.at + 1, spot.forward, spot.offset) {
+                    spot.at = *secondary as usize;
+                    return Ok(Some(true));
+                }
                 memory.fork(*secondary as usize, spot)?;
                 Ok(Some(true))
             }

@@ -6,9 +6,11 @@ ghost use Rattle.regress_engine_input.specs.Views.{View, way};
 ghost use Rattle.regress_meaning.specs.Inputs.{Input};
 ghost use Rattle.regress_engine_runs.specs.States.{unset, onward, begun, ended};
 ghost use Rattle.regress_engine_runs.specs.Runs.{choices, is_idle};
-ghost use Rattle.regress_engine_exec.specs.Held.{held, undo_of, marks_of, pushed, loop_written};
+ghost use Rattle.regress_engine_sought.specs.StateViews.{marks_of};
+ghost use Rattle.regress_engine_sought.specs.Tasks.{Leads};
+ghost use Rattle.regress_engine_exec.specs.Held.{held, undo_of, pushed, loop_written};
 ghost use Rattle.regress_engine_exec.specs.Sound.{IsHeld};
-ghost use Rattle.regress_engine_exec.specs.Tasks.{state_at, task, GoesOn, StaysSound, Leads};
+ghost use Rattle.regress_engine_exec.specs.Tasks.{state_at, task, GoesOn, StaysSound};
 ghost use Rattle.regress_engine_exec.specs.declared.undo.Undo.TheVariants.{Look};
 
 use crate::memory::Memory;

@@ -1,4 +1,11 @@
+pub mod BracketLemmas
+pub mod InsnLemmas
+pub mod TaskLemmas
+pub mod ReadyLemmas
 pub mod PlaceLemmas
 pub mod SearchLemmas
 pub mod SkipLemmas
 pub mod ProducerLemmas
+pub mod RoadLemmas
+pub mod ByteTexts
+pub mod ExecutorLemmas

@@ -1,10 +1,11 @@
 -- Places that are read at.
-use Rattle.std.proofs.Common.{ℕ, true, Some, ◌≡◌, sym, ap, subst}
+use Rattle.std.proofs.Common.{ℕ, true, Option, Some, None, option_map, ◌≡◌, refl, sym, ap, subst}
 use Rattle.regress_meaning.specs.Meaning.{Direction}
 use Rattle.regress_meaning.specs.Inputs.{Tells}
 use Rattle.regress_meaning.specs.Steps.{passed}
-use Rattle.regress_engine_input.specs.Views.{View, Kind, utf8, ascii, utf16, ucs2, AreOfKind, CanRead, input_of, reading_of}
+use Rattle.regress_engine_input.specs.Views.{View, Kind, utf8, ascii, utf16, ucs2, AreOfKind, CanRead, LiesIn, behind, input_of, reading_of}
 use Rattle.regress_engine_input.proofs.KindLemmas.{tells, readable}
+use Rattle.regress_engine_matchers.proofs.MatcherLemmas.{Reads}
 use Rattle.regress_engine_runs.specs.Meets.{IsAtPlace}
 use Rattle.regress_engine_runs.specs.UndoStack.{MovesOn}
 use Rattle.regress_engine_runs.proofs.Literals.{place-on}
@@ -31,3 +32,19 @@ moves v = by_kind v.kind
     by_kind ascii = ascii-moves-on v.table v.unicode v.units
     by_kind utf16 = utf16-moves-on v.table v.unicode v.units
     by_kind ucs2 = ucs2-moves-on v.table v.unicode v.units
+
+-- behind what is read lies in the text
+pub lies-behind : (v : View) → Reads v → (dir : Direction) (o q : ℕ) → CanRead v o → q ≡ behind o ((input_of v).next dir o) → LiesIn v q
+lies-behind v reads dir o q can e = by_read ((input_of v).next dir o) refl e
+  where
+    by_read : (x : Option (ℕ × ℕ)) → (input_of v).next dir o ≡ x → q ≡ behind o x → LiesIn v q
+    by_read None h f = subst (LiesIn v) (sym f) (reads.inside o can)
+    by_read (Some x) h f = subst (LiesIn v) (sym f) (reads.inside x.1 (reads.on dir o x can h).0)
+
+-- where something is read, behind it lies in the text
+pub lies-next : (v : View) → Reads v → (dir : Direction) (o q : ℕ) → CanRead v o → Some q ≡ option_map (λ x. x.1) ((input_of v).next dir o) → LiesIn v q
+lies-next v reads dir o q can e = by_read ((input_of v).next dir o) refl e
+  where
+    by_read : (x : Option (ℕ × ℕ)) → (input_of v).next dir o ≡ x → Some q ≡ option_map (λ x. x.1) x → LiesIn v q
+    by_read None h f = absurd (cc)
+    by_read (Some x) h f = let same : x.1 ≡ q = cc in subst (LiesIn v) same (reads.inside x.1 (reads.on dir o x can h).0)

@@ -1,7 +1,7 @@
 -- The items of a producer: what is found, and what comes behind it.
 use Rattle.std.specs.Prelude.{map, option_map, IfSome, nat_le, not}
 use Rattle.std.specs.Bool.{then_some}
-use Rattle.std.specs.Str.{IsUtf8, IsCharBoundary}
+use Rattle.std.specs.Str.{IsCharBoundary}
 use Rattle.std.specs.declared.ops.Range.{Range}
 use Rattle.std.proofs.Common.{◌≡◌, ℕ, zero, suc, ◌<◌, ◌≤◌, ◌⊎◌, inl, inr, ◌==◌, Bool, true, false, List, [], ◌∷◌, length, Option, Some, None, if◌then◌else◌, refl, sym, ap, ◌∙◌, subst, arith}
 use Rattle.std.proofs.lemmas.Bool.{cases_lt, cond_both, le-leb, lt-leb}
@@ -10,7 +10,7 @@ use Rattle.regress_meaning.specs.Table.{Table}
 use Rattle.regress_meaning.specs.Meaning.{Forward}
 use Rattle.regress_meaning.specs.Inputs.{Input, context_of}
 use Rattle.regress_meaning.specs.Matches.{Item}
-use Rattle.regress_meaning.specs.Offsets.{offset, of_utf8, told, Begins}
+use Rattle.regress_meaning.specs.Offsets.{offset, told, Begins}
 use Rattle.regress_front_nodes.specs.Trees.{Tree}
 use Rattle.regress_front_nodes.specs.WellFormed.{IsWellFormed}
 use Rattle.regress_front_nodes.specs.NodeMatches.{node_match_list}
@@ -18,9 +18,9 @@ use Rattle.regress_match.specs.declared.found.Match.{Match}
 use Rattle.regress_match.specs.Views.{ends, item_of}
 use Rattle.regress_match.specs.TextRanges.{LiesBetween, LiesInText}
 use Rattle.regress_match.specs.Iterating.{coming_on}
-use Rattle.regress_match.proofs.TextLemmas.{offset-le, offset_is_boundary}
+use Rattle.regress_match.proofs.TextLemmas.{offset-le}
 use Rattle.regress_match.proofs.TakenLemmas.{of_groups}
-use Rattle.regress_engine_input.specs.Views.{View, Kind, utf8, ascii, utf16, ucs2, input_of_kind, AreOfKind, input_of, reading_of, reading_of_kind}
+use Rattle.regress_engine_input.specs.Views.{View, Kind, utf8, ascii, utf16, ucs2, are_bytes, input_of_kind, AreOfKind, input_of, reading_of, reading_of_kind}
 use Rattle.regress_engine_input.proofs.KindLemmas.{tells, tells_bytes, end}
 use Rattle.regress_engine_code.specs.Instructions.{Program}
 use Rattle.regress_engine_code.specs.Standing.{program_of, target_of}
@@ -32,6 +32,7 @@ use Rattle.regress_engine_runs.proofs.ItemLemmas.{lists, lists-from_offset}
 use Rattle.regress_engine_runs.proofs.WholeTree.{runs_as_tree}
 use Rattle.regress_engine_sought.specs.Sought.{IsMadeOf, IsItemAtPlaces, Sought, last_place, place_at, last_place-le, items_from, places_behind, IsPosition}
 use Rattle.regress_engine_sought.specs.SoughtOnce.{rises, same_items}
+use Rattle.regress_engine_sought.proofs.ByteTexts.{place-cut}
 use Rattle.regress_engine_sought.proofs.PlaceLemmas.{moves}
 use Rattle.regress_engine_sought.proofs.PlaceLemmas.{next-place}
 use Rattle.regress_engine_runs.proofs.FoundItems.{finds-from, goes_on-past}
@@ -172,23 +173,19 @@ module _ (s : Sought) where
         asked None e inside = ∣ subst (λ x. Lists program input x []) e (over) ∣₁
         asked (Some q) e inside = ∥∥₁_map (items-listed q inside) (λ l. subst (λ x. Lists program input x (items_from s q)) e l)
 
--- ---- over UTF-8
+-- ---- over bytes
 
-module _ (bytes : List ℕ) (utf8_text : IsUtf8 bytes) where
+module _ (kind : Kind) (bytes : List ℕ) (are : are_bytes kind ≡ true) (all : AreOfKind kind bytes) where
   -- a place lies between characters
-  boundary : (o : ℕ) → IsAtPlace (of_utf8 bytes) o → IsCharBoundary bytes o
-  boundary o (p, room, e) = subst (IsCharBoundary bytes) (sym e) (offset_is_boundary bytes utf8_text p)
+  boundary : (o : ℕ) → IsAtPlace (reading_of_kind kind bytes) o → IsCharBoundary bytes o
+  boundary o (p, room, e) = subst (IsCharBoundary bytes) (sym e) (place-cut kind bytes are all p room)
 
-  between : (r : Range ℕ) → AreAtPlaces (of_utf8 bytes) (ends r) → LiesBetween bytes r
+  between : (r : Range ℕ) → AreAtPlaces (reading_of_kind kind bytes) (ends r) → LiesBetween bytes r
   between r inside = (inside.2, boundary r.start inside.0, boundary r.end inside.1)
 
-  lies-in_text : (m : Match) → IsItemAtPlaces (of_utf8 bytes) (item_of m) → LiesInText bytes m
-  lies-in_text m inside = (between m.range inside.0, of_groups (AreAtPlaces (of_utf8 bytes)) (LiesBetween bytes) between m.captures.items inside.1)
-
--- over UTF-8 a match lies in the text, between characters
-pub match-in_utf8 : (kind : Kind) (units : List ℕ) → kind ≡ utf8 → IsUtf8 units → (m : Match) → IsItemAtPlaces (reading_of_kind kind units) (item_of m) → LiesInText units m
-match-in_utf8 kind units e text m inside =
-    lies-in_text units text m (subst (λ k. IsItemAtPlaces (reading_of_kind k units) (item_of m)) e inside)
+  -- over bytes a match lies in the text, between characters
+  pub match-in_bytes : (m : Match) → IsItemAtPlaces (reading_of_kind kind bytes) (item_of m) → LiesInText bytes m
+  match-in_bytes m inside = (between m.range inside.0, of_groups (AreAtPlaces (reading_of_kind kind bytes)) (LiesBetween bytes) between m.captures.items inside.1)
 
 -- ---- over an input, which shows what is read
 

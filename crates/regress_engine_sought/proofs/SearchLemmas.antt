@@ -1,6 +1,6 @@
 -- The program of a tree may be sought, and what a search finds is at places.
 use Rattle.std.specs.Prelude.{option_map, IfSome}
-use Rattle.std.proofs.Common.{◌≡◌, ℕ, ◌≤◌, Bool, true, false, not, List, [], ◌∷◌, length, map, Option, Some, None, refl, sym, ap, ◌∙◌, subst, arith}
+use Rattle.std.proofs.Common.{◌≡◌, ℕ, ◌-◌, ◌<◌, ◌≤◌, Bool, true, false, not, List, [], ◌∷◌, length, map, Option, Some, None, refl, sym, ap, ◌∙◌, subst, arith}
 use Rattle.std.proofs.Math.Logic.{∥∥₁_elim}
 use Rattle.std.proofs.lemmas.List.Elements.{All-map, All-weaker}
 use Rattle.regress_meaning.specs.Meaning.{Forward}
@@ -8,6 +8,10 @@ use Rattle.regress_meaning.specs.Inputs.{Input, Tells, context_of}
 use Rattle.regress_meaning.specs.Laws.{IsItemInside, LiesIn}
 use Rattle.regress_meaning.specs.Matches.{Item}
 use Rattle.regress_meaning.specs.Offsets.{Reading, offset, offset_range, told as told_in}
+use Rattle.regress_front_core.specs.declared.state.GroupData.{GroupData}
+use Rattle.regress_match.specs.declared.found.Match.{Match}
+use Rattle.regress_match.specs.Views as match
+use Rattle.regress_match.specs.Views.{ends}
 use Rattle.regress_match.proofs.TextLemmas.{offset-le}
 use Rattle.regress_front_nodes.specs.Trees.{Tree}
 use Rattle.regress_front_nodes.specs.WellFormed.{IsWellFormed}
@@ -18,9 +22,9 @@ use Rattle.regress_engine_input.specs.Views.{View, AreOfKind, are_bytes, input_o
 use Rattle.regress_engine_input.proofs.KindLemmas.{tells, tells_bytes}
 use Rattle.regress_engine_code.specs.Instructions.{Program}
 use Rattle.regress_engine_code.specs.Layout.{Target, IsLayout}
-use Rattle.regress_engine_runs.specs.States.{first_state}
+use Rattle.regress_engine_runs.specs.States.{Marks, range_of, first_state}
 use Rattle.regress_engine_runs.specs.Computed.{IsComputed}
-use Rattle.regress_engine_runs.specs.Items.{Finds}
+use Rattle.regress_engine_runs.specs.Items.{Finds, found, later, nowhere, item_of}
 use Rattle.regress_engine_runs.specs.Meets.{IsAtPlace, AreAtPlaces}
 use Rattle.regress_engine_runs.specs.Stand.{IsMadeFor}
 use Rattle.regress_engine_runs.specs.UndoStack.{meets_alone, ReadOn, outermost}
@@ -30,8 +34,12 @@ use Rattle.regress_engine_runs.proofs.FoundItems.{first-holds}
 use Rattle.regress_engine_runs.proofs.ItemLemmas.{lists}
 use Rattle.regress_engine_runs.proofs.SafeRuns.{reads-where_met}
 use Rattle.regress_engine_runs.proofs.WholeTree.{runs_as_tree, runs_safely}
+use Rattle.regress_engine_matchers.proofs.ViewLemmas.{view_reads}
+use Rattle.regress_engine_sought.specs.StateViews.{marks_of}
+use Rattle.regress_engine_sought.specs.Answering.{IsAnswer, IsFound}
 use Rattle.regress_engine_sought.specs.Sought.{IsItemAtPlaces, Listed, IsSought}
 use Rattle.regress_engine_sought.specs.SoughtOnce.{IsItemAtPlaces-prop}
+use Rattle.regress_engine_sought.proofs.PlaceLemmas.{can-read, moves, next-place}
 
 -- a program that is not of units is for bytes
 pub bytes-units : (k u : Bool) → k ≡ not u → u ≡ false → k ≡ true
@@ -88,13 +96,13 @@ layout-sought target v all kind made n t formed layout = record {
     lists_from : (p : ℕ) → p ≤ length (reading_of v).points → Listed target.program v (offset (reading_of v) p)
     lists_from p room =
         let context = context_of (reading_of v) (input_of v) in
-        let found : List Item = node_match_list context n t p in
+        let matches : List Item = node_match_list context n t p in
         record {
-          items = map (told_in (reading_of v)) found;
+          items = map (told_in (reading_of v)) matches;
           lists = ∣ lists target.program (input_of v) (reading_of v) told n t (runs_as_tree target (input_of v) (reading_of v) told bytes made n t formed layout) p room ∣₁;
-          inside = All-map (IsItemAtPlaces (reading_of v)) (told_in (reading_of v)) found
+          inside = All-map (IsItemAtPlaces (reading_of v)) (told_in (reading_of v)) matches
               (All-weaker (λ i. IsItemInside (reading_of v).points i × (length i.groups ≡ n)) (λ i. IsItemAtPlaces (reading_of v) (told_in (reading_of v) i))
-              (λ i h. item-at_places (reading_of v) i h.0) found (matches_lie context n t p));
+              (λ i h. item-at_places (reading_of v) i h.0) matches (matches_lie context n t p));
         }
 
 -- what a search from one place finds is what one from another does
@@ -108,3 +116,38 @@ found-inside program v sought at (p, room, e) i finds =
     let listed = sought.lists p room in
     ∥∥₁_elim listed.lists (IsItemAtPlaces-prop v i)
     (λ l. first-holds program (input_of v) (IsItemAtPlaces (reading_of v)) l i (subst (λ o. Finds program (input_of v) o (Some i)) e finds) listed.inside)
+
+-- ---- a search from place to place
+
+module _ (program : Program) (v : View) (all : AreOfKind v.kind v.units) where
+  pub search-found : (offset start end : ℕ) (groups : List Marks) → FindsOn program (input_of v) offset start → IsAnswer program (input_of v) start (Some end) groups
+      → IsFound program (input_of v) offset (Some (start, end)) groups
+  search-found offset start end groups on (w, answers, at, same) = (w, on _ (found answers), at, same)
+
+  pub search-none : (offset start : ℕ) (groups : List Marks) → FindsOn program (input_of v) offset start → IsAnswer program (input_of v) start None groups → (input_of v).next Forward start ≡ None
+      → IsFound program (input_of v) offset None groups
+  search-none offset start groups on answers none = on None (nowhere answers none)
+
+  pub search-on : (offset start c q : ℕ) (groups : List Marks) → FindsOn program (input_of v) offset start → IsAnswer program (input_of v) start None groups → (input_of v).next Forward start ≡ Some (c, q)
+      → FindsOn program (input_of v) offset q
+  search-on offset start c q groups on answers next i finds = on i (later answers next finds)
+
+  pub search-less : (start c q : ℕ) → IsAtPlace (reading_of v) start → (input_of v).next Forward start ≡ Some (c, q) → length v.units - q < length v.units - start
+  search-less start c q place next =
+      let past = moves v Forward start c q next in
+      let room = (view_reads v all).inside q (can-read v all q (next-place v all Forward start c q place next)) in
+      omega (arith, past, room)
+
+-- ranges of groups, one by one
+ranges-are : (gs : List (GroupData ℕ)) → map range_of (map marks_of gs) ≡ map (λ g. range_of (marks_of g)) gs
+ranges-are [] = refl
+ranges-are (g ∷ gs) = ap (λ xs. range_of (marks_of g) ∷ xs) (ranges-are gs)
+
+-- the match that is made of what was found
+pub found-match : (program : Program) (input : Input) (at start end : ℕ) (groups : List Marks) (m : Match) (gs : List (GroupData ℕ)) → IsFound program input at (Some (start, end)) groups
+    → groups ≡ map marks_of gs → m.range.start ≡ start → m.range.end ≡ end → map (option_map ends) m.captures.items ≡ map (λ g. range_of (marks_of g)) gs
+    → Finds program input at (Some (match.item_of m))
+found-match program input at start end groups m gs (w, finds, last, same) held first ended captures =
+    let ranges : map range_of w.groups ≡ map (option_map ends) m.captures.items = ap (map range_of) (same ∙ held) ∙ ranges-are gs ∙ sym captures in
+    let told : item_of start w ≡ match.item_of m = (λ i. record { start = sym first i; end = (last ∙ sym ended) i; groups = ranges i }) in
+    subst (λ x. Finds program input at (Some x)) told finds

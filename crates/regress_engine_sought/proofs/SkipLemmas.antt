@@ -234,3 +234,29 @@ module _ (program : Program) (start : StartPredicate) (v : View) (all : AreOfKin
       at_end =
           told.next Forward (length (reading_of v).points) (omega arith)
           ∙ ap (λ (o : Option ℕ). option_map (point_told (reading_of v)) (option_map (λ c. (c, suc (length (reading_of v).points))) o)) (past (reading_of v).points)
+
+-- A search from an offset reaches another one, from a place on: what it finds is what a search from there finds.
+pub record Reaches (program : Program) (v : View) (offset' from at : ℕ) : Type 0 where
+  pub sought : IsSought program v
+  pub low : from ≤ at
+  pub place : IsAtPlace (reading_of v) at
+  pub on : FindsOn program (input_of v) offset' at
+
+-- over an input, which shows what is read
+module _ (program : Program) (start : StartPredicate) (shown v : View) (shows : shown ≡ v) (all : AreOfKind v.kind v.units) (sought : IsSought program shown) (skip : MaySkip program start shown)
+    (offset' from : ℕ) (on : FindsOn program (input_of v) offset' from) (place : IsAtPlace (reading_of v) from) (next : Option ℕ) (is_next : IsNextHit start v.units from next) where
+  pub reaches : (at : ℕ) → next ≡ Some at → Reaches program v offset' from at
+  reaches at is =
+      let sought' : IsSought program v = subst (IsSought program) shows sought in
+      let skip' : MaySkip program start v = subst (MaySkip program start) shows skip in
+      let hit : IsNextHit start v.units from (Some at) = subst (IsNextHit start v.units from) is is_next in
+      record {
+        sought = sought';
+        low = hit.0;
+        place = hit-place program start v all sought' skip' from at place hit;
+        on = skip-to program start v all sought' skip' offset' from at on place hit;
+      }
+
+  pub reaches-none : next ≡ None → Finds program (input_of v) offset' None
+  reaches-none is =
+      skip-all program start v all (subst (IsSought program) shows sought) (subst (MaySkip program start) shows skip) offset' from on place (subst (IsNextHit start v.units from) is is_next)

@@ -1,7 +1,15 @@
-//! What an executor seeks in a text, and what searches may skip: the words that executors share. The definitions stand in
-//! `specs/`. Nothing here runs: each function is a law of theirs, stated by its contract.
+//! What an executor seeks in a text, where searches look for it, and what they may skip: what executors share beside their
+//! steps. The definitions stand in `specs/`, and their laws are functions whose contract is the law.
 #![tactic(auto)]
 
+mod captured;
+mod executor;
 mod laws;
+mod shown;
+mod subject;
 
-pub use laws::{executors_list_matches, start_predicates_may_skip};
+pub use captured::captures;
+pub use executor::{AnyText, AsciiText, Executor, TextKind};
+pub use laws::{executors_list_matches, roads_agree, start_predicates_may_skip};
+pub use shown::{ExecutorInput, Shown};
+pub use subject::Subject;

@@ -1,8 +1,8 @@
 //! Classes behind their opening bracket, and the contents of one with `v`.
-ghost use Rattle.std.specs.Prelude.{◌≡◌, ◌≤◌, ◌+◌, ◌==◌, ℕ, Bool, true, not, length, OnOk, drop, is_some, slice_get, if◌then◌else◌};
+ghost use Rattle.std.specs.Prelude.{◌≡◌, ◌≤◌, ◌+◌, ◌==◌, ◌++◌, ◌∷◌, [], ℕ, Bool, true, not, length, IfOk, OnOk, drop, is_some, slice_get, if◌then◌else◌};
 ghost use Rattle.std.specs.List.{list_any, list_all};
 ghost use Rattle.regress_meaning.specs.Text.{◌∈◌, is_at};
-ghost use Rattle.regress_meaning.specs.Class.{may_hold_strings};
+ghost use Rattle.regress_meaning.specs.Class.{may_hold_strings, nested};
 ghost use Rattle.regress_meaning.specs.Grammar.{reserved_pair};
 ghost use Rattle.regress_meaning.specs.Limits.{class_depth, greatest_depth};
 ghost use Rattle.regress_meaning.specs.ReadingClass.{closes_class, two_at, opens_strings, item_class, read_set_escape, read_set_atom, read_set_character, read_range, union_from, set_string_at, set_strings_at, operand_at, contents_at, union_at, intersection_at, difference_at, read_class};
@@ -16,7 +16,7 @@ ghost use Rattle.regress_front_tokens.specs.Cursors.{unread, SameText};
 use crate::class_ranges::{INVALID_CLASS, UNBALANCED_BRACKET, class_of, members};
 use regress_front_tables::{CodePoint, Error, MAX_NESTING_DEPTH};
 use regress_front_tokens::{Class, Cursor, Escape, INVALID_ESCAPE, Mode, is_one_of};
-use std::alloc::Global;
+use std::alloc::{AllocError, Global};
 
 /// What stands side by side in a class.
 #[derive(Debug, Drop)]
@@ -47,6 +47,40 @@ impl SetItem {
             SetItem::Set(class) => class,
         }
     }
+}
+
+// Recursion through brackets goes 256 levels deep. So that none of its functions has room on the stack for what others need
+// only in passing, those that end before the next level are kept out of line.
+
+/// Drops a class.
+#[inline(never)]
+fn discard(_class: Class) {}
+
+/// Adds a class behind others.
+#[inline(never)]
+fn push(classes: &mut Vec<Class>, class: Class) -> Result<(), AllocError>
+    ensures { OnOk result (classes.new.items ≡ classes.old.items ++ (class ∷ [])) }
+{
+    Ok(classes.push(class)?)
+}
+
+/// The class of an item, in a box.
+#[inline(never)]
+fn boxed(alloc: Global, item: SetItem) -> Result<Box<Class>, AllocError>
+    ensures { IfOk result (λ class. class_view class.value ≡ item_class (item_view item)) }
+{
+    Ok(Box::new(alloc, item.into_class())?)
+}
+
+/// A class in brackets of its own.
+#[inline(never)]
+fn nested(alloc: Global, negated: bool, contents: Class) -> Result<Class, AllocError>
+    ensures { IfOk result (λ class. class_view class ≡ nested negated (class_view contents)) }
+{
+    Ok(Class::Nested {
+        negated,
+        contents: Box::new(alloc, contents)?,
+    })
 }
 
 /// Whether the class may, by its form, hold a string that is no single code point ("MayContainStrings").
@@ -121,6 +155,7 @@ pub fn bracketed_class(
     let negated = cursor.eat('^');
     let class = class_contents(cursor, alloc, mode, nesting + 1)?;
     if negated && may_hold_strings(&class) {
+        discard(class);
         return Err(Error::Syntax {
             text: INVALID_CLASS,
         });
@@ -235,6 +270,7 @@ fn set_escape(cursor: &mut Cursor, alloc: Global, mode: &Mode) -> Result<SetItem
 }
 
 /// A code point, or the class of an escape. A syntax error where neither stands here.
+#[inline(never)]
 fn set_item(cursor: &mut Cursor, alloc: Global, mode: &Mode) -> Result<SetItem, Error>
     requires { HasFewGroups mode.now }
     ensures read { IsRead item_view (read_set_atom (mode_view mode.now)) (unread cursor.old) result (unread cursor.new) }
@@ -292,6 +328,7 @@ fn set_string(cursor: &mut Cursor, alloc: Global, mode: &Mode) -> Result<Vec<Cod
 }
 
 /// Behind `\q{`: the strings, up to the brace ("ClassStringDisjunction"). A syntax error where one of them is none.
+#[inline(never)]
 fn set_strings(
     cursor: &mut Cursor,
     alloc: Global,
@@ -316,6 +353,7 @@ fn set_strings(
 
 /// Behind an item of a union: the range that a dash makes of it, or its class ("ClassSetRange"). A syntax error where the
 /// ends of a range are no code points or out of order.
+#[inline(never)]
 fn set_range(cursor: &mut Cursor, alloc: Global, mode: &Mode, item: SetItem) -> Result<Class, Error>
     requires { HasFewGroups mode.now }
     ensures read { IsRead class_view (read_range (mode_view mode.now) (item_view item)) (unread cursor.old) result (unread cursor.new) }
@@ -356,10 +394,8 @@ fn set_operand(
     regress_meaning::contents_go_by_steps();
     if cursor.eat('[') {
         let (negated, contents) = bracketed_class(cursor, alloc, mode, nesting)?;
-        return Ok(SetItem::Set(Class::Nested {
-            negated,
-            contents: Box::new(alloc, contents)?,
-        }));
+        let class = nested(alloc, negated, contents)?;
+        return Ok(SetItem::Set(class));
     }
     if eat_opening_of_strings(cursor) {
         let strings = set_strings(cursor, alloc, mode)?;
@@ -390,10 +426,12 @@ pub(crate) fn set_contents(
     }
     let first = set_operand(cursor, alloc, mode, nesting)?;
     if is_at_pair(cursor, '&') {
-        return set_intersection(cursor, alloc, mode, nesting, first.into_class());
+        let first = boxed(alloc, first)?;
+        return set_intersection(cursor, alloc, mode, nesting, first);
     }
     if is_at_pair(cursor, '-') {
-        return set_difference(cursor, alloc, mode, nesting, first.into_class());
+        let first = boxed(alloc, first)?;
+        return set_difference(cursor, alloc, mode, nesting, first);
     }
     set_union(cursor, alloc, mode, nesting, first)
 }
@@ -418,11 +456,11 @@ fn set_union(
     regress_meaning::contents_go_by_steps();
     let mut members = Vec::new(alloc);
     let member = set_range(cursor, alloc, mode, first)?;
-    members.push(member)?;
+    push(&mut members, member)?;
     while !cursor.is_at(']') {
         let item = set_operand(cursor, alloc, mode, nesting)?;
         let member = set_range(cursor, alloc, mode, item)?;
-        members.push(member)?;
+        push(&mut members, member)?;
     }
     Ok(Class::Union(members))
 }
@@ -434,13 +472,13 @@ fn set_intersection(
     alloc: Global,
     mode: &Mode,
     nesting: u32,
-    first: Class,
+    first: Box<Class>,
 ) -> Result<Class, Error>
     requires few { HasFewGroups mode.now }
     requires sets { mode.now.sets ≡ true }
     requires shallow { nesting ≤ 256 }
-    requires deep { nesting + class_depth (class_view first) ≤ greatest_depth }
-    ensures read { IsClassAnswer nesting (intersection_at (mode_view mode.now) (class_view first)) (unread cursor.old) result (unread cursor.new) }
+    requires deep { nesting + class_depth (class_view first.value) ≤ greatest_depth }
+    ensures read { IsClassAnswer nesting (intersection_at (mode_view mode.now) (class_view first.value)) (unread cursor.old) result (unread cursor.new) }
     ensures ended { OnOk result (closes_class (unread cursor.new) ≡ true) }
     ensures kept { SameText cursor.old cursor.new }
 {
@@ -453,12 +491,12 @@ fn set_intersection(
             });
         }
         let next = set_operand(cursor, alloc, mode, nesting)?;
-        others.push(next.into_class())?;
+        push(&mut others, next.into_class())?;
         if cursor.is_at(']') {
             break;
         }
     }
-    Ok(Class::Intersection(Box::new(alloc, first)?, others))
+    Ok(Class::Intersection(first, others))
 }
 
 /// At the first `--`, behind the first operand: what stands in that and in no other ("ClassSubtraction").
@@ -468,13 +506,13 @@ fn set_difference(
     alloc: Global,
     mode: &Mode,
     nesting: u32,
-    first: Class,
+    first: Box<Class>,
 ) -> Result<Class, Error>
     requires few { HasFewGroups mode.now }
     requires sets { mode.now.sets ≡ true }
     requires shallow { nesting ≤ 256 }
-    requires deep { nesting + class_depth (class_view first) ≤ greatest_depth }
-    ensures read { IsClassAnswer nesting (difference_at (mode_view mode.now) (class_view first)) (unread cursor.old) result (unread cursor.new) }
+    requires deep { nesting + class_depth (class_view first.value) ≤ greatest_depth }
+    ensures read { IsClassAnswer nesting (difference_at (mode_view mode.now) (class_view first.value)) (unread cursor.old) result (unread cursor.new) }
     ensures ended { OnOk result (closes_class (unread cursor.new) ≡ true) }
     ensures kept { SameText cursor.old cursor.new }
 {
@@ -487,10 +525,10 @@ fn set_difference(
             });
         }
         let next = set_operand(cursor, alloc, mode, nesting)?;
-        others.push(next.into_class())?;
+        push(&mut others, next.into_class())?;
         if cursor.is_at(']') {
             break;
         }
     }
-    Ok(Class::Difference(Box::new(alloc, first)?, others))
+    Ok(Class::Difference(first, others))
 }

@@ -115,6 +115,7 @@ fn member(cursor: &mut Cursor, alloc: Global, mode: &Mode) -> Result<Escape, Err
 
 /// The members of a class up to the closing bracket, as their union. Goes on behind the bracket ("NonemptyClassRanges").
 /// A syntax error where a range is out of order, an escape is none or there is no bracket.
+#[inline(never)]
 pub(crate) fn members(cursor: &mut Cursor, alloc: Global, mode: &Mode) -> Result<Class, Error>
     requires { HasFewGroups mode.now }
     ensures read { IsRead class_view (members_at (mode_view mode.now)) (unread cursor.old) result (unread cursor.new) }

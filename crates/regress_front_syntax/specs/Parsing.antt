@@ -1,5 +1,6 @@
 -- What an answer of the parser says of the reading function.
 use Rattle.std.specs.Prelude.{◌≡◌, ℕ, ◌+◌, ◌<◌, ◌≤◌, Bool, true, List, [], ◌∷◌, length, Option, Some, None, Result, Ok, Err, option_and_then, count_by, if◌then◌else◌}
+use Rattle.std.specs.Global.{Vec, Box}
 use Rattle.regress_meaning.specs.Pattern.{Pattern, names_of, character, repeated}
 use Rattle.regress_meaning.specs.Tokens.{Mode}
 use Rattle.regress_meaning.specs.Limits.{WithinLimits, depth, quantifiers, opens_nesting, opens_group, opens_quantifier, greatest_depth, most_groups, most_quantifiers}
@@ -7,6 +8,7 @@ use Rattle.regress_meaning.specs.Reading.{Front, Opening, quantified, closed, wh
 use Rattle.regress_front_core.specs.declared.error.Error.{Error}
 use Rattle.regress_front_core.specs.declared.error.Error.TheVariants.{Syntax as SyntaxError, TooDeep, TooManyGroups, TooManyLoops, TooLarge, OutOfMemory}
 use Rattle.regress_front_tokens.specs.declared.syntax.Syntax.{Syntax}
+use Rattle.regress_front_tokens.specs.declared.syntax.Syntax.TheVariants.{Alternative}
 use Rattle.regress_front_core.specs.declared.quantifier.Quantifier.{Quantifier}
 use Rattle.regress_front_syntax.specs.declared.parser.Parser.{Parser}
 use Rattle.regress_front_tokens.specs.Trees.{tree}
@@ -68,6 +70,16 @@ IsRefusal here read OutOfMemory = Unit {0}
 abbrev pub IsAnswer : (here there : Place) → Option Front → Result Syntax Error → Type 0
 IsAnswer here there read (Ok s) = (read ≡ Some (front_to there (tree s))) × Grows here there (tree s)
 IsAnswer here there read (Err e) = IsRefusal here read e
+
+-- what was answered, without its box
+abbrev pub unboxed : Result (Box Syntax) Error → Result Syntax Error
+unboxed (Ok s) = Ok s.value
+unboxed (Err e) = Err e
+
+-- terms that were answered, as the tree that they are one after another
+abbrev pub as_alternative : Result (Vec Syntax) Error → Result Syntax Error
+as_alternative (Ok terms) = Ok (Alternative terms)
+as_alternative (Err e) = Err e
 
 -- the tree of a front with the quantifier behind it, if one was read; k groups were opened before it
 abbrev pub with_quantifier : Option Quantifier → ℕ → Front → Pattern

@@ -55,6 +55,7 @@ fn names_in<'s>(alloc: Global, syntax: &'s Syntax) -> Result<Option<Names<'s>>, 
 
 /// The same of terms one after another.
 #[cycle(naming)]
+#[inline(never)]
 fn names_in_terms<'s>(alloc: Global, terms: &'s [Syntax]) -> Result<Option<Names<'s>>, AllocError>
     ensures { IfOk result (IsNaming (sequence_of (map tree terms.now))) }
 {
@@ -74,6 +75,7 @@ fn names_in_terms<'s>(alloc: Global, terms: &'s [Syntax]) -> Result<Option<Names
 
 /// The same of alternatives, each of which may have the names of the others.
 #[cycle(naming)]
+#[inline(never)]
 fn names_in_arms<'s>(alloc: Global, arms: &'s [Syntax]) -> Result<Option<Names<'s>>, AllocError>
     ensures { IfOk result (IsNaming (choice_of (map tree arms.now))) }
 {
@@ -89,6 +91,7 @@ fn names_in_arms<'s>(alloc: Global, arms: &'s [Syntax]) -> Result<Option<Names<'
 
 /// The same of a capturing group with a name; the empty text is none.
 #[cycle(naming)]
+#[inline(never)]
 fn names_in_named<'s>(
     alloc: Global,
     name: &'s CaptureGroupName,

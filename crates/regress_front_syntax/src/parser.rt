@@ -1,5 +1,5 @@
 //! The parser: a function for each construct of a pattern, which is read from the left with no way back.
-ghost use Rattle.std.specs.Prelude.{◌≡◌, ◌==◌, ◌+◌, ◌<◌, ◌≤◌, ℕ, suc, length, true, false, is_some, OnOk, IfErr, if◌then◌else◌};
+ghost use Rattle.std.specs.Prelude.{◌≡◌, ◌==◌, ◌+◌, ◌<◌, ◌≤◌, ◌++◌, ◌∷◌, [], ℕ, suc, length, true, false, is_some, OnOk, IfErr, if◌then◌else◌};
 ghost use Rattle.regress_meaning.specs.Text.{◌∈◌, is_at};
 ghost use Rattle.regress_meaning.specs.Tokens.{bounds_at};
 ghost use Rattle.regress_front_tokens.specs.Escapes.{escape_view, mode_view, HasFewGroups};
@@ -17,7 +17,7 @@ use regress_front_tables::{
     CodePoint, Error, MAX_CAPTURE_GROUPS, MAX_LOOPS, MAX_NESTING_DEPTH, Quantifier,
 };
 use regress_front_tokens::{Cursor, Escape, Mode, Syntax};
-use std::alloc::Global;
+use std::alloc::{AllocError, Global};
 
 /// Why a quantifier is refused.
 const INVALID_QUANTIFIER: &str = "Invalid quantifier";
@@ -74,6 +74,14 @@ fn misplacement(cursor: &Cursor) -> &'static str
     }
 }
 
+/// Adds a tree behind others, out of line, so that no function that calls itself has room on the stack for what that needs.
+#[inline(never)]
+fn push(trees: &mut Vec<Syntax>, tree: Syntax) -> Result<(), AllocError>
+    ensures { OnOk result (trees.new.items ≡ trees.old.items ++ (tree ∷ [])) }
+{
+    Ok(trees.push(tree)?)
+}
+
 /// How far a pattern is read, and how many groups were opened and quantifiers read so far.
 #[derive(Drop)]
 pub(crate) struct Parser<'p> {
@@ -89,7 +97,7 @@ impl<'p> Parser<'p> {
     ghost use Rattle.regress_front_tokens.specs.Cursors.{unread};
     ghost use Rattle.regress_front_syntax.specs.Openings.{opened_by};
     ghost use Rattle.regress_front_syntax.specs.Parsing.{place, Answers, AnswersBehind, term_by};
-    ghost use Rattle.regress_front_syntax.specs.Parsing.{IsCoherent, IsQuantifier, IsRepetition, IsWholeAnswer};
+    ghost use Rattle.regress_front_syntax.specs.Parsing.{IsCoherent, IsQuantifier, IsRepetition, IsWholeAnswer, unboxed, as_alternative};
     ghost use Rattle.regress_front_syntax.specs.Parsing.{character_opening, contents_at, whole_at};
 
     /// A parser at the beginning of a text.
@@ -113,7 +121,8 @@ impl<'p> Parser<'p> {
         ensures { IsWholeAnswer (whole_at (mode_view mode.now) (unread self.old.cursor)) (unread self.old.cursor) result }
     {
         regress_meaning::reading_goes_by_steps();
-        let syntax = self.disjunction(mode, 0)?;
+        let boxed = self.disjunction(mode, 0)?;
+        let syntax = Box::into_inner(boxed);
         if self.cursor.peek().is_some() {
             return Err(Error::Syntax {
                 text: UNBALANCED_PARENTHESIS,
@@ -136,23 +145,24 @@ impl<'p> Parser<'p> {
 
     /// Alternatives between `|`, inside so many parentheses ("Disjunction").
     #[cycle(parser)]
-    fn disjunction(&mut self, mode: &Mode, nesting: u32) -> Result<Syntax, Error>
+    #[inline(never)]
+    fn disjunction(&mut self, mode: &Mode, nesting: u32) -> Result<Box<Syntax>, Error>
         requires shallow { nesting ≤ 256 }
         requires coherent { IsCoherent (mode_view mode.now) }
         requires few { HasFewGroups mode.now }
-        ensures answer { Answers (disjunction_at (mode_view mode.now)) nesting self.old self.new result }
+        ensures answer { Answers (disjunction_at (mode_view mode.now)) nesting self.old self.new (unboxed result) }
         ensures progress { OnOk result (length (unread self.new.cursor) ≤ length (unread self.old.cursor)) }
     {
         regress_meaning::reading_goes_by_steps();
         let mut arms = Vec::new(self.alloc);
         loop {
-            let arm = self.alternative(mode, nesting)?;
-            arms.push(arm)?;
+            let terms = self.alternative(mode, nesting)?;
+            push(&mut arms, Syntax::Alternative(terms))?;
             if !self.cursor.eat('|') {
                 break;
             }
         }
-        Ok(Syntax::Disjunction(arms))
+        Ok(Box::new(self.alloc, Syntax::Disjunction(arms))?)
     }
 
     /// Whether an alternative ends here: the text does, or one of `|` and `)` stands here.
@@ -164,20 +174,21 @@ impl<'p> Parser<'p> {
 
     /// Terms one after another ("Alternative").
     #[cycle(parser)]
-    fn alternative(&mut self, mode: &Mode, nesting: u32) -> Result<Syntax, Error>
+    #[inline(never)]
+    fn alternative(&mut self, mode: &Mode, nesting: u32) -> Result<Vec<Syntax>, Error>
         requires shallow { nesting ≤ 256 }
         requires coherent { IsCoherent (mode_view mode.now) }
         requires few { HasFewGroups mode.now }
-        ensures answer { Answers (alternative_at (mode_view mode.now)) nesting self.old self.new result }
+        ensures answer { Answers (alternative_at (mode_view mode.now)) nesting self.old self.new (as_alternative result) }
         ensures progress { OnOk result (length (unread self.new.cursor) ≤ length (unread self.old.cursor)) }
     {
         regress_meaning::reading_goes_by_steps();
         let mut terms = Vec::new(self.alloc);
         while !self.ends_alternative() {
             let term = self.term(mode, nesting)?;
-            terms.push(term)?;
+            push(&mut terms, term)?;
         }
-        Ok(Syntax::Alternative(terms))
+        Ok(terms)
     }
 
     /// An assertion, or an atom and the quantifier behind it if there is one ("Term").
@@ -196,6 +207,7 @@ impl<'p> Parser<'p> {
     }
 
     /// A term that is no group: an assertion of one character, or an atom and the quantifier behind it if there is one.
+    #[inline(never)]
     fn simple_term(&mut self, mode: &Mode, nesting: u32) -> Result<Syntax, Error>
         requires shallow { nesting ≤ 256 }
         requires few { HasFewGroups mode.now }
@@ -272,6 +284,7 @@ impl<'p> Parser<'p> {
 
     /// Behind `(`: a group or a lookaround, and the quantifier behind it if there is one ("Atom", "Assertion").
     #[cycle(parser)]
+    #[inline(never)]
     fn group(&mut self, mode: &Mode, nesting: u32) -> Result<Syntax, Error>
         requires shallow { nesting ≤ 256 }
         requires coherent { IsCoherent (mode_view mode.now) }
@@ -286,7 +299,7 @@ impl<'p> Parser<'p> {
         let contents = self.contents(mode, nesting)?;
         let is_lookbehind = opening.is_lookbehind();
         let may_repeat = opening.may_repeat(mode.unicode);
-        let group = opening.enclose(opened, Box::new(self.alloc, contents)?);
+        let group = opening.enclose(opened, contents);
         if is_lookbehind {
             return Ok(group);
         }
@@ -311,11 +324,11 @@ impl<'p> Parser<'p> {
 
     /// The contents of parentheses and the closing one, inside so many others.
     #[cycle(parser)]
-    fn contents(&mut self, mode: &Mode, nesting: u32) -> Result<Syntax, Error>
+    fn contents(&mut self, mode: &Mode, nesting: u32) -> Result<Box<Syntax>, Error>
         requires shallow { nesting ≤ 256 }
         requires coherent { IsCoherent (mode_view mode.now) }
         requires few { HasFewGroups mode.now }
-        ensures answer { Answers (contents_at (mode_view mode.now)) (nesting + 1) self.old self.new result }
+        ensures answer { Answers (contents_at (mode_view mode.now)) (nesting + 1) self.old self.new (unboxed result) }
         ensures progress { OnOk result (length (unread self.new.cursor) ≤ length (unread self.old.cursor)) }
     {
         if nesting == MAX_NESTING_DEPTH {
@@ -332,6 +345,7 @@ impl<'p> Parser<'p> {
 
     /// With the quantifier that stands here, if one does: what was read is matched so often one after another ("Quantifier"). So
     /// many groups were opened before it. A syntax error where it may have none, and where the bounds are out of order.
+    #[inline(never)]
     fn repeated(&mut self, atom: Syntax, opened: u16, allowed: bool) -> Result<Syntax, Error>
         ensures answer { (nesting : ℕ) → IsRepetition allowed opened (tree atom) (place nesting self.old) (place nesting self.new) result }
         ensures progress { OnOk result (length (unread self.new.cursor) ≤ length (unread self.old.cursor)) }

@@ -1,5 +1,6 @@
 //! The second pass: from the syntax tree of a pattern to nodes.
-ghost use Rattle.std.specs.Prelude.{◌≡◌, Bool, map, option_map, All, IfOk};
+ghost use Rattle.std.specs.Prelude.{◌≡◌, ◌<◌, ◌++◌, ◌∷◌, [], Bool, length, map, option_map, All, IfOk, OnOk};
+ghost use Rattle.regress_meaning.specs.TableParts.{is_code_point};
 ghost use Rattle.regress_meaning.specs.Pattern as meaning;
 ghost use Rattle.regress_meaning.specs.Meaning.{with};
 ghost use Rattle.regress_meaning.specs.Points.{ClassIsOfPoints};
@@ -7,7 +8,9 @@ ghost use Rattle.regress_front_tokens.specs.Trees as parsed;
 ghost use Rattle.regress_front_tokens.specs.Trees.{settings, class_view, choice_of};
 ghost use Rattle.regress_front_tokens.specs.Words.{code_points_of};
 ghost use Rattle.regress_front_core.specs.Quantifiers.{most};
-ghost use Rattle.regress_front_nodes.specs.Trees.{tree, anchor_of};
+ghost use Rattle.regress_front_nodes.specs.Trees as nodes;
+ghost use Rattle.regress_front_nodes.specs.Trees.{tree, anchor_of, empty, loop};
+ghost use Rattle.regress_front_tree.specs.Lowering.{HasArms};
 ghost use Rattle.regress_front_nodes.specs.Forms.{cat_made, in_reading_order};
 ghost use Rattle.regress_front_tree.specs.Scopes.{settings_of, IsLowerable, LowersInScope, LowersAllInScope, IsSamePattern};
 
@@ -15,8 +18,9 @@ use crate::arms::alternatives;
 use crate::brackets::{character_node, class_node, negated_class_node};
 use regress_front_nodes::{AnchorType, Node, NodeList};
 use regress_front_syntax::{Class, Modifiers, Quantifier, Syntax};
-use regress_front_tables::{CaptureGroupID, CaptureGroupName, Tables};
+use regress_front_tables::{CaptureGroupID, CaptureGroupName, CodePoint, Tables};
 use std::alloc::{AllocError, Global};
+use std::mem::replace;
 use std::ops::Range;
 
 /// What holds where a part of a pattern stands.
@@ -43,16 +47,6 @@ impl Scope {
             multiline: (self.multiline || on.multiline) && !off.multiline,
             dot_all: (self.dot_all || on.dot_all) && !off.dot_all,
             backward: self.backward,
-        }
-    }
-
-    /// An anchor.
-    fn anchor(self, anchor_type: AnchorType) -> Node
-        ensures { tree result ≡ anchor_of anchor_type self.multiline }
-    {
-        Node::Anchor {
-            anchor_type,
-            multiline: self.multiline,
         }
     }
 }
@@ -83,6 +77,97 @@ fn name_copy(
     }
 }
 
+/// Adds the node of a box behind others.
+#[inline(never)]
+fn push(nodes: &mut NodeList, node: Box<Node>) -> Result<(), AllocError>
+    ensures { OnOk result (nodes.new.items ≡ nodes.old.items ++ (node.value ∷ [])) }
+{
+    Ok(nodes.push(Box::into_inner(node))?)
+}
+
+/// Puts nodes one after another in the place of one.
+#[inline(never)]
+fn line_up(parts: NodeList, backward: bool, node: &mut Node)
+    ensures { tree node.new ≡ cat_made (in_reading_order backward (map tree parts.items)) }
+{
+    *node = sequence(parts, backward);
+}
+
+/// Puts the empty text in the place of a node.
+#[inline(never)]
+fn clear(node: &mut Node)
+    ensures { tree node.new ≡ empty }
+{
+    *node = Node::Empty;
+}
+
+/// Puts alternatives in the place of a node.
+#[inline(never)]
+fn choose(alloc: Global, arms: NodeList, node: &mut Node) -> Result<(), AllocError>
+    requires { 0 < length arms.items }
+    ensures { OnOk result (HasArms (map tree arms.items) (tree node.new)) }
+{
+    *node = alternatives(alloc, arms)?;
+    Ok(())
+}
+
+/// Puts a node into a capturing group, with a copy of its name.
+#[inline(never)]
+fn capture(
+    alloc: Global,
+    id: CaptureGroupID,
+    name: &Option<CaptureGroupName>,
+    node: &mut Node,
+) -> Result<(), AllocError>
+    ensures { OnOk result (tree node.new ≡ nodes.capture id (option_map code_points_of name.now) (tree node.old)) }
+{
+    let name = name_copy(alloc, name)?;
+    let contents = Box::new(alloc, replace(node, Node::Empty))?;
+    *node = Node::CaptureGroup { id, contents, name };
+    Ok(())
+}
+
+/// Puts a node into a repetition.
+#[inline(never)]
+fn repeat(
+    alloc: Global,
+    quant: &Quantifier,
+    groups: &Range<CaptureGroupID>,
+    node: &mut Node,
+) -> Result<(), AllocError>
+    ensures { OnOk result (tree node.new ≡ loop (tree node.old) groups.now.start groups.now.end quant.now.min (most quant.now) quant.now.greedy) }
+{
+    let loopee = Box::new(alloc, replace(node, Node::Empty))?;
+    *node = Node::Loop {
+        loopee,
+        quant: *quant,
+        enclosed_groups: groups.start..groups.end,
+    };
+    Ok(())
+}
+
+/// Puts a node into a lookaround over some groups.
+#[inline(never)]
+fn look(
+    alloc: Global,
+    negate: bool,
+    backwards: bool,
+    groups: Range<CaptureGroupID>,
+    node: &mut Node,
+) -> Result<(), AllocError>
+    ensures { OnOk result (tree node.new ≡ nodes.look negate backwards groups.start groups.end (tree node.old)) }
+{
+    let contents = Box::new(alloc, replace(node, Node::Empty))?;
+    *node = Node::LookaroundAssertion {
+        negate,
+        backwards,
+        start_group: groups.start,
+        end_group: groups.end,
+        contents,
+    };
+    Ok(())
+}
+
 /// What holds for the whole pattern, and how many groups were opened so far.
 #[derive(Drop)]
 pub(crate) struct Lowering<'t> {
@@ -107,163 +192,246 @@ impl<'t> Lowering<'t> {
         }
     }
 
-    /// The node of a part of the pattern ("CompileSubpattern", "CompileAtom").
+    /// Lowers a part of the pattern, in place of `node` ("CompileSubpattern", "CompileAtom").
+    ///
+    /// Calls go as deep as the pattern nests. So the nodes are made in their place, and none is held on the stack by a function
+    /// that goes deeper.
     #[cycle(lowering)]
-    pub(crate) fn lower(&mut self, syntax: &Syntax, scope: Scope) -> Result<Node, AllocError>
+    #[inline(never)]
+    pub(crate) fn lower(
+        &mut self,
+        syntax: &Syntax,
+        scope: &Scope,
+        node: &mut Node,
+    ) -> Result<(), AllocError>
         requires { IsLowerable (parsed.tree syntax.now) }
-        ensures ok { IfOk result (λ node. LowersInScope self.old scope (parsed.tree syntax.now) (tree node) self.new) }
+        ensures ok { OnOk result (LowersInScope self.old scope.now (parsed.tree syntax.now) (tree node.new) self.new) }
         ensures kept { IsSamePattern self.old self.new }
     {
         match syntax {
-            Syntax::Character(point) => {
-                character_node(self.alloc, self.tables, self.unicode, scope.icase, *point)
+            Syntax::Character(point) => self.character(*point, scope, node),
+            Syntax::Any => self.any(scope, node),
+            Syntax::Class { negated, class } => self.class(*negated, class, scope, node),
+            Syntax::ClassEscape(class) => self.class_escape(class, scope, node),
+            Syntax::Alternative(terms) => self.alternative(terms, scope, node),
+            Syntax::Disjunction(arms) => self.disjunction(arms, scope, node),
+            Syntax::Capture { id, name, contents } => {
+                self.capture(*id, name, contents, scope, node)
             }
-            Syntax::Any if scope.dot_all => Ok(Node::MatchAny),
-            Syntax::Any => Ok(Node::MatchAnyExceptLineTerminator),
-            Syntax::Class { negated, class } => self.class(*negated, class, scope),
-            Syntax::ClassEscape(class) => {
-                class_node(self.alloc, self.tables, self.unicode, scope.icase, class)
-            }
-            Syntax::Alternative(terms) => Ok(sequence(self.each(terms, scope)?, scope.backward)),
-            Syntax::Disjunction(arms) => self.disjunction(arms, scope),
-            Syntax::Capture { id, name, contents } => self.capture(*id, name, contents, scope),
-            Syntax::Group(contents) => self.lower(contents, scope),
+            Syntax::Group(contents) => self.lower(contents, scope, node),
             Syntax::Modified { on, off, contents } => {
-                self.lower(contents, scope.switched(*on, *off))
+                self.lower(contents, &scope.switched(*on, *off), node)
             }
             Syntax::Loop {
                 loopee,
                 quant,
                 enclosed_groups,
-            } => self.repetition(loopee, *quant, enclosed_groups, scope),
+            } => self.repetition(loopee, quant, enclosed_groups, scope, node),
             Syntax::Look {
                 negated,
                 backward,
                 contents,
-            } => self.lookaround(*negated, *backward, contents, scope),
-            Syntax::Reference(groups) => self.reference(groups, scope),
-            Syntax::LineStart => Ok(scope.anchor(AnchorType::StartOfLine)),
-            Syntax::LineEnd => Ok(scope.anchor(AnchorType::EndOfLine)),
-            Syntax::WordBoundary { negated } => Ok(Node::WordBoundary {
-                invert: *negated,
-                unicode_icase: self.unicode && scope.icase,
-            }),
+            } => self.lookaround(*negated, *backward, contents, scope, node),
+            Syntax::Reference(groups) => self.reference(groups, scope, node),
+            Syntax::LineStart => self.anchor(AnchorType::StartOfLine, scope, node),
+            Syntax::LineEnd => self.anchor(AnchorType::EndOfLine, scope, node),
+            Syntax::WordBoundary { negated } => self.word_boundary(*negated, scope, node),
         }
     }
 
     /// The nodes of parts, one by one in their order.
     #[cycle(lowering)]
-    fn each(&mut self, parts: &[Syntax], scope: Scope) -> Result<NodeList, AllocError>
+    #[inline(never)]
+    fn each(&mut self, parts: &[Syntax], scope: &Scope) -> Result<NodeList, AllocError>
         requires { All IsLowerable (map parsed.tree parts.now) }
-        ensures ok { IfOk result (λ nodes. LowersAllInScope self.old scope (map parsed.tree parts.now) (map tree nodes.items) self.new) }
+        ensures ok { IfOk result (λ nodes. LowersAllInScope self.old scope.now (map parsed.tree parts.now) (map tree nodes.items) self.new) }
         ensures kept { IsSamePattern self.old self.new }
     {
         let mut nodes = Vec::new(self.alloc);
         for part in parts {
-            nodes.push(self.lower(part, scope)?)?;
+            let mut node = Box::new(self.alloc, Node::Empty)?;
+            self.lower(part, scope, &mut node)?;
+            push(&mut nodes, node)?;
         }
         Ok(nodes)
     }
 
-    /// The node of alternatives ("Disjunction"); of none it is the empty text.
+    /// Lowers terms one after another ("Alternative").
     #[cycle(lowering)]
-    fn disjunction(&mut self, arms: &[Syntax], scope: Scope) -> Result<Node, AllocError>
+    #[inline(never)]
+    fn alternative(
+        &mut self,
+        terms: &[Syntax],
+        scope: &Scope,
+        node: &mut Node,
+    ) -> Result<(), AllocError>
+        requires { All IsLowerable (map parsed.tree terms.now) }
+        ensures ok { OnOk result (LowersInScope self.old scope.now (parsed.sequence_of (map parsed.tree terms.now)) (tree node.new) self.new) }
+        ensures kept { IsSamePattern self.old self.new }
+    {
+        let nodes = self.each(terms, scope)?;
+        line_up(nodes, scope.backward, node);
+        Ok(())
+    }
+
+    /// Lowers alternatives ("Disjunction"); of none it is the empty text.
+    #[cycle(lowering)]
+    #[inline(never)]
+    fn disjunction(
+        &mut self,
+        arms: &[Syntax],
+        scope: &Scope,
+        node: &mut Node,
+    ) -> Result<(), AllocError>
         requires { All IsLowerable (map parsed.tree arms.now) }
-        ensures ok { IfOk result (λ node. LowersInScope self.old scope (choice_of (map parsed.tree arms.now)) (tree node) self.new) }
+        ensures ok { OnOk result (LowersInScope self.old scope.now (choice_of (map parsed.tree arms.now)) (tree node.new) self.new) }
         ensures kept { IsSamePattern self.old self.new }
     {
         if arms.is_empty() {
-            return Ok(Node::Empty);
+            clear(node);
+            return Ok(());
         }
-        alternatives(self.alloc, self.each(arms, scope)?)
+        let nodes = self.each(arms, scope)?;
+        choose(self.alloc, nodes, node)
     }
 
-    /// The node of a capturing group, which counts as opened before its contents.
+    /// Lowers a capturing group, which counts as opened before its contents.
     #[cycle(lowering)]
+    #[inline(never)]
     fn capture(
         &mut self,
         id: CaptureGroupID,
         name: &Option<CaptureGroupName>,
         contents: &Syntax,
-        scope: Scope,
-    ) -> Result<Node, AllocError>
+        scope: &Scope,
+        node: &mut Node,
+    ) -> Result<(), AllocError>
         requires { IsLowerable (meaning.capture id (option_map code_points_of name.now) (parsed.tree contents.now)) }
-        ensures ok { IfOk result (λ node. LowersInScope self.old scope (meaning.capture id (option_map code_points_of name.now) (parsed.tree contents.now)) (tree node) self.new) }
+        ensures ok { OnOk result (LowersInScope self.old scope.now (meaning.capture id (option_map code_points_of name.now) (parsed.tree contents.now)) (tree node.new) self.new) }
         ensures kept { IsSamePattern self.old self.new }
     {
-        let name = name_copy(self.alloc, name)?;
         self.groups = self.groups.saturating_add(1);
-        let contents = Box::new(self.alloc, self.lower(contents, scope)?)?;
-        Ok(Node::CaptureGroup { id, contents, name })
+        self.lower(contents, scope, node)?;
+        capture(self.alloc, id, name, node)
     }
 
-    /// The node of a repetition.
+    /// Lowers a repetition.
     #[cycle(lowering)]
+    #[inline(never)]
     fn repetition(
         &mut self,
         loopee: &Syntax,
-        quant: Quantifier,
+        quant: &Quantifier,
         groups: &Range<CaptureGroupID>,
-        scope: Scope,
-    ) -> Result<Node, AllocError>
+        scope: &Scope,
+        node: &mut Node,
+    ) -> Result<(), AllocError>
         requires { IsLowerable (parsed.tree loopee.now) }
-        ensures ok { IfOk result (λ node. LowersInScope self.old scope
-            (meaning.repeated (parsed.tree loopee.now) groups.now.start groups.now.end quant.min (most quant) quant.greedy)
-            (tree node) self.new) }
+        ensures ok { OnOk result (LowersInScope self.old scope.now
+            (meaning.repeated (parsed.tree loopee.now) groups.now.start groups.now.end quant.now.min (most quant.now) quant.now.greedy)
+            (tree node.new) self.new) }
         ensures kept { IsSamePattern self.old self.new }
     {
-        let loopee = Box::new(self.alloc, self.lower(loopee, scope)?)?;
-        Ok(Node::Loop {
-            loopee,
-            quant,
-            enclosed_groups: groups.start..groups.end,
-        })
+        self.lower(loopee, scope, node)?;
+        repeat(self.alloc, quant, groups, node)
     }
 
-    /// The node of a lookaround. The groups inside are those that its contents open.
+    /// Lowers a lookaround. The groups inside are those that its contents open.
     #[cycle(lowering)]
+    #[inline(never)]
     fn lookaround(
         &mut self,
         negate: bool,
         backwards: bool,
         contents: &Syntax,
-        scope: Scope,
-    ) -> Result<Node, AllocError>
+        scope: &Scope,
+        node: &mut Node,
+    ) -> Result<(), AllocError>
         requires { IsLowerable (parsed.tree contents.now) }
-        ensures ok { IfOk result (λ node. LowersInScope self.old scope
-            (meaning.look negate backwards (parsed.tree contents.now)) (tree node) self.new) }
+        ensures ok { OnOk result (LowersInScope self.old scope.now
+            (meaning.look negate backwards (parsed.tree contents.now)) (tree node.new) self.new) }
         ensures kept { IsSamePattern self.old self.new }
     {
         let start_group = self.groups;
         let inside = Scope {
             backward: backwards,
-            ..scope
+            ..*scope
         };
-        let contents = Box::new(self.alloc, self.lower(contents, inside)?)?;
-        Ok(Node::LookaroundAssertion {
+        self.lower(contents, &inside, node)?;
+        look(
+            self.alloc,
             negate,
             backwards,
-            start_group,
-            end_group: self.groups,
-            contents,
-        })
+            start_group..self.groups,
+            node,
+        )
     }
 
-    /// The node of a class in brackets.
-    fn class(&self, negated: bool, class: &Class, scope: Scope) -> Result<Node, AllocError>
+    /// Lowers a character.
+    #[inline(never)]
+    fn character(&self, point: CodePoint, scope: &Scope, node: &mut Node) -> Result<(), AllocError>
+        requires { is_code_point point }
+        ensures { OnOk result (LowersInScope self.now scope.now (meaning.character point) (tree node.new) self.now) }
+    {
+        *node = character_node(self.alloc, self.tables, self.unicode, scope.icase, point)?;
+        Ok(())
+    }
+
+    /// Lowers `.`.
+    #[inline(never)]
+    fn any(&self, scope: &Scope, node: &mut Node) -> Result<(), AllocError>
+        ensures { OnOk result (LowersInScope self.now scope.now meaning.any (tree node.new) self.now) }
+    {
+        if scope.dot_all {
+            *node = Node::MatchAny;
+        } else {
+            *node = Node::MatchAnyExceptLineTerminator;
+        }
+        Ok(())
+    }
+
+    /// Lowers a class in brackets.
+    #[inline(never)]
+    fn class(
+        &self,
+        negated: bool,
+        class: &Class,
+        scope: &Scope,
+        node: &mut Node,
+    ) -> Result<(), AllocError>
         requires { ClassIsOfPoints (class_view class.now) }
-        ensures { IfOk result (λ node. LowersInScope self.now scope (meaning.class negated (class_view class.now)) (tree node) self.now) }
+        ensures { OnOk result (LowersInScope self.now scope.now (meaning.class negated (class_view class.now)) (tree node.new) self.now) }
     {
         if negated {
-            negated_class_node(self.alloc, self.tables, self.unicode, scope.icase, class)
-        } else {
-            class_node(self.alloc, self.tables, self.unicode, scope.icase, class)
+            let outside = negated_class_node(
+                self.alloc,
+                self.tables,
+                self.unicode,
+                scope.icase,
+                class,
+            )?;
+            *node = outside;
+            return Ok(());
         }
+        let inside = class_node(self.alloc, self.tables, self.unicode, scope.icase, class)?;
+        *node = inside;
+        Ok(())
     }
 
-    /// The node of a reference: of each group one, the numbers of the nodes from 1.
-    fn reference(&self, groups: &[u16], scope: Scope) -> Result<Node, AllocError>
-        ensures { IfOk result (λ node. LowersInScope self.now scope (meaning.reference groups.now) (tree node) self.now) }
+    /// Lowers a class escape.
+    #[inline(never)]
+    fn class_escape(&self, class: &Class, scope: &Scope, node: &mut Node) -> Result<(), AllocError>
+        requires { ClassIsOfPoints (class_view class.now) }
+        ensures { OnOk result (LowersInScope self.now scope.now (meaning.class_escape (class_view class.now)) (tree node.new) self.now) }
+    {
+        *node = class_node(self.alloc, self.tables, self.unicode, scope.icase, class)?;
+        Ok(())
+    }
+
+    /// Lowers a reference: of each group one, the numbers of the nodes from 1.
+    #[inline(never)]
+    fn reference(&self, groups: &[u16], scope: &Scope, node: &mut Node) -> Result<(), AllocError>
+        ensures { OnOk result (LowersInScope self.now scope.now (meaning.reference groups.now) (tree node.new) self.now) }
     {
         let mut nodes = Vec::new(self.alloc);
         for group in groups {
@@ -272,6 +440,36 @@ impl<'t> Lowering<'t> {
                 icase: scope.icase,
             })?;
         }
-        Ok(sequence(nodes, scope.backward))
+        *node = sequence(nodes, scope.backward);
+        Ok(())
+    }
+
+    /// Lowers an anchor.
+    #[inline(never)]
+    fn anchor(
+        &self,
+        anchor_type: AnchorType,
+        scope: &Scope,
+        node: &mut Node,
+    ) -> Result<(), AllocError>
+        ensures { OnOk result (tree node.new ≡ anchor_of anchor_type scope.now.multiline) }
+    {
+        *node = Node::Anchor {
+            anchor_type,
+            multiline: scope.multiline,
+        };
+        Ok(())
+    }
+
+    /// Lowers a boundary of words.
+    #[inline(never)]
+    fn word_boundary(&self, negated: bool, scope: &Scope, node: &mut Node) -> Result<(), AllocError>
+        ensures { OnOk result (LowersInScope self.now scope.now (meaning.word_boundary negated) (tree node.new) self.now) }
+    {
+        *node = Node::WordBoundary {
+            invert: negated,
+            unicode_icase: self.unicode & scope.icase,
+        };
+        Ok(())
     }
 }

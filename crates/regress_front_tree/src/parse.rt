@@ -59,7 +59,8 @@ pub fn try_parse<'u>(
     whole_trees_are_well_formed();
     let parsed = parse(alloc, pattern, flags, tables)?;
     let mut lowering = Lowering::new(alloc, tables, flags.is_unicode());
-    let node = lowering.lower(&parsed.syntax, first_scope(flags))?;
+    let mut node = Node::Empty;
+    lowering.lower(&parsed.syntax, &first_scope(flags), &mut node)?;
     Ok(Regex {
         node: Node::Cat(vec![in alloc; node, Node::Goal]?),
         flags,

@@ -4,6 +4,8 @@
 #[cfg(test)]
 mod api;
 #[cfg(test)]
+mod ascii;
+#[cfg(test)]
 mod example;
 #[cfg(test)]
 mod matches;

@@ -108,8 +108,8 @@ set_contents-returns-then-is_at_pair-clause-read t c =
     let steps = c.contents_go_by_steps.ensures m from in
     let read = c.in_ok-first.ensures.read.0 in
     let less = steps.operand_less i u read in
-    IsNested-there class_view class_depth c.args.nesting (contents_at m) (intersection_at m (class_view c.into_class.result)) from u c.set_intersection.result (unread c.set_intersection.new.cursor)
-    (contents-intersection m from steps i u (sym c.is_at.ensures ∙ c.if-is_at.false) read (sym c.is_at_pair.ensures ∙ c.if-is_at_pair.true) ∙ ap (λ a. intersection_at m a u) (sym c.into_class.ensures))
+    IsNested-there class_view class_depth c.args.nesting (contents_at m) (intersection_at m (class_view c.in_ok-first-2.first.value)) from u c.set_intersection.result (unread c.set_intersection.new.cursor)
+    (contents-intersection m from steps i u (sym c.is_at.ensures ∙ c.if-is_at.false) read (sym c.is_at_pair.ensures ∙ c.if-is_at_pair.true) ∙ ap (λ a. intersection_at m a u) (sym c.in_ok-first-2.ensures))
     (fewer c.args.cursor.now c.set_operand.new.cursor c.set_operand.ensures.kept (omega (arith, less)))
     c.set_intersection.ensures.read
 
@@ -123,9 +123,9 @@ set_contents-returns-then-is_at_pair-2-clause-read t c =
     let steps = c.contents_go_by_steps.ensures m from in
     let read = c.in_ok-first.ensures.read.0 in
     let less = steps.operand_less i u read in
-    IsNested-there class_view class_depth c.args.nesting (contents_at m) (difference_at m (class_view c.into_class-then-is_at_pair-2.result)) from u c.set_difference.result (unread c.set_difference.new.cursor)
+    IsNested-there class_view class_depth c.args.nesting (contents_at m) (difference_at m (class_view c.in_ok-first-3.first.value)) from u c.set_difference.result (unread c.set_difference.new.cursor)
     (contents-difference m from steps i u (sym c.is_at.ensures ∙ c.if-is_at.false) read (sym c.is_at_pair.ensures ∙ c.if-is_at_pair.false) (sym c.is_at_pair-2.ensures ∙ c.if-is_at_pair-2.true)
-    ∙ ap (λ a. difference_at m a u) (sym c.into_class-then-is_at_pair-2.ensures))
+    ∙ ap (λ a. difference_at m a u) (sym c.in_ok-first-3.ensures))
     (fewer c.args.cursor.now c.set_operand.new.cursor c.set_operand.ensures.kept (omega (arith, less)))
     c.set_difference.ensures.read
 
@@ -166,8 +166,8 @@ set_difference-returns-in_err-next-clause-read t c =
     let r = unread c.set_operand.new.cursor in
     let less : length u ≤ length from = omega (arith, ap length eaten, length-drop 2 now, c.loop-alloc.invariant.progress) in
     let p = err_from_is_err_and c.from_residual.result c.from_residual.ensures.1 in
-    rw (p.1, p.2) (IsNested-stopped item_view item_depth class_view class_depth c.args.nesting (operand_at m) (difference_at m (class_view c.args.first)) from u r r c.in_err-next.field-0.0
-    (difference-part m now steps _ (difference_at m (class_view c.args.first) from) u c.loop-alloc.invariant.state eaten two)
+    rw (p.1, p.2) (IsNested-stopped item_view item_depth class_view class_depth c.args.nesting (operand_at m) (difference_at m (class_view c.args.first.value)) from u r r c.in_err-next.field-0.0
+    (difference-part m now steps _ (difference_at m (class_view c.args.first.value) from) u c.loop-alloc.invariant.state eaten two)
     (fewer c.args.cursor.now c.eat_pair.new.cursor (c.eat_pair.ensures.kept ∙ c.loop-alloc.invariant.kept) less)
     c.in_err-next.ensures.read)
 
@@ -185,9 +185,9 @@ set_difference-loop-alloc-preserved t c =
     record {
       kept = c.set_operand.ensures.kept ∙ c.eat_pair.ensures.kept ∙ c.loop-alloc.invariant.kept;
       progress = omega (arith, less, length-drop 2 now, c.loop-alloc.invariant.progress);
-      shallow = pushed-shallow difference _ _ _ _ _ c.args.nesting (λ a b. refl) c.in_ok-push.ensures.items c.into_class.ensures c.loop-alloc.invariant.shallow c.in_ok-next.ensures.read.1;
+      shallow = pushed-shallow difference _ _ _ _ _ c.args.nesting (λ a b. refl) c.in_ok-push.ensures c.into_class.ensures c.loop-alloc.invariant.shallow c.in_ok-next.ensures.read.1;
       state = c.loop-alloc.invariant.state ∙ difference-more m now steps _ i u two read (sym c.is_at.ensures ∙ c.if-is_at.false)
-          ∙ ap (λ a. difference_at m a u) (sym (fold-push difference _ _ _ _ _ c.in_ok-push.ensures.items c.into_class.ensures));
+          ∙ ap (λ a. difference_at m a u) (sym (fold-push difference _ _ _ _ _ c.in_ok-push.ensures c.into_class.ensures));
     }
 
 pub set_difference-returns-clause-read : goal.set_difference-returns-clause-read
@@ -200,9 +200,8 @@ set_difference-returns-clause-read t c =
     let u = unread c.set_operand.new.cursor in
     let i = item_view c.in_ok-next.next in
     let read = ap (operand_at m) (sym eaten) ∙ c.in_ok-next.ensures.read.0 in
-    let made = class_view-Difference c.in_ok-new.field-0 c.push.new.self
-    ∙ ap (λ f. fold difference f (map class_view c.push.new.self.items)) (ap class_view c.in_ok-new.ensures.ok)
-    ∙ fold-push difference _ _ _ _ _ c.in_ok-push.ensures.items c.into_class.ensures in (
+    let made = class_view-Difference c.args.first c.push.new.classes
+    ∙ fold-push difference _ _ _ _ _ c.in_ok-push.ensures c.into_class.ensures in (
       c.loop-alloc.invariant.state ∙ difference-ends m now steps _ i u two read (sym c.is_at.ensures ∙ c.if-is_at.true) ∙ ap (λ (a : Class). Some (a, u)) (sym made),
       subst (λ (a : Class). c.args.nesting + class_depth a ≤ 256) (sym made) (joined-shallow c.args.nesting _ (item_depth i) c.loop-alloc.invariant.shallow c.in_ok-next.ensures.read.1),
     )
@@ -234,8 +233,8 @@ set_intersection-returns-in_err-next-clause-read t c =
     let r = unread c.set_operand.new.cursor in
     let less : length u ≤ length from = omega (arith, ap length eaten, length-drop 2 now, c.loop-alloc.invariant.progress) in
     let p = err_from_is_err_and c.from_residual.result c.from_residual.ensures.1 in
-    rw (p.1, p.2) (IsNested-stopped item_view item_depth class_view class_depth c.args.nesting (operand_at m) (intersection_at m (class_view c.args.first)) from u r r c.in_err-next.field-0.0
-    (intersection-part m now steps _ (intersection_at m (class_view c.args.first) from) u c.loop-alloc.invariant.state eaten two)
+    rw (p.1, p.2) (IsNested-stopped item_view item_depth class_view class_depth c.args.nesting (operand_at m) (intersection_at m (class_view c.args.first.value)) from u r r c.in_err-next.field-0.0
+    (intersection-part m now steps _ (intersection_at m (class_view c.args.first.value) from) u c.loop-alloc.invariant.state eaten two)
     (fewer c.args.cursor.now c.eat_pair.new.cursor (c.eat_pair.ensures.kept ∙ c.loop-alloc.invariant.kept) less)
     c.in_err-next.ensures.read)
 
@@ -253,9 +252,9 @@ set_intersection-loop-alloc-preserved t c =
     record {
       kept = c.set_operand.ensures.kept ∙ c.eat_pair.ensures.kept ∙ c.loop-alloc.invariant.kept;
       progress = omega (arith, less, length-drop 2 now, c.loop-alloc.invariant.progress);
-      shallow = pushed-shallow intersection _ _ _ _ _ c.args.nesting (λ a b. refl) c.in_ok-push.ensures.items c.into_class.ensures c.loop-alloc.invariant.shallow c.in_ok-next.ensures.read.1;
+      shallow = pushed-shallow intersection _ _ _ _ _ c.args.nesting (λ a b. refl) c.in_ok-push.ensures c.into_class.ensures c.loop-alloc.invariant.shallow c.in_ok-next.ensures.read.1;
       state = c.loop-alloc.invariant.state ∙ intersection-more m now steps _ i u two read (sym c.is_at-in-loop-alloc.ensures ∙ c.if-is_at-2.false)
-          ∙ ap (λ a. intersection_at m a u) (sym (fold-push intersection _ _ _ _ _ c.in_ok-push.ensures.items c.into_class.ensures));
+          ∙ ap (λ a. intersection_at m a u) (sym (fold-push intersection _ _ _ _ _ c.in_ok-push.ensures c.into_class.ensures));
     }
 
 pub set_intersection-returns-clause-read : goal.set_intersection-returns-clause-read
@@ -268,9 +267,8 @@ set_intersection-returns-clause-read t c =
     let u = unread c.set_operand.new.cursor in
     let i = item_view c.in_ok-next.next in
     let read = ap (operand_at m) (sym eaten) ∙ c.in_ok-next.ensures.read.0 in
-    let made = class_view-Intersection c.in_ok-new.field-0 c.push.new.self
-    ∙ ap (λ f. fold intersection f (map class_view c.push.new.self.items)) (ap class_view c.in_ok-new.ensures.ok)
-    ∙ fold-push intersection _ _ _ _ _ c.in_ok-push.ensures.items c.into_class.ensures in (
+    let made = class_view-Intersection c.args.first c.push.new.classes
+    ∙ fold-push intersection _ _ _ _ _ c.in_ok-push.ensures c.into_class.ensures in (
       c.loop-alloc.invariant.state ∙ intersection-ends m now steps _ i u two read (sym c.is_at-in-loop-alloc.ensures ∙ c.if-is_at-2.true) ∙ ap (λ (a : Class). Some (a, u)) (sym made),
       subst (λ (a : Class). c.args.nesting + class_depth a ≤ 256) (sym made) (joined-shallow c.args.nesting _ (item_depth i) c.loop-alloc.invariant.shallow c.in_ok-next.ensures.read.1),
     )
@@ -293,7 +291,7 @@ set_operand-returns-then-eat-clause-read t c =
     let from = unread c.args.cursor.now in
     let r = unread c.bracketed_class.new.cursor in
     let n = c.in_ok-negated.negated in
-    let made = class_view-Nested n c.in_ok-new.field-0 ∙ ap (λ k. nested n (class_view k)) c.in_ok-new.ensures.ok in (
+    let made = c.in_ok-class.ensures in (
       operand-nested m from (c.contents_go_by_steps.ensures m from) c.requires.sets (sym c.eat.ensures.found ∙ c.if-eat.true) n (class_view c.in_ok-negated.contents) r
           (ap (class_opening m) (sym c.if-eat.ensures.read) ∙ c.in_ok-negated.ensures.read.0)
           ∙ ap (λ (k : Class). Some (any_class k, r)) (sym made),
@@ -310,7 +308,7 @@ set_union-loop-alloc-init t c =
     let i = item_view c.args.first in
     let a = class_view c.in_ok-member.member in
     let less = (c.contents_go_by_steps.ensures m from).range_less i a u c.in_ok-member.ensures.read in
-    let items = c.in_ok-push.ensures.items ∙ ap (λ xs. xs ++ c.in_ok-member.member ∷ []) c.new-members.ensures.items in
+    let items = c.in_ok-push.ensures ∙ ap (λ xs. xs ++ c.in_ok-member.member ∷ []) c.new-members.ensures.items in
     let deep = member-shallow m i from a u c.args.nesting c.in_ok-member.ensures.read c.requires.deep in
     record {
       kept = c.set_range.ensures.kept;
@@ -357,8 +355,8 @@ set_union-loop-alloc-preserved t c =
     record {
       kept = c.set_range-in-loop-alloc.ensures.kept ∙ c.set_operand.ensures.kept ∙ c.loop-alloc.invariant.kept;
       progress = omega (arith, less, no_more, c.loop-alloc.invariant.progress);
-      shallow = rw (c.in_ok-push-2.ensures.items, map-append) (union_of-depth ks a (256 - c.args.nesting) c.loop-alloc.invariant.shallow (omega (arith, deep)));
-      state = rw (c.in_ok-push-2.ensures.items, map-append)
+      shallow = rw (c.in_ok-push-2.ensures, map-append) (union_of-depth ks a (256 - c.args.nesting) c.loop-alloc.invariant.shallow (omega (arith, deep)));
+      state = rw (c.in_ok-push-2.ensures, map-append)
           (c.loop-alloc.invariant.state
           ∙ ap (option_map (before ks)) (union-more m now (c.contents_go_by_steps.ensures m now) i u v a (sym c.is_at.ensures ∙ c.loop-alloc-test.true) read c.in_ok-member-2.ensures.read)
           ∙ before-alone ks a (union_at m v));

@@ -48,8 +48,8 @@ abbrev pub invariant-set_intersection-loop-alloc : goal.invariant-set_intersecti
 invariant-set_intersection-loop-alloc l = record {
   kept : l.cursor.points.now ≡ l.fn.cursor.points.now;
   progress : length (unread l.cursor) ≤ length (unread l.fn.cursor);
-  shallow : l.nesting + class_depth (fold intersection (class_view l.first) (map class_view l.others.items)) ≤ 256;
-  state : intersection_at (mode_view l.mode) (class_view l.fn.first) (unread l.fn.cursor) ≡ intersection_at (mode_view l.mode) (fold intersection (class_view l.first) (map class_view l.others.items)) (unread l.cursor);
+  shallow : l.nesting + class_depth (fold intersection (class_view l.first.value) (map class_view l.others.items)) ≤ 256;
+  state : intersection_at (mode_view l.mode) (class_view l.fn.first.value) (unread l.fn.cursor) ≡ intersection_at (mode_view l.mode) (fold intersection (class_view l.first.value) (map class_view l.others.items)) (unread l.cursor);
 }
 
 abbrev pub decreases-set_intersection-loop-alloc : goal.decreases-set_intersection-loop-alloc
@@ -59,8 +59,8 @@ abbrev pub invariant-set_difference-loop-alloc : goal.invariant-set_difference-l
 invariant-set_difference-loop-alloc l = record {
   kept : l.cursor.points.now ≡ l.fn.cursor.points.now;
   progress : length (unread l.cursor) ≤ length (unread l.fn.cursor);
-  shallow : l.nesting + class_depth (fold difference (class_view l.first) (map class_view l.others.items)) ≤ 256;
-  state : difference_at (mode_view l.mode) (class_view l.fn.first) (unread l.fn.cursor) ≡ difference_at (mode_view l.mode) (fold difference (class_view l.first) (map class_view l.others.items)) (unread l.cursor);
+  shallow : l.nesting + class_depth (fold difference (class_view l.first.value) (map class_view l.others.items)) ≤ 256;
+  state : difference_at (mode_view l.mode) (class_view l.fn.first.value) (unread l.fn.cursor) ≡ difference_at (mode_view l.mode) (fold difference (class_view l.first.value) (map class_view l.others.items)) (unread l.cursor);
 }
 
 abbrev pub decreases-set_difference-loop-alloc : goal.decreases-set_difference-loop-alloc

@@ -32,10 +32,10 @@ pub returns-clause-accepted : goals.returns-clause-accepted
 returns-clause-accepted c =
     let o = options c.args.flags in
     let p = parsed.tree c.in_ok-parsed.parsed.syntax in
-    let t = tree c.in_ok-node.node in
+    let t = tree c.lower.new.node in
     let (spelled, within) = c.in_ok-parsed.ensures.accepted in
     let lowered : Lowers (table c.args.tables.now) (is_unicode o) false (first_settings o) 0 p t c.lower.new.self.groups =
-    rw (c.first_scope.ensures.backward, c.first_scope.ensures.settings, c.new-lowering.ensures.groups, c.new-lowering.ensures.tables, c.new-lowering.ensures.unicode, c.is_unicode.ensures) at c.in_ok-node.ensures.ok in
+    rw (c.first_scope.ensures.backward, c.first_scope.ensures.settings, c.new-lowering.ensures.groups, c.new-lowering.ensures.tables, c.new-lowering.ensures.unicode, c.is_unicode.ensures) at c.in_ok-lower.ensures.ok in
     let whole = c.whole_trees_are_well_formed.ensures (table c.args.tables.now) o c.args.pattern.now p t c.lower.new.self.groups spelled within lowered in
     let alike = c.lowered_trees_are_alike.ensures (table c.args.tables.now) (is_unicode o) false (first_settings o) 0 p t c.lower.new.self.groups lowered in
     let same : tree (Cat c.in_ok-vec.field-0) ≡ cat_of (t ∷ goal ∷ []) =

@@ -1,6 +1,6 @@
 use Rattle.std.proofs.Common.{ap, ◌∙◌}
 use Rattle.regress_engine_code.specs.Standing.{names_of}
-use Rattle.regress.specs.Coming.{sought_by, next_from}
+use Rattle.regress.specs.Coming.{sought_by, searched, sought_names, coming, next_from, HasEnded}
 use Rattle.regress.proofs.IterationLemmas.{searched-along, inside-each, starts-each}
 use Rattle.regress.proofs.ListedLemmas.{coming-sought, sought-rises}
 use Rattle.regress.proofs.api.Regex.find_from.Goals as goal
@@ -11,13 +11,13 @@ returns-clause-matches c = λ t o p stands place begins.
     (next_from c.new.result) c.new.ensures.begins t o p stands
 
 pub returns-clause-along : goal.returns-clause-along
-returns-clause-along c = record { at = λ given now yields. searched-along c.new.result now given yields ∙ c.new.ensures.over.over }
+returns-clause-along c = record { at = λ given now yields. searched-along searched sought_names coming HasEnded c.new.result now given yields ∙ c.new.ensures.over.over }
 
 pub returns-clause-inside : goal.returns-clause-inside
-returns-clause-inside c = inside-each c.new.result c.args.text.now c.new.ensures.over.over
+returns-clause-inside c = inside-each searched sought_names coming HasEnded c.new.result c.args.text.now c.new.ensures.over.over
 
 pub returns-clause-starts : goal.returns-clause-starts
-returns-clause-starts c = starts-each c.new.result c.args.text.now c.utf8.text c.new.ensures.over.over
+returns-clause-starts c = starts-each searched sought_names coming HasEnded c.new.result c.args.text.now c.utf8.text c.new.ensures.over.over
 
 pub returns-clause-rise : goal.returns-clause-rise
 returns-clause-rise c =

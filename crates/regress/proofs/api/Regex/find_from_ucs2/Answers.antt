@@ -1,7 +1,6 @@
-use Rattle.std.proofs.Common.{◌≡◌, ℕ, ◌+◌, ◌<◌, ◌≤◌, ◌⊎◌, List, All, Option, Result, length, inl, inr, refl, subst, arith}
-use Rattle.std.proofs.lemmas.Bool.{cases_lt}
+use Rattle.std.proofs.Common.{◌≡◌, ℕ, ◌<◌, List, All, Option, Result, length, subst, arith}
 use Rattle.std.proofs.lemmas.List.{get_or_default}
-use Rattle.regress_meaning.specs.Offsets.{Begins, of_ucs2}
+use Rattle.regress_meaning.specs.Offsets.{of_ucs2}
 use Rattle.regress_engine_input.proofs.UnitTexts.{single_offset}
 use Rattle.regress_front_core.specs.declared.error.Error.{Error}
 use Rattle.regress_match.specs.declared.found.Match.{Match}
@@ -10,16 +9,12 @@ use Rattle.regress_match.specs.Iterating.{GivesMatch}
 use Rattle.regress_engine_sought.specs.Sought.{IsItemAtPlaces, IsMatchOf}
 use Rattle.regress.specs.declared.units.Ucs2Matches.{Ucs2Matches}
 use Rattle.regress.specs.Units.{sought_in_ucs2, coming_in_ucs2, HasEndedUcs2, IsMatchInUnits}
-use Rattle.regress.proofs.UnitLemmas.{match-in, each-match}
+use Rattle.regress.proofs.UnitLemmas.{begins-anywhere, match-in, each-match}
 use Rattle.regress.proofs.ListedLemmas.{coming-sought}
 use Rattle.regress.proofs.api.Regex.find_from_ucs2.Goals as goal
 
 pub new-requires : goal.new-requires
-new-requires c = by_room (cases_lt (length c.args.units.now) c.args.start)
-  where
-    by_room : (length c.args.units.now < c.args.start) ⊎ (c.args.start ≤ length c.args.units.now) → (place : ℕ) × Begins (of_ucs2 c.args.units.now) c.args.start place
-    by_room (inl past) = (length c.args.units.now + 1, inr (refl, rw (single_offset c.args.units.now (length c.args.units.now) (omega arith)) past))
-    by_room (inr room) = (c.args.start, inl (room, single_offset c.args.units.now c.args.start room))
+new-requires c = begins-anywhere c.args.units.now c.args.start
 
 pub returns-clause-matches : goal.returns-clause-matches
 returns-clause-matches c = λ t o p stands place begins.

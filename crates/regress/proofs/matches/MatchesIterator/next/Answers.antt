@@ -4,7 +4,7 @@ use Rattle.regress_engine_input.specs.InputViews.{utf8_view}
 use Rattle.regress_engine_code.specs.Standing.{names_of}
 use Rattle.regress_engine_sought.specs.Sought.{Sought, IsPosition, items_from}
 use Rattle.regress.specs.Coming.{sought_by}
-use Rattle.regress.proofs.StepLemmas.{step-none, step-first, step-ends, step-nearer, given-in_utf8}
+use Rattle.regress.proofs.StepLemmas.{step-none, step-first, step-ends, step-nearer, given-in_text}
 use Rattle.regress.proofs.matches.MatchesIterator.next.Goals as goal
 
 pub invariant_of-self : goal.invariant_of-self
@@ -20,10 +20,10 @@ returns-in_err-found-clause-steps c =
     } in
     let kept : after ≡ s = c.step.ensures.kept in
     let none : c.from_residual.result ≡ None = search rules in
-    let first = step-none s after kept c.args.self.now.position c.step.new.position c.from_residual.result none c.in_err-found.ensures.stepped in (
+    let first = step-none s kept c.args.self.now.position c.step.new.position c.from_residual.result none c.in_err-found.ensures.stepped in (
       ap (λ (x : Sought). x.view.units) kept,
       ap (λ (x : Sought). names_of x.compiled) kept,
-      record { first = given-in_utf8 s refl c.args.self.now.executor.subject.input.utf8 (coming_on (items_from s) c.args.self.now.position) c.from_residual.result (coming_on (items_from after) c.step.new.position) first; ends = subst (λ o. UnlessFound o (c.step.new.position ≡ None)) (sym none) c.in_err-found.ensures.stepped.1; ended = λ _. none },
+      record { first = given-in_text s refl c.args.self.now.executor.subject.input.utf8 (coming_on (items_from s) c.args.self.now.position) c.from_residual.result (coming_on (items_from after) c.step.new.position) first; ends = subst (λ o. UnlessFound o (c.step.new.position ≡ None)) (sym none) c.in_err-found.ensures.stepped.1; ended = λ _. none },
     )
 
 pub returns-clause-steps : goal.returns-clause-steps
@@ -36,12 +36,12 @@ returns-clause-steps c =
     } in
     let kept : after ≡ s = c.step.ensures.kept in
     let was : c.step.result ≡ Some c.in_ok-found.found = search rules in
-    let first = step-first s after kept c.args.self.now.position c.step.new.position c.in_ok-found.found c.map_err.result c.in_ok-found.ensures.stepped c.map_err.ensures.cases in (
+    let first = step-first s kept c.args.self.now.position c.step.new.position c.in_ok-found.found c.map_err.result c.in_ok-found.ensures.stepped c.map_err.ensures.cases in (
       ap (λ (x : Sought). x.view.units) kept,
       ap (λ (x : Sought). names_of x.compiled) kept,
       record {
-        first = given-in_utf8 s refl c.args.self.now.executor.subject.input.utf8 (coming_on (items_from s) c.args.self.now.position) (Some c.map_err.result) (coming_on (items_from after) c.step.new.position) first;
-        ends = step-ends s after kept c.args.self.now.position c.step.new.position c.in_ok-found.found c.map_err.result c.in_ok-found.ensures.stepped c.map_err.ensures.cases;
+        first = given-in_text s refl c.args.self.now.executor.subject.input.utf8 (coming_on (items_from s) c.args.self.now.position) (Some c.map_err.result) (coming_on (items_from after) c.step.new.position) first;
+        ends = step-ends s kept c.args.self.now.position c.step.new.position c.in_ok-found.found c.map_err.result c.in_ok-found.ensures.stepped c.map_err.ensures.cases;
         ended = λ none. absurd (let e = sym was ∙ c.step.ensures.ended none in cc);
       },
     )
@@ -49,9 +49,4 @@ returns-clause-steps c =
 pub returns-clause-goes : goal.returns-clause-goes
 returns-clause-goes c =
     let s = sought_by c.args.self.now in
-    let after : Sought = record {
-      compiled = c.step.new.self.subject.program.now;
-      view = utf8_view c.step.new.self.subject.input;
-      sought = c.step.new.self.subject.sought;
-    } in
-    record { on = λ _. (tt, tt, step-nearer s after c.step.ensures.kept c.args.self.now.position c.step.new.position c.in_ok-found.ensures.nearer); keeps = tt; rests = λ _. tt }
+    record { on = λ _. (tt, tt, step-nearer s c.step.ensures.kept c.args.self.now.position c.step.new.position c.in_ok-found.ensures.nearer); keeps = tt; rests = λ _. tt }

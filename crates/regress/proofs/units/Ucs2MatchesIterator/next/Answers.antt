@@ -1,6 +1,5 @@
 use Rattle.std.proofs.Common.{◌≡◌, Some, None, IfSome, rules, sym, ◌∙◌, subst}
 use Rattle.regress_match.specs.Iterating.{UnlessFound}
-use Rattle.regress_engine_input.specs.InputViews.{ucs2_view}
 use Rattle.regress_engine_sought.specs.Sought.{Sought, IsPosition}
 use Rattle.regress.specs.Units.{sought_in_ucs2}
 use Rattle.regress.proofs.StepLemmas.{step-none, step-first, step-ends, step-nearer}
@@ -12,33 +11,21 @@ invariant_of-self c = record { placed = subst (λ (x : Sought). IfSome c.step.ne
 pub returns-in_err-found-clause-steps : goal.returns-in_err-found-clause-steps
 returns-in_err-found-clause-steps c =
     let s = sought_in_ucs2 c.args.self.now in
-    let after : Sought = record {
-      compiled = c.step.new.self.subject.program.now;
-      view = ucs2_view c.step.new.self.subject.input;
-      sought = c.step.new.self.subject.sought;
-    } in
-    let kept : after ≡ s = c.step.ensures.kept in
     let none : c.from_residual.result ≡ None = search rules in
-    let first = step-none s after kept c.args.self.now.position c.step.new.position c.from_residual.result none c.in_err-found.ensures.stepped in (
-      kept,
+    let first = step-none s c.step.ensures.kept c.args.self.now.position c.step.new.position c.from_residual.result none c.in_err-found.ensures.stepped in (
+      c.step.ensures.kept,
       record { first = first; ends = subst (λ o. UnlessFound o (c.step.new.position ≡ None)) (sym none) c.in_err-found.ensures.stepped.1; ended = λ _. none },
     )
 
 pub returns-clause-steps : goal.returns-clause-steps
 returns-clause-steps c =
     let s = sought_in_ucs2 c.args.self.now in
-    let after : Sought = record {
-      compiled = c.step.new.self.subject.program.now;
-      view = ucs2_view c.step.new.self.subject.input;
-      sought = c.step.new.self.subject.sought;
-    } in
-    let kept : after ≡ s = c.step.ensures.kept in
     let was : c.step.result ≡ Some c.in_ok-found.found = search rules in
-    let first = step-first s after kept c.args.self.now.position c.step.new.position c.in_ok-found.found c.map_err.result c.in_ok-found.ensures.stepped c.map_err.ensures.cases in (
-      kept,
+    let first = step-first s c.step.ensures.kept c.args.self.now.position c.step.new.position c.in_ok-found.found c.map_err.result c.in_ok-found.ensures.stepped c.map_err.ensures.cases in (
+      c.step.ensures.kept,
       record {
         first = first;
-        ends = step-ends s after kept c.args.self.now.position c.step.new.position c.in_ok-found.found c.map_err.result c.in_ok-found.ensures.stepped c.map_err.ensures.cases;
+        ends = step-ends s c.step.ensures.kept c.args.self.now.position c.step.new.position c.in_ok-found.found c.map_err.result c.in_ok-found.ensures.stepped c.map_err.ensures.cases;
         ended = λ none. absurd (let e = sym was ∙ c.step.ensures.ended none in cc);
       },
     )
@@ -46,9 +33,4 @@ returns-clause-steps c =
 pub returns-clause-goes : goal.returns-clause-goes
 returns-clause-goes c =
     let s = sought_in_ucs2 c.args.self.now in
-    let after : Sought = record {
-      compiled = c.step.new.self.subject.program.now;
-      view = ucs2_view c.step.new.self.subject.input;
-      sought = c.step.new.self.subject.sought;
-    } in
-    record { on = λ _. (tt, tt, step-nearer s after c.step.ensures.kept c.args.self.now.position c.step.new.position c.in_ok-found.ensures.nearer); keeps = tt; rests = λ _. tt }
+    record { on = λ _. (tt, tt, step-nearer s c.step.ensures.kept c.args.self.now.position c.step.new.position c.in_ok-found.ensures.nearer); keeps = tt; rests = λ _. tt }

@@ -1,7 +1,7 @@
 use Rattle.std.proofs.Common.{◌∙◌, refl}
 use Rattle.regress_engine_input.specs.Views.{input_of, way}
-use Rattle.regress_engine_exec.proofs.BracketLemmas.{bracket_takes}
-use Rattle.regress_engine_exec.proofs.RepeatLemmas.{ready_read}
+use Rattle.regress_engine_sought.proofs.BracketLemmas.{bracket_takes}
+use Rattle.regress_engine_sought.proofs.ReadyLemmas.{ready_read}
 use Rattle.regress_engine_exec.proofs.attempt.Attempt.advance.Goals as goal
 
 pub char-requires : goal.char-requires

@@ -3,9 +3,8 @@ use Rattle.std.proofs.lemmas.List.{length-map}
 use Rattle.regress_engine_code.specs.InsnViews.{instruction}
 use Rattle.regress_engine_code.specs.Standing.{program_of}
 use Rattle.regress_engine_input.specs.Views.{way, input_of}
-use Rattle.regress_engine_exec.specs.Held.{marks_of}
-use Rattle.regress_engine_exec.proofs.BackLemmas.{body-asked, body-next}
-use Rattle.regress_engine_exec.proofs.SingleLemmas.{body-at}
+use Rattle.regress_engine_sought.specs.StateViews.{marks_of}
+use Rattle.regress_engine_sought.proofs.ReadyLemmas.{body-asked, body-next, body-at}
 use Rattle.regress_engine_exec.proofs.attempt.Attempt.after_times.Goals as goal
 use Rattle.regress_engine_runs.proofs.Iterations.{after-goes, after-stops, after-all}
 

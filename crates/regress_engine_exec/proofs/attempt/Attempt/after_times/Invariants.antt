@@ -4,7 +4,7 @@ use Rattle.regress_engine_code.specs.Standing.{program_of}
 use Rattle.regress_engine_input.specs.Views.{way, input_of, reading_of}
 use Rattle.regress_engine_runs.specs.Runs.{after_times}
 use Rattle.regress_engine_runs.specs.Meets.{IsAtPlace}
-use Rattle.regress_engine_exec.specs.Held.{marks_of}
+use Rattle.regress_engine_sought.specs.StateViews.{marks_of}
 use Rattle.regress_engine_exec.proofs.attempt.Attempt.after_times.Given as goal
 
 -- what is left leads where all lead

@@ -1,9 +1,10 @@
 use Rattle.std.proofs.Common.{false, length}
 use Rattle.regress_engine_code.specs.Standing.{program_of}
 use Rattle.regress_engine_input.specs.Views.{input_of}
+use Rattle.regress_engine_sought.specs.Tasks.{Leads}
 use Rattle.regress_engine_exec.specs.Held.{held}
 use Rattle.regress_engine_exec.specs.Sound.{IsHeld}
-use Rattle.regress_engine_exec.specs.Tasks.{task, Leads}
+use Rattle.regress_engine_exec.specs.Tasks.{task}
 use Rattle.regress_engine_exec.proofs.attempt.Attempt.back.Given as goal
 
 -- what was to be done leads to what is to be done

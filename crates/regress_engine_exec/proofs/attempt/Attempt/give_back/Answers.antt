@@ -1,8 +1,9 @@
 use Rattle.std.proofs.Common.{sym, ap, ◌∙◌}
 use Rattle.regress_engine_code.specs.Standing.{program_of}
 use Rattle.regress_engine_input.specs.Views.{input_of}
+use Rattle.regress_engine_sought.proofs.InsnLemmas.{way-against, none-ahead, some-ahead}
 use Rattle.regress_engine_exec.specs.Held.{held}
-use Rattle.regress_engine_exec.proofs.BackLemmas.{way-against, none-ahead, some-ahead, give_back-last, give_back-none, give_back-more, held-give_back, give_back-held}
+use Rattle.regress_engine_exec.proofs.BackLemmas.{give_back-last, give_back-none, give_back-more, held-give_back, give_back-held}
 use Rattle.regress_engine_sought.proofs.PlaceLemmas.{can-read, moves, next-place}
 use Rattle.regress_engine_exec.proofs.attempt.Attempt.give_back.Goals as goal
 

@@ -2,7 +2,7 @@ use Rattle.std.proofs.Common.{◌∙◌, true, false, sym}
 use Rattle.regress_engine_input.specs.Views.{way, CanRead}
 use Rattle.regress_engine_matchers.specs.References.{IsPlace}
 use Rattle.regress_engine_sought.proofs.PlaceLemmas.{can-read}
-use Rattle.regress_engine_exec.proofs.RepeatLemmas.{place_is, repeated_lies}
+use Rattle.regress_engine_sought.proofs.ReadyLemmas.{place_is, repeated_lies}
 use Rattle.regress_engine_exec.proofs.attempt.Attempt.once_more.Goals as goal
 use Rattle.regress_engine_exec.proofs.attempt.Attempt.once_more.Goals.{then-icase, else-icase}
 

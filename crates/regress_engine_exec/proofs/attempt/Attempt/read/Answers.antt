@@ -1,6 +1,6 @@
 use Rattle.regress_engine_input.specs.Views.{way}
 use Rattle.regress_engine_matchers.proofs.ViewLemmas.{view_reads}
-use Rattle.regress_engine_exec.proofs.PlaceLemmas.{lies-behind}
+use Rattle.regress_engine_sought.proofs.PlaceLemmas.{lies-behind}
 use Rattle.regress_engine_exec.proofs.attempt.Attempt.read.Goals as goal
 
 pub pos_to_offset-requires : goal.pos_to_offset-requires

@@ -3,9 +3,11 @@ use Rattle.regress_engine_code.specs.InsnViews.{instruction}
 use Rattle.regress_engine_code.specs.Standing.{program_of}
 use Rattle.regress_engine_input.specs.Views.{way, input_of}
 use Rattle.regress_engine_runs.specs.Runs.{after_times, as_far}
-use Rattle.regress_engine_exec.specs.Held.{held, marks_of}
+use Rattle.regress_engine_sought.specs.StateViews.{marks_of}
+use Rattle.regress_engine_sought.proofs.ReadyLemmas.{body-at}
+use Rattle.regress_engine_exec.specs.Held.{held}
 use Rattle.regress_engine_exec.proofs.BackLemmas.{give_back-held, take_on-held}
-use Rattle.regress_engine_exec.proofs.SingleLemmas.{body-at, repeat-few, repeat-greedy, repeat-lazy}
+use Rattle.regress_engine_exec.proofs.SingleLemmas.{repeat-few, repeat-greedy, repeat-lazy}
 use Rattle.regress_engine_exec.proofs.attempt.Attempt.repeat.Goals as goal
 
 pub returns-in_default-clause-leads : goal.returns-in_default-clause-leads

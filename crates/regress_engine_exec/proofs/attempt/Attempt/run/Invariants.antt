@@ -1,10 +1,9 @@
-use Rattle.std.proofs.Common.{suc, [], ◌∷◌}
+use Rattle.std.proofs.Common.{suc, true}
 use Rattle.regress_engine_code.specs.Standing.{program_of}
-use Rattle.regress_engine_input.specs.Views.{input_of, way}
-use Rattle.regress_engine_runs.specs.UndoStack.{steps_left}
+use Rattle.regress_engine_input.specs.Views.{input_of}
+use Rattle.regress_engine_sought.specs.Tasks.{left_of}
 use Rattle.regress_engine_exec.specs.Held.{held}
-use Rattle.regress_engine_exec.specs.Tasks.{state_at}
-use Rattle.regress_engine_exec.specs.Leaving.{work_of}
+use Rattle.regress_engine_exec.specs.Tasks.{task}
 use Rattle.regress_engine_exec.specs.Trying.{IsTrying}
 use Rattle.regress_engine_exec.proofs.attempt.Attempt.run.Given as goal
 
@@ -14,5 +13,5 @@ invariant-steps g l = IsTrying (program_of l.self.program.now) (g.Input.InputInd
 
 abbrev pub decreases-steps : goal.decreases-steps
 decreases-steps g l =
-    steps_left (program_of l.self.program.now) (input_of (g.Input.InputIndexer.view l.self.input)) (suc l.self.ends.0.0) (way l.spot.forward) (state_at l.spot (held l.memory) ∷ [])
-    (work_of (program_of l.self.program.now) (input_of (g.Input.InputIndexer.view l.self.input)) (way l.spot.forward) (held l.memory))
+    left_of (program_of l.self.program.now) (input_of (g.Input.InputIndexer.view l.self.input)) (suc l.self.ends.0.0)
+    (task (program_of l.self.program.now) (input_of (g.Input.InputIndexer.view l.self.input)) true l.spot (held l.memory))

@@ -1,12 +1,14 @@
 use Rattle.std.proofs.Common.{◌≡◌, ◌+◌, ◌-◌, suc, true, false, ap, ◌∙◌, subst, refl, arith}
-use Rattle.regress_engine_code.specs.Instructions.{Instruction, Program, Stands}
+use Rattle.regress_engine_code.specs.Instructions.{Stands}
 use Rattle.regress_engine_code.specs.Instructions as code
 use Rattle.regress_engine_code.specs.Standing.{program_of}
 use Rattle.regress_engine_input.specs.Views.{way, input_of}
 use Rattle.regress_engine_runs.specs.States.{begun, ended}
-use Rattle.regress_engine_exec.specs.Held.{held, marks_of}
+use Rattle.regress_engine_sought.specs.StateViews.{marks_of}
+use Rattle.regress_engine_sought.proofs.InsnLemmas.{stands-as}
+use Rattle.regress_engine_exec.specs.Held.{held}
 use Rattle.regress_engine_exec.proofs.BackLemmas.{frame-held}
-use Rattle.regress_engine_exec.proofs.DispatchLemmas.{stands-as, step-on, jump-on, mark-on, look-on}
+use Rattle.regress_engine_exec.proofs.DispatchLemmas.{alt-stuck, step-on, jump-on, mark-on, look-on}
 use Rattle.regress_engine_exec.proofs.attempt.Attempt.step.Goals as goal
 
 pub group_data-requires : goal.group_data-requires
@@ -104,6 +106,14 @@ returns-in-Jump-clause-leads g c =
     let h = held c.args.memory.now in
     let here = stands-as program p.at _ _ c.in-Jump.is c.instruction-insn.ensures.stands in
     jump-on program input p h c.in-Jump.target here
+
+pub returns-then-is_stuck-clause-leads : goal.returns-then-is_stuck-clause-leads
+returns-then-is_stuck-clause-leads g c =
+    let program = program_of c.args.self.now.program.now in
+    let input = input_of (g.Input.InputIndexer.view c.args.self.now.input) in
+    let p = c.args.spot.now in
+    let here = stands-as program p.at _ _ c.in-Alt.is c.instruction-insn.ensures.stands in
+    alt-stuck program input p (held c.args.memory.now) c.in-Alt.secondary here (c.is_stuck.ensures c.if-is_stuck.true)
 
 pub returns-in_ok-fork-in-Alt-clause-leads : goal.returns-in_ok-fork-in-Alt-clause-leads
 returns-in_ok-fork-in-Alt-clause-leads g c =

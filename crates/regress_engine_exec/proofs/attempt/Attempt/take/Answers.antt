@@ -3,9 +3,12 @@ use Rattle.regress_engine_code.specs.InsnViews.{instruction}
 use Rattle.regress_engine_code.specs.Standing.{program_of}
 use Rattle.regress_engine_input.specs.Views.{way, input_of}
 use Rattle.regress_engine_runs.specs.Runs.{advance}
-use Rattle.regress_engine_exec.specs.Held.{held, marks_of}
-use Rattle.regress_engine_exec.specs.Ready.{IsReady}
-use Rattle.regress_engine_exec.proofs.DispatchLemmas.{simple-ready, take-none, take-some}
+use Rattle.regress_engine_sought.specs.StateViews.{marks_of}
+use Rattle.regress_engine_sought.specs.Ready.{IsReady}
+use Rattle.regress_engine_sought.proofs.ReadyLemmas.{simple-ready}
+use Rattle.regress_engine_exec.specs.Held.{held}
+use Rattle.regress_engine_exec.specs.Tasks.{state_at}
+use Rattle.regress_engine_exec.proofs.DispatchLemmas.{take-none, take-some}
 use Rattle.regress_engine_exec.proofs.attempt.Attempt.take.Goals as goal
 
 pub advance-requires-clause-ready : goal.advance-requires-clause-ready
@@ -13,7 +16,7 @@ advance-requires-clause-ready g c =
     let program = program_of c.args.self.now.program.now in
     let v = g.Input.InputIndexer.view c.args.self.now.input in
     subst (λ gs. IsReady program v (instruction c.args.insn.now) (map marks_of gs) c.args.spot.now.offset) (sym c.deref.ensures.value)
-    (simple-ready program v c.requires.suits (instruction c.args.insn.now) c.args.spot.now (held c.args.memory.now) c.requires.stands c.requires.simple c.requires.sound c.requires.reads)
+    (simple-ready program v c.requires.suits (instruction c.args.insn.now) (state_at c.args.spot.now (held c.args.memory.now)) c.requires.stands c.requires.simple c.requires.sound.groups c.requires.reads)
 
 pub returns-in_default : goal.returns-in_default
 returns-in_default g c =

@@ -2,9 +2,11 @@ use Rattle.std.proofs.Common.{ℕ, Bool, false, sym, ap, ◌∙◌, subst, arith
 use Rattle.regress_engine_code.specs.Standing.{program_of}
 use Rattle.regress_engine_input.specs.Views.{input_of, way}
 use Rattle.regress_engine_runs.specs.UndoStack.{resume, old_loop, old_group, iterate, frame}
-use Rattle.regress_engine_exec.specs.Held.{held, pushed, undo_of, loop_of, marks_of, frame_of}
+use Rattle.regress_engine_sought.specs.StateViews.{loop_of, marks_of}
+use Rattle.regress_engine_sought.specs.Tasks.{Leads}
+use Rattle.regress_engine_exec.specs.Held.{held, pushed, undo_of, frame_of}
 use Rattle.regress_engine_exec.proofs.BackLemmas.{held-as, leads-as, held-resume, held-old_loop, old_loop-there, held-old_group, old_group-there, held-iterate, held-frame, resume-back, old_loop-back, old_group-back, iterate-back, look-back}
-use Rattle.regress_engine_exec.specs.Tasks.{task, Leads}
+use Rattle.regress_engine_exec.specs.Tasks.{task}
 use Rattle.regress_engine_exec.proofs.StepLemmas.{loop-sound}
 use Rattle.regress_engine_exec.proofs.attempt.Attempt.undo.Goals as goal
 

@@ -1,6 +1,7 @@
 use Rattle.std.proofs.Common.{map, ap}
 use Rattle.regress_engine_runs.specs.States.{unset}
-use Rattle.regress_engine_exec.specs.Held.{undo_of, loop_of, marks_of}
+use Rattle.regress_engine_sought.specs.StateViews.{loop_of, marks_of}
+use Rattle.regress_engine_exec.specs.Held.{undo_of}
 use Rattle.regress_engine_exec.proofs.MemoryLemmas.{filled}
 use Rattle.regress_engine_exec.proofs.memory.Memory.begin.Goals as goal
 

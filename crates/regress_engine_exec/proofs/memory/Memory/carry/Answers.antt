@@ -2,7 +2,8 @@ use Rattle.std.proofs.Common.{◌≡◌, ◌<◌, length, map, refl, sym, ap, �
 use Rattle.std.proofs.lemmas.Bool.{cases_lt}
 use Rattle.std.proofs.lemmas.List.{length-map, get_or-map}
 use Rattle.regress_engine_runs.specs.States.{unset, mixed}
-use Rattle.regress_engine_exec.specs.Held.{Held, held, marks_of}
+use Rattle.regress_engine_sought.specs.StateViews.{marks_of}
+use Rattle.regress_engine_exec.specs.Held.{Held, held}
 use Rattle.regress_engine_exec.proofs.LeaveLemmas.{carried, carried-same, carried-count}
 use Rattle.regress_engine_exec.proofs.StepLemmas.{mark-sound, sound-then}
 use Rattle.regress_engine_exec.proofs.memory.Memory.carry.Goals as goal

@@ -3,7 +3,8 @@ use Rattle.regress_meaning.specs.Meaning.{Direction}
 use Rattle.regress_meaning.specs.Inputs.{Input}
 use Rattle.regress_engine_code.specs.Instructions.{Program}
 use Rattle.regress_engine_runs.specs.States.{mixed}
-use Rattle.regress_engine_exec.specs.Held.{held, marks_of}
+use Rattle.regress_engine_sought.specs.StateViews.{marks_of}
+use Rattle.regress_engine_exec.specs.Held.{held}
 use Rattle.regress_engine_exec.specs.Tasks.{StaysSound}
 use Rattle.regress_engine_exec.specs.Leaving.{work_of}
 use Rattle.regress_engine_exec.proofs.memory.Memory.carry.Given as goal

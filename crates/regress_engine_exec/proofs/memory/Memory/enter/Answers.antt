@@ -1,6 +1,7 @@
 use Rattle.std.proofs.Common.{ap, ◌∙◌}
 use Rattle.regress_engine_code.specs.InsnViews.{fields}
-use Rattle.regress_engine_exec.specs.Held.{held, loop_of, loop_written}
+use Rattle.regress_engine_sought.specs.StateViews.{loop_of}
+use Rattle.regress_engine_exec.specs.Held.{held, loop_written}
 use Rattle.regress_engine_exec.proofs.MemoryLemmas.{ok-then}
 use Rattle.regress_engine_exec.proofs.StepLemmas.{enter-on, loop-sound, sound-then}
 use Rattle.regress_engine_exec.proofs.memory.Memory.enter.Goals as goal

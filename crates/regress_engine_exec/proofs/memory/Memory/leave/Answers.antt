@@ -1,6 +1,7 @@
 use Rattle.std.proofs.Common.{◌≡◌, ◌++◌, map, ap, ap₂, ◌∙◌, refl}
 use Rattle.regress_engine_runs.specs.States.{mixed}
-use Rattle.regress_engine_exec.specs.Held.{held, frame_of, marks_of}
+use Rattle.regress_engine_sought.specs.StateViews.{marks_of}
+use Rattle.regress_engine_exec.specs.Held.{held, frame_of}
 use Rattle.regress_engine_exec.proofs.LeaveLemmas.{leaves-negated, leaves-positive}
 use Rattle.regress_engine_exec.proofs.memory.Memory.leave.Goals as goal
 

@@ -1,5 +1,6 @@
 use Rattle.std.proofs.Common.{ap}
-use Rattle.regress_engine_exec.specs.Held.{held, undo_of, loop_of, marks_of, frame_of}
+use Rattle.regress_engine_sought.specs.StateViews.{loop_of, marks_of}
+use Rattle.regress_engine_exec.specs.Held.{held, undo_of, frame_of}
 use Rattle.regress_engine_exec.proofs.BackLemmas.{held-as, held-old_loop, old_loop-there, held-old_group, old_group-there, held-resume, held-iterate, held-give_back, held-take_on, held-frame}
 use Rattle.regress_engine_exec.proofs.LeaveLemmas.{loop-outside, group-outside, resume-outside, iterate-outside, give_back-outside, take_on-outside, frame-outside, outside-as}
 use Rattle.regress_engine_exec.proofs.memory.Memory.put_back.Goals as goal

@@ -1,7 +1,8 @@
 use Rattle.std.proofs.Common.{ap, List}
 use Rattle.std.proofs.lemmas.List.{map-set}
 use Rattle.regress_engine_runs.specs.States.{Marks}
-use Rattle.regress_engine_exec.specs.Held.{Held, held, marks_of}
+use Rattle.regress_engine_sought.specs.StateViews.{marks_of}
+use Rattle.regress_engine_exec.specs.Held.{Held, held}
 use Rattle.regress_engine_exec.proofs.memory.Memory.restore_group.Goals as goal
 
 pub returns : goal.returns

@@ -1,6 +1,7 @@
 use Rattle.std.proofs.Common.{ap, List, ℕ}
 use Rattle.std.proofs.lemmas.List.{map-set}
-use Rattle.regress_engine_exec.specs.Held.{Held, held, loop_of}
+use Rattle.regress_engine_sought.specs.StateViews.{loop_of}
+use Rattle.regress_engine_exec.specs.Held.{Held, held}
 use Rattle.regress_engine_exec.proofs.memory.Memory.restore_loop.Goals as goal
 
 pub returns : goal.returns

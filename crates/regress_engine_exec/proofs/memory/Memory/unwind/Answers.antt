@@ -1,7 +1,8 @@
 use Rattle.std.proofs.Common.{length, ap, ◌∙◌, subst, arith}
+use Rattle.regress_engine_sought.specs.Tasks.{outside_of}
 use Rattle.regress_engine_exec.specs.Held.{Held, held}
 use Rattle.regress_engine_exec.specs.Sound.{IsHeld}
-use Rattle.regress_engine_exec.specs.Leaving.{outside_of, work_of}
+use Rattle.regress_engine_exec.specs.Leaving.{work_of}
 use Rattle.regress_engine_exec.proofs.LeaveLemmas.{nothing-outside}
 use Rattle.regress_engine_exec.proofs.memory.Memory.unwind.Goals as goal
 

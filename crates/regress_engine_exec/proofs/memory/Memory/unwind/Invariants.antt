@@ -2,9 +2,10 @@ use Rattle.std.proofs.Common.{◌≡◌, length}
 use Rattle.regress_meaning.specs.Meaning.{Direction}
 use Rattle.regress_meaning.specs.Inputs.{Input}
 use Rattle.regress_engine_code.specs.Instructions.{Program}
+use Rattle.regress_engine_sought.specs.Tasks.{outside_of}
 use Rattle.regress_engine_exec.specs.Held.{held}
 use Rattle.regress_engine_exec.specs.Tasks.{StaysSound}
-use Rattle.regress_engine_exec.specs.Leaving.{outside_of, work_of}
+use Rattle.regress_engine_exec.specs.Leaving.{work_of}
 use Rattle.regress_engine_exec.proofs.memory.Memory.unwind.Given as goal
 
 -- what is outside stays

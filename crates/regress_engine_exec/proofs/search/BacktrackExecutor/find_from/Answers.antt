@@ -5,19 +5,19 @@ use Rattle.regress_match.specs.Views.{ends, item_of}
 use Rattle.regress_engine_code.specs.Standing.{program_of}
 use Rattle.regress_engine_input.specs.Views.{input_of}
 use Rattle.regress_engine_runs.specs.States.{range_of}
-use Rattle.regress_engine_exec.specs.Held.{held, marks_of}
+use Rattle.regress_engine_sought.specs.StateViews.{marks_of}
+use Rattle.regress_engine_sought.specs.Answering.{IsFound}
+use Rattle.regress_engine_exec.specs.Held.{held}
 use Rattle.regress_engine_sought.specs.Sought.{IsSought}
-use Rattle.regress_engine_exec.specs.Trying.{IsFound}
-use Rattle.regress_engine_sought.proofs.SearchLemmas.{found-inside}
-use Rattle.regress_engine_exec.proofs.SearchLemmas.{found-match}
+use Rattle.regress_engine_sought.proofs.SearchLemmas.{found-inside, found-match}
 use Rattle.regress_engine_exec.proofs.search.BacktrackExecutor.find_from.Goals as goal
 
 pub returns-clause-found : goal.returns-clause-found
 returns-clause-found g c =
     let program = program_of c.args.self.now.subject.program.now in
     let input = input_of (g.Input.InputIndexer.view c.args.self.now.subject.input) in
-    found-match program input c.args.offset c.in-Some.start c.in-Some.end (held c.search.new.self.memory) c.new.result c.search.new.self.memory.groups.items
-    (subst (λ x. IsFound program input c.args.offset x (held c.search.new.self.memory)) c.in-Some.is c.in_ok-start.ensures.found)
+    found-match program input c.args.offset c.in-Some.start c.in-Some.end (held c.search.new.self.memory).groups c.new.result c.search.new.self.memory.groups.items
+    (subst (λ x. IsFound program input c.args.offset x (held c.search.new.self.memory).groups) c.in-Some.is c.in_ok-start.ensures.found)
     refl (ap (λ r. r.start) c.new.ensures.range) (ap (λ r. r.end) c.new.ensures.range)
     (ap (λ v. map (option_map ends) v.items) c.new.ensures.captures ∙ c.in_ok-captures.ensures ∙ ap (map (λ x. range_of (marks_of x))) c.deref.ensures.value)
 

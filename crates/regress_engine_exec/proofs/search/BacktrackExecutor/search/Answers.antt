@@ -1,46 +1,39 @@
-use Rattle.std.proofs.Common.{Some, None, sym, subst, arith}
+use Rattle.std.proofs.Common.{sym, subst, arith}
 use Rattle.regress_meaning.specs.Meaning.{Forward}
 use Rattle.regress_engine_code.specs.Standing.{program_of}
 use Rattle.regress_engine_input.specs.Views.{input_of}
-use Rattle.regress_engine_exec.specs.Held.{held}
-use Rattle.regress_engine_sought.specs.Sought.{IsSought}
 use Rattle.regress_engine_prefix.specs.Seeking.{IsNextHit}
-use Rattle.regress_engine_sought.specs.Skipping.{MaySkip}
-use Rattle.regress_engine_exec.specs.Trying.{IsAnswer}
+use Rattle.regress_engine_sought.specs.Answering.{IsAnswer}
+use Rattle.regress_engine_sought.specs.Sought.{IsSought}
 use Rattle.regress_engine_sought.proofs.PlaceLemmas.{can-read, next-place}
-use Rattle.regress_engine_exec.proofs.SearchLemmas.{search-found, search-none, search-on, search-less}
-use Rattle.regress_engine_sought.proofs.SkipLemmas.{hit-place, skip-to, skip-all}
+use Rattle.regress_engine_sought.proofs.SearchLemmas.{search-found, search-none, search-on, search-less}
+use Rattle.regress_engine_sought.proofs.SkipLemmas.{reaches, reaches-none}
+use Rattle.regress_engine_exec.specs.Held.{held}
 use Rattle.regress_engine_exec.proofs.search.BacktrackExecutor.search.Goals as goal
 
 pub invariant_of-attempt : goal.invariant_of-attempt
 invariant_of-attempt g c =
     let subject = c.args.self.now.subject in
     let program = program_of subject.program.now in
-    let start = subject.seeker.start.now in
     let v = g.Input.InputIndexer.view subject.input in
     let all = g.met.Input.InputIndexer.are_of_kind subject.input in
-    let sought = subst (IsSought program) (g.met.Input.ExecutorInput.shows subject.input) subject.sought in
-    let skip = subst (MaySkip program start) (g.met.Input.ExecutorInput.shows subject.input) subject.skips in
-    let next : IsNextHit start v.units c.places.from c.next_start.result =
+    let next : IsNextHit subject.seeker.start.now v.units c.places.from c.next_start.result =
     subst (λ u. IsNextHit u.seeker.start.now (g.Input.InputIndexer.view u.input).units c.places.from c.next_start.result) c.places.invariant.kept c.next_start.ensures in
-    let hit : IsNextHit start v.units c.places.from (Some c.in-Some.start) = subst (IsNextHit start v.units c.places.from) c.in-Some.is next in
-    let place = hit-place program start v all sought skip c.places.from c.in-Some.start c.places.invariant.place hit in
-    record { ends = sought.ends c.in-Some.start place }
+    let there = reaches program subject.seeker.start.now (g.Input.Shown.shown subject.input) v (g.met.Input.ExecutorInput.shows subject.input) all subject.sought subject.skips
+    c.args.offset c.places.from c.places.invariant.finds c.places.invariant.place c.next_start.result next c.in-Some.start c.in-Some.is in
+    record { ends = there.sought.ends c.in-Some.start there.place }
 
 pub run-requires-clause-reads : goal.run-requires-clause-reads
 run-requires-clause-reads g c =
     let subject = c.args.self.now.subject in
     let program = program_of subject.program.now in
-    let start = subject.seeker.start.now in
     let v = g.Input.InputIndexer.view subject.input in
     let all = g.met.Input.InputIndexer.are_of_kind subject.input in
-    let sought = subst (IsSought program) (g.met.Input.ExecutorInput.shows subject.input) subject.sought in
-    let skip = subst (MaySkip program start) (g.met.Input.ExecutorInput.shows subject.input) subject.skips in
-    let next : IsNextHit start v.units c.places.from c.next_start.result =
+    let next : IsNextHit subject.seeker.start.now v.units c.places.from c.next_start.result =
     subst (λ u. IsNextHit u.seeker.start.now (g.Input.InputIndexer.view u.input).units c.places.from c.next_start.result) c.places.invariant.kept c.next_start.ensures in
-    let hit : IsNextHit start v.units c.places.from (Some c.in-Some.start) = subst (IsNextHit start v.units c.places.from) c.in-Some.is next in
-    let place = hit-place program start v all sought skip c.places.from c.in-Some.start c.places.invariant.place hit in
-    sought.reads c.in-Some.start place
+    let there = reaches program subject.seeker.start.now (g.Input.Shown.shown subject.input) v (g.met.Input.ExecutorInput.shows subject.input) all subject.sought subject.skips
+    c.args.offset c.places.from c.places.invariant.finds c.places.invariant.place c.next_start.result next c.in-Some.start c.in-Some.is in
+    there.sought.reads c.in-Some.start there.place
 
 pub run-requires-clause-suits : goal.run-requires-clause-suits
 run-requires-clause-suits g c =
@@ -52,99 +45,78 @@ pub returns-in_default-clause-found : goal.returns-in_default-clause-found
 returns-in_default-clause-found g c =
     let subject = c.args.self.now.subject in
     let program = program_of subject.program.now in
-    let start = subject.seeker.start.now in
     let v = g.Input.InputIndexer.view subject.input in
     let all = g.met.Input.InputIndexer.are_of_kind subject.input in
-    let sought = subst (IsSought program) (g.met.Input.ExecutorInput.shows subject.input) subject.sought in
-    let skip = subst (MaySkip program start) (g.met.Input.ExecutorInput.shows subject.input) subject.skips in
-    let next : IsNextHit start v.units c.places.from c.next_start.result =
+    let next : IsNextHit subject.seeker.start.now v.units c.places.from c.next_start.result =
     subst (λ u. IsNextHit u.seeker.start.now (g.Input.InputIndexer.view u.input).units c.places.from c.next_start.result) c.places.invariant.kept c.next_start.ensures in
-    let never : IsNextHit start v.units c.places.from None = subst (IsNextHit start v.units c.places.from) c.in_default.is next in
-    skip-all program start v all sought skip c.args.offset c.places.from c.places.invariant.finds c.places.invariant.place never
+    reaches-none program subject.seeker.start.now (g.Input.Shown.shown subject.input) v (g.met.Input.ExecutorInput.shows subject.input) all subject.sought subject.skips
+    c.args.offset c.places.from c.places.invariant.finds c.places.invariant.place c.next_start.result next c.in_default.is
 
 pub returns-in-Some-2-clause-found : goal.returns-in-Some-2-clause-found
 returns-in-Some-2-clause-found g c =
     let subject = c.args.self.now.subject in
     let program = program_of subject.program.now in
-    let start = subject.seeker.start.now in
     let v = g.Input.InputIndexer.view subject.input in
     let all = g.met.Input.InputIndexer.are_of_kind subject.input in
-    let sought = subst (IsSought program) (g.met.Input.ExecutorInput.shows subject.input) subject.sought in
-    let skip = subst (MaySkip program start) (g.met.Input.ExecutorInput.shows subject.input) subject.skips in
-    let next : IsNextHit start v.units c.places.from c.next_start.result =
+    let next : IsNextHit subject.seeker.start.now v.units c.places.from c.next_start.result =
     subst (λ u. IsNextHit u.seeker.start.now (g.Input.InputIndexer.view u.input).units c.places.from c.next_start.result) c.places.invariant.kept c.next_start.ensures in
-    let hit : IsNextHit start v.units c.places.from (Some c.in-Some.start) = subst (IsNextHit start v.units c.places.from) c.in-Some.is next in
-    let place = hit-place program start v all sought skip c.places.from c.in-Some.start c.places.invariant.place hit in
-    let on = skip-to program start v all sought skip c.args.offset c.places.from c.in-Some.start c.places.invariant.finds c.places.invariant.place hit in
-    search-found program v all c.args.offset c.in-Some.start c.in-Some-2.end (held c.run.new.memory) on
-    (subst (λ x. IsAnswer program (input_of v) c.in-Some.start x (held c.run.new.memory)) c.in-Some-2.is c.in_ok-end.ensures)
+    let there = reaches program subject.seeker.start.now (g.Input.Shown.shown subject.input) v (g.met.Input.ExecutorInput.shows subject.input) all subject.sought subject.skips
+    c.args.offset c.places.from c.places.invariant.finds c.places.invariant.place c.next_start.result next c.in-Some.start c.in-Some.is in
+    search-found program v all c.args.offset c.in-Some.start c.in-Some-2.end (held c.run.new.memory).groups there.on
+    (subst (λ x. IsAnswer program (input_of v) c.in-Some.start x (held c.run.new.memory).groups) c.in-Some-2.is c.in_ok-end.ensures)
 
 pub beside-requires : goal.beside-requires
 beside-requires g c =
     let subject = c.args.self.now.subject in
     let program = program_of subject.program.now in
-    let start = subject.seeker.start.now in
     let v = g.Input.InputIndexer.view subject.input in
     let all = g.met.Input.InputIndexer.are_of_kind subject.input in
-    let sought = subst (IsSought program) (g.met.Input.ExecutorInput.shows subject.input) subject.sought in
-    let skip = subst (MaySkip program start) (g.met.Input.ExecutorInput.shows subject.input) subject.skips in
-    let next : IsNextHit start v.units c.places.from c.next_start.result =
+    let next : IsNextHit subject.seeker.start.now v.units c.places.from c.next_start.result =
     subst (λ u. IsNextHit u.seeker.start.now (g.Input.InputIndexer.view u.input).units c.places.from c.next_start.result) c.places.invariant.kept c.next_start.ensures in
-    let hit : IsNextHit start v.units c.places.from (Some c.in-Some.start) = subst (IsNextHit start v.units c.places.from) c.in-Some.is next in
-    let place = hit-place program start v all sought skip c.places.from c.in-Some.start c.places.invariant.place hit in
-    can-read v all c.in-Some.start place
+    let there = reaches program subject.seeker.start.now (g.Input.Shown.shown subject.input) v (g.met.Input.ExecutorInput.shows subject.input) all subject.sought subject.skips
+    c.args.offset c.places.from c.places.invariant.finds c.places.invariant.place c.next_start.result next c.in-Some.start c.in-Some.is in
+    can-read v all c.in-Some.start there.place
 
 pub returns-in_default-beside-clause-found : goal.returns-in_default-beside-clause-found
 returns-in_default-beside-clause-found g c =
     let subject = c.args.self.now.subject in
     let program = program_of subject.program.now in
-    let start = subject.seeker.start.now in
     let v = g.Input.InputIndexer.view subject.input in
     let all = g.met.Input.InputIndexer.are_of_kind subject.input in
-    let sought = subst (IsSought program) (g.met.Input.ExecutorInput.shows subject.input) subject.sought in
-    let skip = subst (MaySkip program start) (g.met.Input.ExecutorInput.shows subject.input) subject.skips in
-    let next : IsNextHit start v.units c.places.from c.next_start.result =
+    let next : IsNextHit subject.seeker.start.now v.units c.places.from c.next_start.result =
     subst (λ u. IsNextHit u.seeker.start.now (g.Input.InputIndexer.view u.input).units c.places.from c.next_start.result) c.places.invariant.kept c.next_start.ensures in
-    let hit : IsNextHit start v.units c.places.from (Some c.in-Some.start) = subst (IsNextHit start v.units c.places.from) c.in-Some.is next in
-    let place = hit-place program start v all sought skip c.places.from c.in-Some.start c.places.invariant.place hit in
-    let on = skip-to program start v all sought skip c.args.offset c.places.from c.in-Some.start c.places.invariant.finds c.places.invariant.place hit in
-    search-none program v all c.args.offset c.in-Some.start (held c.run.new.memory) on
-    (subst (λ x. IsAnswer program (input_of v) c.in-Some.start x (held c.run.new.memory)) c.in_default-2.is c.in_ok-end.ensures) (sym c.in_default-beside.ensures)
+    let there = reaches program subject.seeker.start.now (g.Input.Shown.shown subject.input) v (g.met.Input.ExecutorInput.shows subject.input) all subject.sought subject.skips
+    c.args.offset c.places.from c.places.invariant.finds c.places.invariant.place c.next_start.result next c.in-Some.start c.in-Some.is in
+    search-none program v all c.args.offset c.in-Some.start (held c.run.new.memory).groups there.on
+    (subst (λ x. IsAnswer program (input_of v) c.in-Some.start x (held c.run.new.memory).groups) c.in_default-2.is c.in_ok-end.ensures) (sym c.in_default-beside.ensures)
 
 pub places-smaller : goal.places-smaller
 places-smaller g c =
     let subject = c.args.self.now.subject in
     let program = program_of subject.program.now in
-    let start = subject.seeker.start.now in
     let v = g.Input.InputIndexer.view subject.input in
     let all = g.met.Input.InputIndexer.are_of_kind subject.input in
-    let sought = subst (IsSought program) (g.met.Input.ExecutorInput.shows subject.input) subject.sought in
-    let skip = subst (MaySkip program start) (g.met.Input.ExecutorInput.shows subject.input) subject.skips in
-    let next : IsNextHit start v.units c.places.from c.next_start.result =
+    let next : IsNextHit subject.seeker.start.now v.units c.places.from c.next_start.result =
     subst (λ u. IsNextHit u.seeker.start.now (g.Input.InputIndexer.view u.input).units c.places.from c.next_start.result) c.places.invariant.kept c.next_start.ensures in
-    let hit : IsNextHit start v.units c.places.from (Some c.in-Some.start) = subst (IsNextHit start v.units c.places.from) c.in-Some.is next in
-    let place = hit-place program start v all sought skip c.places.from c.in-Some.start c.places.invariant.place hit in
-    let less = search-less program v all c.in-Some.start _ c.in-Some-beside.behind place (sym c.in-Some-beside.ensures) in
-    let low = hit.0 in
+    let there = reaches program subject.seeker.start.now (g.Input.Shown.shown subject.input) v (g.met.Input.ExecutorInput.shows subject.input) all subject.sought subject.skips
+    c.args.offset c.places.from c.places.invariant.finds c.places.invariant.place c.next_start.result next c.in-Some.start c.in-Some.is in
+    let less = search-less program v all c.in-Some.start _ c.in-Some-beside.behind there.place (sym c.in-Some-beside.ensures) in
+    let low = there.low in
     omega (arith, low, less)
 
 pub places-preserved : goal.places-preserved
 places-preserved g c =
     let subject = c.args.self.now.subject in
     let program = program_of subject.program.now in
-    let start = subject.seeker.start.now in
     let v = g.Input.InputIndexer.view subject.input in
     let all = g.met.Input.InputIndexer.are_of_kind subject.input in
-    let sought = subst (IsSought program) (g.met.Input.ExecutorInput.shows subject.input) subject.sought in
-    let skip = subst (MaySkip program start) (g.met.Input.ExecutorInput.shows subject.input) subject.skips in
-    let next : IsNextHit start v.units c.places.from c.next_start.result =
+    let next : IsNextHit subject.seeker.start.now v.units c.places.from c.next_start.result =
     subst (λ u. IsNextHit u.seeker.start.now (g.Input.InputIndexer.view u.input).units c.places.from c.next_start.result) c.places.invariant.kept c.next_start.ensures in
-    let hit : IsNextHit start v.units c.places.from (Some c.in-Some.start) = subst (IsNextHit start v.units c.places.from) c.in-Some.is next in
-    let place = hit-place program start v all sought skip c.places.from c.in-Some.start c.places.invariant.place hit in
-    let on = skip-to program start v all sought skip c.args.offset c.places.from c.in-Some.start c.places.invariant.finds c.places.invariant.place hit in
+    let there = reaches program subject.seeker.start.now (g.Input.Shown.shown subject.input) v (g.met.Input.ExecutorInput.shows subject.input) all subject.sought subject.skips
+    c.args.offset c.places.from c.places.invariant.finds c.places.invariant.place c.next_start.result next c.in-Some.start c.in-Some.is in
     record {
-      finds = search-on program v all c.args.offset c.in-Some.start _ c.in-Some-beside.behind (held c.run.new.memory) on
-          (subst (λ x. IsAnswer program (input_of v) c.in-Some.start x (held c.run.new.memory)) c.in_default-2.is c.in_ok-end.ensures) (sym c.in-Some-beside.ensures);
-      place = next-place v all Forward c.in-Some.start _ c.in-Some-beside.behind place (sym c.in-Some-beside.ensures);
+      finds = search-on program v all c.args.offset c.in-Some.start _ c.in-Some-beside.behind (held c.run.new.memory).groups there.on
+          (subst (λ x. IsAnswer program (input_of v) c.in-Some.start x (held c.run.new.memory).groups) c.in_default-2.is c.in_ok-end.ensures) (sym c.in-Some-beside.ensures);
+      place = next-place v all Forward c.in-Some.start _ c.in-Some-beside.behind there.place (sym c.in-Some-beside.ensures);
       kept = c.places.invariant.kept;
     }

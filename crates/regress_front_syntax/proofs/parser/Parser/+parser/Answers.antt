@@ -5,6 +5,7 @@ use Rattle.regress_meaning.specs.Pattern.{sequence, choice, nothing}
 use Rattle.regress_meaning.specs.Reading.{disjunction_at, alternative_at, quantified, read_term, parenthesis_opening}
 use Rattle.regress_front_tokens.specs.Cursors.{unread}
 use Rattle.regress_front_tokens.specs.Escapes.{mode_view}
+use Rattle.regress_front_tokens.specs.declared.syntax.Syntax.TheVariants.{Alternative}
 use Rattle.regress_front_tokens.specs.Trees.{tree, choice_of}
 use Rattle.regress_front_syntax.specs.Openings.{enclosed, is_lookbehind, may_repeat, opened_by}
 use Rattle.regress_front_syntax.specs.Parsing.{Place, Grows, IsRefusal, front_to, place, place_behind, contents_of}
@@ -37,7 +38,7 @@ contents-returns-clause-answer t c =
     let (read, grows) = c.in_ok-contents.ensures.answer in
     let there = place (c.args.nesting + 1) c.disjunction.new.self in (
       contents-closed (disjunction_at m (unread c.args.self.now.cursor) c.args.self.now.groups) there _ read (sym c.if-not-eat.ensures.found)
-          ∙ (λ i. Some (record { tree = tree c.in_ok-contents.contents; opened = c.disjunction.new.self.groups; rest = sym c.if-not-eat.ensures.read i })),
+          ∙ (λ i. Some (record { tree = tree c.in_ok-contents.contents.value; opened = c.disjunction.new.self.groups; rest = sym c.if-not-eat.ensures.read i })),
       closed-grows (place (c.args.nesting + 1) c.args.self.now) there _ _ grows refl refl refl c.if-not-eat.ensures.read,
     )
 
@@ -60,7 +61,7 @@ alternative-loop-self-preserved t c = record {
       let goes_on = sym c.loop-self-test.ensures in
       let state = loop_goes_on sequence sequence_joins (alternative_at m) (tree c.in_ok-term.term) c.loop-self.invariant.state grows
       (term-goes_on m (c.reading_goes_by_steps.ensures m c.requires.coherent) now there (tree c.in_ok-term.term) goes_on read) refl refl refl (Leads_refl there) in
-      rw (c.in_ok-push.ensures.items, map-append) state;
+      rw (c.in_ok-push.ensures, map-append) state;
 }
 
 pub alternative-returns-in_err-term-clause-answer : goal.alternative-returns-in_err-term-clause-answer
@@ -91,39 +92,39 @@ disjunction-loop-arms-init t c = record {
 
 pub disjunction-loop-arms-preserved : goal.disjunction-loop-arms-preserved
 disjunction-loop-arms-preserved t c = record {
-  progress = omega (arith, c.loop-arms.invariant.progress, c.in_ok-arm.ensures.progress, ap length c.if-not-eat.ensures.read, length-drop 1 (unread c.alternative.new.self.cursor));
+  progress = omega (arith, c.loop-arms.invariant.progress, c.in_ok-terms.ensures.progress, ap length c.if-not-eat.ensures.read, length-drop 1 (unread c.alternative.new.self.cursor));
   state =
       let m = mode_view c.args.mode.now in
-      let (read, grows) = c.in_ok-arm.ensures.answer in
+      let (read, grows) = c.in_ok-terms.ensures.answer in
       let now = place c.args.nesting c.loop-arms.self in
       let there = place c.args.nesting c.alternative.new.self in
       let bar = sym c.if-not-eat.ensures.found in
       let next = at c.args.nesting c.alternative.new.self.groups c.alternative.new.self.loops (drop 1 (unread c.alternative.new.self.cursor)) in
-      let state = loop_goes_on choice choice_joins (disjunction_at m) {next = next} (tree c.in_ok-arm.arm) c.loop-arms.invariant.state grows
-      (arm-goes_on m (c.reading_goes_by_steps.ensures m c.requires.coherent) now there (tree c.in_ok-arm.arm) read bar) refl refl refl
+      let state = loop_goes_on choice choice_joins (disjunction_at m) {next = next} (tree (Alternative c.in_ok-terms.terms)) c.loop-arms.invariant.state grows
+      (arm-goes_on m (c.reading_goes_by_steps.ensures m c.requires.coherent) now there (tree (Alternative c.in_ok-terms.terms)) read bar) refl refl refl
       (Leads_drop c.args.nesting c.alternative.new.self.groups c.alternative.new.self.loops (unread c.alternative.new.self.cursor)) in
-      rw (c.if-not-eat.ensures.read, c.in_ok-push.ensures.items, map-append) state;
+      rw (c.if-not-eat.ensures.read, c.in_ok-push.ensures, map-append) state;
 }
 
-pub disjunction-returns-in_err-arm-clause-answer : goal.disjunction-returns-in_err-arm-clause-answer
-disjunction-returns-in_err-arm-clause-answer t c =
+pub disjunction-returns-in_err-terms-clause-answer : goal.disjunction-returns-in_err-terms-clause-answer
+disjunction-returns-in_err-terms-clause-answer t c =
     let m = mode_view c.args.mode.now in
     let p = err_from_is_err_and c.from_residual.result c.from_residual.ensures.1 in
-    rw (p.1, p.2) (refused_within c.in_err-arm.field-0.0 (loop-within choice choice_joins (disjunction_at m) c.loop-arms.invariant.state)
-    (refused_within c.in_err-arm.field-0.0 (arm-within m (c.reading_goes_by_steps.ensures m c.requires.coherent) (place c.args.nesting c.loop-arms.self))
-    c.in_err-arm.ensures.answer))
+    rw (p.1, p.2) (refused_within c.in_err-terms.field-0.0 (loop-within choice choice_joins (disjunction_at m) c.loop-arms.invariant.state)
+    (refused_within c.in_err-terms.field-0.0 (arm-within m (c.reading_goes_by_steps.ensures m c.requires.coherent) (place c.args.nesting c.loop-arms.self))
+    c.in_err-terms.ensures.answer))
 
 pub disjunction-returns-clause-answer : goal.disjunction-returns-clause-answer
 disjunction-returns-clause-answer t c =
     let m = mode_view c.args.mode.now in
-    let (read, grows) = c.in_ok-arm.ensures.answer in
+    let (read, grows) = c.in_ok-terms.ensures.answer in
     let now = place c.args.nesting c.loop-arms.self in
     let there = place c.args.nesting c.alternative.new.self in
-    let made = tree-Disjunction c.push.new.self
-    ∙ ap choice_of (ap (map tree) c.in_ok-push.ensures.items ∙ map-append tree c.loop-arms.arms.items (c.in_ok-arm.arm ∷ []))
-    ∙ choice_of-before (map tree c.loop-arms.arms.items) (tree c.in_ok-arm.arm) in
-    rw (made, c.if-not-eat.ensures.read) (loop_ends choice choice_joins (disjunction_at m) (tree c.in_ok-arm.arm) c.loop-arms.invariant.state grows
-    (arm-ends m (c.reading_goes_by_steps.ensures m c.requires.coherent) now there (tree c.in_ok-arm.arm) read (sym c.if-not-eat.ensures.found)))
+    let made = tree-Disjunction c.push.new.trees
+    ∙ ap choice_of (ap (map tree) c.in_ok-push.ensures ∙ map-append tree c.loop-arms.arms.items (Alternative c.in_ok-terms.terms ∷ []))
+    ∙ choice_of-before (map tree c.loop-arms.arms.items) (tree (Alternative c.in_ok-terms.terms)) in
+    rw (c.in_ok-new.ensures.ok, made, c.if-not-eat.ensures.read) (loop_ends choice choice_joins (disjunction_at m) (tree (Alternative c.in_ok-terms.terms)) c.loop-arms.invariant.state grows
+    (arm-ends m (c.reading_goes_by_steps.ensures m c.requires.coherent) now there (tree (Alternative c.in_ok-terms.terms)) read (sym c.if-not-eat.ensures.found)))
 
 -- terms
 
@@ -194,11 +195,11 @@ group-returns-then-is_lookbehind-clause-answer t c =
     let inside : place (n + 1) c.open.new.self ≡ at (suc n) (opened_by o k) r u =
     λ i. record { nesting = one i; opened = c.in_ok-open.ensures.opened i; repeated = c.open.ensures.kept.1 i; text = c.open.ensures.kept.0 i } in
     let end = place (n + 1) c.contents.new.self in
-    let p = tree c.in_ok-contents.contents in
+    let p = tree c.in_ok-contents.contents.value in
     let (found, grows) = subst (λ (h : Place). (contents_of (disjunction_at m h.text h.opened) ≡ Some (front_to end p)) × Grows h end p) inside c.in_ok-contents.ensures.answer in
     let whole = group-found m (parenthesis_opening m (unread c.args.self.now.cursor)) o n k r text u c.in_ok-opening.ensures.read leads end p found in
     let grown = group-grows m (parenthesis_opening m (unread c.args.self.now.cursor)) o n k r text u c.in_ok-opening.ensures.read leads end p found grows one in
-    let same : tree c.enclose-group.result ≡ enclosed o k p = c.enclose-group.ensures ∙ ap (λ s. enclosed o k (tree s)) c.in_ok-new.ensures.ok in
+    let same : tree c.enclose-group.result ≡ enclosed o k p = c.enclose-group.ensures in
     let alone : is_lookbehind o ≡ true = sym c.is_lookbehind-is_lookbehind.ensures ∙ c.if-is_lookbehind.true in
     rw same (whole ∙ ap (λ b. finish b (may_repeat m.unicode o) k (front_to end (enclosed o k p))) alone, grown)
 
@@ -216,11 +217,11 @@ group-returns-clause-answer t c =
     let inside : place (n + 1) c.open.new.self ≡ at (suc n) (opened_by o k) r u =
     λ i. record { nesting = one i; opened = c.in_ok-open.ensures.opened i; repeated = c.open.ensures.kept.1 i; text = c.open.ensures.kept.0 i } in
     let end = place (n + 1) c.contents.new.self in
-    let p = tree c.in_ok-contents.contents in
+    let p = tree c.in_ok-contents.contents.value in
     let (found, grows) = subst (λ (h : Place). (contents_of (disjunction_at m h.text h.opened) ≡ Some (front_to end p)) × Grows h end p) inside c.in_ok-contents.ensures.answer in
     let whole = group-found m (parenthesis_opening m (unread c.args.self.now.cursor)) o n k r text u c.in_ok-opening.ensures.read leads end p found in
     let grown = group-grows m (parenthesis_opening m (unread c.args.self.now.cursor)) o n k r text u c.in_ok-opening.ensures.read leads end p found grows one in
-    let same : tree c.enclose-group.result ≡ enclosed o k p = c.enclose-group.ensures ∙ ap (λ s. enclosed o k (tree s)) c.in_ok-new.ensures.ok in
+    let same : tree c.enclose-group.result ≡ enclosed o k p = c.enclose-group.ensures in
     let more : is_lookbehind o ≡ false = sym c.is_lookbehind-is_lookbehind.ensures ∙ c.if-is_lookbehind.false in
     let there = place n c.contents.new.self in
     let allowed = c.may_repeat-may_repeat.result in

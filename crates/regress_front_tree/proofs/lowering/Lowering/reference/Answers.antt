@@ -15,7 +15,7 @@ loop-group-preserved c =
 
 pub returns : goal.returns
 returns c =
-    let scope = c.args.scope in
+    let scope = c.args.scope.now in
     let groups = c.args.groups.now in
     let node : ℕ → Tree = λ j. back (j + 1) scope.icase in
     let nodes = c.loop-group.invariant ∙ ap (map node) (take_all c.loop-group.group-index groups (omega arith)) in

@@ -1,0 +1,54 @@
+//! Runs of characters that pass one test.
+
+use crate::parsed::parsed;
+use regress_engine_code::{Insn, emit};
+use regress_engine_input::{Backward, Direction, Utf8Input};
+use regress_engine_matchers::MatchAnyExceptLineTerminator;
+use regress_engine_singles::{ScannedBracket, as_far, as_far_ahead};
+use regress_front_nodes::BracketContents;
+use regress_front_sets::CodePointSet;
+use regress_front_tables::Tables;
+use std::test::Fail;
+
+const TEXT: &str = "abé\ncd";
+
+/// Where a run inside of a line begins, how many characters it has at most, and where it ends to the right and to the left.
+const RUNS: &[(usize, usize, usize, usize)] = &[
+    (0, 9, 4, 0),
+    (0, 2, 2, 0),
+    (5, 9, 7, 5),
+    (4, 9, 4, 0),
+    (4, 1, 4, 2),
+];
+
+#[test]
+fn runs_end_where_a_line_does(rt: HostRuntime) -> Result<(), Fail> {
+    let tables = Tables::small(rt.alloc())?;
+    let regex = parsed(rt.alloc(), "", "", &tables)?;
+    let program = emit(rt.alloc(), &regex)?;
+    let input = Utf8Input::new(TEXT, true, &tables);
+    let in_line = MatchAnyExceptLineTerminator::new();
+    let insn = Insn::MatchAnyExceptLineTerminator;
+    for (at, times, right, left) in RUNS {
+        assert!(rt; TEXT.is_char_boundary(*at));
+        assert!(rt; as_far_ahead(&program, &input, &insn, *times, *at) == Some(*right));
+        assert!(rt; as_far(&input, Backward::new(), &in_line, *times, *at) == *left);
+    }
+    Ok(())
+}
+
+#[test]
+fn scanned_brackets_have_what_their_class_does(rt: HostRuntime) -> Result<(), Fail> {
+    let mut bc = BracketContents {
+        invert: false,
+        cps: CodePointSet::new(rt.alloc()),
+    };
+    for number in 0..20_u32 {
+        bc.cps.add_one(number * 2)?;
+        bc.invert = number % 2 == 1;
+        let class = ScannedBracket { bc: &bc };
+        assert!(rt; class.has(number * 2) != bc.invert);
+        assert!(rt; class.has(number * 2 + 1) == bc.invert);
+    }
+    Ok(())
+}

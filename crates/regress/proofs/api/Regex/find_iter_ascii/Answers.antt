@@ -1,0 +1,5 @@
+use Rattle.std.proofs.Common.{inl, refl, arith}
+use Rattle.regress.proofs.api.Regex.find_iter_ascii.Goals as goal
+
+pub returns-clause-matches : goal.returns-clause-matches
+returns-clause-matches c = λ t o p stands. c.find_from_ascii.ensures.matches t o p stands 0 (inl (omega arith, refl))

@@ -1,0 +1,36 @@
+-- The matches that an iterator over a text of ASCII has still to yield.
+use Rattle.std.specs.Prelude.{◌≡◌, ℕ, List, None}
+use Rattle.regress_meaning.specs.Matches.{Item}
+use Rattle.regress_match.specs.Iterating.{coming_on, steps_on}
+use Rattle.regress_engine_input.specs.InputViews.{ascii_view}
+use Rattle.regress_engine_code.specs.Standing.{names_of}
+use Rattle.regress_engine_sought.specs.Sought.{Sought, items_from, places_behind}
+use Rattle.regress.specs.declared.ascii.AsciiMatches.{AsciiMatches}
+
+-- what is sought in a text of ASCII, and in what text
+abbrev pub sought_in_ascii : AsciiMatches → Sought
+sought_in_ascii ms = record {
+  compiled = ms.executor.subject.program.now;
+  view = ascii_view ms.executor.subject.input;
+  sought = ms.executor.subject.sought;
+}
+
+-- the bytes of the text of ASCII that is searched
+abbrev pub searched_in_ascii : AsciiMatches → List ℕ
+searched_in_ascii ms = (sought_in_ascii ms).view.units
+
+-- the names of the groups of the pattern that is sought in it, as bytes of UTF-8
+abbrev pub names_in_ascii : AsciiMatches → List (List ℕ)
+names_in_ascii ms = names_of (sought_in_ascii ms).compiled
+
+-- the items that are still to come in it, told in bytes
+abbrev pub coming_in_ascii : AsciiMatches → List Item
+coming_in_ascii ms = coming_on (items_from (sought_in_ascii ms)) ms.position
+
+-- how many steps there may be up to its end
+abbrev pub steps_in_ascii : AsciiMatches → ℕ
+steps_in_ascii ms = steps_on (places_behind (sought_in_ascii ms)) ms.position
+
+-- the search in it is over
+abbrev pub HasEndedAscii : AsciiMatches → Type 0
+HasEndedAscii ms = ms.position ≡ None

@@ -1,0 +1,39 @@
+//! How far a test on one character passes.
+ghost use Rattle.std.specs.Prelude.{◌≡◌};
+ghost use Rattle.regress_engine_input.specs.Views.{way, input_of, CanRead};
+ghost use Rattle.regress_engine_singles.specs.Passing.{as_far};
+
+use regress_engine_input::{Direction, InputIndexer, PositionType};
+use regress_engine_matchers::SingleCharMatcher;
+
+/// The offset behind as many characters beside one, in a direction, as pass a test one after another, at most so many.
+///
+/// Asks that characters may be read from the offset on, and that the test is one for the input.
+///
+/// ```rust
+/// let behind = as_far(&input, Forward::new(), &MatchAny::new(), usize::MAX, 0);
+/// ```
+#[inline]
+pub fn as_far<Input: InputIndexer, Dir: Direction, Matcher: SingleCharMatcher<Input, Dir>>(
+    input: &Input,
+    dir: Dir,
+    matcher: &Matcher,
+    times: usize,
+    offset: usize,
+) -> usize
+    requires place { CanRead (Input.view input.now) offset }
+    requires suits { Matcher.Suits matcher.now (Input.view input.now) }
+    ensures { result ≡ as_far (input_of (Input.view input.now)) (Matcher.passes matcher.now) (way Dir.FORWARD) times offset }
+{
+    let mut behind = <Input::Position as PositionType>::new(offset);
+    let mut left = times;
+    while left > 0 {
+        let mut next = behind;
+        if !matcher.matches(input, dir, &mut next) {
+            break;
+        }
+        behind = next;
+        left -= 1;
+    }
+    input.pos_to_offset(behind)
+}

@@ -1,0 +1,10 @@
+//! Runs of characters: how far a test on one character passes, again and again.
+#![tactic(auto)]
+
+mod ahead;
+mod class;
+mod far;
+
+pub use ahead::as_far_ahead;
+pub use class::ScannedBracket;
+pub use far::as_far;

@@ -1,0 +1,38 @@
+-- Executors that seek the same agree.
+use mathlib.Core.HLevel.{is_prop→PathP}
+use Rattle.std.specs.Prelude.{Ok}
+use Rattle.std.proofs.Common.{◌≡◌, ℕ, List, ◌∷◌, Option, Some, None, option_map, refl, sym, ap, ◌∙◌, subst}
+use Rattle.regress_meaning.specs.Matches.{Item}
+use Rattle.regress_match.specs.declared.found.Match.{Match}
+use Rattle.regress_match.specs.Iterating.{coming_on}
+use Rattle.regress_match.specs.Views.{item_of}
+use Rattle.regress_engine_code.specs.Standing.{program_of}
+use Rattle.regress_engine_sought.specs.Sought.{Sought, IsSought, Steps, items_from}
+use Rattle.regress_engine_sought.specs.SoughtOnce.{IsSought-prop}
+
+-- what is sought is a program in a text
+same_sought : (s t : Sought) → s.compiled ≡ t.compiled → s.view ≡ t.view → s ≡ t
+same_sought s t program view i = record {
+  compiled = program i;
+  view = view i;
+  sought = is_prop→PathP (λ j. IsSought (program_of (program j)) (view j)) (λ j. IsSought-prop (program_of (program j)) (view j)) s.sought t.sought i;
+}
+
+-- two steps of what is sought
+steps-agree : (E : Type 0) (s : Sought) (before : Option ℕ) (a b : Option Match) (p q : Option ℕ) → Steps {E = E} s before (option_map Ok a) p → Steps {E = E} s before (option_map Ok b) q
+    → (option_map item_of a ≡ option_map item_of b) × (coming_on (items_from s) p ≡ coming_on (items_from s) q)
+steps-agree E s before None None p q (none, at) (_, to) = (refl, ap (coming_on (items_from s)) (at ∙ sym to))
+steps-agree E s before None (Some n) p q (none, at) (some, _) = absurd (cc)
+steps-agree E s before (Some m) None p q (some, _) (none, to) = absurd (cc)
+steps-agree E s before (Some m) (Some n) p q (first, _) (second, _) =
+    let both : ◌≡◌ {A = List Item} (item_of m ∷ coming_on (items_from s) p) (item_of n ∷ coming_on (items_from s) q) = sym first ∙ second in
+    let same : item_of m ≡ item_of n = cc in
+    let rest : coming_on (items_from s) p ≡ coming_on (items_from s) q = cc in
+    (ap Some same, rest)
+
+pub roads-step : (E : Type 0) (s t : Sought) → s.compiled ≡ t.compiled → s.view ≡ t.view → (before : Option ℕ) (a b : Option Match) (p q : Option ℕ)
+    → Steps {E = E} s before (option_map Ok a) p → Steps {E = E} t before (option_map Ok b) q → (option_map item_of a ≡ option_map item_of b) × (coming_on (items_from s) p ≡ coming_on (items_from t) q)
+roads-step E s t program view before a b p q first second =
+    let same = same_sought s t program view in
+    subst (λ u. (option_map item_of a ≡ option_map item_of b) × (coming_on (items_from s) p ≡ coming_on (items_from u) q)) same
+    (steps-agree E s before a b p q first (subst (λ u. Steps {E = E} u before (option_map Ok b) q) (sym same) second))

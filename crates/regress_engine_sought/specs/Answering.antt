@@ -1,0 +1,16 @@
+-- The answer of a run from an offset, and what a search finds by such runs.
+use Rattle.std.specs.Prelude.{◌≡◌, ℕ, List, Option, Some, None}
+use Rattle.regress_meaning.specs.Inputs.{Input}
+use Rattle.regress_engine_code.specs.Instructions.{Program}
+use Rattle.regress_engine_runs.specs.States.{Marks, Whole}
+use Rattle.regress_engine_runs.specs.Items.{Answers, Finds, item_of}
+
+-- The run from an offset ends at another, with these groups; or it has no answer.
+abbrev pub IsAnswer : Program → Input → ℕ → Option ℕ → List Marks → Type 0
+IsAnswer program input start None groups = Answers program input start None
+IsAnswer program input start (Some end) groups = (w : Whole) × Answers program input start (Some w) × (w.offset ≡ end) × (w.groups ≡ groups)
+
+-- A search from an offset found an answer between two others, with these groups; or none.
+abbrev pub IsFound : Program → Input → ℕ → Option (ℕ × ℕ) → List Marks → Type 0
+IsFound program input at None groups = Finds program input at None
+IsFound program input at (Some (start, end)) groups = (w : Whole) × Finds program input at (Some (item_of start w)) × (w.offset ≡ end) × (w.groups ≡ groups)

@@ -1,0 +1,7 @@
+use Rattle.std.proofs.Common.{refl}
+use Rattle.regress_front_tree.specs.Scopes.{settings_of}
+use Rattle.regress_front_tree.specs.Lowering.{of_character}
+use Rattle.regress_front_tree.proofs.lowering.Lowering.character.Goals as goal
+
+pub returns : goal.returns
+returns c = of_character (c.in_ok-node.ensures (settings_of c.args.scope.now) refl)
