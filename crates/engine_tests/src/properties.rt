@@ -75,6 +75,17 @@ fn characters_are_of_words_and_end_lines(rt: HostRuntime) -> Result<(), Fail> {
 }
 
 #[test]
+fn words_and_line_ends_are_pinned(rt: HostRuntime) {
+    let separator = UTF8CharProperties::is_line_terminator('\u{2028}');
+    let next_line = UTF8CharProperties::is_line_terminator('\u{85}');
+    prove!(separator && !next_line);
+    let digit = UTF8CharProperties::is_word_char('9');
+    let dash = UTF8CharProperties::is_word_char('-');
+    prove!(digit && !dash);
+    assert!(rt; separator && !next_line && digit && !dash);
+}
+
+#[test]
 fn classes_hold_characters(rt: HostRuntime) -> Result<(), Fail> {
     let mut cps = CodePointSet::new(rt.alloc());
     cps.add_one(0x61)?;
