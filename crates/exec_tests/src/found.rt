@@ -1,4 +1,4 @@
-//! What the executor finds over each input, as text.
+//! What the executors find over each input, as text.
 ghost use Rattle.std.specs.Prelude.{◌≡◌, true, false, length, IfSome};
 ghost use Rattle.std.specs.Str.{IsAscii};
 ghost use Rattle.regress_front_nodes.specs.Trees.{tree};
@@ -6,13 +6,15 @@ ghost use Rattle.regress_front_nodes.specs.WellFormed.{IsWellFormed};
 ghost use Rattle.regress_match.specs.Iterating.{producer_of, position_of};
 
 use regress_engine_code::{CompiledRegex, emit, emit_units};
+use regress_engine_copying::PikeVMExecutor;
 use regress_engine_exec::BacktrackExecutor;
-use regress_engine_input::{AsciiInput, Ucs2Input, Utf16Input};
+use regress_engine_input::{AsciiInput, Ucs2Input, Utf8Input, Utf16Input};
 use regress_front_nodes::ir::Regex;
 use regress_front_tables::Error;
 use regress_match::{MatchProducer, Matches};
 use regress_rows::tell;
 use std::alloc::{AllocError, Global};
+use std::test::Fail;
 
 /// All matches, parted by `|`; `None` where a search was refused memory.
 pub(crate) fn listed<P: MatchProducer>(
@@ -42,8 +44,22 @@ pub(crate) fn whole(told: Option<String>) -> Result<String, Error> {
     }
 }
 
-/// All matches of a program of bytes in a text of UTF-8.
-fn over_utf8<'r>(
+/// What both executors told, where they told the same.
+fn same(
+    alloc: Global,
+    undoing: Option<String>,
+    copying: Option<String>,
+) -> Result<String, Fail> {
+    let undoing = whole(undoing)?;
+    let copying = whole(copying)?;
+    if undoing.as_str() != copying.as_str() {
+        return Err(Fail::new(format!(in alloc; "undoing {undoing}, copying {copying}")?));
+    }
+    Ok(undoing)
+}
+
+/// All matches of a program of bytes in a text of UTF-8, by the executor that undoes.
+fn undoing_over_utf8<'r>(
     alloc: Global,
     program: &'r CompiledRegex<'r>,
     text: &'r str,
@@ -54,8 +70,21 @@ fn over_utf8<'r>(
     listed(alloc, Matches::new(executor, 0))
 }
 
-/// All matches of a program of bytes in a text of ASCII.
-fn over_ascii<'r>(
+/// The same by the executor that copies.
+fn copying_over_utf8<'r>(
+    alloc: Global,
+    program: &'r CompiledRegex<'r>,
+    text: &'r str,
+) -> Result<Option<String>, AllocError>
+    requires bytes { program.now.units ≡ false }
+{
+    let input = Utf8Input::new(text, program.flags().is_unicode(), program.tables());
+    let executor = PikeVMExecutor::with_input(alloc, program, input);
+    listed(alloc, Matches::new(executor, 0))
+}
+
+/// All matches of a program of bytes in a text of ASCII, by the executor that undoes.
+fn undoing_over_ascii<'r>(
     alloc: Global,
     program: &'r CompiledRegex<'r>,
     text: &'r str,
@@ -68,8 +97,22 @@ fn over_ascii<'r>(
     listed(alloc, Matches::new(executor, 0))
 }
 
-/// All matches of a program of units in units of UTF-16.
-fn over_utf16<'r>(
+/// The same by the executor that copies.
+fn copying_over_ascii<'r>(
+    alloc: Global,
+    program: &'r CompiledRegex<'r>,
+    text: &'r str,
+) -> Result<Option<String>, AllocError>
+    requires bytes { program.now.units ≡ false }
+    requires ascii { IsAscii text.now }
+{
+    let input = AsciiInput::new(text, program.flags().is_unicode(), program.tables());
+    let executor = PikeVMExecutor::with_input(alloc, program, input);
+    listed(alloc, Matches::new(executor, 0))
+}
+
+/// All matches of a program of units in units of UTF-16, by the executor that undoes.
+fn undoing_over_utf16<'r>(
     alloc: Global,
     program: &'r CompiledRegex<'r>,
     units: &'r [u16],
@@ -81,8 +124,21 @@ fn over_utf16<'r>(
     listed(alloc, Matches::new(executor, 0))
 }
 
-/// All matches of a program of units in units of which each is a character.
-fn over_ucs2<'r>(
+/// The same by the executor that copies.
+fn copying_over_utf16<'r>(
+    alloc: Global,
+    program: &'r CompiledRegex<'r>,
+    units: &'r [u16],
+) -> Result<Option<String>, AllocError>
+    requires units { program.now.units ≡ true }
+{
+    let input = Utf16Input::new(units, program.flags().is_unicode(), program.tables());
+    let executor = PikeVMExecutor::with_input(alloc, program, input);
+    listed(alloc, Matches::new(executor, 0))
+}
+
+/// All matches of a program of units in units of which each is a character, by the executor that undoes.
+fn undoing_over_ucs2<'r>(
     alloc: Global,
     program: &'r CompiledRegex<'r>,
     units: &'r [u16],
@@ -94,33 +150,54 @@ fn over_ucs2<'r>(
     listed(alloc, Matches::new(executor, 0))
 }
 
-/// All matches of a tree in a text of UTF-8.
-pub(crate) fn in_utf8(alloc: Global, regex: &Regex<'_>, text: &str) -> Result<String, Error>
+/// The same by the executor that copies.
+fn copying_over_ucs2<'r>(
+    alloc: Global,
+    program: &'r CompiledRegex<'r>,
+    units: &'r [u16],
+) -> Result<Option<String>, AllocError>
+    requires units { program.now.units ≡ true }
+{
+    let input = Ucs2Input::new(units, program.flags().is_unicode(), program.tables());
+    let executor = PikeVMExecutor::with_input(alloc, program, input);
+    listed(alloc, Matches::new(executor, 0))
+}
+
+/// All matches of a tree in a text of UTF-8, which both executors find.
+pub(crate) fn in_utf8(alloc: Global, regex: &Regex<'_>, text: &str) -> Result<String, Fail>
     requires { IsWellFormed (length regex.now.group_names.items) (tree regex.now.node) }
 {
     let program = emit(alloc, regex)?;
-    whole(over_utf8(alloc, &program, text)?)
+    let undoing = undoing_over_utf8(alloc, &program, text)?;
+    let copying = copying_over_utf8(alloc, &program, text)?;
+    same(alloc, undoing, copying)
 }
 
-/// All matches of a tree in a text of ASCII.
-pub(crate) fn in_ascii(alloc: Global, regex: &Regex<'_>, text: &str) -> Result<String, Error>
+/// All matches of a tree in a text of ASCII, which both executors find.
+pub(crate) fn in_ascii(alloc: Global, regex: &Regex<'_>, text: &str) -> Result<String, Fail>
     requires well_formed { IsWellFormed (length regex.now.group_names.items) (tree regex.now.node) }
     requires ascii { IsAscii text.now }
 {
     let program = emit(alloc, regex)?;
-    whole(over_ascii(alloc, &program, text)?)
+    let undoing = undoing_over_ascii(alloc, &program, text)?;
+    let copying = copying_over_ascii(alloc, &program, text)?;
+    same(alloc, undoing, copying)
 }
 
-/// All matches of a tree in units: of UTF-16, and where each unit is a character.
+/// All matches of a tree in units, which both executors find: of UTF-16, and where each unit is a character.
 pub(crate) fn in_units(
     alloc: Global,
     regex: &Regex<'_>,
     units: &[u16],
-) -> Result<(String, String), Error>
+) -> Result<(String, String), Fail>
     requires { IsWellFormed (length regex.now.group_names.items) (tree regex.now.node) }
 {
     let program = emit_units(alloc, regex)?;
-    let in_pairs = whole(over_utf16(alloc, &program, units)?)?;
-    let alone = whole(over_ucs2(alloc, &program, units)?)?;
+    let undoing = undoing_over_utf16(alloc, &program, units)?;
+    let copying = copying_over_utf16(alloc, &program, units)?;
+    let in_pairs = same(alloc, undoing, copying)?;
+    let undoing = undoing_over_ucs2(alloc, &program, units)?;
+    let copying = copying_over_ucs2(alloc, &program, units)?;
+    let alone = same(alloc, undoing, copying)?;
     Ok((in_pairs, alone))
 }

@@ -1,12 +1,15 @@
-//! Laws of replacing and of splitting. Nothing here runs: each function is a law, stated by its contract.
-ghost use Rattle.std.specs.Prelude.{◌≡◌, ◌≢◌, ℕ, List, All, take, map, chars, codes, slice_range};
+//! Laws of replacing and of splitting, and of the flag `no_opt`. Nothing here runs: each function is a law, stated by its contract.
+ghost use Rattle.std.specs.Prelude.{◌≡◌, ◌≢◌, ℕ, Bool, List, All, take, map, chars, codes, slice_range};
 ghost use Rattle.regress_meaning.specs.Table.{Table};
 ghost use Rattle.regress_meaning.specs.Pattern.{Pattern};
 ghost use Rattle.regress_meaning.specs.Flags.{Options, no_flags};
+ghost use Rattle.regress_meaning.specs.Grammar.{Spells};
 ghost use Rattle.regress_meaning.specs.Matches.{Item, match_list};
 ghost use Rattle.regress_meaning.specs.Literal.{literal_pattern, occurrences};
 ghost use Rattle.regress_meaning.specs.Offsets.{of_utf8, told};
 ghost use Rattle.regress_meaning.specs.Parts.{parts, joined};
+ghost use Rattle.regress_front.specs.FlagWords.{options};
+ghost use Rattle.regress_front_core.specs.declared.flags.Flags.{Flags};
 ghost use Rattle.regress_replacing.specs.Replacing.{expansion, replaced};
 
 /// The text with each match, or with the first, replaced by `$0` is the text.
@@ -41,4 +44,15 @@ pub fn parts_stand_between_the_matches()
         joined (parts text items) (map (λ i. slice_range text i.start i.end) items) ≡ text }
 {
     regress_meaning::matches_rise();
+}
+
+/// With and without `no_opt` the same patterns are accepted, and a pattern has the same match list: what a regex stands for, and
+/// as what a pattern is refused, is said by what the flags switch on, and `no_opt` switches nothing on.
+pub fn no_opt_changes_no_match()
+    ensures options { (f : Flags) → (no_opt : Bool) → options (record f { no_opt = no_opt }) ≡ options f }
+    ensures listed { (t : Table) → (f : Flags) → (no_opt : Bool) → (source : List ℕ) → (p q : Pattern) →
+        Spells t (options f) source p → Spells t (options (record f { no_opt = no_opt })) source q → (text : List ℕ) → (place : ℕ) →
+        match_list t (options f) p text place ≡ match_list t (options (record f { no_opt = no_opt })) q text place }
+{
+    regress_meaning::spells_one_tree();
 }

@@ -20,8 +20,8 @@ mod units;
 pub use api::{Regex, is_start};
 pub use ascii::{AsciiMatches, is_ascii_text};
 pub use laws::{
-    escaped_texts_are_replaced_where_they_occur, parts_stand_between_the_matches,
-    whole_matches_give_the_text_back,
+    escaped_texts_are_replaced_where_they_occur, no_opt_changes_no_match,
+    parts_stand_between_the_matches, whole_matches_give_the_text_back,
 };
 pub use matches::Matches;
 pub use refusing::{SyntaxError, syntax_error};
