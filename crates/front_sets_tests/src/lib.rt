@@ -8,4 +8,6 @@ mod core_values;
 #[cfg(test)]
 mod sets;
 #[cfg(test)]
+mod sizes;
+#[cfg(test)]
 mod tables;

@@ -1,14 +1,15 @@
 //! A program while it is written.
 ghost use Rattle.std.specs.Prelude.{◌≡◌, ◌+◌, ◌-◌, ◌<◌, [], ◌∷◌, ◌++◌, length, map, All, IfOk, IfErr, OnOk};
-ghost use Rattle.regress_engine_code.specs.Instructions.{fail};
+ghost use Rattle.regress_front_core.specs.Quantifiers.{most};
+ghost use Rattle.regress_engine_code.specs.Instructions.{fail, goal, begin_group, end_group, loop_again, single_loop, enter_loop};
 ghost use Rattle.regress_engine_code.specs.InsnViews.{instruction};
 ghost use Rattle.regress_engine_code.specs.Layout.{resets};
 ghost use Rattle.regress_engine_code.specs.Written.{written, with, changed, closed, bracket_ends, MayRefuse};
 
-use crate::insn::Insn;
+use crate::insn::{Insn, LoopFields};
 use regress_front_core::{CaptureGroupID, Error, LoopID};
-use regress_front_nodes::BracketContents;
-use std::alloc::Global;
+use regress_front_nodes::{BracketContents, Quantifier};
+use std::alloc::{AllocError, Global};
 
 /// The instructions and brackets of a program so far, and how many loops begin in them.
 #[derive(Debug, Drop)]
@@ -37,6 +38,61 @@ impl Code {
     {
         self.insns.push(insn)?;
         Ok(())
+    }
+
+    /// Writes an instruction that fails.
+    #[inline(never)]
+    fn push_fail(&mut self) -> Result<(), AllocError>
+        ensures { OnOk result (written self.new ≡ with (written self.old) (fail ∷ [])) }
+    {
+        Ok(self.insns.push(Insn::JustFail)?)
+    }
+
+    /// Writes the end of what a lookaround holds.
+    #[inline(never)]
+    pub(crate) fn push_goal(&mut self) -> Result<(), AllocError>
+        ensures { OnOk result (written self.new ≡ with (written self.old) (goal ∷ [])) }
+    {
+        Ok(self.insns.push(Insn::Goal)?)
+    }
+
+    /// Writes where a group begins.
+    #[inline(never)]
+    pub(crate) fn begin_group(&mut self, id: CaptureGroupID) -> Result<(), AllocError>
+        ensures { OnOk result (written self.new ≡ with (written self.old) (begin_group id ∷ [])) }
+    {
+        Ok(self.insns.push(Insn::BeginCaptureGroup(id))?)
+    }
+
+    /// Writes where a group ends.
+    #[inline(never)]
+    pub(crate) fn end_group(&mut self, id: CaptureGroupID) -> Result<(), AllocError>
+        ensures { OnOk result (written self.new ≡ with (written self.old) (end_group id ∷ [])) }
+    {
+        Ok(self.insns.push(Insn::EndCaptureGroup(id))?)
+    }
+
+    /// Writes the end of an iteration of the repetition that begins at an address.
+    #[inline(never)]
+    pub(crate) fn push_again(&mut self, begin: u32) -> Result<(), AllocError>
+        ensures { OnOk result (written self.new ≡ with (written self.old) (loop_again begin ∷ [])) }
+    {
+        Ok(self.insns.push(Insn::LoopAgain { begin })?)
+    }
+
+    /// Writes a repetition of what the next instruction takes.
+    #[inline(never)]
+    pub(crate) fn push_single_loop(&mut self, quant: &Quantifier) -> Result<(), AllocError>
+        ensures { OnOk result (written self.new
+            ≡ with (written self.old) (single_loop quant.now.min (most quant.now) quant.now.greedy ∷ [])) }
+    {
+        Ok(
+            self.insns.push(Insn::Loop1CharBody {
+                min_iters: quant.min,
+                max_iters: quant.most(),
+                greedy: quant.greedy,
+            })?,
+        )
     }
 
     /// Writes instructions behind the others. `OutOfMemory` is the only error.
@@ -87,7 +143,7 @@ impl Code {
         ensures err { IfErr result (MayRefuse (length (written self.old).instructions) 0) }
     {
         let address = self.next_address()?;
-        self.push(Insn::JustFail)?;
+        self.push_fail()?;
         Ok(address)
     }
 
@@ -97,6 +153,34 @@ impl Code {
         ensures { written self.new ≡ changed (written self.old) address (instruction insn) }
     {
         self.insns[address as usize] = insn;
+    }
+
+    /// Writes a repetition in the place of the instruction at an address.
+    #[inline(never)]
+    pub(crate) fn enter_loop(
+        &mut self,
+        address: u32,
+        loop_id: LoopID,
+        quant: &Quantifier,
+        exit: u32,
+    )
+        requires { address < length (written self.old).instructions }
+        ensures { written self.new ≡ changed (written self.old) address (enter_loop (record {
+          loop_id = loop_id;
+          least = quant.now.min;
+          most = most quant.now;
+          greedy = quant.now.greedy;
+          exit = exit;
+        })) }
+    {
+        let fields = LoopFields {
+            loop_id,
+            min_iters: quant.min,
+            max_iters: quant.most(),
+            greedy: quant.greedy,
+            exit,
+        };
+        self.change(address, Insn::EnterLoop(fields));
     }
 
     /// Writes at some addresses, from the last on, jumps to the end. It errs with `TooLarge` where the end has no address.

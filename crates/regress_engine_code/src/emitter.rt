@@ -1,8 +1,9 @@
 //! From a tree to the instructions of a program.
-ghost use Rattle.std.specs.Prelude.{◌≡◌, ℕ, Bool, List, Option, None, map, IfErr, OnOk};
+ghost use Rattle.std.specs.Prelude.{◌≡◌, ℕ, Bool, true, List, Option, None, map, IfErr, OnOk};
 ghost use Rattle.regress_front_core.specs.Quantifiers.{most};
-ghost use Rattle.regress_front_nodes.specs.Trees.{tree, cat_of, capture, loop, single_loop};
+ghost use Rattle.regress_front_nodes.specs.Trees.{tree, cat_of, alt, capture, loop, single_loop};
 ghost use Rattle.regress_front_nodes.specs.Trees as node;
+ghost use Rattle.regress_front_nodes.specs.Forms.{is_leaf};
 ghost use Rattle.regress_engine_prefix.specs.Prefixes.{IsLawful};
 ghost use Rattle.regress_engine_code.specs.Instructions as code;
 ghost use Rattle.regress_engine_code.specs.InsnViews.{instruction};
@@ -10,7 +11,7 @@ ghost use Rattle.regress_engine_code.specs.Written.{written};
 ghost use Rattle.regress_engine_code.specs.Emitting.{anchor_code, Emits, Refuses};
 
 use crate::code::Code;
-use crate::insn::{Insn, LoopFields};
+use crate::insn::Insn;
 use crate::leaves::{byte_set, char_set};
 use regress_front_core::{CaptureGroupID, Error};
 use regress_front_nodes::{AnchorType, Node, Quantifier};
@@ -75,6 +76,8 @@ fn look(negate: bool, backwards: bool, groups: Range<CaptureGroupID>, continuati
     }
 }
 
+// What calls itself by the nesting of a pattern has small frames: what ends before the next level is kept out of line, and hands
+// back what a register holds.
 impl<'u> Emitter<'u> {
     /// Writes a node. `backward` tells whether it stands in a lookbehind. It errs with `TooLarge` where an instruction has no
     /// address or a loop has no number, and with `OutOfMemory`.
@@ -85,44 +88,9 @@ impl<'u> Emitter<'u> {
         ensures refused { IfErr result (Refuses self.now (tree node.now) (written code.old)) }
     {
         match node {
-            Node::Empty => Ok(()),
-            Node::Goal => code.push(Insn::Goal),
-            Node::Char { c } => code.push(Insn::Char(*c)),
-            Node::ByteSequence(bytes) => self.literal(code, bytes, backward),
-            Node::ByteSet(bytes) => code.push(byte_set(bytes, self.units)),
-            Node::CharSet(chars) => code.push(char_set(chars)),
             Node::Cat(parts) => self.parts(code, parts, backward),
-            Node::Alt(first, second) => {
-                let fork = code.reserve()?;
-                self.node(code, first, backward)?;
-                let jump = code.reserve()?;
-                let secondary = code.next_address()?;
-                self.node(code, second, backward)?;
-                let target = code.next_address()?;
-                code.change(jump, Insn::Jump { target });
-                code.change(fork, Insn::Alt { secondary });
-                Ok(())
-            }
-            Node::MatchAny => code.push(Insn::MatchAny),
-            Node::MatchAnyExceptLineTerminator => code.push(Insn::MatchAnyExceptLineTerminator),
-            Node::Anchor {
-                anchor_type,
-                multiline,
-            } => code.push(anchor(*anchor_type, *multiline)),
-            Node::WordBoundary {
-                invert,
-                unicode_icase,
-            } => code.push(word_boundary(*invert, *unicode_icase)),
+            Node::Alt(first, second) => self.alternation(code, first, second, backward),
             Node::CaptureGroup { id, contents, .. } => self.capture(code, *id, contents, backward),
-            Node::BackRef { group, icase } => code.push(Insn::BackRef {
-                group: *group - 1,
-                icase: *icase,
-            }),
-            Node::Bracket(contents) => self.bracket(code, contents),
-            Node::StringSet {
-                alternatives,
-                icase,
-            } => self.strings(code, alternatives, *icase, backward),
             Node::LookaroundAssertion {
                 negate,
                 backwards,
@@ -140,15 +108,80 @@ impl<'u> Emitter<'u> {
                 loopee,
                 quant,
                 enclosed_groups,
-            } => self.repetition(code, loopee, *quant, enclosed_groups, backward),
+            } => self.repetition(code, loopee, quant, enclosed_groups, backward),
             Node::Loop1CharBody { loopee, quant } => {
-                self.single_repetition(code, loopee, *quant, backward)
+                self.single_repetition(code, loopee, quant, backward)
             }
+            _ => self.leaf(code, node, backward),
         }
+    }
+
+    /// Writes a node of a kind that has no parts. `OutOfMemory` and `TooLarge` are errors as for any node.
+    #[inline(never)]
+    fn leaf(&self, code: &mut Code, node: &Node, backward: bool) -> Result<(), Error>
+        requires lawful { IsLawful (tree node.now) }
+        requires leaf { is_leaf (tree node.now) ≡ true }
+        ensures added { OnOk result (Emits self.now backward (tree node.now) (written code.old) (written code.new)) }
+        ensures refused { IfErr result (Refuses self.now (tree node.now) (written code.old)) }
+    {
+        match node {
+            Node::Empty => Ok(()),
+            Node::Goal => code.push(Insn::Goal),
+            Node::Char { c } => code.push(Insn::Char(*c)),
+            Node::ByteSequence(bytes) => self.literal(code, bytes, backward),
+            Node::ByteSet(bytes) => code.push(byte_set(bytes, self.units)),
+            Node::CharSet(chars) => code.push(char_set(chars)),
+            Node::MatchAny => code.push(Insn::MatchAny),
+            Node::MatchAnyExceptLineTerminator => code.push(Insn::MatchAnyExceptLineTerminator),
+            Node::Anchor {
+                anchor_type,
+                multiline,
+            } => code.push(anchor(*anchor_type, *multiline)),
+            Node::WordBoundary {
+                invert,
+                unicode_icase,
+            } => code.push(word_boundary(*invert, *unicode_icase)),
+            Node::BackRef { group, icase } => code.push(Insn::BackRef {
+                group: *group - 1,
+                icase: *icase,
+            }),
+            Node::Bracket(contents) => self.bracket(code, contents),
+            Node::StringSet {
+                alternatives,
+                icase,
+            } => self.strings(code, alternatives, *icase, backward),
+            _ => unreachable!(),
+        }
+    }
+
+    /// Writes two alternatives, the first preferred.
+    #[cycle(emit)]
+    #[inline(never)]
+    fn alternation(
+        &self,
+        code: &mut Code,
+        first: &Node,
+        second: &Node,
+        backward: bool,
+    ) -> Result<(), Error>
+        requires { IsLawful (alt (tree first.now) (tree second.now)) }
+        ensures added { OnOk result (Emits self.now backward (alt (tree first.now) (tree second.now)) (written code.old) (written code.new)) }
+        ensures refused { IfErr result (Refuses self.now (alt (tree first.now) (tree second.now)) (written code.old)) }
+    {
+        let fork = code.reserve()?;
+        self.node(code, first, backward)?;
+        let jump = code.reserve()?;
+        let secondary = code.next_address()?;
+        self.node(code, second, backward)?;
+        let target = code.next_address()?;
+        code.change(jump, Insn::Jump { target });
+        code.change(fork, Insn::Alt { secondary });
+        Ok(())
     }
 
     /// Writes parts one after another, in the order in which they stand: in a lookbehind that is the order of reading.
     #[cycle(emit)]
+    #[inline(never)]
     fn parts(&self, code: &mut Code, parts: &[Node], backward: bool) -> Result<(), Error>
         requires { IsLawful (cat_of (map tree parts.now)) }
         ensures added { OnOk result (Emits self.now backward (cat_of (map tree parts.now)) (written code.old) (written code.new)) }
@@ -162,6 +195,7 @@ impl<'u> Emitter<'u> {
 
     /// Writes a group.
     #[cycle(emit)]
+    #[inline(never)]
     fn capture(
         &self,
         code: &mut Code,
@@ -174,13 +208,15 @@ impl<'u> Emitter<'u> {
             Emits self.now backward (capture id name (tree contents.now)) (written code.old) (written code.new)) }
         ensures refused { IfErr result (Refuses self.now (capture id None (tree contents.now)) (written code.old)) }
     {
-        code.push(Insn::BeginCaptureGroup(id))?;
+        code.begin_group(id)?;
         self.node(code, contents, backward)?;
-        code.push(Insn::EndCaptureGroup(id))
+        code.end_group(id)?;
+        Ok(())
     }
 
     /// Writes a lookaround.
     #[cycle(emit)]
+    #[inline(never)]
     fn lookaround(
         &self,
         code: &mut Code,
@@ -196,65 +232,57 @@ impl<'u> Emitter<'u> {
     {
         let at = code.reserve()?;
         self.node(code, contents, backwards)?;
-        code.push(Insn::Goal)?;
+        code.push_goal()?;
         let continuation = code.next_address()?;
-        code.change(at, look(negate, backwards, groups, continuation));
+        let insn = look(negate, backwards, groups, continuation);
+        code.change(at, insn);
         Ok(())
     }
 
     /// Writes a repetition, which resets its groups as each iteration begins.
     #[cycle(emit)]
+    #[inline(never)]
     fn repetition(
         &self,
         code: &mut Code,
         loopee: &Node,
-        quant: Quantifier,
+        quant: &Quantifier,
         groups: &Range<CaptureGroupID>,
         backward: bool,
     ) -> Result<(), Error>
         requires { IsLawful (tree loopee.now) }
         ensures added { OnOk result (Emits self.now backward
-            (loop (tree loopee.now) groups.now.start groups.now.end quant.min (most quant) quant.greedy) (written code.old) (written code.new)) }
+            (loop (tree loopee.now) groups.now.start groups.now.end quant.now.min (most quant.now) quant.now.greedy) (written code.old) (written code.new)) }
         ensures refused { IfErr result (Refuses self.now
-            (loop (tree loopee.now) groups.now.start groups.now.end quant.min (most quant) quant.greedy) (written code.old)) }
+            (loop (tree loopee.now) groups.now.start groups.now.end quant.now.min (most quant.now) quant.now.greedy) (written code.old)) }
     {
         let loop_id = code.next_loop()?;
         let begin = code.reserve()?;
         code.push_resets(groups.start, groups.end)?;
         self.node(code, loopee, backward)?;
-        code.push(Insn::LoopAgain { begin })?;
+        code.push_again(begin)?;
         let exit = code.next_address()?;
-        let fields = LoopFields {
-            loop_id,
-            min_iters: quant.min,
-            max_iters: quant.most(),
-            greedy: quant.greedy,
-            exit,
-        };
-        code.change(begin, Insn::EnterLoop(fields));
+        code.enter_loop(begin, loop_id, quant, exit);
         Ok(())
     }
 
     /// Writes a repetition of what takes exactly one character.
     #[cycle(emit)]
+    #[inline(never)]
     fn single_repetition(
         &self,
         code: &mut Code,
         loopee: &Node,
-        quant: Quantifier,
+        quant: &Quantifier,
         backward: bool,
     ) -> Result<(), Error>
-        requires { IsLawful (single_loop (tree loopee.now) quant.min (most quant) quant.greedy) }
+        requires { IsLawful (single_loop (tree loopee.now) quant.now.min (most quant.now) quant.now.greedy) }
         ensures added { OnOk result (Emits self.now backward
-            (single_loop (tree loopee.now) quant.min (most quant) quant.greedy) (written code.old) (written code.new)) }
+            (single_loop (tree loopee.now) quant.now.min (most quant.now) quant.now.greedy) (written code.old) (written code.new)) }
         ensures refused { IfErr result (Refuses self.now
-            (single_loop (tree loopee.now) quant.min (most quant) quant.greedy) (written code.old)) }
+            (single_loop (tree loopee.now) quant.now.min (most quant.now) quant.now.greedy) (written code.old)) }
     {
-        code.push(Insn::Loop1CharBody {
-            min_iters: quant.min,
-            max_iters: quant.most(),
-            greedy: quant.greedy,
-        })?;
+        code.push_single_loop(quant)?;
         self.node(code, loopee, backward)
     }
 }

@@ -1,8 +1,8 @@
 //! What a class stands for: a set of code points, and strings of other lengths.
-ghost use Rattle.std.specs.Prelude.{◌≡◌, ◌≤◌, ℕ, false, [], ◌==◌, ◌&&◌, ◌||◌, not, nat_le, length, map, fold, chars, All, unwrap_or, IfOk, OnOk};
+ghost use Rattle.std.specs.Prelude.{◌≡◌, ◌≤◌, ℕ, false, [], ◌∷◌, ◌==◌, ◌&&◌, ◌||◌, not, nat_le, length, map, fold, chars, All, unwrap_or, IfOk, OnOk};
 ghost use Rattle.regress_meaning.specs.TableParts.{is_code_point, in_intervals, IntervalsRise};
 ghost use Rattle.regress_meaning.specs.Class as meaning;
-ghost use Rattle.regress_meaning.specs.Class.{Strings, intersection, difference, only, of_list, complement_of, is_word, value_of};
+ghost use Rattle.regress_meaning.specs.Class.{Strings, intersection, difference, only, of_list, complement_of, is_digit, is_space, is_word, value_of};
 ghost use Rattle.regress_meaning.specs.Points.{ClassIsOfPoints};
 ghost use Rattle.regress_front_sets.specs.Intervals.{ends_of};
 ghost use Rattle.regress_front_sets.specs.Sets.{in_set, intervals_of};
@@ -40,6 +40,7 @@ impl ClassValue {
     }
 
     /// The strings of a list.
+    #[inline(never)]
     fn of_strings(alloc: Global, strings: &[Vec<CodePoint>]) -> Result<ClassValue, AllocError>
         requires { All (All is_code_point) (lists strings.now) }
         ensures { IfOk result (λ value. strings_of value ≡ of_list (lists strings.now)) }
@@ -72,6 +73,7 @@ impl ClassValue {
     }
 
     /// The members that are also members of another value ("ClassIntersection").
+    #[inline(never)]
     fn intersection(self, alloc: Global, other: ClassValue) -> Result<ClassValue, AllocError>
         ensures { IfOk result (λ value. strings_of value ≡ intersected (strings_of self) (strings_of other)) }
     {
@@ -83,6 +85,7 @@ impl ClassValue {
     }
 
     /// The members that are no members of another value ("ClassSubtraction").
+    #[inline(never)]
     fn difference(self, alloc: Global, other: ClassValue) -> Result<ClassValue, AllocError>
         ensures { IfOk result (λ value. strings_of value ≡ subtracted (strings_of self) (strings_of other)) }
     {
@@ -94,6 +97,7 @@ impl ClassValue {
     }
 
     /// The code points that are no members ("CharacterComplement").
+    #[inline(never)]
     fn complement(&self, alloc: Global) -> Result<ClassValue, AllocError>
         ensures { IfOk result (λ value. strings_of value ≡ complement_of (strings_of self.now)) }
     {
@@ -162,6 +166,7 @@ fn property_set(alloc: Global, tables: &Tables, key: &str) -> Result<CodePointSe
 }
 
 /// The strings with a property; none where no property has that key.
+#[inline(never)]
 fn sequence_value(alloc: Global, tables: &Tables, key: &str) -> Result<ClassValue, AllocError>
     ensures { IfOk result (λ value. strings_of value ≡ of_list (unwrap_or ((table tables.now).sequences (chars key.now)) [])) }
 {
@@ -169,6 +174,55 @@ fn sequence_value(alloc: Global, tables: &Tables, key: &str) -> Result<ClassValu
         Some(strings) => ClassValue::of_strings(alloc, strings),
         None => Ok(ClassValue::of_points(alloc, CodePointSet::new(alloc))),
     }
+}
+
+// Recursion through brackets goes 256 levels deep. So that none of its functions has room on the stack for what others need
+// only in passing, those that end before the next level are kept out of line, and a value that waits for others is in a box.
+
+/// The value of a range.
+#[inline(never)]
+fn range_value(alloc: Global, first: CodePoint, last: CodePoint) -> Result<ClassValue, AllocError>
+    requires { IntervalsRise ((first, last) ∷ []) }
+    ensures { IfOk result (λ value. strings_of value ≡ only (in_intervals ((first, last) ∷ []))) }
+{
+    let singles = set_of(alloc, &[Interval { first, last }])?;
+    Ok(ClassValue::of_points(alloc, singles))
+}
+
+/// The value of `\d`.
+#[inline(never)]
+fn digit_value(alloc: Global) -> Result<ClassValue, AllocError>
+    ensures { IfOk result (λ value. strings_of value ≡ only is_digit) }
+{
+    let singles = set_of(alloc, &digits())?;
+    Ok(ClassValue::of_points(alloc, singles))
+}
+
+/// The value of `\s`.
+#[inline(never)]
+fn space_value(alloc: Global) -> Result<ClassValue, AllocError>
+    ensures { IfOk result (λ value. strings_of value ≡ only is_space) }
+{
+    let singles = set_of(alloc, &whitespace())?;
+    Ok(ClassValue::of_points(alloc, singles))
+}
+
+/// The value of `\w`.
+#[inline(never)]
+fn word_value(alloc: Global, tables: &Tables, folded: bool) -> Result<ClassValue, AllocError>
+    ensures { IfOk result (λ value. strings_of value ≡ only (is_word (table tables.now) folded)) }
+{
+    let singles = word_set(alloc, tables, folded)?;
+    Ok(ClassValue::of_points(alloc, singles))
+}
+
+/// The value of a property of code points.
+#[inline(never)]
+fn property_value(alloc: Global, tables: &Tables, key: &str) -> Result<ClassValue, AllocError>
+    ensures { IfOk result (λ value. strings_of value ≡ only (unwrap_or ((table tables.now).property (chars key.now)) (λ c. false))) }
+{
+    let singles = property_set(alloc, tables, key)?;
+    Ok(ClassValue::of_points(alloc, singles))
 }
 
 /// The strings that a class stands for, before case is ignored ("CompileToCharSet"). Folded: in Unicode mode, with case
@@ -183,58 +237,81 @@ pub(crate) fn class_value(
     requires { ClassIsOfPoints (class_view class.now) }
     ensures { IfOk result (λ value. strings_of value ≡ value_of (table tables.now) folded (class_view class.now)) }
 {
-    let singles = match class {
-        Class::Range { first, last } => set_of(
-            alloc,
-            &[Interval {
-                first: *first,
-                last: *last,
-            }],
-        )?,
-        Class::Digits => set_of(alloc, &digits())?,
-        Class::Spaces => set_of(alloc, &whitespace())?,
-        Class::Words => word_set(alloc, tables, folded)?,
-        Class::Property(key) => property_set(alloc, tables, key)?,
-        Class::Sequences(key) => return sequence_value(alloc, tables, key),
-        Class::Strings(strings) => return ClassValue::of_strings(alloc, strings),
-        Class::Union(members) => return union_value(alloc, tables, folded, members),
+    match class {
+        Class::Range { first, last } => range_value(alloc, *first, *last),
+        Class::Digits => digit_value(alloc),
+        Class::Spaces => space_value(alloc),
+        Class::Words => word_value(alloc, tables, folded),
+        Class::Property(key) => property_value(alloc, tables, key),
+        Class::Sequences(key) => sequence_value(alloc, tables, key),
+        Class::Strings(strings) => ClassValue::of_strings(alloc, strings),
+        Class::Union(members) => union_value(alloc, tables, folded, members),
         Class::Intersection(first, others) => {
-            let first = class_value(alloc, tables, folded, first)?;
-            return intersected_value(alloc, tables, folded, first, others);
+            let first = boxed_value(alloc, tables, folded, first)?;
+            intersected_value(alloc, tables, folded, first, others)
         }
         Class::Difference(first, others) => {
-            let first = class_value(alloc, tables, folded, first)?;
-            return subtracted_value(alloc, tables, folded, first, others);
+            let first = boxed_value(alloc, tables, folded, first)?;
+            subtracted_value(alloc, tables, folded, first, others)
         }
-        Class::Complement(contents) => {
-            return class_value(alloc, tables, folded, contents)?.complement(alloc);
-        }
+        Class::Complement(contents) => complement_value(alloc, tables, folded, contents),
         Class::Nested { negated, contents } => {
-            let value = class_value(alloc, tables, folded, contents)?;
-            return if *negated {
-                value.complement(alloc)
+            if *negated {
+                complement_value(alloc, tables, folded, contents)
             } else {
-                Ok(value)
-            };
+                class_value(alloc, tables, folded, contents)
+            }
         }
-    };
-    Ok(ClassValue::of_points(alloc, singles))
+    }
+}
+
+/// The same, in a box.
+#[cycle(class_value)]
+#[inline(never)]
+fn boxed_value(
+    alloc: Global,
+    tables: &Tables,
+    folded: bool,
+    class: &Class,
+) -> Result<Box<ClassValue>, AllocError>
+    requires { ClassIsOfPoints (class_view class.now) }
+    ensures { IfOk result (λ value. strings_of value.value ≡ value_of (table tables.now) folded (class_view class.now)) }
+{
+    let value = class_value(alloc, tables, folded, class)?;
+    Ok(Box::new(alloc, value)?)
+}
+
+/// The code points that a class does not hold ("CharacterComplement").
+#[cycle(class_value)]
+#[inline(never)]
+fn complement_value(
+    alloc: Global,
+    tables: &Tables,
+    folded: bool,
+    class: &Class,
+) -> Result<ClassValue, AllocError>
+    requires { ClassIsOfPoints (class_view class.now) }
+    ensures { IfOk result (λ value. strings_of value ≡ complement_of (value_of (table tables.now) folded (class_view class.now))) }
+{
+    let value = class_value(alloc, tables, folded, class)?;
+    value.complement(alloc)
 }
 
 /// The strings that stand in the first set and in each of these classes ("CompileToCharSet").
 #[cycle(class_value)]
+#[inline(never)]
 fn intersected_value(
     alloc: Global,
     tables: &Tables,
     folded: bool,
-    first: ClassValue,
+    first: Box<ClassValue>,
     others: &[Class],
 ) -> Result<ClassValue, AllocError>
     requires { All ClassIsOfPoints (map class_view others.now) }
-    ensures { (c : meaning.Class) → strings_of first ≡ value_of (table tables.now) folded c → IfOk result (λ value.
+    ensures { (c : meaning.Class) → strings_of first.value ≡ value_of (table tables.now) folded c → IfOk result (λ value.
         strings_of value ≡ value_of (table tables.now) folded (fold intersection c (map class_view others.now))) }
 {
-    let mut value = first;
+    let mut value = Box::into_inner(first);
     for other in others {
         let other = class_value(alloc, tables, folded, other)?;
         value = value.intersection(alloc, other)?;
@@ -244,18 +321,19 @@ fn intersected_value(
 
 /// The strings that stand in the first set and in none of these classes ("CompileToCharSet").
 #[cycle(class_value)]
+#[inline(never)]
 fn subtracted_value(
     alloc: Global,
     tables: &Tables,
     folded: bool,
-    first: ClassValue,
+    first: Box<ClassValue>,
     others: &[Class],
 ) -> Result<ClassValue, AllocError>
     requires { All ClassIsOfPoints (map class_view others.now) }
-    ensures { (c : meaning.Class) → strings_of first ≡ value_of (table tables.now) folded c → IfOk result (λ value.
+    ensures { (c : meaning.Class) → strings_of first.value ≡ value_of (table tables.now) folded c → IfOk result (λ value.
         strings_of value ≡ value_of (table tables.now) folded (fold difference c (map class_view others.now))) }
 {
-    let mut value = first;
+    let mut value = Box::into_inner(first);
     for other in others {
         let other = class_value(alloc, tables, folded, other)?;
         value = value.difference(alloc, other)?;
@@ -265,6 +343,7 @@ fn subtracted_value(
 
 /// The strings of classes side by side ("CompileToCharSet").
 #[cycle(class_value)]
+#[inline(never)]
 fn union_value(
     alloc: Global,
     tables: &Tables,
@@ -284,6 +363,7 @@ fn union_value(
 
 /// Adds a value behind others, joined with those before it that are not much larger: each has then more than twice as many
 /// intervals as the next. So a class of many members does not copy its whole union for each.
+#[inline(never)]
 fn push_joined(values: &mut Vec<ClassValue>, value: ClassValue) -> Result<(), AllocError>
     ensures { OnOk result (all_united values.new.items ≡ united (all_united values.old.items) (strings_of value)) }
 {
@@ -301,6 +381,7 @@ fn push_joined(values: &mut Vec<ClassValue>, value: ClassValue) -> Result<(), Al
 }
 
 /// The members of all values.
+#[inline(never)]
 fn joined(alloc: Global, values: Vec<ClassValue>) -> Result<ClassValue, AllocError>
     ensures { IfOk result (λ value. strings_of value ≡ all_united values.items) }
 {

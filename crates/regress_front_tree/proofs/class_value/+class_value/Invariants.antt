@@ -10,9 +10,9 @@ abbrev pub invariant-union_value-loop-member : goal.invariant-union_value-loop-m
 invariant-union_value-loop-member l = all_united l.values.items ≡ value_of (table l.tables) l.folded (union_of (map class_view (take l.member-index l.members)))
 
 abbrev pub invariant-intersected_value-loop-other : goal.invariant-intersected_value-loop-other
-invariant-intersected_value-loop-other l = (c : meaning.Class) → strings_of l.fn.first ≡ value_of (table l.tables) l.folded c
+invariant-intersected_value-loop-other l = (c : meaning.Class) → strings_of l.fn.first.value ≡ value_of (table l.tables) l.folded c
     → strings_of l.value ≡ value_of (table l.tables) l.folded (fold meaning.intersection c (map class_view (take l.other-index l.others)))
 
 abbrev pub invariant-subtracted_value-loop-other : goal.invariant-subtracted_value-loop-other
-invariant-subtracted_value-loop-other l = (c : meaning.Class) → strings_of l.fn.first ≡ value_of (table l.tables) l.folded c
+invariant-subtracted_value-loop-other l = (c : meaning.Class) → strings_of l.fn.first.value ≡ value_of (table l.tables) l.folded c
     → strings_of l.value ≡ value_of (table l.tables) l.folded (fold meaning.difference c (map class_view (take l.other-index l.others)))
