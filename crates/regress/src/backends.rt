@@ -13,8 +13,9 @@ ghost use Rattle.regress.specs.Standing.{StandsFor, names_of_regex};
 
 use crate::api::Regex;
 pub use regress_engine_code::{emit, emit_units};
+pub use regress_engine_copying::PikeVMExecutor;
 pub use regress_engine_exec::BacktrackExecutor;
-use regress_engine_input::{AsciiInput, Utf8Input};
+pub use regress_engine_input::{AsciiInput, Utf8Input};
 pub use regress_engine_sought::{AnyText, AsciiText, Executor, TextKind};
 pub use regress_front::{optimize, try_parse};
 pub use regress_match::{MatchProducer, Matches};

@@ -10,6 +10,8 @@ mod example;
 #[cfg(test)]
 mod matches;
 #[cfg(test)]
+mod roads;
+#[cfg(test)]
 mod rows;
 #[cfg(test)]
 mod table;
