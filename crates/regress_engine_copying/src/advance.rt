@@ -168,10 +168,12 @@ impl<'a, 'r, Input: CharInput> Attempt<'a, 'r, Input> {
                 self.passed(dir, &MatchAnyExceptLineTerminator::new(), offset)
             }
             Insn::StartOfLine { multiline } => {
-                self.is_edge(Backward::new(), *multiline, offset).then_some(offset)
+                self.is_edge(Backward::new(), *multiline, offset)
+                    .then_some(offset)
             }
             Insn::EndOfLine { multiline } => {
-                self.is_edge(Forward::new(), *multiline, offset).then_some(offset)
+                self.is_edge(Forward::new(), *multiline, offset)
+                    .then_some(offset)
             }
             Insn::WordBoundary { invert } => {
                 (self.is_boundary(false, offset) != *invert).then_some(offset)

@@ -115,12 +115,7 @@ impl<'a, 'r, Input: CharInput> Attempt<'a, 'r, Input> {
     }
 
     /// Ends an iteration of the repetition that begins at an address.
-    fn end_iteration(
-        &self,
-        begin: usize,
-        state: State,
-        stack: &mut Stack,
-    ) -> Result<(), AllocError>
+    fn end_iteration(&self, begin: usize, state: State, stack: &mut Stack) -> Result<(), AllocError>
         requires suits { Suits (program_of self.now.program.now) (Input.view self.now.input) }
         requires whole { IsWhole (program_of self.now.program.now) (state_of state) }
         requires stands { Stands (program_of self.now.program.now) state.at (loop_again begin) }

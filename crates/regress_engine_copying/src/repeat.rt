@@ -60,18 +60,19 @@ impl<'a, 'r, Input: CharInput> Attempt<'a, 'r, Input> {
         ensures { OnOk result (ends.new.items ≡ one_by_one (program_of self.now.program.now) (input_of (Input.view self.now.input)) times (instruction insn.now) (way forward) (map marks_of groups.now) offset) }
     {
         ends.clear();
-        ends.push(offset)?;
         let mut behind = offset;
         let mut left = times;
-        while left > 0 {
+        'ends: loop {
+            ends.push(behind)?;
+            if left == 0 {
+                return Ok(());
+            }
             let Some(next) = self.advance(insn, forward, groups, behind) else {
                 return Ok(());
             };
-            ends.push(next)?;
             behind = next;
             left -= 1;
         }
-        Ok(())
     }
 
     /// Puts the states behind a one-character loop on top, the preferred one topmost.

@@ -1,5 +1,5 @@
 //! What waits to be tried.
-ghost use Rattle.std.specs.Prelude.{◌≡◌, ◌+◌, ◌^◌, ◌<◌, ◌∷◌, [], None, map, not, option_map, option_to_list, reverse, IfOk, MatchOption, OnOk};
+ghost use Rattle.std.specs.Prelude.{◌≡◌, ◌+◌, ◌^◌, ◌<◌, ◌∷◌, [], None, true, map, not, option_map, option_to_list, reverse, IfOk, MatchOption, OnOk};
 ghost use Rattle.regress_meaning.specs.Inputs.{Input};
 ghost use Rattle.regress_engine_code.specs.Instructions.{Program};
 ghost use Rattle.regress_engine_runs.specs.States.{onward};
