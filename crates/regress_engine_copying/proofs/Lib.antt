@@ -4,3 +4,4 @@ pub mod StateLemmas
 pub mod LeaveLemmas
 pub mod PlainLemmas
 pub mod EndLemmas
+pub mod TryLemmas

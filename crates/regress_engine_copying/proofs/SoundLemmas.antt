@@ -111,3 +111,7 @@ module _ (program : Program) where
   alone-sound o h b is =
       subst (λ (x : Held). AreSound program x.entries) (sym is)
       (record { loops = length-replicate program.loops (0, 0); groups = length-replicate program.groups unset }, tt)
+
+  -- a state at another address
+  pub whole-at : (s : Whole) (a : ℕ) → IsWhole program s → IsWhole program (record s { at = a })
+  whole-at s a w = record { loops = w.loops; groups = w.groups }

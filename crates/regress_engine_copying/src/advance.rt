@@ -1,5 +1,5 @@
 //! Instructions that change nothing but the offset.
-ghost use Rattle.std.specs.Prelude.{◌≡◌, ◌<◌, ◌&&◌, ◌||◌, List, false, not, map, length, is_some, option_map};
+ghost use Rattle.std.specs.Prelude.{◌≡◌, ◌<◌, ◌&&◌, ◌||◌, List, true, false, not, map, length, is_some, option_map};
 ghost use Rattle.regress_meaning.specs.Meaning.{is_line_end, is_some_and, word_at};
 ghost use Rattle.regress_meaning.specs.Steps.{passed, literal, point, at_boundary};
 ghost use Rattle.regress_engine_code.specs.InsnViews.{instruction};
@@ -27,7 +27,7 @@ use regress_front_core::GroupData;
 
 impl<'a, 'r, Input: CharInput> Attempt<'a, 'r, Input> {
     /// The offset behind the character beside one, where that passes a test.
-    fn passed<Dir: Direction, Test: SingleCharMatcher<Input, Dir>>(
+    pub(crate) fn passed<Dir: Direction, Test: SingleCharMatcher<Input, Dir>>(
         &self,
         dir: Dir,
         test: &Test,

@@ -18,8 +18,9 @@ impl Stack {
         ensures sound { (program : Program) → AreSound program (held self.old).entries → AreSound program (held self.new).entries × IfSome (option_map look_of result) (λ x. HasGroups program x.0 × IsWhole program x.1) }
     {
         while let Some(pending) = self.pop() {
-            if let Pending::Look(frame, state) = pending {
-                return Some((frame, state));
+            match pending {
+                Pending::Tried(state) => drop(state),
+                Pending::Look(frame, state) => return Some((frame, state)),
             }
         }
         None

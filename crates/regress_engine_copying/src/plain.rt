@@ -44,7 +44,7 @@ impl Stack {
     {
         let id = repetition.loop_id as usize;
         let exit = repetition.exit as usize;
-        let count = state.loops[id].iters;
+        let count = state.loop_data(id).iters;
         if count >= repetition.max_iters {
             if count >= repetition.min_iters {
                 state.at = exit;
@@ -53,11 +53,11 @@ impl Stack {
             return Ok(());
         }
         if count < repetition.min_iters {
-            state.iterate(id, begin);
+            state.iterate(id, count, begin);
             return self.push(state);
         }
         let out = state.copy_at(exit)?;
-        state.iterate(id, begin);
+        state.iterate(id, count, begin);
         if repetition.greedy {
             self.push(out)?;
             return self.push(state);

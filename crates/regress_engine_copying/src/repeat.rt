@@ -38,8 +38,13 @@ impl<'a, 'r, Input: CharInput> Attempt<'a, 'r, Input> {
         ensures place { IfSome result (IsAtPlace (reading_of (Input.view self.now.input))) }
     {
         let mut behind = offset;
-        for _ in 0..times {
-            behind = self.advance(insn, forward, groups, behind)?;
+        let mut left = times;
+        while left > 0 {
+            let Some(next) = self.advance(insn, forward, groups, behind) else {
+                return None;
+            };
+            behind = next;
+            left -= 1;
         }
         Some(behind)
     }

@@ -14,7 +14,8 @@ use crate::attempt::Attempt;
 use crate::stack::Stack;
 use crate::state::State;
 use regress_engine_code::CompiledRegex;
-use regress_engine_input::{InputIndexer, PositionType};
+use regress_engine_input::{Direction, Forward};
+use regress_engine_matchers::MatchAny;
 use regress_engine_sought::{ExecutorInput, Shown, Subject, captures};
 use regress_match::{Match, MatchProducer};
 use std::alloc::{AllocError, Global};
@@ -73,11 +74,10 @@ impl<'r, Input: ExecutorInput> PikeVMExecutor<'r, Input> {
             if let Some(found) = attempt.run(self.alloc, &mut self.stack, &mut self.ends)? {
                 return Ok(Some((start, found)));
             }
-            let position = <Input::Position as PositionType>::new(start);
-            let Some(behind) = input.next_right_pos(position) else {
+            let Some(behind) = attempt.passed(Forward::new(), &MatchAny::new(), start) else {
                 return Ok(None);
             };
-            from = input.pos_to_offset(behind);
+            from = behind;
         }
     }
 

@@ -3,7 +3,8 @@ ghost use Rattle.std.specs.Prelude.{◌≡◌, ◌+◌, ◌^◌, ◌<◌, ◌≤
 ghost use Rattle.regress_engine_code.specs.InsnViews.{fields};
 ghost use Rattle.regress_engine_input.specs.Views.{way};
 ghost use Rattle.regress_engine_runs.specs.States.{unset, onward, begun, mixed};
-ghost use Rattle.regress_engine_runs.specs.Runs.{one_more, is_idle};
+ghost use Rattle.regress_engine_runs.specs.Runs.{count_of, one_more, is_idle};
+ghost use Rattle.regress_engine_sought.specs.StateViews.{loop_of, marks_of};
 ghost use Rattle.regress_engine_copying.specs.StateOf.{state_of};
 
 use regress_engine_code::LoopFields;
@@ -23,6 +24,23 @@ pub(crate) struct State {
     pub(crate) groups: Vec<GroupData<usize>>,
 }
 
+/// The marks of a group that starts at an offset, or else ends there.
+fn marked(data: GroupData<usize>, starts: bool, offset: usize) -> GroupData<usize>
+    ensures { marks_of result ≡ begun (way starts) offset (marks_of data) }
+{
+    if starts {
+        GroupData {
+            start: Some(offset),
+            end: data.end,
+        }
+    } else {
+        GroupData {
+            start: data.start,
+            end: Some(offset),
+        }
+    }
+}
+
 impl State {
     /// At the first instruction and an offset, with so many loops and groups, of which nothing is known.
     pub(crate) fn first(
@@ -33,14 +51,15 @@ impl State {
     ) -> Result<State, AllocError>
         ensures { IfOk result (λ s. state_of s ≡ record { at = 0; offset = offset; loops = replicate loops (0, 0); groups = replicate groups unset }) }
     {
-        let loops = vec![in alloc; LoopData::new(0); loops]?;
-        let groups = vec![in alloc; GroupData::new(); groups]?;
-        Ok(State {
+        let mut state = State {
             at: 0,
             offset,
-            loops,
-            groups,
-        })
+            loops: Vec::new(alloc),
+            groups: Vec::new(alloc),
+        };
+        state.loops.resize(loops, LoopData::new(0))?;
+        state.groups.resize(groups, GroupData::new())?;
+        Ok(state)
     }
 
     /// The same state at another address, with loops and groups of its own.
@@ -55,26 +74,48 @@ impl State {
         })
     }
 
+    /// The data of a loop.
+    pub(crate) fn loop_data(&self, id: usize) -> LoopData<usize>
+        requires { id < length (state_of self.now).loops }
+        ensures { loop_of result ≡ get_or (state_of self.now).loops id (0, 0) }
+    {
+        self.loops[id]
+    }
+
+    /// The marks of a group.
+    fn group_data(&self, group: usize) -> GroupData<usize>
+        requires { group < length (state_of self.now).groups }
+        ensures { marks_of result ≡ get_or (state_of self.now).groups group unset }
+    {
+        self.groups[group]
+    }
+
+    /// Writes a loop's data.
+    fn set_loop(&mut self, id: usize, data: LoopData<usize>)
+        requires { id < length (state_of self.old).loops }
+        ensures { state_of self.new ≡ record (state_of self.old) { loops = slice_set (state_of self.old).loops id (loop_of data) } }
+    {
+        self.loops[id] = data;
+    }
+
+    /// Writes a group's marks.
+    fn set_group(&mut self, group: usize, data: GroupData<usize>)
+        requires { group < length (state_of self.old).groups }
+        ensures { state_of self.new ≡ record (state_of self.old) { groups = slice_set (state_of self.old).groups group (marks_of data) } }
+    {
+        self.groups[group] = data;
+    }
+
     /// Marks where a group starts, or else where it ends, and goes one instruction further.
     pub(crate) fn mark(&mut self, group: usize, starts: bool)
         requires room { self.old.at + 1 < 2 ^ 64 }
         requires there { group < length (state_of self.old).groups }
         ensures { state_of self.new ≡ onward (record (state_of self.old) { groups = slice_set (state_of self.old).groups group (begun (way starts) self.old.offset (get_or (state_of self.old).groups group unset)) }) }
     {
-        let data = self.groups[group];
-        let marks = if starts {
-            GroupData {
-                start: Some(self.offset),
-                end: data.end,
-            }
-        } else {
-            GroupData {
-                start: data.start,
-                end: Some(self.offset),
-            }
-        };
-        self.groups[group] = marks;
+        let data = self.group_data(group);
+        let marks = marked(data, starts, self.offset);
         self.at += 1;
+        self.set_group(group, marks);
     }
 
     /// Forgets what a group has taken, and goes one instruction further.
@@ -83,8 +124,8 @@ impl State {
         requires there { group < length (state_of self.old).groups }
         ensures { state_of self.new ≡ onward (record (state_of self.old) { groups = slice_set (state_of self.old).groups group unset }) }
     {
-        self.groups[group] = GroupData::new();
         self.at += 1;
+        self.set_group(group, GroupData::new());
     }
 
     /// Enters a loop, of which no iteration has begun.
@@ -92,22 +133,25 @@ impl State {
         requires { id < length (state_of self.old).loops }
         ensures { state_of self.new ≡ record (state_of self.old) { loops = slice_set (state_of self.old).loops id (0, self.old.offset) } }
     {
-        self.loops[id] = LoopData::new(self.offset);
+        self.set_loop(id, LoopData::new(self.offset));
     }
 
-    /// Begins one more iteration of a loop, whose repetition begins at an address.
-    pub(crate) fn iterate(&mut self, id: usize, begin: usize)
+    /// Begins one more iteration of a loop, of which so many have begun, and whose repetition begins at an address.
+    pub(crate) fn iterate(&mut self, id: usize, count: usize, begin: usize)
         requires there { id < length (state_of self.old).loops }
-        requires count { (get_or (state_of self.old).loops id (0, 0)).0 + 1 < 2 ^ 64 }
+        requires counted { count ≡ count_of id (state_of self.old) }
+        requires room { count + 1 < 2 ^ 64 }
         requires begin { begin + 1 < 2 ^ 64 }
         ensures { state_of self.new ≡ one_more id begin (state_of self.old) }
     {
-        let count = self.loops[id].iters;
-        self.loops[id] = LoopData {
-            iters: count + 1,
-            entry: self.offset,
-        };
         self.at = begin + 1;
+        self.set_loop(
+            id,
+            LoopData {
+                iters: count + 1,
+                entry: self.offset,
+            },
+        );
     }
 
     /// Whether an iteration past the least number ends where it began.
@@ -126,8 +170,8 @@ impl State {
         ensures { state_of self.new ≡ record (state_of self.old) { groups = mixed 0 first last (state_of other.now).groups (state_of self.old).groups } }
     {
         for group in first..last {
-            let marks = other.groups[group as usize];
-            self.groups[group as usize] = marks;
+            let marks = other.group_data(group as usize);
+            self.set_group(group as usize, marks);
         }
     }
 }
