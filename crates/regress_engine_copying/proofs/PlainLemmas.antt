@@ -1,10 +1,16 @@
 -- What plain instructions lead to.
-use Rattle.std.specs.Prelude.{get_or, nat_le, nat_lt, slice_get}
-use Rattle.std.proofs.Common.{◌≡◌, ℕ, suc, ◌+◌, ◌<◌, ◌≤◌, Bool, true, false, List, [], ◌∷◌, Option, Some, None, if◌then◌else◌, refl, sym, ap, ◌∙◌, arith}
+use Rattle.std.specs.Prelude.{nat_le, nat_lt}
+use Rattle.std.proofs.Common.{◌≡◌, ℕ, ◌+◌, ◌<◌, ◌≤◌, Bool, true, false, not, [], ◌∷◌, Some, None, refl, sym, ap, ◌∙◌, arith}
 use Rattle.std.proofs.lemmas.Bool.Decides.{nat_tests}
-use Rattle.regress_engine_code.specs.Instructions.{LoopFields}
-use Rattle.regress_engine_runs.specs.States.{Whole}
-use Rattle.regress_engine_runs.specs.Runs.{count_of, one_more, choices, ordered}
+use Rattle.regress_meaning.specs.Meaning.{Direction}
+use Rattle.regress_meaning.specs.Inputs.{Input}
+use Rattle.regress_engine_input.specs.Views.{way}
+use Rattle.regress_engine_code.specs.Instructions.{Instruction, LoopFields, Program}
+use Rattle.regress_engine_runs.specs.States.{Marks, Whole, begun, ended}
+use Rattle.regress_engine_runs.specs.Runs.{advance, count_of, one_more, choices, moved_to, successors}
+use Rattle.regress_engine_sought.specs.Ready.{is_simple}
+use Rattle.regress_engine_sought.proofs.InsnLemmas.{simple-successors}
+use Rattle.regress_engine_copying.proofs.StateLemmas.{next-is}
 use Rattle.regress_engine_runs.proofs.Choices.{choices-are, ordered-none, ordered-out, ordered-more}
 
 module _ (f : LoopFields) (begin : ℕ) (s : Whole) (count : ℕ) (counted : count ≡ count_of f.loop_id s) where
@@ -40,3 +46,15 @@ module _ (f : LoopFields) (begin : ℕ) (s : Whole) (count : ℕ) (counted : cou
 
   pub choose-lazy : count < f.most → f.least ≤ count → f.greedy ≡ false → choices f begin s ≡ out ∷ more ∷ []
   choose-lazy less enough lazy = choices-are f begin s false true true lazy (more-true less) (out-true enough)
+
+-- a group ends where one that is read the other way begins
+pub ended-is : (b : Bool) (o : ℕ) (m : Marks) → begun (way (not b)) o m ≡ ended (way b) o m
+ended-is true o m = refl
+ended-is false o m = refl
+
+module _ (program : Program) (input : Input) (i : Instruction) (dir : Direction) (s : Whole) (simple : is_simple i ≡ true) where
+  pub take-none : None ≡ advance program input i dir s.groups s.offset → [] ≡ successors program input i dir s
+  take-none e = ap (moved_to s) e ∙ sym (simple-successors program input i dir s simple)
+
+  pub take-some : (o : ℕ) → Some o ≡ advance program input i dir s.groups s.offset → record s { at = s.at + 1; offset = o } ∷ [] ≡ successors program input i dir s
+  take-some o e = ap (λ a. record s { at = a; offset = o } ∷ []) (next-is s.at) ∙ ap (moved_to s) e ∙ sym (simple-successors program input i dir s simple)

@@ -115,3 +115,8 @@ module _ (program : Program) where
   -- a state at another address
   pub whole-at : (s : Whole) (a : ℕ) → IsWhole program s → IsWhole program (record s { at = a })
   whole-at s a w = record { loops = w.loops; groups = w.groups }
+
+  -- one state on top
+  pub pushed-sound : (s : Whole) (h k : Held) → k ≡ put (s ∷ []) h → IsWhole program s → AreSound program h.entries → AreSound program k.entries
+  unfolding AreSound
+  pushed-sound s h k is w sound = subst (λ (x : Held). AreSound program x.entries) (sym is) (w, sound)

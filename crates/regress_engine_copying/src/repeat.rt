@@ -67,7 +67,7 @@ impl<'a, 'r, Input: CharInput> Attempt<'a, 'r, Input> {
         ends.clear();
         let mut behind = offset;
         let mut left = times;
-        'ends: loop {
+        'iterations: loop {
             ends.push(behind)?;
             if left == 0 {
                 return Ok(());
@@ -102,9 +102,11 @@ impl<'a, 'r, Input: CharInput> Attempt<'a, 'r, Input> {
             return Ok(());
         };
         self.collect(insn, most - least, forward, &state.groups, near, ends)?;
-        if !greedy {
-            ends.reverse();
+        let at = state.at + 2;
+        if greedy {
+            return stack.push_each(state, at, ends.as_slice());
         }
-        stack.push_each(state, state.at + 2, ends)
+        ends.reverse();
+        stack.push_each(state, at, ends.as_slice())
     }
 }

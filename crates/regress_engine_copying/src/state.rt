@@ -167,7 +167,8 @@ impl State {
     pub(crate) fn take_groups(&mut self, first: CaptureGroupID, last: CaptureGroupID, other: &State)
         requires there { (k : ℕ) → first ≤ k → k < last → k < length (state_of self.old).groups }
         requires count { length (state_of other.now).groups ≡ length (state_of self.old).groups }
-        ensures { state_of self.new ≡ record (state_of self.old) { groups = mixed 0 first last (state_of other.now).groups (state_of self.old).groups } }
+        ensures count { length (state_of self.new).groups ≡ length (state_of self.old).groups }
+        ensures taken { state_of self.new ≡ record (state_of self.old) { groups = mixed 0 first last (state_of other.now).groups (state_of self.old).groups } }
     {
         for group in first..last {
             let marks = other.group_data(group as usize);

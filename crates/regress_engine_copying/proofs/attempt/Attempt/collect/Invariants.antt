@@ -8,12 +8,12 @@ use Rattle.regress_engine_sought.specs.StateViews.{marks_of}
 use Rattle.regress_engine_copying.proofs.attempt.Attempt.collect.Given as goal
 
 -- those collected, and those from here on
-abbrev pub invariant-ends : goal.invariant-ends
-invariant-ends g l = record {
+abbrev pub invariant-iterations : goal.invariant-iterations
+invariant-iterations g l = record {
   rest : l.ends.items ++ one_by_one (program_of l.self.program.now) (input_of (g.Input.InputIndexer.view l.self.input)) l.left (instruction l.insn) (way l.forward) (map marks_of l.groups) l.behind
       ≡ one_by_one (program_of l.self.program.now) (input_of (g.Input.InputIndexer.view l.self.input)) l.times (instruction l.insn) (way l.forward) (map marks_of l.groups) l.offset;
   place : IsAtPlace (reading_of (g.Input.InputIndexer.view l.self.input)) l.behind;
 }
 
-abbrev pub decreases-ends : goal.decreases-ends
-decreases-ends g l = l.left
+abbrev pub decreases-iterations : goal.decreases-iterations
+decreases-iterations g l = l.left

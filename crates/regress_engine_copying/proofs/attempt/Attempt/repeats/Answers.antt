@@ -18,4 +18,3 @@ backref-requires-clause-end g c = can-read (g.Input.InputIndexer.view c.args.sel
 
 pub backref-requires-clause-position : goal.backref-requires-clause-position
 backref-requires-clause-position g c = can-read (g.Input.InputIndexer.view c.args.self.now.input) (g.met.Input.InputIndexer.are_of_kind c.args.self.now.input) _ c.requires.place
-

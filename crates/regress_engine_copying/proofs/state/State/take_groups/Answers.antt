@@ -40,8 +40,8 @@ loop-group-preserved c =
       none = λ none. let less = c.loop-group-test.true in absurd (omega (arith, none, low, less));
     }
 
-pub returns : goal.returns
-returns c =
+pub returns-clause-taken : goal.returns-clause-taken
+returns-clause-taken c =
     let s = state_of c.args.self.now in
     let others = (state_of c.args.other.now).groups in
     let low = c.loop-group.auto.group in
