@@ -1,5 +1,5 @@
 -- What is written of a state.
-use Rattle.std.specs.Prelude.{get_or, slice_set, replicate, OnOk}
+use Rattle.std.specs.Prelude.{get_or, slice_set, replicate, IfOk, OnOk}
 use Rattle.std.proofs.Common.{◌≡◌, ℕ, zero, suc, ◌+◌, ◌-◌, ◌<◌, ◌≤◌, List, [], ◌∷◌, ◌++◌, length, map, take, Result, Ok, Err, refl, sym, ap, ap₂, ◌∙◌, arith}
 use Rattle.regress_engine_runs.specs.States.{Whole, Marks, unset, mixed, onward}
 use Rattle.regress_engine_runs.specs.Runs.{count_of, one_more}
@@ -51,3 +51,7 @@ carried s j t g first others m is before same from count there =
 pub ok-on : {T E X : Type 0} (r : Result T E) (x y z : X) → y ≡ z → OnOk r (x ≡ y) → OnOk r (x ≡ z)
 ok-on (Ok t) x y z same h = h ∙ same
 ok-on (Err e) x y z same h = tt
+
+pub ok-then : {T E : Type 0} (r : Result T E) (P Q : T → Type 0) → ((x : T) → P x → Q x) → IfOk r P → IfOk r Q
+ok-then (Ok x) P Q f h = f x h
+ok-then (Err e) P Q f h = tt

@@ -25,17 +25,17 @@ pub(crate) struct State {
 }
 
 /// The marks of a group that starts at an offset, or else ends there.
-fn marked(data: GroupData<usize>, starts: bool, offset: usize) -> GroupData<usize>
-    ensures { marks_of result ≡ begun (way starts) offset (marks_of data) }
+fn marked(old: GroupData<usize>, starts: bool, offset: usize) -> GroupData<usize>
+    ensures { marks_of result ≡ begun (way starts) offset (marks_of old) }
 {
     if starts {
         GroupData {
             start: Some(offset),
-            end: data.end,
+            end: old.end,
         }
     } else {
         GroupData {
-            start: data.start,
+            start: old.start,
             end: Some(offset),
         }
     }
@@ -91,19 +91,19 @@ impl State {
     }
 
     /// Writes a loop's data.
-    fn set_loop(&mut self, id: usize, data: LoopData<usize>)
+    fn set_loop(&mut self, id: usize, value: LoopData<usize>)
         requires { id < length (state_of self.old).loops }
-        ensures { state_of self.new ≡ record (state_of self.old) { loops = slice_set (state_of self.old).loops id (loop_of data) } }
+        ensures { state_of self.new ≡ record (state_of self.old) { loops = slice_set (state_of self.old).loops id (loop_of value) } }
     {
-        self.loops[id] = data;
+        self.loops[id] = value;
     }
 
     /// Writes a group's marks.
-    fn set_group(&mut self, group: usize, data: GroupData<usize>)
+    fn set_group(&mut self, group: usize, value: GroupData<usize>)
         requires { group < length (state_of self.old).groups }
-        ensures { state_of self.new ≡ record (state_of self.old) { groups = slice_set (state_of self.old).groups group (marks_of data) } }
+        ensures { state_of self.new ≡ record (state_of self.old) { groups = slice_set (state_of self.old).groups group (marks_of value) } }
     {
-        self.groups[group] = data;
+        self.groups[group] = value;
     }
 
     /// Marks where a group starts, or else where it ends, and goes one instruction further.
@@ -112,8 +112,8 @@ impl State {
         requires there { group < length (state_of self.old).groups }
         ensures { state_of self.new ≡ onward (record (state_of self.old) { groups = slice_set (state_of self.old).groups group (begun (way starts) self.old.offset (get_or (state_of self.old).groups group unset)) }) }
     {
-        let data = self.group_data(group);
-        let marks = marked(data, starts, self.offset);
+        let old = self.group_data(group);
+        let marks = marked(old, starts, self.offset);
         self.at += 1;
         self.set_group(group, marks);
     }

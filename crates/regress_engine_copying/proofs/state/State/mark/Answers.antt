@@ -10,5 +10,5 @@ pub returns : goal.returns
 returns c =
     let s = state_of c.args.self.now in
     c.set_group.ensures
-    ∙ ap (λ m. record s { at = s.at + 1; groups = slice_set s.groups c.args.group m }) (c.marked-marks.ensures ∙ ap (begun (way c.args.starts) s.offset) c.group_data-data.ensures)
+    ∙ ap (λ m. record s { at = s.at + 1; groups = slice_set s.groups c.args.group m }) (c.marked-marks.ensures ∙ ap (begun (way c.args.starts) s.offset) c.group_data-old.ensures)
     ∙ at-is (record s { groups = slice_set s.groups c.args.group _ }) _ _ (next-is s.at)
