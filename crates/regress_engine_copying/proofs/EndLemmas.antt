@@ -17,7 +17,7 @@ use Rattle.regress_front_nodes.specs.TreeMeaning.{bracket_has}
 use Rattle.regress_engine_input.specs.Views.{View, AreOfKind, are_bytes, input_of, reading_of}
 use Rattle.regress_engine_input.proofs.KindLemmas.{tells}
 use Rattle.regress_engine_matchers.proofs.ByteLemmas.{in-bytes}
-use Rattle.regress_engine_matchers.proofs.SequenceLemmas.{sees_sequence, is_spelled}
+use Rattle.regress_engine_matchers.proofs.SequenceLemmas.{sees_sequence}
 use Rattle.regress_engine_code.specs.Instructions.{Instruction, Program, Stands}
 use Rattle.regress_engine_code.specs.Instructions as code
 use Rattle.regress_engine_code.proofs.LiteralLemmas.{one-character}
@@ -192,7 +192,7 @@ put-last xs ys o all e = append_assoc xs (o ∷ []) ys ∙ e
 -- ---- the states behind a loop
 
 module _ (program : Program) (v : View) (i : Instruction) (s : Whole) (dir : Direction) (here : Stands program (s.at + 1) i) (least most : ℕ) where
-  abbrev ends_at : Whole → List ℕ → List Whole
+  abbrev pub ends_at : Whole → List ℕ → List Whole
   ends_at t os = map (λ o. record t { at = s.at + 2; offset = o }) os
 
   abbrev counts : Bool → Option ℕ → List ℕ

@@ -6,8 +6,11 @@ use Rattle.regress_meaning.specs.Meaning.{Direction}
 use Rattle.regress_meaning.specs.Inputs.{Input}
 use Rattle.regress_engine_input.specs.Views.{way}
 use Rattle.regress_engine_code.specs.Instructions.{Instruction, LoopFields, Program}
+use Rattle.regress_engine_code.specs.InsnViews.{instruction}
+use Rattle.regress_engine_code.specs.declared.insn.Insn.{Insn}
+use Rattle.regress_engine_code.specs.declared.insn.Insn.TheVariants.{Goal, Lookahead, Lookbehind}
 use Rattle.regress_engine_runs.specs.States.{Marks, Whole, begun, ended}
-use Rattle.regress_engine_runs.specs.Runs.{advance, count_of, one_more, choices, moved_to, successors}
+use Rattle.regress_engine_runs.specs.Runs.{advance, count_of, one_more, choices, is_plain, moved_to, successors}
 use Rattle.regress_engine_sought.specs.Ready.{is_simple}
 use Rattle.regress_engine_sought.proofs.InsnLemmas.{simple-successors}
 use Rattle.regress_engine_copying.proofs.StateLemmas.{next-is}
@@ -58,3 +61,11 @@ module _ (program : Program) (input : Input) (i : Instruction) (dir : Direction)
 
   pub take-some : (o : ℕ) → Some o ≡ advance program input i dir s.groups s.offset → record s { at = s.at + 1; offset = o } ∷ [] ≡ successors program input i dir s
   take-some o e = ap (λ a. record s { at = a; offset = o } ∷ []) (next-is s.at) ∙ ap (moved_to s) e ∙ sym (simple-successors program input i dir s simple)
+
+-- what is no goal and no lookaround is plain
+pub others-plain : (j : Insn) → (j ≡ Goal → ⊥) → ((n : Bool) (first last on : ℕ) → j ≡ Lookahead n first last on → ⊥) → ((n : Bool) (first last on : ℕ) → j ≡ Lookbehind n first last on → ⊥)
+    → is_plain (instruction j) ≡ true
+others-plain Goal goal ahead behind = absurd (goal refl)
+others-plain (Lookahead n first last on) goal ahead behind = absurd (ahead n first last on refl)
+others-plain (Lookbehind n first last on) goal ahead behind = absurd (behind n first last on refl)
+others-plain _ goal ahead behind = refl

@@ -94,7 +94,7 @@ module _ (program : Program) where
       → AreSound program h.entries → AreSound program k.entries
   unfolding AreSound
   look-sound f s b h k is groups w sound =
-      subst (λ (x : Held). AreSound program x.entries) (sym is) (record { loops = w.loops; groups = w.groups }, (w, (groups, sound)))
+      subst (λ (x : Held). AreSound program x.entries) (sym is) (record { loops = w.loops; groups = w.groups }, (w, groups, sound))
 
   -- what was on top
   pub tried-sound : (s : Whole) (h : Held) → AreSound program (pushed (tried s) h).entries → AreSound program h.entries × IsWhole program s
@@ -103,7 +103,7 @@ module _ (program : Program) where
 
   pub looked-sound : (f : Frame) (s : Whole) (h : Held) → AreSound program (pushed (look f s) h).entries → AreSound program h.entries × HasGroups program f × IsWhole program s
   unfolding AreSound
-  looked-sound f s h sound = (sound.2, (sound.1, sound.0))
+  looked-sound f s h sound = (sound.2, sound.1, sound.0)
 
   -- one state, and nothing else
   pub alone-sound : (o : ℕ) (h : Held) (b : Bool) → h ≡ record { forward = b; entries = tried (first_state program o) ∷ [] } → AreSound program h.entries

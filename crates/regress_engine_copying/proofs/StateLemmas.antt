@@ -1,6 +1,6 @@
 -- What is written of a state.
 use Rattle.std.specs.Prelude.{get_or, slice_set, replicate, IfOk, OnOk}
-use Rattle.std.proofs.Common.{◌≡◌, ℕ, zero, suc, ◌+◌, ◌-◌, ◌<◌, ◌≤◌, List, [], ◌∷◌, ◌++◌, length, map, take, Result, Ok, Err, refl, sym, ap, ap₂, ◌∙◌, arith}
+use Rattle.std.proofs.Common.{◌≡◌, ℕ, zero, suc, ◌+◌, ◌-◌, ◌<◌, ◌≤◌, Bool, true, false, not, List, [], ◌∷◌, ◌++◌, length, map, take, Result, Ok, Err, refl, sym, ap, ap₂, ◌∙◌, arith}
 use Rattle.regress_engine_runs.specs.States.{Whole, Marks, unset, mixed, onward}
 use Rattle.regress_engine_runs.specs.Runs.{count_of, one_more}
 use Rattle.regress_engine_runs.specs.UndoStack.{whole}
@@ -55,3 +55,12 @@ ok-on (Err e) x y z same h = tt
 pub ok-then : {T E : Type 0} (r : Result T E) (P Q : T → Type 0) → ((x : T) → P x → Q x) → IfOk r P → IfOk r Q
 ok-then (Ok x) P Q f h = f x h
 ok-then (Err e) P Q f h = tt
+
+-- a test the other way round
+pub not-so : (b : Bool) → not b ≡ true → b ≡ false
+not-so true e = absurd (cc e)
+not-so false e = refl
+
+pub is-so : (b : Bool) → not b ≡ false → b ≡ true
+is-so true e = refl
+is-so false e = absurd (cc e)

@@ -19,12 +19,12 @@ iterations-init g c =
       place = body.3;
     }
 
-pub returns-then-left : goal.returns-then-left
-returns-then-left g c =
+pub returns-then-left-eq0 : goal.returns-then-left-eq0
+returns-then-left-eq0 g c =
     let program = program_of c.args.self.now.program.now in
     let v = g.Input.InputIndexer.view c.args.self.now.input in
     c.in_ok-push.ensures.items
-    ∙ ap (λ xs. c.iterations.ends.items ++ xs) (sym (ends-full program v (instruction c.args.insn.now) (way c.args.forward) (map marks_of c.args.groups.now) c.iterations.left c.iterations.behind c.if-left.true))
+    ∙ ap (λ xs. c.iterations.ends.items ++ xs) (sym (ends-full program v (instruction c.args.insn.now) (way c.args.forward) (map marks_of c.args.groups.now) c.iterations.left c.iterations.behind c.if-left-eq0.true))
     ∙ c.iterations.invariant.rest
 
 pub advance-requires-clause-ready : goal.advance-requires-clause-ready

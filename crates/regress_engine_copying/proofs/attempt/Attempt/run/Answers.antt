@@ -18,7 +18,7 @@ loop-state-init g c =
     let program = program_of c.args.self.now.program.now in
     let v = g.Input.InputIndexer.view c.args.self.now.input in
     let start = c.args.self.now.start in
-    let told : state_of c.in_ok-first.state ≡ first_state program start = c.in_ok-first.ensures ∙ ap₂ (λ (l n : ℕ). record { at = 0; offset = start; loops = replicate l (0, 0); groups = replicate n unset }) c.loops-loops.ensures c.groups-groups.ensures in
+    let told : state_of c.in_ok-first.field-0 ≡ first_state program start = c.in_ok-first.ensures ∙ ap₂ (λ (l n : ℕ). record { at = 0; offset = start; loops = replicate l (0, 0); groups = replicate n unset }) c.loops-loops.ensures c.groups-groups.ensures in
     let is : held c.begin.new.self ≡ record { forward = true; entries = tried (first_state program start) ∷ [] } = c.in_ok-begin.ensures ∙ ap (λ (s : Whole). record { forward = true; entries = tried s ∷ [] }) told in
     record {
       tried = trying-first program v start c.args.self.now.ends (held c.begin.new.self) c.requires.reads is;
@@ -86,8 +86,8 @@ loop-state-preserved g c =
       sound = c.in_ok-found.ensures.sound;
     }
 
-pub returns-in_default : goal.returns-in_default
-returns-in_default g c =
+pub returns : goal.returns
+returns g c =
     let program = program_of c.args.self.now.program.now in
     let v = g.Input.InputIndexer.view c.args.self.now.input in
     trying-fails program v c.args.self.now.start c.args.self.now.ends (held c.next.new.self)

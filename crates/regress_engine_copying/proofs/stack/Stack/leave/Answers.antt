@@ -17,14 +17,14 @@ returns-then-frame-clause-leaves c = λ program input here.
 pub take_groups-requires-clause-there : goal.take_groups-requires-clause-there
 take_groups-requires-clause-there c = λ k low high.
     let was = c.in-Some.ensures.sound c.requires.0 c.requires.1 in
-    let less = was.1 k low high in
-    let same = was.2.groups in
+    let less = was.1.0 k low high in
+    let same = was.1.1.groups in
     omega (arith, less, same)
 
 pub take_groups-requires-clause-count : goal.take_groups-requires-clause-count
 take_groups-requires-clause-count c =
     let was = c.in-Some.ensures.sound c.requires.0 c.requires.1 in
-    c.requires.2.groups ∙ sym was.2.groups
+    c.requires.2.groups ∙ sym was.1.1.groups
 
 pub returns-clause-leaves : goal.returns-clause-leaves
 returns-clause-leaves c = λ program input here.
@@ -35,5 +35,5 @@ pub returns-clause-sound : goal.returns-clause-sound
 returns-clause-sound c = λ program sound whole.
     let was = c.in-Some.ensures.sound program sound in
     pushed-sound program _ (record (held c.unwind.new.self) { forward = c.in-Some.frame.forward }) (held c.push.new.self) c.in_ok-push.ensures
-    (record { loops = ap (λ (w : Whole). length w.loops) c.take_groups.ensures.taken ∙ was.2.loops; groups = c.take_groups.ensures.count ∙ was.2.groups })
+    (record { loops = ap (λ (w : Whole). length w.loops) c.take_groups.ensures.taken ∙ was.1.1.loops; groups = c.take_groups.ensures.count ∙ was.1.1.groups })
     was.0

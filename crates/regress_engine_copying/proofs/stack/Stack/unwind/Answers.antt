@@ -32,7 +32,7 @@ returns-in-Look-clause-sound c = λ program was.
     let s = state_of c.in-Look.state in
     let f = frame_of c.in-Look.frame s in
     let same : held c.loop-pending.self ≡ pushed (look f s) k = c.in-Some.ensures ∙ ap (λ p. pushed (entry_of p) k) c.in-Look.is in
-    looked-sound program f s k (subst (λ (h : Held). AreSound program h.entries) same (c.loop-pending.invariant.sound program was))
+    let found = looked-sound program f s k (subst (λ (h : Held). AreSound program h.entries) same (c.loop-pending.invariant.sound program was)) in (found.0, (found.1, found.2))
 
 pub returns-clause-outside : goal.returns-clause-outside
 returns-clause-outside c = c.loop-pending.invariant.outside ∙ none-outside (held c.loop-pending.self) c.in_default.ensures.1
