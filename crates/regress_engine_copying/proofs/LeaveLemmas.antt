@@ -1,0 +1,56 @@
+-- A goal is left.
+use Rattle.std.proofs.Common.{◌≡◌, Bool, true, false, [], ◌∷◌, Option, Some, None, refl, sym, ap, ◌∙◌, subst}
+use Rattle.regress_meaning.specs.Inputs.{Input}
+use Rattle.regress_engine_input.specs.Views.{way}
+use Rattle.regress_engine_code.specs.Instructions.{Program, Stands, goal}
+use Rattle.regress_engine_runs.specs.States.{Whole, mixed}
+use Rattle.regress_engine_runs.specs.Runs.{after_look}
+use Rattle.regress_engine_runs.specs.UndoStack.{Frame, Work, outermost, inside, first_do}
+use Rattle.regress_engine_sought.specs.Tasks.{Task, Leads, ComesAs, outside_of}
+use Rattle.regress_engine_sought.proofs.TaskLemmas.{leads-then, leads-found, ends-outermost, outside-first}
+use Rattle.regress_engine_copying.specs.declared.stack.Frame as stack
+use Rattle.regress_engine_copying.specs.Held.{Entry, tried, look, Held, frame_of, pushed, put}
+use Rattle.regress_engine_copying.specs.Tasks.{work_of, task_of}
+use Rattle.regress_engine_copying.specs.Stepping.{Unwinds}
+use Rattle.regress_engine_copying.proofs.TaskLemmas.{put-leads}
+
+-- a state that waits changes nothing outside
+pub tried-outside : (s : Whole) (h : Held) → outside_of (work_of (pushed (tried s) h).entries) ≡ outside_of (work_of h.entries)
+unfolding work_of
+tried-outside s h = outside-first (s ∷ []) (work_of h.entries)
+
+-- a lookaround has the work below it outside
+pub look-outside : (f : Frame) (s : Whole) (h : Held) → outside_of (work_of (pushed (look f s) h).entries) ≡ Some (f, s, work_of h.entries)
+unfolding work_of
+look-outside f s h = refl
+
+-- with nothing waiting nothing is outside
+pub none-outside : (h : Held) → h.entries ≡ [] → outside_of (work_of h.entries) ≡ None
+unfolding work_of
+none-outside h none = ap (λ es. outside_of (work_of es)) none
+
+module _ (program : Program) (input : Input) (t : Whole) (h : Held) (here : Stands program t.at goal) where
+  -- the whole program is left
+  pub leaves-all : (k : Held) → Unwinds h None k → ComesAs program input (task_of (t ∷ []) h) t
+  leaves-all k unwinds n r come = ends-outermost program input (way h.forward) t (work_of h.entries) unwinds here n r come
+
+  -- a lookaround is left
+  leaves-found : (f : stack.Frame) (s : Whole) (k : Held) (b : Bool) → Unwinds h (Some (frame_of f s, s)) k → f.negated ≡ b
+      → Leads program input 1 (task_of (t ∷ []) h) (task_of (after_look b f.first f.last f.continuation s (Some t)) (record k { forward = f.forward }))
+  leaves-found f s k b unwinds e =
+      subst (λ x. Leads program input 1 (task_of (t ∷ []) h) (task_of (after_look x f.first f.last f.continuation s (Some t)) (record k { forward = f.forward }))) e
+      (leads-found program input (way h.forward) t (work_of h.entries) (frame_of f s, s, work_of k.entries) unwinds here)
+
+  -- a negated one fails
+  pub leaves-negated : (f : stack.Frame) (s : Whole) (k : Held) → Unwinds h (Some (frame_of f s, s)) k → f.negated ≡ true
+      → Leads program input 1 (task_of (t ∷ []) h) (task_of [] (record k { forward = f.forward }))
+  leaves-negated f s k unwinds e = leaves-found f s k true unwinds e
+
+  -- a positive one takes the groups on
+  pub leaves-positive : (f : stack.Frame) (s u : Whole) (k l : Held) → Unwinds h (Some (frame_of f s, s)) k → f.negated ≡ false
+      → u ≡ record s { at = f.continuation; groups = mixed 0 f.first f.last t.groups s.groups } → l ≡ put (u ∷ []) (record k { forward = f.forward })
+      → Leads program input 1 (task_of (t ∷ []) h) (task_of [] l)
+  leaves-positive f s u k l unwinds e is pushes =
+      leads-then program input 1 0 (leaves-found f s k false unwinds e)
+      (put-leads program input (record s { at = f.continuation; groups = mixed 0 f.first f.last t.groups s.groups } ∷ []) (record k { forward = f.forward }) l
+      (pushes ∙ ap (λ x. put (x ∷ []) (record k { forward = f.forward })) is))

@@ -1,0 +1,84 @@
+-- What each change of the stack leads to.
+use Rattle.std.specs.Prelude.{option_map, option_to_list}
+use Rattle.std.proofs.Common.{◌≡◌, Bool, true, false, not, List, [], ◌∷◌, ◌++◌, map, Option, Some, None, refl, sym, ap, ◌∙◌, subst}
+use Rattle.regress_meaning.specs.Meaning.{Direction, Forward}
+use Rattle.regress_meaning.specs.Inputs.{Input}
+use Rattle.regress_front_nodes.specs.TreeMeaning.{direction}
+use Rattle.regress_engine_input.specs.Views.{View, way, input_of, reading_of}
+use Rattle.regress_engine_code.specs.Instructions.{Instruction, Program, Stands}
+use Rattle.regress_engine_code.specs.Instructions as code
+use Rattle.regress_engine_runs.specs.States.{Whole, onward, first_state}
+use Rattle.regress_engine_runs.specs.Runs.{successors, is_plain, after_look}
+use Rattle.regress_engine_runs.specs.UndoStack.{Frame, Work, outermost, inside, first_do}
+use Rattle.regress_engine_sought.specs.Tasks.{Task, Leads}
+use Rattle.regress_engine_sought.proofs.InsnLemmas.{way-direction}
+use Rattle.regress_engine_sought.proofs.TaskLemmas.{leads-then, leads-first, leads-later, leads-plain, leads-inside, leads-exhausted}
+use Rattle.regress_engine_copying.specs.declared.stack.Frame as stack
+use Rattle.regress_engine_copying.specs.Held.{Entry, tried, look, Held, frame_of, pushed, put}
+use Rattle.regress_engine_copying.specs.Tasks.{work_of, task_of}
+
+-- one state before some others
+first_do-one : (s : Whole) (ss : List Whole) (w : Work) → first_do (s ∷ []) (first_do ss w) ≡ first_do (s ∷ ss) w
+first_do-one s ss (outermost ts) = refl
+first_do-one s ss (inside ts f u rest) = refl
+
+first_do-none : (w : Work) → w ≡ first_do [] w
+first_do-none (outermost ts) = refl
+first_do-none (inside ts f u rest) = refl
+
+-- states on top are done first
+work-put : (ss : List Whole) (es : List Entry) → work_of (map tried ss ++ es) ≡ first_do ss (work_of es)
+unfolding work_of
+work-put [] es = first_do-none (work_of es)
+work-put (s ∷ ss) es = ap (first_do (s ∷ [])) (work-put ss es) ∙ first_do-one s ss (work_of es)
+
+module _ (program : Program) (input : Input) where
+  -- states are put on top
+  pub put-leads : (ss : List Whole) (h k : Held) → k ≡ put ss h → Leads program input 0 (task_of ss h) (task_of [] k)
+  put-leads ss h k is =
+      subst (λ x. Leads program input 0 (task_of ss h) (task_of [] x)) (sym is)
+      (subst (λ (w : Work). Leads program input 0 (task_of ss h) (record { dir = way h.forward; states = []; work = w })) (sym (work-put ss h.entries))
+      (leads-later program input (way h.forward) [] ss (work_of h.entries)))
+
+  -- a plain instruction
+  pub plain-leads : (i : Instruction) (s : Whole) (h k : Held) → Stands program s.at i → is_plain i ≡ true → k ≡ put (successors program input i (way h.forward) s) h
+      → Leads program input 1 (task_of (s ∷ []) h) (task_of [] k)
+  plain-leads i s h k here plain is =
+      leads-then program input 1 0 (leads-plain program input i (way h.forward) s (work_of h.entries) here plain)
+      (put-leads (successors program input i (way h.forward) s) h k is)
+
+  -- a lookaround begins
+  pub look-leads : (f : stack.Frame) (s : Whole) (h k : Held) → Stands program s.at (code.look f.negated f.backward f.first f.last f.continuation) → f.forward ≡ h.forward
+      → k ≡ record { forward = not f.backward; entries = tried (onward s) ∷ look (frame_of f s) s ∷ h.entries }
+      → Leads program input 1 (task_of (s ∷ []) h) (task_of [] k)
+  unfolding work_of
+  look-leads f s h k here turned is =
+      subst (λ x. Leads program input 1 (task_of (s ∷ []) h) (task_of [] x)) (sym is)
+      (subst (λ d. Leads program input 1 (task_of (s ∷ []) h) (record { dir = d; states = []; work = first_do (onward s ∷ []) within })) (way-direction f.backward)
+      (subst (λ b. Leads program input 1 (record { dir = way b; states = s ∷ []; work = work_of h.entries }) (record { dir = direction f.backward; states = []; work = first_do (onward s ∷ []) within })) turned
+      (leads-then program input 1 0 (leads-inside program input s (work_of h.entries) (frame_of f s) here)
+      (leads-later program input (direction f.backward) [] (onward s ∷ []) within))))
+    where
+      within : Work
+      within = inside [] (frame_of f s) s (work_of h.entries)
+
+  -- a state is taken off
+  pub tried-leads : (s : Whole) (h : Held) → Leads program input 0 (task_of [] (pushed (tried s) h)) (task_of (s ∷ []) h)
+  unfolding work_of
+  tried-leads s h = leads-first program input (way h.forward) [] (s ∷ []) (work_of h.entries)
+
+  -- a lookaround whose contents have no answer
+  exhausted-leads : (f : stack.Frame) (s : Whole) (h : Held) (b : Bool) → f.negated ≡ b
+      → Leads program input 0 (task_of [] (pushed (look (frame_of f s) s) h)) (task_of (after_look b f.first f.last f.continuation s None) (record h { forward = f.forward }))
+  unfolding work_of
+  exhausted-leads f s h b e =
+      subst (λ x. Leads program input 0 (task_of [] (pushed (look (frame_of f s) s) h)) (task_of (after_look x f.first f.last f.continuation s None) (record h { forward = f.forward }))) e
+      (leads-exhausted program input (way h.forward) (frame_of f s) s (work_of h.entries))
+
+  pub negated-leads : (f : stack.Frame) (s : Whole) (h : Held) → f.negated ≡ true
+      → Leads program input 0 (task_of [] (pushed (look (frame_of f s) s) h)) (task_of (record s { at = f.continuation } ∷ []) (record h { forward = f.forward }))
+  negated-leads f s h e = exhausted-leads f s h true e
+
+  pub positive-leads : (f : stack.Frame) (s : Whole) (h : Held) → f.negated ≡ false
+      → Leads program input 0 (task_of [] (pushed (look (frame_of f s) s) h)) (task_of [] (record h { forward = f.forward }))
+  positive-leads f s h e = exhausted-leads f s h false e

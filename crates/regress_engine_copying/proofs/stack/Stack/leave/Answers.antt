@@ -1,0 +1,39 @@
+use Rattle.std.proofs.Common.{◌≡◌, length, refl, sym, ap, ◌∙◌, arith}
+use Rattle.regress_engine_runs.specs.States.{Whole}
+use Rattle.regress_engine_copying.specs.StateOf.{state_of}
+use Rattle.regress_engine_copying.specs.Held.{held}
+use Rattle.regress_engine_copying.proofs.LeaveLemmas.{leaves-all, leaves-negated, leaves-positive}
+use Rattle.regress_engine_copying.proofs.SoundLemmas.{pushed-sound}
+use Rattle.regress_engine_copying.proofs.stack.Stack.leave.Goals as goal
+
+pub returns-in_default-clause-leaves : goal.returns-in_default-clause-leaves
+returns-in_default-clause-leaves c = λ program input here.
+    (refl, leaves-all program input (state_of c.args.found) (held c.args.self.now) here (held c.unwind.new.self) c.in_default.ensures.outside)
+
+pub returns-then-frame-clause-leaves : goal.returns-then-frame-clause-leaves
+returns-then-frame-clause-leaves c = λ program input here.
+    leaves-negated program input (state_of c.args.found) (held c.args.self.now) here c.in-Some.frame (state_of c.in-Some.state) (held c.unwind.new.self) c.in-Some.ensures.outside c.if-frame.true
+
+pub take_groups-requires-clause-there : goal.take_groups-requires-clause-there
+take_groups-requires-clause-there c = λ k low high.
+    let was = c.in-Some.ensures.sound c.requires.0 c.requires.1 in
+    let less = was.1.0 k low high in
+    let same = was.1.1.groups in
+    omega (arith, less, same)
+
+pub take_groups-requires-clause-count : goal.take_groups-requires-clause-count
+take_groups-requires-clause-count c =
+    let was = c.in-Some.ensures.sound c.requires.0 c.requires.1 in
+    c.requires.2.groups ∙ sym was.1.1.groups
+
+pub returns-clause-leaves : goal.returns-clause-leaves
+returns-clause-leaves c = λ program input here.
+    leaves-positive program input (state_of c.args.found) (held c.args.self.now) here c.in-Some.frame (state_of c.in-Some.state) _ (held c.unwind.new.self) (held c.push.new.self) c.in-Some.ensures.outside c.if-frame.false
+    (ap (λ (w : Whole). record w { at = c.in-Some.frame.continuation }) c.take_groups.ensures.taken) c.in_ok-push.ensures
+
+pub returns-clause-sound : goal.returns-clause-sound
+returns-clause-sound c = λ program sound whole.
+    let was = c.in-Some.ensures.sound program sound in
+    pushed-sound program _ (record (held c.unwind.new.self) { forward = c.in-Some.frame.forward }) (held c.push.new.self) c.in_ok-push.ensures
+    (record { loops = ap (λ (w : Whole). length w.loops) c.take_groups.ensures.taken ∙ was.1.1.loops; groups = c.take_groups.ensures.count ∙ was.1.1.groups })
+    was.0

@@ -1,0 +1,5 @@
+pub mod StateOf
+pub mod Held
+pub mod Tasks
+pub mod Sound
+pub mod Stepping
