@@ -1,4 +1,4 @@
-//! The executor beside the evaluator, which runs the definitions.
+//! The executors beside the evaluator, which runs the definitions.
 
 use crate::found::{in_utf8, listed, whole};
 use crate::parsed::parsed;

@@ -45,11 +45,7 @@ pub(crate) fn whole(told: Option<String>) -> Result<String, Error> {
 }
 
 /// What both executors told, where they told the same.
-fn same(
-    alloc: Global,
-    undoing: Option<String>,
-    copying: Option<String>,
-) -> Result<String, Fail> {
+fn same(alloc: Global, undoing: Option<String>, copying: Option<String>) -> Result<String, Fail> {
     let undoing = whole(undoing)?;
     let copying = whole(copying)?;
     if undoing.as_str() != copying.as_str() {

@@ -1,4 +1,4 @@
-//! Tests of the executor that undoes, by public calls alone. The library itself is empty.
+//! Tests of both executors, by public calls alone. The library itself is empty.
 #![tactic(auto)]
 
 #[cfg(test)]
