@@ -100,12 +100,12 @@ module _ (program : Program) (input : Input) where
   -- the first of two ways leads nowhere
   pub alt-stuck : (p : Spot) (h : Held) (target : ℕ) → Stands program p.at (code.alt target) → IsStuck program input (way p.forward) (p.at + 1) p.offset
       → Leads program input 1 (task program input true p h) (task program input true (record p { at = target }) h)
-  alt-stuck p h target here (i, there, simple, none) =
+  alt-stuck p h target here stuck =
       let on : Spot = record p { at = p.at + 1 } in
       let k : Held = pushed (resume target p.offset) h in
       leads-fewer program input 2 1 (task program input true p h) (task program input true (record p { at = target }) h) (omega arith)
       (leads-then program input 1 1 (step-on program input (code.alt target) p on h k true here refl (fork-leads p h k target refl program input))
-      (leads-then program input 1 0 (take-none program input i on k there simple (sym (none h.groups))) (resume-back program input on h target p.offset)))
+      (leads-then program input 1 0 (stuck h.loops h.groups (stands_for program input (way p.forward) k.stack k.loops k.groups)) (resume-back program input on h target p.offset)))
 
 -- an instruction that was read stands there
 pub stands-read : (slice insns : List Insn) (at : ℕ) (d : Insn) → slice ≡ insns → at < length slice → slice_get (map instruction insns) at ≡ Some (instruction (get_or slice at d))

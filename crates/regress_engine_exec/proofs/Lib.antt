@@ -5,5 +5,6 @@ pub mod StepLemmas
 pub mod BackLemmas
 pub mod SingleLemmas
 pub mod LeaveLemmas
+pub mod StuckLemmas
 pub mod DispatchLemmas
 pub mod TryLemmas

@@ -55,10 +55,12 @@ module _ (program : Program) (input : Input) (i : Instruction) (p : Spot) (h : H
       → Leads program input 0 (task_of program input (next_states greedy) p h) (task program input false p k)
   from_states greedy states k e leads = subst (λ ss. Leads program input 0 (task_of program input ss p h) (task program input false p k)) (sym e) leads
 
+  pub few-states : (greedy : Bool) → after_times program input least i dir h.groups p.offset ≡ None → next_states greedy ≡ []
+  few-states greedy none = next_are greedy ∙ ap (λ x. behind (counts greedy x)) none
+
   pub repeat-few : (greedy : Bool) → after_times program input least i dir h.groups p.offset ≡ None
       → Leads program input 0 (task_of program input (next_states greedy) p h) (task program input false p h)
-  repeat-few greedy none =
-      from_states greedy [] h (next_are greedy ∙ ap (λ x. behind (counts greedy x)) none) (leads-same program input (task_of program input [] p h))
+  repeat-few greedy none = from_states greedy [] h (few-states greedy none) (leads-same program input (task_of program input [] p h))
 
   pub repeat-greedy : (greedy : Bool) (k : Held) (near far : ℕ) → greedy ≡ true → after_times program input least i dir h.groups p.offset ≡ Some near
       → far ≡ as_far program input (most - least) i dir h.groups near → k ≡ pushed (give_back (p.at + 2) near far) h

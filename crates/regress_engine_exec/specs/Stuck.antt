@@ -1,18 +1,50 @@
 -- What surely leads nowhere.
-use Rattle.std.specs.Prelude.{◌≡◌, ℕ, Bool, true, false, List, None}
+use Rattle.std.specs.Prelude.{◌≡◌, ℕ, Bool, true, false, List, [], ◌∷◌, Option, Some, None}
 use Rattle.regress_meaning.specs.Meaning.{Direction}
 use Rattle.regress_meaning.specs.Inputs.{Input}
-use Rattle.regress_engine_code.specs.Instructions.{Instruction, Program, Stands}
+use Rattle.regress_engine_input.specs.Views.{way}
+use Rattle.regress_engine_code.specs.Instructions.{Instruction, Program}
 use Rattle.regress_engine_code.specs.Instructions as code
 use Rattle.regress_engine_runs.specs.States.{Marks}
 use Rattle.regress_engine_runs.specs.Runs.{advance}
-use Rattle.regress_engine_sought.specs.Ready.{is_simple}
+use Rattle.regress_engine_runs.specs.Closed.{Fits, takes_character}
+use Rattle.regress_engine_runs.specs.UndoStack.{Work, give_back, whole}
+use Rattle.regress_engine_sought.specs.Tasks.{Leads}
+use Rattle.regress_engine_exec.specs.declared.undo.Spot.{Spot}
+use Rattle.regress_engine_exec.specs.Held.{Held, pushed}
+use Rattle.regress_engine_exec.specs.Tasks.{task}
 
 -- an instruction takes bytes
 abbrev pub is_byte_seq : Instruction → Bool
 is_byte_seq (code.byte_seq bs) = true
 is_byte_seq _ = false
 
--- at an address stands an instruction that leads nowhere from an offset
+-- an instruction takes a character or bytes
+abbrev pub is_taking : Instruction → Bool
+is_taking (code.byte_seq bs) = true
+is_taking i = takes_character i
+
+-- an instruction takes nothing beside an offset
+abbrev pub TakesNothing : Program → Input → Direction → Instruction → ℕ → Type 0
+TakesNothing program input dir i o = (groups : List Marks) → None ≡ advance program input i dir groups o
+
+-- from an address and an offset nothing is led to, whatever else is to be done
 abbrev pub IsStuck : Program → Input → Direction → (at offset : ℕ) → Type 0
-IsStuck program input dir at o = (i : Instruction) × Stands program at i × (is_simple i ≡ true) × ((groups : List Marks) → None ≡ advance program input i dir groups o)
+IsStuck program input dir at o = (loops : List (ℕ × ℕ)) (groups : List Marks) (work : Work)
+    → Leads program input 1 (record { dir = dir; states = whole at o loops groups ∷ []; work = work }) (record { dir = dir; states = []; work = work })
+
+-- From an address on an instruction takes a character or bytes first: where it takes nothing, nothing is led to.
+pub record IsTakenFirst (program : Program) (at : ℕ) (i : Instruction) : Type 0 where
+  pub fits : Fits program 0 i
+  pub takes : is_taking i ≡ true
+  pub stuck : (input : Input) (forward : Bool) (o : ℕ) → TakesNothing program input (way forward) i o → IsStuck program input (way forward) at o
+
+-- what is held, with the record of what is given back from a far offset, if from any
+abbrev pub given_from : (at near : ℕ) → Option ℕ → Held → Held
+given_from at near None h = h
+given_from at near (Some far) h = pushed (give_back at near far) h
+
+-- What is given back from one offset leads to what is given back from another, or to nothing.
+abbrev pub GivesFrom : Program → Input → (forward : Bool) → (at near far : ℕ) → Option ℕ → Type 0
+GivesFrom program input forward at near far found = (p : Spot) (h : Held) → p.forward ≡ forward
+    → Leads program input 0 (task program input false p (pushed (give_back at near far) h)) (task program input false p (given_from at near found h))

@@ -1,19 +1,22 @@
 //! Going back to a state that is still to be tried.
-ghost use Rattle.std.specs.Prelude.{◌≡◌, ◌<◌, ℕ, true, false, [], nat_lt, IfOk, OnOk};
+ghost use Rattle.std.specs.Prelude.{◌≡◌, ◌<◌, ℕ, true, false, [], length, nat_lt, IfOk, IfSome, OnOk};
 ghost use Rattle.regress_engine_code.specs.Standing.{program_of};
-ghost use Rattle.regress_engine_input.specs.Views.{way, input_of};
+ghost use Rattle.regress_engine_input.specs.Views.{way, input_of, reading_of};
 ghost use Rattle.regress_engine_runs.specs.Runs.{gap, after_look};
+ghost use Rattle.regress_engine_runs.specs.Meets.{IsAtPlace};
 ghost use Rattle.regress_engine_runs.specs.UndoStack.{give_back, take_on, whole};
 ghost use Rattle.regress_engine_sought.specs.Tasks.{Leads};
 ghost use Rattle.regress_engine_exec.specs.Held.{held, undo_of, pushed};
 ghost use Rattle.regress_engine_sought.specs.Sought.{Suits};
 ghost use Rattle.regress_engine_exec.specs.Sound.{IsHeld};
+ghost use Rattle.regress_engine_exec.specs.Stuck.{GivesFrom};
 ghost use Rattle.regress_engine_exec.specs.Tasks.{task};
 
 use crate::attempt::Attempt;
 use crate::memory::Memory;
 use crate::undo::{Frame, Spot, Undo};
 use regress_engine_matchers::CharInput;
+use regress_front_core::GroupData;
 use std::alloc::AllocError;
 
 /// Whether the second offset is ahead of the first, forward or backward.
@@ -40,37 +43,77 @@ fn exhaust(frame: &Frame, spot: &mut Spot) -> bool
 }
 
 impl<'a, 'r, Input: CharInput> Attempt<'a, 'r, Input> {
-    /// Goes on at the far one of some offsets, and later at those before it.
-    fn give_back(
+    /// The far one of some offsets, from a far one back to a near one, at which it may be gone on at an address, where what is
+    /// taken first from there on stands; `None` where it stands at none of them.
+    fn far_way(
+        &self,
+        at: usize,
+        near: usize,
+        far: usize,
+        forward: bool,
+        groups: &[GroupData<usize>],
+    ) -> Option<usize>
+        requires suits { Suits (program_of self.now.program.now) (Input.view self.now.input) }
+        requires groups { length groups.now ≡ self.now.program.now.groups }
+        requires place { IsAtPlace (reading_of (Input.view self.now.input)) far }
+        ensures leads { GivesFrom (program_of self.now.program.now) (input_of (Input.view self.now.input)) forward at near far result }
+        ensures place { IfSome result (IsAtPlace (reading_of (Input.view self.now.input))) }
+    {
+        let Some(insn) = self.taken_first(at) else {
+            return Some(far);
+        };
+        let mut back = far;
+        'places: loop {
+            if self.advance(insn, forward, groups, back).is_some() {
+                return Some(back);
+            }
+            if !is_ahead(forward, near, back) {
+                return None;
+            }
+            let Some((_, before)) = self.beside(!forward, back) else {
+                return None;
+            };
+            back = before;
+        }
+    }
+
+    /// Goes on at the far one of some offsets at which it may be gone on, and later at those before it. It answers whether there
+    /// is any.
+    pub(crate) fn give_back(
         &self,
         at: usize,
         near: usize,
         far: usize,
         memory: &mut Memory,
         spot: &mut Spot,
-    ) -> Result<(), AllocError>
-        requires { IsHeld (program_of self.now.program.now) (Input.view self.now.input) (pushed (give_back at near far) (held memory.old)) }
-        ensures leads { OnOk result (Leads (program_of self.now.program.now) (input_of (Input.view self.now.input)) 0 (task (program_of self.now.program.now) (input_of (Input.view self.now.input)) false spot.old (pushed (give_back at near far) (held memory.old))) (task (program_of self.now.program.now) (input_of (Input.view self.now.input)) true spot.new (held memory.new))) }
+    ) -> Result<bool, AllocError>
+        requires suits { Suits (program_of self.now.program.now) (Input.view self.now.input) }
+        requires sound { IsHeld (program_of self.now.program.now) (Input.view self.now.input) (pushed (give_back at near far) (held memory.old)) }
+        ensures leads { IfOk result (λ going. Leads (program_of self.now.program.now) (input_of (Input.view self.now.input)) 0 (task (program_of self.now.program.now) (input_of (Input.view self.now.input)) false spot.old (pushed (give_back at near far) (held memory.old))) (task (program_of self.now.program.now) (input_of (Input.view self.now.input)) going spot.new (held memory.new))) }
         ensures sound { OnOk result (IsHeld (program_of self.now.program.now) (Input.view self.now.input) (held memory.new)) }
+        ensures rest { IfOk result (λ going. going ≡ false → (held memory.new).stack ≡ (held memory.old).stack) }
     {
+        let Some(way) = self.far_way(at, near, far, spot.forward, &memory.groups) else {
+            return Ok(false);
+        };
         spot.at = at;
-        spot.offset = far;
-        if !is_ahead(spot.forward, near, far) {
-            return Ok(());
+        spot.offset = way;
+        if !is_ahead(spot.forward, near, way) {
+            return Ok(true);
         }
-        let Some((_, next)) = self.beside(!spot.forward, far) else {
-            return Ok(());
+        let Some((_, next)) = self.beside(!spot.forward, way) else {
+            return Ok(true);
         };
         memory.push(Undo::GiveBack {
             at,
             near,
             far: next,
         })?;
-        Ok(())
+        Ok(true)
     }
 
     /// Goes on at an offset, and later behind one more iteration of the instruction before.
-    fn take_on(
+    pub(crate) fn take_on(
         &self,
         at: usize,
         offset: usize,
@@ -129,8 +172,8 @@ impl<'a, 'r, Input: CharInput> Attempt<'a, 'r, Input> {
                 Ok(true)
             }
             Undo::GiveBack { at, near, far } => {
-                self.give_back(at, near, far, memory, spot)?;
-                Ok(true)
+                let going = self.give_back(at, near, far, memory, spot)?;
+                Ok(going)
             }
             Undo::TakeOn { at, offset, left } => {
                 self.take_on(at, offset, left, memory, spot)?;

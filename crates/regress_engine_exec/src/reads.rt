@@ -17,7 +17,7 @@ ghost use Rattle.regress_engine_runs.specs.Closed.{Fits};
 ghost use Rattle.regress_engine_sought.specs.Sought.{Suits};
 ghost use Rattle.regress_engine_sought.specs.StateViews.{marks_of};
 ghost use Rattle.regress_engine_sought.specs.Ready.{IsReady};
-ghost use Rattle.regress_engine_exec.specs.Stuck.{is_byte_seq, IsStuck};
+ghost use Rattle.regress_engine_exec.specs.Stuck.{is_byte_seq, is_taking, IsStuck, IsTakenFirst};
 
 use crate::attempt::Attempt;
 use regress_engine_code::Insn;
@@ -64,6 +64,24 @@ fn takes_bytes(insn: &Insn) -> bool
             | Insn::ByteSeq15(_)
             | Insn::ByteSeq16(_)
     )
+}
+
+/// Whether an instruction takes a character, one of some at the most, or bytes.
+#[inline]
+fn takes_some(insn: &Insn) -> bool
+    ensures { result ≡ true → is_taking (instruction insn.now) ≡ true }
+{
+    takes_bytes(insn)
+        || matches!(
+            insn,
+            Insn::Char(_)
+                | Insn::CharSet(_)
+                | Insn::ByteSet2(_)
+                | Insn::ByteSet3(_)
+                | Insn::ByteSet4(_)
+                | Insn::AsciiBracket(_)
+                | Insn::Bracket(_)
+        )
 }
 
 impl<'a, 'r, Input: CharInput> Attempt<'a, 'r, Input> {
@@ -363,6 +381,46 @@ impl<'a, 'r, Input: CharInput> Attempt<'a, 'r, Input> {
             return false;
         }
         self.byte_seq(insn, forward, offset).is_none()
+    }
+
+    /// What is taken at an address: the instruction there, or what a one-character loop there does at least once; `None` where
+    /// neither takes anything.
+    #[inline]
+    fn taken_at(&self, at: usize) -> Option<&Insn>
+        requires { Suits (program_of self.now.program.now) (Input.view self.now.input) }
+        ensures { IfSome result (λ insn. IsTakenFirst (program_of self.now.program.now) at (instruction insn.now)) }
+    {
+        let insns = self.program.insns();
+        if at >= insns.len() {
+            return None;
+        }
+        let insn = &insns[at];
+        if let Insn::Loop1CharBody { min_iters, .. } = insn {
+            if *min_iters == 0 {
+                return None;
+            }
+            return Some(self.instruction(at + 1));
+        }
+        if takes_some(insn) {
+            return Some(insn);
+        }
+        None
+    }
+
+    /// What is taken first from an address on, also where a group ends there; `None` where something else is done first.
+    #[inline]
+    pub(crate) fn taken_first(&self, at: usize) -> Option<&Insn>
+        requires { Suits (program_of self.now.program.now) (Input.view self.now.input) }
+        ensures { IfSome result (λ insn. IsTakenFirst (program_of self.now.program.now) at (instruction insn.now)) }
+    {
+        let insns = self.program.insns();
+        if at >= insns.len() {
+            return None;
+        }
+        if let Insn::EndCaptureGroup(_) = &insns[at] {
+            return self.taken_at(at + 1);
+        }
+        self.taken_at(at)
     }
 
     /// The offset to which an instruction leads that changes nothing but the offset, where it leads to any.

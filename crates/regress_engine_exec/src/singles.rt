@@ -1,5 +1,5 @@
 //! One-character loops.
-ghost use Rattle.std.specs.Prelude.{◌≡◌, ◌+◌, ◌-◌, ◌≤◌, ◌^◌, ◌<◌, ℕ, true, false, Some, IfSome, map, option_map, length, OnOk};
+ghost use Rattle.std.specs.Prelude.{◌≡◌, ◌+◌, ◌-◌, ◌≤◌, ◌^◌, ◌<◌, ℕ, true, false, Some, IfSome, map, option_map, length, IfOk, OnOk};
 ghost use Rattle.regress_engine_code.specs.Instructions.{Stands};
 ghost use Rattle.regress_engine_code.specs.InsnViews.{instruction};
 ghost use Rattle.regress_engine_code.specs.Standing.{program_of};
@@ -17,7 +17,7 @@ ghost use Rattle.regress_engine_exec.specs.Tasks.{task_of, task, state_at};
 
 use crate::attempt::Attempt;
 use crate::memory::Memory;
-use crate::undo::{Spot, Undo};
+use crate::undo::Spot;
 use regress_engine_code::Insn;
 use regress_engine_matchers::CharInput;
 use regress_engine_singles::as_far_ahead;
@@ -84,39 +84,35 @@ impl<'a, 'r, Input: CharInput> Attempt<'a, 'r, Input> {
         behind
     }
 
-    /// Records what a one-character loop may do, where it may do anything: it is gone back to that.
+    /// Does a one-character loop: goes on at one of its ways, and later at the others. It answers whether there is any.
     pub(crate) fn repeat(
         &self,
         least: usize,
         most: usize,
         greedy: bool,
         memory: &mut Memory,
-        spot: &Spot,
-    ) -> Result<(), AllocError>
+        spot: &mut Spot,
+    ) -> Result<bool, AllocError>
         requires suits { Suits (program_of self.now.program.now) (Input.view self.now.input) }
         requires sound { IsHeld (program_of self.now.program.now) (Input.view self.now.input) (held memory.old) }
         requires order { least ≤ most }
-        requires body { IsBody (program_of self.now.program.now) (Input.view self.now.input) (spot.now.at + 2) spot.now.offset }
-        ensures leads { OnOk result (Leads (program_of self.now.program.now) (input_of (Input.view self.now.input)) 0 (task_of (program_of self.now.program.now) (input_of (Input.view self.now.input)) (successors (program_of self.now.program.now) (input_of (Input.view self.now.input)) (single_loop least most greedy) (way spot.now.forward) (state_at spot.now (held memory.old))) spot.now (held memory.old)) (task (program_of self.now.program.now) (input_of (Input.view self.now.input)) false spot.now (held memory.new))) }
+        requires body { IsBody (program_of self.now.program.now) (Input.view self.now.input) (spot.old.at + 2) spot.old.offset }
+        ensures leads { IfOk result (λ going. Leads (program_of self.now.program.now) (input_of (Input.view self.now.input)) 0 (task_of (program_of self.now.program.now) (input_of (Input.view self.now.input)) (successors (program_of self.now.program.now) (input_of (Input.view self.now.input)) (single_loop least most greedy) (way spot.old.forward) (state_at spot.old (held memory.old))) spot.old (held memory.old)) (task (program_of self.now.program.now) (input_of (Input.view self.now.input)) going spot.new (held memory.new))) }
         ensures sound { OnOk result (IsHeld (program_of self.now.program.now) (Input.view self.now.input) (held memory.new)) }
     {
         let insn = self.instruction(spot.at + 1);
         let Some(near) = self.after_times(insn, least, spot.forward, &memory.groups, spot.offset)
         else {
-            return Ok(());
+            return Ok(false);
         };
         let left = most - least;
         let at = spot.at + 2;
         if greedy {
             let far = self.as_far(insn, left, spot.forward, &memory.groups, near);
-            memory.push(Undo::GiveBack { at, near, far })?;
-            return Ok(());
+            let going = self.give_back(at, near, far, memory, spot)?;
+            return Ok(going);
         }
-        memory.push(Undo::TakeOn {
-            at,
-            offset: near,
-            left,
-        })?;
-        Ok(())
+        self.take_on(at, near, left, memory, spot)?;
+        Ok(true)
     }
 }

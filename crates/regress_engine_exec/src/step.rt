@@ -113,8 +113,8 @@ impl<'a, 'r, Input: CharInput> Attempt<'a, 'r, Input> {
                 max_iters,
                 greedy,
             } => {
-                self.repeat(*min_iters, *max_iters, *greedy, memory, spot)?;
-                Ok(Some(false))
+                let going = self.repeat(*min_iters, *max_iters, *greedy, memory, spot)?;
+                Ok(Some(going))
             }
             Insn::Lookahead {
                 negate,

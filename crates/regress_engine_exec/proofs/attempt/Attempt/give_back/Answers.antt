@@ -1,45 +1,60 @@
-use Rattle.std.proofs.Common.{sym, ap, ◌∙◌}
+use Rattle.std.proofs.Common.{refl, sym, ap, ◌∙◌}
 use Rattle.regress_engine_code.specs.Standing.{program_of}
 use Rattle.regress_engine_input.specs.Views.{input_of}
 use Rattle.regress_engine_sought.proofs.InsnLemmas.{way-against, none-ahead, some-ahead}
+use Rattle.regress_engine_sought.proofs.PlaceLemmas.{can-read, moves, next-place}
+use Rattle.regress_engine_sought.proofs.TaskLemmas.{leads-then}
 use Rattle.regress_engine_exec.specs.Held.{held}
 use Rattle.regress_engine_exec.proofs.BackLemmas.{give_back-last, give_back-none, give_back-more, held-give_back, give_back-held}
-use Rattle.regress_engine_sought.proofs.PlaceLemmas.{can-read, moves, next-place}
 use Rattle.regress_engine_exec.proofs.attempt.Attempt.give_back.Goals as goal
+
+pub far_way-requires-clause-place : goal.far_way-requires-clause-place
+far_way-requires-clause-place g c = (held-give_back _ _ (held c.args.memory.now) c.args.at c.args.near c.args.far c.requires.sound).0
+
+pub returns-in_default-clause-leads : goal.returns-in_default-clause-leads
+returns-in_default-clause-leads g c = c.in_default.ensures.leads c.args.spot.now (held c.args.memory.now) refl
+
+pub returns-in_default-clause-sound : goal.returns-in_default-clause-sound
+returns-in_default-clause-sound g c = (held-give_back _ _ (held c.args.memory.now) c.args.at c.args.near c.args.far c.requires.sound).1
 
 pub returns-then-not-is_ahead-clause-leads : goal.returns-then-not-is_ahead-clause-leads
 returns-then-not-is_ahead-clause-leads g c =
-    give_back-last (program_of c.args.self.now.program.now) (input_of (g.Input.InputIndexer.view c.args.self.now.input)) c.args.spot.now (held c.args.memory.now) c.args.at c.args.near c.args.far
-    (none-ahead _ c.if-not-is_ahead.ensures)
+    let program = program_of c.args.self.now.program.now in
+    let input = input_of (g.Input.InputIndexer.view c.args.self.now.input) in
+    leads-then program input 0 0 (c.in-Some.ensures.leads c.args.spot.now (held c.args.memory.now) refl)
+    (give_back-last program input c.args.spot.now (held c.args.memory.now) c.args.at c.args.near c.in-Some.way (none-ahead _ c.if-not-is_ahead.ensures))
 
 pub returns-then-not-is_ahead-clause-sound : goal.returns-then-not-is_ahead-clause-sound
-returns-then-not-is_ahead-clause-sound g c = (held-give_back _ _ (held c.args.memory.now) c.args.at c.args.near c.args.far c.requires).1
+returns-then-not-is_ahead-clause-sound g c = (held-give_back _ _ (held c.args.memory.now) c.args.at c.args.near c.args.far c.requires.sound).1
 
 pub beside-requires : goal.beside-requires
 beside-requires g c =
-    can-read (g.Input.InputIndexer.view c.args.self.now.input) (g.met.Input.InputIndexer.are_of_kind c.args.self.now.input) c.args.far
-    (held-give_back _ _ (held c.args.memory.now) c.args.at c.args.near c.args.far c.requires).0
+    can-read (g.Input.InputIndexer.view c.args.self.now.input) (g.met.Input.InputIndexer.are_of_kind c.args.self.now.input) c.in-Some.way c.in-Some.ensures.place
 
-pub returns-in_default-clause-leads : goal.returns-in_default-clause-leads
-returns-in_default-clause-leads g c =
+pub returns-in_default-beside-clause-leads : goal.returns-in_default-beside-clause-leads
+returns-in_default-beside-clause-leads g c =
+    let program = program_of c.args.self.now.program.now in
     let input = input_of (g.Input.InputIndexer.view c.args.self.now.input) in
-    give_back-none (program_of c.args.self.now.program.now) input c.args.spot.now (held c.args.memory.now) c.args.at c.args.near c.args.far
-    (ap (λ d. input.next d c.args.far) (sym (way-against c.args.spot.now.forward)) ∙ sym c.in_default.ensures)
+    leads-then program input 0 0 (c.in-Some.ensures.leads c.args.spot.now (held c.args.memory.now) refl)
+    (give_back-none program input c.args.spot.now (held c.args.memory.now) c.args.at c.args.near c.in-Some.way
+    (ap (λ d. input.next d c.in-Some.way) (sym (way-against c.args.spot.now.forward)) ∙ sym c.in_default-beside.ensures))
 
-pub returns-in_default-clause-sound : goal.returns-in_default-clause-sound
-returns-in_default-clause-sound g c = (held-give_back _ _ (held c.args.memory.now) c.args.at c.args.near c.args.far c.requires).1
+pub returns-in_default-beside-clause-sound : goal.returns-in_default-beside-clause-sound
+returns-in_default-beside-clause-sound g c = (held-give_back _ _ (held c.args.memory.now) c.args.at c.args.near c.args.far c.requires.sound).1
 
 pub returns-clause-leads : goal.returns-clause-leads
 returns-clause-leads g c =
+    let program = program_of c.args.self.now.program.now in
     let v = g.Input.InputIndexer.view c.args.self.now.input in
     let input = input_of v in
-    give_back-more (program_of c.args.self.now.program.now) input c.args.spot.now (held c.args.memory.now) (held c.push.new.self) c.args.at c.args.near c.args.far _ c.in-Some.next (moves v)
-    (some-ahead _ c.if-not-is_ahead.ensures) (ap (λ d. input.next d c.args.far) (sym (way-against c.args.spot.now.forward)) ∙ sym c.in-Some.ensures) c.in_ok-push.ensures
+    leads-then program input 0 0 (c.in-Some.ensures.leads c.args.spot.now (held c.args.memory.now) refl)
+    (give_back-more program input c.args.spot.now (held c.args.memory.now) (held c.push.new.self) c.args.at c.args.near c.in-Some.way _ c.in-Some-beside.next (moves v)
+    (some-ahead _ c.if-not-is_ahead.ensures) (ap (λ d. input.next d c.in-Some.way) (sym (way-against c.args.spot.now.forward)) ∙ sym c.in-Some-beside.ensures) c.in_ok-push.ensures)
 
 pub returns-clause-sound : goal.returns-clause-sound
 returns-clause-sound g c =
     let v = g.Input.InputIndexer.view c.args.self.now.input in
     let all = g.met.Input.InputIndexer.are_of_kind c.args.self.now.input in
-    let was = held-give_back _ v (held c.args.memory.now) c.args.at c.args.near c.args.far c.requires in
-    give_back-held _ v (held c.args.memory.now) (held c.push.new.self) c.args.at c.args.near c.in-Some.next c.in_ok-push.ensures
-    (next-place v all _ c.args.far _ c.in-Some.next was.0 (sym c.in-Some.ensures)) was.1
+    let was = held-give_back _ v (held c.args.memory.now) c.args.at c.args.near c.args.far c.requires.sound in
+    give_back-held _ v (held c.args.memory.now) (held c.push.new.self) c.args.at c.args.near c.in-Some-beside.next c.in_ok-push.ensures
+    (next-place v all _ c.in-Some.way _ c.in-Some-beside.next c.in-Some.ensures.place (sym c.in-Some-beside.ensures)) was.1

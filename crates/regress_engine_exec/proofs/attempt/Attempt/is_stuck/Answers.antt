@@ -1,6 +1,8 @@
 use Rattle.std.proofs.Common.{not, sym, ap, ◌∙◌}
 use Rattle.regress_engine_code.specs.Standing.{program_of}
+use Rattle.regress_engine_input.specs.Views.{way, input_of}
 use Rattle.regress_engine_code.specs.declared.insn.Insn.TheVariants.{Goal}
+use Rattle.regress_engine_exec.proofs.StuckLemmas.{simple-stuck}
 use Rattle.regress_engine_exec.proofs.DispatchLemmas.{bytes-simple, none-is, stands-read}
 use Rattle.regress_engine_exec.proofs.attempt.Attempt.is_stuck.Goals as goal
 
@@ -15,4 +17,5 @@ returns g c = λ none.
     let program = program_of c.args.self.now.program.now in
     let here = stands-read c.insns-insns.result.now c.args.self.now.program.now.insns.items c.args.at Goal c.insns-insns.ensures c.if-at-insns.false in
     let simple = bytes-simple program c.args.at _ (sym c.if-not-takes_bytes.ensures) (c.requires.closed c.args.at _ here) in
-    (_, here, simple.0, λ groups. none-is _ (c.is_none.ensures ∙ ap not none) ∙ c.byte_seq.ensures groups simple.1)
+    simple-stuck program (input_of (g.Input.InputIndexer.view c.args.self.now.input)) (way c.args.forward) c.args.at c.args.offset _ here simple.0
+    (λ groups. none-is _ (c.is_none.ensures ∙ ap not none) ∙ c.byte_seq.ensures groups simple.1)

@@ -163,14 +163,14 @@ returns-in_ok-going-in-EnterLoop-clause-leads g c =
     let here = stands-as program p.at _ _ c.in-EnterLoop.is c.instruction-insn.ensures.stands in
     step-on program input _ p _ h _ _ here refl (c.in_ok-going-in-EnterLoop.ensures.leads program input)
 
-pub returns-in_ok-repeat-in-Loop1CharBody-clause-leads : goal.returns-in_ok-repeat-in-Loop1CharBody-clause-leads
-returns-in_ok-repeat-in-Loop1CharBody-clause-leads g c =
+pub returns-in_ok-going-in-Loop1CharBody-clause-leads : goal.returns-in_ok-going-in-Loop1CharBody-clause-leads
+returns-in_ok-going-in-Loop1CharBody-clause-leads g c =
     let program = program_of c.args.self.now.program.now in
     let input = input_of (g.Input.InputIndexer.view c.args.self.now.input) in
     let p = c.args.spot.now in
     let h = held c.args.memory.now in
     let here = stands-as program p.at _ _ c.in-Loop1CharBody.is c.instruction-insn.ensures.stands in
-    step-on program input _ p p h _ false here refl c.in_ok-repeat-in-Loop1CharBody.ensures.leads
+    step-on program input _ p _ h _ _ here refl c.in_ok-going-in-Loop1CharBody.ensures.leads
 
 pub returns-in_ok-look-in-Lookahead-clause-leads : goal.returns-in_ok-look-in-Lookahead-clause-leads
 returns-in_ok-look-in-Lookahead-clause-leads g c =
