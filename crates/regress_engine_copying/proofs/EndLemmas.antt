@@ -6,8 +6,8 @@ use Rattle.std.proofs.lemmas.Bool.{eqb-true, and_parts}
 use Rattle.std.proofs.lemmas.List.{append-nil, reverse-append, reverse-reverse}
 use Rattle.std.proofs.lemmas.Option.{slice_get_within}
 use Rattle.std.proofs.lemmas.Str.{length-encode, len_utf8_bounds}
-use Rattle.regress_meaning.specs.Text.{holds, same_text}
-use Rattle.regress_meaning.specs.Meaning.{Direction, Forward, Backward, is_line_end}
+use Rattle.regress_meaning.specs.Text.{same_text}
+use Rattle.regress_meaning.specs.Meaning.{Direction, Forward, Backward}
 use Rattle.regress_meaning.specs.Offsets.{offset}
 use Rattle.regress_meaning.specs.Inputs.{Tells, neighbour, point_told}
 use Rattle.regress_meaning.specs.Steps.{passed, literal}
@@ -24,7 +24,6 @@ use Rattle.regress_engine_code.proofs.LiteralLemmas.{one-character}
 use Rattle.regress_engine_runs.specs.States.{Marks, Whole}
 use Rattle.regress_engine_runs.specs.Runs.{advance, after_times, as_far, one_by_one, given_back, counted, successors}
 use Rattle.regress_engine_runs.specs.Closed.{Fits, takes_character}
-use Rattle.regress_engine_runs.specs.Meets.{IsAtPlace}
 use Rattle.regress_engine_runs.proofs.GivingBack.{ahead, HasPlace, offset_ahead, ahead-none, ahead-on, HasPlace-none, HasPlace-here, HasPlace-on, given_back-none, given_back-further}
 use Rattle.regress_engine_runs.proofs.RunViews.{one_stands}
 use Rattle.regress_engine_sought.specs.Ready.{IsBody}

@@ -1,15 +1,15 @@
 -- A goal is left.
-use Rattle.std.proofs.Common.{◌≡◌, Bool, true, false, [], ◌∷◌, Option, Some, None, refl, sym, ap, ◌∙◌, subst}
+use Rattle.std.proofs.Common.{◌≡◌, Bool, true, false, [], ◌∷◌, Some, None, refl, ap, ◌∙◌, subst}
 use Rattle.regress_meaning.specs.Inputs.{Input}
 use Rattle.regress_engine_input.specs.Views.{way}
 use Rattle.regress_engine_code.specs.Instructions.{Program, Stands, goal}
 use Rattle.regress_engine_runs.specs.States.{Whole, mixed}
 use Rattle.regress_engine_runs.specs.Runs.{after_look}
-use Rattle.regress_engine_runs.specs.UndoStack.{Frame, Work, outermost, inside, first_do}
-use Rattle.regress_engine_sought.specs.Tasks.{Task, Leads, ComesAs, outside_of}
+use Rattle.regress_engine_runs.specs.UndoStack.{Frame}
+use Rattle.regress_engine_sought.specs.Tasks.{Leads, ComesAs, outside_of}
 use Rattle.regress_engine_sought.proofs.TaskLemmas.{leads-then, leads-found, ends-outermost, outside-first}
 use Rattle.regress_engine_copying.specs.declared.stack.Frame as stack
-use Rattle.regress_engine_copying.specs.Held.{Entry, tried, look, Held, frame_of, pushed, put}
+use Rattle.regress_engine_copying.specs.Held.{tried, look, Held, frame_of, pushed, put}
 use Rattle.regress_engine_copying.specs.Tasks.{work_of, task_of}
 use Rattle.regress_engine_copying.specs.Stepping.{Unwinds}
 use Rattle.regress_engine_copying.proofs.TaskLemmas.{put-leads}

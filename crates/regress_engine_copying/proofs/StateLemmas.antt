@@ -1,7 +1,7 @@
 -- What is written of a state.
 use Rattle.std.specs.Prelude.{get_or, slice_set, replicate, IfOk, OnOk}
-use Rattle.std.proofs.Common.{◌≡◌, ℕ, zero, suc, ◌+◌, ◌-◌, ◌<◌, ◌≤◌, Bool, true, false, not, List, [], ◌∷◌, ◌++◌, length, map, take, Result, Ok, Err, refl, sym, ap, ap₂, ◌∙◌, arith}
-use Rattle.regress_engine_runs.specs.States.{Whole, Marks, unset, mixed, onward}
+use Rattle.std.proofs.Common.{◌≡◌, ℕ, zero, suc, ◌+◌, ◌-◌, ◌<◌, ◌≤◌, Bool, true, false, not, List, [], ◌∷◌, ◌++◌, length, map, take, Result, Ok, Err, refl, ap, ap₂, ◌∙◌, arith}
+use Rattle.regress_engine_runs.specs.States.{Whole, Marks, unset, mixed}
 use Rattle.regress_engine_runs.specs.Runs.{count_of, one_more}
 use Rattle.regress_engine_runs.specs.UndoStack.{whole}
 use Rattle.regress_engine_runs.proofs.MixedGroups.{mixed-more}

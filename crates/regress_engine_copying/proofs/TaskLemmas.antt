@@ -1,16 +1,14 @@
 -- What each change of the stack leads to.
-use Rattle.std.specs.Prelude.{option_map, option_to_list}
-use Rattle.std.proofs.Common.{◌≡◌, Bool, true, false, not, List, [], ◌∷◌, ◌++◌, map, Option, Some, None, refl, sym, ap, ◌∙◌, subst}
-use Rattle.regress_meaning.specs.Meaning.{Direction, Forward}
+use Rattle.std.proofs.Common.{◌≡◌, Bool, true, false, not, List, [], ◌∷◌, ◌++◌, map, None, refl, sym, ap, ◌∙◌, subst}
 use Rattle.regress_meaning.specs.Inputs.{Input}
 use Rattle.regress_front_nodes.specs.TreeMeaning.{direction}
-use Rattle.regress_engine_input.specs.Views.{View, way, input_of, reading_of}
+use Rattle.regress_engine_input.specs.Views.{way}
 use Rattle.regress_engine_code.specs.Instructions.{Instruction, Program, Stands}
 use Rattle.regress_engine_code.specs.Instructions as code
-use Rattle.regress_engine_runs.specs.States.{Whole, onward, first_state}
+use Rattle.regress_engine_runs.specs.States.{Whole, onward}
 use Rattle.regress_engine_runs.specs.Runs.{successors, is_plain, after_look}
-use Rattle.regress_engine_runs.specs.UndoStack.{Frame, Work, outermost, inside, first_do}
-use Rattle.regress_engine_sought.specs.Tasks.{Task, Leads}
+use Rattle.regress_engine_runs.specs.UndoStack.{Work, outermost, inside, first_do}
+use Rattle.regress_engine_sought.specs.Tasks.{Leads}
 use Rattle.regress_engine_sought.proofs.InsnLemmas.{way-direction}
 use Rattle.regress_engine_sought.proofs.TaskLemmas.{leads-then, leads-first, leads-later, leads-plain, leads-inside, leads-exhausted}
 use Rattle.regress_engine_copying.specs.declared.stack.Frame as stack

@@ -3,7 +3,7 @@ use Rattle.std.specs.Prelude.{◌≡◌, [], ◌∷◌, Option, Some, None}
 use Rattle.regress_meaning.specs.Inputs.{Input}
 use Rattle.regress_engine_code.specs.Instructions.{Program, Stands, goal}
 use Rattle.regress_engine_runs.specs.States.{Whole}
-use Rattle.regress_engine_runs.specs.UndoStack.{Frame, Work}
+use Rattle.regress_engine_runs.specs.UndoStack.{Frame}
 use Rattle.regress_engine_sought.specs.Tasks.{Leads, ComesAs, outside_of}
 use Rattle.regress_engine_copying.specs.declared.stack.Frame as code
 use Rattle.regress_engine_copying.specs.declared.state.State.{State}

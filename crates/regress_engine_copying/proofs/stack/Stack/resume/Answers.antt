@@ -1,8 +1,8 @@
-use Rattle.std.proofs.Common.{[], ◌∷◌, Option, None, Some, sym, ap, subst}
+use Rattle.std.proofs.Common.{[], ◌∷◌, None, Some, sym, ap, subst}
 use Rattle.regress_engine_sought.specs.Tasks.{Leads}
 use Rattle.regress_engine_copying.specs.StateOf.{state_of}
-use Rattle.regress_engine_copying.specs.Held.{Entry, held, entry_of, frame_of, pushed}
-use Rattle.regress_engine_copying.specs.Sound.{IsWhole, StaysSound}
+use Rattle.regress_engine_copying.specs.Held.{held, entry_of, frame_of, pushed}
+use Rattle.regress_engine_copying.specs.Sound.{StaysSound}
 use Rattle.regress_engine_copying.specs.Tasks.{task_of}
 use Rattle.regress_engine_copying.proofs.SoundLemmas.{tried-sound, looked-sound, whole-at}
 use Rattle.regress_engine_copying.proofs.StateLemmas.{not-so, is-so}
