@@ -1,8 +1,11 @@
-//! Searches by executors of one's choice.
+//! Searches by executors of one's choice. What goes over the matches is generic over the executor: of a function that names one
+//! with its lifetimes, and errors whose texts live for ever, the borrow checker says nothing yet.
+ghost use Rattle.std.specs.Prelude.{IfSome};
+ghost use Rattle.regress_match.specs.Iterating.{position_of, producer_of};
 
 use crate::told::compiled;
-use regress::backends::{self, DefaultExecutor, PikeVMExecutor, Utf8Input};
-use regress::{Match, Regex, Tables, is_ascii_text};
+use regress::backends::{self, DefaultExecutor, MatchProducer, Matches, PikeVMExecutor, Utf8Input};
+use regress::{Regex, Tables, is_ascii_text};
 use regress_rows::tell;
 use std::alloc::{AllocError, Global};
 use std::test::Fail;
@@ -10,42 +13,57 @@ use std::test::Fail;
 /// The executor that copies.
 type Copying<'t> = PikeVMExecutor<'t, Utf8Input<'t, 't>>;
 
-/// Tells one more match.
-fn put(told: &mut String, found: &Match) -> Result<(), AllocError> {
-    if !told.is_empty() {
-        told.push('|')?;
+/// All matches, parted by `|`; `None` where a search was refused memory.
+fn listed<P: MatchProducer>(
+    alloc: Global,
+    matches: Matches<P>,
+) -> Result<Option<String>, AllocError>
+    requires { IfSome (position_of matches) (P.is_position (P.sought (producer_of matches))) }
+{
+    let mut told = String::new(alloc);
+    for found in matches {
+        let Ok(found) = found else {
+            return Ok(None);
+        };
+        if !told.is_empty() {
+            told.push('|')?;
+        }
+        tell(&mut told, &found)?;
     }
-    tell(told, found)
+    Ok(Some(told))
 }
 
 /// All matches in a text, by the executor that undoes.
-fn undoing<'t>(alloc: Global, regex: &'t Regex<'t>, text: &'t str) -> Result<String, Fail> {
-    let mut told = String::new(alloc);
-    for found in backends::find::<DefaultExecutor<'t>>(regex, text, 0)? {
-        put(&mut told, &found?)?;
-    }
-    Ok(told)
+fn undoing<'t>(
+    alloc: Global,
+    regex: &'t Regex<'t>,
+    text: &'t str,
+) -> Result<Option<String>, AllocError> {
+    listed(
+        alloc,
+        backends::find::<DefaultExecutor<'t>>(regex, text, 0)?,
+    )
 }
 
 /// All matches in a text, by the executor that copies.
-fn copying<'t>(alloc: Global, regex: &'t Regex<'t>, text: &'t str) -> Result<String, Fail> {
-    let mut told = String::new(alloc);
-    for found in backends::find::<Copying<'t>>(regex, text, 0)? {
-        put(&mut told, &found?)?;
-    }
-    Ok(told)
+fn copying<'t>(
+    alloc: Global,
+    regex: &'t Regex<'t>,
+    text: &'t str,
+) -> Result<Option<String>, AllocError> {
+    listed(alloc, backends::find::<Copying<'t>>(regex, text, 0)?)
 }
 
-/// The same over ASCII, where the text is ASCII.
-fn copying_ascii<'t>(alloc: Global, regex: &'t Regex<'t>, text: &'t str) -> Result<String, Fail> {
+/// The same over ASCII; `None` also where the text is not ASCII.
+fn copying_ascii<'t>(
+    alloc: Global,
+    regex: &'t Regex<'t>,
+    text: &'t str,
+) -> Result<Option<String>, AllocError> {
     if !is_ascii_text(text) {
-        return Err("no ASCII".into());
+        return Ok(None);
     }
-    let mut told = String::new(alloc);
-    for found in backends::find_ascii::<Copying<'t>>(regex, text, 0)? {
-        put(&mut told, &found?)?;
-    }
-    Ok(told)
+    listed(alloc, backends::find_ascii::<Copying<'t>>(regex, text, 0)?)
 }
 
 const ROWS: &[(&str, &str, &str)] = &[
@@ -59,9 +77,9 @@ fn match_so(alloc: Global, flags: &str, rows: &[(&str, &str, &str)]) -> Result<(
     for (pattern, text, expected) in rows {
         let tables = Tables::small(alloc)?;
         let regex = compiled(alloc, pattern, flags, &tables)?;
-        let undone = undoing(alloc, &regex, text)?;
-        let copied = copying(alloc, &regex, text)?;
-        let in_ascii = copying_ascii(alloc, &regex, text)?;
+        let undone = undoing(alloc, &regex, text)?.ok_or("refused")?;
+        let copied = copying(alloc, &regex, text)?.ok_or("refused")?;
+        let in_ascii = copying_ascii(alloc, &regex, text)?.ok_or("refused, or no ASCII")?;
         let same = copied.as_str() == undone.as_str() && in_ascii.as_str() == undone.as_str();
         if !same || undone.as_str() != *expected {
             return Err(Fail::new(format!(in alloc; "{pattern}: {undone}, {copied}, {in_ascii}")?));
