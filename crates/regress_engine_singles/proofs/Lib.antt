@@ -1,1 +1,4 @@
+pub mod Chains
+pub mod Failures
 pub mod PassingLemmas
+pub mod StuckLemmas

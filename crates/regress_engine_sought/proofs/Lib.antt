@@ -3,6 +3,7 @@ pub mod InsnLemmas
 pub mod TaskLemmas
 pub mod ReadyLemmas
 pub mod PlaceLemmas
+pub mod GivenBack
 pub mod SearchLemmas
 pub mod SkipLemmas
 pub mod ProducerLemmas
