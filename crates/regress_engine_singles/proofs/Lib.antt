@@ -1,3 +1,4 @@
+pub mod ApartLemmas
 pub mod Chains
 pub mod Failures
 pub mod PassingLemmas

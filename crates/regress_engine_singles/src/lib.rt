@@ -2,9 +2,11 @@
 #![tactic(auto)]
 
 mod ahead;
+mod apart;
 mod class;
 mod far;
 
 pub use ahead::as_far_ahead;
+pub use apart::is_apart;
 pub use class::ScannedBracket;
 pub use far::as_far;

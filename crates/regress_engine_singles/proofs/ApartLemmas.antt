@@ -1,0 +1,64 @@
+-- When bytes don't stand where an instruction takes a character.
+use Rattle.std.specs.Prelude.{slice_get, slice_range, get_or, nat_lt, option_map, if◌then◌else◌}
+use Rattle.std.proofs.Common.{◌≡◌, ℕ, suc, ◌+◌, ◌-◌, ◌<◌, Bool, true, false, List, [], ◌∷◌, ◌++◌, length, drop, Option, Some, None, refl, sym, ap, ◌∙◌, subst, arith}
+use Rattle.std.proofs.lemmas.Bool.Decides.{nat_tests}
+use Rattle.std.proofs.lemmas.List.{get_or-drop, length-drop}
+use Rattle.std.proofs.lemmas.Option.{slice_get-get_or}
+use Rattle.regress_meaning.specs.Text.{same_text}
+use Rattle.regress_meaning.specs.Meaning.{Forward}
+use Rattle.regress_meaning.specs.Table.{Table}
+use Rattle.regress_meaning.specs.Inputs.{Input, onto_right, bytes_right, byte_at}
+use Rattle.regress_meaning.specs.Steps.{passed, literal}
+use Rattle.regress_engine_input.specs.Views.{View, Kind, utf8, ascii, utf16, ucs2, are_bytes, input_of, input_of_kind}
+use Rattle.regress_engine_input.proofs.Standing.{right-split}
+use Rattle.regress_engine_code.specs.Instructions.{Instruction, Program}
+use Rattle.regress_engine_code.specs.Instructions as code
+use Rattle.regress_engine_runs.specs.States.{Marks}
+use Rattle.regress_engine_runs.specs.Runs.{advance}
+use Rattle.regress_engine_singles.specs.Apart.{AreApart}
+
+-- the first of bytes that stand to the right of an offset is there
+first-unit : (units bs : List ℕ) (b o q : ℕ) → (if same_text (b ∷ bs) (slice_range units o (o + length (b ∷ bs))) then Some (o + length (b ∷ bs)) else None) ≡ Some q → slice_get units o ≡ Some b
+first-unit units bs b o q e = by_test (same_text (b ∷ bs) (slice_range units o (o + length (b ∷ bs)))) refl e
+  where
+    by_test : (t : Bool) → same_text (b ∷ bs) (slice_range units o (o + length (b ∷ bs))) ≡ t → (if t then Some (o + length (b ∷ bs)) else None) ≡ Some q → slice_get units o ≡ Some b
+    by_test false f g = absurd (grind arith)
+    by_test true f g =
+        let (rest, split) = right-split units o (b ∷ bs) f in
+        let size : length (drop o units) ≡ suc (length (bs ++ rest)) = ap length split in
+        let sizes = length-drop o units in
+        let front : get_or (drop o units) 0 0 ≡ b = ap (λ (xs : List ℕ). get_or xs 0 0) split in
+        let none : o + 0 ≡ o = omega arith in
+        let is : get_or units o 0 ≡ b = ap (λ i. get_or units i 0) (sym none) ∙ sym (get_or-drop o units 0 0) ∙ front in
+        slice_get-get_or units o 0 (omega (arith, size, sizes)) ∙ ap Some is
+
+-- a byte of ASCII is a character
+low-right : (b x y z : ℕ) → nat_lt b 0x80 ≡ true → bytes_right b x y z ≡ (b, 1)
+low-right b x y z e = rw e refl
+
+-- So where it is one of ASCII it is the character there.
+byte-next : (kind : Kind) (table : Table) (unicode : Bool) (units bs : List ℕ) (b o q : ℕ) → are_bytes kind ≡ true → b < 0x80
+    → literal (input_of_kind kind table unicode units) Forward (b ∷ bs) o ≡ Some q → (input_of_kind kind table unicode units).next Forward o ≡ Some (b, suc o)
+byte-next utf8 table unicode units bs b o q are low e =
+    let one : o + 1 ≡ suc o = omega arith in
+    let small : nat_lt b 0x80 ≡ true = grind (arith, nat_tests) in
+    ap (λ (x : Option ℕ). option_map (λ w. onto_right o (bytes_right w (byte_at units (o + 1)) (byte_at units (o + 2)) (byte_at units (o + 3)))) x) (first-unit units bs b o q e)
+    ∙ ap (λ x. Some (onto_right o x)) (low-right b (byte_at units (o + 1)) (byte_at units (o + 2)) (byte_at units (o + 3)) small)
+    ∙ ap (λ p. Some (b, p)) one
+byte-next ascii table unicode units bs b o q are low e = ap (option_map (λ c. (c, suc o))) (first-unit units bs b o q e)
+byte-next utf16 table unicode units bs b o q are low e = absurd cc
+byte-next ucs2 table unicode units bs b o q are low e = absurd cc
+
+-- An instruction that tests one character and bytes whose first is a character that fails are apart.
+pub apart-by-test : (program : Program) (v : View) → are_bytes v.kind ≡ true → (i : Instruction) (test : ℕ → Bool)
+    → ((groups : List Marks) (o : ℕ) → advance program (input_of v) i Forward groups o ≡ passed test ((input_of v).next Forward o))
+    → (b : ℕ) (bs : List ℕ) → b < 0x80 → test b ≡ false → AreApart program (input_of v) i (code.byte_seq (b ∷ bs))
+apart-by-test program v are i test does b bs low fails groups o q takes others = by_found (literal (input_of v) Forward (b ∷ bs) o) refl
+  where
+    by_found : (x : Option ℕ) → literal (input_of v) Forward (b ∷ bs) o ≡ x → None ≡ x
+    by_found None e = refl
+    by_found (Some r) e =
+        let next = byte-next v.kind v.table v.unicode v.units bs b o r are low e in
+        let none : passed test (Some (b, suc o)) ≡ None = ap (λ t. if t then Some (suc o) else None) fails in
+        let is : passed test (Some (b, suc o)) ≡ Some q = ap (passed test) (sym next) ∙ sym (does groups o) ∙ takes in
+        absurd (grind arith)
