@@ -10,20 +10,22 @@ use Rattle.regress_engine_code.specs.InsnViews.{instruction}
 use Rattle.regress_engine_code.specs.declared.insn.LoopFields as insn
 use Rattle.regress_engine_code.specs.InsnViews.{instruction}
 use Rattle.regress_engine_code.specs.declared.insn.Insn.{Insn}
-use Rattle.regress_engine_runs.specs.States.{Marks, onward}
+use Rattle.regress_engine_runs.specs.States.{Marks, Whole, onward}
 use Rattle.regress_engine_runs.specs.Runs.{successors, is_plain, moved_to, advance, is_idle, choices}
 use Rattle.regress_engine_runs.specs.Meets.{reads_character}
 use Rattle.regress_engine_runs.specs.Closed.{Fits}
-use Rattle.regress_engine_runs.specs.UndoStack.{Frame, frame, resume, stands_for}
+use Rattle.regress_engine_runs.specs.UndoStack.{Frame, Work, frame, resume, stands_for}
 use Rattle.regress_engine_sought.specs.Ready.{is_simple}
 use Rattle.regress_engine_sought.specs.Tasks.{Task, Leads}
 use Rattle.regress_engine_sought.proofs.InsnLemmas.{way-direction, simple-plain, simple-successors, again-successors}
-use Rattle.regress_engine_sought.proofs.TaskLemmas.{leads-then, leads-same, leads-plain, leads-inside}
+use Rattle.regress_engine_sought.proofs.TaskLemmas.{leads-then, leads-same, leads-later, leads-plain, leads-inside}
+use Rattle.regress_engine_singles.specs.Failing.{IsStuck}
+use Rattle.regress_engine_singles.proofs.Failures.{leads-without}
+use Rattle.regress_engine_singles.proofs.StuckLemmas.{leads-stuck}
 use Rattle.regress_engine_exec.specs.declared.undo.Spot.{Spot}
 use Rattle.regress_engine_exec.specs.Held.{Held, pushed}
-use Rattle.regress_engine_exec.specs.Stuck.{is_byte_seq, IsStuck}
+use Rattle.regress_engine_exec.specs.Stuck.{is_byte_seq}
 use Rattle.regress_engine_exec.specs.Tasks.{task_of, task, state_at, GoesOn}
-use Rattle.regress_engine_exec.proofs.LeadLemmas.{leads-fewer}
 use Rattle.regress_engine_exec.proofs.StepLemmas.{fork-leads}
 use Rattle.regress_engine_exec.proofs.BackLemmas.{resume-back}
 
@@ -98,14 +100,26 @@ module _ (program : Program) (input : Input) where
 
 module _ (program : Program) (input : Input) where
   -- the first of two ways leads nowhere
-  pub alt-stuck : (p : Spot) (h : Held) (target : ℕ) → Stands program p.at (code.alt target) → IsStuck program input (way p.forward) (p.at + 1) p.offset
+  pub first-stuck : (p : Spot) (h : Held) (target : ℕ) → Stands program p.at (code.alt target) → IsStuck program input (way p.forward) (p.at + 1) p.offset
       → Leads program input 1 (task program input true p h) (task program input true (record p { at = target }) h)
-  alt-stuck p h target here stuck =
+  first-stuck p h target here stuck =
       let on : Spot = record p { at = p.at + 1 } in
       let k : Held = pushed (resume target p.offset) h in
-      leads-fewer program input 2 1 (task program input true p h) (task program input true (record p { at = target }) h) (omega arith)
-      (leads-then program input 1 1 (step-on program input (code.alt target) p on h k true here refl (fork-leads p h k target refl program input))
-      (leads-then program input 1 0 (stuck h.loops h.groups (stands_for program input (way p.forward) k.stack k.loops k.groups)) (resume-back program input on h target p.offset)))
+      leads-then program input 1 0 (step-on program input (code.alt target) p on h k true here refl (fork-leads p h k target refl program input))
+      (leads-then program input 0 0 (leads-stuck program input (way p.forward) (p.at + 1) p.offset h.loops h.groups (stands_for program input (way p.forward) k.stack k.loops k.groups) stuck)
+      (resume-back program input on h target p.offset))
+
+  -- the second of two ways leads nowhere
+  pub second-stuck : (p : Spot) (h : Held) (target : ℕ) → Stands program p.at (code.alt target) → IsStuck program input (way p.forward) target p.offset
+      → Leads program input 1 (task program input true p h) (task program input true (record p { at = p.at + 1 }) h)
+  second-stuck p h target here stuck =
+      let s : Whole = state_at p h in
+      let next : suc p.at ≡ p.at + 1 = omega arith in
+      let work : Work = stands_for program input (way p.forward) h.stack h.loops h.groups in
+      step-on program input (code.alt target) p (record p { at = p.at + 1 }) h h true here refl
+      (subst (λ a. Leads program input 0 (task_of program input (onward s ∷ record s { at = target } ∷ []) p h) (task program input true (record p { at = a }) h)) next
+      (leads-then program input 0 0 (leads-later program input (way p.forward) (onward s ∷ []) (record s { at = target } ∷ []) work)
+      (leads-without program input (way p.forward) (onward s ∷ []) (record s { at = target } ∷ []) work (stuck h.loops h.groups))))
 
 -- an instruction that was read stands there
 pub stands-read : (slice insns : List Insn) (at : ℕ) (d : Insn) → slice ≡ insns → at < length slice → slice_get (map instruction insns) at ≡ Some (instruction (get_or slice at d))
@@ -125,8 +139,8 @@ none-is (Some o) e = absurd (cc e)
 module _ (program : Program) (input : Input) where
   -- an iteration ends
   pub again-on-step : (p q : Spot) (h k : Held) (going : Bool) (begin : ℕ) (f : code.LoopFields) → Stands program p.at (code.loop_again begin) → Stands program begin (code.enter_loop f)
-      → GoesOn (if is_idle f (state_at p h) then [] else choices f begin (state_at p h)) p h going q k
+      → Leads program input 0 (task_of program input (if is_idle f (state_at p h) then [] else choices f begin (state_at p h)) p h) (task program input going q k)
       → Leads program input 1 (task program input true p h) (task program input going q k)
   again-on-step p q h k going begin f here there on =
       step-on program input (code.loop_again begin) p q h k going here refl
-      (subst (λ ss. Leads program input 0 (task_of program input ss p h) (task program input going q k)) (sym (again-successors program input (way p.forward) (state_at p h) begin f there)) (on program input))
+      (subst (λ ss. Leads program input 0 (task_of program input ss p h) (task program input going q k)) (sym (again-successors program input (way p.forward) (state_at p h) begin f there)) on)

@@ -1,17 +1,24 @@
 -- One-character loops.
 use Rattle.std.specs.Prelude.{slice_get}
-use Rattle.std.proofs.Common.{◌≡◌, ℕ, zero, suc, refl, ◌+◌, ◌-◌, Bool, true, false, List, [], Option, Some, None, if◌then◌else◌, map, sym, ap, ◌∙◌, subst, arith}
-use Rattle.regress_meaning.specs.Meaning.{Direction}
+use Rattle.std.proofs.lemmas.List.Elements.{All-weaker}
+use Rattle.std.proofs.Common.{◌≡◌, ℕ, zero, suc, refl, ◌+◌, ◌-◌, Bool, true, false, List, [], ◌∷◌, Option, Some, None, if◌then◌else◌, map, sym, ap, ◌∙◌, subst, arith}
+use Rattle.regress_meaning.specs.Meaning.{Direction, Forward}
 use Rattle.regress_meaning.specs.Inputs.{Input}
 use Rattle.regress_engine_input.specs.Views.{View, AreOfKind, way, input_of, reading_of}
 use Rattle.regress_engine_code.specs.Instructions.{Instruction, Program, Stands, single_loop}
 use Rattle.regress_engine_runs.specs.States.{Marks, Whole}
 use Rattle.regress_engine_runs.specs.Runs.{advance, after_times, as_far, one_by_one, given_back, counted, successors}
 use Rattle.regress_engine_runs.specs.Meets.{IsAtPlace}
-use Rattle.regress_engine_runs.specs.UndoStack.{give_back, take_on, at_each, taken_on, first_do, stands_for}
+use Rattle.regress_engine_runs.specs.UndoStack.{Work, give_back, take_on, whole, at_each, taken_on, first_do, stands_for}
 use Rattle.regress_engine_sought.specs.Tasks.{Leads}
 use Rattle.regress_engine_sought.proofs.InsnLemmas.{single-successors}
-use Rattle.regress_engine_sought.proofs.TaskLemmas.{leads-same, leads-later}
+use Rattle.regress_engine_sought.proofs.GivenBack.{given-back}
+use Rattle.regress_engine_sought.proofs.TaskLemmas.{leads-then, leads-same, leads-first, leads-later}
+use Rattle.regress_engine_singles.specs.Apart.{AreApart}
+use Rattle.regress_engine_singles.specs.Failing.{Fail, IsStuck}
+use Rattle.regress_engine_singles.proofs.Chains.{Takes, given-taken}
+use Rattle.regress_engine_singles.proofs.Failures.{leads-without, fail-each}
+use Rattle.regress_engine_exec.specs.Stuck.{IsTakenFirst}
 use Rattle.regress_engine_exec.specs.declared.undo.Spot.{Spot}
 use Rattle.regress_engine_exec.specs.Held.{Held, pushed}
 use Rattle.regress_engine_sought.specs.Sought.{Suits}
@@ -95,3 +102,28 @@ module _ (program : Program) (input : Input) (i : Instruction) (p : Spot) (h : H
       (subst (λ a. Leads program input 0 (task_of program input (behind os) p h) (task program input false p (pushed (take_on a near (most - least)) h))) two
       (subst (λ xs. Leads program input 0 (task_of program input (behind os) p h) (record { dir = dir; states = []; work = first_do (behind xs) (stands_for program input dir h.stack h.loops h.groups) })) (sym taken)
       (leads-later program input dir [] (behind os) (stands_for program input dir h.stack h.loops h.groups)))))
+
+-- A loop that gives back nothing goes on at its far offset alone.
+module _ (program : Program) (v : View) (all : AreOfKind v.kind v.units) (suits : Suits program v) (at : ℕ) (i j : Instruction) (here : Stands program (at - 1) i) where
+  abbrev input : Input
+  input = input_of v
+
+  pub atomic : (first : IsTakenFirst program at j) → AreApart program input i j → (n near far : ℕ) (groups : List Marks) → IsBody program v at near → far ≡ as_far program input n i Forward groups near
+      → (p : Spot) (h : Held) → p.forward ≡ true
+      → Leads program input 0 (task program input false p (pushed (give_back at near far) h)) (task program input true (record p { at = at; offset = far }) h)
+  unfolding stands_for
+  atomic first apart n near far groups body is p h forward =
+      let os : List ℕ = one_by_one program input n i Forward groups near in
+      let (before, back, taken) = given-taken program input i Forward groups n near in
+      let given : given_back input Forward near far ≡ far ∷ before =
+      ap (given_back input Forward near) is ∙ given-back v all program suits Forward groups at i n near body here ∙ back ∙ ap (λ o. o ∷ before) (sym is) in
+      let ahead : way p.forward ≡ Forward = ap way forward in
+      let stuck : (o : ℕ) → Takes program input i Forward groups o → IsStuck program input Forward at o = λ o takes. first.stuck input true o (apart groups o takes.0 takes.1) in
+      let fails : Fail program input Forward (at_each program input at h.loops h.groups before) =
+      fail-each program input Forward at h.loops h.groups before (All-weaker (Takes program input i Forward groups) (IsStuck program input Forward at) stuck before taken) in
+      let work : Direction → Work = λ d. stands_for program input d h.stack h.loops h.groups in
+      subst (λ (d : Direction). Leads program input 0 (record { dir = d; states = []; work = first_do (at_each program input at h.loops h.groups (given_back input d near far)) (work d) }) (record { dir = d; states = whole at far h.loops h.groups ∷ []; work = work d })) (sym ahead)
+      (subst (λ (xs : List ℕ). Leads program input 0 (record { dir = Forward; states = []; work = first_do (at_each program input at h.loops h.groups xs) (work Forward) }) (record { dir = Forward; states = whole at far h.loops h.groups ∷ []; work = work Forward })) (sym given)
+      (leads-then program input 0 0 (leads-first program input Forward [] (whole at far h.loops h.groups ∷ at_each program input at h.loops h.groups before) (work Forward))
+      (leads-then program input 0 0 (leads-later program input Forward (whole at far h.loops h.groups ∷ []) (at_each program input at h.loops h.groups before) (work Forward))
+      (leads-without program input Forward (whole at far h.loops h.groups ∷ []) (at_each program input at h.loops h.groups before) (work Forward) fails))))

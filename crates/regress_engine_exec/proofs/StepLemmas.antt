@@ -3,16 +3,20 @@ use Rattle.std.specs.Prelude.{get_or, slice_set, nat_lt, nat_le, ◌^◌}
 use Rattle.std.proofs.Common.{◌≡◌, ℕ, suc, ◌+◌, ◌<◌, ◌≤◌, ◌∷◌, [], List, Bool, true, false, if◌then◌else◌, length, refl, sym, ap, ◌∙◌, subst, arith}
 use Rattle.std.proofs.lemmas.Bool.Decides.{nat_tests}
 use Rattle.regress_engine_input.specs.Views.{way}
-use Rattle.regress_engine_code.specs.Instructions.{LoopFields}
+use Rattle.regress_meaning.specs.Inputs.{Input}
+use Rattle.regress_engine_code.specs.Instructions.{LoopFields, Program}
 use Rattle.regress_engine_runs.specs.States.{Whole, Marks, onward}
-use Rattle.regress_engine_runs.specs.Runs.{count_of, one_more, choices, is_idle}
-use Rattle.regress_engine_runs.specs.UndoStack.{stands_for, resume, iterate}
+use Rattle.regress_engine_runs.specs.Runs.{count_of, one_more, ordered, choices, is_idle}
+use Rattle.regress_engine_runs.specs.UndoStack.{Work, first_do, stands_for, resume, iterate}
 use Rattle.regress_engine_sought.specs.Tasks.{Task, Leads}
-use Rattle.regress_engine_sought.proofs.TaskLemmas.{leads-then, leads-same, leads-later}
+use Rattle.regress_engine_sought.proofs.TaskLemmas.{leads-then, leads-same, leads-first, leads-later}
+use Rattle.regress_engine_singles.specs.Failing.{IsStuck}
+use Rattle.regress_engine_singles.proofs.Failures.{leads-without}
+use Rattle.regress_engine_singles.proofs.StuckLemmas.{leads-stuck}
 use Rattle.regress_engine_exec.specs.declared.undo.Spot.{Spot}
 use Rattle.regress_engine_exec.specs.Held.{Held, loop_written, group_written, pushed}
 use Rattle.regress_engine_exec.specs.Sound.{IsSound, IsHeld}
-use Rattle.regress_engine_exec.specs.Tasks.{task_of, task, state_at, GoesOn, StaysSound}
+use Rattle.regress_engine_exec.specs.Tasks.{task_of, task, state_at, GoesOn, GoesOnPast, StaysSound}
 use Rattle.regress_engine_exec.proofs.LeadLemmas.{leads-loop, leads-group}
 use Rattle.regress_engine_exec.proofs.SoundLemmas.{held-loop, held-group}
 use Rattle.regress_engine_runs.proofs.Choices.{choices-are, ordered-none, ordered-out, ordered-more}
@@ -127,6 +131,53 @@ module _ (f : LoopFields) (begin : ℕ) (p : Spot) (h : Held) (count : ℕ) (cou
       (λ program input. subst (λ x. Leads program input 0 (task_of program input (record here { at = f.exit } ∷ one_more f.loop_id begin here ∷ []) p h) (task program input true (record p { at = f.exit }) x)) (sym is)
       (leads-later program input (way p.forward) (record here { at = f.exit } ∷ []) (one_more f.loop_id begin here ∷ []) (stands_for program input (way p.forward) h.stack h.loops h.groups)))
 
+  -- where nothing is led to from behind it the repetition is not left
+  stay-only : (program : Program) (input : Input) → IsStuck program input (way p.forward) f.exit p.offset → (greedy more out : Bool)
+      → Leads program input 0 (task_of program input (ordered greedy more out (one_more f.loop_id begin here) (record here { at = f.exit })) p h)
+      (task_of program input (if more then one_more f.loop_id begin here ∷ [] else []) p h)
+  stay-only program input stuck greedy more out = by_case greedy more out
+    where
+      work : Work
+      work = stands_for program input (way p.forward) h.stack h.loops h.groups
+
+      Stays : Bool → Bool → Bool → Type 0
+      Stays g m o = Leads program input 0 (task_of program input (ordered g m o (one_more f.loop_id begin here) (record here { at = f.exit })) p h)
+          (task_of program input (if m then one_more f.loop_id begin here ∷ [] else []) p h)
+
+      alone : (xs : List Whole) → Leads program input 0 (task_of program input xs p h) (task_of program input xs p h)
+      alone xs = leads-same program input (task_of program input xs p h)
+
+      left : (w : Work) → Leads program input 0 (record { dir = way p.forward; states = record here { at = f.exit } ∷ []; work = w }) (record { dir = way p.forward; states = []; work = w })
+      left w = leads-stuck program input (way p.forward) f.exit p.offset h.loops h.groups w stuck
+
+      by_case : (g m o : Bool) → Stays g m o
+      by_case true true true =
+          leads-then program input 0 0 (leads-later program input (way p.forward) (one_more f.loop_id begin here ∷ []) (record here { at = f.exit } ∷ []) work)
+          (leads-without program input (way p.forward) (one_more f.loop_id begin here ∷ []) (record here { at = f.exit } ∷ []) work (stuck h.loops h.groups))
+      by_case false true true =
+          leads-then program input 0 0 (leads-later program input (way p.forward) (record here { at = f.exit } ∷ []) (one_more f.loop_id begin here ∷ []) work)
+          (leads-then program input 0 0 (left (first_do (one_more f.loop_id begin here ∷ []) work)) (leads-first program input (way p.forward) [] (one_more f.loop_id begin here ∷ []) work))
+      by_case true false true = left work
+      by_case false false true = left work
+      by_case true true false = alone (one_more f.loop_id begin here ∷ [])
+      by_case false true false = alone (one_more f.loop_id begin here ∷ [])
+      by_case true false false = alone []
+      by_case false false false = alone []
+
+  stays : (program : Program) (input : Input) → IsStuck program input (way p.forward) f.exit p.offset → (more : Bool) → nat_lt (count_of f.loop_id here) f.most ≡ more
+      → Leads program input 0 (task_of program input (choices f begin here) p h) (task_of program input (if more then one_more f.loop_id begin here ∷ [] else []) p h)
+  stays program input stuck more e =
+      subst (λ b. Leads program input 0 (task_of program input (choices f begin here) p h) (task_of program input (if b then one_more f.loop_id begin here ∷ [] else []) p h)) e
+      (stay-only program input stuck f.greedy (nat_lt (count_of f.loop_id here) f.most) (nat_le f.least (count_of f.loop_id here)))
+
+  pub stay-none : f.most ≤ count → GoesOnPast f.exit (choices f begin here) p h false p h
+  stay-none many program input stuck = stays program input stuck false (more-false many)
+
+  pub stay-more : (k : Held) → count < f.most → k ≡ loop_written f.loop_id (count + 1, p.offset) h
+      → GoesOnPast f.exit (choices f begin here) p h true (record p { at = begin + 1 }) k
+  stay-more k less is program input stuck =
+      leads-then program input 0 0 (stays program input stuck true (more-true less)) (iterate-leads p h k f.loop_id count begin counted is program input)
+
 pub iterate-sound : (h k : Held) (id begin offset : ℕ) → k ≡ pushed (iterate id begin offset) h → id < length h.loops → (get_or h.loops id (0, 0)).0 + 1 < 2 ^ 64 → begin + 1 < 2 ^ 64
     → StaysSound h k
 unfolding IsSound
@@ -139,6 +190,10 @@ pub at_spot : (states : List Whole) (p : Spot) (h : Held) (going : Bool) (q r : 
 at_spot states p h going q r k same on program input =
     subst (λ x. Leads program input 0 (task_of program input states p h) (task program input going x k)) (sym same) (on program input)
 
+pub past_spot : (exit : ℕ) (states : List Whole) (p : Spot) (h : Held) (going : Bool) (q r : Spot) (k : Held) → r ≡ q → GoesOnPast exit states p h going q k → GoesOnPast exit states p h going r k
+past_spot exit states p h going q r k same on program input stuck =
+    subst (λ x. Leads program input 0 (task_of program input states p h) (task program input going x k)) (sym same) (on program input stuck)
+
 -- an iteration that was idle, and one that was not
 pub again-idle : (f : LoopFields) (begin : ℕ) (p : Spot) (h : Held) → is_idle f (state_at p h) ≡ true
     → GoesOn (if is_idle f (state_at p h) then [] else choices f begin (state_at p h)) p h false p h
@@ -146,19 +201,18 @@ again-idle f begin p h idle program input =
     subst (λ b. Leads program input 0 (task_of program input (if b then [] else choices f begin (state_at p h)) p h) (task program input false p h)) (sym idle)
     (leads-same program input (task_of program input [] p h))
 
-pub again-on : (f : LoopFields) (begin : ℕ) (p : Spot) (h : Held) (going : Bool) (q : Spot) (k : Held) → is_idle f (state_at p h) ≡ false
-    → GoesOn (choices f begin (state_at p h)) p h going q k
-    → GoesOn (if is_idle f (state_at p h) then [] else choices f begin (state_at p h)) p h going q k
-again-on f begin p h going q k busy on program input =
-    subst (λ b. Leads program input 0 (task_of program input (if b then [] else choices f begin (state_at p h)) p h) (task program input going q k)) (sym busy)
-    (on program input)
+pub again-on : (f : LoopFields) (begin : ℕ) (p : Spot) (h : Held) (going : Bool) (q : Spot) (k : Held) → is_idle f (state_at p h) ≡ false → (program : Program) (input : Input)
+    → Leads program input 0 (task_of program input (choices f begin (state_at p h)) p h) (task program input going q k)
+    → Leads program input 0 (task_of program input (if is_idle f (state_at p h) then [] else choices f begin (state_at p h)) p h) (task program input going q k)
+again-on f begin p h going q k busy program input on =
+    subst (λ b. Leads program input 0 (task_of program input (if b then [] else choices f begin (state_at p h)) p h) (task program input going q k)) (sym busy) on
 
 -- a repetition is entered
-pub enter-on : (f : LoopFields) (p : Spot) (h j : Held) (going : Bool) (q : Spot) (k : Held) → j ≡ loop_written f.loop_id (0, p.offset) h
-    → GoesOn (choices f p.at (state_at p j)) p j going q k
-    → GoesOn (choices f p.at (record (state_at p h) { loops = slice_set h.loops f.loop_id (0, p.offset) })) p h going q k
-enter-on f p h j going q k is on program input =
+pub enter-on : (f : LoopFields) (p : Spot) (h j : Held) (going : Bool) (q : Spot) (k : Held) → j ≡ loop_written f.loop_id (0, p.offset) h → (program : Program) (input : Input)
+    → Leads program input 0 (task_of program input (choices f p.at (state_at p j)) p j) (task program input going q k)
+    → Leads program input 0 (task_of program input (choices f p.at (record (state_at p h) { loops = slice_set h.loops f.loop_id (0, p.offset) })) p h) (task program input going q k)
+enter-on f p h j going q k is program input on =
     let s : Whole = record (state_at p h) { loops = slice_set h.loops f.loop_id (0, p.offset) } in
-    let on' : GoesOn (choices f p.at s) p (loop_written f.loop_id (0, p.offset) h) going q k =
-    subst (λ x. GoesOn (choices f p.at (state_at p x)) p x going q k) is on in
-    leads-then program input 0 0 (leads-loop program input (choices f p.at s) p h f.loop_id (0, p.offset)) (on' program input)
+    let on' : Leads program input 0 (task_of program input (choices f p.at s) p (loop_written f.loop_id (0, p.offset) h)) (task program input going q k) =
+    subst (λ x. Leads program input 0 (task_of program input (choices f p.at (state_at p x)) p x) (task program input going q k)) is on in
+    leads-then program input 0 0 (leads-loop program input (choices f p.at s) p h f.loop_id (0, p.offset)) on'

@@ -19,7 +19,9 @@ use Rattle.regress_engine_sought.proofs.InsnLemmas.{simple-plain, simple-success
 use Rattle.regress_engine_sought.proofs.TaskLemmas.{leads-then, leads-same, leads-plain}
 use Rattle.regress_engine_exec.specs.declared.undo.Spot.{Spot}
 use Rattle.regress_engine_exec.specs.Held.{Held, pushed}
-use Rattle.regress_engine_exec.specs.Stuck.{is_byte_seq, is_taking, TakesNothing, IsStuck, IsTakenFirst, given_from, GivesFrom}
+use Rattle.regress_engine_singles.specs.Failing.{IsStuck}
+use Rattle.regress_engine_singles.proofs.StuckLemmas.{simple-stuck, loop-stuck, end-stuck, leads-stuck}
+use Rattle.regress_engine_exec.specs.Stuck.{is_byte_seq, is_taking, IsTakenFirst, given_from, GivesFrom}
 use Rattle.regress_engine_exec.specs.Tasks.{task}
 use Rattle.regress_engine_exec.proofs.LeadLemmas.{leads-fewer}
 use Rattle.regress_engine_exec.proofs.BackLemmas.{give_back-last, give_back-none, give_back-more}
@@ -82,32 +84,6 @@ taking-ready program v i groups o fits takes count place = record { fits = fits;
     alone (code.byte_seq bs) e reads = absurd (grind arith)
     alone _ e reads = absurd (grind arith)
 
-module _ (program : Program) (input : Input) where
-  -- what takes nothing leads nowhere
-  pub simple-stuck : (dir : Direction) (at o : ℕ) (i : Instruction) → Stands program at i → is_simple i ≡ true → TakesNothing program input dir i o → IsStuck program input dir at o
-  simple-stuck dir at o i here simple none loops groups work =
-      subst (λ ss. Leads program input 1 (record { dir = dir; states = whole at o loops groups ∷ []; work = work }) (record { dir = dir; states = ss; work = work }))
-      (simple-successors program input i dir (whole at o loops groups) simple ∙ ap (moved_to (whole at o loops groups)) (sym (none groups)))
-      (leads-plain program input i dir (whole at o loops groups) work here (simple-plain i simple))
-
-  -- nor does a one-character loop of it, where it is done at least once
-  pub loop-stuck : (forward : Bool) (at o least most : ℕ) (greedy : Bool) (i : Instruction) → Stands program at (code.single_loop least most greedy) → Stands program (at + 1) i → 0 < least
-      → TakesNothing program input (way forward) i o → IsStuck program input (way forward) at o
-  loop-stuck forward at o least most greedy i here body some none loops groups work =
-      let p : Spot = record { at = at; offset = o; forward = forward } in
-      let h : Held = record { stack = []; loops = loops; groups = groups } in
-      subst (λ ss. Leads program input 1 (record { dir = way forward; states = whole at o loops groups ∷ []; work = work }) (record { dir = way forward; states = ss; work = work }))
-      (few-states program input i p h body least most greedy (sym (after-stops program input i (way forward) groups least o some (none groups))))
-      (leads-plain program input (code.single_loop least most greedy) (way forward) (whole at o loops groups) work here refl)
-
-  -- nor does the end of a group before what leads nowhere
-  pub end-stuck : (dir : Direction) (at o k : ℕ) → Stands program at (code.end_group k) → IsStuck program input dir (at + 1) o → IsStuck program input dir at o
-  end-stuck dir at o k here behind loops groups work =
-      let next : at + 1 ≡ suc at = omega arith in
-      leads-fewer program input 2 1 _ _ (omega arith)
-      (leads-then program input 1 1 (leads-plain program input (code.end_group k) dir (whole at o loops groups) work here refl)
-      (subst (λ a. IsStuck program input dir a o) next behind loops (slice_set groups k (ended dir o (get_or groups k unset))) work))
-
 -- what is taken where it stands, in a loop, and behind the end of a group
 module _ (program : Program) (v : View) (suits : Suits program v) (at : ℕ) where
   pub first-here : (i : Instruction) → Stands program at i → is_taking i ≡ true → IsTakenFirst program at i
@@ -121,7 +97,7 @@ module _ (program : Program) (v : View) (suits : Suits program v) (at : ℕ) whe
   first-loop least most greedy i here body takes some = record {
     fits = taking-fits program (at + 1) i takes (suits.closed (at + 1) i body);
     takes = takes;
-    stuck = λ input forward o none. loop-stuck program input forward at o least most greedy i here body some none;
+    stuck = λ input forward o none. loop-stuck program input (way forward) at o least most greedy i here body some none;
   }
 
   pub first-behind : (k : ℕ) (i : Instruction) → Stands program at (code.end_group k) → IsTakenFirst program (at + 1) i → IsTakenFirst program at i
@@ -143,8 +119,8 @@ module _ (program : Program) (input : Input) (forward : Bool) (at near : ℕ) wh
   gives-stuck far found stuck on p h same =
       let k : Held = given_from at near found h in
       let stuck' : IsStuck program input (way p.forward) at far = subst (λ b. IsStuck program input (way b) at far) (sym same) stuck in
-      leads-fewer program input 1 0 _ _ (omega arith)
-      (leads-then program input 0 1 (on p h same) (stuck' k.loops k.groups (stands_for program input (way p.forward) k.stack k.loops k.groups)))
+      leads-then program input 0 0 (on p h same)
+      (leads-stuck program input (way p.forward) at far k.loops k.groups (stands_for program input (way p.forward) k.stack k.loops k.groups) stuck')
 
   -- the last offset leads nowhere
   pub gives-last : (far : ℕ) → IsStuck program input (way forward) at far → gap (way forward) near far ≡ 0 → GivesFrom program input forward at near far None

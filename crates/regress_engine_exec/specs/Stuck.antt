@@ -1,15 +1,13 @@
 -- What surely leads nowhere.
-use Rattle.std.specs.Prelude.{◌≡◌, ℕ, Bool, true, false, List, [], ◌∷◌, Option, Some, None}
-use Rattle.regress_meaning.specs.Meaning.{Direction}
+use Rattle.std.specs.Prelude.{◌≡◌, ℕ, Bool, true, false, Option, Some, None}
 use Rattle.regress_meaning.specs.Inputs.{Input}
 use Rattle.regress_engine_input.specs.Views.{way}
 use Rattle.regress_engine_code.specs.Instructions.{Instruction, Program}
 use Rattle.regress_engine_code.specs.Instructions as code
-use Rattle.regress_engine_runs.specs.States.{Marks}
-use Rattle.regress_engine_runs.specs.Runs.{advance}
 use Rattle.regress_engine_runs.specs.Closed.{Fits, takes_character}
-use Rattle.regress_engine_runs.specs.UndoStack.{Work, give_back, whole}
+use Rattle.regress_engine_runs.specs.UndoStack.{give_back}
 use Rattle.regress_engine_sought.specs.Tasks.{Leads}
+use Rattle.regress_engine_singles.specs.Failing.{IsStuck, TakesNothing}
 use Rattle.regress_engine_exec.specs.declared.undo.Spot.{Spot}
 use Rattle.regress_engine_exec.specs.Held.{Held, pushed}
 use Rattle.regress_engine_exec.specs.Tasks.{task}
@@ -23,15 +21,6 @@ is_byte_seq _ = false
 abbrev pub is_taking : Instruction → Bool
 is_taking (code.byte_seq bs) = true
 is_taking i = takes_character i
-
--- an instruction takes nothing beside an offset
-abbrev pub TakesNothing : Program → Input → Direction → Instruction → ℕ → Type 0
-TakesNothing program input dir i o = (groups : List Marks) → None ≡ advance program input i dir groups o
-
--- from an address and an offset nothing is led to, whatever else is to be done
-abbrev pub IsStuck : Program → Input → Direction → (at offset : ℕ) → Type 0
-IsStuck program input dir at o = (loops : List (ℕ × ℕ)) (groups : List Marks) (work : Work)
-    → Leads program input 1 (record { dir = dir; states = whole at o loops groups ∷ []; work = work }) (record { dir = dir; states = []; work = work })
 
 -- From an address on an instruction takes a character or bytes first: where it takes nothing, nothing is led to.
 pub record IsTakenFirst (program : Program) (at : ℕ) (i : Instruction) : Type 0 where

@@ -1,11 +1,12 @@
 -- What the executor has still to do.
-use Rattle.std.specs.Prelude.{Bool, List, [], ◌∷◌, if◌then◌else◌}
+use Rattle.std.specs.Prelude.{◌≡◌, ℕ, Bool, true, List, [], ◌∷◌, if◌then◌else◌}
 use Rattle.regress_meaning.specs.Inputs.{Input}
 use Rattle.regress_engine_code.specs.Instructions.{Program}
 use Rattle.regress_engine_runs.specs.States.{Whole}
 use Rattle.regress_engine_runs.specs.UndoStack.{whole, stands_for}
 use Rattle.regress_engine_input.specs.Views.{View, way}
 use Rattle.regress_engine_sought.specs.Tasks.{Task, Leads}
+use Rattle.regress_engine_singles.specs.Failing.{IsStuck}
 use Rattle.regress_engine_exec.specs.Held.{Held}
 use Rattle.regress_engine_exec.specs.Sound.{IsHeld}
 use Rattle.regress_engine_exec.specs.declared.undo.Spot.{Spot}
@@ -26,6 +27,16 @@ module _ (program : Program) (input : Input) where
 -- It is gone on to a spot, or failed, from these states on, whatever the program and the text.
 abbrev pub GoesOn : List Whole → Spot → Held → (going : Bool) → Spot → Held → Type 0
 GoesOn states p h going q k = (program : Program) (input : Input) → Leads program input 0 (task_of program input states p h) (task program input going q k)
+
+-- It is gone on, if nothing is led to from an address at the offset of the spot.
+abbrev pub GoesOnPast : (exit : ℕ) → List Whole → Spot → Held → (going : Bool) → Spot → Held → Type 0
+GoesOnPast exit states p h going q k = (program : Program) (input : Input) → IsStuck program input (way p.forward) exit p.offset
+    → Leads program input 0 (task_of program input states p h) (task program input going q k)
+
+-- the same, where it is only told that nothing is led to
+abbrev pub GoesOnIf : (stuck : Bool) → (exit : ℕ) → List Whole → Spot → Held → (going : Bool) → Spot → Held → Type 0
+GoesOnIf stuck exit states p h going q k = (program : Program) (input : Input) → (stuck ≡ true → IsStuck program input (way p.forward) exit p.offset)
+    → Leads program input 0 (task_of program input states p h) (task program input going q k)
 
 -- what is held stays sound
 abbrev pub StaysSound : Held → Held → Type 0

@@ -1,5 +1,5 @@
 //! What an instruction that changes nothing but the offset reads beside it.
-ghost use Rattle.std.specs.Prelude.{◌≡◌, ◌<◌, true, false, not, List, length, map, nat_eq, option_map, Some, is_some, IfSome, ◌&&◌, ◌||◌};
+ghost use Rattle.std.specs.Prelude.{◌≡◌, ◌<◌, ℕ, true, false, not, List, ◌∷◌, length, map, nat_eq, option_map, Some, is_some, IfSome, ◌&&◌, ◌||◌};
 ghost use Rattle.regress_meaning.specs.Text.{holds};
 ghost use Rattle.regress_meaning.specs.Meaning.{is_line_end, is_some_and, word_at};
 ghost use Rattle.regress_meaning.specs.Steps.{passed, literal, point, repeated, at_boundary};
@@ -8,6 +8,7 @@ ghost use Rattle.regress_front_bytes.specs.Bitmaps.{ascii_bitmap_contains};
 ghost use Rattle.regress_front_sets.specs.Intervals.{ends_of};
 ghost use Rattle.regress_front_nodes.specs.TreeMeaning.{bracket_has};
 ghost use Rattle.regress_engine_code.specs.Standing.{program_of};
+ghost use Rattle.regress_engine_code.specs.Instructions.{byte_seq};
 ghost use Rattle.regress_engine_code.specs.InsnViews.{instruction};
 ghost use Rattle.regress_engine_input.specs.Views.{way, input_of, reading_of, are_bytes, CanRead};
 ghost use Rattle.regress_engine_runs.specs.States.{Marks, range_of};
@@ -17,7 +18,8 @@ ghost use Rattle.regress_engine_runs.specs.Closed.{Fits};
 ghost use Rattle.regress_engine_sought.specs.Sought.{Suits};
 ghost use Rattle.regress_engine_sought.specs.StateViews.{marks_of};
 ghost use Rattle.regress_engine_sought.specs.Ready.{IsReady};
-ghost use Rattle.regress_engine_exec.specs.Stuck.{is_byte_seq, is_taking, IsStuck, IsTakenFirst};
+ghost use Rattle.regress_engine_singles.specs.Failing.{IsStuck};
+ghost use Rattle.regress_engine_exec.specs.Stuck.{is_byte_seq, is_taking, IsTakenFirst};
 
 use crate::attempt::Attempt;
 use regress_engine_code::Insn;
@@ -64,6 +66,40 @@ fn takes_bytes(insn: &Insn) -> bool
             | Insn::ByteSeq15(_)
             | Insn::ByteSeq16(_)
     )
+}
+
+/// The first of some bytes, where there is one.
+#[inline]
+fn first_of(bytes: &[u8]) -> Option<u8>
+    ensures { IfSome result (λ b. (rest : List ℕ) × (bytes.now ≡ b ∷ rest)) }
+{
+    bytes.first().copied()
+}
+
+/// The first of the bytes that an instruction takes, where it takes bytes.
+#[inline]
+pub(crate) fn first_byte(insn: &Insn) -> Option<u8>
+    ensures { IfSome result (λ b. (rest : List ℕ) × (instruction insn.now ≡ byte_seq (b ∷ rest))) }
+{
+    match insn {
+        Insn::ByteSeq1(bytes) => first_of(bytes),
+        Insn::ByteSeq2(bytes) => first_of(bytes),
+        Insn::ByteSeq3(bytes) => first_of(bytes),
+        Insn::ByteSeq4(bytes) => first_of(bytes),
+        Insn::ByteSeq5(bytes) => first_of(bytes),
+        Insn::ByteSeq6(bytes) => first_of(bytes),
+        Insn::ByteSeq7(bytes) => first_of(bytes),
+        Insn::ByteSeq8(bytes) => first_of(bytes),
+        Insn::ByteSeq9(bytes) => first_of(bytes),
+        Insn::ByteSeq10(bytes) => first_of(bytes),
+        Insn::ByteSeq11(bytes) => first_of(bytes),
+        Insn::ByteSeq12(bytes) => first_of(bytes),
+        Insn::ByteSeq13(bytes) => first_of(bytes),
+        Insn::ByteSeq14(bytes) => first_of(bytes),
+        Insn::ByteSeq15(bytes) => first_of(bytes),
+        Insn::ByteSeq16(bytes) => first_of(bytes),
+        _ => None,
+    }
 }
 
 /// Whether an instruction takes a character, one of some at the most, or bytes.
@@ -366,9 +402,9 @@ impl<'a, 'r, Input: CharInput> Attempt<'a, 'r, Input> {
         }
     }
 
-    /// Whether at an address bytes are taken that don't stand beside an offset: then nothing is led to from there.
-    #[inline]
-    pub(crate) fn is_stuck(&self, at: usize, forward: bool, offset: usize) -> bool
+    /// Whether surely nothing is led to from an address on: bytes are taken there that don't stand beside an offset, or of two
+    /// ways there neither leads anywhere, as far as ways so deep tell.
+    pub(crate) fn is_stuck(&self, ways: usize, at: usize, forward: bool, offset: usize) -> bool
         requires { Suits (program_of self.now.program.now) (Input.view self.now.input) }
         ensures { result ≡ true → IsStuck (program_of self.now.program.now) (input_of (Input.view self.now.input)) (way forward) at offset }
     {
@@ -377,6 +413,12 @@ impl<'a, 'r, Input: CharInput> Attempt<'a, 'r, Input> {
             return false;
         }
         let insn = &insns[at];
+        if let Insn::Alt { secondary } = insn {
+            if ways == 0 || !self.is_stuck(ways - 1, at + 1, forward, offset) {
+                return false;
+            }
+            return self.is_stuck(ways - 1, *secondary as usize, forward, offset);
+        }
         if !takes_bytes(insn) {
             return false;
         }

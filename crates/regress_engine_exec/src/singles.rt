@@ -1,11 +1,12 @@
 //! One-character loops.
 ghost use Rattle.std.specs.Prelude.{◌≡◌, ◌+◌, ◌-◌, ◌≤◌, ◌^◌, ◌<◌, ℕ, true, false, Some, IfSome, map, option_map, length, IfOk, OnOk};
-ghost use Rattle.regress_engine_code.specs.Instructions.{Stands};
+ghost use Rattle.regress_engine_code.specs.Instructions.{Instruction, Stands};
 ghost use Rattle.regress_engine_code.specs.InsnViews.{instruction};
 ghost use Rattle.regress_engine_code.specs.Standing.{program_of};
 ghost use Rattle.regress_engine_input.specs.Views.{way, input_of, reading_of};
 ghost use Rattle.regress_engine_runs.specs.Runs.{after_times, as_far, successors};
 ghost use Rattle.regress_engine_runs.specs.Meets.{IsAtPlace};
+ghost use Rattle.regress_engine_runs.specs.Closed.{Fits};
 ghost use Rattle.regress_engine_code.specs.Instructions.{single_loop};
 ghost use Rattle.regress_engine_sought.specs.StateViews.{marks_of};
 ghost use Rattle.regress_engine_sought.specs.Ready.{IsBody};
@@ -13,14 +14,17 @@ ghost use Rattle.regress_engine_sought.specs.Tasks.{Leads};
 ghost use Rattle.regress_engine_exec.specs.Held.{held};
 ghost use Rattle.regress_engine_sought.specs.Sought.{Suits};
 ghost use Rattle.regress_engine_exec.specs.Sound.{IsHeld};
+ghost use Rattle.regress_engine_singles.specs.Apart.{AreApart};
+ghost use Rattle.regress_engine_exec.specs.Stuck.{IsTakenFirst};
 ghost use Rattle.regress_engine_exec.specs.Tasks.{task_of, task, state_at};
 
 use crate::attempt::Attempt;
 use crate::memory::Memory;
+use crate::reads::first_byte;
 use crate::undo::Spot;
 use regress_engine_code::Insn;
 use regress_engine_matchers::CharInput;
-use regress_engine_singles::as_far_ahead;
+use regress_engine_singles::{as_far_ahead, is_apart};
 use regress_front_core::GroupData;
 use std::alloc::AllocError;
 
@@ -84,6 +88,22 @@ impl<'a, 'r, Input: CharInput> Attempt<'a, 'r, Input> {
         behind
     }
 
+    /// Whether what is taken first from an address on stands nowhere where an instruction takes a character ahead: then a loop
+    /// of that gives nothing back.
+    fn is_atomic(&self, insn: &Insn, at: usize) -> bool
+        requires suits { Suits (program_of self.now.program.now) (Input.view self.now.input) }
+        requires fits { Fits (program_of self.now.program.now) 0 (instruction insn.now) }
+        ensures { result ≡ true → (i : Instruction) × IsTakenFirst (program_of self.now.program.now) at i × AreApart (program_of self.now.program.now) (input_of (Input.view self.now.input)) (instruction insn.now) i }
+    {
+        let Some(taken) = self.taken_first(at) else {
+            return false;
+        };
+        let Some(first) = first_byte(taken) else {
+            return false;
+        };
+        is_apart(self.program, insn, first)
+    }
+
     /// Does a one-character loop: goes on at one of its ways, and later at the others. It answers whether there is any.
     pub(crate) fn repeat(
         &self,
@@ -109,6 +129,11 @@ impl<'a, 'r, Input: CharInput> Attempt<'a, 'r, Input> {
         let at = spot.at + 2;
         if greedy {
             let far = self.as_far(insn, left, spot.forward, &memory.groups, near);
+            if spot.forward && self.is_atomic(insn, at) {
+                spot.at = at;
+                spot.offset = far;
+                return Ok(true);
+            }
             let going = self.give_back(at, near, far, memory, spot)?;
             return Ok(going);
         }

@@ -22,6 +22,9 @@ use regress_engine_matchers::CharInput;
 use regress_front_core::GroupData;
 use std::alloc::AllocError;
 
+/// It is looked so many ways ahead whether they lead anywhere: as deep as the ways of many words are nested.
+const WAYS_AHEAD: usize = 16;
+
 impl<'a, 'r, Input: CharInput> Attempt<'a, 'r, Input> {
     /// Does an instruction that changes nothing but the offset, and answers whether it leads anywhere.
     #[inline]
@@ -52,7 +55,11 @@ impl<'a, 'r, Input: CharInput> Attempt<'a, 'r, Input> {
         ensures sound { OnOk result (IsHeld (program_of self.now.program.now) (Input.view self.now.input) (held memory.new)) }
     {
         match self.instruction(begin) {
-            Insn::EnterLoop(repetition) => memory.again(repetition, begin, spot),
+            Insn::EnterLoop(repetition) => {
+                let exit = repetition.exit as usize;
+                let stuck = self.is_stuck(WAYS_AHEAD, exit, spot.forward, spot.offset);
+                memory.again(repetition, begin, stuck, spot)
+            }
             _ => Ok(false),
         }
     }
@@ -79,11 +86,16 @@ impl<'a, 'r, Input: CharInput> Attempt<'a, 'r, Input> {
                 Ok(Some(true))
             }
             Insn::Alt { secondary } => {
-                if self.is_stuck(spot.at + 1, spot.forward, spot.offset) {
-                    spot.at = *secondary as usize;
+                let second = *secondary as usize;
+                if self.is_stuck(WAYS_AHEAD, spot.at + 1, spot.forward, spot.offset) {
+                    spot.at = second;
                     return Ok(Some(true));
                 }
-                memory.fork(*secondary as usize, spot)?;
+                if self.is_stuck(WAYS_AHEAD, second, spot.forward, spot.offset) {
+                    spot.at += 1;
+                    return Ok(Some(true));
+                }
+                memory.fork(second, spot)?;
                 Ok(Some(true))
             }
             Insn::BeginCaptureGroup(group) => {
@@ -101,7 +113,9 @@ impl<'a, 'r, Input: CharInput> Attempt<'a, 'r, Input> {
                 Ok(Some(true))
             }
             Insn::EnterLoop(repetition) => {
-                let going = memory.enter(repetition, spot)?;
+                let exit = repetition.exit as usize;
+                let stuck = self.is_stuck(WAYS_AHEAD, exit, spot.forward, spot.offset);
+                let going = memory.enter(repetition, stuck, spot)?;
                 Ok(Some(going))
             }
             Insn::LoopAgain { begin } => {

@@ -10,7 +10,7 @@ ghost use Rattle.regress_engine_sought.specs.StateViews.{marks_of};
 ghost use Rattle.regress_engine_sought.specs.Tasks.{Leads};
 ghost use Rattle.regress_engine_exec.specs.Held.{held, undo_of, pushed, loop_written};
 ghost use Rattle.regress_engine_exec.specs.Sound.{IsHeld};
-ghost use Rattle.regress_engine_exec.specs.Tasks.{state_at, task, GoesOn, StaysSound};
+ghost use Rattle.regress_engine_exec.specs.Tasks.{state_at, task, GoesOn, GoesOnPast, GoesOnIf, StaysSound};
 ghost use Rattle.regress_engine_exec.specs.declared.undo.Undo.TheVariants.{Look};
 
 use crate::memory::Memory;
@@ -168,26 +168,8 @@ impl Memory {
         Ok(true)
     }
 
-    /// Enters a repetition.
-    #[inline]
-    pub(crate) fn enter(
-        &mut self,
-        repetition: &LoopFields,
-        spot: &mut Spot,
-    ) -> Result<bool, AllocError>
-        requires there { repetition.now.loop_id < length (held self.old).loops }
-        requires room { spot.old.at + 1 < 2 ^ 64 }
-        ensures leads { IfOk result (λ going. GoesOn (choices (fields repetition.now) spot.old.at (record (state_at spot.old (held self.old)) { loops = slice_set (held self.old).loops repetition.now.loop_id (0, spot.old.offset) })) spot.old (held self.old) going spot.new (held self.new)) }
-        ensures sound { OnOk result (StaysSound (held self.old) (held self.new)) }
-    {
-        self.write_loop(repetition.loop_id as usize, LoopData::new(spot.offset))?;
-        let begin = spot.at;
-        self.choose(repetition, begin, spot)
-    }
-
-    /// Ends an iteration of the repetition that begins at an address.
-    #[inline]
-    pub(crate) fn again(
+    /// Begins one more iteration of a repetition that leads nowhere behind it, and answers whether it may.
+    pub(crate) fn stay(
         &mut self,
         repetition: &LoopFields,
         begin: usize,
@@ -195,14 +177,76 @@ impl Memory {
     ) -> Result<bool, AllocError>
         requires there { repetition.now.loop_id < length (held self.old).loops }
         requires begin { begin + 1 < 2 ^ 64 }
-        ensures leads { IfOk result (λ going. GoesOn (if is_idle (fields repetition.now) (state_at spot.old (held self.old)) then [] else choices (fields repetition.now) begin (state_at spot.old (held self.old))) spot.old (held self.old) going spot.new (held self.new)) }
+        ensures leads { IfOk result (λ going. GoesOnPast repetition.now.exit (choices (fields repetition.now) begin (state_at spot.old (held self.old))) spot.old (held self.old) going spot.new (held self.new)) }
+        ensures sound { OnOk result (StaysSound (held self.old) (held self.new)) }
+    {
+        let id = repetition.loop_id as usize;
+        let count = self.loop_data(id).iters;
+        if count >= repetition.max_iters {
+            return Ok(false);
+        }
+        self.iterate(id, count, begin, spot)?;
+        Ok(true)
+    }
+
+    /// Goes on with a repetition; `stuck` tells that nothing is led to behind it.
+    #[inline]
+    pub(crate) fn go_on(
+        &mut self,
+        repetition: &LoopFields,
+        begin: usize,
+        stuck: bool,
+        spot: &mut Spot,
+    ) -> Result<bool, AllocError>
+        requires there { repetition.now.loop_id < length (held self.old).loops }
+        requires begin { begin + 1 < 2 ^ 64 }
+        ensures leads { IfOk result (λ going. GoesOnIf stuck repetition.now.exit (choices (fields repetition.now) begin (state_at spot.old (held self.old))) spot.old (held self.old) going spot.new (held self.new)) }
+        ensures sound { OnOk result (StaysSound (held self.old) (held self.new)) }
+    {
+        if stuck {
+            self.stay(repetition, begin, spot)
+        } else {
+            self.choose(repetition, begin, spot)
+        }
+    }
+
+    /// Enters a repetition; `stuck` tells that nothing is led to behind it.
+    #[inline]
+    pub(crate) fn enter(
+        &mut self,
+        repetition: &LoopFields,
+        stuck: bool,
+        spot: &mut Spot,
+    ) -> Result<bool, AllocError>
+        requires there { repetition.now.loop_id < length (held self.old).loops }
+        requires room { spot.old.at + 1 < 2 ^ 64 }
+        ensures leads { IfOk result (λ going. GoesOnIf stuck repetition.now.exit (choices (fields repetition.now) spot.old.at (record (state_at spot.old (held self.old)) { loops = slice_set (held self.old).loops repetition.now.loop_id (0, spot.old.offset) })) spot.old (held self.old) going spot.new (held self.new)) }
+        ensures sound { OnOk result (StaysSound (held self.old) (held self.new)) }
+    {
+        self.write_loop(repetition.loop_id as usize, LoopData::new(spot.offset))?;
+        let begin = spot.at;
+        self.go_on(repetition, begin, stuck, spot)
+    }
+
+    /// Ends an iteration of the repetition that begins at an address; `stuck` tells that nothing is led to behind it.
+    #[inline]
+    pub(crate) fn again(
+        &mut self,
+        repetition: &LoopFields,
+        begin: usize,
+        stuck: bool,
+        spot: &mut Spot,
+    ) -> Result<bool, AllocError>
+        requires there { repetition.now.loop_id < length (held self.old).loops }
+        requires begin { begin + 1 < 2 ^ 64 }
+        ensures leads { IfOk result (λ going. GoesOnIf stuck repetition.now.exit (if is_idle (fields repetition.now) (state_at spot.old (held self.old)) then [] else choices (fields repetition.now) begin (state_at spot.old (held self.old))) spot.old (held self.old) going spot.new (held self.new)) }
         ensures sound { OnOk result (StaysSound (held self.old) (held self.new)) }
     {
         let entered = self.loop_data(repetition.loop_id as usize);
         if is_idle(repetition, entered, spot.offset) {
             return Ok(false);
         }
-        self.choose(repetition, begin, spot)
+        self.go_on(repetition, begin, stuck, spot)
     }
 
     /// Begins to try the contents of a lookaround.

@@ -27,7 +27,7 @@ returns-in-EnterLoop-clause-leads g c =
     let program = program_of c.args.self.now.program.now in
     let input = input_of (g.Input.InputIndexer.view c.args.self.now.input) in
     let here = stands-as program c.args.begin _ _ c.in-EnterLoop.is c.instruction.ensures.stands in
-    ok-then c.again.result _ _ (λ going on. again-on-step program input c.args.spot.now _ (held c.args.memory.now) _ going c.args.begin (fields c.in-EnterLoop.repetition) c.requires.stands here on) c.again.ensures.leads
+    ok-then c.again.result _ _ (λ going on. again-on-step program input c.args.spot.now _ (held c.args.memory.now) _ going c.args.begin (fields c.in-EnterLoop.repetition) c.requires.stands here (on program input c.is_stuck-stuck.ensures)) c.again.ensures.leads
 
 pub returns-in_default : goal.returns-in_default
 returns-in_default g c =

@@ -1,4 +1,8 @@
-use Rattle.std.proofs.Common.{◌+◌, ◌-◌, map, sym, ap, ◌∙◌, refl}
+use Rattle.std.proofs.Common.{◌≡◌, ◌+◌, ◌-◌, map, sym, ap, ◌∙◌, refl, subst, arith}
+use Rattle.regress_engine_code.specs.Instructions.{Stands}
+use Rattle.regress_engine_runs.specs.Closed.{takes_character}
+use Rattle.regress_engine_runs.proofs.BodyPlaces.{fits-anywhere}
+use Rattle.regress_engine_runs.proofs.RunViews.{one_stands}
 use Rattle.regress_engine_code.specs.InsnViews.{instruction}
 use Rattle.regress_engine_code.specs.Standing.{program_of}
 use Rattle.regress_engine_input.specs.Views.{way, input_of}
@@ -9,7 +13,7 @@ use Rattle.regress_engine_sought.proofs.ReadyLemmas.{body-at}
 use Rattle.regress_engine_sought.proofs.TaskLemmas.{leads-then}
 use Rattle.regress_engine_exec.specs.Held.{held, pushed}
 use Rattle.regress_engine_exec.proofs.BackLemmas.{give_back-held, take_on-held}
-use Rattle.regress_engine_exec.proofs.SingleLemmas.{repeat-few, repeat-greedy, repeat-lazy}
+use Rattle.regress_engine_exec.proofs.SingleLemmas.{repeat-few, repeat-greedy, repeat-lazy, atomic}
 use Rattle.regress_engine_exec.proofs.attempt.Attempt.repeat.Goals as goal
 
 pub returns-in_default-clause-leads : goal.returns-in_default-clause-leads
@@ -56,3 +60,33 @@ returns-clause-leads g c =
     (ap (λ gs. after_times program input c.args.least i (way c.args.spot.now.forward) (map marks_of gs) c.args.spot.now.offset) (sym c.deref.ensures.value) ∙ sym c.in-Some.ensures.behind)
     refl)
     c.in_ok-take_on.ensures.leads
+
+pub is_atomic-requires-clause-fits : goal.is_atomic-requires-clause-fits
+is_atomic-requires-clause-fits g c =
+    let program = program_of c.args.self.now.program.now in
+    let here = c.instruction-insn.ensures.stands in
+    let body = c.requires.body in
+    let one : c.args.spot.now.at + 2 - 1 ≡ c.args.spot.now.at + 1 = omega arith in
+    let same = one_stands program (input_of (g.Input.InputIndexer.view c.args.self.now.input)) (c.args.spot.now.at + 1) body.0 _ (subst (λ a. Stands program a body.0) one body.1) here in
+    fits-anywhere program (c.args.spot.now.at + 1) _ (c.requires.suits.closed (c.args.spot.now.at + 1) _ here) (ap takes_character (sym same) ∙ body.2)
+
+pub returns-then-is_atomic-clause-leads : goal.returns-then-is_atomic-clause-leads
+returns-then-is_atomic-clause-leads g c =
+    let program = program_of c.args.self.now.program.now in
+    let v = g.Input.InputIndexer.view c.args.self.now.input in
+    let p = c.args.spot.now in
+    let h = held c.args.memory.now in
+    let i = instruction c.instruction-insn.result.now in
+    let near = c.in-Some.near in
+    let far = c.as_far-far.result in
+    let groups = map marks_of c.args.memory.now.groups.items in
+    let two : p.at + 1 ≡ p.at + 2 - 1 = omega arith in
+    let here : Stands program (p.at + 2 - 1) i = subst (λ a. Stands program a i) two c.instruction-insn.ensures.stands in
+    let goes = c.as_far-far.ensures.far ∙ ap (λ gs. as_far program (input_of v) (c.args.most - c.args.least) i (way p.forward) (map marks_of gs) near) c.deref-then-greedy.ensures.value in
+    let ahead = goes ∙ ap (λ b. as_far program (input_of v) (c.args.most - c.args.least) i (way b) groups near) c.if-spot.true in
+    let (j, first, apart) = c.is_atomic.ensures c.if-is_atomic.true in
+    leads-then program (input_of v) 0 0
+    (repeat-greedy program (input_of v) i p h c.instruction-insn.ensures.stands c.args.least c.args.most c.args.greedy (pushed (give_back (p.at + 2) near far) h) near far c.if-greedy.true
+    (ap (λ gs. after_times program (input_of v) c.args.least i (way p.forward) (map marks_of gs) p.offset) (sym c.deref.ensures.value) ∙ sym c.in-Some.ensures.behind) goes refl)
+    (atomic program v (g.met.Input.InputIndexer.are_of_kind c.args.self.now.input) c.requires.suits (p.at + 2) i j here first apart (c.args.most - c.args.least) near far groups
+    (body-at program v (p.at + 2) p.offset near c.requires.body c.in-Some.ensures.place) ahead p h c.if-spot.true)

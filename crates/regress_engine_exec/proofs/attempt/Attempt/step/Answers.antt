@@ -8,7 +8,7 @@ use Rattle.regress_engine_sought.specs.StateViews.{marks_of}
 use Rattle.regress_engine_sought.proofs.InsnLemmas.{stands-as}
 use Rattle.regress_engine_exec.specs.Held.{held}
 use Rattle.regress_engine_exec.proofs.BackLemmas.{frame-held}
-use Rattle.regress_engine_exec.proofs.DispatchLemmas.{alt-stuck, step-on, jump-on, mark-on, look-on}
+use Rattle.regress_engine_exec.proofs.DispatchLemmas.{first-stuck, second-stuck, step-on, jump-on, mark-on, look-on}
 use Rattle.regress_engine_exec.proofs.attempt.Attempt.step.Goals as goal
 
 pub group_data-requires : goal.group_data-requires
@@ -113,7 +113,15 @@ returns-then-is_stuck-clause-leads g c =
     let input = input_of (g.Input.InputIndexer.view c.args.self.now.input) in
     let p = c.args.spot.now in
     let here = stands-as program p.at _ _ c.in-Alt.is c.instruction-insn.ensures.stands in
-    alt-stuck program input p (held c.args.memory.now) c.in-Alt.secondary here (c.is_stuck.ensures c.if-is_stuck.true)
+    first-stuck program input p (held c.args.memory.now) c.in-Alt.secondary here (c.is_stuck.ensures c.if-is_stuck.true)
+
+pub returns-then-is_stuck-2-clause-leads : goal.returns-then-is_stuck-2-clause-leads
+returns-then-is_stuck-2-clause-leads g c =
+    let program = program_of c.args.self.now.program.now in
+    let input = input_of (g.Input.InputIndexer.view c.args.self.now.input) in
+    let p = c.args.spot.now in
+    let here = stands-as program p.at _ _ c.in-Alt.is c.instruction-insn.ensures.stands in
+    second-stuck program input p (held c.args.memory.now) c.in-Alt.secondary here (c.is_stuck-in-Alt.ensures c.if-is_stuck-2.true)
 
 pub returns-in_ok-fork-in-Alt-clause-leads : goal.returns-in_ok-fork-in-Alt-clause-leads
 returns-in_ok-fork-in-Alt-clause-leads g c =
@@ -161,7 +169,7 @@ returns-in_ok-going-in-EnterLoop-clause-leads g c =
     let p = c.args.spot.now in
     let h = held c.args.memory.now in
     let here = stands-as program p.at _ _ c.in-EnterLoop.is c.instruction-insn.ensures.stands in
-    step-on program input _ p _ h _ _ here refl (c.in_ok-going-in-EnterLoop.ensures.leads program input)
+    step-on program input _ p _ h _ _ here refl (c.in_ok-going-in-EnterLoop.ensures.leads program input c.is_stuck-stuck.ensures)
 
 pub returns-in_ok-going-in-Loop1CharBody-clause-leads : goal.returns-in_ok-going-in-Loop1CharBody-clause-leads
 returns-in_ok-going-in-Loop1CharBody-clause-leads g c =
