@@ -4,6 +4,7 @@
 mod attempt;
 mod back;
 mod executor;
+mod leading;
 mod leave;
 mod memory;
 mod producer;

@@ -267,6 +267,9 @@ impl<'a, 'r, Input: CharInput> Attempt<'a, 'r, Input> {
             return None;
         }
         let mut position = <Input::Position as PositionType>::new(offset);
+        if forward && self.input.peek_byte_right(position) != Some(bytes[0]) {
+            return None;
+        }
         let stand = if forward {
             self.input.match_bytes(Forward::new(), &mut position, bytes)
         } else {

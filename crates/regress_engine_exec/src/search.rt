@@ -73,6 +73,10 @@ impl<'r, Input: ExecutorInput> BacktrackExecutor<'r, Input> {
                 input,
                 start,
             };
+            if let Some(past) = attempt.passed() {
+                from = past;
+                continue;
+            }
             if let Some(end) = attempt.run(&mut self.memory, &mut self.answer)? {
                 return Ok(Some((start, end)));
             }

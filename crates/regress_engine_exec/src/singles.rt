@@ -90,7 +90,7 @@ impl<'a, 'r, Input: CharInput> Attempt<'a, 'r, Input> {
 
     /// Whether what is taken first from an address on stands nowhere where an instruction takes a character ahead: then a loop
     /// of that gives nothing back.
-    fn is_atomic(&self, insn: &Insn, at: usize) -> bool
+    pub(crate) fn is_atomic(&self, insn: &Insn, at: usize) -> bool
         requires suits { Suits (program_of self.now.program.now) (Input.view self.now.input) }
         requires fits { Fits (program_of self.now.program.now) 0 (instruction insn.now) }
         ensures { result ≡ true → (i : Instruction) × IsTakenFirst (program_of self.now.program.now) at i × AreApart (program_of self.now.program.now) (input_of (Input.view self.now.input)) (instruction insn.now) i }

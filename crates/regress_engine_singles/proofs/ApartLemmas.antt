@@ -32,12 +32,21 @@ first-unit units bs b o q e = by_test (same_text (b ∷ bs) (slice_range units o
         let is : get_or units o 0 ≡ b = ap (λ i. get_or units i 0) (sym none) ∙ sym (get_or-drop o units 0 0) ∙ front in
         slice_get-get_or units o 0 (omega (arith, size, sizes)) ∙ ap Some is
 
+-- bytes don't stand where another byte than their first does, or none
+pub other-first : (input : Input) (bs : List ℕ) (o : ℕ) → 0 < length bs → (slice_get input.units o ≡ Some (get_or bs 0 0) → ⊥) → None ≡ literal input Forward bs o
+other-first input [] o some other = absurd (omega (arith, some))
+other-first input (b ∷ bs) o some other = by_found (literal input Forward (b ∷ bs) o) refl
+  where
+    by_found : (x : Option ℕ) → literal input Forward (b ∷ bs) o ≡ x → None ≡ x
+    by_found None e = refl
+    by_found (Some q) e = absurd (other (first-unit input.units bs b o q e))
+
 -- a byte of ASCII is a character
 low-right : (b x y z : ℕ) → nat_lt b 0x80 ≡ true → bytes_right b x y z ≡ (b, 1)
 low-right b x y z e = rw e refl
 
 -- So where it is one of ASCII it is the character there.
-byte-next : (kind : Kind) (table : Table) (unicode : Bool) (units bs : List ℕ) (b o q : ℕ) → are_bytes kind ≡ true → b < 0x80
+pub byte-next : (kind : Kind) (table : Table) (unicode : Bool) (units bs : List ℕ) (b o q : ℕ) → are_bytes kind ≡ true → b < 0x80
     → literal (input_of_kind kind table unicode units) Forward (b ∷ bs) o ≡ Some q → (input_of_kind kind table unicode units).next Forward o ≡ Some (b, suc o)
 byte-next utf8 table unicode units bs b o q are low e =
     let one : o + 1 ≡ suc o = omega arith in

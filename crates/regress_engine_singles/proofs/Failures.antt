@@ -1,5 +1,5 @@
 -- States that fail may be left out of what is to be tried, wherever they stand.
-use Rattle.std.proofs.Common.{◌≡◌, ℕ, suc, ◌+◌, ◌≤◌, true, List, [], ◌∷◌, ◌++◌, All, Option, Some, map, refl, sym, ap, ◌∙◌, subst, arith, append_assoc}
+use Rattle.std.proofs.Common.{◌≡◌, ℕ, suc, ◌+◌, ◌≤◌, true, List, [], ◌∷◌, ◌++◌, All, Option, Some, None, map, refl, sym, ap, ◌∙◌, subst, arith, append_assoc}
 use Rattle.std.proofs.lemmas.List.Elements.{All-head, All-tail}
 use Rattle.regress_meaning.specs.Meaning.{Direction}
 use Rattle.regress_meaning.specs.Inputs.{Input}
@@ -47,6 +47,10 @@ module _ (program : Program) (input : Input) where
   front-meets failed rest t met = met
   front-meets {dir = dir} (steps {i = i} {s = s} {ss = ss} here plain more) rest t met =
       later here plain (subst (λ xs. Meets program input dir xs t) (append_assoc (successors program input i dir s) ss rest) (front-meets more rest t met))
+
+  -- So it has no answer.
+  pub fail-none : {dir : Direction} {xs : List Whole} → Gone dir xs → Runs program input dir (xs ++ []) None
+  fail-none gone = front-put gone [] None (0, ends)
 
   -- ---- anywhere
 

@@ -1,5 +1,6 @@
 pub mod ApartLemmas
 pub mod Chains
 pub mod Failures
+pub mod LeadingLemmas
 pub mod PassingLemmas
 pub mod StuckLemmas

@@ -1,3 +1,4 @@
 pub mod Apart
 pub mod Failing
+pub mod Passed
 pub mod Passing

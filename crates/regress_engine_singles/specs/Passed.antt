@@ -1,0 +1,20 @@
+-- Places from which nothing is found.
+use Rattle.std.specs.Prelude.{ℕ, ◌<◌, Bool, true, false}
+use Rattle.regress_engine_input.specs.Views.{View, input_of, reading_of}
+use Rattle.regress_engine_code.specs.Instructions.{Instruction, Program}
+use Rattle.regress_engine_code.specs.Instructions as code
+use Rattle.regress_engine_runs.specs.Meets.{IsAtPlace}
+use Rattle.regress_engine_sought.proofs.SearchLemmas.{FindsOn}
+
+-- an instruction is a class
+abbrev pub is_class : Instruction → Bool
+is_class (code.bracket k) = true
+is_class (code.ascii_bracket cs) = true
+is_class _ = false
+
+-- From one offset on and up to another, which is that of a place too, no run has an answer: what a search from the second finds
+-- is what one from the first does.
+pub record PassesOver (program : Program) (v : View) (start past : ℕ) : Type 0 where
+  pub on : (offset : ℕ) → FindsOn program (input_of v) offset start → FindsOn program (input_of v) offset past
+  pub place : IsAtPlace (reading_of v) past
+  pub further : start < past
