@@ -1,9 +1,10 @@
 //! A class and a run of characters with which a program begins.
-ghost use Rattle.std.specs.Prelude.{◌≡◌, ◌+◌, ◌^◌, ◌<◌, ℕ, true, List, IfSome};
+ghost use Rattle.std.specs.Prelude.{◌≡◌, ◌<◌, ℕ, true, List, get_or, IfSome};
 ghost use Rattle.regress_meaning.specs.Meaning.{Forward as ahead};
+ghost use Rattle.regress_meaning.specs.Steps.{literal};
 ghost use Rattle.regress_engine_code.specs.InsnViews.{instruction};
 ghost use Rattle.regress_engine_code.specs.Standing.{program_of};
-ghost use Rattle.regress_engine_input.specs.Views.{input_of, reading_of, CanRead};
+ghost use Rattle.regress_engine_input.specs.Views.{are_bytes, input_of, reading_of, CanRead};
 ghost use Rattle.regress_engine_runs.specs.States.{Marks};
 ghost use Rattle.regress_engine_runs.specs.Runs.{advance};
 ghost use Rattle.regress_engine_runs.specs.Closed.{Fits};
@@ -46,6 +47,18 @@ impl<'a, 'r, Input: CharInput> Attempt<'a, 'r, Input> {
         }
     }
 
+    /// The offset behind a character of ASCII ahead of one, where that stands there.
+    #[inline]
+    fn byte_ahead(&self, offset: usize, byte: &[u8; 1]) -> Option<usize>
+        requires kind { are_bytes (Input.view self.now.input).kind ≡ true }
+        requires ascii { get_or byte.now 0 0 < 0x80 }
+        requires place { IsAtPlace (reading_of (Input.view self.now.input)) offset }
+        ensures stands { result ≡ literal (input_of (Input.view self.now.input)) ahead byte.now offset }
+        ensures place { IfSome result (IsAtPlace (reading_of (Input.view self.now.input))) }
+    {
+        self.bytes(true, offset, byte)
+    }
+
     /// Whether surely nothing is led to from an address and an offset on, read forward: bytes are taken there that don't
     /// stand, or a class that does not match; before these may come ends and beginnings of groups, and characters of ASCII
     /// that stand there.
@@ -62,10 +75,15 @@ impl<'a, 'r, Input: CharInput> Attempt<'a, 'r, Input> {
         match insn {
             Insn::BeginCaptureGroup(_) => self.fails(left - 1, at + 1, offset),
             Insn::EndCaptureGroup(_) => self.fails(left - 1, at + 1, offset),
-            Insn::ByteSeq1(bytes) => match self.bytes(true, offset, bytes) {
-                Some(behind) => bytes[0] < 0x80 && self.fails(left - 1, at + 1, behind),
-                None => true,
-            },
+            Insn::ByteSeq1(bytes) => {
+                if bytes[0] >= 0x80 {
+                    return false;
+                }
+                match self.byte_ahead(offset, bytes) {
+                    Some(behind) => self.fails(left - 1, at + 1, behind),
+                    None => true,
+                }
+            }
             _ => is_class(insn) && self.class_ahead(insn, offset).is_none(),
         }
     }

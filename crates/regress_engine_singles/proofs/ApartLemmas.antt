@@ -1,6 +1,8 @@
 -- When bytes don't stand where an instruction takes a character.
-use Rattle.std.specs.Prelude.{slice_get, slice_range, get_or, nat_lt, option_map, if◌then◌else◌}
-use Rattle.std.proofs.Common.{◌≡◌, ℕ, suc, ◌+◌, ◌-◌, ◌<◌, Bool, true, false, List, [], ◌∷◌, ◌++◌, length, drop, Option, Some, None, refl, sym, ap, ◌∙◌, subst, arith}
+use Rattle.std.specs.Prelude.{IfSome, slice_get, slice_range, get_or, nat_lt, option_map, if◌then◌else◌}
+use Rattle.std.proofs.Common.{◌≡◌, ℕ, suc, ◌+◌, ◌-◌, ◌<◌, Bool, true, false, not, ◌==◌, List, [], ◌∷◌, ◌++◌, length, drop, Option, Some, None, refl, sym, ap, ◌∙◌, subst, arith}
+use Rattle.std.specs.Option.{option_eq}
+use Rattle.std.proofs.lemmas.Bool.{eq-eqb}
 use Rattle.std.proofs.lemmas.Bool.Decides.{nat_tests}
 use Rattle.std.proofs.lemmas.List.{get_or-drop, length-drop}
 use Rattle.std.proofs.lemmas.Option.{slice_get-get_or}
@@ -9,12 +11,15 @@ use Rattle.regress_meaning.specs.Meaning.{Forward}
 use Rattle.regress_meaning.specs.Table.{Table}
 use Rattle.regress_meaning.specs.Inputs.{Input, onto_right, bytes_right, byte_at}
 use Rattle.regress_meaning.specs.Steps.{passed, literal}
-use Rattle.regress_engine_input.specs.Views.{View, Kind, utf8, ascii, utf16, ucs2, are_bytes, input_of, input_of_kind}
+use Rattle.regress_engine_input.specs.Views.{View, Kind, utf8, ascii, utf16, ucs2, AreOfKind, are_bytes, input_of, input_of_kind, reading_of, in_bytes, unit_beside}
 use Rattle.regress_engine_input.proofs.Standing.{right-split}
+use Rattle.regress_engine_matchers.proofs.ByteLemmas.{in-bytes}
 use Rattle.regress_engine_code.specs.Instructions.{Instruction, Program}
 use Rattle.regress_engine_code.specs.Instructions as code
 use Rattle.regress_engine_runs.specs.States.{Marks}
 use Rattle.regress_engine_runs.specs.Runs.{advance}
+use Rattle.regress_engine_runs.specs.Meets.{IsAtPlace}
+use Rattle.regress_engine_sought.proofs.PlaceLemmas.{next-place}
 use Rattle.regress_engine_singles.specs.Apart.{AreApart}
 
 -- the first of bytes that stand to the right of an offset is there
@@ -41,6 +46,27 @@ other-first input (b ∷ bs) o some other = by_found (literal input Forward (b �
     by_found None e = refl
     by_found (Some q) e = absurd (other (first-unit input.units bs b o q e))
 
+-- what an input shows are the units of its view
+units-are : (v : View) → (input_of v).units ≡ v.units
+units-are v = by_kind v.kind
+  where
+    by_kind : (k : Kind) → (input_of_kind k v.table v.unicode v.units).units ≡ v.units
+    by_kind utf8 = refl
+    by_kind ascii = refl
+    by_kind utf16 = refl
+    by_kind ucs2 = refl
+
+-- nor where a byte that was read is not their first
+pub not-there : (v : View) → are_bytes v.kind ≡ true → (bs : List ℕ) (o p : ℕ) → 0 < length bs → p ≡ o → (found : Option ℕ) → found ≡ in_bytes v.kind (unit_beside v.units Forward p)
+    → true ≡ not (option_eq (λ a b. a == b) found (Some (get_or bs 0 0))) → None ≡ literal (input_of v) Forward bs o
+not-there v are bs o p some same found is other = other-first (input_of v) bs o some (λ there.
+    let b : ℕ = get_or bs 0 0 in
+    let read : found ≡ Some b = is ∙ ap (λ x. in_bytes v.kind (unit_beside v.units Forward x)) same ∙ in-bytes v.kind (slice_get v.units o) are ∙ ap (λ us. slice_get us o) (sym (units-are v)) ∙ there in
+    let so : true ≡ not (b == b) = other ∙ ap (λ x. not (option_eq (λ a b. a == b) x (Some b))) read in
+    let equal : (b == b) ≡ true = eq-eqb b b refl in
+    let never : true ≡ false = so ∙ ap not equal in
+    absurd (grind arith))
+
 -- a byte of ASCII is a character
 low-right : (b x y z : ℕ) → nat_lt b 0x80 ≡ true → bytes_right b x y z ≡ (b, 1)
 low-right b x y z e = rw e refl
@@ -57,6 +83,24 @@ byte-next utf8 table unicode units bs b o q are low e =
 byte-next ascii table unicode units bs b o q are low e = ap (option_map (λ c. (c, suc o))) (first-unit units bs b o q e)
 byte-next utf16 table unicode units bs b o q are low e = absurd cc
 byte-next ucs2 table unicode units bs b o q are low e = absurd cc
+
+-- and behind it is a place
+byte-place : (v : View) → AreOfKind v.kind v.units → are_bytes v.kind ≡ true → (bs : List ℕ) → length bs ≡ 1 → get_or bs 0 0 < 0x80 → (o q : ℕ) → IsAtPlace (reading_of v) o
+    → literal (input_of v) Forward bs o ≡ Some q → IsAtPlace (reading_of v) q
+byte-place v all are [] one low o q place e = absurd (omega (arith, one))
+byte-place v all are (b ∷ c ∷ bs) one low o q place e = absurd (omega (arith, one))
+byte-place v all are (b ∷ []) one low o q place e =
+    subst (IsAtPlace (reading_of v)) (by_test (same_text (b ∷ []) (slice_range (input_of v).units o (o + 1))) e)
+    (next-place v all Forward o b (suc o) place (byte-next v.kind v.table v.unicode v.units [] b o q are low e))
+  where
+    by_test : (t : Bool) → (if t then Some (o + 1) else None) ≡ Some q → suc o ≡ q
+    by_test false f = absurd (grind arith)
+    by_test true f = let same : o + 1 ≡ q = cc in omega (arith, same)
+
+pub byte-places : (v : View) → AreOfKind v.kind v.units → are_bytes v.kind ≡ true → (bs : List ℕ) → length bs ≡ 1 → get_or bs 0 0 < 0x80 → (o : ℕ) → IsAtPlace (reading_of v) o → (x : Option ℕ)
+    → x ≡ literal (input_of v) Forward bs o → IfSome x (IsAtPlace (reading_of v))
+byte-places v all are bs one low o place None e = tt
+byte-places v all are bs one low o place (Some q) e = byte-place v all are bs one low o q place (sym e)
 
 -- An instruction that tests one character and bytes whose first is a character that fails are apart.
 pub apart-by-test : (program : Program) (v : View) → are_bytes v.kind ≡ true → (i : Instruction) (test : ℕ → Bool)

@@ -13,7 +13,7 @@ use Rattle.regress_engine_runs.specs.States.{Marks, Whole, first_state}
 use Rattle.regress_engine_runs.specs.Runs.{successors, moved_to, advance, after_times, as_far, one_by_one, given_back, counted}
 use Rattle.regress_engine_runs.specs.Meets.{IsAtPlace}
 use Rattle.regress_engine_runs.specs.UndoStack.{whole, at_each}
-use Rattle.regress_engine_runs.specs.Closed.{takes_character}
+use Rattle.regress_engine_runs.specs.Closed.{Fits, takes_character}
 use Rattle.regress_engine_sought.specs.Ready.{is_simple}
 use Rattle.regress_engine_sought.specs.Sought.{Suits}
 use Rattle.regress_engine_sought.proofs.GivenBack.{given-back}
@@ -68,6 +68,17 @@ pub class-takes : (j : Instruction) → is_class j ≡ true → takes_character 
 class-takes (code.ascii_bracket cs) is = refl
 class-takes (code.bracket k) is = refl
 class-takes _ is = absurd (grind arith)
+
+-- and fits anywhere
+pub class-fits : (program : Program) (at : ℕ) (j : Instruction) → is_class j ≡ true → Fits program at j → Fits program 0 j
+class-fits program at (code.ascii_bracket cs) is fits = tt
+class-fits program at (code.bracket k) is fits = fits
+class-fits program at _ is fits = absurd (grind arith)
+
+-- behind the character that it takes is a place
+pub class-place : (program : Program) (v : View) → AreOfKind v.kind v.units → (j : Instruction) → is_class j ≡ true → (o q : ℕ) → IsAtPlace (reading_of v) o → advance program (input_of v) j Forward [] o ≡ Some q
+    → IsAtPlace (reading_of v) q
+class-place program v all j is o q place e = let (c, next) = class-next program v j is [] o q e in next-place v all Forward o c q place next
 
 -- A class at an address, and behind it a loop of another, which stops at an offset from which nothing is led to; nor is from where the loop takes something.
 pub record IsLeading (program : Program) (v : View) (at most far : ℕ) (i j : Instruction) : Type 0 where

@@ -1,0 +1,19 @@
+use Rattle.regress_engine_code.specs.Standing.{program_of}
+use Rattle.regress_engine_input.specs.Views.{input_of}
+use Rattle.regress_meaning.specs.Meaning.{Forward}
+use Rattle.std.proofs.Common.{◌≡◌, ℕ, zero, suc, ◌<◌, ◌==◌, false, sym, ◌∙◌, arith}
+use Rattle.regress_engine_code.specs.declared.insn.Insn.TheVariants.{Goal}
+use Rattle.regress_engine_sought.proofs.InsnLemmas.{stands-as}
+use Rattle.regress_engine_singles.proofs.StuckLemmas.{begin-stuck}
+use Rattle.regress_engine_exec.proofs.DispatchLemmas.{stands-read}
+use Rattle.regress_engine_exec.proofs.attempt.Attempt.passed.Goals as goal
+
+some-there : (n : ℕ) → false ≡ (n == 0) → 0 < n
+some-there zero e = absurd (grind arith)
+some-there (suc n) e = omega arith
+
+pub returns-in-BeginCaptureGroup : goal.returns-in-BeginCaptureGroup
+returns-in-BeginCaptureGroup g c =
+    let program = program_of c.args.self.now.program.now in
+    let here = stands-read c.insns-insns.result.now c.args.self.now.program.now.insns.items 0 Goal c.insns-insns.ensures (some-there _ (sym c.if-is_empty.false ∙ c.is_empty.ensures)) in
+    c.passed_from.ensures (λ o stuck. begin-stuck program (input_of (g.Input.InputIndexer.view c.args.self.now.input)) Forward 0 o _ (stands-as program 0 _ _ c.in-BeginCaptureGroup.is here) stuck)
