@@ -1,5 +1,5 @@
 -- What surely leads nowhere.
-use Rattle.std.specs.Prelude.{◌≡◌, ℕ, Bool, true, false, Option, Some, None}
+use Rattle.std.specs.Prelude.{◌≡◌, ℕ, Bool, true, false, List, [], Option, Some, None}
 use Rattle.regress_meaning.specs.Inputs.{Input}
 use Rattle.regress_engine_input.specs.Views.{way}
 use Rattle.regress_engine_code.specs.Instructions.{Instruction, Program}
@@ -16,6 +16,11 @@ use Rattle.regress_engine_exec.specs.Tasks.{task}
 abbrev pub is_byte_seq : Instruction → Bool
 is_byte_seq (code.byte_seq bs) = true
 is_byte_seq _ = false
+
+-- the bytes that an instruction takes
+abbrev pub bytes_in : Instruction → List ℕ
+bytes_in (code.byte_seq bs) = bs
+bytes_in _ = []
 
 -- an instruction takes a character or bytes
 abbrev pub is_taking : Instruction → Bool

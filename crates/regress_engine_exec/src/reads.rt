@@ -1,7 +1,7 @@
 //! What an instruction that changes nothing but the offset reads beside it.
-ghost use Rattle.std.specs.Prelude.{◌≡◌, ◌<◌, ℕ, true, false, not, List, ◌∷◌, length, map, nat_eq, option_map, Some, is_some, IfSome, ◌&&◌, ◌||◌};
+ghost use Rattle.std.specs.Prelude.{◌≡◌, ◌<◌, ℕ, true, false, not, None, nat_lt, List, ◌∷◌, length, map, nat_eq, option_map, Some, is_some, IfSome, ◌&&◌, ◌||◌};
 ghost use Rattle.regress_meaning.specs.Text.{holds};
-ghost use Rattle.regress_meaning.specs.Meaning.{is_line_end, is_some_and, word_at};
+ghost use Rattle.regress_meaning.specs.Meaning.{Forward as ahead, is_line_end, is_some_and, word_at};
 ghost use Rattle.regress_meaning.specs.Steps.{passed, literal, point, repeated, at_boundary};
 ghost use Rattle.regress_front_bytes.specs.ByteSets.{members};
 ghost use Rattle.regress_front_bytes.specs.Bitmaps.{ascii_bitmap_contains};
@@ -19,7 +19,7 @@ ghost use Rattle.regress_engine_sought.specs.Sought.{Suits};
 ghost use Rattle.regress_engine_sought.specs.StateViews.{marks_of};
 ghost use Rattle.regress_engine_sought.specs.Ready.{IsReady};
 ghost use Rattle.regress_engine_singles.specs.Failing.{IsStuck};
-ghost use Rattle.regress_engine_exec.specs.Stuck.{is_byte_seq, is_taking, IsTakenFirst};
+ghost use Rattle.regress_engine_exec.specs.Stuck.{bytes_in, is_byte_seq, is_taking, IsTakenFirst};
 
 use crate::attempt::Attempt;
 use regress_engine_code::Insn;
@@ -42,30 +42,31 @@ fn has_number(bytes: &[u8], number: u32) -> bool
     bytes.iter().any(|byte| u32::from(*byte) == number)
 }
 
-/// Whether an instruction takes bytes.
-#[inline]
-fn takes_bytes(insn: &Insn) -> bool
-    ensures { result ≡ is_byte_seq (instruction insn.now) }
+/// The bytes that an instruction takes, none where it takes no bytes.
+#[inline(always)]
+fn bytes_of(insn: &Insn) -> &[u8]
+    ensures bytes { result.now ≡ bytes_in (instruction insn.now) }
+    ensures some { is_byte_seq (instruction insn.now) ≡ nat_lt 0 (length result.now) }
 {
-    matches!(
-        insn,
-        Insn::ByteSeq1(_)
-            | Insn::ByteSeq2(_)
-            | Insn::ByteSeq3(_)
-            | Insn::ByteSeq4(_)
-            | Insn::ByteSeq5(_)
-            | Insn::ByteSeq6(_)
-            | Insn::ByteSeq7(_)
-            | Insn::ByteSeq8(_)
-            | Insn::ByteSeq9(_)
-            | Insn::ByteSeq10(_)
-            | Insn::ByteSeq11(_)
-            | Insn::ByteSeq12(_)
-            | Insn::ByteSeq13(_)
-            | Insn::ByteSeq14(_)
-            | Insn::ByteSeq15(_)
-            | Insn::ByteSeq16(_)
-    )
+    match insn {
+        Insn::ByteSeq1(bytes) => bytes,
+        Insn::ByteSeq2(bytes) => bytes,
+        Insn::ByteSeq3(bytes) => bytes,
+        Insn::ByteSeq4(bytes) => bytes,
+        Insn::ByteSeq5(bytes) => bytes,
+        Insn::ByteSeq6(bytes) => bytes,
+        Insn::ByteSeq7(bytes) => bytes,
+        Insn::ByteSeq8(bytes) => bytes,
+        Insn::ByteSeq9(bytes) => bytes,
+        Insn::ByteSeq10(bytes) => bytes,
+        Insn::ByteSeq11(bytes) => bytes,
+        Insn::ByteSeq12(bytes) => bytes,
+        Insn::ByteSeq13(bytes) => bytes,
+        Insn::ByteSeq14(bytes) => bytes,
+        Insn::ByteSeq15(bytes) => bytes,
+        Insn::ByteSeq16(bytes) => bytes,
+        _ => &[],
+    }
 }
 
 /// The first of some bytes, where there is one.
@@ -81,25 +82,7 @@ fn first_of(bytes: &[u8]) -> Option<u8>
 pub(crate) fn first_byte(insn: &Insn) -> Option<u8>
     ensures { IfSome result (λ b. (rest : List ℕ) × (instruction insn.now ≡ byte_seq (b ∷ rest))) }
 {
-    match insn {
-        Insn::ByteSeq1(bytes) => first_of(bytes),
-        Insn::ByteSeq2(bytes) => first_of(bytes),
-        Insn::ByteSeq3(bytes) => first_of(bytes),
-        Insn::ByteSeq4(bytes) => first_of(bytes),
-        Insn::ByteSeq5(bytes) => first_of(bytes),
-        Insn::ByteSeq6(bytes) => first_of(bytes),
-        Insn::ByteSeq7(bytes) => first_of(bytes),
-        Insn::ByteSeq8(bytes) => first_of(bytes),
-        Insn::ByteSeq9(bytes) => first_of(bytes),
-        Insn::ByteSeq10(bytes) => first_of(bytes),
-        Insn::ByteSeq11(bytes) => first_of(bytes),
-        Insn::ByteSeq12(bytes) => first_of(bytes),
-        Insn::ByteSeq13(bytes) => first_of(bytes),
-        Insn::ByteSeq14(bytes) => first_of(bytes),
-        Insn::ByteSeq15(bytes) => first_of(bytes),
-        Insn::ByteSeq16(bytes) => first_of(bytes),
-        _ => None,
-    }
+    first_of(bytes_of(insn))
 }
 
 /// Whether an instruction takes a character, one of some at the most, or bytes.
@@ -107,7 +90,7 @@ pub(crate) fn first_byte(insn: &Insn) -> Option<u8>
 fn takes_some(insn: &Insn) -> bool
     ensures { result ≡ true → is_taking (instruction insn.now) ≡ true }
 {
-    takes_bytes(insn)
+    !bytes_of(insn).is_empty()
         || matches!(
             insn,
             Insn::Char(_)
@@ -256,6 +239,32 @@ impl<'a, 'r, Input: CharInput> Attempt<'a, 'r, Input> {
         }
     }
 
+    /// Whether some bytes don't stand beside an offset, which may be any. The first one is looked at at once.
+    #[inline(always)]
+    fn lacks(&self, forward: bool, offset: usize, bytes: &[u8]) -> bool
+        requires kind { are_bytes (Input.view self.now.input).kind ≡ true }
+        requires some { 0 < length bytes.now }
+        ensures { result ≡ not (is_some (literal (input_of (Input.view self.now.input)) (way forward) bytes.now offset)) }
+    {
+        if forward && self.other_ahead(offset, bytes[0]) {
+            return true;
+        }
+        self.bytes(forward, offset, bytes).is_none()
+    }
+
+    /// Whether another byte stands ahead of an offset, or none. The offset may be any.
+    #[inline(always)]
+    fn other_ahead(&self, offset: usize, byte: u8) -> bool
+        requires { are_bytes (Input.view self.now.input).kind ≡ true }
+        ensures { (rest : List ℕ) → result ≡ true → None ≡ literal (input_of (Input.view self.now.input)) ahead (byte ∷ rest) offset }
+    {
+        if offset > self.input.pos_to_offset(self.input.right_end()) {
+            return true;
+        }
+        let position = <Input::Position as PositionType>::new(offset);
+        self.input.peek_byte_right(position) != Some(byte)
+    }
+
     /// The offset behind some bytes beside one, where they stand there. The offset may be any.
     #[inline]
     pub(crate) fn bytes(&self, forward: bool, offset: usize, bytes: &[u8]) -> Option<usize>
@@ -384,29 +393,37 @@ impl<'a, 'r, Input: CharInput> Attempt<'a, 'r, Input> {
         ensures { (groups : List Marks) → reads_character (instruction insn.now) ≡ false
             → result ≡ advance (program_of self.now.program.now) (input_of (Input.view self.now.input)) (instruction insn.now) (way forward) groups offset }
     {
-        match insn {
-            Insn::ByteSeq1(bytes) => self.bytes(forward, offset, bytes),
-            Insn::ByteSeq2(bytes) => self.bytes(forward, offset, bytes),
-            Insn::ByteSeq3(bytes) => self.bytes(forward, offset, bytes),
-            Insn::ByteSeq4(bytes) => self.bytes(forward, offset, bytes),
-            Insn::ByteSeq5(bytes) => self.bytes(forward, offset, bytes),
-            Insn::ByteSeq6(bytes) => self.bytes(forward, offset, bytes),
-            Insn::ByteSeq7(bytes) => self.bytes(forward, offset, bytes),
-            Insn::ByteSeq8(bytes) => self.bytes(forward, offset, bytes),
-            Insn::ByteSeq9(bytes) => self.bytes(forward, offset, bytes),
-            Insn::ByteSeq10(bytes) => self.bytes(forward, offset, bytes),
-            Insn::ByteSeq11(bytes) => self.bytes(forward, offset, bytes),
-            Insn::ByteSeq12(bytes) => self.bytes(forward, offset, bytes),
-            Insn::ByteSeq13(bytes) => self.bytes(forward, offset, bytes),
-            Insn::ByteSeq14(bytes) => self.bytes(forward, offset, bytes),
-            Insn::ByteSeq15(bytes) => self.bytes(forward, offset, bytes),
-            Insn::ByteSeq16(bytes) => self.bytes(forward, offset, bytes),
-            _ => None,
+        let bytes = bytes_of(insn);
+        if bytes.is_empty() {
+            return None;
         }
+        self.bytes(forward, offset, bytes)
+    }
+
+    /// Whether surely nothing is led to by two ways, as far as ways so deep tell.
+    #[cycle(stuck)]
+    fn are_stuck(
+        &self,
+        ways: usize,
+        first: usize,
+        second: usize,
+        forward: bool,
+        offset: usize,
+    ) -> bool
+        requires { Suits (program_of self.now.program.now) (Input.view self.now.input) }
+        ensures { result ≡ true → IsStuck (program_of self.now.program.now) (input_of (Input.view self.now.input)) (way forward) first offset
+            × IsStuck (program_of self.now.program.now) (input_of (Input.view self.now.input)) (way forward) second offset }
+    {
+        if ways == 0 || !self.is_stuck(ways - 1, first, forward, offset) {
+            return false;
+        }
+        self.is_stuck(ways - 1, second, forward, offset)
     }
 
     /// Whether surely nothing is led to from an address on: bytes are taken there that don't stand beside an offset, or of two
     /// ways there neither leads anywhere, as far as ways so deep tell.
+    #[inline(always)]
+    #[cycle(stuck)]
     pub(crate) fn is_stuck(&self, ways: usize, at: usize, forward: bool, offset: usize) -> bool
         requires { Suits (program_of self.now.program.now) (Input.view self.now.input) }
         ensures { result ≡ true → IsStuck (program_of self.now.program.now) (input_of (Input.view self.now.input)) (way forward) at offset }
@@ -417,15 +434,13 @@ impl<'a, 'r, Input: CharInput> Attempt<'a, 'r, Input> {
         }
         let insn = &insns[at];
         if let Insn::Alt { secondary } = insn {
-            if ways == 0 || !self.is_stuck(ways - 1, at + 1, forward, offset) {
-                return false;
-            }
-            return self.is_stuck(ways - 1, *secondary as usize, forward, offset);
+            return self.are_stuck(ways, at + 1, *secondary as usize, forward, offset);
         }
-        if !takes_bytes(insn) {
+        let bytes = bytes_of(insn);
+        if bytes.is_empty() {
             return false;
         }
-        self.byte_seq(insn, forward, offset).is_none()
+        self.lacks(forward, offset, bytes)
     }
 
     /// What is taken at an address: the instruction there, or what a one-character loop there does at least once; `None` where

@@ -1,16 +1,13 @@
 use Rattle.regress_engine_code.specs.Standing.{program_of}
 use Rattle.regress_engine_input.specs.Views.{input_of}
 use Rattle.regress_meaning.specs.Meaning.{Forward}
-use Rattle.std.proofs.Common.{◌≡◌, ℕ, zero, suc, ◌<◌, ◌==◌, false, sym, ◌∙◌, arith}
+use Rattle.std.proofs.Common.{sym, ◌∙◌}
 use Rattle.regress_engine_code.specs.declared.insn.Insn.TheVariants.{Goal}
 use Rattle.regress_engine_sought.proofs.InsnLemmas.{stands-as}
 use Rattle.regress_engine_singles.proofs.StuckLemmas.{begin-stuck}
 use Rattle.regress_engine_exec.proofs.DispatchLemmas.{stands-read}
+use Rattle.regress_engine_exec.proofs.StuckLemmas.{some-there}
 use Rattle.regress_engine_exec.proofs.attempt.Attempt.passed.Goals as goal
-
-some-there : (n : ℕ) → false ≡ (n == 0) → 0 < n
-some-there zero e = absurd (grind arith)
-some-there (suc n) e = omega arith
 
 pub returns-in-BeginCaptureGroup : goal.returns-in-BeginCaptureGroup
 returns-in-BeginCaptureGroup g c =

@@ -7,7 +7,8 @@ use Rattle.regress_engine_sought.specs.Answering.{IsAnswer}
 use Rattle.regress_engine_sought.specs.Sought.{IsSought}
 use Rattle.regress_engine_sought.proofs.PlaceLemmas.{can-read, next-place}
 use Rattle.regress_engine_sought.proofs.SearchLemmas.{search-found, search-none, search-on, search-less}
-use Rattle.regress_engine_sought.proofs.SkipLemmas.{reaches, reaches-none}
+use Rattle.regress_engine_sought.proofs.SkipLemmas.{place-lies, reaches, reaches-none}
+use Rattle.regress_engine_singles.specs.Passed.{PassesOver}
 use Rattle.regress_engine_exec.specs.Held.{held}
 use Rattle.regress_engine_exec.proofs.search.BacktrackExecutor.search.Goals as goal
 
@@ -120,3 +121,44 @@ places-preserved g c =
       place = next-place v all Forward c.in-Some.start _ c.in-Some-beside.behind there.place (sym c.in-Some-beside.ensures);
       kept = c.places.invariant.kept;
     }
+
+pub passed-requires-clause-place : goal.passed-requires-clause-place
+passed-requires-clause-place g c =
+    let subject = c.args.self.now.subject in
+    let program = program_of subject.program.now in
+    let v = g.Input.InputIndexer.view subject.input in
+    let all = g.met.Input.InputIndexer.are_of_kind subject.input in
+    let next : IsNextHit subject.seeker.start.now v.units c.places.from c.next_start.result =
+    subst (λ u. IsNextHit u.seeker.start.now (g.Input.InputIndexer.view u.input).units c.places.from c.next_start.result) c.places.invariant.kept c.next_start.ensures in
+    let there = reaches program subject.seeker.start.now (g.Input.Shown.shown subject.input) v (g.met.Input.ExecutorInput.shows subject.input) all subject.sought subject.skips
+    c.args.offset c.places.from c.places.invariant.finds c.places.invariant.place c.next_start.result next c.in-Some.start c.in-Some.is in
+    there.place
+
+pub places-smaller-in-Some-passed : goal.places-smaller-in-Some-passed
+places-smaller-in-Some-passed g c =
+    let subject = c.args.self.now.subject in
+    let program = program_of subject.program.now in
+    let v = g.Input.InputIndexer.view subject.input in
+    let all = g.met.Input.InputIndexer.are_of_kind subject.input in
+    let next : IsNextHit subject.seeker.start.now v.units c.places.from c.next_start.result =
+    subst (λ u. IsNextHit u.seeker.start.now (g.Input.InputIndexer.view u.input).units c.places.from c.next_start.result) c.places.invariant.kept c.next_start.ensures in
+    let there = reaches program subject.seeker.start.now (g.Input.Shown.shown subject.input) v (g.met.Input.ExecutorInput.shows subject.input) all subject.sought subject.skips
+    c.args.offset c.places.from c.places.invariant.finds c.places.invariant.place c.next_start.result next c.in-Some.start c.in-Some.is in
+    let passes : PassesOver program v c.in-Some.start c.in-Some-passed.past = c.in-Some-passed.ensures in
+    let low = there.low in
+    let further = passes.further in
+    let inside = place-lies v all c.in-Some-passed.past passes.place in
+    omega (arith, low, further, inside)
+
+pub places-preserved-in-Some-passed : goal.places-preserved-in-Some-passed
+places-preserved-in-Some-passed g c =
+    let subject = c.args.self.now.subject in
+    let program = program_of subject.program.now in
+    let v = g.Input.InputIndexer.view subject.input in
+    let all = g.met.Input.InputIndexer.are_of_kind subject.input in
+    let next : IsNextHit subject.seeker.start.now v.units c.places.from c.next_start.result =
+    subst (λ u. IsNextHit u.seeker.start.now (g.Input.InputIndexer.view u.input).units c.places.from c.next_start.result) c.places.invariant.kept c.next_start.ensures in
+    let there = reaches program subject.seeker.start.now (g.Input.Shown.shown subject.input) v (g.met.Input.ExecutorInput.shows subject.input) all subject.sought subject.skips
+    c.args.offset c.places.from c.places.invariant.finds c.places.invariant.place c.next_start.result next c.in-Some.start c.in-Some.is in
+    let passes : PassesOver program v c.in-Some.start c.in-Some-passed.past = c.in-Some-passed.ensures in
+    record { finds = passes.on c.args.offset there.on; place = passes.place; kept = c.places.invariant.kept }
