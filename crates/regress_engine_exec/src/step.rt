@@ -16,7 +16,7 @@ ghost use Rattle.regress_engine_exec.specs.Leaving.{Steps};
 use crate::attempt::Attempt;
 use crate::memory::Memory;
 use crate::steps::{begun, ended};
-use crate::undo::{Frame, Spot};
+use crate::undo::Spot;
 use regress_engine_code::Insn;
 use regress_engine_matchers::CharInput;
 use regress_front_core::GroupData;
@@ -136,15 +136,8 @@ impl<'a, 'r, Input: CharInput> Attempt<'a, 'r, Input> {
                 end_group,
                 continuation,
             } => {
-                let frame = Frame {
-                    negated: *negate,
-                    backward: false,
-                    first: *start_group,
-                    last: *end_group,
-                    continuation: *continuation as usize,
-                    spot: *spot,
-                };
-                memory.look(frame, spot)?;
+                let target = *continuation as usize;
+                memory.look(*negate, false, *start_group, *end_group, target, spot)?;
                 Ok(Some(true))
             }
             Insn::Lookbehind {
@@ -153,15 +146,8 @@ impl<'a, 'r, Input: CharInput> Attempt<'a, 'r, Input> {
                 end_group,
                 continuation,
             } => {
-                let frame = Frame {
-                    negated: *negate,
-                    backward: true,
-                    first: *start_group,
-                    last: *end_group,
-                    continuation: *continuation as usize,
-                    spot: *spot,
-                };
-                memory.look(frame, spot)?;
+                let target = *continuation as usize;
+                memory.look(*negate, true, *start_group, *end_group, target, spot)?;
                 Ok(Some(true))
             }
             _ => {

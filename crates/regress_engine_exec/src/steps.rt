@@ -6,17 +6,17 @@ ghost use Rattle.regress_engine_input.specs.Views.{View, way};
 ghost use Rattle.regress_meaning.specs.Inputs.{Input};
 ghost use Rattle.regress_engine_runs.specs.States.{unset, onward, begun, ended};
 ghost use Rattle.regress_engine_runs.specs.Runs.{choices, is_idle};
+ghost use Rattle.regress_engine_runs.specs.UndoStack.{frame};
 ghost use Rattle.regress_engine_sought.specs.StateViews.{marks_of};
 ghost use Rattle.regress_engine_sought.specs.Tasks.{Leads};
-ghost use Rattle.regress_engine_exec.specs.Held.{held, undo_of, pushed, loop_written};
+ghost use Rattle.regress_engine_exec.specs.Held.{held, pushed, loop_written};
 ghost use Rattle.regress_engine_exec.specs.Sound.{IsHeld};
 ghost use Rattle.regress_engine_exec.specs.Tasks.{state_at, task, GoesOn, GoesOnPast, GoesOnIf, StaysSound};
-ghost use Rattle.regress_engine_exec.specs.declared.undo.Undo.TheVariants.{Look};
 
 use crate::memory::Memory;
 use crate::undo::{Frame, Spot, Undo};
 use regress_engine_code::LoopFields;
-use regress_front_core::{GroupData, LoopData};
+use regress_front_core::{CaptureGroupID, GroupData, LoopData};
 use std::alloc::AllocError;
 
 /// The marks of a group that begins at a spot.
@@ -249,16 +249,40 @@ impl Memory {
         self.go_on(repetition, begin, stuck, spot)
     }
 
-    /// Begins to try the contents of a lookaround.
-    #[inline]
-    pub(crate) fn look(&mut self, frame: Frame, spot: &mut Spot) -> Result<(), AllocError>
+    /// Begins to try the contents of a lookaround that stands at the spot. It is apart so that no step makes room for it.
+    #[inline(never)]
+    pub(crate) fn look(
+        &mut self,
+        negated: bool,
+        backward: bool,
+        first: CaptureGroupID,
+        last: CaptureGroupID,
+        continuation: usize,
+        spot: &mut Spot,
+    ) -> Result<(), AllocError>
         requires { spot.old.at + 1 < 2 ^ 64 }
-        ensures pushed { OnOk result (held self.new ≡ pushed (undo_of (Look frame)) (held self.old)) }
-        ensures spot { OnOk result (spot.new ≡ record spot.old { at = spot.old.at + 1; forward = not frame.backward }) }
+        ensures pushed { OnOk result (held self.new ≡ pushed (frame (record {
+            negated = negated;
+            backward = backward;
+            first = first;
+            last = last;
+            continuation = continuation;
+            at = spot.old.at;
+            offset = spot.old.offset;
+            outside = way spot.old.forward;
+        })) (held self.old)) }
+        ensures spot { OnOk result (spot.new ≡ record spot.old { at = spot.old.at + 1; forward = not backward }) }
     {
-        self.push(Undo::Look(frame))?;
+        self.push(Undo::Look(Frame {
+            negated,
+            backward,
+            first,
+            last,
+            continuation,
+            spot: *spot,
+        }))?;
         spot.at += 1;
-        spot.forward = !frame.backward;
+        spot.forward = !backward;
         Ok(())
     }
 }
