@@ -7,7 +7,6 @@ use Rattle.regress_engine_input.specs.Views.{way}
 use Rattle.regress_engine_code.specs.Instructions.{Instruction, Program, Stands}
 use Rattle.regress_engine_code.specs.Instructions as code
 use Rattle.regress_engine_code.specs.InsnViews.{instruction}
-use Rattle.regress_engine_code.specs.declared.insn.LoopFields as insn
 use Rattle.regress_engine_code.specs.InsnViews.{instruction}
 use Rattle.regress_engine_code.specs.declared.insn.Insn.{Insn}
 use Rattle.regress_engine_runs.specs.States.{Marks, Whole, onward}

@@ -1,32 +1,28 @@
 -- What surely leads nowhere, and what is passed over.
-use Rattle.std.specs.Prelude.{slice_set, get_or}
-use Rattle.std.proofs.Common.{◌≡◌, ℕ, zero, suc, ◌+◌, ◌<◌, ◌==◌, Bool, true, false, not, List, [], ◌∷◌, length, Option, Some, None, refl, sym, ap, ◌∙◌, subst, arith}
+use Rattle.std.specs.Prelude.{get_or}
+use Rattle.std.proofs.Common.{◌≡◌, ℕ, zero, suc, ◌+◌, ◌<◌, ◌==◌, Bool, true, false, not, List, [], ◌∷◌, length, Option, Some, None, refl, sym, ap, subst, arith}
 use Rattle.regress_meaning.specs.Meaning.{Direction, Forward, Backward}
 use Rattle.regress_meaning.specs.Inputs.{Input}
 use Rattle.regress_meaning.specs.Steps.{literal}
-use Rattle.regress_engine_input.specs.Views.{View, AreOfKind, way, input_of, reading_of}
+use Rattle.regress_engine_input.specs.Views.{View, way, reading_of}
 use Rattle.regress_engine_code.specs.Instructions.{Instruction, Program, Stands}
 use Rattle.regress_engine_code.specs.Instructions as code
-use Rattle.regress_engine_runs.specs.States.{Marks, unset, ended}
-use Rattle.regress_engine_runs.specs.Runs.{successors, moved_to, advance, against, gap}
+use Rattle.regress_engine_runs.specs.States.{Marks}
+use Rattle.regress_engine_runs.specs.Runs.{advance, against, gap}
 use Rattle.regress_engine_runs.specs.Meets.{IsAtPlace, ReadsPlaces, reads_character}
 use Rattle.regress_engine_runs.specs.Closed.{Fits, takes_character}
-use Rattle.regress_engine_runs.specs.UndoStack.{Work, give_back, whole, stands_for, MovesOn}
-use Rattle.regress_engine_runs.proofs.Iterations.{after-stops}
+use Rattle.regress_engine_runs.specs.UndoStack.{give_back, whole, stands_for, MovesOn}
 use Rattle.regress_engine_sought.specs.Sought.{Suits}
 use Rattle.regress_engine_sought.specs.Ready.{IsReady, is_simple}
 use Rattle.regress_engine_sought.specs.Tasks.{Leads}
-use Rattle.regress_engine_sought.proofs.InsnLemmas.{simple-plain, simple-successors}
-use Rattle.regress_engine_sought.proofs.TaskLemmas.{leads-then, leads-same, leads-plain}
+use Rattle.regress_engine_sought.proofs.TaskLemmas.{leads-then, leads-same}
 use Rattle.regress_engine_exec.specs.declared.undo.Spot.{Spot}
 use Rattle.regress_engine_exec.specs.Held.{Held, pushed}
 use Rattle.regress_engine_singles.specs.Failing.{IsStuck}
 use Rattle.regress_engine_singles.proofs.StuckLemmas.{simple-stuck, loop-stuck, end-stuck, leads-stuck}
 use Rattle.regress_engine_exec.specs.Stuck.{bytes_in, is_byte_seq, is_taking, IsTakenFirst, given_from, GivesFrom}
 use Rattle.regress_engine_exec.specs.Tasks.{task}
-use Rattle.regress_engine_exec.proofs.LeadLemmas.{leads-fewer}
 use Rattle.regress_engine_exec.proofs.BackLemmas.{give_back-last, give_back-none, give_back-more}
-use Rattle.regress_engine_exec.proofs.SingleLemmas.{few-states}
 
 -- what takes a character or bytes changes nothing but the offset
 pub taking-simple : (i : Instruction) → is_taking i ≡ true → is_simple i ≡ true

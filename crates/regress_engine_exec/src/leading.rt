@@ -40,9 +40,7 @@ impl<'a, 'r, Input: CharInput> Attempt<'a, 'r, Input> {
     {
         match insn {
             Insn::AsciiBracket(bitmap) => self.ascii_bracket(true, offset, bitmap),
-            Insn::Bracket(index) => {
-                self.bracket(true, offset, &self.program.brackets()[*index])
-            }
+            Insn::Bracket(index) => { self.bracket(true, offset, &self.program.brackets()[*index]) }
             _ => None,
         }
     }

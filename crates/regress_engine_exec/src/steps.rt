@@ -262,14 +262,14 @@ impl Memory {
     ) -> Result<(), AllocError>
         requires { spot.old.at + 1 < 2 ^ 64 }
         ensures pushed { OnOk result (held self.new ≡ pushed (frame (record {
-            negated = negated;
-            backward = backward;
-            first = first;
-            last = last;
-            continuation = continuation;
-            at = spot.old.at;
-            offset = spot.old.offset;
-            outside = way spot.old.forward;
+          negated = negated;
+          backward = backward;
+          first = first;
+          last = last;
+          continuation = continuation;
+          at = spot.old.at;
+          offset = spot.old.offset;
+          outside = way spot.old.forward;
         })) (held self.old)) }
         ensures spot { OnOk result (spot.new ≡ record spot.old { at = spot.old.at + 1; forward = not backward }) }
     {

@@ -1,17 +1,16 @@
 -- States that fail may be left out of what is to be tried, wherever they stand.
-use Rattle.std.proofs.Common.{◌≡◌, ℕ, suc, ◌+◌, ◌≤◌, true, List, [], ◌∷◌, ◌++◌, All, Option, Some, None, map, refl, sym, ap, ◌∙◌, subst, arith, append_assoc}
+use Rattle.std.proofs.Common.{◌≡◌, ℕ, suc, ◌+◌, ◌≤◌, List, [], ◌∷◌, ◌++◌, All, Option, Some, None, refl, sym, ap, ◌∙◌, subst, arith, append_assoc}
 use Rattle.std.proofs.lemmas.List.Elements.{All-head, All-tail}
 use Rattle.regress_meaning.specs.Meaning.{Direction}
 use Rattle.regress_meaning.specs.Inputs.{Input}
-use Rattle.regress_meaning.specs.Offsets.{Reading}
-use Rattle.regress_engine_code.specs.Instructions.{Instruction, Program, Stands}
+use Rattle.regress_engine_code.specs.Instructions.{Program}
 use Rattle.regress_engine_runs.specs.States.{Marks, Whole}
-use Rattle.regress_engine_runs.specs.Runs.{Run, Runs, ends, finds, goes, looks, successors, is_plain, after_look}
+use Rattle.regress_engine_runs.specs.Runs.{Run, Runs, ends, finds, goes, looks, successors, after_look}
 use Rattle.regress_engine_runs.specs.Meets.{Meets, now, later, inside, behind}
 use Rattle.regress_engine_runs.specs.UndoStack.{Frame, Work, outermost, first_do, whole, at_each, Comes, alone, within, ComesTo, meets_alone, meets_within, meets_outside}
 use Rattle.regress_engine_runs.specs.UndoStack as stack
 use Rattle.regress_engine_runs.proofs.RunViews.{run_goes}
-use Rattle.regress_engine_sought.specs.Tasks.{Task, Leads}
+use Rattle.regress_engine_sought.specs.Tasks.{Leads}
 use Rattle.regress_engine_singles.specs.Failing.{Fail, failed, steps, IsStuck}
 
 module _ (program : Program) (input : Input) where

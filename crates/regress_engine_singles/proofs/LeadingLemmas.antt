@@ -1,8 +1,8 @@
 -- A program that begins with a class and a loop of another, from whose ends nothing is led to.
 use Rattle.std.specs.Prelude.{slice_get, option_and_then, if◌then◌else◌}
-use Rattle.std.proofs.Common.{◌≡◌, ℕ, zero, suc, ◌+◌, ◌-◌, ◌<◌, ◌≤◌, Bool, true, false, List, [], ◌∷◌, ◌++◌, Option, Some, None, refl, sym, ap, ◌∙◌, subst, arith}
+use Rattle.std.proofs.Common.{◌≡◌, ℕ, zero, suc, ◌+◌, ◌-◌, ◌≤◌, Bool, true, false, List, [], ◌∷◌, ◌++◌, Option, Some, None, refl, sym, ap, ◌∙◌, subst, arith}
 use Rattle.std.proofs.lemmas.List.Elements.{All-cons, All-weaker}
-use Rattle.regress_meaning.specs.Meaning.{Direction, Forward}
+use Rattle.regress_meaning.specs.Meaning.{Forward}
 use Rattle.regress_meaning.specs.Inputs.{Input}
 use Rattle.regress_meaning.specs.Steps.{passed}
 use Rattle.regress_front_nodes.specs.TreeMeaning.{bracket_has}
@@ -10,7 +10,7 @@ use Rattle.regress_engine_input.specs.Views.{View, AreOfKind, input_of, reading_
 use Rattle.regress_engine_code.specs.Instructions.{Instruction, Program, Stands}
 use Rattle.regress_engine_code.specs.Instructions as code
 use Rattle.regress_engine_runs.specs.States.{Marks, Whole, first_state}
-use Rattle.regress_engine_runs.specs.Runs.{successors, moved_to, advance, after_times, as_far, one_by_one, given_back, counted}
+use Rattle.regress_engine_runs.specs.Runs.{moved_to, advance, after_times, as_far, given_back}
 use Rattle.regress_engine_runs.specs.Meets.{IsAtPlace}
 use Rattle.regress_engine_runs.specs.UndoStack.{whole, at_each}
 use Rattle.regress_engine_runs.specs.Closed.{Fits, takes_character}

@@ -1,5 +1,5 @@
 -- How far a test on one character passes, again and again.
-use Rattle.std.specs.Prelude.{ℕ, zero, suc, Bool, Option, Some, None}
+use Rattle.std.specs.Prelude.{ℕ, zero, suc, Bool, Some, None}
 use Rattle.regress_meaning.specs.Meaning.{Direction}
 use Rattle.regress_meaning.specs.Inputs.{Input}
 use Rattle.regress_meaning.specs.Steps.{passed}

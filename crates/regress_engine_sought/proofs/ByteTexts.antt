@@ -1,5 +1,5 @@
 -- A text of ASCII is read as one of UTF-8: its bytes are its characters.
-use Rattle.std.proofs.Common.{◌≡◌, ℕ, ◌<◌, ◌≤◌, ◌⊎◌, ◌+◌, Bool, true, List, length, map, option_map, take, chars, sum_by, refl, sym, ap, ◌∙◌, subst, arith}
+use Rattle.std.proofs.Common.{◌≡◌, ℕ, ◌<◌, ◌≤◌, ◌⊎◌, ◌+◌, true, List, length, map, option_map, take, sum_by, refl, sym, ap, ◌∙◌, subst, arith}
 use Rattle.std.proofs.lemmas.List.{take_all}
 use Rattle.std.proofs.lemmas.Str.{encodes-IsAscii, IsAscii-take, chars-IsAscii, IsCharBoundary-from_ascii}
 use Rattle.std.specs.Char.{len_utf8}

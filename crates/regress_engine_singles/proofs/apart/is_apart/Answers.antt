@@ -1,5 +1,5 @@
 use Rattle.regress_meaning.specs.Text.{holds}
-use Rattle.std.proofs.Common.{rules, ◌≡◌, ℕ, true, false, not, List, ◌<◌, Bool, refl, sym, ap, ◌∙◌, arith}
+use Rattle.std.proofs.Common.{◌≡◌, true, false, not, ◌<◌, Bool, refl, sym, ap, ◌∙◌, arith}
 use Rattle.regress_front_bytes.specs.Bitmaps.{ascii_bitmap_contains}
 use Rattle.regress_front_bytes.specs.ByteSets.{members}
 use Rattle.regress_front_sets.specs.Intervals.{ends_of}

@@ -1,6 +1,5 @@
-use Rattle.std.proofs.Common.{◌≡◌, ◌+◌, true, not, refl, sym, ap, ◌∙◌}
+use Rattle.std.proofs.Common.{not, refl, sym, ap, ◌∙◌}
 use Rattle.regress_meaning.specs.Meaning.{Forward}
-use Rattle.regress_engine_code.specs.InsnViews.{instruction}
 use Rattle.regress_engine_code.specs.Standing.{program_of}
 use Rattle.regress_engine_input.specs.Views.{input_of}
 use Rattle.regress_engine_code.specs.declared.insn.Insn.TheVariants.{Goal}

@@ -1,4 +1,4 @@
-use Rattle.std.proofs.Common.{◌≡◌, ◌+◌, ◌-◌, suc, true, false, ap, ◌∙◌, subst, refl, arith}
+use Rattle.std.proofs.Common.{◌≡◌, ◌+◌, ◌-◌, suc, true, ap, ◌∙◌, subst, refl, arith}
 use Rattle.regress_engine_code.specs.Instructions.{Stands}
 use Rattle.regress_engine_code.specs.Instructions as code
 use Rattle.regress_engine_code.specs.Standing.{program_of}

@@ -1,4 +1,4 @@
-use Rattle.std.proofs.Common.{◌≡◌, ℕ, suc, ◌+◌, ap, ◌∙◌, sym, subst, arith}
+use Rattle.std.proofs.Common.{◌≡◌, suc, ◌+◌, ap, ◌∙◌, sym, subst, arith}
 use Rattle.regress_engine_code.specs.Instructions.{Stands}
 use Rattle.regress_engine_code.specs.InsnViews.{instruction}
 use Rattle.regress_engine_code.specs.Standing.{program_of}
