@@ -22,7 +22,8 @@ use regress_engine_matchers::CharInput;
 use regress_front_core::GroupData;
 use std::alloc::AllocError;
 
-/// It is looked so many ways ahead whether they lead anywhere: as deep as the ways of many words are nested.
+/// It is looked so many ways ahead whether the first of two leads anywhere: as deep as the ways of many words are nested. Of
+/// the second, and of the way out of a repetition, only bytes are looked at, since they may never be tried.
 const WAYS_AHEAD: usize = 16;
 
 impl<'a, 'r, Input: CharInput> Attempt<'a, 'r, Input> {
@@ -57,7 +58,7 @@ impl<'a, 'r, Input: CharInput> Attempt<'a, 'r, Input> {
         match self.instruction(begin) {
             Insn::EnterLoop(repetition) => {
                 let exit = repetition.exit as usize;
-                let stuck = self.is_stuck(WAYS_AHEAD, exit, spot.forward, spot.offset);
+                let stuck = self.is_stuck(0, exit, spot.forward, spot.offset);
                 memory.again(repetition, begin, stuck, spot)
             }
             _ => Ok(false),
@@ -91,7 +92,7 @@ impl<'a, 'r, Input: CharInput> Attempt<'a, 'r, Input> {
                     spot.at = second;
                     return Ok(Some(true));
                 }
-                if self.is_stuck(WAYS_AHEAD, second, spot.forward, spot.offset) {
+                if self.is_stuck(0, second, spot.forward, spot.offset) {
                     spot.at += 1;
                     return Ok(Some(true));
                 }
@@ -114,7 +115,7 @@ impl<'a, 'r, Input: CharInput> Attempt<'a, 'r, Input> {
             }
             Insn::EnterLoop(repetition) => {
                 let exit = repetition.exit as usize;
-                let stuck = self.is_stuck(WAYS_AHEAD, exit, spot.forward, spot.offset);
+                let stuck = self.is_stuck(0, exit, spot.forward, spot.offset);
                 let going = memory.enter(repetition, stuck, spot)?;
                 Ok(Some(going))
             }
