@@ -1,6 +1,6 @@
 -- How one task leads to another.
 use Rattle.std.specs.Prelude.{get_or, slice_set}
-use Rattle.std.proofs.Common.{◌≡◌, ℕ, ◌≤◌, List, [], ◌∷◌, refl, sym, ap, arith}
+use Rattle.std.proofs.Common.{◌≡◌, ℕ, List, [], ◌∷◌, refl, sym, ap}
 use Rattle.regress_meaning.specs.Meaning.{Direction}
 use Rattle.regress_meaning.specs.Inputs.{Input}
 use Rattle.regress_engine_input.specs.Views.{way}
@@ -8,7 +8,7 @@ use Rattle.regress_engine_code.specs.Instructions.{Program}
 use Rattle.regress_engine_runs.specs.States.{Whole, Marks, unset}
 use Rattle.regress_engine_runs.specs.UndoStack.{Undo, Work, old_loop, old_group, stands_for}
 use Rattle.regress_engine_runs.proofs.UndoLemmas.{loop_recorded, group_recorded}
-use Rattle.regress_engine_sought.specs.Tasks.{Task, Leads}
+use Rattle.regress_engine_sought.specs.Tasks.{Leads}
 use Rattle.regress_engine_sought.proofs.TaskLemmas.{leads-equal}
 use Rattle.regress_engine_exec.specs.declared.undo.Spot.{Spot}
 use Rattle.regress_engine_exec.specs.Held.{Held, recorded, loop_written, group_written}
@@ -37,7 +37,3 @@ module _ (program : Program) (input : Input) where
       → Leads program input 0 (task_of program input states p h) (task_of program input states p (group_written k m h))
   leads-group states p h k m =
       leads-equal program input _ _ (ap (λ (w : Work). record { dir = way p.forward; states = states; work = w }) (sym (group-kept (way p.forward) h.stack h.loops h.groups k m)))
-
-  -- in fewer steps
-  pub leads-fewer : (k l : ℕ) (t u : Task) → l ≤ k → Leads program input k t u → Leads program input l t u
-  leads-fewer k l t u fewer leads = record { comes = λ n r come. let x = leads.comes n r come in let less = x.1 in (x.0, omega (arith, less, fewer), x.2); reads = leads.reads }

@@ -1,6 +1,5 @@
 -- What surely leads nowhere, and what is passed over.
-use Rattle.std.specs.Prelude.{get_or}
-use Rattle.std.proofs.Common.{◌≡◌, ℕ, zero, suc, ◌+◌, ◌<◌, ◌==◌, Bool, true, false, not, List, [], ◌∷◌, length, Option, Some, None, refl, sym, ap, subst, arith}
+use Rattle.std.proofs.Common.{◌≡◌, ℕ, zero, suc, ◌+◌, ◌<◌, ◌==◌, Bool, true, false, not, List, [], length, Option, Some, None, refl, sym, subst, arith}
 use Rattle.regress_meaning.specs.Meaning.{Direction, Forward, Backward}
 use Rattle.regress_meaning.specs.Inputs.{Input}
 use Rattle.regress_meaning.specs.Steps.{literal}
@@ -48,32 +47,10 @@ taking-any program input (code.bracket k) dir gs hs o e = refl
 taking-any program input (code.ascii_bracket cs) dir gs hs o e = refl
 taking-any program input _ dir gs hs o e = absurd (grind arith)
 
--- bytes are taken alone
-pub bytes-first : (i : Instruction) (b : ℕ) (rest : List ℕ) → bytes_in i ≡ b ∷ rest → i ≡ code.byte_seq (b ∷ rest)
-bytes-first (code.byte_seq bs) b rest e = ap code.byte_seq e
-bytes-first _ b rest e = absurd (grind arith)
-
-pub bytes-taking : (i : Instruction) → is_byte_seq i ≡ true → is_taking i ≡ true
-bytes-taking (code.byte_seq bs) e = refl
-bytes-taking _ e = absurd (grind arith)
-
--- what takes bytes, and what neither takes bytes nor reads characters
+-- what takes bytes takes them where they stand
 pub bytes-taken : (program : Program) (input : Input) (i : Instruction) (dir : Direction) (groups : List Marks) (o : ℕ) → is_byte_seq i ≡ true → literal input dir (bytes_in i) o ≡ advance program input i dir groups o
 bytes-taken program input (code.byte_seq bs) dir groups o e = refl
 bytes-taken program input _ dir groups o e = absurd (grind arith)
-
-pub none-taken : (program : Program) (input : Input) (i : Instruction) (dir : Direction) (groups : List Marks) (o : ℕ) → is_byte_seq i ≡ false → reads_character i ≡ false → None ≡ advance program input i dir groups o
-none-taken program input code.goal dir groups o e f = refl
-none-taken program input (code.jump a) dir groups o e f = refl
-none-taken program input (code.alt a) dir groups o e f = refl
-none-taken program input (code.begin_group k) dir groups o e f = refl
-none-taken program input (code.end_group k) dir groups o e f = refl
-none-taken program input (code.reset_group k) dir groups o e f = refl
-none-taken program input (code.enter_loop l) dir groups o e f = refl
-none-taken program input (code.loop_again begin) dir groups o e f = refl
-none-taken program input (code.look negated backward first last continuation) dir groups o e f = refl
-none-taken program input code.fail dir groups o e f = refl
-none-taken program input _ dir groups o e f = absurd (grind arith)
 
 -- bytes are those of a program of bytes
 pub bytes-units : (program : Program) (at : ℕ) (i : Instruction) → is_byte_seq i ≡ true → Fits program at i → program.units ≡ false
@@ -87,11 +64,6 @@ some-there (suc n) e = omega arith
 pub is-not : (b : Bool) → not b ≡ true → b ≡ false
 is-not true e = absurd cc
 is-not false e = refl
-
--- a list that has an element
-pub first-and_rest : (xs : List ℕ) → 0 < length xs → (rest : List ℕ) × (get_or xs 0 0 ∷ rest ≡ xs)
-first-and_rest [] some = absurd (omega (arith, some))
-first-and_rest (x ∷ xs) some = (xs, refl)
 
 -- a character is taken
 pub takes-taking : (i : Instruction) → takes_character i ≡ true → is_taking i ≡ true
