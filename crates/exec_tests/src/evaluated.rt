@@ -1,7 +1,7 @@
 //! The executors beside the evaluator, which runs the definitions.
 
 use crate::found::{in_utf8, listed, whole};
-use crate::parsed::parsed;
+use crate::parsed::{parsed, rewritten};
 use regress_evaluator::{CompiledPattern, Search};
 use regress_front_core::CaptureGroupName;
 use regress_front_nodes::ir::Regex;
@@ -95,12 +95,14 @@ fn evaluated(alloc: Global, regex: &Regex<'_>, text: &str) -> Result<String, Err
 fn is_evaluated_so(alloc: Global, pattern: &str, flags: &str) -> Result<(), Fail> {
     let tables = Tables::small(alloc)?;
     let regex = parsed(alloc, pattern, flags, &tables)?;
+    let other = rewritten(alloc, pattern, flags, &tables)?;
     for text in TEXTS {
-        let executed = in_utf8(alloc, &regex, text)?;
+        let read = in_utf8(alloc, &regex, text)?;
+        let rewritten = in_utf8(alloc, &other, text)?;
         let evaluated = evaluated(alloc, &regex, text)?;
-        if executed.as_str() != evaluated.as_str() {
+        if read.as_str() != evaluated.as_str() || rewritten.as_str() != evaluated.as_str() {
             return Err(Fail::new(format!(in alloc;
-                "{pattern} in {text}: {executed}, {evaluated}"
+                "{pattern} in {text}: {read}, {rewritten}, {evaluated}"
             )?));
         }
     }

@@ -4,7 +4,8 @@ use crate::parsed::parsed;
 use regress_engine_code::{Insn, emit};
 use regress_engine_input::{Backward, Direction, Utf8Input};
 use regress_engine_matchers::MatchAnyExceptLineTerminator;
-use regress_engine_singles::{ScannedBracket, as_far, as_far_ahead};
+use regress_engine_singles::{ScannedBracket, as_far, as_far_ahead, is_apart};
+use regress_front_bytes::AsciiBitmap;
 use regress_front_nodes::BracketContents;
 use regress_front_sets::CodePointSet;
 use regress_front_tables::Tables;
@@ -49,6 +50,30 @@ fn scanned_brackets_have_what_their_class_does(rt: HostRuntime) -> Result<(), Fa
         let class = ScannedBracket { bc: &bc };
         assert!(rt; class.has(number * 2) != bc.invert);
         assert!(rt; class.has(number * 2 + 1) == bc.invert);
+    }
+    Ok(())
+}
+
+/// A byte, and whether no bytes that begin with it stand where a class takes `a` alone.
+const APART: &[(u8, bool)] = &[
+    (b'a', false),
+    (b'b', true),
+    (0, true),
+    (0x7F, true),
+    (0x80, false),
+];
+
+#[test]
+fn bytes_are_apart_from_a_class_that_has_not_their_first(rt: HostRuntime) -> Result<(), Fail> {
+    let tables = Tables::small(rt.alloc())?;
+    let regex = parsed(rt.alloc(), "", "", &tables)?;
+    let program = emit(rt.alloc(), &regex)?;
+    let mut bitmap = AsciiBitmap::default();
+    bitmap.set(b'a');
+    let class = Insn::AsciiBracket(bitmap);
+    for (byte, apart) in APART {
+        assert!(rt; is_apart(&program, &class, *byte) == *apart);
+        assert!(rt; !is_apart(&program, &Insn::MatchAny, *byte));
     }
     Ok(())
 }

@@ -21,12 +21,12 @@ use Rattle.regress_engine_sought.proofs.TaskLemmas.{leads-then, leads-same, lead
 use Rattle.regress_engine_singles.specs.Failing.{IsStuck}
 use Rattle.regress_engine_singles.proofs.Failures.{leads-without}
 use Rattle.regress_engine_singles.proofs.StuckLemmas.{leads-stuck}
-use Rattle.regress_engine_exec.specs.declared.undo.Spot.{Spot}
-use Rattle.regress_engine_exec.specs.Held.{Held, pushed}
+use Rattle.regress_engine_undo.specs.declared.undo.Spot.{Spot}
+use Rattle.regress_engine_undo.specs.Held.{Held, pushed}
 use Rattle.regress_engine_exec.specs.Stuck.{is_byte_seq}
-use Rattle.regress_engine_exec.specs.Tasks.{task_of, task, state_at, GoesOn}
-use Rattle.regress_engine_exec.proofs.StepLemmas.{fork-leads}
-use Rattle.regress_engine_exec.proofs.BackLemmas.{resume-back}
+use Rattle.regress_engine_undo.specs.Tasks.{task_of, task, state_at, GoesOn}
+use Rattle.regress_engine_undo.proofs.StepLemmas.{fork-leads}
+use Rattle.regress_engine_undo.proofs.BackLemmas.{resume-back}
 
 module _ (program : Program) (input : Input) where
   -- a plain instruction, and what its successors are led to

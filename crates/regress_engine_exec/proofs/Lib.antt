@@ -1,10 +1,4 @@
-pub mod MemoryLemmas
-pub mod SoundLemmas
-pub mod LeadLemmas
-pub mod StepLemmas
-pub mod BackLemmas
 pub mod SingleLemmas
-pub mod LeaveLemmas
 pub mod StuckLemmas
 pub mod DispatchLemmas
 pub mod TryLemmas

@@ -19,12 +19,12 @@ use Rattle.regress_engine_singles.specs.Failing.{Fail, IsStuck}
 use Rattle.regress_engine_singles.proofs.Chains.{Takes, given-taken}
 use Rattle.regress_engine_singles.proofs.Failures.{leads-without, fail-each}
 use Rattle.regress_engine_exec.specs.Stuck.{IsTakenFirst}
-use Rattle.regress_engine_exec.specs.declared.undo.Spot.{Spot}
-use Rattle.regress_engine_exec.specs.Held.{Held, pushed}
+use Rattle.regress_engine_undo.specs.declared.undo.Spot.{Spot}
+use Rattle.regress_engine_undo.specs.Held.{Held, pushed}
 use Rattle.regress_engine_sought.specs.Sought.{Suits}
 use Rattle.regress_engine_sought.specs.Ready.{IsBody}
 use Rattle.regress_engine_sought.proofs.ReadyLemmas.{body-next}
-use Rattle.regress_engine_exec.specs.Tasks.{task_of, task, state_at}
+use Rattle.regress_engine_undo.specs.Tasks.{task_of, task, state_at}
 
 -- as far as it goes is at a place
 module _ (program : Program) (v : View) (all : AreOfKind v.kind v.units) (suits : Suits program v) (at : ℕ) (i : Instruction) (here : Stands program (at - 1) i) (dir : Direction) (groups : List Marks) where

@@ -15,13 +15,13 @@ use Rattle.regress_engine_sought.specs.Sought.{Suits}
 use Rattle.regress_engine_sought.specs.Ready.{IsReady, is_simple}
 use Rattle.regress_engine_sought.specs.Tasks.{Leads}
 use Rattle.regress_engine_sought.proofs.TaskLemmas.{leads-then, leads-same}
-use Rattle.regress_engine_exec.specs.declared.undo.Spot.{Spot}
-use Rattle.regress_engine_exec.specs.Held.{Held, pushed}
+use Rattle.regress_engine_undo.specs.declared.undo.Spot.{Spot}
+use Rattle.regress_engine_undo.specs.Held.{Held, pushed}
 use Rattle.regress_engine_singles.specs.Failing.{IsStuck}
 use Rattle.regress_engine_singles.proofs.StuckLemmas.{simple-stuck, loop-stuck, end-stuck, leads-stuck}
 use Rattle.regress_engine_exec.specs.Stuck.{bytes_in, is_byte_seq, is_taking, IsTakenFirst, given_from, GivesFrom}
-use Rattle.regress_engine_exec.specs.Tasks.{task}
-use Rattle.regress_engine_exec.proofs.BackLemmas.{give_back-last, give_back-none, give_back-more}
+use Rattle.regress_engine_undo.specs.Tasks.{task}
+use Rattle.regress_engine_undo.proofs.BackLemmas.{give_back-last, give_back-none, give_back-more}
 
 -- what takes a character or bytes changes nothing but the offset
 pub taking-simple : (i : Instruction) → is_taking i ≡ true → is_simple i ≡ true

@@ -11,11 +11,11 @@ use Rattle.regress_engine_runs.specs.UndoStack.{ReadOn, outermost, stands_for}
 use Rattle.regress_engine_sought.specs.Tasks.{Leads, IsTried}
 use Rattle.regress_engine_sought.specs.Answering.{IsAnswer}
 use Rattle.regress_engine_sought.proofs.TaskLemmas.{leads-then, tried-first, tried-fails}
-use Rattle.regress_engine_exec.specs.declared.undo.Spot.{Spot}
-use Rattle.regress_engine_exec.specs.Held.{Held}
-use Rattle.regress_engine_exec.specs.Sound.{IsSound, IsHeld}
-use Rattle.regress_engine_exec.specs.Tasks.{task}
-use Rattle.regress_engine_exec.specs.Leaving.{Steps}
+use Rattle.regress_engine_undo.specs.declared.undo.Spot.{Spot}
+use Rattle.regress_engine_undo.specs.Held.{Held}
+use Rattle.regress_engine_undo.specs.Sound.{IsSound, IsHeld}
+use Rattle.regress_engine_undo.specs.Tasks.{task}
+use Rattle.regress_engine_exec.specs.Trying.{Steps}
 use Rattle.regress_engine_exec.specs.Trying.{IsTrying}
 
 module _ (program : Program) (v : View) (start : ℕ) (ends : IsComputed program (input_of v) Forward (first_state program start ∷ [])) where

@@ -1,6 +1,2 @@
-pub mod Held
-pub mod Sound
-pub mod Tasks
-pub mod Leaving
 pub mod Trying
 pub mod Stuck

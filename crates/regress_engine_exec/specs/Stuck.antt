@@ -8,9 +8,9 @@ use Rattle.regress_engine_runs.specs.Closed.{Fits, takes_character}
 use Rattle.regress_engine_runs.specs.UndoStack.{give_back}
 use Rattle.regress_engine_sought.specs.Tasks.{Leads}
 use Rattle.regress_engine_singles.specs.Failing.{IsStuck, TakesNothing}
-use Rattle.regress_engine_exec.specs.declared.undo.Spot.{Spot}
-use Rattle.regress_engine_exec.specs.Held.{Held, pushed}
-use Rattle.regress_engine_exec.specs.Tasks.{task}
+use Rattle.regress_engine_undo.specs.declared.undo.Spot.{Spot}
+use Rattle.regress_engine_undo.specs.Held.{Held, pushed}
+use Rattle.regress_engine_undo.specs.Tasks.{task}
 
 -- an instruction takes bytes
 abbrev pub is_byte_seq : Instruction → Bool

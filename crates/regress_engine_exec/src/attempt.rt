@@ -9,14 +9,13 @@ ghost use Rattle.regress_engine_runs.specs.States.{first_state};
 ghost use Rattle.regress_engine_runs.specs.Computed.{IsComputed};
 ghost use Rattle.regress_engine_runs.specs.UndoStack.{ReadOn, outermost};
 ghost use Rattle.regress_engine_sought.specs.Answering.{IsAnswer};
-ghost use Rattle.regress_engine_exec.specs.Held.{held};
+ghost use Rattle.regress_engine_undo.specs.Held.{held};
 ghost use Rattle.regress_engine_sought.specs.Sought.{Suits};
 ghost use Rattle.regress_engine_runs.proofs.OneAnswer.{IsComputed-prop};
 
-use crate::memory::Memory;
-use crate::undo::Spot;
 use regress_engine_code::{CompiledRegex, Insn};
 use regress_engine_matchers::CharInput;
+use regress_engine_undo::{Memory, Spot};
 use regress_front_core::GroupData;
 use std::alloc::AllocError;
 

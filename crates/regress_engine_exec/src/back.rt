@@ -6,16 +6,15 @@ ghost use Rattle.regress_engine_runs.specs.Runs.{gap, after_look};
 ghost use Rattle.regress_engine_runs.specs.Meets.{IsAtPlace};
 ghost use Rattle.regress_engine_runs.specs.UndoStack.{give_back, take_on, whole};
 ghost use Rattle.regress_engine_sought.specs.Tasks.{Leads};
-ghost use Rattle.regress_engine_exec.specs.Held.{held, undo_of, pushed};
+ghost use Rattle.regress_engine_undo.specs.Held.{held, undo_of, pushed};
 ghost use Rattle.regress_engine_sought.specs.Sought.{Suits};
-ghost use Rattle.regress_engine_exec.specs.Sound.{IsHeld};
+ghost use Rattle.regress_engine_undo.specs.Sound.{IsHeld};
 ghost use Rattle.regress_engine_exec.specs.Stuck.{GivesFrom};
-ghost use Rattle.regress_engine_exec.specs.Tasks.{task};
+ghost use Rattle.regress_engine_undo.specs.Tasks.{task};
 
 use crate::attempt::Attempt;
-use crate::memory::Memory;
-use crate::undo::{Frame, Spot, Undo};
 use regress_engine_matchers::CharInput;
+use regress_engine_undo::{Frame, Memory, Spot, Undo};
 use regress_front_core::GroupData;
 use std::alloc::AllocError;
 

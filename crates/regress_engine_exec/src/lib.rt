@@ -5,15 +5,11 @@ mod attempt;
 mod back;
 mod executor;
 mod leading;
-mod leave;
-mod memory;
 mod producer;
 mod reads;
 mod search;
 mod singles;
 mod step;
-mod steps;
-mod undo;
 
 pub use regress_engine_sought::{ExecutorInput, Shown};
 pub use search::BacktrackExecutor;

@@ -10,14 +10,14 @@ ghost use Rattle.regress_engine_input.specs.Views.{input_of, reading_of, utf8};
 ghost use Rattle.regress_engine_runs.specs.Items.{Finds};
 ghost use Rattle.regress_engine_runs.specs.Meets.{IsAtPlace};
 ghost use Rattle.regress_engine_sought.specs.Answering.{IsFound};
-ghost use Rattle.regress_engine_exec.specs.Held.{held};
+ghost use Rattle.regress_engine_undo.specs.Held.{held};
 ghost use Rattle.regress_engine_sought.specs.Sought.{IsMadeOf, IsItemAtPlaces};
 
 use crate::attempt::Attempt;
-use crate::memory::Memory;
 use regress_engine_code::CompiledRegex;
 use regress_engine_input::Utf8Input;
 use regress_engine_sought::{ExecutorInput, Shown, Subject, captures};
+use regress_engine_undo::Memory;
 use regress_front_core::GroupData;
 use regress_match::{Match, MatchProducer};
 use std::alloc::{AllocError, Global};

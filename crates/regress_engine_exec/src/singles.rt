@@ -11,20 +11,19 @@ ghost use Rattle.regress_engine_code.specs.Instructions.{single_loop};
 ghost use Rattle.regress_engine_sought.specs.StateViews.{marks_of};
 ghost use Rattle.regress_engine_sought.specs.Ready.{IsBody};
 ghost use Rattle.regress_engine_sought.specs.Tasks.{Leads};
-ghost use Rattle.regress_engine_exec.specs.Held.{held};
+ghost use Rattle.regress_engine_undo.specs.Held.{held};
 ghost use Rattle.regress_engine_sought.specs.Sought.{Suits};
-ghost use Rattle.regress_engine_exec.specs.Sound.{IsHeld};
+ghost use Rattle.regress_engine_undo.specs.Sound.{IsHeld};
 ghost use Rattle.regress_engine_singles.specs.Apart.{AreApart};
 ghost use Rattle.regress_engine_exec.specs.Stuck.{IsTakenFirst};
-ghost use Rattle.regress_engine_exec.specs.Tasks.{task_of, task, state_at};
+ghost use Rattle.regress_engine_undo.specs.Tasks.{task_of, task, state_at};
 
 use crate::attempt::Attempt;
-use crate::memory::Memory;
 use crate::reads::first_byte;
-use crate::undo::Spot;
 use regress_engine_code::Insn;
 use regress_engine_matchers::CharInput;
 use regress_engine_singles::{as_far_ahead, is_apart};
+use regress_engine_undo::{Memory, Spot};
 use regress_front_core::GroupData;
 use std::alloc::AllocError;
 

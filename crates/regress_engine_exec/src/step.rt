@@ -7,18 +7,16 @@ ghost use Rattle.regress_engine_input.specs.Views.{input_of, reading_of};
 ghost use Rattle.regress_engine_runs.specs.Meets.{reads_character, ReadsPlaces};
 ghost use Rattle.regress_engine_sought.specs.Ready.{is_simple};
 ghost use Rattle.regress_engine_sought.specs.Tasks.{Leads};
-ghost use Rattle.regress_engine_exec.specs.Held.{held};
+ghost use Rattle.regress_engine_undo.specs.Held.{held};
 ghost use Rattle.regress_engine_sought.specs.Sought.{Suits};
-ghost use Rattle.regress_engine_exec.specs.Sound.{IsHeld};
-ghost use Rattle.regress_engine_exec.specs.Tasks.{state_at, task};
-ghost use Rattle.regress_engine_exec.specs.Leaving.{Steps};
+ghost use Rattle.regress_engine_undo.specs.Sound.{IsHeld};
+ghost use Rattle.regress_engine_undo.specs.Tasks.{state_at, task};
+ghost use Rattle.regress_engine_exec.specs.Trying.{Steps};
 
 use crate::attempt::Attempt;
-use crate::memory::Memory;
-use crate::steps::{begun, ended};
-use crate::undo::Spot;
 use regress_engine_code::Insn;
 use regress_engine_matchers::CharInput;
+use regress_engine_undo::{Memory, Spot, begun, ended};
 use regress_front_core::GroupData;
 use std::alloc::AllocError;
 

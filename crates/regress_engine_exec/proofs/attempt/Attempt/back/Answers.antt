@@ -3,9 +3,9 @@ use Rattle.regress_engine_code.specs.Standing.{program_of}
 use Rattle.regress_engine_input.specs.Views.{input_of}
 use Rattle.regress_engine_sought.specs.Tasks.{Leads}
 use Rattle.regress_engine_sought.proofs.TaskLemmas.{leads-then, leads-same}
-use Rattle.regress_engine_exec.specs.Held.{Held, held, pushed, undo_of}
-use Rattle.regress_engine_exec.specs.Sound.{IsHeld}
-use Rattle.regress_engine_exec.specs.Tasks.{task}
+use Rattle.regress_engine_undo.specs.Held.{Held, held, pushed, undo_of}
+use Rattle.regress_engine_undo.specs.Sound.{IsHeld}
+use Rattle.regress_engine_undo.specs.Tasks.{task}
 use Rattle.regress_engine_exec.proofs.attempt.Attempt.back.Goals as goal
 
 pub loop-undo-init : goal.loop-undo-init

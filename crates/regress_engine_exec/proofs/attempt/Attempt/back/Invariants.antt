@@ -2,9 +2,9 @@ use Rattle.std.proofs.Common.{false, length}
 use Rattle.regress_engine_code.specs.Standing.{program_of}
 use Rattle.regress_engine_input.specs.Views.{input_of}
 use Rattle.regress_engine_sought.specs.Tasks.{Leads}
-use Rattle.regress_engine_exec.specs.Held.{held}
-use Rattle.regress_engine_exec.specs.Sound.{IsHeld}
-use Rattle.regress_engine_exec.specs.Tasks.{task}
+use Rattle.regress_engine_undo.specs.Held.{held}
+use Rattle.regress_engine_undo.specs.Sound.{IsHeld}
+use Rattle.regress_engine_undo.specs.Tasks.{task}
 use Rattle.regress_engine_exec.proofs.attempt.Attempt.back.Given as goal
 
 -- what was to be done leads to what is to be done

@@ -4,8 +4,8 @@ use Rattle.regress_engine_input.specs.Views.{input_of}
 use Rattle.regress_engine_sought.proofs.InsnLemmas.{way-against, none-ahead, some-ahead}
 use Rattle.regress_engine_sought.proofs.PlaceLemmas.{can-read, moves, next-place}
 use Rattle.regress_engine_sought.proofs.TaskLemmas.{leads-then}
-use Rattle.regress_engine_exec.specs.Held.{held}
-use Rattle.regress_engine_exec.proofs.BackLemmas.{give_back-last, give_back-none, give_back-more, held-give_back, give_back-held}
+use Rattle.regress_engine_undo.specs.Held.{held}
+use Rattle.regress_engine_undo.proofs.BackLemmas.{give_back-last, give_back-none, give_back-more, held-give_back, give_back-held}
 use Rattle.regress_engine_exec.proofs.attempt.Attempt.give_back.Goals as goal
 
 pub far_way-requires-clause-place : goal.far_way-requires-clause-place

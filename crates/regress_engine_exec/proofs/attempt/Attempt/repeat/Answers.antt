@@ -11,8 +11,8 @@ use Rattle.regress_engine_runs.specs.UndoStack.{give_back, take_on}
 use Rattle.regress_engine_sought.specs.StateViews.{marks_of}
 use Rattle.regress_engine_sought.proofs.ReadyLemmas.{body-at}
 use Rattle.regress_engine_sought.proofs.TaskLemmas.{leads-then}
-use Rattle.regress_engine_exec.specs.Held.{held, pushed}
-use Rattle.regress_engine_exec.proofs.BackLemmas.{give_back-held, take_on-held}
+use Rattle.regress_engine_undo.specs.Held.{held, pushed}
+use Rattle.regress_engine_undo.proofs.BackLemmas.{give_back-held, take_on-held}
 use Rattle.regress_engine_exec.proofs.SingleLemmas.{repeat-few, repeat-greedy, repeat-lazy, atomic}
 use Rattle.regress_engine_exec.proofs.attempt.Attempt.repeat.Goals as goal
 

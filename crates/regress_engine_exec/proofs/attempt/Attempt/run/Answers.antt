@@ -3,10 +3,10 @@ use Rattle.regress_engine_code.specs.Standing.{program_of}
 use Rattle.regress_engine_input.specs.Views.{input_of, way}
 use Rattle.regress_engine_runs.specs.States.{unset}
 use Rattle.regress_engine_sought.proofs.TaskLemmas.{tried-stands, tried-reads, tried-on, tried-less, tried-ends}
-use Rattle.regress_engine_exec.specs.declared.undo.Spot.{Spot}
-use Rattle.regress_engine_exec.specs.Held.{Held, held}
-use Rattle.regress_engine_exec.specs.Tasks.{task, state_at}
-use Rattle.regress_engine_exec.specs.Leaving.{Steps}
+use Rattle.regress_engine_undo.specs.declared.undo.Spot.{Spot}
+use Rattle.regress_engine_undo.specs.Held.{Held, held}
+use Rattle.regress_engine_undo.specs.Tasks.{task, state_at}
+use Rattle.regress_engine_exec.specs.Trying.{Steps}
 use Rattle.regress_engine_exec.proofs.TryLemmas.{trying-first, trying-fails, steps-led, steps-held, steps-back}
 use Rattle.regress_engine_exec.proofs.attempt.Attempt.run.Goals as goal
 

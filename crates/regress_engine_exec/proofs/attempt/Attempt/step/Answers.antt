@@ -6,8 +6,8 @@ use Rattle.regress_engine_input.specs.Views.{way, input_of}
 use Rattle.regress_engine_runs.specs.States.{begun, ended}
 use Rattle.regress_engine_sought.specs.StateViews.{marks_of}
 use Rattle.regress_engine_sought.proofs.InsnLemmas.{stands-as}
-use Rattle.regress_engine_exec.specs.Held.{held}
-use Rattle.regress_engine_exec.proofs.BackLemmas.{frame-held}
+use Rattle.regress_engine_undo.specs.Held.{held}
+use Rattle.regress_engine_undo.proofs.BackLemmas.{frame-held}
 use Rattle.regress_engine_exec.proofs.DispatchLemmas.{first-stuck, second-stuck, step-on, jump-on, mark-on, look-on}
 use Rattle.regress_engine_exec.proofs.attempt.Attempt.step.Goals as goal
 

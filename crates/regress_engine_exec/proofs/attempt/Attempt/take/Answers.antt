@@ -6,8 +6,8 @@ use Rattle.regress_engine_runs.specs.Runs.{advance}
 use Rattle.regress_engine_sought.specs.StateViews.{marks_of}
 use Rattle.regress_engine_sought.specs.Ready.{IsReady}
 use Rattle.regress_engine_sought.proofs.ReadyLemmas.{simple-ready}
-use Rattle.regress_engine_exec.specs.Held.{held}
-use Rattle.regress_engine_exec.specs.Tasks.{state_at}
+use Rattle.regress_engine_undo.specs.Held.{held}
+use Rattle.regress_engine_undo.specs.Tasks.{state_at}
 use Rattle.regress_engine_exec.proofs.DispatchLemmas.{take-none, take-some}
 use Rattle.regress_engine_exec.proofs.attempt.Attempt.take.Goals as goal
 

@@ -6,8 +6,8 @@ use Rattle.regress_engine_runs.specs.Runs.{advance}
 use Rattle.regress_engine_sought.specs.StateViews.{marks_of}
 use Rattle.regress_engine_sought.specs.Ready.{IsReady}
 use Rattle.regress_engine_sought.proofs.ReadyLemmas.{body-asked, body-next}
-use Rattle.regress_engine_exec.specs.Held.{held}
-use Rattle.regress_engine_exec.proofs.BackLemmas.{take_on-last, take_on-more, held-take_on, take_on-held}
+use Rattle.regress_engine_undo.specs.Held.{held}
+use Rattle.regress_engine_undo.proofs.BackLemmas.{take_on-last, take_on-more, held-take_on, take_on-held}
 use Rattle.regress_engine_exec.proofs.attempt.Attempt.take_on.Goals as goal
 
 pub returns-then-left-eq0-clause-leads : goal.returns-then-left-eq0-clause-leads

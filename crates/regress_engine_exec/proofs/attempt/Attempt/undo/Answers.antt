@@ -4,10 +4,10 @@ use Rattle.regress_engine_input.specs.Views.{input_of, way}
 use Rattle.regress_engine_runs.specs.UndoStack.{resume, old_loop, old_group, iterate, frame}
 use Rattle.regress_engine_sought.specs.StateViews.{loop_of, marks_of}
 use Rattle.regress_engine_sought.specs.Tasks.{Leads}
-use Rattle.regress_engine_exec.specs.Held.{held, pushed, undo_of, frame_of}
-use Rattle.regress_engine_exec.proofs.BackLemmas.{held-as, leads-as, held-resume, held-old_loop, old_loop-there, held-old_group, old_group-there, held-iterate, held-frame, resume-back, old_loop-back, old_group-back, iterate-back, look-back}
-use Rattle.regress_engine_exec.specs.Tasks.{task}
-use Rattle.regress_engine_exec.proofs.StepLemmas.{loop-sound}
+use Rattle.regress_engine_undo.specs.Held.{held, pushed, undo_of, frame_of}
+use Rattle.regress_engine_undo.proofs.BackLemmas.{held-as, leads-as, held-resume, held-old_loop, old_loop-there, held-old_group, old_group-there, held-iterate, held-frame, resume-back, old_loop-back, old_group-back, iterate-back, look-back}
+use Rattle.regress_engine_undo.specs.Tasks.{task}
+use Rattle.regress_engine_undo.proofs.StepLemmas.{loop-sound}
 use Rattle.regress_engine_exec.proofs.attempt.Attempt.undo.Goals as goal
 
 pub restore_loop-requires : goal.restore_loop-requires

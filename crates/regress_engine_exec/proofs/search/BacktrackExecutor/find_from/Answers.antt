@@ -7,7 +7,7 @@ use Rattle.regress_engine_input.specs.Views.{input_of}
 use Rattle.regress_engine_runs.specs.States.{range_of}
 use Rattle.regress_engine_sought.specs.StateViews.{marks_of}
 use Rattle.regress_engine_sought.specs.Answering.{IsFound}
-use Rattle.regress_engine_exec.specs.Held.{held}
+use Rattle.regress_engine_undo.specs.Held.{held}
 use Rattle.regress_engine_sought.specs.Sought.{IsSought}
 use Rattle.regress_engine_sought.proofs.SearchLemmas.{found-inside, found-match}
 use Rattle.regress_engine_exec.proofs.search.BacktrackExecutor.find_from.Goals as goal

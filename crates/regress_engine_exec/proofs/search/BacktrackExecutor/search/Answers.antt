@@ -9,7 +9,7 @@ use Rattle.regress_engine_sought.proofs.PlaceLemmas.{can-read, next-place}
 use Rattle.regress_engine_sought.proofs.SearchLemmas.{search-found, search-none, search-on, search-less}
 use Rattle.regress_engine_sought.proofs.SkipLemmas.{place-lies, reaches, reaches-none}
 use Rattle.regress_engine_singles.specs.Passed.{PassesOver}
-use Rattle.regress_engine_exec.specs.Held.{held}
+use Rattle.regress_engine_undo.specs.Held.{held}
 use Rattle.regress_engine_exec.proofs.search.BacktrackExecutor.search.Goals as goal
 
 pub invariant_of-attempt : goal.invariant_of-attempt

@@ -1,0 +1,13 @@
+use Rattle.std.proofs.Common.{map, ap}
+use Rattle.regress_engine_runs.specs.States.{unset}
+use Rattle.regress_engine_sought.specs.StateViews.{loop_of, marks_of}
+use Rattle.regress_engine_undo.specs.Held.{undo_of}
+use Rattle.regress_engine_undo.proofs.MemoryLemmas.{filled}
+use Rattle.regress_engine_undo.proofs.memory.Memory.begin.Goals as goal
+
+pub returns : goal.returns
+returns c =
+    let loops = filled loop_of c.resize.new.self.items c.clear-2.new.self.items c.args.loops _ c.new.result (0, 0) c.in_ok-resize.ensures.items c.clear-2.ensures.items c.clear-2.ensures.len (ap loop_of c.new.ensures) in
+    let groups = filled marks_of c.resize-2.new.self.items c.clear-3.new.self.items c.args.groups _ c.new-2.result unset c.in_ok-resize-2.ensures.items c.clear-3.ensures.items c.clear-3.ensures.len (ap marks_of c.new-2.ensures) in
+    let empty = ap (λ xs. map undo_of (mathlib.Core.List.reverse xs)) c.clear.ensures.items in
+    (λ i. record { stack = empty i; loops = loops i; groups = groups i })

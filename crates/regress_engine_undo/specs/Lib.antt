@@ -1,0 +1,4 @@
+pub mod Held
+pub mod Sound
+pub mod Tasks
+pub mod Leaving

@@ -1,0 +1,167 @@
+//! What an executor holds: loops, groups, and the records by which both are undone.
+ghost use Rattle.std.specs.Prelude.{◌≡◌, ◌<◌, ℕ, [], None, length, map, get_or, replicate, slice_set, slice_range, MatchOption, OnOk};
+ghost use Rattle.regress_engine_runs.specs.States.{unset};
+ghost use Rattle.regress_engine_sought.specs.StateViews.{loop_of, marks_of};
+ghost use Rattle.regress_engine_undo.specs.Held.{held, undo_of, pushed, recorded, loop_written, group_written};
+
+use crate::undo::Undo;
+use regress_front_core::{GroupData, LoopData};
+use std::alloc::{AllocError, Global};
+
+/// The loops and groups of a state, and the records of what to undo, the last one on top.
+#[derive(Debug, Drop)]
+pub struct Memory {
+    pub(crate) stack: Vec<Undo>,
+    pub(crate) loops: Vec<LoopData<usize>>,
+    /// The groups, in the order of their numbers.
+    pub groups: Vec<GroupData<usize>>,
+}
+
+impl Memory {
+    /// It holds nothing yet.
+    ///
+    /// ```rust
+    /// let mut memory = Memory::new(alloc);
+    /// ```
+    pub fn new(alloc: Global) -> Memory
+        ensures { held result ≡ record { stack = []; loops = []; groups = [] } }
+    {
+        Memory {
+            stack: Vec::new(alloc),
+            loops: Vec::new(alloc),
+            groups: Vec::new(alloc),
+        }
+    }
+
+    /// Begins anew, with so many loops and groups, of which nothing is known, and no record. It errs where memory is refused.
+    ///
+    /// ```rust
+    /// memory.begin(1, 2)?;
+    /// ```
+    pub fn begin(&mut self, loops: usize, groups: usize) -> Result<(), AllocError>
+        ensures { OnOk result (held self.new ≡ record { stack = []; loops = replicate loops (0, 0); groups = replicate groups unset }) }
+    {
+        self.stack.clear();
+        self.loops.clear();
+        self.loops.resize(loops, LoopData::new(0))?;
+        self.groups.clear();
+        self.groups.resize(groups, GroupData::new())?;
+        Ok(())
+    }
+
+    /// Puts a record on the stack. It errs where memory is refused.
+    ///
+    /// ```rust
+    /// memory.push(Undo::Resume { at: 3, offset: 0 })?;
+    /// ```
+    #[inline]
+    pub fn push(&mut self, undo: Undo) -> Result<(), AllocError>
+        ensures { OnOk result (held self.new ≡ pushed (undo_of undo) (held self.old)) }
+    {
+        self.stack.push(undo)?;
+        Ok(())
+    }
+
+    /// Records what is to be undone, where there is anything to go back to.
+    #[inline]
+    fn record(&mut self, undo: Undo) -> Result<(), AllocError>
+        ensures { OnOk result (held self.new ≡ record (held self.old) { stack = recorded (undo_of undo) (held self.old).stack }) }
+    {
+        if self.stack.as_slice().is_empty() {
+            return Ok(());
+        }
+        self.push(undo)
+    }
+
+    /// Takes the last record from the stack; `None` where it is empty.
+    ///
+    /// ```rust
+    /// while let Some(undo) = memory.pop() {}
+    /// ```
+    #[inline]
+    pub fn pop(&mut self) -> Option<Undo>
+        ensures { MatchOption result ((held self.new ≡ held self.old) × ((held self.old).stack ≡ [])) (λ undo. held self.old ≡ pushed (undo_of undo) (held self.new)) }
+    {
+        self.stack.pop()
+    }
+
+    /// The data of a loop. Asks that it is there.
+    ///
+    /// ```rust
+    /// let count = memory.loop_data(0).iters;
+    /// ```
+    #[inline]
+    pub fn loop_data(&self, id: usize) -> LoopData<usize>
+        requires { id < length (held self.now).loops }
+        ensures { loop_of result ≡ get_or (held self.now).loops id (0, 0) }
+    {
+        self.loops[id]
+    }
+
+    /// The marks of a group. Asks that it is there.
+    ///
+    /// ```rust
+    /// let start = memory.group_data(0).start;
+    /// ```
+    #[inline]
+    pub fn group_data(&self, group: usize) -> GroupData<usize>
+        requires { group < length (held self.now).groups }
+        ensures { marks_of result ≡ get_or (held self.now).groups group unset }
+    {
+        self.groups[group]
+    }
+
+    /// Writes a loop's data, with no record. Asks that it is there.
+    ///
+    /// ```rust
+    /// memory.restore_loop(0, LoopData::new(5));
+    /// ```
+    #[inline]
+    pub fn restore_loop(&mut self, id: usize, value: LoopData<usize>)
+        requires { id < length (held self.old).loops }
+        ensures { held self.new ≡ record (held self.old) { loops = slice_set (held self.old).loops id (loop_of value) } }
+    {
+        self.loops[id] = value;
+    }
+
+    /// Writes a group's marks, with no record. Asks that it is there.
+    ///
+    /// ```rust
+    /// memory.restore_group(0, GroupData::new());
+    /// ```
+    #[inline]
+    pub fn restore_group(&mut self, group: usize, value: GroupData<usize>)
+        requires { group < length (held self.old).groups }
+        ensures { held self.new ≡ record (held self.old) { groups = slice_set (held self.old).groups group (marks_of value) } }
+    {
+        self.groups[group] = value;
+    }
+
+    /// Writes a loop's data, and records the old ones, where there is anything to go back to.
+    #[inline]
+    pub(crate) fn write_loop(&mut self, id: usize, value: LoopData<usize>) -> Result<(), AllocError>
+        requires { id < length (held self.old).loops }
+        ensures { OnOk result (held self.new ≡ loop_written id (loop_of value) (held self.old)) }
+    {
+        let old = self.loop_data(id);
+        self.record(Undo::OldLoop { id, data: old })?;
+        self.restore_loop(id, value);
+        Ok(())
+    }
+
+    /// Writes a group's marks, and records the old ones, where there is anything to go back to.
+    #[inline]
+    pub(crate) fn write_group(
+        &mut self,
+        group: usize,
+        value: GroupData<usize>,
+    ) -> Result<(), AllocError>
+        requires { group < length (held self.old).groups }
+        ensures { OnOk result (held self.new ≡ group_written group (marks_of value) (held self.old)) }
+    {
+        let old = self.group_data(group);
+        self.record(Undo::OldGroup { group, data: old })?;
+        self.restore_group(group, value);
+        Ok(())
+    }
+}

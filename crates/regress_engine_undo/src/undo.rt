@@ -1,0 +1,85 @@
+//! What an executor undoes, and where it goes on.
+use regress_front_core::{CaptureGroupID, GroupData, LoopData};
+
+/// Where a program stands: at an instruction, at an offset of the text, reading forward or backward.
+#[derive(Debug, Clone, Copy)]
+pub struct Spot {
+    /// The address of the next instruction.
+    pub at: usize,
+    /// The offset in the text.
+    pub offset: usize,
+    /// Whether the text is read forward.
+    pub forward: bool,
+}
+
+/// A lookaround whose contents are tried.
+#[derive(Debug, Clone, Copy)]
+pub struct Frame {
+    /// Whether it holds where its contents don't.
+    pub negated: bool,
+    /// Whether its contents are read backward.
+    pub backward: bool,
+    /// The first group inside.
+    pub first: CaptureGroupID,
+    /// The first group behind.
+    pub last: CaptureGroupID,
+    /// Where it goes on.
+    pub continuation: usize,
+    /// Where the lookaround stands, and at which offset and in which direction it was come to.
+    pub spot: Spot,
+}
+
+/// What is done where nothing is left to be tried.
+#[derive(Debug, Clone, Copy)]
+pub enum Undo {
+    /// The loop is as it was.
+    OldLoop {
+        /// The loop.
+        id: usize,
+        /// What it was.
+        data: LoopData<usize>,
+    },
+    /// The group is as it was.
+    OldGroup {
+        /// The group.
+        group: usize,
+        /// What it was.
+        data: GroupData<usize>,
+    },
+    /// It goes on at an address and an offset.
+    Resume {
+        /// The address.
+        at: usize,
+        /// The offset.
+        offset: usize,
+    },
+    /// One more iteration begins, of the repetition that begins at an address.
+    Iterate {
+        /// The loop.
+        id: usize,
+        /// The address.
+        begin: usize,
+        /// The offset at which it begins.
+        offset: usize,
+    },
+    /// It goes on at an address, at the offsets from a far one back to a near one.
+    GiveBack {
+        /// The address.
+        at: usize,
+        /// The near offset, the last to be tried.
+        near: usize,
+        /// The far offset, the first to be tried.
+        far: usize,
+    },
+    /// It goes on at an address, at an offset and behind each further iteration of the instruction before, at most so many.
+    TakeOn {
+        /// The address.
+        at: usize,
+        /// The offset.
+        offset: usize,
+        /// How many iterations may follow.
+        left: usize,
+    },
+    /// There is no other way through the contents of a lookaround.
+    Look(Frame),
+}
