@@ -20,7 +20,7 @@ use Rattle.regress_front_tokens.specs.declared.cursor.Cursor.{Cursor}
 use Rattle.regress_front_tokens.specs.Readings.{IsRead}
 use Rattle.regress_front_tokens.specs.Trees.{class_view, union_of}
 use Rattle.regress_front_tokens.specs.declared.syntax.Class.{Class as ClassValue}
-use Rattle.regress_front_classes.specs.Classes.{item_view, item_depth, members_at, union_before}
+use Rattle.regress_front_classes.specs.Classes.{boxed_view, item_view, item_depth, members_at, union_before}
 use Rattle.regress_front_classes.specs.Nesting.{IsNested, IsBracketAnswer}
 use Rattle.regress_meaning.proofs.Inversion.{and_then-some, map-some, guard-some}
 use Rattle.regress_meaning.proofs.ReadSteps.{on_true, on_false, on_some, on_guard}
@@ -469,7 +469,7 @@ bracket-refused m t steps sets bracket nesting TooLarge r s h = h
 
 -- What was answered for the body of a class is what was answered for the class.
 pub opening-refused : (m : Mode) (t u : List ℕ) (negated : Bool) (nesting : ℕ) (e : Error) (r s : List ℕ) → class_opening m t ≡ of_class negated (read_class m u)
-    → count_by opens_nesting u ≤ count_by opens_nesting t → IsNested class_view class_depth (nesting + 1) (read_class m) u (Err e) r → IsBracketAnswer nesting m t (Err e) s
+    → count_by opens_nesting u ≤ count_by opens_nesting t → IsNested boxed_view class_depth (nesting + 1) (read_class m) u (Err e) r → IsBracketAnswer nesting m t (Err e) s
 opening-refused m t u negated nesting (Syntax message) r s opens fewer h = opens ∙ ap (of_class negated) h
 opening-refused m t u negated nesting TooDeep r s opens fewer h = (
   λ p q e. let (a, read, deep) = opened-deep negated (read_class m u) p q (sym opens ∙ e) in let over = h.0 a q read in omega arith,

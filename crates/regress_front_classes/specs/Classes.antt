@@ -1,6 +1,6 @@
 -- What the parser's calls read of a class.
 use Rattle.std.specs.Prelude.{◌≡◌, ℕ, suc, List, [], ◌∷◌, length, map, Option, Some, None, option_map, Result, Ok, Err}
-use Rattle.std.specs.Global.{Vec}
+use Rattle.std.specs.Global.{Vec, Box}
 use Rattle.regress_meaning.specs.Text.{holds}
 use Rattle.regress_meaning.specs.Class as meaning
 use Rattle.regress_meaning.specs.Tokens.{Mode, Reads, Escape, point, guard}
@@ -35,10 +35,14 @@ AddsDashed m d e old new (Err (Syntax message)) = (s : meaning.Class) → dashed
 AddsDashed m d e old new (Err OutOfMemory) = Unit {0}
 AddsDashed m d e old new (Err _) = ⊥
 
+-- the class in a box
+abbrev pub boxed_view : Box Class → meaning.Class
+boxed_view s = class_view s.value
+
 -- what an item of a class with `v` stands for
 abbrev pub item_view : SetItem → meaning_set.SetItem
 item_view (Point c) = meaning_set.one_point c
-item_view (Set s) = meaning_set.any_class (class_view s)
+item_view (Set s) = meaning_set.any_class (boxed_view s)
 
 -- an item, if it is one code point
 abbrev pub only_point : meaning_set.SetItem → Option ℕ

@@ -1,4 +1,5 @@
 -- What an answer says of what holds brackets.
+use Rattle.std.specs.Global.{Box}
 use Rattle.std.specs.Prelude.{◌≡◌, ℕ, ◌+◌, ◌<◌, ◌≤◌, Bool, List, Some, None, Result, Ok, Err, count_by}
 use Rattle.regress_meaning.specs.Class as meaning
 use Rattle.regress_meaning.specs.Pattern.{Pattern, class}
@@ -9,6 +10,7 @@ use Rattle.regress_front_core.specs.declared.error.Error.{Error}
 use Rattle.regress_front_core.specs.declared.error.Error.TheVariants.{Syntax as SyntaxError, TooDeep, OutOfMemory}
 use Rattle.regress_front_tokens.specs.declared.syntax.Class.{Class}
 use Rattle.regress_front_tokens.specs.Trees.{class_view}
+use Rattle.regress_front_classes.specs.Classes.{boxed_view}
 
 -- What was answered for what holds brackets, as many as `size` tells open at once, where so many parentheses and brackets are
 -- open: it was read at the front of the text and nests no deeper than it may; or there is none; or whatever is read there
@@ -22,8 +24,8 @@ IsNested view size nesting reads text (Err OutOfMemory) rest = Unit {0}
 IsNested view size nesting reads text (Err _) rest = ⊥
 
 -- The same for a class, its own bracket being open.
-abbrev pub IsClassAnswer : ℕ → Reads meaning.Class → List ℕ → Result Class Error → List ℕ → Type 0
-IsClassAnswer = IsNested class_view class_depth
+abbrev pub IsClassAnswer : ℕ → Reads meaning.Class → List ℕ → Result (Box Class) Error → List ℕ → Type 0
+IsClassAnswer = IsNested boxed_view class_depth
 
 -- What was answered for a class behind its opening bracket, so many parentheses and brackets being open around it: whether it
 -- is negated, and its class.
@@ -35,3 +37,8 @@ IsBracketAnswer nesting m text (Err TooDeep) rest =
     ((p : Pattern) (r : List ℕ) → class_opening m text ≡ single p r → greatest_depth < nesting + depth p) × (greatest_depth < nesting + count_by opens_nesting text + 1)
 IsBracketAnswer nesting m text (Err OutOfMemory) rest = Unit {0}
 IsBracketAnswer nesting m text (Err _) rest = ⊥
+
+-- what was answered, without its box
+abbrev pub unboxed : Result (Bool × Box Class) Error → Result (Bool × Class) Error
+unboxed (Ok (negated, c)) = Ok (negated, c.value)
+unboxed (Err e) = Err e

@@ -9,8 +9,8 @@ ghost use Rattle.regress_meaning.specs.ReadingClass.{closes_class, two_at, opens
 ghost use Rattle.regress_front_tokens.specs.Readings.{IsRead, IsReading};
 ghost use Rattle.regress_front_tokens.specs.Escapes.{mode_view, HasFewGroups};
 ghost use Rattle.regress_front_tokens.specs.Trees.{class_view};
-ghost use Rattle.regress_front_classes.specs.Classes.{item_view, item_depth, only_point, mark_at, string_view, strings_view};
-ghost use Rattle.regress_front_classes.specs.Nesting.{IsNested, IsClassAnswer, IsBracketAnswer};
+ghost use Rattle.regress_front_classes.specs.Classes.{boxed_view, item_view, item_depth, members_at, only_point, mark_at, string_view, strings_view};
+ghost use Rattle.regress_front_classes.specs.Nesting.{IsNested, IsClassAnswer, IsBracketAnswer, unboxed};
 ghost use Rattle.regress_front_tokens.specs.Cursors.{unread, SameText};
 
 use crate::class_ranges::{INVALID_CLASS, UNBALANCED_BRACKET, class_of, members};
@@ -24,7 +24,7 @@ enum SetItem {
     /// A code point, which may begin a range.
     Point(CodePoint),
     /// Any other operand.
-    Set(Class),
+    Set(Box<Class>),
 }
 
 impl SetItem {
@@ -44,17 +44,21 @@ impl SetItem {
     {
         match self {
             SetItem::Point(point) => class_of(point),
-            SetItem::Set(class) => class,
+            SetItem::Set(class) => Box::into_inner(class),
         }
     }
 }
 
 // Recursion through brackets goes 256 levels deep. So that none of its functions has room on the stack for what others need
-// only in passing, those that end before the next level are kept out of line.
+// only in passing, those that end before the next level are kept out of line, and classes go from level to level in boxes.
 
-/// Drops a class.
+/// The class in a box.
 #[inline(never)]
-fn discard(_class: Class) {}
+fn in_box(alloc: Global, class: Class) -> Result<Box<Class>, AllocError>
+    ensures { IfOk result (λ boxed. boxed.value ≡ class) }
+{
+    Ok(Box::new(alloc, class)?)
+}
 
 /// Adds a class behind others.
 #[inline(never)]
@@ -69,18 +73,18 @@ fn push(classes: &mut Vec<Class>, class: Class) -> Result<(), AllocError>
 fn boxed(alloc: Global, item: SetItem) -> Result<Box<Class>, AllocError>
     ensures { IfOk result (λ class. class_view class.value ≡ item_class (item_view item)) }
 {
-    Ok(Box::new(alloc, item.into_class())?)
+    match item {
+        SetItem::Point(point) => in_box(alloc, class_of(point)),
+        SetItem::Set(class) => Ok(class),
+    }
 }
 
 /// A class in brackets of its own.
 #[inline(never)]
-fn nested(alloc: Global, negated: bool, contents: Class) -> Result<Class, AllocError>
-    ensures { IfOk result (λ class. class_view class ≡ nested negated (class_view contents)) }
+fn nested(alloc: Global, negated: bool, contents: Box<Class>) -> Result<Box<Class>, AllocError>
+    ensures { IfOk result (λ class. class_view class.value ≡ nested negated (class_view contents.value)) }
 {
-    Ok(Class::Nested {
-        negated,
-        contents: Box::new(alloc, contents)?,
-    })
+    in_box(alloc, Class::Nested { negated, contents })
 }
 
 /// Whether the class may, by its form, hold a string that is no single code point ("MayContainStrings").
@@ -137,7 +141,6 @@ fn all_may_hold_strings(classes: &[Class]) -> bool
 /// Behind an opening bracket: whether the class is negated, and its class ("CharacterClass"). Goes on behind the closing
 /// bracket; `nesting` counts the parentheses and brackets that are open around the class. A syntax error where it is
 /// none; `TooDeep` where too many are open.
-#[cycle(class)]
 pub fn bracketed_class(
     cursor: &mut Cursor,
     alloc: Global,
@@ -149,13 +152,30 @@ pub fn bracketed_class(
     ensures read { IsBracketAnswer nesting (mode_view mode.now) (unread cursor.old) result (unread cursor.new) }
     ensures kept { SameText cursor.old cursor.new }
 {
+    let (negated, class) = bracketed(cursor, alloc, mode, nesting)?;
+    Ok((negated, Box::into_inner(class)))
+}
+
+/// The same, with the class in a box.
+#[cycle(class)]
+#[inline(never)]
+fn bracketed(
+    cursor: &mut Cursor,
+    alloc: Global,
+    mode: &Mode,
+    nesting: u32,
+) -> Result<(bool, Box<Class>), Error>
+    requires few { HasFewGroups mode.now }
+    requires shallow { nesting ≤ 256 }
+    ensures read { IsBracketAnswer nesting (mode_view mode.now) (unread cursor.old) (unboxed result) (unread cursor.new) }
+    ensures kept { SameText cursor.old cursor.new }
+{
     if nesting == MAX_NESTING_DEPTH {
         return Err(Error::TooDeep);
     }
     let negated = cursor.eat('^');
     let class = class_contents(cursor, alloc, mode, nesting + 1)?;
     if negated && may_hold_strings(&class) {
-        discard(class);
         return Err(Error::Syntax {
             text: INVALID_CLASS,
         });
@@ -171,7 +191,7 @@ pub(crate) fn class_contents(
     alloc: Global,
     mode: &Mode,
     nesting: u32,
-) -> Result<Class, Error>
+) -> Result<Box<Class>, Error>
     requires few { HasFewGroups mode.now }
     requires shallow { nesting ≤ 256 }
     ensures read { IsClassAnswer nesting (read_class (mode_view mode.now)) (unread cursor.old) result (unread cursor.new) }
@@ -179,11 +199,22 @@ pub(crate) fn class_contents(
 {
     regress_meaning::contents_go_by_steps();
     if !mode.sets {
-        return members(cursor, alloc, mode);
+        return boxed_members(cursor, alloc, mode);
     }
     let class = set_contents(cursor, alloc, mode, nesting)?;
     cursor.bump();
     Ok(class)
+}
+
+/// The members of a class without `v`, in a box.
+#[inline(never)]
+fn boxed_members(cursor: &mut Cursor, alloc: Global, mode: &Mode) -> Result<Box<Class>, Error>
+    requires { HasFewGroups mode.now }
+    ensures read { IsRead boxed_view (members_at (mode_view mode.now)) (unread cursor.old) result (unread cursor.new) }
+    ensures kept { SameText cursor.old cursor.new }
+{
+    let class = members(cursor, alloc, mode)?;
+    Ok(in_box(alloc, class)?)
 }
 
 /// Why the class is refused that can't go on here.
@@ -258,7 +289,10 @@ fn set_escape(cursor: &mut Cursor, alloc: Global, mode: &Mode) -> Result<SetItem
     let refers = cursor.is_at_any("k123456789");
     match cursor.escape(alloc, mode) {
         Ok(Escape::Point(point)) => Ok(SetItem::Point(point)),
-        Ok(Escape::Set(class)) => Ok(SetItem::Set(class)),
+        Ok(Escape::Set(class)) => {
+            let class = in_box(alloc, class)?;
+            Ok(SetItem::Set(class))
+        }
         Ok(Escape::Groups(_)) => Err(Error::Syntax {
             text: INVALID_ESCAPE,
         }),
@@ -393,13 +427,14 @@ fn set_operand(
 {
     regress_meaning::contents_go_by_steps();
     if cursor.eat('[') {
-        let (negated, contents) = bracketed_class(cursor, alloc, mode, nesting)?;
+        let (negated, contents) = bracketed(cursor, alloc, mode, nesting)?;
         let class = nested(alloc, negated, contents)?;
         return Ok(SetItem::Set(class));
     }
     if eat_opening_of_strings(cursor) {
         let strings = set_strings(cursor, alloc, mode)?;
-        return Ok(SetItem::Set(Class::Strings(strings)));
+        let class = in_box(alloc, Class::Strings(strings))?;
+        return Ok(SetItem::Set(class));
     }
     set_item(cursor, alloc, mode)
 }
@@ -412,7 +447,7 @@ pub(crate) fn set_contents(
     alloc: Global,
     mode: &Mode,
     nesting: u32,
-) -> Result<Class, Error>
+) -> Result<Box<Class>, Error>
     requires few { HasFewGroups mode.now }
     requires sets { mode.now.sets ≡ true }
     requires shallow { nesting ≤ 256 }
@@ -422,7 +457,7 @@ pub(crate) fn set_contents(
 {
     regress_meaning::contents_go_by_steps();
     if cursor.is_at(']') {
-        return Ok(Class::Union(Vec::new(alloc)));
+        return Ok(in_box(alloc, Class::Union(Vec::new(alloc)))?);
     }
     let first = set_operand(cursor, alloc, mode, nesting)?;
     if is_at_pair(cursor, '&') {
@@ -438,13 +473,14 @@ pub(crate) fn set_contents(
 
 /// Behind the first item of a union: that union ("ClassUnion").
 #[cycle(class)]
+#[inline(never)]
 fn set_union(
     cursor: &mut Cursor,
     alloc: Global,
     mode: &Mode,
     nesting: u32,
     first: SetItem,
-) -> Result<Class, Error>
+) -> Result<Box<Class>, Error>
     requires few { HasFewGroups mode.now }
     requires sets { mode.now.sets ≡ true }
     requires shallow { nesting ≤ 256 }
@@ -462,18 +498,19 @@ fn set_union(
         let member = set_range(cursor, alloc, mode, item)?;
         push(&mut members, member)?;
     }
-    Ok(Class::Union(members))
+    Ok(in_box(alloc, Class::Union(members))?)
 }
 
 /// At the first `&&`, behind the first operand: the intersection of all ("ClassIntersection").
 #[cycle(class)]
+#[inline(never)]
 fn set_intersection(
     cursor: &mut Cursor,
     alloc: Global,
     mode: &Mode,
     nesting: u32,
     first: Box<Class>,
-) -> Result<Class, Error>
+) -> Result<Box<Class>, Error>
     requires few { HasFewGroups mode.now }
     requires sets { mode.now.sets ≡ true }
     requires shallow { nesting ≤ 256 }
@@ -496,18 +533,19 @@ fn set_intersection(
             break;
         }
     }
-    Ok(Class::Intersection(first, others))
+    Ok(in_box(alloc, Class::Intersection(first, others))?)
 }
 
 /// At the first `--`, behind the first operand: what stands in that and in no other ("ClassSubtraction").
 #[cycle(class)]
+#[inline(never)]
 fn set_difference(
     cursor: &mut Cursor,
     alloc: Global,
     mode: &Mode,
     nesting: u32,
     first: Box<Class>,
-) -> Result<Class, Error>
+) -> Result<Box<Class>, Error>
     requires few { HasFewGroups mode.now }
     requires sets { mode.now.sets ≡ true }
     requires shallow { nesting ≤ 256 }
@@ -530,5 +568,5 @@ fn set_difference(
             break;
         }
     }
-    Ok(Class::Difference(first, others))
+    Ok(in_box(alloc, Class::Difference(first, others))?)
 }

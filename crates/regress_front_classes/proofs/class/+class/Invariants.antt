@@ -10,8 +10,8 @@ use Rattle.regress_front_classes.proofs.ClassLemmas.{before}
 use Rattle.regress_front_classes.proofs.class.+class.Given as goal
 
 -- The measure of the calls is the room that the limit on nesting leaves, so that limit bounds how deep they go.
-abbrev pub decreases-bracketed_class : goal.decreases-bracketed_class
-decreases-bracketed_class l = 5 * (256 - l.nesting)
+abbrev pub decreases-bracketed : goal.decreases-bracketed
+decreases-bracketed l = 5 * (256 - l.nesting)
 
 abbrev pub decreases-set_operand : goal.decreases-set_operand
 decreases-set_operand l = 5 * (256 - l.nesting) + 1
@@ -32,16 +32,16 @@ abbrev pub decreases-class_contents : goal.decreases-class_contents
 decreases-class_contents l = 5 * (256 - l.nesting) + 4
 
 -- what is read from the beginning on is what was read so far and what is read from here on
-abbrev pub invariant-set_union-loop-alloc : goal.invariant-set_union-loop-alloc
-invariant-set_union-loop-alloc l = record {
+abbrev pub invariant-set_union-loop-cursor : goal.invariant-set_union-loop-cursor
+invariant-set_union-loop-cursor l = record {
   kept : l.cursor.points.now ≡ l.fn.cursor.points.now;
   progress : length (unread l.cursor) ≤ length (unread l.fn.cursor);
   shallow : class_depth (union_of (map class_view l.members.items)) ≤ 256 - l.nesting;
   state : union_from (mode_view l.mode) (union_at (mode_view l.mode)) (item_view l.fn.first) (unread l.fn.cursor) ≡ option_map (before (map class_view l.members.items)) (union_at (mode_view l.mode) (unread l.cursor));
 }
 
-abbrev pub decreases-set_union-loop-alloc : goal.decreases-set_union-loop-alloc
-decreases-set_union-loop-alloc l = length (unread l.cursor)
+abbrev pub decreases-set_union-loop-cursor : goal.decreases-set_union-loop-cursor
+decreases-set_union-loop-cursor l = length (unread l.cursor)
 
 -- what is joined from the beginning on is what is joined from here on behind what was joined so far
 abbrev pub invariant-set_intersection-loop-alloc : goal.invariant-set_intersection-loop-alloc

@@ -1,9 +1,10 @@
 use Rattle.std.proofs.Common.{◌≡◌, Some, Err, refl, sym, ap, ◌∙◌, subst}
 use lib.Chars.{codes}
 use Rattle.regress_meaning.specs.Tokens.{escape_at}
-use Rattle.regress_meaning.specs.ReadingClass.{read_set_escape}
+use Rattle.regress_meaning.specs.ReadingClass.{any_class, read_set_escape}
 use Rattle.regress_front_tokens.specs.Readings.{IsRead}
 use Rattle.regress_front_tokens.specs.Escapes.{mode_view, escape_view}
+use Rattle.regress_front_tokens.specs.Trees.{class_view}
 use Rattle.regress_front_classes.specs.Classes.{item_view, mark_at}
 use Rattle.regress_front_tokens.specs.Cursors.{unread}
 use Rattle.regress_front_classes.proofs.ClassLemmas.{IsRead-stopped}
@@ -37,6 +38,7 @@ returns-in-Ok-Set-clause-read c =
     let no_mark = ap (mark_at (codes "&-!#%,:;<=>@`~")) (sym c.if-eat.ensures.read) ∙ c.in_default.ensures.read.0 in
     set_escape-other m t (sym c.eat.ensures.found ∙ c.if-eat.false) no_mark
     ∙ on_some _ (ap (escape_at m) (sym same) ∙ c.in-Ok-Set.ensures.read ∙ ap (λ e. Some (escape_view e, unread c.escape.new.self)) c.in-Ok-Set.field-0-is) refl
+    ∙ ap (λ s. Some (any_class (class_view s), unread c.escape.new.self)) (sym c.in_ok-class-in-Ok-Set.ensures)
 
 pub returns-in-Ok-Groups-clause-read : goal.returns-in-Ok-Groups-clause-read
 returns-in-Ok-Groups-clause-read c =
