@@ -137,6 +137,7 @@ impl Opening<'_> {
 }
 
 /// Behind `(`: what it opens ("Atom", "Assertion"). A syntax error where that is nothing.
+#[inline(never)]
 pub(crate) fn read_opening<'p>(
     cursor: &mut Cursor<'p>,
     alloc: Global,

@@ -1,5 +1,5 @@
 //! The parser: a function for each construct of a pattern, which is read from the left with no way back.
-ghost use Rattle.std.specs.Prelude.{◌≡◌, ◌==◌, ◌+◌, ◌<◌, ◌≤◌, ◌++◌, ◌∷◌, [], ℕ, suc, length, true, false, is_some, OnOk, IfErr, if◌then◌else◌};
+ghost use Rattle.std.specs.Prelude.{◌≡◌, ◌==◌, ◌+◌, ◌<◌, ◌≤◌, ◌++◌, ◌∷◌, [], ℕ, suc, length, true, false, is_some, OnOk, IfOk, IfErr, if◌then◌else◌};
 ghost use Rattle.regress_meaning.specs.Text.{◌∈◌, is_at};
 ghost use Rattle.regress_meaning.specs.Tokens.{bounds_at};
 ghost use Rattle.regress_front_tokens.specs.Escapes.{escape_view, mode_view, HasFewGroups};
@@ -74,12 +74,23 @@ fn misplacement(cursor: &Cursor) -> &'static str
     }
 }
 
-/// Adds a tree behind others, out of line, so that no function that calls itself has room on the stack for what that needs.
+// Parsing calls itself 256 levels deep. So that none of its functions has room on the stack for what others need only in
+// passing, those that end before the next level are kept out of line.
+
+/// Adds a tree behind others.
 #[inline(never)]
 fn push(trees: &mut Vec<Syntax>, tree: Syntax) -> Result<(), AllocError>
     ensures { OnOk result (trees.new.items ≡ trees.old.items ++ (tree ∷ [])) }
 {
     Ok(trees.push(tree)?)
+}
+
+/// The tree in a box.
+#[inline(never)]
+fn in_box(alloc: Global, tree: Syntax) -> Result<Box<Syntax>, AllocError>
+    ensures { IfOk result (λ boxed. boxed.value ≡ tree) }
+{
+    Ok(Box::new(alloc, tree)?)
 }
 
 /// How far a pattern is read, and how many groups were opened and quantifiers read so far.
@@ -162,7 +173,7 @@ impl<'p> Parser<'p> {
                 break;
             }
         }
-        Ok(Box::new(self.alloc, Syntax::Disjunction(arms))?)
+        Ok(in_box(self.alloc, Syntax::Disjunction(arms))?)
     }
 
     /// Whether an alternative ends here: the text does, or one of `|` and `)` stands here.

@@ -123,7 +123,7 @@ disjunction-returns-clause-answer t c =
     let made = tree-Disjunction c.push.new.trees
     ∙ ap choice_of (ap (map tree) c.in_ok-push.ensures ∙ map-append tree c.loop-arms.arms.items (Alternative c.in_ok-terms.terms ∷ []))
     ∙ choice_of-before (map tree c.loop-arms.arms.items) (tree (Alternative c.in_ok-terms.terms)) in
-    rw (c.in_ok-new.ensures.ok, made, c.if-not-eat.ensures.read) (loop_ends choice choice_joins (disjunction_at m) (tree (Alternative c.in_ok-terms.terms)) c.loop-arms.invariant.state grows
+    rw (c.in_ok-in_box.ensures, made, c.if-not-eat.ensures.read) (loop_ends choice choice_joins (disjunction_at m) (tree (Alternative c.in_ok-terms.terms)) c.loop-arms.invariant.state grows
     (arm-ends m (c.reading_goes_by_steps.ensures m c.requires.coherent) now there (tree (Alternative c.in_ok-terms.terms)) read (sym c.if-not-eat.ensures.found)))
 
 -- terms
