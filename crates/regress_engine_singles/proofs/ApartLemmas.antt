@@ -1,12 +1,15 @@
 -- When bytes don't stand where an instruction takes a character.
 use Rattle.std.specs.Prelude.{IfSome, slice_get, slice_range, get_or, nat_lt, option_map, if◌then◌else◌}
-use Rattle.std.proofs.Common.{◌≡◌, ℕ, suc, ◌+◌, ◌<◌, Bool, true, false, not, ◌==◌, List, [], ◌∷◌, ◌++◌, length, drop, Option, Some, None, refl, sym, ap, ◌∙◌, subst, arith}
+use Rattle.std.proofs.Common.{◌≡◌, ℕ, suc, ◌+◌, ◌<◌, ◌≤◌, Bool, true, false, not, ◌==◌, List, [], ◌∷◌, ◌++◌, length, drop, Option, Some, None, ◌⊎◌, inl, inr, refl, sym, ap, ◌∙◌, subst, arith}
 use Rattle.std.specs.Option.{option_eq}
-use Rattle.std.proofs.lemmas.Bool.{eq-eqb}
+use Rattle.std.proofs.lemmas.Bool.{eq-eqb, ltb-true}
 use Rattle.std.proofs.lemmas.Bool.Decides.{nat_tests}
 use Rattle.std.proofs.lemmas.List.{get_or-drop, length-drop}
 use Rattle.std.proofs.lemmas.Option.{slice_get-get_or}
-use Rattle.regress_meaning.specs.Text.{same_text}
+use Rattle.regress_meaning.specs.Text.{same_text, holds, between}
+use Rattle.regress_front_sets.proofs.IntervalLemmas.{between_cases}
+use Rattle.regress_front_bytes.specs.ByteSets.{members}
+use Rattle.regress_engine_code.proofs.BitmapLemmas.{holds-members}
 use Rattle.regress_meaning.specs.Meaning.{Forward}
 use Rattle.regress_meaning.specs.Table.{Table}
 use Rattle.regress_meaning.specs.Inputs.{Input, onto_right, bytes_right, byte_at}
@@ -115,3 +118,38 @@ apart-by-test program v are i test does b bs low fails groups o q takes others =
         let none : passed test (Some (b, suc o)) ≡ None = ap (λ t. if t then Some (suc o) else None) fails in
         let is : passed test (Some (b, suc o)) ≡ Some q = ap (passed test) (sym next) ∙ sym (does groups o) ∙ takes in
         absurd (grind arith)
+
+-- So are two that test one character, of which no one passes both.
+pub apart-by-tests : (program : Program) (v : View) (i j : Instruction) (test other : ℕ → Bool)
+    → ((groups : List Marks) (o : ℕ) → advance program (input_of v) i Forward groups o ≡ passed test ((input_of v).next Forward o))
+    → ((groups : List Marks) (o : ℕ) → advance program (input_of v) j Forward groups o ≡ passed other ((input_of v).next Forward o))
+    → ((c : ℕ) → test c ≡ true → other c ≡ false) → AreApart program (input_of v) i j
+apart-by-tests program v i j test other does also never groups o q takes gs =
+    by_next ((input_of v).next Forward o) (sym (does groups o) ∙ takes) ∙ sym (also gs o)
+  where
+    by_next : (x : Option (ℕ × ℕ)) → passed test x ≡ Some q → None ≡ passed other x
+    by_next None e = refl
+    by_next (Some (c, p)) e = by_test (test c) refl e
+      where
+        by_test : (b : Bool) → test c ≡ b → (if b then Some p else None) ≡ Some q → None ≡ (if other c then Some p else None)
+        by_test false f g = absurd (grind arith)
+        by_test true f g = ap (λ b. if b then Some p else None) (sym (never c f))
+
+-- the members of a set of ASCII are in it, and under 0x80
+pub held-low : (set : ℕ → Bool) → ((c : ℕ) → 0x80 ≤ c → set c ≡ false) → (c : ℕ) → holds (members set) c ≡ true → (set c ≡ true) × (c < 0x80)
+held-low set high c held = let is : set c ≡ true = sym (holds-members set (λ d p. let less = low d p in omega (arith, less)) c) ∙ held in (is, low c is)
+  where
+    low : (d : ℕ) → set d ≡ true → d < 0x80
+    low d p = by_order (nat_lt d 0x80) refl
+      where
+        by_order : (b : Bool) → nat_lt d 0x80 ≡ b → d < 0x80
+        by_order true q = ltb-true d 0x80 q
+        by_order false q = let no : set d ≡ false = high d (grind (arith, nat_tests)) in absurd (grind arith)
+
+-- what is told to lie between two numbers nowhere does not
+pub not-between : (first last c : ℕ) → (first ≤ c → c ≤ last → ⊥) → between first last c ≡ false
+not-between first last c never = by_case (between_cases first last c)
+  where
+    by_case : ((between first last c ≡ true) × (first ≤ c) × (c ≤ last)) ⊎ ((between first last c ≡ false) × ((c < first) ⊎ (last < c))) → between first last c ≡ false
+    by_case (inl (e, from, to)) = absurd (never from to)
+    by_case (inr (e, out)) = e

@@ -7,6 +7,6 @@ mod class;
 mod far;
 
 pub use ahead::as_far_ahead;
-pub use apart::is_apart;
+pub use apart::{are_apart, is_apart};
 pub use class::ScannedBracket;
 pub use far::as_far;
