@@ -1,5 +1,5 @@
 -- What surely leads nowhere, and what is passed over.
-use Rattle.std.proofs.Common.{◌≡◌, ℕ, zero, suc, ◌+◌, ◌<◌, ◌==◌, Bool, true, false, not, List, [], length, Option, Some, None, refl, sym, subst, arith}
+use Rattle.std.proofs.Common.{◌≡◌, ℕ, zero, suc, ◌+◌, ◌-◌, ◌<◌, ◌==◌, Bool, true, false, not, List, [], length, Option, Some, None, ◌⊎◌, inl, inr, refl, sym, ap, ◌∙◌, subst, arith}
 use Rattle.regress_meaning.specs.Meaning.{Direction, Forward, Backward}
 use Rattle.regress_meaning.specs.Inputs.{Input}
 use Rattle.regress_meaning.specs.Steps.{literal}
@@ -10,18 +10,19 @@ use Rattle.regress_engine_runs.specs.States.{Marks}
 use Rattle.regress_engine_runs.specs.Runs.{advance, against, gap}
 use Rattle.regress_engine_runs.specs.Meets.{IsAtPlace, ReadsPlaces, reads_character}
 use Rattle.regress_engine_runs.specs.Closed.{Fits, takes_character}
-use Rattle.regress_engine_runs.specs.UndoStack.{give_back, whole, stands_for, MovesOn}
+use Rattle.regress_engine_runs.specs.UndoStack.{give_back, take_on, whole, stands_for, MovesOn}
+use Rattle.regress_engine_runs.proofs.RunViews.{one_stands}
 use Rattle.regress_engine_sought.specs.Sought.{Suits}
-use Rattle.regress_engine_sought.specs.Ready.{IsReady, is_simple}
+use Rattle.regress_engine_sought.specs.Ready.{IsReady, IsBody, is_simple}
 use Rattle.regress_engine_sought.specs.Tasks.{Leads}
 use Rattle.regress_engine_sought.proofs.TaskLemmas.{leads-then, leads-same}
 use Rattle.regress_engine_undo.specs.declared.undo.Spot.{Spot}
 use Rattle.regress_engine_undo.specs.Held.{Held, pushed}
 use Rattle.regress_engine_singles.specs.Failing.{IsStuck}
 use Rattle.regress_engine_singles.proofs.StuckLemmas.{simple-stuck, loop-stuck, end-stuck, leads-stuck}
-use Rattle.regress_engine_exec.specs.Stuck.{bytes_in, is_byte_seq, is_taking, IsTakenFirst, given_from, GivesFrom}
+use Rattle.regress_engine_exec.specs.Stuck.{bytes_in, is_byte_seq, is_edge, is_taking, IsTakenFirst, given_from, GivesFrom, taken_from, TakesFrom}
 use Rattle.regress_engine_undo.specs.Tasks.{task}
-use Rattle.regress_engine_undo.proofs.BackLemmas.{give_back-last, give_back-none, give_back-more}
+use Rattle.regress_engine_undo.proofs.BackLemmas.{give_back-last, give_back-none, give_back-more, take_on-last, take_on-more}
 
 -- what takes a character or bytes changes nothing but the offset
 pub taking-simple : (i : Instruction) → is_taking i ≡ true → is_simple i ≡ true
@@ -65,10 +66,21 @@ pub is-not : (b : Bool) → not b ≡ true → b ≡ false
 is-not true e = absurd cc
 is-not false e = refl
 
+-- what asks what stands beside an offset changes nothing but that
+pub edge-simple : (i : Instruction) → is_edge i ≡ true → is_simple i ≡ true
+edge-simple (code.line_start multiline) e = refl
+edge-simple (code.line_end multiline) e = refl
+edge-simple (code.boundary inverted folded) e = refl
+edge-simple _ e = absurd (grind arith)
+
 -- a character is taken
 pub takes-taking : (i : Instruction) → takes_character i ≡ true → is_taking i ≡ true
 takes-taking (code.byte_seq bs) e = refl
 takes-taking _ e = e
+
+-- so is what a one-character loop repeats
+pub body-taking : (program : Program) (input : Input) (v : View) (at o : ℕ) (j : Instruction) → IsBody program v at o → Stands program (at - 1) j → is_taking j ≡ true
+body-taking program input v at o j (i, here, takes, place, some) there = takes-taking j (ap takes_character (sym (one_stands program input (at - 1) i j here there)) ∙ takes)
 
 -- where it stands it fits anywhere
 taking-fits : (program : Program) (at : ℕ) (i : Instruction) → is_taking i ≡ true → Fits program at i → Fits program 0 i
@@ -121,6 +133,13 @@ module _ (program : Program) (v : View) (suits : Suits program v) (at : ℕ) whe
     stuck = λ input forward o none. end-stuck program input (way forward) at o k here (first.stuck input forward o none);
   }
 
+-- a spot from which nothing is led to is passed over
+past-stuck : (program : Program) (input : Input) (forward : Bool) (at o : ℕ) (p : Spot) (h k : Held) → p.forward ≡ forward → IsStuck program input (way forward) at o
+    → Leads program input 0 (task program input false p h) (task program input true (record p { at = at; offset = o }) k) → Leads program input 0 (task program input false p h) (task program input false p k)
+past-stuck program input forward at o p h k same stuck on =
+    let stuck' : IsStuck program input (way p.forward) at o = subst (λ b. IsStuck program input (way b) at o) (sym same) stuck in
+    leads-then program input 0 0 on (leads-stuck program input (way p.forward) at o k.loops k.groups (stands_for program input (way p.forward) k.stack k.loops k.groups) stuck')
+
 -- ---- what is given back
 
 module _ (program : Program) (input : Input) (forward : Bool) (at near : ℕ) where
@@ -130,11 +149,7 @@ module _ (program : Program) (input : Input) (forward : Bool) (at near : ℕ) wh
   gives-stuck : (far : ℕ) (found : Option ℕ) → IsStuck program input (way forward) at far
       → ((p : Spot) (h : Held) → p.forward ≡ forward → Leads program input 0 (task program input false p (pushed (give_back at near far) h)) (task program input true (record p { at = at; offset = far }) (given_from at near found h)))
       → GivesFrom program input forward at near far found
-  gives-stuck far found stuck on p h same =
-      let k : Held = given_from at near found h in
-      let stuck' : IsStuck program input (way p.forward) at far = subst (λ b. IsStuck program input (way b) at far) (sym same) stuck in
-      leads-then program input 0 0 (on p h same)
-      (leads-stuck program input (way p.forward) at far k.loops k.groups (stands_for program input (way p.forward) k.stack k.loops k.groups) stuck')
+  gives-stuck far found stuck on p h same = past-stuck program input forward at far p (pushed (give_back at near far) h) (given_from at near found h) same stuck (on p h same)
 
   -- the last offset leads nowhere
   pub gives-last : (far : ℕ) → IsStuck program input (way forward) at far → gap (way forward) near far ≡ 0 → GivesFrom program input forward at near far None
@@ -161,3 +176,30 @@ pub nearer : (input : Input) → MovesOn input → (forward : Bool) (near far c 
     → gap (way forward) near q < gap (way forward) near far
 nearer input moves true near far c q e some = let past = moves Backward far c q e in omega (arith, past, some)
 nearer input moves false near far c q e some = let past = moves Forward far c q e in omega (arith, past, some)
+
+-- ---- what is taken on
+
+module _ (program : Program) (input : Input) (forward : Bool) (at : ℕ) where
+  pub takes-same : (near left : ℕ) → TakesFrom program input forward at near left (Some (near, left))
+  takes-same near left p h same = leads-same program input (task program input false p (pushed (take_on at near left) h))
+
+  pub takes-then : (near left q rest : ℕ) (found : Option (ℕ × ℕ)) → TakesFrom program input forward at near left (Some (q, rest)) → TakesFrom program input forward at q rest found
+      → TakesFrom program input forward at near left found
+  takes-then near left q rest found first second p h same = leads-then program input 0 0 (first p h same) (second p h same)
+
+  -- behind the last iteration nothing is led to
+  pub takes-last : (near left : ℕ) (i : Instruction) → Stands program (at - 1) i → IsStuck program input (way forward) at near
+      → (left ≡ 0) ⊎ ((groups : List Marks) → advance program input i (way forward) groups near ≡ None) → TakesFrom program input forward at near left None
+  takes-last near left i here stuck out p h same = past-stuck program input forward at near p (pushed (take_on at near left) h) h same stuck (take_on-last program input p h at near left i here (by_way out))
+    where
+      by_way : (left ≡ 0) ⊎ ((groups : List Marks) → advance program input i (way forward) groups near ≡ None) → (left ≡ 0) ⊎ (advance program input i (way p.forward) h.groups near ≡ None)
+      by_way (inl none) = inl none
+      by_way (inr stops) = inr (subst (λ b. advance program input i (way b) h.groups near ≡ None) (sym same) (stops h.groups))
+
+  -- another one is passed over
+  pub takes-over : (near left q : ℕ) (i : Instruction) → Stands program (at - 1) i → IsStuck program input (way forward) at near → (left ≡ 0 → ⊥)
+      → ((groups : List Marks) → advance program input i (way forward) groups near ≡ Some q) → TakesFrom program input forward at near left (Some (q, left - 1))
+  takes-over near left q i here stuck some takes p h same =
+      let k : Held = pushed (take_on at q (left - 1)) h in
+      past-stuck program input forward at near p (pushed (take_on at near left) h) k same stuck
+      (take_on-more program input p h k at near left q i here some (subst (λ b. advance program input i (way b) h.groups near ≡ Some q) (sym same) (takes h.groups)) refl)

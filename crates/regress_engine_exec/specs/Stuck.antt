@@ -5,7 +5,7 @@ use Rattle.regress_engine_input.specs.Views.{way}
 use Rattle.regress_engine_code.specs.Instructions.{Instruction, Program}
 use Rattle.regress_engine_code.specs.Instructions as code
 use Rattle.regress_engine_runs.specs.Closed.{Fits, takes_character}
-use Rattle.regress_engine_runs.specs.UndoStack.{give_back}
+use Rattle.regress_engine_runs.specs.UndoStack.{give_back, take_on}
 use Rattle.regress_engine_sought.specs.Tasks.{Leads}
 use Rattle.regress_engine_singles.specs.Failing.{IsStuck, TakesNothing}
 use Rattle.regress_engine_undo.specs.declared.undo.Spot.{Spot}
@@ -21,6 +21,13 @@ is_byte_seq _ = false
 abbrev pub bytes_in : Instruction → List ℕ
 bytes_in (code.byte_seq bs) = bs
 bytes_in _ = []
+
+-- an instruction asks what stands beside an offset
+abbrev pub is_edge : Instruction → Bool
+is_edge (code.line_start multiline) = true
+is_edge (code.line_end multiline) = true
+is_edge (code.boundary inverted folded) = true
+is_edge _ = false
 
 -- an instruction takes a character or bytes
 abbrev pub is_taking : Instruction → Bool
@@ -42,3 +49,13 @@ given_from at near (Some far) h = pushed (give_back at near far) h
 abbrev pub GivesFrom : Program → Input → (forward : Bool) → (at near far : ℕ) → Option ℕ → Type 0
 GivesFrom program input forward at near far found = (p : Spot) (h : Held) → p.forward ≡ forward
     → Leads program input 0 (task program input false p (pushed (give_back at near far) h)) (task program input false p (given_from at near found h))
+
+-- what is held, with the record of what is taken on from an offset, and how many may follow, if from any
+abbrev pub taken_from : (at : ℕ) → Option (ℕ × ℕ) → Held → Held
+taken_from at None h = h
+taken_from at (Some way) h = pushed (take_on at way.0 way.1) h
+
+-- What is taken on from one offset leads to what is taken on from another, or to nothing.
+abbrev pub TakesFrom : Program → Input → (forward : Bool) → (at near left : ℕ) → Option (ℕ × ℕ) → Type 0
+TakesFrom program input forward at near left found = (p : Spot) (h : Held) → p.forward ≡ forward
+    → Leads program input 0 (task program input false p (pushed (take_on at near left) h)) (task program input false p (taken_from at found h))

@@ -5,11 +5,12 @@ ghost use Rattle.regress_engine_input.specs.Views.{way, input_of, reading_of};
 ghost use Rattle.regress_engine_runs.specs.Runs.{gap, after_look};
 ghost use Rattle.regress_engine_runs.specs.Meets.{IsAtPlace};
 ghost use Rattle.regress_engine_runs.specs.UndoStack.{give_back, take_on, whole};
+ghost use Rattle.regress_engine_sought.specs.Ready.{IsBody};
 ghost use Rattle.regress_engine_sought.specs.Tasks.{Leads};
 ghost use Rattle.regress_engine_undo.specs.Held.{held, undo_of, pushed};
 ghost use Rattle.regress_engine_sought.specs.Sought.{Suits};
 ghost use Rattle.regress_engine_undo.specs.Sound.{IsHeld};
-ghost use Rattle.regress_engine_exec.specs.Stuck.{GivesFrom};
+ghost use Rattle.regress_engine_exec.specs.Stuck.{GivesFrom, TakesFrom};
 ghost use Rattle.regress_engine_undo.specs.Tasks.{task};
 
 use crate::attempt::Attempt;
@@ -111,7 +112,46 @@ impl<'a, 'r, Input: CharInput> Attempt<'a, 'r, Input> {
         Ok(true)
     }
 
-    /// Goes on at an offset, and later behind one more iteration of the instruction before.
+    /// The near one of some offsets, from one on behind each iteration of the instruction before an address, at most so many,
+    /// at which it may be gone on there, where what is taken first from there on stands, and how many may follow; `None`
+    /// where it stands at none of them.
+    fn near_way(
+        &self,
+        at: usize,
+        offset: usize,
+        left: usize,
+        forward: bool,
+        groups: &[GroupData<usize>],
+    ) -> Option<(usize, usize)>
+        requires suits { Suits (program_of self.now.program.now) (Input.view self.now.input) }
+        requires groups { length groups.now ≡ self.now.program.now.groups }
+        requires body { IsBody (program_of self.now.program.now) (Input.view self.now.input) at offset }
+        ensures leads { TakesFrom (program_of self.now.program.now) (input_of (Input.view self.now.input)) forward at offset left result }
+        ensures body { IfSome result (λ way. IsBody (program_of self.now.program.now) (Input.view self.now.input) at way.0) }
+    {
+        let Some(insn) = self.taken_first(at) else {
+            return Some((offset, left));
+        };
+        let body = self.instruction(at - 1);
+        let mut near = offset;
+        let mut rest = left;
+        'places: loop {
+            if self.advance(insn, forward, groups, near).is_some() {
+                return Some((near, rest));
+            }
+            if rest == 0 {
+                return None;
+            }
+            let Some(next) = self.advance(body, forward, groups, near) else {
+                return None;
+            };
+            near = next;
+            rest -= 1;
+        }
+    }
+
+    /// Goes on at the near one of some offsets at which it may be gone on, and later at those behind it. It answers whether
+    /// there is any.
     pub(crate) fn take_on(
         &self,
         at: usize,
@@ -119,27 +159,32 @@ impl<'a, 'r, Input: CharInput> Attempt<'a, 'r, Input> {
         left: usize,
         memory: &mut Memory,
         spot: &mut Spot,
-    ) -> Result<(), AllocError>
+    ) -> Result<bool, AllocError>
         requires suits { Suits (program_of self.now.program.now) (Input.view self.now.input) }
         requires sound { IsHeld (program_of self.now.program.now) (Input.view self.now.input) (pushed (take_on at offset left) (held memory.old)) }
-        ensures leads { OnOk result (Leads (program_of self.now.program.now) (input_of (Input.view self.now.input)) 0 (task (program_of self.now.program.now) (input_of (Input.view self.now.input)) false spot.old (pushed (take_on at offset left) (held memory.old))) (task (program_of self.now.program.now) (input_of (Input.view self.now.input)) true spot.new (held memory.new))) }
+        ensures leads { IfOk result (λ going. Leads (program_of self.now.program.now) (input_of (Input.view self.now.input)) 0 (task (program_of self.now.program.now) (input_of (Input.view self.now.input)) false spot.old (pushed (take_on at offset left) (held memory.old))) (task (program_of self.now.program.now) (input_of (Input.view self.now.input)) going spot.new (held memory.new))) }
         ensures sound { OnOk result (IsHeld (program_of self.now.program.now) (Input.view self.now.input) (held memory.new)) }
+        ensures rest { IfOk result (λ going. going ≡ false → (held memory.new).stack ≡ (held memory.old).stack) }
     {
+        let Some((near, rest)) = self.near_way(at, offset, left, spot.forward, &memory.groups)
+        else {
+            return Ok(false);
+        };
         spot.at = at;
-        spot.offset = offset;
-        if left == 0 {
-            return Ok(());
+        spot.offset = near;
+        if rest == 0 {
+            return Ok(true);
         }
         let insn = self.instruction(at - 1);
-        let Some(next) = self.advance(insn, spot.forward, &memory.groups, offset) else {
-            return Ok(());
+        let Some(next) = self.advance(insn, spot.forward, &memory.groups, near) else {
+            return Ok(true);
         };
         memory.push(Undo::TakeOn {
             at,
             offset: next,
-            left: left - 1,
+            left: rest - 1,
         })?;
-        Ok(())
+        Ok(true)
     }
 
     /// Undoes a record, and answers whether there is a state to be tried.
@@ -175,8 +220,8 @@ impl<'a, 'r, Input: CharInput> Attempt<'a, 'r, Input> {
                 Ok(going)
             }
             Undo::TakeOn { at, offset, left } => {
-                self.take_on(at, offset, left, memory, spot)?;
-                Ok(true)
+                let going = self.take_on(at, offset, left, memory, spot)?;
+                Ok(going)
             }
             Undo::Look(frame) => Ok(exhaust(&frame, spot)),
         }

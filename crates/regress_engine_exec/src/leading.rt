@@ -14,6 +14,7 @@ ghost use Rattle.regress_engine_singles.specs.Failing.{IsStuck};
 ghost use Rattle.regress_engine_singles.specs.Passed.{is_class, PassesOver};
 
 use crate::attempt::Attempt;
+use crate::reads::is_edge;
 use regress_engine_code::Insn;
 use regress_engine_matchers::CharInput;
 use regress_engine_singles::as_far_ahead;
@@ -58,8 +59,8 @@ impl<'a, 'r, Input: CharInput> Attempt<'a, 'r, Input> {
     }
 
     /// Whether surely nothing is led to from an address and an offset on, read forward: bytes are taken there that don't
-    /// stand, or a class that does not match; before these may come ends and beginnings of groups, and characters of ASCII
-    /// that stand there.
+    /// stand, or a class that does not match, or what is asked of the offset is not so; before these may come ends and
+    /// beginnings of groups, what is asked and is so, and characters of ASCII that stand there.
     fn fails(&self, left: usize, at: usize, offset: usize) -> bool
         requires suits { Suits (program_of self.now.program.now) (Input.view self.now.input) }
         requires place { IsAtPlace (reading_of (Input.view self.now.input)) offset }
@@ -70,6 +71,12 @@ impl<'a, 'r, Input: CharInput> Attempt<'a, 'r, Input> {
             return false;
         }
         let insn = &insns[at];
+        if is_edge(insn) {
+            if !self.holds_at(insn, offset) {
+                return true;
+            }
+            return self.fails(left - 1, at + 1, offset);
+        }
         match insn {
             Insn::BeginCaptureGroup(_) => self.fails(left - 1, at + 1, offset),
             Insn::EndCaptureGroup(_) => self.fails(left - 1, at + 1, offset),
@@ -123,8 +130,21 @@ impl<'a, 'r, Input: CharInput> Attempt<'a, 'r, Input> {
         Some(far)
     }
 
+    /// The offset behind the character ahead of the start, where there is one and nothing is led to from the start.
+    fn passed_one(&self) -> Option<usize>
+        requires suits { Suits (program_of self.now.program.now) (Input.view self.now.input) }
+        requires place { IsAtPlace (reading_of (Input.view self.now.input)) self.now.start }
+        ensures { IfSome result (PassesOver (program_of self.now.program.now) (Input.view self.now.input) self.now.start) }
+    {
+        if !self.fails(LOOKED_AT, 0, self.start) {
+            return None;
+        }
+        let (_, behind) = self.beside(true, self.start)?;
+        Some(behind)
+    }
+
     /// How far from the start on no run has an answer, where that is known without a run: the program begins with a run of
-    /// characters, and nothing is led to from any of its ends.
+    /// characters, and nothing is led to from any of its ends, or with what is asked of an offset, and nothing is led to.
     pub(crate) fn passed(&self) -> Option<usize>
         requires suits { Suits (program_of self.now.program.now) (Input.view self.now.input) }
         requires place { IsAtPlace (reading_of (Input.view self.now.input)) self.now.start }
@@ -133,6 +153,9 @@ impl<'a, 'r, Input: CharInput> Attempt<'a, 'r, Input> {
         let insns = self.program.insns();
         if insns.is_empty() {
             return None;
+        }
+        if is_edge(&insns[0]) {
+            return self.passed_one();
         }
         if let Insn::BeginCaptureGroup(_) = &insns[0] {
             return self.passed_from(1);

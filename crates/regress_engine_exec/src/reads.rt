@@ -1,8 +1,8 @@
 //! What an instruction that changes nothing but the offset reads beside it.
-ghost use Rattle.std.specs.Prelude.{◌≡◌, ◌<◌, ℕ, true, false, not, None, nat_lt, List, ◌∷◌, length, map, nat_eq, option_map, Some, is_some, IfSome, ◌&&◌, ◌||◌};
+ghost use Rattle.std.specs.Prelude.{◌≡◌, ◌<◌, ℕ, Bool, true, false, not, None, nat_lt, List, ◌∷◌, length, map, nat_eq, option_map, Some, is_some, IfSome, ◌&&◌, ◌||◌};
 ghost use Rattle.regress_meaning.specs.Text.{holds};
 ghost use Rattle.regress_meaning.specs.Meaning.{Forward as ahead, is_line_end, is_some_and, word_at};
-ghost use Rattle.regress_meaning.specs.Steps.{passed, literal, point, repeated, at_boundary};
+ghost use Rattle.regress_meaning.specs.Steps.{passed, literal, point, repeated, at_boundary, only_if};
 ghost use Rattle.regress_front_bytes.specs.ByteSets.{members};
 ghost use Rattle.regress_front_bytes.specs.Bitmaps.{ascii_bitmap_contains};
 ghost use Rattle.regress_front_sets.specs.Intervals.{ends_of};
@@ -19,7 +19,7 @@ ghost use Rattle.regress_engine_sought.specs.Sought.{Suits};
 ghost use Rattle.regress_engine_sought.specs.StateViews.{marks_of};
 ghost use Rattle.regress_engine_sought.specs.Ready.{IsReady};
 ghost use Rattle.regress_engine_singles.specs.Failing.{IsStuck};
-ghost use Rattle.regress_engine_exec.specs.Stuck.{bytes_in, is_byte_seq, is_taking, IsTakenFirst};
+ghost use Rattle.regress_engine_exec.specs.Stuck.{bytes_in, is_byte_seq, is_edge, is_taking, IsTakenFirst};
 
 use crate::attempt::Attempt;
 use regress_engine_code::Insn;
@@ -83,6 +83,20 @@ pub(crate) fn first_byte(insn: &Insn) -> Option<u8>
     ensures { IfSome result (λ b. (rest : List ℕ) × (instruction insn.now ≡ byte_seq (b ∷ rest))) }
 {
     first_of(bytes_of(insn))
+}
+
+/// Whether an instruction asks what stands beside an offset, and takes nothing.
+#[inline]
+pub(crate) fn is_edge(insn: &Insn) -> bool
+    ensures { result ≡ is_edge (instruction insn.now) }
+{
+    matches!(
+        insn,
+        Insn::StartOfLine { .. }
+            | Insn::EndOfLine { .. }
+            | Insn::WordBoundary { .. }
+            | Insn::WordBoundaryUnicodeICase { .. }
+    )
 }
 
 /// Whether an instruction takes a character, one of some at the most, or bytes.
@@ -331,6 +345,22 @@ impl<'a, 'r, Input: CharInput> Attempt<'a, 'r, Input> {
         ensures { result ≡ at_boundary (input_of (Input.view self.now.input)) folded offset }
     {
         self.word_beside(folded, false, offset) != self.word_beside(folded, true, offset)
+    }
+
+    /// Whether what an instruction asks of an offset is so, as `^`, `$`, `\b` and `\B` do; of others nothing is said.
+    #[inline]
+    pub(crate) fn holds_at(&self, insn: &Insn, offset: usize) -> bool
+        requires { CanRead (Input.view self.now.input) offset }
+        ensures { (forward : Bool) (groups : List Marks) → is_edge (instruction insn.now) ≡ true
+            → only_if result offset ≡ advance (program_of self.now.program.now) (input_of (Input.view self.now.input)) (instruction insn.now) (way forward) groups offset }
+    {
+        match insn {
+            Insn::StartOfLine { multiline } => self.line_edge(false, *multiline, offset),
+            Insn::EndOfLine { multiline } => self.line_edge(true, *multiline, offset),
+            Insn::WordBoundary { invert } => self.boundary(false, offset) != *invert,
+            Insn::WordBoundaryUnicodeICase { invert } => self.boundary(true, offset) != *invert,
+            _ => false,
+        }
     }
 
     /// The offset behind what a range took, where that stands beside another offset once more.

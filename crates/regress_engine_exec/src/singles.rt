@@ -22,7 +22,7 @@ use crate::attempt::Attempt;
 use crate::reads::first_byte;
 use regress_engine_code::Insn;
 use regress_engine_matchers::CharInput;
-use regress_engine_singles::{as_far_ahead, is_apart};
+use regress_engine_singles::{are_apart, as_far_ahead, is_apart};
 use regress_engine_undo::{Memory, Spot};
 use regress_front_core::GroupData;
 use std::alloc::AllocError;
@@ -98,7 +98,7 @@ impl<'a, 'r, Input: CharInput> Attempt<'a, 'r, Input> {
             return false;
         };
         let Some(first) = first_byte(taken) else {
-            return false;
+            return are_apart(self.program, insn, taken);
         };
         is_apart(self.program, insn, first)
     }
@@ -136,7 +136,7 @@ impl<'a, 'r, Input: CharInput> Attempt<'a, 'r, Input> {
             let going = self.give_back(at, near, far, memory, spot)?;
             return Ok(going);
         }
-        self.take_on(at, near, left, memory, spot)?;
-        Ok(true)
+        let going = self.take_on(at, near, left, memory, spot)?;
+        Ok(going)
     }
 }

@@ -80,6 +80,20 @@ pub class-place : (program : Program) (v : View) → AreOfKind v.kind v.units �
     → IsAtPlace (reading_of v) q
 class-place program v all j is o q place e = let (c, next) = class-next program v j is [] o q e in next-place v all Forward o c q place next
 
+-- From where the program fails the search goes on with the next character.
+fails-on : (program : Program) (v : View) → AreOfKind v.kind v.units → (offset o c q : ℕ) → IsStuck program (input_of v) Forward 0 o → (input_of v).next Forward o ≡ Some (c, q)
+    → FindsOn program (input_of v) offset o → FindsOn program (input_of v) offset q
+fails-on program v all offset o c q stuck next on =
+    search-on program v all offset o c q [] on (fail-none program (input_of v) (stuck (first_state program o).loops (first_state program o).groups)) next
+
+pub passes-one : (program : Program) (v : View) → AreOfKind v.kind v.units → (start c q : ℕ) → IsStuck program (input_of v) Forward 0 start → IsAtPlace (reading_of v) start
+    → (input_of v).next Forward start ≡ Some (c, q) → PassesOver program v start q
+passes-one program v all start c q stuck place next = record {
+  on = λ offset finds. fails-on program v all offset start c q stuck next finds;
+  place = next-place v all Forward start c q place next;
+  further = moves v Forward start c q next;
+}
+
 -- A class at an address, and behind it a loop of another, which stops at an offset from which nothing is led to; nor is from where the loop takes something.
 pub record IsLeading (program : Program) (v : View) (at most far : ℕ) (i j : Instruction) : Type 0 where
   pub first : Stands program at i
@@ -166,11 +180,6 @@ module _ (program : Program) (v : View) (all : AreOfKind v.kind v.units) (suits 
               subst (λ a. Fail program input Forward (whole a q loops groups ∷ [])) next (loop-fails q place reaches loops groups)
 
   module _ (lead : (o : ℕ) → IsStuck program input Forward at o → IsStuck program input Forward 0 o) where
-    -- from where the program fails the search goes on with the next character
-    fails-on : (offset o c q : ℕ) → IsStuck program input Forward at o → input.next Forward o ≡ Some (c, q) → FindsOn program input offset o → FindsOn program input offset q
-    fails-on offset o c q stuck next on =
-        search-on program v all offset o c q [] on (fail-none program input (lead o stuck (first_state program o).loops (first_state program o).groups)) next
-
     -- the class that the program begins with takes the same character as the loop
     same-next : (o c q : ℕ) → input.next Forward o ≡ Some (c, q) → IsAtPlace (reading_of v) q → Reaches most q
         → (groups : List Marks) (r : ℕ) → advance program input i Forward groups o ≡ Some r → IsAtPlace (reading_of v) r × Reaches most r
@@ -205,7 +214,7 @@ module _ (program : Program) (v : View) (all : AreOfKind v.kind v.units) (suits 
             let stuck = first-fails o (same-next o c q next inside (as_many m q fewer reaches_on)) in (
               omega (arith, low, past),
               on.1,
-              λ offset finds. on.2 offset (fails-on offset o c q stuck next finds),
+              λ offset finds. on.2 offset (fails-on program v all offset o c q (lead o stuck) next finds),
             )
 
     -- From where the program begins up to there nothing is found.
@@ -218,7 +227,7 @@ module _ (program : Program) (v : View) (all : AreOfKind v.kind v.units) (suits 
         let low = on.0 in
         let stuck = first-fails start (same-next start c near next inside reaches) in
         record {
-          on = λ offset finds. on.2 offset (fails-on offset start c near stuck next finds);
+          on = λ offset finds. on.2 offset (fails-on program v all offset start c near (lead start stuck) next finds);
           place = on.1;
           further = omega (arith, low, past);
         }

@@ -1,4 +1,4 @@
-use Rattle.std.proofs.Common.{not, refl, sym, ap, ◌∙◌}
+use Rattle.std.proofs.Common.{true, not, refl, sym, ap, ◌∙◌}
 use Rattle.regress_meaning.specs.Meaning.{Forward}
 use Rattle.regress_engine_code.specs.Standing.{program_of}
 use Rattle.regress_engine_input.specs.Views.{input_of}
@@ -8,6 +8,7 @@ use Rattle.regress_engine_sought.proofs.PlaceLemmas.{can-read}
 use Rattle.regress_engine_singles.proofs.LeadingLemmas.{class-simple, class-fits}
 use Rattle.regress_engine_singles.proofs.StuckLemmas.{simple-stuck, taken-stuck, begin-stuck, end-stuck}
 use Rattle.regress_engine_exec.proofs.DispatchLemmas.{none-is, stands-read}
+use Rattle.regress_engine_exec.proofs.StuckLemmas.{edge-simple}
 use Rattle.regress_engine_exec.proofs.attempt.Attempt.+fails.Goals as goal
 
 pub byte_ahead-requires-clause-kind : goal.byte_ahead-requires-clause-kind
@@ -31,7 +32,7 @@ pub returns-in-BeginCaptureGroup : goal.returns-in-BeginCaptureGroup
 returns-in-BeginCaptureGroup g t c = λ yes.
     let program = program_of c.args.self.now.program.now in
     let here = stands-read c.insns-insns.result.now c.args.self.now.program.now.insns.items c.args.at Goal c.insns-insns.ensures c.if-at-insns.false in
-    begin-stuck program (input_of (g.Input.InputIndexer.view c.args.self.now.input)) Forward c.args.at c.args.offset _ (stands-as program c.args.at _ _ c.in-BeginCaptureGroup.is here) (c.fails.ensures yes)
+    begin-stuck program (input_of (g.Input.InputIndexer.view c.args.self.now.input)) Forward c.args.at c.args.offset _ (stands-as program c.args.at _ _ c.in-BeginCaptureGroup.is here) (c.fails-in-BeginCaptureGroup.ensures yes)
 
 pub returns-in-EndCaptureGroup : goal.returns-in-EndCaptureGroup
 returns-in-EndCaptureGroup g t c = λ yes.
@@ -60,3 +61,22 @@ returns-then-is_class g t c = λ none.
     let class = sym c.is_class.ensures ∙ c.if-is_class.true in
     simple-stuck program (input_of (g.Input.InputIndexer.view c.args.self.now.input)) Forward c.args.at c.args.offset _ here (class-simple _ class)
     (λ groups. none-is _ (c.is_none.ensures ∙ ap not none) ∙ c.class_ahead.ensures groups)
+
+pub holds_at-requires : goal.holds_at-requires
+holds_at-requires g t c = can-read (g.Input.InputIndexer.view c.args.self.now.input) (g.met.Input.InputIndexer.are_of_kind c.args.self.now.input) c.args.offset c.requires.place
+
+pub returns-then-not-holds_at : goal.returns-then-not-holds_at
+returns-then-not-holds_at g t c = λ yes.
+    let program = program_of c.args.self.now.program.now in
+    let here = stands-read c.insns-insns.result.now c.args.self.now.program.now.insns.items c.args.at Goal c.insns-insns.ensures c.if-at-insns.false in
+    let edge = sym c.is_edge.ensures ∙ c.if-is_edge.true in
+    simple-stuck program (input_of (g.Input.InputIndexer.view c.args.self.now.input)) Forward c.args.at c.args.offset _ here (edge-simple _ edge)
+    (λ groups. c.if-not-holds_at.ensures true groups edge)
+
+pub returns-then-is_edge : goal.returns-then-is_edge
+returns-then-is_edge g t c = λ yes.
+    let program = program_of c.args.self.now.program.now in
+    let here = stands-read c.insns-insns.result.now c.args.self.now.program.now.insns.items c.args.at Goal c.insns-insns.ensures c.if-at-insns.false in
+    let edge = sym c.is_edge.ensures ∙ c.if-is_edge.true in
+    taken-stuck program (input_of (g.Input.InputIndexer.view c.args.self.now.input)) Forward c.args.at c.args.offset c.args.offset _ here (edge-simple _ edge)
+    (λ groups. c.if-not-holds_at.ensures true groups edge) (c.fails.ensures yes)

@@ -17,3 +17,6 @@ returns g c = λ yes.
       c.in-Some.ensures,
       subst (AreApart program (input_of v) (instruction c.args.insn.now)) (sym bytes.1) (c.is_apart.ensures v bytes.0 are yes),
     )
+
+pub returns-in_default-first_byte : goal.returns-in_default-first_byte
+returns-in_default-first_byte g c = λ yes. (instruction c.in-Some.taken.now, c.in-Some.ensures, c.are_apart.ensures (g.Input.InputIndexer.view c.args.self.now.input) yes)

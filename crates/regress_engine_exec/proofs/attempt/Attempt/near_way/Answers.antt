@@ -1,0 +1,83 @@
+use Rattle.std.proofs.Common.{◌≡◌, ◌-◌, None, Some, inl, inr, map, sym, ◌∙◌, arith}
+use Rattle.std.proofs.lemmas.List.{length-map}
+use Rattle.regress_engine_code.specs.InsnViews.{instruction}
+use Rattle.regress_engine_code.specs.Standing.{program_of}
+use Rattle.regress_engine_input.specs.Views.{way, input_of}
+use Rattle.regress_engine_sought.specs.StateViews.{marks_of}
+use Rattle.regress_engine_sought.proofs.ReadyLemmas.{body-asked, body-next}
+use Rattle.regress_engine_exec.proofs.DispatchLemmas.{none-is}
+use Rattle.regress_engine_exec.proofs.StuckLemmas.{taking-any, taking-ready, body-taking, takes-same, takes-last, takes-over, takes-then}
+use Rattle.regress_engine_exec.proofs.attempt.Attempt.near_way.Goals as goal
+
+pub returns-in_default-clause-leads : goal.returns-in_default-clause-leads
+returns-in_default-clause-leads g c = takes-same _ _ c.args.forward c.args.at c.args.offset c.args.left
+
+pub places-init : goal.places-init
+places-init g c = record { takes = takes-same _ _ c.args.forward c.args.at c.args.offset c.args.left; body = c.requires.body }
+
+pub overflow_sub-at : goal.overflow_sub-at
+overflow_sub-at g c = let some = c.requires.body.4 in omega (arith, some)
+
+pub instruction-body-requires : goal.instruction-body-requires
+instruction-body-requires g c = (c.requires.body.0, c.requires.body.1)
+
+pub advance-requires-clause-ready : goal.advance-requires-clause-ready
+advance-requires-clause-ready g c =
+    taking-ready (program_of c.args.self.now.program.now) (g.Input.InputIndexer.view c.args.self.now.input) (instruction c.in-Some.insn.now) (map marks_of c.args.groups.now) c.places.near
+    c.in-Some.ensures.fits c.in-Some.ensures.takes (length-map c.args.groups.now marks_of ∙ c.requires.groups) c.places.invariant.body.3
+
+pub advance-requires-in-places-clause-ready : goal.advance-requires-in-places-clause-ready
+advance-requires-in-places-clause-ready g c =
+    body-asked (g.Input.InputIndexer.view c.args.self.now.input) (g.met.Input.InputIndexer.are_of_kind c.args.self.now.input) (program_of c.args.self.now.program.now) c.requires.suits c.args.at c.places.near
+    (instruction c.instruction-body.result.now) (map marks_of c.args.groups.now) c.places.invariant.body c.instruction-body.ensures.stands (length-map c.args.groups.now marks_of ∙ c.requires.groups)
+
+pub returns-then-rest-eq0-clause-leads : goal.returns-then-rest-eq0-clause-leads
+returns-then-rest-eq0-clause-leads g c =
+    let program = program_of c.args.self.now.program.now in
+    let v = g.Input.InputIndexer.view c.args.self.now.input in
+    let input = input_of v in
+    let i = instruction c.in-Some.insn.now in
+    let j = instruction c.instruction-body.result.now in
+    let dir = way c.args.forward in
+    let groups = map marks_of c.args.groups.now in
+    let near = c.places.near in
+    let stuck = c.in-Some.ensures.stuck input c.args.forward near
+    (λ gs. none-is _ (sym c.is_some.ensures ∙ c.if-is_some.false) ∙ c.advance.ensures ∙ taking-any program input i dir groups gs near c.in-Some.ensures.takes) in
+    takes-then program input c.args.forward c.args.at c.args.offset c.args.left near c.places.rest None c.places.invariant.takes
+    (takes-last program input c.args.forward c.args.at near c.places.rest j c.instruction-body.ensures.stands stuck (inl c.if-rest-eq0.true))
+
+pub returns-in_default-advance-clause-leads : goal.returns-in_default-advance-clause-leads
+returns-in_default-advance-clause-leads g c =
+    let program = program_of c.args.self.now.program.now in
+    let v = g.Input.InputIndexer.view c.args.self.now.input in
+    let input = input_of v in
+    let i = instruction c.in-Some.insn.now in
+    let j = instruction c.instruction-body.result.now in
+    let dir = way c.args.forward in
+    let groups = map marks_of c.args.groups.now in
+    let near = c.places.near in
+    let stuck = c.in-Some.ensures.stuck input c.args.forward near
+    (λ gs. none-is _ (sym c.is_some.ensures ∙ c.if-is_some.false) ∙ c.advance.ensures ∙ taking-any program input i dir groups gs near c.in-Some.ensures.takes) in
+    takes-then program input c.args.forward c.args.at c.args.offset c.args.left near c.places.rest None c.places.invariant.takes
+    (takes-last program input c.args.forward c.args.at near c.places.rest j c.instruction-body.ensures.stands stuck
+    (inr (λ gs. taking-any program input j dir gs groups near (body-taking program input v c.args.at near j c.places.invariant.body c.instruction-body.ensures.stands) ∙ sym c.in_default-advance.ensures)))
+
+pub places-preserved : goal.places-preserved
+places-preserved g c =
+    let program = program_of c.args.self.now.program.now in
+    let v = g.Input.InputIndexer.view c.args.self.now.input in
+    let input = input_of v in
+    let i = instruction c.in-Some.insn.now in
+    let j = instruction c.instruction-body.result.now in
+    let dir = way c.args.forward in
+    let groups = map marks_of c.args.groups.now in
+    let near = c.places.near in
+    let stuck = c.in-Some.ensures.stuck input c.args.forward near
+    (λ gs. none-is _ (sym c.is_some.ensures ∙ c.if-is_some.false) ∙ c.advance.ensures ∙ taking-any program input i dir groups gs near c.in-Some.ensures.takes) in
+    record {
+      takes = takes-then program input c.args.forward c.args.at c.args.offset c.args.left near c.places.rest (Some (c.in-Some-advance.next, c.places.rest - 1)) c.places.invariant.takes
+          (takes-over program input c.args.forward c.args.at near c.places.rest c.in-Some-advance.next j c.instruction-body.ensures.stands stuck c.if-rest-eq0.false
+          (λ gs. taking-any program input j dir gs groups near (body-taking program input v c.args.at near j c.places.invariant.body c.instruction-body.ensures.stands) ∙ sym c.in-Some-advance.ensures));
+      body = body-next v (g.met.Input.InputIndexer.are_of_kind c.args.self.now.input) program c.requires.suits c.args.at near c.in-Some-advance.next j dir groups
+          c.places.invariant.body c.instruction-body.ensures.stands (sym c.in-Some-advance.ensures);
+    }
