@@ -13,3 +13,5 @@ mod long;
 mod parsed;
 #[cfg(test)]
 mod singles;
+#[cfg(test)]
+mod undone;

@@ -4,7 +4,7 @@ use crate::parsed::parsed;
 use regress_engine_code::{Insn, emit};
 use regress_engine_input::{Backward, Direction, Utf8Input};
 use regress_engine_matchers::MatchAnyExceptLineTerminator;
-use regress_engine_singles::{ScannedBracket, as_far, as_far_ahead, is_apart};
+use regress_engine_singles::{ScannedBracket, are_apart, as_far, as_far_ahead, is_apart};
 use regress_front_bytes::AsciiBitmap;
 use regress_front_nodes::BracketContents;
 use regress_front_sets::CodePointSet;
@@ -74,6 +74,34 @@ fn bytes_are_apart_from_a_class_that_has_not_their_first(rt: HostRuntime) -> Res
     for (byte, apart) in APART {
         assert!(rt; is_apart(&program, &class, *byte) == *apart);
         assert!(rt; !is_apart(&program, &Insn::MatchAny, *byte));
+    }
+    Ok(())
+}
+
+/// A class of ASCII, another one, and whether they surely have no character in common.
+const CLASSES: &[(u8, &str, bool)] = &[
+    (b'a', r"\s", true),
+    (b' ', r"\s", false),
+    (b'a', "[^a]", false),
+    (b'a', "[b-~é]", false),
+    (b'a', "[b-dé]", true),
+];
+
+#[test]
+fn classes_are_apart_that_share_no_character(rt: HostRuntime) -> Result<(), Fail> {
+    let tables = Tables::small(rt.alloc())?;
+    for (byte, pattern, apart) in CLASSES {
+        let regex = parsed(rt.alloc(), pattern, "", &tables)?;
+        let program = emit(rt.alloc(), &regex)?;
+        let mut bitmap = AsciiBitmap::default();
+        if *byte < 0x80 {
+            bitmap.set(*byte);
+        }
+        let ascii = Insn::AsciiBracket(bitmap);
+        assert!(rt; !program.brackets().is_empty());
+        let class = Insn::Bracket(0);
+        assert!(rt; are_apart(&program, &ascii, &class) == *apart);
+        assert!(rt; are_apart(&program, &class, &ascii) == *apart);
     }
     Ok(())
 }
