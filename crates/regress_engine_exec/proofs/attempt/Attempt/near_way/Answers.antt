@@ -1,4 +1,4 @@
-use Rattle.std.proofs.Common.{◌≡◌, ◌-◌, None, Some, inl, inr, map, sym, ◌∙◌, arith}
+use Rattle.std.proofs.Common.{◌-◌, None, Some, inl, inr, map, sym, ◌∙◌, arith}
 use Rattle.std.proofs.lemmas.List.{length-map}
 use Rattle.regress_engine_code.specs.InsnViews.{instruction}
 use Rattle.regress_engine_code.specs.Standing.{program_of}

@@ -59,7 +59,7 @@ returns-clause-leads g c =
     (repeat-lazy program input i c.args.spot.now h c.instruction-insn.ensures.stands c.args.least c.args.most c.args.greedy (pushed (take_on (c.args.spot.now.at + 2) c.in-Some.near (c.args.most - c.args.least)) h) c.in-Some.near c.if-greedy.false
     (ap (λ gs. after_times program input c.args.least i (way c.args.spot.now.forward) (map marks_of gs) c.args.spot.now.offset) (sym c.deref.ensures.value) ∙ sym c.in-Some.ensures.behind)
     refl)
-    c.in_ok-take_on.ensures.leads
+    c.in_ok-going-2.ensures.leads
 
 pub is_atomic-requires-clause-fits : goal.is_atomic-requires-clause-fits
 is_atomic-requires-clause-fits g c =
