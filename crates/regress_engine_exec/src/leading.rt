@@ -1,7 +1,8 @@
 //! A class and a run of characters with which a program begins.
-ghost use Rattle.std.specs.Prelude.{◌≡◌, ◌<◌, ℕ, true, List, get_or, IfSome};
+ghost use Rattle.std.specs.Prelude.{◌≡◌, ◌<◌, ℕ, true, false, List, get_or, IfSome};
 ghost use Rattle.regress_meaning.specs.Meaning.{Forward as ahead};
 ghost use Rattle.regress_meaning.specs.Steps.{literal};
+ghost use Rattle.regress_engine_code.specs.Instructions.{Stands, boundary};
 ghost use Rattle.regress_engine_code.specs.InsnViews.{instruction};
 ghost use Rattle.regress_engine_code.specs.Standing.{program_of};
 ghost use Rattle.regress_engine_input.specs.Views.{are_bytes, input_of, reading_of, CanRead};
@@ -143,6 +144,27 @@ impl<'a, 'r, Input: CharInput> Attempt<'a, 'r, Input> {
         Some(behind)
     }
 
+    /// How far from the start on no word begins or ends, where the program asks for that first; `None` where one does there.
+    fn passed_inside(&self, folded: bool) -> Option<usize>
+        requires suits { Suits (program_of self.now.program.now) (Input.view self.now.input) }
+        requires place { IsAtPlace (reading_of (Input.view self.now.input)) self.now.start }
+        requires first { Stands (program_of self.now.program.now) 0 (boundary false folded) }
+        ensures { IfSome result (PassesOver (program_of self.now.program.now) (Input.view self.now.input) self.now.start) }
+    {
+        let was = self.word_beside(folded, false, self.start);
+        let mut at = self.start;
+        'places: loop {
+            let Some((c, behind)) = self.beside(true, at) else {
+                break;
+            };
+            if self.is_word(folded, c) != was {
+                break;
+            }
+            at = behind;
+        }
+        (self.start < at).then_some(at)
+    }
+
     /// How far from the start on no run has an answer, where that is known without a run: the program begins with a run of
     /// characters, and nothing is led to from any of its ends, or with what is asked of an offset, and nothing is led to.
     pub(crate) fn passed(&self) -> Option<usize>
@@ -154,12 +176,16 @@ impl<'a, 'r, Input: CharInput> Attempt<'a, 'r, Input> {
         if insns.is_empty() {
             return None;
         }
-        if is_edge(&insns[0]) {
-            return self.passed_one();
+        match &insns[0] {
+            Insn::BeginCaptureGroup(_) => self.passed_from(1),
+            Insn::WordBoundary { invert: false } => self.passed_inside(false),
+            Insn::WordBoundaryUnicodeICase { invert: false } => self.passed_inside(true),
+            insn => {
+                if is_edge(insn) {
+                    return self.passed_one();
+                }
+                self.passed_from(0)
+            }
         }
-        if let Insn::BeginCaptureGroup(_) = &insns[0] {
-            return self.passed_from(1);
-        }
-        self.passed_from(0)
     }
 }

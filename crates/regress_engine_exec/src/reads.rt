@@ -1,6 +1,7 @@
 //! What an instruction that changes nothing but the offset reads beside it.
 ghost use Rattle.std.specs.Prelude.{◌≡◌, ◌<◌, ℕ, Bool, true, false, not, None, nat_lt, List, ◌∷◌, length, map, nat_eq, option_map, Some, is_some, IfSome, ◌&&◌, ◌||◌};
 ghost use Rattle.regress_meaning.specs.Text.{holds};
+ghost use Rattle.regress_meaning.specs.Class.{is_word};
 ghost use Rattle.regress_meaning.specs.Meaning.{Forward as ahead, is_line_end, is_some_and, word_at};
 ghost use Rattle.regress_meaning.specs.Steps.{passed, literal, point, repeated, at_boundary, only_if};
 ghost use Rattle.regress_front_bytes.specs.ByteSets.{members};
@@ -321,20 +322,28 @@ impl<'a, 'r, Input: CharInput> Attempt<'a, 'r, Input> {
         }
     }
 
-    /// Whether the character beside an offset is of a word; folded, where case is ignored in Unicode mode.
+    /// Whether a character is of a word; folded, where case is ignored in Unicode mode.
     #[inline]
     #[tactic(auto, unfolding(regress_meaning::specs::Class::is_word))]
-    fn word_beside(&self, folded: bool, forward: bool, offset: usize) -> bool
-        requires { CanRead (Input.view self.now.input) offset }
-        ensures { result ≡ word_at (Input.view self.now.input).table folded (point (input_of (Input.view self.now.input)) (way forward) offset) }
+    pub(crate) fn is_word(&self, folded: bool, c: Input::Element) -> bool
+        ensures { result ≡ is_word (Input.view self.now.input).table folded (Input.Element.code c) }
     {
-        let Some((c, _)) = self.beside(forward, offset) else {
-            return false;
-        };
         if folded {
             <Input::CharProps as CharProperties>::is_word_char_unicode_icase(c, self.input.tables())
         } else {
             <Input::CharProps as CharProperties>::is_word_char(c)
+        }
+    }
+
+    /// Whether the character beside an offset is of a word; folded, where case is ignored in Unicode mode.
+    #[inline]
+    pub(crate) fn word_beside(&self, folded: bool, forward: bool, offset: usize) -> bool
+        requires { CanRead (Input.view self.now.input) offset }
+        ensures { result ≡ word_at (Input.view self.now.input).table folded (point (input_of (Input.view self.now.input)) (way forward) offset) }
+    {
+        match self.beside(forward, offset) {
+            Some((c, _)) => self.is_word(folded, c),
+            None => false,
         }
     }
 

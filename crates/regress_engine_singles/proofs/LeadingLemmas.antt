@@ -81,7 +81,7 @@ pub class-place : (program : Program) (v : View) → AreOfKind v.kind v.units �
 class-place program v all j is o q place e = let (c, next) = class-next program v j is [] o q e in next-place v all Forward o c q place next
 
 -- From where the program fails the search goes on with the next character.
-fails-on : (program : Program) (v : View) → AreOfKind v.kind v.units → (offset o c q : ℕ) → IsStuck program (input_of v) Forward 0 o → (input_of v).next Forward o ≡ Some (c, q)
+pub fails-on : (program : Program) (v : View) → AreOfKind v.kind v.units → (offset o c q : ℕ) → IsStuck program (input_of v) Forward 0 o → (input_of v).next Forward o ≡ Some (c, q)
     → FindsOn program (input_of v) offset o → FindsOn program (input_of v) offset q
 fails-on program v all offset o c q stuck next on =
     search-on program v all offset o c q [] on (fail-none program (input_of v) (stuck (first_state program o).loops (first_state program o).groups)) next

@@ -4,3 +4,4 @@ pub mod Failures
 pub mod LeadingLemmas
 pub mod PassingLemmas
 pub mod StuckLemmas
+pub mod BoundaryLemmas

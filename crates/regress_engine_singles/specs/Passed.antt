@@ -1,5 +1,7 @@
 -- Places from which nothing is found.
-use Rattle.std.specs.Prelude.{ℕ, ◌<◌, Bool, true, false}
+use Rattle.std.specs.Prelude.{◌≡◌, ℕ, ◌<◌, ◌≤◌, Bool, true, false}
+use Rattle.regress_meaning.specs.Meaning.{Backward, word_at}
+use Rattle.regress_meaning.specs.Steps.{point}
 use Rattle.regress_engine_input.specs.Views.{View, input_of, reading_of}
 use Rattle.regress_engine_code.specs.Instructions.{Instruction, Program}
 use Rattle.regress_engine_code.specs.Instructions as code
@@ -18,3 +20,11 @@ pub record PassesOver (program : Program) (v : View) (start past : ℕ) : Type 0
   pub on : (offset : ℕ) → FindsOn program (input_of v) offset start → FindsOn program (input_of v) offset past
   pub place : IsAtPlace (reading_of v) past
   pub further : start < past
+
+-- From one offset on and up to another no word begins or ends, and what is found from either is the same; whether a character
+-- of a word stands before the other is told.
+pub record IsInside (program : Program) (v : View) (folded : Bool) (start at : ℕ) (was : Bool) : Type 0 where
+  pub on : (offset : ℕ) → FindsOn program (input_of v) offset start → FindsOn program (input_of v) offset at
+  pub place : IsAtPlace (reading_of v) at
+  pub further : start ≤ at
+  pub before : was ≡ word_at v.table folded (point (input_of v) Backward at)

@@ -69,7 +69,7 @@ const SIZES: &[SizeRow] = &[
         "b",
         Some((1, 2_002)),
     ),
-    ("(a*)", "a", 1, "b$", "", "a", 2_000, "bb", None),
+    ("(a*)", "a", 1, "b$", "", "a", 500, "bb", None),
     ("(a*)", "a", 1, "b", "", "a", 2_000, "b", Some((0, 2_001))),
     (
         r"[\q{abcdef|bcdefa|cdefab|defabc|efabcd",
