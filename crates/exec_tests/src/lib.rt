@@ -13,5 +13,3 @@ mod long;
 mod parsed;
 #[cfg(test)]
 mod singles;
-#[cfg(test)]
-mod undone;

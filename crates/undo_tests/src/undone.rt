@@ -1,12 +1,19 @@
 //! What the executor that undoes holds, and the records by which it is undone.
 
+ghost use Rattle.std.specs.Prelude.{◌≡◌, true};
+
 use regress_engine_code::LoopFields;
 use regress_engine_undo::{Memory, Spot, Undo, begun, ended};
 use regress_front_core::{GroupData, LoopData};
+use std::alloc::{AllocError, Global};
 use std::test::Fail;
 
 /// The start of a program and of a text.
-fn start() -> Spot {
+fn start() -> Spot
+    ensures at { result.at ≡ 0 }
+    ensures offset { result.offset ≡ 0 }
+    ensures forward { result.forward ≡ true }
+{
     Spot {
         at: 0,
         offset: 0,
@@ -69,13 +76,15 @@ fn the_last_record_is_undone_first(rt: HostRuntime) -> Result<(), Fail> {
     memory.fork(7, &mut spot)?;
     assert!(rt; spot.at == 1 && spot.offset == 0);
     memory.push(Undo::Resume { at: 9, offset: 4 })?;
-    let mut told = Vec::new(rt.alloc());
-    while let Some(undo) = memory.pop() {
-        if let Undo::Resume { at, offset } = undo {
-            told.push((at, offset))?;
-        }
-    }
-    assert!(rt; told.as_slice() == [(9, 4), (7, 0)].as_slice());
+    let Some(Undo::Resume { at, offset }) = memory.pop() else {
+        return Err("no record".into());
+    };
+    assert!(rt; at == 9 && offset == 4);
+    let Some(Undo::Resume { at, offset }) = memory.pop() else {
+        return Err("no first record".into());
+    };
+    assert!(rt; at == 7 && offset == 0);
+    assert!(rt; memory.pop().is_none());
     Ok(())
 }
 
@@ -86,7 +95,7 @@ fn the_contents_of_a_lookaround_are_a_record(rt: HostRuntime) -> Result<(), Fail
     memory.look(true, true, 0, 1, 6, &mut spot)?;
     prove!(spot.at == 1 && !spot.forward);
     let Some(Undo::Look(frame)) = memory.pop() else {
-        return Err(Fail::new(format!(in rt.alloc(); "no lookaround")?));
+        return Err("no lookaround".into());
     };
     assert!(rt; frame.negated && frame.backward && frame.spot.forward);
     assert!(rt; frame.first == 0 && frame.last == 1 && frame.continuation == 6);
@@ -94,7 +103,9 @@ fn the_contents_of_a_lookaround_are_a_record(rt: HostRuntime) -> Result<(), Fail
 }
 
 /// A repetition from once to twice, behind which it goes on at 8.
-fn repetition(greedy: bool) -> LoopFields {
+fn repetition(greedy: bool) -> LoopFields
+    ensures { result.loop_id ≡ 0 }
+{
     LoopFields {
         loop_id: 0,
         min_iters: 1,
@@ -104,21 +115,29 @@ fn repetition(greedy: bool) -> LoopFields {
     }
 }
 
+/// Whether it is gone on with the first iteration, and behind that with the second or behind the repetition, with a record of
+/// the other.
+fn is_entered_and_left(alloc: Global, greedy: bool) -> Result<bool, AllocError> {
+    let repetition = repetition(greedy);
+    let mut memory = Memory::new(alloc);
+    memory.begin(1, 0)?;
+    let mut spot = start();
+    let entered = memory.enter(&repetition, false, &mut spot)?;
+    if !entered || spot.at != 1 || memory.pop().is_some() {
+        return Ok(false);
+    }
+    memory.begin(1, 0)?;
+    memory.restore_loop(0, LoopData { iters: 1, entry: 0 });
+    spot.offset = 1;
+    let going = memory.again(&repetition, 0, false, &mut spot)?;
+    let behind = if greedy { 1 } else { 8 };
+    Ok(going && spot.at == behind && memory.pop().is_some())
+}
+
 #[test]
 fn a_repetition_is_entered_and_left(rt: HostRuntime) -> Result<(), Fail> {
-    for greedy in [true, false] {
-        let mut memory = Memory::new(rt.alloc());
-        memory.begin(1, 1)?;
-        let mut spot = start();
-        assert!(rt; memory.enter(&repetition(greedy), false, &mut spot)?);
-        assert!(rt; spot.at == 1 && memory.pop().is_none());
-        spot.offset = 1;
-        memory.begin(1, 1)?;
-        memory.restore_loop(0, LoopData { iters: 1, entry: 0 });
-        assert!(rt; memory.again(&repetition(greedy), 0, false, &mut spot)?);
-        assert!(rt; spot.at == if greedy { 1 } else { 8 });
-        assert!(rt; memory.pop().is_some());
-    }
+    assert!(rt; is_entered_and_left(rt.alloc(), true)?);
+    assert!(rt; is_entered_and_left(rt.alloc(), false)?);
     Ok(())
 }
 
