@@ -28,7 +28,7 @@ use std::io;
 use std::io::ErrorKind;
 
 /// How many bytes are asked for at a time.
-const CHUNK: usize = 4096;
+const CHUNK: usize = 65536;
 
 /// With how many bytes that wait to be written no line waits any more.
 const PENDING: usize = 65536;
@@ -195,7 +195,9 @@ fn put_line<W: Sink>(sink: &mut W, pending: &mut Vec<u8>, line: &[u8]) -> Result
     put_all(sink, line)
 }
 
-/// Reads all that is left. Each read but the last adds to the buffer, so over a source that never ends memory is refused.
+/// Reads all that is left. Each read but the last adds to the buffer, so over a source that never ends memory is refused. It is
+/// apart so that no pattern is compiled on top of the chunk.
+#[inline(never)]
 fn read_all<R: Source>(alloc: Global, source: &mut R) -> Result<Vec<u8>, ToolError>
     requires { R.failed source.old ≡ false }
     ensures read { IfOk result (λ bytes. IfSome (R.left source.old) (λ input. (bytes.items ≡ input) × (R.left source.new ≡ Some []))) }

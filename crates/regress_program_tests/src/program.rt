@@ -8,7 +8,7 @@ use std::io::{ErrorKind, Read, Write};
 use std::test::Fail;
 
 /// One byte more than three chunks of the program.
-static LONG: [u8; 12289] = [b'a'; 12289];
+static LONG: [u8; 196_609] = [b'a'; 196_609];
 
 /// A reader and a writer over memory. Each call gives or takes so many bytes at most; one call is interrupted, and those
 /// behind it would go on.
@@ -241,10 +241,10 @@ fn other_errors_leave_the_sink(rt: HostRuntime) -> Result<(), Fail> {
 
 /// The length of the input, how often the source is read, and the one line.
 const LONG_INPUTS: &[(usize, usize, &str)] = &[
-    (4095, 2, "4094..4095\n"),
-    (4096, 2, "4095..4096\n"),
-    (4097, 3, "4096..4097\n"),
-    (12289, 5, "12288..12289\n"),
+    (65535, 2, "65534..65535\n"),
+    (65536, 2, "65535..65536\n"),
+    (65537, 3, "65536..65537\n"),
+    (196_609, 5, "196608..196609\n"),
 ];
 
 #[test]
@@ -311,7 +311,7 @@ fn many_lines_are_few_writes(rt: HostRuntime) -> Result<(), Fail> {
         let expected = Outcome {
             answer,
             written: lines.as_str().get(..*count).ok_or(AllocError)?,
-            reads: length.div_ceil(4096).saturating_add(1),
+            reads: length.div_ceil(65536).saturating_add(1),
             writes: *writes,
         };
         assert!(rt; ends_so(rt.alloc(), "a", reader, writer, &expected));

@@ -4,7 +4,7 @@ use Rattle.regress_program.proofs.program.read_all.Given as goal
 
 abbrev pub invariant-loop-bytes : goal.invariant-loop-bytes
 invariant-loop-bytes g l = record {
-  room : length l.chunk ≡ 4096;
+  room : length l.chunk ≡ 65536;
   going : g.R.Source.failed l.source ≡ false;
   read : Consumes (g.R.Source.left l.fn.source) (g.R.Source.left l.source) l.bytes.items;
 }
