@@ -77,11 +77,12 @@ fn look(negate: bool, backwards: bool, groups: Range<CaptureGroupID>, continuati
 }
 
 // What calls itself by the nesting of a pattern has small frames: what ends before the next level is kept out of line, and hands
-// back what a register holds.
+// back what a register holds. What only tells the kinds of nodes apart stands in its callers, so that it has no frame.
 impl<'u> Emitter<'u> {
     /// Writes a node. `backward` tells whether it stands in a lookbehind. It errs with `TooLarge` where an instruction has no
     /// address or a loop has no number, and with `OutOfMemory`.
     #[cycle(emit)]
+    #[inline(always)]
     pub(crate) fn node(&self, code: &mut Code, node: &Node, backward: bool) -> Result<(), Error>
         requires { IsLawful (tree node.now) }
         ensures added { OnOk result (Emits self.now backward (tree node.now) (written code.old) (written code.new)) }

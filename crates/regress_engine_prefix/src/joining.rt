@@ -57,6 +57,7 @@ fn by_first_bytes(first: &Prefix, second: &Prefix) -> Prefix
 }
 
 /// What holds where either of two holds: the bytes in front of both, or else the first bytes of both.
+#[inline(never)]
 pub(crate) fn either(alloc: Global, first: &Prefix, second: &Prefix) -> Result<Prefix, AllocError>
     requires first_leads { LeadsCharacters first.now }
     requires second_leads { LeadsCharacters second.now }

@@ -1,9 +1,10 @@
 //! What is known of a match of a node before it is made.
-ghost use Rattle.std.specs.Prelude.{◌≡◌, ◌≤◌, ℕ, All, map, IfOk, IfErr};
+ghost use Rattle.std.specs.Prelude.{◌≡◌, ◌≢◌, ◌≤◌, ℕ, true, All, map, IfOk, IfErr, OnOk, IsTrue, IsFalse};
 ghost use Rattle.std.specs.Box.{boxed_slice_items};
 ghost use Rattle.regress_meaning.specs.TableParts.{is_code_point};
-ghost use Rattle.regress_front_nodes.specs.Trees.{tree, cat_of, anchor_of, string_set, loop, single_loop};
-ghost use Rattle.regress_engine_prefix.specs.Prefixes.{IsLawful, Foretells};
+ghost use Rattle.regress_front_nodes.specs.Trees.{tree, cat_of, alt, anchor_of, string_set, loop, single_loop};
+ghost use Rattle.regress_front_nodes.specs.Forms.{is_leaf};
+ghost use Rattle.regress_engine_prefix.specs.Prefixes.{IsLawful, IsWeaker, LeadsCharacters, Foretells};
 
 use crate::first_bytes::{first_of_ascii, first_of_bracket, first_of_chars, first_of_strings};
 use crate::joining::either;
@@ -11,7 +12,7 @@ use regress_front_bytes::ByteBitmap;
 use regress_front_core::Error;
 use regress_front_nodes::{AnchorType, Node, Quantifier};
 use regress_front_tables::CodePoint;
-use std::alloc::Global;
+use std::alloc::{AllocError, Global};
 use std::boxed::BoxedSlice;
 
 /// What holds of each match from a place on.
@@ -54,26 +55,93 @@ fn of_strings(strings: &[BoxedSlice<CodePoint>], icase: bool) -> Prefix
 }
 
 /// What holds of each match of a node. It errs with `OutOfMemory` alone.
-#[cycle(prefix)]
 pub(crate) fn prefix_of(alloc: Global, node: &Node) -> Result<Prefix, Error>
     requires { IsLawful (tree node.now) }
+    ensures foretold { IfOk result (λ prefix. Foretells prefix (tree node.now)) }
+    ensures refused { IfErr result (λ e. e ≡ Error.OutOfMemory) }
+{
+    let mut known = Prefix::Unknown;
+    find(alloc, node, &mut known)?;
+    Ok(known)
+}
+
+// What calls itself by the nesting of a tree has small frames: it writes what it finds in a place that is handed down, and what
+// ends before the next level is kept out of line.
+
+/// Puts what holds of each match of a node in the place of what is known.
+#[cycle(prefix)]
+fn find(alloc: Global, node: &Node, known: &mut Prefix) -> Result<(), AllocError>
+    requires { IsLawful (tree node.now) }
+    ensures { OnOk result (Foretells known.new (tree node.now)) }
+{
+    match node {
+        Node::Cat(parts) => find_of_parts(alloc, parts, known),
+        Node::Alt(first, second) => find_of_arms(alloc, first, second, known),
+        Node::CaptureGroup { contents, .. } => find(alloc, contents, known),
+        Node::Loop { loopee, quant, .. } => find_of_loop(alloc, loopee, quant, known),
+        Node::Loop1CharBody { loopee, quant } => find_of_loop(alloc, loopee, quant, known),
+        Node::LookaroundAssertion { .. } => still(known),
+        _ => find_of_leaf(alloc, node, known),
+    }
+}
+
+/// Nothing is taken.
+#[inline(never)]
+fn still(known: &mut Prefix) -> Result<(), AllocError>
+    ensures { OnOk result (known.new ≡ Prefix.Still) }
+{
+    *known = Prefix::Still;
+    Ok(())
+}
+
+/// Nothing is known.
+#[inline(never)]
+fn unknown(known: &mut Prefix) -> Result<(), AllocError>
+    ensures { OnOk result (known.new ≡ Prefix.Unknown) }
+{
+    *known = Prefix::Unknown;
+    Ok(())
+}
+
+/// Whether nothing is taken.
+fn is_still(known: &Prefix) -> bool
+    ensures still { IsTrue result → known.now ≡ Prefix.Still }
+    ensures other { IsFalse result → known.now ≢ Prefix.Still }
+{
+    matches!(known, Prefix::Still)
+}
+
+/// The same of a node of a kind that has no parts.
+#[inline(never)]
+fn find_of_leaf(alloc: Global, node: &Node, known: &mut Prefix) -> Result<(), AllocError>
+    requires lawful { IsLawful (tree node.now) }
+    requires leaf { is_leaf (tree node.now) ≡ true }
+    ensures { OnOk result (Foretells known.new (tree node.now)) }
+{
+    match prefix_of_leaf(alloc, node) {
+        Ok(prefix) => {
+            *known = prefix;
+            Ok(())
+        }
+        Err(_) => Err(AllocError),
+    }
+}
+
+/// What holds of each match of a node of a kind that has no parts. It errs with `OutOfMemory` alone.
+#[inline(never)]
+fn prefix_of_leaf(alloc: Global, node: &Node) -> Result<Prefix, Error>
+    requires lawful { IsLawful (tree node.now) }
+    requires leaf { is_leaf (tree node.now) ≡ true }
     ensures foretold { IfOk result (λ prefix. Foretells prefix (tree node.now)) }
     ensures refused { IfErr result (λ e. e ≡ Error.OutOfMemory) }
 {
     match node {
         Node::Empty | Node::Goal => Ok(Prefix::Still),
         Node::WordBoundary { .. } => Ok(Prefix::Still),
-        Node::LookaroundAssertion { .. } => Ok(Prefix::Still),
         Node::Char { c } => Ok(Prefix::First(first_of_chars(&[*c]))),
         Node::ByteSequence(bytes) => Ok(Prefix::Bytes(bytes.to_vec(alloc)?)),
         Node::ByteSet(bytes) => Ok(Prefix::First(first_of_ascii(bytes))),
         Node::CharSet(chars) => Ok(Prefix::First(first_of_chars(chars))),
-        Node::Cat(parts) => prefix_of_parts(alloc, parts),
-        Node::Alt(first, second) => {
-            let first = prefix_of(alloc, first)?;
-            let second = prefix_of(alloc, second)?;
-            Ok(either(alloc, &first, &second)?)
-        }
         Node::MatchAny | Node::MatchAnyExceptLineTerminator | Node::BackRef { .. } => {
             Ok(Prefix::Unknown)
         }
@@ -81,48 +149,85 @@ pub(crate) fn prefix_of(alloc: Global, node: &Node) -> Result<Prefix, Error>
             anchor_type,
             multiline,
         } => Ok(of_anchor(*anchor_type, *multiline)),
-        Node::CaptureGroup { contents, .. } => prefix_of(alloc, contents),
         Node::Bracket(contents) => Ok(Prefix::First(first_of_bracket(contents)?)),
         Node::StringSet {
             alternatives,
             icase,
         } => Ok(of_strings(alternatives, *icase)),
-        Node::Loop { loopee, quant, .. } => prefix_of_loop(alloc, loopee, *quant),
-        Node::Loop1CharBody { loopee, quant } => prefix_of_loop(alloc, loopee, *quant),
+        _ => unreachable!(),
     }
 }
 
-/// What holds of each match of a repetition.
+/// The same of a choice.
 #[cycle(prefix)]
-fn prefix_of_loop(alloc: Global, loopee: &Node, quant: Quantifier) -> Result<Prefix, Error>
+#[inline(never)]
+fn find_of_arms(
+    alloc: Global,
+    first: &Node,
+    second: &Node,
+    known: &mut Prefix,
+) -> Result<(), AllocError>
+    requires { IsLawful (alt (tree first.now) (tree second.now)) }
+    ensures { OnOk result (Foretells known.new (alt (tree first.now) (tree second.now))) }
+{
+    find(alloc, first, known)?;
+    let mut other = Prefix::Unknown;
+    find(alloc, second, &mut other)?;
+    join(alloc, known, &other)?;
+    Ok(())
+}
+
+/// What is known, where another may hold in its place.
+#[inline(never)]
+fn join(alloc: Global, known: &mut Prefix, other: &Prefix) -> Result<(), AllocError>
+    requires known_leads { LeadsCharacters known.old }
+    requires other_leads { LeadsCharacters other.now }
+    ensures known { OnOk result (IsWeaker known.new known.old) }
+    ensures other { OnOk result (IsWeaker known.new other.now) }
+    ensures leads { OnOk result (LeadsCharacters known.new) }
+{
+    let joined = either(alloc, known, other)?;
+    *known = joined;
+    Ok(())
+}
+
+/// The same of a repetition.
+#[cycle(prefix)]
+#[inline(never)]
+fn find_of_loop(
+    alloc: Global,
+    loopee: &Node,
+    quant: &Quantifier,
+    known: &mut Prefix,
+) -> Result<(), AllocError>
     requires { IsLawful (tree loopee.now) }
-    ensures many { IfOk result (λ prefix. (first last most : ℕ) → quant.min ≤ most →
-        Foretells prefix (loop (tree loopee.now) first last quant.min most quant.greedy)) }
-    ensures single { IfOk result (λ prefix. (most : ℕ) → quant.min ≤ most →
-        Foretells prefix (single_loop (tree loopee.now) quant.min most quant.greedy)) }
-    ensures refused { IfErr result (λ e. e ≡ Error.OutOfMemory) }
+    ensures many { OnOk result ((first last most : ℕ) → quant.now.min ≤ most →
+        Foretells known.new (loop (tree loopee.now) first last quant.now.min most quant.now.greedy)) }
+    ensures single { OnOk result ((most : ℕ) → quant.now.min ≤ most →
+        Foretells known.new (single_loop (tree loopee.now) quant.now.min most quant.now.greedy)) }
 {
     if quant.min == 0 {
-        return Ok(Prefix::Unknown);
+        return unknown(known);
     }
-    match prefix_of(alloc, loopee)? {
-        Prefix::Still => Ok(Prefix::Unknown),
-        known => Ok(known),
+    find(alloc, loopee, known)?;
+    if is_still(known) {
+        return unknown(known);
     }
+    Ok(())
 }
 
-/// What holds of each match of the parts of a `Cat`: what holds of the first that may take something.
+/// The same of the parts of a `Cat`: what holds of the first that may take something.
 #[cycle(prefix)]
-fn prefix_of_parts(alloc: Global, parts: &[Node]) -> Result<Prefix, Error>
+#[inline(never)]
+fn find_of_parts(alloc: Global, parts: &[Node], known: &mut Prefix) -> Result<(), AllocError>
     requires { All (λ part. IsLawful (tree part)) parts.now }
-    ensures foretold { IfOk result (λ prefix. Foretells prefix (cat_of (map tree parts.now))) }
-    ensures refused { IfErr result (λ e. e ≡ Error.OutOfMemory) }
+    ensures { OnOk result (Foretells known.new (cat_of (map tree parts.now))) }
 {
     for part in parts {
-        match prefix_of(alloc, part)? {
-            Prefix::Still => {}
-            known => return Ok(known),
+        find(alloc, part, known)?;
+        if !is_still(known) {
+            return Ok(());
         }
     }
-    Ok(Prefix::Still)
+    still(known)
 }

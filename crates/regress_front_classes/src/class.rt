@@ -60,6 +60,22 @@ fn in_box(alloc: Global, class: Class) -> Result<Box<Class>, AllocError>
     Ok(Box::new(alloc, class)?)
 }
 
+/// The class of members side by side, in a box.
+#[inline(never)]
+fn boxed_union(alloc: Global, members: Vec<Class>) -> Result<Box<Class>, AllocError>
+    ensures { IfOk result (λ boxed. boxed.value ≡ Class.Union members) }
+{
+    Ok(Box::new(alloc, Class::Union(members))?)
+}
+
+/// The class of strings, in a box.
+#[inline(never)]
+fn boxed_strings(alloc: Global, strings: Vec<Vec<CodePoint>>) -> Result<Box<Class>, AllocError>
+    ensures { IfOk result (λ boxed. boxed.value ≡ Class.Strings strings) }
+{
+    Ok(Box::new(alloc, Class::Strings(strings))?)
+}
+
 /// Adds a class behind others.
 #[inline(never)]
 fn push(classes: &mut Vec<Class>, class: Class) -> Result<(), AllocError>
@@ -140,7 +156,8 @@ fn all_may_hold_strings(classes: &[Class]) -> bool
 
 /// Behind an opening bracket: whether the class is negated, and its class ("CharacterClass"). Goes on behind the closing
 /// bracket; `nesting` counts the parentheses and brackets that are open around the class. A syntax error where it is
-/// none; `TooDeep` where too many are open.
+/// none; `TooDeep` where too many are open. Before `^a]b` `bracketed_class(&mut cursor, alloc, &mode, 0)?` is true and the class
+/// of `a`, and the cursor stands before `b`.
 pub fn bracketed_class(
     cursor: &mut Cursor,
     alloc: Global,
@@ -433,7 +450,7 @@ fn set_operand(
     }
     if eat_opening_of_strings(cursor) {
         let strings = set_strings(cursor, alloc, mode)?;
-        let class = in_box(alloc, Class::Strings(strings))?;
+        let class = boxed_strings(alloc, strings)?;
         return Ok(SetItem::Set(class));
     }
     set_item(cursor, alloc, mode)
@@ -457,7 +474,7 @@ pub(crate) fn set_contents(
 {
     regress_meaning::contents_go_by_steps();
     if cursor.is_at(']') {
-        return Ok(in_box(alloc, Class::Union(Vec::new(alloc)))?);
+        return Ok(boxed_union(alloc, Vec::new(alloc))?);
     }
     let first = set_operand(cursor, alloc, mode, nesting)?;
     if is_at_pair(cursor, '&') {
@@ -498,7 +515,7 @@ fn set_union(
         let member = set_range(cursor, alloc, mode, item)?;
         push(&mut members, member)?;
     }
-    Ok(in_box(alloc, Class::Union(members))?)
+    Ok(boxed_union(alloc, members)?)
 }
 
 /// At the first `&&`, behind the first operand: the intersection of all ("ClassIntersection").

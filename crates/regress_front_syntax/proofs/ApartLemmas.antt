@@ -24,7 +24,7 @@ use Rattle.regress_front_tokens.specs.Words.{code_points_of}
 use Rattle.regress_front_tables.proofs.EntryLemmas.{same_text-chars}
 use Rattle.std.proofs.lemmas.Str.{IsUtf8-string_bytes, encodes-chars, length-le-encodes}
 use Rattle.std.proofs.Math.Utf8.{encodes}
-use Rattle.regress_front_syntax.specs.Names.{has_name, IsNaming, AreJoined}
+use Rattle.regress_front_syntax.specs.Names.{has_name, IsAdding, IsNaming, AreJoined}
 
 -- what a query by order finds
 abbrev holds_key : Bor (String Global) → List (Bor (String Global)) → Bool
@@ -369,3 +369,9 @@ capture-added name p names all full naming free both = (
   λ other. both other ∙ put-name (same_text other name) (is_name other) (among (names_of p) other) (has_name names other)
       (λ e. ap is_name ((bytes_eq-Decides other name).0 e) ∙ full) (naming.1 other),
 )
+
+-- a group with its name, where the name is added to those inside it
+pub capture-named : (name : List ℕ) (p : Pattern) (names : BTreeSet (Bor (String Global))) (found : Option (BTreeSet (Bor (String Global)))) → is_name name ≡ true → IsNaming p (Some names)
+    → IsAdding names name found → IsNaming (capture 0 (Some name) p) found
+capture-named name p names None full naming adding = capture-taken name p names full naming adding
+capture-named name p names (Some all) full naming adding = capture-added name p names all full naming adding.0 adding.1

@@ -10,7 +10,7 @@ use Rattle.regress_front_core.specs.declared.error.Error.TheVariants.{Syntax as 
 use Rattle.regress_front_syntax.specs.declared.group.Opening.{Opening}
 use Rattle.regress_front_syntax.specs.declared.group.Opening.TheVariants.{Capture, Group, Modified, Lookahead, Lookbehind}
 use Rattle.regress_front_tokens.specs.Words.{code_points_of}
-use Rattle.regress_front_syntax.specs.Openings.{opening_view, enclosed, is_lookbehind, may_repeat, opened_by, IsOpening}
+use Rattle.regress_front_syntax.specs.Openings.{opening_view, enclosed, is_lookbehind, may_repeat, finish, opened_by, IsOpening}
 use Rattle.regress_front_syntax.specs.Parsing.{Place, Leads, Grows, front_to, IsRefusal, contents_of}
 use Rattle.regress_front_syntax.proofs.AnswerLemmas.{at, Within, Keeps, quantified-keeps, Some-keeps, wrapped, quantified-contents, closed-alone, Leads_trans}
 use Rattle.regress_front_syntax.proofs.StepLemmas.{contents-opened}
@@ -48,11 +48,6 @@ opened_by-most Group k = omega arith
 opened_by-most (Modified on off) k = omega arith
 opened_by-most (Lookahead negated) k = omega arith
 opened_by-most (Lookbehind negated) k = omega arith
-
--- what is done with the tree: behind a lookbehind no quantifier is read
-abbrev pub finish : Bool → Bool → ℕ → Front → Option Front
-finish true allowed k f = Some f
-finish false allowed k f = quantified allowed k f
 
 finish-keeps : (alone allowed : Bool) (k : ℕ) → Keeps (finish alone allowed k)
 finish-keeps true allowed k = Some-keeps

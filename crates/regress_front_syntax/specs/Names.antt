@@ -21,6 +21,11 @@ AreJoined names more all apart =
     ((name : List ℕ) → has_name all name ≡ (has_name names name || has_name more name))
     × (IsTrue apart ↔ ((name : List ℕ) → IsTrue (has_name names name) → has_name more name ≡ false))
 
+-- the set holds the names and this one, which is not among them; where there is none, it is
+abbrev pub IsAdding : BTreeSet (Bor (String Global)) → List ℕ → Option (BTreeSet (Bor (String Global))) → Type 0
+IsAdding names name None = has_name names name ≡ true
+IsAdding names name (Some all) = (has_name names name ≡ false) × ((other : List ℕ) → has_name all other ≡ (same_text other name || has_name names other))
+
 -- The set holds the names of the tree's groups, which stand apart; where there is none, they do not.
 abbrev pub IsNaming : Pattern → Option (BTreeSet (Bor (String Global))) → Type 0
 IsNaming p None = names_apart p ≡ false

@@ -1,9 +1,10 @@
 -- What an opening parenthesis begins.
-use Rattle.std.specs.Prelude.{◌≡◌, ℕ, suc, Bool, true, false, not, ◌==◌, List, [], drop, if◌then◌else◌, None, Some, option_map, Result, Ok, Err}
+use Rattle.std.specs.Prelude.{◌≡◌, ℕ, suc, Bool, true, false, not, ◌==◌, List, [], drop, if◌then◌else◌, Option, None, Some, option_map, Result, Ok, Err}
 use Rattle.regress_meaning.specs.Pattern.{Pattern, capture, grouped, modified, look}
 use Rattle.regress_meaning.specs.Flags.{settings_of}
 use Rattle.regress_meaning.specs.Text.{is_at, span}
 use Rattle.regress_meaning.specs.Grammar.{is_flag}
+use Rattle.regress_meaning.specs.Reading.{Front, quantified}
 use Rattle.regress_meaning.specs.Reading as meaning
 use Rattle.regress_front_core.specs.declared.error.Error.{Error}
 use Rattle.regress_front_core.specs.declared.error.Error.TheVariants.{Syntax, OutOfMemory}
@@ -42,6 +43,11 @@ is_lookbehind _ = false
 abbrev pub may_repeat : Bool → Opening → Bool
 may_repeat unicode (Lookahead negated) = not unicode
 may_repeat unicode _ = true
+
+-- what is done with the tree: behind a lookbehind no quantifier is read
+abbrev pub finish : Bool → Bool → ℕ → Front → Option Front
+finish true allowed k f = Some f
+finish false allowed k f = quantified allowed k f
 
 -- how many groups are opened with it, where k were opened before
 abbrev pub opened_by : Opening → ℕ → ℕ

@@ -10,7 +10,9 @@ use Rattle.regress_front_core.specs.declared.error.Error.TheVariants.{Syntax as 
 use Rattle.regress_front_tokens.specs.declared.syntax.Syntax.{Syntax}
 use Rattle.regress_front_tokens.specs.declared.syntax.Syntax.TheVariants.{Alternative}
 use Rattle.regress_front_core.specs.declared.quantifier.Quantifier.{Quantifier}
+use Rattle.regress_front_syntax.specs.declared.group.Opening.{Opening as Parenthesis}
 use Rattle.regress_front_syntax.specs.declared.parser.Parser.{Parser}
+use Rattle.regress_front_syntax.specs.Openings.{enclosed, is_lookbehind, may_repeat, finish}
 use Rattle.regress_front_tokens.specs.Trees.{tree}
 use Rattle.regress_front_core.specs.Quantifiers.{most}
 use Rattle.regress_front_tokens.specs.Cursors.{unread}
@@ -109,6 +111,12 @@ IsQuantifier allowed here there (Err _) = ⊥
 -- What was answered for a tree and the quantifier behind it, if it may have one, wherever the tree was read from.
 abbrev pub IsRepetition : Bool → ℕ → Pattern → (there next : Place) → Result Syntax Error → Type 0
 IsRepetition allowed opened p there next result = (here : Place) → Grows here there p → IsAnswer here next (quantified allowed opened (front_to there p)) result
+
+-- What was answered for an opening with its contents, and for the quantifier behind them if they may have one, wherever the
+-- opening was read from.
+abbrev pub IsFinished : Bool → Parenthesis → ℕ → Pattern → (there next : Place) → Result Syntax Error → Type 0
+IsFinished unicode o k p there next result = (here : Place) → Grows here there (enclosed o k p)
+    → IsAnswer here next (finish (is_lookbehind o) (may_repeat unicode o) k (front_to there (enclosed o k p))) result
 
 -- what begins at the front of a text where no mark of syntax stands
 abbrev pub character_opening : Mode → List ℕ → Opening

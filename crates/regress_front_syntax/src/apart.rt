@@ -4,7 +4,7 @@ ghost use Rattle.regress_meaning.specs.Pattern.{capture};
 ghost use Rattle.regress_meaning.specs.Grammar.{names_apart};
 ghost use Rattle.regress_front_tokens.specs.Trees.{tree, sequence_of, choice_of};
 ghost use Rattle.regress_front_tokens.specs.Words.{code_points_of};
-ghost use Rattle.regress_front_syntax.specs.Names.{AreJoined, IsNaming};
+ghost use Rattle.regress_front_syntax.specs.Names.{AreJoined, IsAdding, IsNaming};
 
 use regress_front_tables::CaptureGroupName;
 use regress_front_tokens::Syntax;
@@ -26,6 +26,21 @@ fn joined<'s>(mut names: Names<'s>, mut more: Names<'s>) -> Result<(Names<'s>, b
     }
     names.append(&mut more)?;
     Ok((names, apart))
+}
+
+/// The names with one more; nothing where it is among them.
+#[inline(never)]
+fn with_name<'s>(
+    mut names: Names<'s>,
+    name: &'s CaptureGroupName,
+) -> Result<Option<Names<'s>>, AllocError>
+    ensures { IfOk result (IsAdding names.entry (code_points_of name.now)) }
+{
+    if names.insert(name)? {
+        Ok(Some(names))
+    } else {
+        Ok(None)
+    }
 }
 
 /// The names of a tree's groups; nothing where some name stands twice but in different alternatives of one disjunction.
@@ -102,13 +117,10 @@ fn names_in_named<'s>(
     if name.is_empty() {
         return names_in(alloc, contents);
     }
-    let Some(mut names) = names_in(alloc, contents)? else {
-        return Ok(None);
-    };
-    if !names.insert(name)? {
-        return Ok(None);
+    match names_in(alloc, contents)? {
+        Some(names) => with_name(names, name),
+        None => Ok(None),
     }
-    Ok(Some(names))
 }
 
 /// Whether no name of a group stands twice but in different alternatives of one disjunction ("MightBothParticipate").

@@ -85,12 +85,20 @@ fn push(trees: &mut Vec<Syntax>, tree: Syntax) -> Result<(), AllocError>
     Ok(trees.push(tree)?)
 }
 
-/// The tree in a box.
+/// Adds terms behind other alternatives, as one more.
 #[inline(never)]
-fn in_box(alloc: Global, tree: Syntax) -> Result<Box<Syntax>, AllocError>
-    ensures { IfOk result (λ boxed. boxed.value ≡ tree) }
+fn push_alternative(arms: &mut Vec<Syntax>, terms: Vec<Syntax>) -> Result<(), AllocError>
+    ensures { OnOk result (arms.new.items ≡ arms.old.items ++ (Syntax.Alternative terms ∷ [])) }
 {
-    Ok(Box::new(alloc, tree)?)
+    Ok(arms.push(Syntax::Alternative(terms))?)
+}
+
+/// The tree of alternatives, in a box.
+#[inline(never)]
+fn boxed_disjunction(alloc: Global, arms: Vec<Syntax>) -> Result<Box<Syntax>, AllocError>
+    ensures { IfOk result (λ boxed. boxed.value ≡ Syntax.Disjunction arms) }
+{
+    Ok(Box::new(alloc, Syntax::Disjunction(arms))?)
 }
 
 /// How far a pattern is read, and how many groups were opened and quantifiers read so far.
@@ -108,7 +116,7 @@ impl<'p> Parser<'p> {
     ghost use Rattle.regress_front_tokens.specs.Cursors.{unread};
     ghost use Rattle.regress_front_syntax.specs.Openings.{opened_by};
     ghost use Rattle.regress_front_syntax.specs.Parsing.{place, Answers, AnswersBehind, term_by};
-    ghost use Rattle.regress_front_syntax.specs.Parsing.{IsCoherent, IsQuantifier, IsRepetition, IsWholeAnswer, unboxed, as_alternative};
+    ghost use Rattle.regress_front_syntax.specs.Parsing.{IsCoherent, IsQuantifier, IsRepetition, IsFinished, IsWholeAnswer, unboxed, as_alternative};
     ghost use Rattle.regress_front_syntax.specs.Parsing.{character_opening, contents_at, whole_at};
 
     /// A parser at the beginning of a text.
@@ -168,12 +176,12 @@ impl<'p> Parser<'p> {
         let mut arms = Vec::new(self.alloc);
         loop {
             let terms = self.alternative(mode, nesting)?;
-            push(&mut arms, Syntax::Alternative(terms))?;
+            push_alternative(&mut arms, terms)?;
             if !self.cursor.eat('|') {
                 break;
             }
         }
-        Ok(in_box(self.alloc, Syntax::Disjunction(arms))?)
+        Ok(boxed_disjunction(self.alloc, arms)?)
     }
 
     /// Whether an alternative ends here: the text does, or one of `|` and `)` stands here.
@@ -196,8 +204,11 @@ impl<'p> Parser<'p> {
         regress_meaning::reading_goes_by_steps();
         let mut terms = Vec::new(self.alloc);
         while !self.ends_alternative() {
-            let term = self.term(mode, nesting)?;
-            push(&mut terms, term)?;
+            // By `?` there would be room on the stack for the term more than once.
+            match self.term(mode, nesting) {
+                Ok(term) => push(&mut terms, term)?,
+                Err(error) => return Err(error),
+            }
         }
         Ok(terms)
     }
@@ -308,8 +319,24 @@ impl<'p> Parser<'p> {
         let opening = read_opening(&mut self.cursor, self.alloc, mode)?;
         self.open(&opening)?;
         let contents = self.contents(mode, nesting)?;
+        self.close(mode.unicode, opening, opened, contents)
+    }
+
+    /// Behind contents and their closing parenthesis: the group or lookaround, and the quantifier behind it if there is one. So
+    /// many groups were opened before it.
+    #[inline(never)]
+    fn close(
+        &mut self,
+        unicode: bool,
+        opening: Opening<'p>,
+        opened: u16,
+        contents: Box<Syntax>,
+    ) -> Result<Syntax, Error>
+        ensures answer { (nesting : ℕ) → IsFinished unicode opening.entry opened (tree contents.value) (place nesting self.old) (place nesting self.new) result }
+        ensures progress { OnOk result (length (unread self.new.cursor) ≤ length (unread self.old.cursor)) }
+    {
         let is_lookbehind = opening.is_lookbehind();
-        let may_repeat = opening.may_repeat(mode.unicode);
+        let may_repeat = opening.may_repeat(unicode);
         let group = opening.enclose(opened, contents);
         if is_lookbehind {
             return Ok(group);

@@ -366,7 +366,7 @@ pub set_union-returns-clause-read : goal.set_union-returns-clause-read
 set_union-returns-clause-read t c =
     let m = mode_view c.args.mode.now in
     let now = unread c.loop-cursor.cursor in
-    let made = ap class_view c.in_ok-in_box.ensures in
+    let made = ap class_view c.in_ok-boxed_union.ensures in
     let closes = union-closes m now (c.contents_go_by_steps.ensures m now) (sym c.is_at.ensures ∙ c.loop-cursor-test.false) in (
       c.loop-cursor.invariant.state ∙ before-closed c.loop-cursor.members (union_at m now) now closes ∙ ap (λ (k : Class). Some (k, now)) (sym made),
       subst (λ (k : Class). c.args.nesting + class_depth k ≤ 256) (sym (made ∙ class_view-Union c.loop-cursor.members)) (omega (arith, c.loop-cursor.invariant.shallow, c.requires.shallow)),

@@ -3,7 +3,7 @@ use Rattle.std.proofs.lemmas.List.{drop_all}
 use Rattle.std.proofs.lemmas.Result.{IfOk-weaker}
 use Rattle.regress_front_tokens.specs.Trees.{tree, sequence_of, choice_of}
 use Rattle.regress_front_tokens.specs.Words.{code_points_of}
-use Rattle.regress_front_syntax.proofs.ApartLemmas.{added-names, put-names, terms-first, terms-split, terms-none, terms-more, terms-last, arms-first, arms-split, arms-none, arms-more, arms-last, is_name-text, empty_name, capture-taken, capture-added}
+use Rattle.regress_front_syntax.proofs.ApartLemmas.{terms-first, terms-split, terms-none, terms-more, terms-last, arms-first, arms-split, arms-none, arms-more, arms-last, is_name-text, empty_name, capture-named}
 use Rattle.regress_front_syntax.proofs.apart.+naming.Goals as goal
 
 pub names_in_arms-loop-arm-init : goal.names_in_arms-loop-arm-init
@@ -35,17 +35,11 @@ names_in_named-returns-then-is_empty t c =
     let unnamed = is_name-text c.args.name.now ∙ ap not (sym c.is_empty.ensures ∙ c.if-is_empty.true) in
     IfOk-weaker c.names_in.result _ _ (λ found h. empty_name (code_points_of c.args.name.now) (tree c.args.contents.now) found unnamed h) c.names_in.ensures
 
-pub names_in_named-returns-then-not-branch : goal.names_in_named-returns-then-not-branch
-names_in_named-returns-then-not-branch t c =
-    capture-taken (code_points_of c.args.name.now) (tree c.args.contents.now) c.in-Some.names (is_name-text c.args.name.now ∙ ap not (sym c.is_empty.ensures ∙ c.if-is_empty.false)) (rw c.in-Some.is at c.in_ok-names.ensures)
-    (added-names c.in-Some.names c.args.name c.in_ok-insert.field-0 c.in_ok-insert.ensures.added ∙ ap not c.if-not-branch.true)
-
-pub names_in_named-returns : goal.names_in_named-returns
-names_in_named-returns t c =
-    capture-added (code_points_of c.args.name.now) (tree c.args.contents.now) c.in-Some.names c.insert.new.self (is_name-text c.args.name.now ∙ ap not (sym c.is_empty.ensures ∙ c.if-is_empty.false))
-    (rw c.in-Some.is at c.in_ok-names.ensures)
-    (added-names c.in-Some.names c.args.name c.in_ok-insert.field-0 c.in_ok-insert.ensures.added ∙ ap not c.if-not-branch.false)
-    (put-names c.in-Some.names c.insert.new.self c.args.name c.in_ok-insert.ensures.updates)
+pub names_in_named-returns-in-Some : goal.names_in_named-returns-in-Some
+names_in_named-returns-in-Some t c =
+    let full = is_name-text c.args.name.now ∙ ap not (sym c.is_empty.ensures ∙ c.if-is_empty.false) in
+    let inner = rw c.in-Some.is at c.in_ok-names.ensures in
+    IfOk-weaker c.with_name.result _ _ (λ found adding. capture-named (code_points_of c.args.name.now) (tree c.args.contents.now) c.in-Some.names found full inner adding) c.with_name.ensures
 
 pub names_in_terms-loop-term-init : goal.names_in_terms-loop-term-init
 names_in_terms-loop-term-init t c = terms-first (sequence_of (map tree c.args.terms.now)) c.new-names.result c.new-names.ensures.empty

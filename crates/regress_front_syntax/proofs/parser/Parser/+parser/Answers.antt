@@ -7,14 +7,14 @@ use Rattle.regress_front_tokens.specs.Cursors.{unread}
 use Rattle.regress_front_tokens.specs.Escapes.{mode_view}
 use Rattle.regress_front_tokens.specs.declared.syntax.Syntax.TheVariants.{Alternative}
 use Rattle.regress_front_tokens.specs.Trees.{tree, choice_of}
-use Rattle.regress_front_syntax.specs.Openings.{enclosed, is_lookbehind, may_repeat, opened_by}
+use Rattle.regress_front_syntax.specs.Openings.{opened_by}
 use Rattle.regress_front_syntax.specs.Parsing.{Place, Grows, IsRefusal, front_to, place, place_behind, contents_of}
 use Rattle.regress_front_tokens.proofs.TreeLaws.{tree-Alternative, tree-Disjunction}
 use Rattle.regress_front_syntax.proofs.AnswerLemmas.{at, answer_same, refused_within, Leads_refl, Leads_drop}
 use Rattle.regress_front_syntax.proofs.LoopLemmas.{sequence_of-before, choice_of-before, sequence_joins, choice_joins, loop_begins, loop-within, loop_goes_on, loop_ends}
 use Rattle.regress_front_syntax.proofs.StepLemmas.{nothing-grows, arm-goes_on, arm-ends, arm-within, term-within, term-goes_on, alternative-ends, contents-closed, contents-open, contents-within, closed-grows}
 use Rattle.regress_front_syntax.proofs.MarkLemmas.{Leads_inside}
-use Rattle.regress_front_syntax.proofs.GroupLemmas.{finish, opening-refused, opened_by-most, group-within, group-full, group-found, group-grows}
+use Rattle.regress_front_syntax.proofs.GroupLemmas.{opening-refused, opened_by-most, group-within, group-full, group-found, group-grows}
 use Rattle.regress_front_syntax.proofs.TermLemmas.{answer_behind, mark-stands, parenthesis-read}
 use Rattle.regress_front_syntax.proofs.parser.Parser.+parser.Goals as goal
 
@@ -51,27 +51,32 @@ alternative-loop-self-init t c = record {
 }
 
 pub alternative-loop-self-preserved : goal.alternative-loop-self-preserved
-alternative-loop-self-preserved t c = record {
-  progress = omega (arith, c.loop-self.invariant.progress, c.in_ok-term.ensures.progress);
-  state =
-      let m = mode_view c.args.mode.now in
-      let (read, grows) = c.in_ok-term.ensures.answer in
-      let now = place c.args.nesting c.loop-self.self in
-      let there = place c.args.nesting c.term.new.self in
-      let goes_on = sym c.loop-self-test.ensures in
-      let state = loop_goes_on sequence sequence_joins (alternative_at m) (tree c.in_ok-term.term) c.loop-self.invariant.state grows
-      (term-goes_on m (c.reading_goes_by_steps.ensures m c.requires.coherent) now there (tree c.in_ok-term.term) goes_on read) refl refl refl (Leads_refl there) in
-      rw (c.in_ok-push.ensures, map-append) state;
-}
+alternative-loop-self-preserved t c =
+    let less = rw c.in-Ok.is at c.term.ensures.progress in
+    record {
+      progress = omega (arith, c.loop-self.invariant.progress, less);
+      state =
+          let m = mode_view c.args.mode.now in
+          let (read, grows) = rw c.in-Ok.is at c.term.ensures.answer in
+          let now = place c.args.nesting c.loop-self.self in
+          let there = place c.args.nesting c.term.new.self in
+          let goes_on = sym c.loop-self-test.ensures in
+          let state = loop_goes_on sequence sequence_joins (alternative_at m) (tree c.in-Ok.term) c.loop-self.invariant.state grows
+          (term-goes_on m (c.reading_goes_by_steps.ensures m c.requires.coherent) now there (tree c.in-Ok.term) goes_on read) refl refl refl (Leads_refl there) in
+          rw (c.in_ok-push-in-Ok.ensures, map-append) state;
+    }
 
-pub alternative-returns-in_err-term-clause-answer : goal.alternative-returns-in_err-term-clause-answer
-alternative-returns-in_err-term-clause-answer t c =
+pub alternative-loop-self-smaller : goal.alternative-loop-self-smaller
+alternative-loop-self-smaller t c = let less = rw c.in-Ok.is at c.term.ensures.progress in omega (arith, less)
+
+pub alternative-returns-in-Err-clause-answer : goal.alternative-returns-in-Err-clause-answer
+alternative-returns-in-Err-clause-answer t c =
     let m = mode_view c.args.mode.now in
-    let p = err_from_is_err_and c.from_residual.result c.from_residual.ensures.1 in
     let goes_on = sym c.loop-self-test.ensures in
-    rw (p.1, p.2) (refused_within c.in_err-term.field-0.0 (loop-within sequence sequence_joins (alternative_at m) c.loop-self.invariant.state)
-    (refused_within c.in_err-term.field-0.0 (term-within m (c.reading_goes_by_steps.ensures m c.requires.coherent) (place c.args.nesting c.loop-self.self) goes_on)
-    c.in_err-term.ensures.answer))
+    let e = c.in-Err.error in
+    refused_within e (loop-within sequence sequence_joins (alternative_at m) c.loop-self.invariant.state)
+    (refused_within e (term-within m (c.reading_goes_by_steps.ensures m c.requires.coherent) (place c.args.nesting c.loop-self.self) goes_on)
+    (rw c.in-Err.is at c.term.ensures.answer))
 
 pub alternative-returns-clause-answer : goal.alternative-returns-clause-answer
 alternative-returns-clause-answer t c =
@@ -103,7 +108,7 @@ disjunction-loop-arms-preserved t c = record {
       let state = loop_goes_on choice choice_joins (disjunction_at m) {next = next} (tree (Alternative c.in_ok-terms.terms)) c.loop-arms.invariant.state grows
       (arm-goes_on m (c.reading_goes_by_steps.ensures m c.requires.coherent) now there (tree (Alternative c.in_ok-terms.terms)) read bar) refl refl refl
       (Leads_drop c.args.nesting c.alternative.new.self.groups c.alternative.new.self.loops (unread c.alternative.new.self.cursor)) in
-      rw (c.if-not-eat.ensures.read, c.in_ok-push.ensures, map-append) state;
+      rw (c.if-not-eat.ensures.read, c.in_ok-push_alternative.ensures, map-append) state;
 }
 
 pub disjunction-returns-in_err-terms-clause-answer : goal.disjunction-returns-in_err-terms-clause-answer
@@ -120,10 +125,10 @@ disjunction-returns-clause-answer t c =
     let (read, grows) = c.in_ok-terms.ensures.answer in
     let now = place c.args.nesting c.loop-arms.self in
     let there = place c.args.nesting c.alternative.new.self in
-    let made = tree-Disjunction c.push.new.trees
-    ∙ ap choice_of (ap (map tree) c.in_ok-push.ensures ∙ map-append tree c.loop-arms.arms.items (Alternative c.in_ok-terms.terms ∷ []))
+    let made = tree-Disjunction c.push_alternative.new.arms
+    ∙ ap choice_of (ap (map tree) c.in_ok-push_alternative.ensures ∙ map-append tree c.loop-arms.arms.items (Alternative c.in_ok-terms.terms ∷ []))
     ∙ choice_of-before (map tree c.loop-arms.arms.items) (tree (Alternative c.in_ok-terms.terms)) in
-    rw (c.in_ok-in_box.ensures, made, c.if-not-eat.ensures.read) (loop_ends choice choice_joins (disjunction_at m) (tree (Alternative c.in_ok-terms.terms)) c.loop-arms.invariant.state grows
+    rw (c.in_ok-boxed_disjunction.ensures, made, c.if-not-eat.ensures.read) (loop_ends choice choice_joins (disjunction_at m) (tree (Alternative c.in_ok-terms.terms)) c.loop-arms.invariant.state grows
     (arm-ends m (c.reading_goes_by_steps.ensures m c.requires.coherent) now there (tree (Alternative c.in_ok-terms.terms)) read (sym c.if-not-eat.ensures.found)))
 
 -- terms
@@ -181,28 +186,6 @@ group-returns-in_err-contents-clause-answer t c =
     rw (p.1, p.2) (refused_within e (group-within m (parenthesis_opening m (unread c.args.self.now.cursor)) o n k r text u c.in_ok-opening.ensures.read leads)
     (subst (λ (h : Place). IsRefusal h (contents_of (disjunction_at m h.text h.opened)) e) inside c.in_err-contents.ensures.answer))
 
-pub group-returns-then-is_lookbehind-clause-answer : goal.group-returns-then-is_lookbehind-clause-answer
-group-returns-then-is_lookbehind-clause-answer t c =
-    let m = mode_view c.args.mode.now in
-    let o = c.in_ok-opening.opening in
-    let n = c.args.nesting in
-    let k = c.args.self.now.groups in
-    let r = c.args.self.now.loops in
-    let text = 0x28 ∷ unread c.args.self.now.cursor in
-    let u = unread c.read_opening.new.cursor in
-    let leads = Leads_inside c.args.self.now.cursor c.read_opening.new.cursor c.in_ok-opening.ensures.kept n k (opened_by o k) r (opened_by-most o k) c.in_ok-opening.ensures.progress in
-    let one : n + 1 ≡ suc n = omega arith in
-    let inside : place (n + 1) c.open.new.self ≡ at (suc n) (opened_by o k) r u =
-    λ i. record { nesting = one i; opened = c.in_ok-open.ensures.opened i; repeated = c.open.ensures.kept.1 i; text = c.open.ensures.kept.0 i } in
-    let end = place (n + 1) c.contents.new.self in
-    let p = tree c.in_ok-contents.contents.value in
-    let (found, grows) = subst (λ (h : Place). (contents_of (disjunction_at m h.text h.opened) ≡ Some (front_to end p)) × Grows h end p) inside c.in_ok-contents.ensures.answer in
-    let whole = group-found m (parenthesis_opening m (unread c.args.self.now.cursor)) o n k r text u c.in_ok-opening.ensures.read leads end p found in
-    let grown = group-grows m (parenthesis_opening m (unread c.args.self.now.cursor)) o n k r text u c.in_ok-opening.ensures.read leads end p found grows one in
-    let same : tree c.enclose-group.result ≡ enclosed o k p = c.enclose-group.ensures in
-    let alone : is_lookbehind o ≡ true = sym c.is_lookbehind-is_lookbehind.ensures ∙ c.if-is_lookbehind.true in
-    rw same (whole ∙ ap (λ b. finish b (may_repeat m.unicode o) k (front_to end (enclosed o k p))) alone, grown)
-
 pub group-returns-clause-answer : goal.group-returns-clause-answer
 group-returns-clause-answer t c =
     let m = mode_view c.args.mode.now in
@@ -221,11 +204,5 @@ group-returns-clause-answer t c =
     let (found, grows) = subst (λ (h : Place). (contents_of (disjunction_at m h.text h.opened) ≡ Some (front_to end p)) × Grows h end p) inside c.in_ok-contents.ensures.answer in
     let whole = group-found m (parenthesis_opening m (unread c.args.self.now.cursor)) o n k r text u c.in_ok-opening.ensures.read leads end p found in
     let grown = group-grows m (parenthesis_opening m (unread c.args.self.now.cursor)) o n k r text u c.in_ok-opening.ensures.read leads end p found grows one in
-    let same : tree c.enclose-group.result ≡ enclosed o k p = c.enclose-group.ensures in
-    let more : is_lookbehind o ≡ false = sym c.is_lookbehind-is_lookbehind.ensures ∙ c.if-is_lookbehind.false in
-    let there = place n c.contents.new.self in
-    let allowed = c.may_repeat-may_repeat.result in
-    let read : read_term m (disjunction_at m) k (parenthesis_opening m (unread c.args.self.now.cursor)) ≡ quantified allowed k (front_to there (tree c.enclose-group.result)) =
-    whole ∙ ap (λ b. finish b (may_repeat m.unicode o) k (front_to end (enclosed o k p))) more ∙ (λ i. quantified (sym c.may_repeat-may_repeat.ensures i) k (front_to there (sym same i))) in
-    answer_same (place_behind 0x28 n c.args.self.now) (place n c.repeated.new.self) _ _ c.repeated.result read
-    (c.repeated.ensures.answer n (place_behind 0x28 n c.args.self.now) (subst (λ q. Grows (place_behind 0x28 n c.args.self.now) there q) (sym same) grown))
+    answer_same (place_behind 0x28 n c.args.self.now) (place n c.close.new.self) _ _ c.close.result whole
+    (c.close.ensures.answer n (place_behind 0x28 n c.args.self.now) grown)
