@@ -18,6 +18,19 @@ fn text_of_error(
     }
 }
 
+/// Where reading a text stops, in code points, and what is wrong there, if it is no pattern.
+pub(crate) fn stop_of(
+    alloc: Global,
+    pattern: &str,
+    flags: Flags,
+    tables: &Tables,
+) -> Result<Option<(usize, &'static str)>, Error> {
+    match syntax_error(alloc, pattern, flags, tables)? {
+        Some(found) => Ok(Some((found.place, found.text))),
+        None => Ok(None),
+    }
+}
+
 /// Texts that are no patterns, flags, and where reading each stops, in code points.
 const STOPS: &[(&str, &str, usize)] = &[
     ("(", "", 1),
@@ -51,14 +64,12 @@ const STOPS: &[(&str, &str, usize)] = &[
 /// Fails at the first text that is refused elsewhere, or with another text than compiling says.
 fn stop_so(alloc: Global, rows: &[(&str, &str, usize)]) -> Result<(), Fail> {
     let tables = Tables::small(alloc)?;
-    for (pattern, flags, place) in rows {
+    for (pattern, flags, expected) in rows {
         let flags = Flags::from(*flags);
-        let found = syntax_error(alloc, pattern, flags, &tables)?.ok_or(*pattern)?;
-        if found.place != *place {
-            return Err(Fail::new(format!(in alloc; "{pattern} at {}", found.place)?));
-        }
-        if text_of_error(alloc, pattern, flags, &tables)? != Some(found.text) {
-            return Err(Fail::new(format!(in alloc; "{pattern}: {}", found.text)?));
+        let (place, text) = stop_of(alloc, pattern, flags, &tables)?.ok_or(*pattern)?;
+        let compiling = text_of_error(alloc, pattern, flags, &tables)?;
+        if place != *expected || compiling != Some(text) {
+            return Err(Fail::new(format!(in alloc; "{pattern} at {place}: {text}")?));
         }
     }
     Ok(())
@@ -69,15 +80,26 @@ fn reading_stops_where_a_text_is_no_pattern(rt: HostRuntime) -> Result<(), Fail>
     stop_so(rt.alloc(), STOPS)
 }
 
+/// Patterns.
+const PATTERNS: &[&str] = &["", "a", "(?<n>é)|[b-c]{1,2}"];
+
+/// Fails at the first text that is said to be no pattern.
+fn are_patterns(alloc: Global, patterns: &[&str]) -> Result<(), Fail> {
+    let tables = Tables::small(alloc)?;
+    for pattern in patterns {
+        if stop_of(alloc, pattern, Flags::default(), &tables)?.is_some() {
+            return Err(Fail::new(*pattern));
+        }
+    }
+    Ok(())
+}
+
 #[test]
 fn patterns_have_no_such_place(rt: HostRuntime) -> Result<(), Fail> {
+    are_patterns(rt.alloc(), PATTERNS)?;
     let tables = Tables::small(rt.alloc())?;
-    for pattern in ["", "a", "(?<n>é)|[b-c]{1,2}"] {
-        let found = syntax_error(rt.alloc(), pattern, Flags::default(), &tables)?;
-        assert!(rt; found.is_none(), "at {pattern}");
-    }
     let deep = "(".repeat(rt.alloc(), 257)?;
-    let found = syntax_error(rt.alloc(), deep.as_str(), Flags::default(), &tables);
+    let found = stop_of(rt.alloc(), deep.as_str(), Flags::default(), &tables);
     assert!(rt; found.err() == Some(Error::TooDeep));
     Ok(())
 }

@@ -1,6 +1,7 @@
 //! Tables of a caller's own, by the calls of `regress` alone.
 
-use regress::{CodePoint, Error, Flags, Interval, Regex, TableError, TableParts, Tables};
+use crate::told::{compiled, first};
+use regress::{CodePoint, Error, Interval, TableError, TableParts, Tables};
 use std::alloc::{AllocError, Global};
 use std::test::Fail;
 
@@ -45,18 +46,27 @@ fn first_in(
     flags: &str,
     text: &str,
 ) -> Result<Option<(usize, usize)>, Error> {
-    let regex = Regex::with_flags(alloc, pattern, Flags::from(flags), tables)?;
-    match regex.find(text)? {
+    let regex = compiled(alloc, pattern, flags, tables)?;
+    match first(&regex, text)? {
         Some(found) => Ok(Some((found.start(), found.end()))),
         None => Ok(None),
     }
 }
 
+/// Patterns, flags, texts, and where the first match stands.
+const FOUND: &[(&str, &str, &str, Option<(usize, usize)>)] = &[
+    (r"\p{Vowel}+", "u", "xAeix", Some((2, 4))),
+    (r"\p{Vowel}+", "iu", "xAeix", Some((1, 4))),
+    (r"\p{Pair}", "v", "aéa", Some((1, 4))),
+];
+
 #[test]
 fn patterns_ask_a_callers_tables(rt: HostRuntime) -> Result<(), Fail> {
     let tables = tables(rt.alloc())?;
-    assert!(rt; first_in(rt.alloc(), &tables, r"\p{Vowel}+", "u", "xAeix")? == Some((2, 4)));
-    assert!(rt; first_in(rt.alloc(), &tables, r"\p{Vowel}+", "iu", "xAeix")? == Some((1, 4)));
-    assert!(rt; first_in(rt.alloc(), &tables, r"\p{Pair}", "v", "aéa")? == Some((1, 4)));
+    for (pattern, flags, text, expected) in FOUND {
+        if first_in(rt.alloc(), &tables, pattern, flags, text)? != *expected {
+            return Err(Fail::new(*pattern));
+        }
+    }
     Ok(())
 }

@@ -6,6 +6,8 @@ mod nodes;
 #[cfg(test)]
 mod parsed;
 #[cfg(test)]
+mod promises;
+#[cfg(test)]
 mod readers;
 #[cfg(test)]
 mod told;

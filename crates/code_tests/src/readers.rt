@@ -40,35 +40,59 @@ fn are_alike(
     )
 }
 
+/// Whether a program of the pattern has its kind, its counts, its flags and its start.
+fn has_parts(program: &CompiledRegex<'_>, units: bool) -> bool {
+    let flags = program.flags();
+    let is_of_kind = program.is_unit_program() == units;
+    let has_counts = program.loops() == 3 && program.groups() == 3;
+    let has_flags = flags.multiline && flags.dot_all && !flags.icase;
+    let start = program.start_pred();
+    let has_start = matches!(start, StartPredicate::ByteBracket(_)) != units
+        && matches!(start, StartPredicate::Arbitrary) == units;
+    is_of_kind && has_counts && has_flags && has_start
+}
+
+/// Whether its brackets, the names of its groups and its tables are those of the pattern.
+fn has_texts(alloc: Global, program: &CompiledRegex<'_>, tables: &Tables) -> Result<bool, Error> {
+    Ok(
+        names_told(alloc, program)?.as_str() == r#"["year", "", "day"]"#
+            && program.shared_group_names()?.len() == 3
+            && brackets_told(alloc, program)?.as_str() == BRACKETS
+            && program.tables().fold(0x41) == tables.fold(0x41),
+    )
+}
+
+/// The program of the pattern, of units or else of bytes.
+fn own_program<'u>(
+    alloc: Global,
+    units: bool,
+    tables: &'u Tables,
+) -> Result<CompiledRegex<'u>, Error> {
+    program(alloc, PATTERN, "sm", units, tables)
+}
+
 #[test]
 fn parts_of_a_program(rt: HostRuntime) -> Result<(), Fail> {
     let tables = Tables::small(rt.alloc())?;
     for units in [false, true] {
-        let program = program(rt.alloc(), PATTERN, "sm", units, &tables)?;
-        assert!(rt; program.is_unit_program() == units);
-        assert!(rt; program.loops() == 3 && program.groups() == 3);
-        assert!(rt; names_told(rt.alloc(), &program)?.as_str() == r#"["year", "", "day"]"#);
-        assert!(rt; program.shared_group_names()?.len() == 3);
-        assert!(rt; brackets_told(rt.alloc(), &program)?.as_str() == BRACKETS);
-        assert!(rt; program.flags().multiline && program.flags().dot_all && !program.flags().icase);
-        assert!(rt; matches!(program.start_pred(), StartPredicate::ByteBracket(_)) != units);
-        assert!(rt; matches!(program.start_pred(), StartPredicate::Arbitrary) == units);
-        assert!(rt; program.tables().fold(0x41) == tables.fold(0x41));
+        let program = own_program(rt.alloc(), units, &tables)?;
+        assert!(rt; has_parts(&program, units) && has_texts(rt.alloc(), &program, &tables)?);
     }
     Ok(())
+}
+
+/// A copy of a program. It promises nothing.
+fn copied<'u>(alloc: Global, program: &CompiledRegex<'u>) -> Result<CompiledRegex<'u>, Error> {
+    Ok(program.try_clone(alloc)?)
 }
 
 #[test]
 fn copies_are_alike(rt: HostRuntime) -> Result<(), Fail> {
     let tables = Tables::small(rt.alloc())?;
     for units in [false, true] {
-        let program = program(rt.alloc(), PATTERN, "sm", units, &tables)?;
-        let copy = program.try_clone(rt.alloc())?;
-        assert!(rt; are_alike(rt.alloc(), &copy, &program)?);
-        assert!(rt; copy.is_unit_program() == units);
-        assert!(rt; copy.loops() == 3 && copy.groups() == 3);
-        assert!(rt; copy.flags().multiline && copy.flags().dot_all && !copy.flags().icase);
-        assert!(rt; matches!(copy.start_pred(), StartPredicate::ByteBracket(_)) != units);
+        let program = own_program(rt.alloc(), units, &tables)?;
+        let copy = copied(rt.alloc(), &program)?;
+        assert!(rt; are_alike(rt.alloc(), &copy, &program)? && has_parts(&copy, units));
     }
     Ok(())
 }
@@ -76,8 +100,8 @@ fn copies_are_alike(rt: HostRuntime) -> Result<(), Fail> {
 /// Whether a program has so many instructions, and its copy too.
 fn has_length(alloc: Global, units: bool, length: usize) -> Result<bool, Error> {
     let tables = Tables::small(alloc).map_err(|_| Error::OutOfMemory)?;
-    let program = program(alloc, PATTERN, "sm", units, &tables)?;
-    let copy = program.try_clone(alloc)?;
+    let program = own_program(alloc, units, &tables)?;
+    let copy = copied(alloc, &program)?;
     Ok(are_alike(alloc, &copy, &program)? && program.insns().len() == length)
 }
 

@@ -162,37 +162,35 @@ fn ascii_rows_are_read(text: &str, rows: &[Row], tables: &Tables) -> bool {
     true
 }
 
-#[test]
-fn utf8_is_read_both_ways(rt: HostRuntime) -> Result<(), Fail> {
-    let tables = tables(rt.alloc())?;
-    assert!(rt; utf8_rows_are_read(TEXT, IN_TEXT, &tables));
-    assert!(rt; utf8_rows_are_read("", IN_NONE, &tables));
-    Ok(())
+/// The first kind of input over which some row is read otherwise.
+fn misread(tables: &Tables) -> Option<&'static str> {
+    if !utf8_rows_are_read(TEXT, IN_TEXT, tables) || !utf8_rows_are_read("", IN_NONE, tables) {
+        return Some("UTF-8");
+    }
+    if !ascii_rows_are_read("a\u{7F}", IN_ASCII, tables)
+        || !ascii_rows_are_read("", IN_NONE, tables)
+    {
+        return Some("ASCII");
+    }
+    if !utf16_rows_are_read(UNITS, IN_UNITS, tables)
+        || !utf16_rows_are_read(CUT, IN_CUT, tables)
+        || !utf16_rows_are_read(&[], IN_NONE, tables)
+    {
+        return Some("UTF-16");
+    }
+    // no pairs are joined
+    if !ucs2_rows_are_read(APART, IN_APART, tables) || !ucs2_rows_are_read(&[], IN_NONE, tables) {
+        return Some("UCS-2");
+    }
+    None
 }
 
 #[test]
-fn utf16_is_read_both_ways(rt: HostRuntime) -> Result<(), Fail> {
-    let tables = tables(rt.alloc())?;
-    assert!(rt; utf16_rows_are_read(UNITS, IN_UNITS, &tables));
-    assert!(rt; utf16_rows_are_read(CUT, IN_CUT, &tables));
-    assert!(rt; utf16_rows_are_read(&[], IN_NONE, &tables));
-    Ok(())
-}
-
-#[test]
-fn ucs2_joins_no_pairs(rt: HostRuntime) -> Result<(), Fail> {
-    let tables = tables(rt.alloc())?;
-    assert!(rt; ucs2_rows_are_read(APART, IN_APART, &tables));
-    assert!(rt; ucs2_rows_are_read(&[], IN_NONE, &tables));
-    Ok(())
-}
-
-#[test]
-fn ascii_is_read_both_ways(rt: HostRuntime) -> Result<(), Fail> {
-    let tables = tables(rt.alloc())?;
-    assert!(rt; ascii_rows_are_read("a\u{7F}", IN_ASCII, &tables));
-    assert!(rt; ascii_rows_are_read("", IN_NONE, &tables));
-    Ok(())
+fn texts_are_read_both_ways(rt: HostRuntime) -> Result<(), Fail> {
+    match misread(&tables(rt.alloc())?) {
+        Some(kind) => Err(Fail::new(kind)),
+        None => Ok(()),
+    }
 }
 
 /// Whether moves by some bytes or units from an offset lead there.
@@ -223,16 +221,20 @@ const MOVES: &[(usize, usize, Option<usize>, Option<usize>)] = &[
     (10, 11, None, None),
 ];
 
+/// Whether all moves in the text are so.
+fn all_move(tables: &Tables) -> bool {
+    let input = Utf8Input::new(TEXT, true, tables);
+    for (at, amount, right, left) in MOVES {
+        if *at > 10 || !moves(&input, *at, *amount, *right, *left) {
+            return false;
+        }
+    }
+    input.left_end() == DefPosition::new(0) && input.right_end() == DefPosition::new(10)
+}
+
 #[test]
 fn moves_stay_in_the_text(rt: HostRuntime) -> Result<(), Fail> {
-    let tables = tables(rt.alloc())?;
-    let input = Utf8Input::new(TEXT, true, &tables);
-    for (at, amount, right, left) in MOVES {
-        assert!(rt; *at <= 10 && moves(&input, *at, *amount, *right, *left));
-    }
-    assert!(rt;
-        input.left_end() == DefPosition::new(0) && input.right_end() == DefPosition::new(10)
-    );
+    assert!(rt; all_move(&tables(rt.alloc())?));
     Ok(())
 }
 
@@ -255,17 +257,38 @@ fn reads_byte<Input: InputIndexer, Dir: Direction>(
     }
 }
 
+/// An offset, and what is read there to the right and to the left.
+type ByteRow = (usize, Option<(u8, usize)>, Option<(u8, usize)>);
+
+// of a character of one byte and one of two
+const BYTES: &[ByteRow] = &[
+    (0, Some((0x61, 1)), None),
+    (2, Some((0xA9, 3)), Some((0xC3, 1))),
+    (3, None, Some((0xA9, 2))),
+];
+
+// units are no bytes
+const NO_BYTES: &[ByteRow] = &[(0, None, None), (1, None, None)];
+
+/// Whether all rows of bytes are read so.
+fn bytes_are_read<Input: InputIndexer>(input: &Input, rows: &[ByteRow]) -> bool {
+    let length = input.pos_to_offset(input.right_end());
+    for (at, right, left) in rows {
+        if *at > length
+            || !reads_byte(input, Forward, *at, *right)
+            || !reads_byte(input, Backward, *at, *left)
+        {
+            return false;
+        }
+    }
+    true
+}
+
 #[test]
 fn bytes_are_read_both_ways(rt: HostRuntime) -> Result<(), Fail> {
     let tables = tables(rt.alloc())?;
-    let input = Utf8Input::new("a\u{E9}", true, &tables);
-    assert!(rt; reads_byte(&input, Forward, 0, Some((0x61, 1))));
-    assert!(rt; reads_byte(&input, Forward, 2, Some((0xA9, 3))));
-    assert!(rt; reads_byte(&input, Forward, 3, None));
-    assert!(rt; reads_byte(&input, Backward, 3, Some((0xA9, 2))));
-    assert!(rt; reads_byte(&input, Backward, 0, None));
-    // units are no bytes
+    let text = Utf8Input::new("a\u{E9}", true, &tables);
     let units = Utf16Input::new(&[0x61], true, &tables);
-    assert!(rt; reads_byte(&units, Forward, 0, None) && reads_byte(&units, Backward, 1, None));
+    assert!(rt; bytes_are_read(&text, BYTES) && bytes_are_read(&units, NO_BYTES));
     Ok(())
 }

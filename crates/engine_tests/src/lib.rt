@@ -12,6 +12,8 @@ mod parts;
 #[cfg(test)]
 mod positions;
 #[cfg(test)]
+mod promises;
+#[cfg(test)]
 mod properties;
 #[cfg(test)]
 mod singles;

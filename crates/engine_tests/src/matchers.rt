@@ -108,20 +108,29 @@ const LOWS: &[u16] = &[0xDE00, 0xDE00];
 
 const IN_LOWS: &[Repeat] = &[(1, 2, 1, Some(2), Some(0)), (0, 1, 2, None, Some(1))];
 
+const IN_NONE: &[Repeat] = &[(0, 0, 0, Some(0), Some(0))];
+
+/// Whether references in units are so, with case ignored or not.
+fn units_are_so(icase: bool, tables: &Tables) -> bool {
+    utf16_rows_are_so(HALF, IN_HALF, icase, tables)
+        && utf16_rows_are_so(TWICE, IN_TWICE, icase, tables)
+        && utf16_rows_are_so(LOW, IN_LOW, icase, tables)
+        && utf16_rows_are_so(LOWS, IN_LOWS, icase, tables)
+        && utf16_rows_are_so(&[], IN_NONE, icase, tables)
+}
+
+/// Whether they are so where no pair is one character.
+fn single_units_are_so(tables: &Tables) -> bool {
+    let input = Ucs2Input::new(HALF, true, tables);
+    leads(&input, Forward, (0, 1), 1, Some(2), false)
+        && leads(&input, Backward, (2, 3), 3, Some(2), true)
+}
+
 #[test]
 fn references_in_units_end_outside_pairs(rt: HostRuntime) -> Result<(), Fail> {
     let tables = tables(rt.alloc())?;
-    for icase in [false, true] {
-        assert!(rt; utf16_rows_are_so(HALF, IN_HALF, icase, &tables));
-        assert!(rt; utf16_rows_are_so(TWICE, IN_TWICE, icase, &tables));
-        assert!(rt; utf16_rows_are_so(LOW, IN_LOW, icase, &tables));
-        assert!(rt; utf16_rows_are_so(LOWS, IN_LOWS, icase, &tables));
-        assert!(rt; utf16_rows_are_so(&[], &[(0, 0, 0, Some(0), Some(0))], icase, &tables));
-    }
-    // without pairs
-    let input = Ucs2Input::new(HALF, true, &tables);
-    assert!(rt; leads(&input, Forward, (0, 1), 1, Some(2), false));
-    assert!(rt; leads(&input, Backward, (2, 3), 3, Some(2), true));
+    assert!(rt; units_are_so(false, &tables) && units_are_so(true, &tables));
+    assert!(rt; single_units_are_so(&tables));
     Ok(())
 }
 
@@ -143,15 +152,22 @@ const IN_KELVIN_ANY_CASE: &[Repeat] = &[
     (0, 0, 6, Some(6), Some(6)),
 ];
 
+/// Whether references in ASCII are so.
+fn letters_are_so(tables: &Tables) -> bool {
+    let ascii = AsciiInput::new("aAb", true, tables);
+    leads(&ascii, Forward, (0, 1), 1, Some(2), true)
+        && leads(&ascii, Forward, (0, 1), 1, None, false)
+        && leads(&ascii, Backward, (0, 2), 2, Some(0), true)
+}
+
 #[test]
 fn references_ignore_case_by_the_tables(rt: HostRuntime) -> Result<(), Fail> {
     let tables = tables(rt.alloc())?;
-    assert!(rt; utf8_rows_are_so(KELVIN, IN_KELVIN, false, &tables));
-    assert!(rt; utf8_rows_are_so(KELVIN, IN_KELVIN_ANY_CASE, true, &tables));
-    assert!(rt; utf8_rows_are_so("", &[(0, 0, 0, Some(0), Some(0))], true, &tables));
-    let ascii = AsciiInput::new("aAb", true, &tables);
-    assert!(rt; leads(&ascii, Forward, (0, 1), 1, Some(2), true));
-    assert!(rt; leads(&ascii, Forward, (0, 1), 1, None, false));
-    assert!(rt; leads(&ascii, Backward, (0, 2), 2, Some(0), true));
+    assert!(rt;
+        utf8_rows_are_so(KELVIN, IN_KELVIN, false, &tables)
+            && utf8_rows_are_so(KELVIN, IN_KELVIN_ANY_CASE, true, &tables)
+            && utf8_rows_are_so("", IN_NONE, true, &tables)
+    );
+    assert!(rt; letters_are_so(&tables));
     Ok(())
 }

@@ -114,13 +114,15 @@ fn ascii_part_is_read(text: &str, start: usize, end: usize, rows: &[Row], tables
 #[test]
 fn parts_are_inputs(rt: HostRuntime) -> Result<(), Fail> {
     let tables = tables(rt.alloc())?;
-    assert!(rt; utf8_part_is_read(1, 6, IN_MIDDLE, &tables));
-    assert!(rt; utf8_part_is_read(6, 6, IN_NONE, &tables));
-    assert!(rt; utf16_part_is_read(1, 3, IN_PAIR, &tables));
-    assert!(rt; utf16_part_is_read(0, 2, IN_HIGH_UNITS, &tables));
-    assert!(rt; utf16_part_is_read(4, 4, IN_NONE, &tables));
-    assert!(rt; ucs2_part_is_read(1, 3, IN_UNITS_APART, &tables));
-    assert!(rt; ascii_part_is_read("abc", 1, 2, IN_ASCII, &tables));
+    assert!(rt;
+        utf8_part_is_read(1, 6, IN_MIDDLE, &tables)
+            && utf8_part_is_read(6, 6, IN_NONE, &tables)
+            && utf16_part_is_read(1, 3, IN_PAIR, &tables)
+            && utf16_part_is_read(0, 2, IN_HIGH_UNITS, &tables)
+            && utf16_part_is_read(4, 4, IN_NONE, &tables)
+            && ucs2_part_is_read(1, 3, IN_UNITS_APART, &tables)
+            && ascii_part_is_read("abc", 1, 2, IN_ASCII, &tables)
+    );
     Ok(())
 }
 
@@ -197,23 +199,21 @@ const IN_SINGLE_UNITS: &[Repeat] = &[
     (1, 1, 2, Some(2), Some(2)),
 ];
 
+const IN_LETTERS: &[Repeat] = &[(0, 2, 2, Some(4), Some(0)), (0, 2, 3, None, None)];
+
+const IN_EMPTY: &[Repeat] = &[(0, 0, 0, Some(0), Some(0))];
+
 #[test]
 fn ranges_stand_once_more(rt: HostRuntime) -> Result<(), Fail> {
     let tables = tables(rt.alloc())?;
-    let text = Utf8Input::new("a\u{E9}a\u{E9}", true, &tables);
-    assert!(rt; rows_are_repeated(&text, IN_BYTES));
-    assert!(rt; rows_are_repeated(&Utf16Input::new(UNITS, true, &tables), IN_PAIRS));
-    assert!(rt; rows_are_repeated(&Ucs2Input::new(UNITS, true, &tables), IN_SINGLE_UNITS));
-    let ascii = AsciiInput::new("abab", true, &tables);
     assert!(rt;
-        rows_are_repeated(
-            &ascii,
-            &[(0, 2, 2, Some(4), Some(0)), (0, 2, 3, None, None)]
-        )
+        rows_are_repeated(&Utf8Input::new("a\u{E9}a\u{E9}", true, &tables), IN_BYTES)
+            && rows_are_repeated(&Utf16Input::new(UNITS, true, &tables), IN_PAIRS)
+            && rows_are_repeated(&Ucs2Input::new(UNITS, true, &tables), IN_SINGLE_UNITS)
+            && rows_are_repeated(&AsciiInput::new("abab", true, &tables), IN_LETTERS)
+            && rows_are_repeated(&Utf8Input::new("", true, &tables), IN_EMPTY)
+            && rows_are_repeated(&Utf16Input::new(&[], true, &tables), IN_EMPTY)
     );
-    let empty = [(0, 0, 0, Some(0), Some(0))];
-    assert!(rt; rows_are_repeated(&Utf8Input::new("", true, &tables), &empty));
-    assert!(rt; rows_are_repeated(&Utf16Input::new(&[], true, &tables), &empty));
     Ok(())
 }
 
@@ -240,26 +240,27 @@ const LETTER_FROM: &[(usize, Option<usize>)] = &[
     (4, None),
 ];
 
+/// Whether the letter is found from each offset on where it is said.
+fn letters_are_found(tables: &Tables) -> bool {
+    let input = Utf8Input::new("a\u{E9}a", true, tables);
+    for (at, wanted) in LETTER_FROM {
+        if !finds(&input, b"a", *at, *wanted) {
+            return false;
+        }
+    }
+    finds(&input, &ByteBitmap::new(&[0xA9, 0xC3]), 2, Some(2))
+        && finds(&input, &EmptyString, 4, Some(4))
+}
+
 #[test]
 fn bytes_are_found_from_a_start(rt: HostRuntime) -> Result<(), Fail> {
     let tables = tables(rt.alloc())?;
-    let input = Utf8Input::new("a\u{E9}a", true, &tables);
-    for (at, wanted) in LETTER_FROM {
-        assert!(rt; finds(&input, b"a", *at, *wanted));
-    }
-    assert!(rt; finds(&input, &ByteBitmap::new(&[0xA9, 0xC3]), 2, Some(2)));
-    assert!(rt; finds(&input, &EmptyString, 4, Some(4)));
-    assert!(rt; finds(&AsciiInput::new("aba", true, &tables), b"a", 1, Some(2)));
+    let ascii = AsciiInput::new("aba", true, &tables);
+    assert!(rt; letters_are_found(&tables) && finds(&ascii, b"a", 1, Some(2)));
     // units are no bytes
-    assert!(rt; finds(&Utf16Input::new(&[0x61], true, &tables), b"a", 0, None));
-    assert!(rt;
-        finds(
-            &Ucs2Input::new(&[0x61], true, &tables),
-            &EmptyString,
-            0,
-            None
-        )
-    );
+    let units = Utf16Input::new(&[0x61], true, &tables);
+    let single_units = Ucs2Input::new(&[0x61], true, &tables);
+    assert!(rt; finds(&units, b"a", 0, None) && finds(&single_units, &EmptyString, 0, None));
     Ok(())
 }
 
@@ -281,7 +282,21 @@ fn literal_stands<Input: InputIndexer>(
     leads(input, found, ahead, right) && leads(input, found_before, behind, left)
 }
 
-/// Whether rows of bytes, an offset, and where they lead to from there, to the right and to the left, are all so.
+// bytes, an offset, and where they lead to from there to the right and to the left, in a text of one byte, two and one
+const LITERALS: &[(&[u8], usize, Option<usize>, Option<usize>)] = &[
+    (b"a", 0, Some(1), None),
+    (b"a", 1, None, Some(0)),
+    (&[0x61, 0xC3, 0xA9], 0, Some(3), None),
+    (&[0x61, 0xC3, 0xA9], 3, None, Some(0)),
+    (&[0xC3], 1, Some(2), None),
+    (&[0xC3], 2, None, Some(1)),
+    (&[0xA9, 0x61], 3, None, None),
+    (&[0xA9, 0x61], 2, Some(4), None),
+    (b"aa", 3, None, None),
+    (b"", 4, Some(4), Some(4)),
+];
+
+/// Whether all rows are so.
 fn literals_stand<Input: InputIndexer>(
     input: &Input,
     rows: &[(&[u8], usize, Option<usize>, Option<usize>)],
@@ -297,30 +312,15 @@ fn literals_stand<Input: InputIndexer>(
 #[test]
 fn literals_stand_beside_offsets(rt: HostRuntime) -> Result<(), Fail> {
     let tables = tables(rt.alloc())?;
-    let input = Utf8Input::new("a\u{E9}a", true, &tables);
-    // a text of one byte, two and one
-    assert!(rt;
-        literals_stand(
-            &input,
-            &[
-                (b"a", 0, Some(1), None),
-                (b"a", 1, None, Some(0)),
-                (&[0x61, 0xC3, 0xA9], 0, Some(3), None),
-                (&[0x61, 0xC3, 0xA9], 3, None, Some(0)),
-                (&[0xC3], 1, Some(2), None),
-                (&[0xC3], 2, None, Some(1)),
-                (&[0xA9, 0x61], 3, None, None),
-                (&[0xA9, 0x61], 2, Some(4), None),
-                (b"aa", 3, None, None),
-                (b"", 4, Some(4), Some(4)),
-            ]
-        )
-    );
+    let text = Utf8Input::new("a\u{E9}a", true, &tables);
     let ascii = AsciiInput::new("ab", true, &tables);
-    assert!(rt; literal_stands(&ascii, b"b", 1, Some(2), None));
     // units are no bytes
     let units = Utf16Input::new(&[0x61], true, &tables);
-    assert!(rt; literal_stands(&units, b"a", 0, None, None));
+    assert!(rt;
+        literals_stand(&text, LITERALS)
+            && literal_stands(&ascii, b"b", 1, Some(2), None)
+            && literal_stands(&units, b"a", 0, None, None)
+    );
     Ok(())
 }
 
@@ -328,13 +328,13 @@ fn literals_stand_beside_offsets(rt: HostRuntime) -> Result<(), Fail> {
 fn arrays_are_literals(rt: HostRuntime) -> Result<(), Fail> {
     let tables = tables(rt.alloc())?;
     let input = Utf8Input::new("a\u{E9}a", true, &tables);
-    let mut pos = DefPosition::new(0);
-    let first = try_match_lit(&input, Forward, &mut pos, &[0x61, 0xC3, 0xA9]);
-    assert!(rt; first && pos == DefPosition::new(3));
-    let mut pos = DefPosition::new(4);
-    let last = try_match_lit(&input, Backward, &mut pos, b"a");
-    assert!(rt; last && pos == DefPosition::new(3));
-    let mut pos = DefPosition::new(4);
-    assert!(rt; !try_match_lit(&input, Forward, &mut pos, b"a"));
+    let mut ahead = DefPosition::new(0);
+    let mut behind = DefPosition::new(4);
+    let mut past = DefPosition::new(4);
+    let first = try_match_lit(&input, Forward, &mut ahead, &[0x61, 0xC3, 0xA9]);
+    let last = try_match_lit(&input, Backward, &mut behind, b"a");
+    let none = !try_match_lit(&input, Forward, &mut past, b"a");
+    let moved = ahead == DefPosition::new(3) && behind == DefPosition::new(3);
+    assert!(rt; first && last && none && moved);
     Ok(())
 }

@@ -15,28 +15,30 @@ fn positions_are_counted(rt: HostRuntime) -> Result<(), Fail> {
     let left = right - 5;
     let between = right - left;
     prove!(between == 5);
-    assert!(rt; right == DefPosition::new(7) && left == DefPosition::new(2) && between == 5);
     let mut moved = at;
     moved += 4;
     let further = moved - at;
     moved -= 6;
     let back = at - moved;
     prove!(further == 4 && back == 2);
+    assert!(rt; right == DefPosition::new(7) && left == DefPosition::new(2) && between == 5);
     assert!(rt; moved == DefPosition::new(1) && further == 4 && back == 2);
-    assert!(rt; left < at && at < right && at != right);
     let printed = format!(in rt.alloc(); "{at:?}")?;
-    assert!(rt; printed.as_str() == "IndexPosition { offset: 3 }");
+    let are_ordered = left < at && at < right && at != right;
+    assert!(rt; are_ordered && printed.as_str() == "IndexPosition { offset: 3 }");
     Ok(())
 }
 
 #[test]
 fn numbers_are_characters_where_they_fit(rt: HostRuntime) {
-    assert!(rt; <char as ElementType>::try_from(0x1F600) == Some('\u{1F600}'));
-    assert!(rt; <char as ElementType>::try_from(0xD800).is_none());
-    assert!(rt; <char as ElementType>::try_from(0x11_0000).is_none());
-    assert!(rt; <u8 as ElementType>::try_from(0xFF) == Some(0xFF));
-    assert!(rt; <u8 as ElementType>::try_from(0x100).is_none());
-    assert!(rt; <u32 as ElementType>::try_from(0xD800) == Some(0xD800));
+    assert!(rt;
+        <char as ElementType>::try_from(0x1F600) == Some('\u{1F600}')
+            && <char as ElementType>::try_from(0xD800).is_none()
+            && <char as ElementType>::try_from(0x11_0000).is_none()
+            && <u8 as ElementType>::try_from(0xFF) == Some(0xFF)
+            && <u8 as ElementType>::try_from(0x100).is_none()
+            && <u32 as ElementType>::try_from(0xD800) == Some(0xD800)
+    );
     let from_char = '\u{E9}'.as_u32();
     let from_byte = 0x61_u8.as_u32();
     let from_number = 0xD800_u32.as_u32();
@@ -51,10 +53,14 @@ fn is_forward<Dir: Direction>(_dir: Dir) -> bool {
 
 #[test]
 fn directions_are_two(rt: HostRuntime) -> Result<(), Fail> {
-    assert!(rt; is_forward(Forward::new()) && !is_forward(Backward::new()));
-    assert!(rt; <u8 as CodeUnit>::IS_BYTE && !<u16 as CodeUnit>::IS_BYTE);
     let printed = format!(in rt.alloc(); "{Forward:?} {Backward:?}")?;
-    assert!(rt; printed.as_str() == "Forward Backward");
+    assert!(rt;
+        is_forward(Forward::new())
+            && !is_forward(Backward::new())
+            && <u8 as CodeUnit>::IS_BYTE
+            && !<u16 as CodeUnit>::IS_BYTE
+            && printed.as_str() == "Forward Backward"
+    );
     Ok(())
 }
 
@@ -85,7 +91,6 @@ fn bytes_are_pinned(rt: HostRuntime) -> Result<(), Fail> {
     let left = input.peek_byte_left(DefPosition::new(1)) == Some(b'a');
     let none = input.peek_byte_right(DefPosition::new(2)).is_none();
     prove!(right && left && none);
-    assert!(rt; right && left && none);
-    assert!(rt; input.bytes() == Some("ab".as_bytes()));
+    assert!(rt; right && left && none && input.bytes() == Some("ab".as_bytes()));
     Ok(())
 }

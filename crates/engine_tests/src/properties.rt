@@ -23,20 +23,31 @@ const CASES: &[(char, char, char)] = &[
     ('\u{20AC}', '\u{20AC}', '\u{20AC}'),
 ];
 
+/// Whether characters and numbers have alike what is said of them.
+fn cases_are_so(tables: &Tables) -> bool {
+    for (c, with_unicode, without) in CASES {
+        let number = u32::from(*c);
+        if UTF8CharProperties::fold(*c, true, tables) != *with_unicode
+            || UTF8CharProperties::fold(*c, false, tables) != *without
+            || Utf16CharProperties::fold(number, true, tables) != u32::from(*with_unicode)
+            || Utf16CharProperties::fold(number, false, tables) != u32::from(*without)
+        {
+            return false;
+        }
+    }
+    true
+}
+
 #[test]
 fn case_is_by_the_tables_and_the_mode(rt: HostRuntime) -> Result<(), Fail> {
     let tables = tables(rt.alloc())?;
-    for (c, with_unicode, without) in CASES {
-        assert!(rt; UTF8CharProperties::fold(*c, true, &tables) == *with_unicode);
-        assert!(rt; UTF8CharProperties::fold(*c, false, &tables) == *without);
-        let number = u32::from(*c);
-        assert!(rt; Utf16CharProperties::fold(number, true, &tables) == u32::from(*with_unicode));
-        assert!(rt; Utf16CharProperties::fold(number, false, &tables) == u32::from(*without));
-    }
-    assert!(rt; Utf16CharProperties::fold(0xD83D, true, &tables) == 0xD83D);
-    assert!(rt; ASCIICharProperties::fold(b'K', true, &tables) == b'k');
-    assert!(rt; ASCIICharProperties::fold(b'k', false, &tables) == b'K');
-    assert!(rt; ASCIICharProperties::fold(b'[', true, &tables) == b'[');
+    assert!(rt;
+        cases_are_so(&tables)
+            && Utf16CharProperties::fold(0xD83D, true, &tables) == 0xD83D
+            && ASCIICharProperties::fold(b'K', true, &tables) == b'k'
+            && ASCIICharProperties::fold(b'k', false, &tables) == b'K'
+            && ASCIICharProperties::fold(b'[', true, &tables) == b'['
+    );
     Ok(())
 }
 
@@ -57,20 +68,31 @@ const KINDS: &[(char, bool, bool, bool)] = &[
     ('\u{2030}', false, false, false),
 ];
 
+/// Whether characters are of the kinds that are said of them.
+fn kinds_are_so(tables: &Tables) -> bool {
+    for (c, word, folded, line_end) in KINDS {
+        if UTF8CharProperties::is_word_char(*c) != *word
+            || UTF8CharProperties::is_word_char_unicode_icase(*c, tables) != *folded
+            || UTF8CharProperties::is_line_terminator(*c) != *line_end
+        {
+            return false;
+        }
+    }
+    true
+}
+
 #[test]
 fn characters_are_of_words_and_end_lines(rt: HostRuntime) -> Result<(), Fail> {
     let tables = tables(rt.alloc())?;
-    for (c, word, folded, line_end) in KINDS {
-        assert!(rt; UTF8CharProperties::is_word_char(*c) == *word);
-        assert!(rt; UTF8CharProperties::is_word_char_unicode_icase(*c, &tables) == *folded);
-        assert!(rt; UTF8CharProperties::is_line_terminator(*c) == *line_end);
-    }
-    assert!(rt; ASCIICharProperties::is_word_char(b'a'));
-    assert!(rt; !ASCIICharProperties::is_word_char_unicode_icase(b'-', &tables));
-    assert!(rt; ASCIICharProperties::is_line_terminator(b'\n'));
-    assert!(rt; !Utf16CharProperties::is_word_char(0xD83D));
-    assert!(rt; Utf16CharProperties::is_word_char_unicode_icase(0x212A, &tables));
-    assert!(rt; Utf16CharProperties::is_line_terminator(0x2029));
+    assert!(rt;
+        kinds_are_so(&tables)
+            && ASCIICharProperties::is_word_char(b'a')
+            && !ASCIICharProperties::is_word_char_unicode_icase(b'-', &tables)
+            && ASCIICharProperties::is_line_terminator(b'\n')
+            && !Utf16CharProperties::is_word_char(0xD83D)
+            && Utf16CharProperties::is_word_char_unicode_icase(0x212A, &tables)
+            && Utf16CharProperties::is_line_terminator(0x2029)
+    );
     Ok(())
 }
 
@@ -91,29 +113,47 @@ fn classes_hold_characters(rt: HostRuntime) -> Result<(), Fail> {
     cps.add_one(0x61)?;
     cps.add_one(0xD83D)?;
     let mut bc = BracketContents { invert: false, cps };
-    assert!(rt; UTF8CharProperties::bracket(&bc, 'a') && !UTF8CharProperties::bracket(&bc, 'b'));
-    assert!(rt; Utf16CharProperties::bracket(&bc, 0xD83D));
+    let held = UTF8CharProperties::bracket(&bc, 'a') && Utf16CharProperties::bracket(&bc, 0xD83D);
+    let other = UTF8CharProperties::bracket(&bc, 'b');
     bc.invert = true;
-    assert!(rt;
-        ASCIICharProperties::bracket(&bc, b'b') && !ASCIICharProperties::bracket(&bc, b'a')
-    );
-    assert!(rt; !Utf16CharProperties::bracket(&bc, 0xD83D));
+    let turned = ASCIICharProperties::bracket(&bc, b'b');
+    let left_out = ASCIICharProperties::bracket(&bc, b'a')
+        || Utf16CharProperties::bracket(&bc, 0xD83D);
+    assert!(rt; held && !other && turned && !left_out);
     Ok(())
+}
+
+/// Whether two characters of a text are equal but for case as is said, and the first has this case.
+fn folds<Input: CharInput>(
+    input: &Input,
+    one: Input::Element,
+    folded: Input::Element,
+    other: Input::Element,
+    are_equal: bool,
+) -> bool {
+    input.fold(one) == folded && input.fold_equals(one, other) == are_equal
 }
 
 #[test]
 fn characters_of_a_text_are_equal_but_for_case(rt: HostRuntime) -> Result<(), Fail> {
     let tables = tables(rt.alloc())?;
     let text = Utf8Input::new("", true, &tables);
-    assert!(rt; text.fold('\u{212A}') == 'k' && text.fold_equals('k', '\u{212A}'));
-    let text = Utf8Input::new("", false, &tables);
-    assert!(rt; text.fold('k') == 'K' && !text.fold_equals('k', '\u{212A}'));
+    let without = Utf8Input::new("", false, &tables);
+    assert!(rt;
+        folds(&text, '\u{212A}', 'k', 'k', true)
+            && text.fold_equals('k', '\u{212A}')
+            && folds(&without, 'k', 'K', '\u{212A}', false)
+    );
     let ascii = AsciiInput::new("", true, &tables);
-    assert!(rt; ascii.fold(b'K') == b'k' && ascii.fold_equals(b'k', b'K'));
     let units = Utf16Input::new(&[], true, &tables);
-    assert!(rt; units.fold(0x212A) == 0x6B && !units.fold_equals(0xD83D, 0xDE00));
-    let units = Ucs2Input::new(&[], false, &tables);
-    assert!(rt; units.fold(0x6B) == 0x4B && units.fold_equals(0x6B, 0x4B));
+    let single_units = Ucs2Input::new(&[], false, &tables);
+    assert!(rt;
+        folds(&ascii, b'K', b'k', b'k', true)
+            && ascii.fold_equals(b'k', b'K')
+            && units.fold(0x212A) == 0x6B
+            && !units.fold_equals(0xD83D, 0xDE00)
+            && folds(&single_units, 0x6B, 0x4B, 0x4B, true)
+    );
     Ok(())
 }
 
@@ -125,9 +165,11 @@ fn is_made_of<Input: InputIndexer>(input: &Input, unicode: bool) -> bool {
 #[test]
 fn inputs_keep_what_they_are_made_of(rt: HostRuntime) -> Result<(), Fail> {
     let tables = tables(rt.alloc())?;
-    assert!(rt; is_made_of(&Utf8Input::new("a", true, &tables), true));
-    assert!(rt; is_made_of(&AsciiInput::new("a", false, &tables), false));
-    assert!(rt; is_made_of(&Utf16Input::new(&[0x61], true, &tables), true));
-    assert!(rt; is_made_of(&Ucs2Input::new(&[0x61], false, &tables), false));
+    assert!(rt;
+        is_made_of(&Utf8Input::new("a", true, &tables), true)
+            && is_made_of(&AsciiInput::new("a", false, &tables), false)
+            && is_made_of(&Utf16Input::new(&[0x61], true, &tables), true)
+            && is_made_of(&Ucs2Input::new(&[0x61], false, &tables), false)
+    );
     Ok(())
 }

@@ -1,6 +1,6 @@
 //! Tests of tests on single characters.
 ghost use Rattle.std.specs.Prelude.{◌≡◌, true};
-ghost use Rattle.regress_engine_input.specs.Views.{CanRead, are_bytes};
+ghost use Rattle.regress_engine_input.specs.Views.{CanRead, View, are_bytes};
 
 use regress_engine_input::{
     AsciiInput, Backward, Direction, Forward, InputIndexer, PositionType, Ucs2Input, Utf8Input,
@@ -134,69 +134,82 @@ const ASCII: &[Row] = &[
     (8, None, None),
 ];
 
+/// Whether all rows of the text are so in one direction, by a test that suits bytes.
+fn text_leads<'u, Dir: Direction, Matcher: SingleCharMatcher<Utf8Input<'u, 'static>, Dir>>(
+    matcher: &Matcher,
+    _dir: Dir,
+    rows: &[Row],
+    tables: &'u Tables,
+) -> bool
+    requires { (v : View) → are_bytes v.kind ≡ true → Matcher.Suits matcher.now v }
+{
+    let input = Utf8Input::new(TEXT, true, tables);
+    for (at, right, left) in rows {
+        let to = if Dir::FORWARD { *right } else { *left };
+        if !TEXT.is_char_boundary(*at) || !leads(matcher, &input, Dir::new(), *at, to) {
+            return false;
+        }
+    }
+    true
+}
+
 #[test]
 fn characters_pass(rt: HostRuntime) -> Result<(), Fail> {
     let tables = tables(rt.alloc())?;
-    let input = Utf8Input::new(TEXT, true, &tables);
     let any = MatchAny::new();
-    for (at, right, left) in ANY {
-        assert!(rt; TEXT.is_char_boundary(*at));
-        assert!(rt; leads(&any, &input, Forward, *at, *right));
-        assert!(rt; leads(&any, &input, Backward, *at, *left));
-    }
+    assert!(rt;
+        text_leads(&any, Forward, ANY, &tables) && text_leads(&any, Backward, ANY, &tables)
+    );
     let dot = MatchAnyExceptLineTerminator::new();
-    for (at, right, left) in IN_LINE {
-        assert!(rt; TEXT.is_char_boundary(*at));
-        assert!(rt; leads(&dot, &input, Forward, *at, *right));
-        assert!(rt; leads(&dot, &input, Backward, *at, *left));
-    }
+    assert!(rt;
+        text_leads(&dot, Forward, IN_LINE, &tables) && text_leads(&dot, Backward, IN_LINE, &tables)
+    );
     let few = CharSet {
         chars: &[0x61, 0x1F600, 0x1F600, 0x1F600],
     };
-    for (at, right, left) in FIRST_AND_LAST {
-        assert!(rt; TEXT.is_char_boundary(*at));
-        assert!(rt; leads(&few, &input, Forward, *at, *right));
-        assert!(rt; leads(&few, &input, Backward, *at, *left));
-    }
+    assert!(rt;
+        text_leads(&few, Forward, FIRST_AND_LAST, &tables)
+            && text_leads(&few, Backward, FIRST_AND_LAST, &tables)
+    );
     Ok(())
+}
+
+/// Whether the second last character is found by itself and by its bytes.
+fn second_last_leads(rows: &[Row], tables: &Tables) -> bool {
+    let input = Utf8Input::new(TEXT, true, tables);
+    for (at, right, left) in rows {
+        if !TEXT.is_char_boundary(*at)
+            || !char_leads('\u{E9}', &input, Forward, *at, *right)
+            || !char_leads('\u{E9}', &input, Backward, *at, *left)
+            || !spelled_leads("\u{E9}", &input, Forward, *at, *right)
+            || !spelled_leads("\u{E9}", &input, Backward, *at, *left)
+        {
+            return false;
+        }
+    }
+    true
 }
 
 #[test]
 fn one_character_passes(rt: HostRuntime) -> Result<(), Fail> {
-    let tables = tables(rt.alloc())?;
-    let input = Utf8Input::new(TEXT, true, &tables);
-    for (at, right, left) in SECOND_LAST {
-        assert!(rt; TEXT.is_char_boundary(*at));
-        assert!(rt; char_leads('\u{E9}', &input, Forward, *at, *right));
-        assert!(rt; char_leads('\u{E9}', &input, Backward, *at, *left));
-    }
-    for (at, right, left) in SECOND_LAST {
-        assert!(rt; TEXT.is_char_boundary(*at));
-        assert!(rt; spelled_leads("\u{E9}", &input, Forward, *at, *right));
-        assert!(rt; spelled_leads("\u{E9}", &input, Backward, *at, *left));
-    }
+    assert!(rt; second_last_leads(SECOND_LAST, &tables(rt.alloc())?));
     Ok(())
 }
 
 #[test]
 fn bytes_of_sets_pass(rt: HostRuntime) -> Result<(), Fail> {
     let tables = tables(rt.alloc())?;
-    let input = Utf8Input::new(TEXT, true, &tables);
     let mut bitmap = AsciiBitmap::default();
     bitmap.set(b'a');
     ascii_bitmap_holds_ascii(&bitmap);
     let set = MatchByteSet { bytes: &bitmap };
-    for (at, right, left) in FIRST {
-        assert!(rt; TEXT.is_char_boundary(*at));
-        assert!(rt; leads(&set, &input, Forward, *at, *right));
-        assert!(rt; leads(&set, &input, Backward, *at, *left));
-    }
+    assert!(rt;
+        text_leads(&set, Forward, FIRST, &tables) && text_leads(&set, Backward, FIRST, &tables)
+    );
     let small = MatchByteArraySet(ByteArraySet(*b"a\n"));
-    for (at, right, left) in ASCII {
-        assert!(rt; TEXT.is_char_boundary(*at));
-        assert!(rt; leads(&small, &input, Forward, *at, *right));
-        assert!(rt; leads(&small, &input, Backward, *at, *left));
-    }
+    assert!(rt;
+        text_leads(&small, Forward, ASCII, &tables) && text_leads(&small, Backward, ASCII, &tables)
+    );
     Ok(())
 }
 
@@ -210,22 +223,24 @@ fn first_and_last(alloc: Global) -> Result<CodePointSet, Error> {
 #[test]
 fn classes_pass(rt: HostRuntime) -> Result<(), Fail> {
     let tables = tables(rt.alloc())?;
-    let input = Utf8Input::new(TEXT, true, &tables);
     let mut bc = BracketContents {
         invert: false,
         cps: first_and_last(rt.alloc())?,
     };
-    for (at, right, left) in FIRST_AND_LAST {
-        assert!(rt; TEXT.is_char_boundary(*at));
-        assert!(rt; leads(&Bracket { bc: &bc }, &input, Forward, *at, *right));
-        assert!(rt; leads(&PreparedBracket::new(&bc), &input, Backward, *at, *left));
-    }
+    assert!(rt;
+        text_leads(&Bracket { bc: &bc }, Forward, FIRST_AND_LAST, &tables)
+            && text_leads(
+                &PreparedBracket::new(&bc),
+                Backward,
+                FIRST_AND_LAST,
+                &tables
+            )
+    );
     bc.invert = true;
-    for (at, right, left) in MIDDLE {
-        assert!(rt; TEXT.is_char_boundary(*at));
-        assert!(rt; leads(&PreparedBracket::new(&bc), &input, Forward, *at, *right));
-        assert!(rt; leads(&Bracket { bc: &bc }, &input, Backward, *at, *left));
-    }
+    assert!(rt;
+        text_leads(&PreparedBracket::new(&bc), Forward, MIDDLE, &tables)
+            && text_leads(&Bracket { bc: &bc }, Backward, MIDDLE, &tables)
+    );
     Ok(())
 }
 
@@ -258,49 +273,91 @@ const LONE_HIGH: &[Row] = &[
 
 const NO_UNIT: &[Row] = &[(0, None, None), (2, None, None), (5, None, None)];
 
+/// Whether all rows of the units are so in one direction, by a test that suits any text.
+fn units_lead<'u, Dir: Direction, Matcher: SingleCharMatcher<Utf16Input<'u, 'static>, Dir>>(
+    matcher: &Matcher,
+    _dir: Dir,
+    rows: &[Row],
+    tables: &'u Tables,
+) -> bool
+    requires { (v : View) → Matcher.Suits matcher.now v }
+{
+    let input = Utf16Input::new(UNITS, true, tables);
+    for (at, right, left) in rows {
+        let to = if Dir::FORWARD { *right } else { *left };
+        if *at > UNITS.len() || !leads(matcher, &input, Dir::new(), *at, to) {
+            return false;
+        }
+    }
+    true
+}
+
+/// Whether a high unit that stands alone is found.
+fn high_units_lead(rows: &[Row], tables: &Tables) -> bool {
+    let input = Utf16Input::new(UNITS, true, tables);
+    for (at, right, left) in rows {
+        if *at > UNITS.len()
+            || !char_leads(0xD83D, &input, Forward, *at, *right)
+            || !char_leads(0xD83D, &input, Backward, *at, *left)
+        {
+            return false;
+        }
+    }
+    true
+}
+
 #[test]
 fn lone_units_pass(rt: HostRuntime) -> Result<(), Fail> {
     let tables = tables(rt.alloc())?;
-    let input = Utf16Input::new(UNITS, true, &tables);
     let any = MatchAny::new();
-    for (at, right, left) in ANY_UNIT {
-        assert!(rt; *at <= 5 && leads(&any, &input, Forward, *at, *right));
-        assert!(rt; *at <= 5 && leads(&any, &input, Backward, *at, *left));
-    }
+    assert!(rt;
+        units_lead(&any, Forward, ANY_UNIT, &tables)
+            && units_lead(&any, Backward, ANY_UNIT, &tables)
+    );
     let dot = MatchAnyExceptLineTerminator::new();
-    for (at, right, left) in UNIT_IN_LINE {
-        assert!(rt; *at <= 5 && leads(&dot, &input, Forward, *at, *right));
-        assert!(rt; *at <= 5 && leads(&dot, &input, Backward, *at, *left));
-    }
-    for (at, right, left) in LONE_HIGH {
-        assert!(rt; *at <= 5 && char_leads(0xD83D, &input, Forward, *at, *right));
-        assert!(rt; *at <= 5 && char_leads(0xD83D, &input, Backward, *at, *left));
-    }
-    // the number of a unit is no byte
+    assert!(rt;
+        units_lead(&dot, Forward, UNIT_IN_LINE, &tables)
+            && units_lead(&dot, Backward, UNIT_IN_LINE, &tables)
+    );
+    assert!(rt; high_units_lead(LONE_HIGH, &tables));
+    Ok(())
+}
+
+#[test]
+fn the_number_of_a_unit_is_no_byte(rt: HostRuntime) -> Result<(), Fail> {
+    let tables = tables(rt.alloc())?;
     let mut bitmap = AsciiBitmap::default();
     bitmap.set(0x28);
     ascii_bitmap_holds_ascii(&bitmap);
     let set = MatchByteSet { bytes: &bitmap };
-    for (at, right, left) in NO_UNIT {
-        assert!(rt; *at <= 5 && leads(&set, &input, Forward, *at, *right));
-        assert!(rt; *at <= 5 && leads(&set, &input, Backward, *at, *left));
-    }
+    assert!(rt;
+        units_lead(&set, Forward, NO_UNIT, &tables) && units_lead(&set, Backward, NO_UNIT, &tables)
+    );
     Ok(())
+}
+
+/// Whether a low unit is found among single units.
+fn single_units_lead(tables: &Tables) -> bool {
+    let units = Ucs2Input::new(&[0xD83D, 0xDE00], true, tables);
+    let low = CharSet {
+        chars: &[0xDE00; 4],
+    };
+    leads(&low, &units, Forward, 1, Some(2))
+        && leads(&low, &units, Backward, 2, Some(1))
+        && leads(&low, &units, Forward, 0, None)
+}
+
+/// Whether a letter is found in ASCII.
+fn letters_lead(tables: &Tables) -> bool {
+    let bytes = AsciiInput::new("ab", true, tables);
+    char_leads(b'b', &bytes, Forward, 1, Some(2))
+        && char_leads(b'b', &bytes, Backward, 2, Some(1))
+        && char_leads(b'b', &bytes, Backward, 1, None)
 }
 
 #[test]
 fn single_units_and_bytes_pass(rt: HostRuntime) -> Result<(), Fail> {
     let tables = tables(rt.alloc())?;
-    let units = Ucs2Input::new(&[0xD83D, 0xDE00], true, &tables);
-    let low = CharSet {
-        chars: &[0xDE00; 4],
-    };
-    assert!(rt; leads(&low, &units, Forward, 1, Some(2)));
-    assert!(rt; leads(&low, &units, Backward, 2, Some(1)));
-    assert!(rt; leads(&low, &units, Forward, 0, None));
-    let bytes = AsciiInput::new("ab", true, &tables);
-    assert!(rt; char_leads(b'b', &bytes, Forward, 1, Some(2)));
-    assert!(rt; char_leads(b'b', &bytes, Backward, 2, Some(1)));
-    assert!(rt; char_leads(b'b', &bytes, Backward, 1, None));
+    assert!(rt; single_units_lead(&tables) && letters_lead(&tables));
     Ok(())
 }

@@ -1,4 +1,4 @@
-//! Tests of both executors, by public calls alone. The library itself is empty.
+//! Tests of both executors, of what they begin with and of what they hold, by public calls alone. The library itself is empty.
 #![tactic(auto)]
 
 #[cfg(test)]
@@ -12,4 +12,10 @@ mod long;
 #[cfg(test)]
 mod parsed;
 #[cfg(test)]
+mod predicates;
+#[cfg(test)]
 mod singles;
+#[cfg(test)]
+mod starts;
+#[cfg(test)]
+mod undone;

@@ -6,6 +6,8 @@ mod bytes;
 #[cfg(test)]
 mod core_values;
 #[cfg(test)]
+mod promises;
+#[cfg(test)]
 mod sets;
 #[cfg(test)]
 mod sizes;

@@ -191,6 +191,7 @@ const BROKEN: &[(&[Pair], &[Pair], TableLaw, CodePoint)] = &[
     (CHAIN, &[], TableLaw::Idempotent, 0x100),
     (CLASS, CHAIN, TableLaw::Idempotent, 0x100),
     (CLASS, &[], TableLaw::ClassSize, 0x200),
+    (SURROGATE, &[], TableLaw::Surrogate, 0xE000),
     (&[], SURROGATE, TableLaw::Surrogate, 0xE000),
 ];
 
@@ -223,6 +224,21 @@ fn intervals_are_in_order(rt: HostRuntime) -> Result<(), Fail> {
     parts.id_start.swap(0, 1);
     assert!(rt; parts.key_out_of_place().is_none());
     assert!(rt; is_told(rt.alloc(), parts, &TableLaw::Canonical, 0x41));
+    let mut parts = TableParts::small(rt.alloc())?;
+    assert!(rt; parts.upper.len() > 1);
+    parts.upper.swap(0, 1);
+    assert!(rt; is_told(rt.alloc(), parts, &TableLaw::Order, 0x61));
+    Ok(())
+}
+
+#[test]
+fn identifiers_have_no_other_ascii_and_no_surrogate(rt: HostRuntime) -> Result<(), Fail> {
+    let mut parts = TableParts::small(rt.alloc())?;
+    parts.id_start.insert(0, DOLLAR)?;
+    assert!(rt; is_told(rt.alloc(), parts, &TableLaw::Identifier, 0x24));
+    let mut parts = TableParts::small(rt.alloc())?;
+    parts.id_continue.push(WITH_SURROGATES)?;
+    assert!(rt; is_told(rt.alloc(), parts, &TableLaw::Identifier, 0xD800));
     Ok(())
 }
 

@@ -4,6 +4,8 @@
 #[cfg(test)]
 mod nodes;
 #[cfg(test)]
+mod promises;
+#[cfg(test)]
 mod syntax;
 #[cfg(test)]
 mod tree;

@@ -9,6 +9,7 @@ use regress_front::{
     Interval, LoopID, Node, Piece, Quantifier, Tables, Walk, are_code_points,
     lower_code_point_sequence, walk, walk_mut,
 };
+use regress_front_nodes::ascii_bytes;
 use std::alloc::{AllocError, Global};
 use std::test::Fail;
 
@@ -308,7 +309,10 @@ fn a_set_of_two_matches_one_of_them(rt: HostRuntime) -> Result<(), Fail> {
     let is_none = node.match_always_fails();
     let is_one = node.matches_exactly_one_char();
     prove!(is_one && !is_none);
-    assert!(rt; is_one && !is_none);
+    let last = ascii_bytes(rt.alloc(), &[0x7F])?.is_some();
+    let past = ascii_bytes(rt.alloc(), &[0x61, 0x80])?.is_none();
+    prove!(last && past);
+    assert!(rt; is_one && !is_none && last && past);
     Ok(())
 }
 

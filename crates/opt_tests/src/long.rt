@@ -1,8 +1,7 @@
 //! Long patterns.
 
-use crate::told::parsed;
+use crate::told::rewritten;
 use regress_front_nodes::Node;
-use regress_front_opt::optimize;
 use regress_front_tables::Tables;
 use std::alloc::Global;
 use std::test::Fail;
@@ -22,8 +21,7 @@ fn byte_count(parts: &[Node]) -> usize {
 fn parts_and_bytes(alloc: Global, piece: &str, count: usize) -> Result<(usize, usize), Fail> {
     let tables = Tables::small(alloc)?;
     let pattern = piece.repeat(alloc, count)?;
-    let mut regex = parsed(alloc, pattern.as_str(), "", &tables)?;
-    optimize(alloc, &mut regex)?;
+    let regex = rewritten(alloc, pattern.as_str(), "", &tables)?;
     match &regex.node {
         Node::Cat(parts) => Ok((parts.len(), byte_count(parts))),
         _ => Err("no sequence".into()),

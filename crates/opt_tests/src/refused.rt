@@ -1,8 +1,7 @@
 //! Trees that are left where rewriting is refused memory.
 
-use crate::told::{list, parsed};
-use regress_front_opt::optimize;
-use regress_front_tables::{Error, Tables};
+use crate::told::before_and_after;
+use regress_front_tables::Error;
 use std::alloc::Global;
 use std::test::Fail;
 
@@ -11,17 +10,9 @@ const PATTERN: &str = "(?:ab|){2}[^][xy](?:|)(?:z[]|x+?y)(?:$)*(?<=(?:x){2}y)(?:
 
 const TEXT: &str = "ababéxxxyceab";
 
-/// All matches of the pattern, before its tree is rewritten and after, also where memory was refused to rewriting.
+/// All matches of the pattern, before its tree is rewritten and after.
 fn matches(alloc: Global) -> Result<(String, String), Error> {
-    let tables = Tables::small(alloc).map_err(|_| Error::OutOfMemory)?;
-    let mut regex = parsed(alloc, PATTERN, "", &tables)?;
-    let before = list(alloc, &regex, TEXT)?;
-    let outcome = optimize(alloc, &mut regex);
-    let after = list(alloc, &regex, TEXT)?;
-    if !matches!(outcome, Ok(()) | Err(Error::OutOfMemory)) {
-        outcome?;
-    }
-    Ok((before, after))
+    before_and_after(alloc, PATTERN, "", TEXT)
 }
 
 // A run may refuse one request for memory, each in turn (`rt try --test --fail-alloc N`): then the tree that rewriting leaves has
@@ -32,7 +23,6 @@ fn refused_memory_leaves_the_matches(rt: HostRuntime) -> Result<(), Fail> {
         Err(Error::OutOfMemory) => matches(rt.alloc())?,
         outcome => outcome?,
     };
-    assert!(rt; before.as_str() == "0..12");
-    assert!(rt; after.as_str() == before.as_str());
+    assert!(rt; before.as_str() == "0..12" && after.as_str() == before.as_str());
     Ok(())
 }

@@ -10,7 +10,6 @@ use regress_match::Matches;
 use regress_rows::tell;
 use std::alloc::{AllocError, Global};
 use std::sync::ArcSlice;
-use std::test::Fail;
 
 /// A pattern, its flags, and its rewritten tree as it is printed.
 pub(crate) type Row = (&'static str, &'static str, &'static str);
@@ -24,7 +23,7 @@ ghost use Rattle.regress_front_nodes.specs.Trees.{tree};
 ghost use Rattle.regress_front_nodes.specs.WellFormed.{IsWellFormed};
 
 /// The tree of a pattern as the parser gives it.
-pub(crate) fn parsed<'t>(
+fn parsed<'t>(
     alloc: Global,
     pattern: &str,
     flags: &str,
@@ -41,12 +40,16 @@ pub(crate) fn parsed<'t>(
     try_parse(alloc, &points, Flags::from(flags), tables)
 }
 
-/// The tree of a pattern as text, rewritten.
-pub(crate) fn rewritten(alloc: Global, pattern: &str, flags: &str) -> Result<String, Fail> {
-    let tables = Tables::small(alloc)?;
-    let mut regex = parsed(alloc, pattern, flags, &tables)?;
+/// The rewritten tree of a pattern. It promises nothing, so what reads the tree has little to prove.
+pub(crate) fn rewritten<'t>(
+    alloc: Global,
+    pattern: &str,
+    flags: &str,
+    tables: &'t Tables,
+) -> Result<Regex<'t>, Error> {
+    let mut regex = parsed(alloc, pattern, flags, tables)?;
     optimize(alloc, &mut regex)?;
-    Ok(regex.to_string(alloc)?)
+    Ok(regex)
 }
 
 /// The names of a pattern's groups, shared.
@@ -62,7 +65,7 @@ fn shared(
 }
 
 /// All matches of a tree in a text, parted by `|`.
-pub(crate) fn list(alloc: Global, regex: &Regex<'_>, text: &str) -> Result<String, Error> {
+fn list(alloc: Global, regex: &Regex<'_>, text: &str) -> Result<String, Error> {
     let names = shared(alloc, &regex.group_names)?;
     let pattern = CompiledPattern {
         node: &regex.node,
@@ -81,17 +84,20 @@ pub(crate) fn list(alloc: Global, regex: &Regex<'_>, text: &str) -> Result<Strin
     Ok(told)
 }
 
-/// All matches of a pattern in a text, before its tree is rewritten and after.
+/// All matches of a pattern in a text, before its tree is rewritten and after, also where memory was refused to rewriting.
 pub(crate) fn before_and_after(
     alloc: Global,
     pattern: &str,
     flags: &str,
     text: &str,
-) -> Result<(String, String), Fail> {
-    let tables = Tables::small(alloc)?;
+) -> Result<(String, String), Error> {
+    let tables = Tables::small(alloc).map_err(|_| Error::OutOfMemory)?;
     let mut regex = parsed(alloc, pattern, flags, &tables)?;
     let before = list(alloc, &regex, text)?;
-    optimize(alloc, &mut regex)?;
+    let outcome = optimize(alloc, &mut regex);
     let after = list(alloc, &regex, text)?;
-    Ok((before, after))
+    match outcome {
+        Ok(()) | Err(Error::OutOfMemory) => Ok((before, after)),
+        Err(other) => Err(other),
+    }
 }

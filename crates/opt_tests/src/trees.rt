@@ -4,13 +4,15 @@ use crate::class_trees::{CLASSES, FAILURES};
 use crate::loop_trees::{IDLE_LOOPS, LOOPS, SINGLE_LOOPS};
 use crate::sequence_trees::{CHOICES, LOOKAROUNDS, SEQUENCES};
 use crate::told::{Row, rewritten};
+use regress_front_tables::Tables;
 use std::alloc::Global;
 use std::test::Fail;
 
 /// Fails at the first row whose rewritten tree is printed otherwise.
 fn are_rewritten(alloc: Global, rows: &[Row]) -> Result<(), Fail> {
+    let tables = Tables::small(alloc)?;
     for (pattern, flags, tree) in rows {
-        let told = rewritten(alloc, pattern, flags)?;
+        let told = rewritten(alloc, pattern, flags, &tables)?.to_string(alloc)?;
         if told.as_str() != *tree {
             return Err(Fail::new(format!(in alloc; "at {pattern}: {told}")?));
         }

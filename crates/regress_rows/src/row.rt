@@ -14,7 +14,8 @@ fn tell_group(told: &mut String, group: Option<Range>) -> Result<(), AllocError>
     }
 }
 
-/// Adds a match to a text: its range in bytes and that of each group, parted by spaces, `-` for a group without one.
+/// Adds a match to a text: its range in bytes and that of each group, parted by spaces, `-` for a group without one. Of the match
+/// of `(a)|b` in `b`, `tell(&mut told, &found)?` adds `0..1 -`.
 pub fn tell(told: &mut String, found: &Match) -> Result<(), AllocError> {
     let mut is_first = true;
     for group in found.groups() {

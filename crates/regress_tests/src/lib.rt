@@ -8,7 +8,11 @@ mod ascii;
 #[cfg(test)]
 mod example;
 #[cfg(test)]
+mod match_promises;
+#[cfg(test)]
 mod matches;
+#[cfg(test)]
+mod promises;
 #[cfg(test)]
 mod roads;
 #[cfg(test)]

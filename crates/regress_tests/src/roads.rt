@@ -3,10 +3,9 @@
 ghost use Rattle.std.specs.Prelude.{IfSome};
 ghost use Rattle.regress_match.specs.Iterating.{position_of, producer_of};
 
-use crate::told::compiled;
+use crate::told::{compiled, tell_next};
 use regress::backends::{self, DefaultExecutor, MatchProducer, Matches, PikeVMExecutor, Utf8Input};
 use regress::{Regex, Tables, is_ascii_text};
-use regress_rows::tell;
 use std::alloc::{AllocError, Global};
 use std::test::Fail;
 
@@ -25,10 +24,7 @@ fn listed<P: MatchProducer>(
         let Ok(found) = found else {
             return Ok(None);
         };
-        if !told.is_empty() {
-            told.push('|')?;
-        }
-        tell(&mut told, &found)?;
+        tell_next(&mut told, &found)?;
     }
     Ok(Some(told))
 }

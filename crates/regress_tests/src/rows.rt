@@ -1,10 +1,10 @@
 //! Patterns and texts whose answers are known from the standard, told as a user would ask for them.
 
 use crate::told::{
-    are_refused, compiled, first_in, first_match, first_of, match_first, match_so, matches_from,
-    refusal,
+    are_refused, compiled, compiled_points, first, first_in, first_match, first_of, match_first,
+    match_so, matches_from, refusal,
 };
-use regress::{Error, Flags, Match, Regex, Tables, are_code_points};
+use regress::{Error, Match, Regex, Tables};
 use regress_rows::{ALL_MATCHES, FIRST_MATCHES};
 use std::alloc::{AllocError, Global};
 use std::test::Fail;
@@ -168,10 +168,7 @@ fn large_classes_are_read_and_matched(rt: HostRuntime) -> Result<(), Fail> {
 /// The first match of a pattern that is given as code points.
 fn match_of_points(alloc: Global, points: &[u32], text: &str) -> Result<String, Fail> {
     let tables = Tables::small(alloc)?;
-    if !are_code_points(points) {
-        return Err("no code points".into());
-    }
-    let regex = Regex::from_unicode(alloc, points, Flags::default(), &tables)?;
+    let regex = compiled_points(alloc, points, &tables)?;
     Ok(first_of(alloc, &regex, text)?)
 }
 
@@ -222,9 +219,9 @@ fn compiled_at_last<'t>(
 
 /// The first match, sought once more where memory is refused.
 fn found_at_last(regex: &Regex<'_>, text: &str) -> Result<Match, Fail> {
-    let found = match unless_refused(regex.find(text))? {
+    let found = match unless_refused(first(regex, text))? {
         Some(found) => found,
-        None => regex.find(text)?,
+        None => first(regex, text)?,
     };
     Ok(found.ok_or("no match")?)
 }
@@ -256,7 +253,7 @@ fn a_search_begins_at_an_offset(rt: HostRuntime) -> Result<(), Fail> {
     Ok(())
 }
 
-/// The matches of `(a+)|b*` in `aabb`.
+/// The matches of `(?<!c)(a+)(?=(b)|)|b*` in `aabb`.
 const WHOLE: &[(usize, usize)] = &[(0, 2), (2, 4), (4, 4)];
 
 /// How many matches come before the end or before a refusal, and whether one came; a match that is another one than is due,
@@ -286,7 +283,7 @@ fn count_matches(regex: &Regex<'_>) -> Result<(usize, bool), Fail> {
 #[test]
 fn refused_memory_ends_the_iteration(rt: HostRuntime) -> Result<(), Fail> {
     let tables = small_tables(rt.alloc())?;
-    let regex = compiled_at_last(rt.alloc(), "(a+)|b*", "", &tables)?;
+    let regex = compiled_at_last(rt.alloc(), "(?<!c)(a+)(?=(b)|)|b*", "", &tables)?;
     let (count, is_refused) = count_matches(&regex)?;
     assert!(rt; is_refused || count == WHOLE.len());
     if is_refused {

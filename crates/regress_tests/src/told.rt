@@ -1,8 +1,8 @@
 //! How matches are told in tables, and how a table is tried.
 
-use regress::{Error, Flags, Match, Regex, Tables, is_start};
+use regress::{Error, Flags, Match, Regex, Tables, are_code_points, is_start};
 use regress_rows::{Row, tell};
-use std::alloc::Global;
+use std::alloc::{AllocError, Global};
 use std::test::Fail;
 
 /// A pattern under flags. It promises nothing, so what calls it has little to prove.
@@ -15,10 +15,35 @@ pub(crate) fn compiled<'t>(
     Regex::with_flags(alloc, pattern, Flags::from(flags), tables)
 }
 
+/// A pattern that is given as code points. It promises nothing either.
+pub(crate) fn compiled_points<'t>(
+    alloc: Global,
+    points: &[u32],
+    tables: &'t Tables,
+) -> Result<Regex<'t>, Fail> {
+    if !are_code_points(points) {
+        return Err("no code points".into());
+    }
+    Ok(Regex::from_unicode(alloc, points, Flags::default(), tables)?)
+}
+
+/// The first match. Nor does it.
+pub(crate) fn first(regex: &Regex<'_>, text: &str) -> Result<Option<Match>, Error> {
+    regex.find(text)
+}
+
+/// Tells one more match, parted by `|` from those before it.
+pub(crate) fn tell_next(told: &mut String, found: &Match) -> Result<(), AllocError> {
+    if !told.is_empty() {
+        told.push('|')?;
+    }
+    tell(told, found)
+}
+
 /// The first match; nothing where there is none.
 pub(crate) fn first_of(alloc: Global, regex: &Regex<'_>, text: &str) -> Result<String, Error> {
     let mut told = String::new(alloc);
-    if let Some(found) = regex.find(text)? {
+    if let Some(found) = first(regex, text)? {
         tell(&mut told, &found)?;
     }
     Ok(told)
@@ -28,7 +53,7 @@ pub(crate) fn first_of(alloc: Global, regex: &Regex<'_>, text: &str) -> Result<S
 pub(crate) fn first_in(alloc: Global, pattern: &str, text: &str) -> Result<Match, Fail> {
     let tables = Tables::small(alloc)?;
     let regex = Regex::new(alloc, pattern, &tables)?;
-    Ok(regex.find(text)?.ok_or("no match")?)
+    Ok(first(&regex, text)?.ok_or("no match")?)
 }
 
 /// The first match of a pattern; nothing where there is none.
@@ -54,10 +79,7 @@ pub(crate) fn all_matches(
     let regex = compiled(alloc, pattern, flags, &tables)?;
     let mut told = String::new(alloc);
     for found in regex.find_iter(text)? {
-        if !told.is_empty() {
-            told.push('|')?;
-        }
-        tell(&mut told, &found?)?;
+        tell_next(&mut told, &found?)?;
     }
     Ok(told)
 }
@@ -75,10 +97,7 @@ pub(crate) fn matches_from(
     let mut told = String::new(alloc);
     let mut matches = regex.find_from(text, start)?;
     while let Some(found) = matches.next() {
-        if !told.is_empty() {
-            told.push('|')?;
-        }
-        tell(&mut told, &found?)?;
+        tell_next(&mut told, &found?)?;
     }
     if matches.next().is_some() {
         return Err("a match past the last".into());

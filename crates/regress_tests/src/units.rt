@@ -1,8 +1,7 @@
 //! Matches in 16-bit units: expected values are worked out from how units are read.
 
-use crate::told::compiled;
+use crate::told::{compiled, tell_next};
 use regress::{Regex, Tables, is_unit_start, is_well_formed_utf16};
-use regress_rows::tell;
 use std::alloc::Global;
 use std::test::Fail;
 
@@ -113,10 +112,7 @@ fn in_pairs(alloc: Global, regex: &Regex<'_>, units: &[u16], start: usize) -> Re
     let mut told = String::new(alloc);
     let mut matches = regex.find_from_utf16(units, start)?;
     while let Some(found) = matches.next() {
-        if !told.is_empty() {
-            told.push('|')?;
-        }
-        tell(&mut told, &found?)?;
+        tell_next(&mut told, &found?)?;
     }
     if matches.next().is_some() {
         return Err("a match past the last".into());
@@ -129,10 +125,7 @@ fn alone(alloc: Global, regex: &Regex<'_>, units: &[u16], start: usize) -> Resul
     let mut told = String::new(alloc);
     let mut matches = regex.find_from_ucs2(units, start)?;
     while let Some(found) = matches.next() {
-        if !told.is_empty() {
-            told.push('|')?;
-        }
-        tell(&mut told, &found?)?;
+        tell_next(&mut told, &found?)?;
     }
     if matches.next().is_some() {
         return Err("a match past the last".into());
@@ -162,36 +155,76 @@ fn rows_of_units_match_so(rt: HostRuntime) -> Result<(), Fail> {
     match_so(rt.alloc(), NOT_WELL_FORMED)
 }
 
+/// Offsets in `HIGH_AND_PAIR`, and the matches of `(?<=x*)$` from there on.
+const ENDS: &[(usize, &str)] = &[(0, "3..3"), (1, "3..3"), (3, "3..3"), (4, "")];
+
 #[test]
 fn units_are_searched_from_a_start(rt: HostRuntime) -> Result<(), Fail> {
     let tables = Tables::small(rt.alloc())?;
     let at_the_end = compiled(rt.alloc(), "(?<=x*)$", "u", &tables)?;
-    for start in [0, 1, 3] {
-        let told = in_pairs(rt.alloc(), &at_the_end, HIGH_AND_PAIR, start)?;
-        assert!(rt; told.as_str() == "3..3");
+    for (start, expected) in ENDS {
+        if in_pairs(rt.alloc(), &at_the_end, HIGH_AND_PAIR, *start)?.as_str() != *expected {
+            return Err(Fail::new(*start));
+        }
     }
-    assert!(rt; in_pairs(rt.alloc(), &at_the_end, HIGH_AND_PAIR, 4)?.is_empty());
     let any = compiled(rt.alloc(), "(?<=(.)|).", "u", &tables)?;
-    assert!(rt; in_pairs(rt.alloc(), &any, HIGH_AND_PAIR, 1)?.as_str() == "1..3 0..1");
-    assert!(rt; alone(rt.alloc(), &any, HIGH_AND_PAIR, 2)?.as_str() == "2..3 1..2");
-    assert!(rt; alone(rt.alloc(), &any, HIGH_AND_PAIR, 4)?.is_empty());
+    let pairs = in_pairs(rt.alloc(), &any, HIGH_AND_PAIR, 1)?;
+    let single = alone(rt.alloc(), &any, HIGH_AND_PAIR, 2)?;
+    let past = alone(rt.alloc(), &any, HIGH_AND_PAIR, 4)?;
+    assert!(rt; pairs.as_str() == "1..3 0..1" && single.as_str() == "2..3 1..2" && past.is_empty());
+    Ok(())
+}
+
+/// Units, an offset, and whether a search may begin there.
+const STARTS: &[(&[u16], usize, bool)] = &[
+    (HIGH_AND_PAIR, 0, true),
+    (HIGH_AND_PAIR, 1, true),
+    (HIGH_AND_PAIR, 3, true),
+    (HIGH_AND_PAIR, 4, true),
+    (HIGH_AND_PAIR, 9, true),
+    (HIGH_AND_PAIR, 2, false),
+    (PAIR_AND_LOW, 2, true),
+    (PAIR, 1, false),
+];
+
+/// Fails at the first row of which something else is told.
+fn begin_so(rows: &[(&[u16], usize, bool)]) -> Result<(), Fail> {
+    for (row, (units, start, expected)) in rows.iter().enumerate() {
+        if is_unit_start(units, *start) != *expected {
+            return Err(Fail::new(row));
+        }
+    }
     Ok(())
 }
 
 #[test]
-fn where_units_may_be_searched(rt: HostRuntime) {
-    for start in [0, 1, 3, 4, 9] {
-        assert!(rt; is_unit_start(HIGH_AND_PAIR, start));
+fn where_units_may_be_searched() -> Result<(), Fail> {
+    begin_so(STARTS)
+}
+
+/// Units, and whether high and low ones stand in pairs.
+const FORMED: &[(&[u16], bool)] = &[
+    (&[], true),
+    (&[0x61, 0xE9, 0xFFFF], true),
+    (PAIR, true),
+    (TWICE, true),
+    (HIGH_AND_PAIR, false),
+    (PAIR_AND_LOW, false),
+    (&[0xDE00, 0xD83D], false),
+    (&[0x61, 0xD83D], false),
+];
+
+/// Fails at the first row of which something else is told.
+fn are_formed_so(rows: &[(&[u16], bool)]) -> Result<(), Fail> {
+    for (row, (units, expected)) in rows.iter().enumerate() {
+        if is_well_formed_utf16(units) != *expected {
+            return Err(Fail::new(row));
+        }
     }
-    assert!(rt; !is_unit_start(HIGH_AND_PAIR, 2) && is_unit_start(PAIR_AND_LOW, 2));
+    Ok(())
 }
 
 #[test]
-fn units_are_well_formed_where_halves_stand_in_pairs(rt: HostRuntime) {
-    assert!(rt; is_well_formed_utf16(&[]) && is_well_formed_utf16(&[0x61, 0xE9, 0xFFFF]));
-    assert!(rt; is_well_formed_utf16(PAIR) && is_well_formed_utf16(TWICE));
-    for units in [HIGH_AND_PAIR, PAIR_AND_LOW] {
-        assert!(rt; !is_well_formed_utf16(units));
-    }
-    assert!(rt; !is_well_formed_utf16(&[0xDE00, 0xD83D]) && !is_well_formed_utf16(&[0x61, 0xD83D]));
+fn units_are_well_formed_where_halves_stand_in_pairs() -> Result<(), Fail> {
+    are_formed_so(FORMED)
 }
