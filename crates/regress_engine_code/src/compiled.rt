@@ -30,42 +30,43 @@ pub struct CompiledRegex<'u> {
 impl<'u> CompiledRegex<'u> {
     ghost use Rattle.regress_engine_code.specs.Standing.{IsCopyOf};
 
-    /// The instructions. An address is an index into them, and the program begins at 0.
+    /// The instructions. An address is an index into them, and the program begins at 0: `program.insns()[0]` is done first.
     pub fn insns(&self) -> &[Insn]
         ensures { result.now ≡ self.now.insns.items }
     {
         &self.insns
     }
 
-    /// The brackets that instructions name by their index.
+    /// The brackets that instructions name by their index: `Bracket(2)` means `program.brackets()[2]`.
     pub fn brackets(&self) -> &[BracketContents]
         ensures { result.now ≡ self.now.brackets.items }
     {
         &self.brackets
     }
 
-    /// Where a match may begin, told by the bytes there; of a program of units `StartAnchored` or `Arbitrary`.
+    /// Where a match may begin, told by the bytes there; of a program of units `StartAnchored` or `Arbitrary`. An executor looks
+    /// for it by `Seeker::new(program.start_pred())`.
     pub fn start_pred(&self) -> &StartPredicate
         ensures { result.now ≡ self.now.start_pred }
     {
         &self.start_pred
     }
 
-    /// How many loops there are.
+    /// How many loops there are: `program.loops()` is 1 for `(?:ab)*`, and 0 for `a*`, which is a loop of one character.
     pub fn loops(&self) -> u32
         ensures { result ≡ self.now.loops }
     {
         self.loops
     }
 
-    /// How many capture groups there are.
+    /// How many capture groups there are: `program.groups()` is 2 for `(a)(?<n>b)`.
     pub fn groups(&self) -> u32
         ensures { result ≡ self.now.groups }
     {
         self.groups
     }
 
-    /// The name of each capture group by its number, empty where it has none.
+    /// The name of each capture group by its number, empty where it has none: of `(a)(?<n>b)` the empty text and `n`.
     pub fn group_names(&self) -> &[CaptureGroupName]
         ensures { result.now ≡ arc_slice_items self.now.group_names }
     {
@@ -73,28 +74,28 @@ impl<'u> CompiledRegex<'u> {
     }
 
     /// The same names, to be held together with the program by what outlives it, as a match. It errs only where so many hold
-    /// them that they can't be counted.
+    /// them that they can't be counted: `Match::new(range, captures, program.shared_group_names()?)`.
     pub fn shared_group_names(&self) -> Result<ArcSlice<CaptureGroupName>, AllocError>
         ensures { IfOk result (λ names. arc_slice_items names ≡ arc_slice_items self.now.group_names) }
     {
         self.group_names.clone()
     }
 
-    /// The flags of the pattern.
+    /// The flags of the pattern: `program.flags().icase` where it was made with `i`.
     pub fn flags(&self) -> Flags
         ensures { result ≡ self.now.flags }
     {
         self.flags
     }
 
-    /// The tables of case and properties.
+    /// The tables of case and properties, as an input takes them: `Utf8Input::new(text, unicode, program.tables())`.
     pub fn tables(&self) -> &'u Tables
         ensures { result ≡ self.now.tables }
     {
         self.tables
     }
 
-    /// Whether it reads 16-bit units, or else bytes.
+    /// Whether it reads 16-bit units, or else bytes: what `emit_units` makes does, and what `emit` makes does not.
     pub fn is_unit_program(&self) -> bool
         ensures { result ≡ self.now.units }
     {

@@ -49,7 +49,8 @@ impl Direction for Backward {
 }
 
 /// The character beside a position in a direction, past which the position moves; `None` where the text ends, and the
-/// position stays. In UTF-8 the position has to lie between characters.
+/// position stays. In UTF-8 the position has to lie between characters. `next(&input, Backward::new(), &mut pos)` behind `é`
+/// gives `é`, and the position before it.
 #[inline]
 pub fn next<Input: InputIndexer, Dir: Direction>(
     input: &Input,
@@ -68,7 +69,7 @@ pub fn next<Input: InputIndexer, Dir: Direction>(
 }
 
 /// The byte beside a position in a direction, past which the position moves; `None` where the text ends, and over units,
-/// which are no bytes, and the position stays.
+/// which are no bytes, and the position stays. `next_byte(&input, Forward::new(), &mut pos)` before `é` gives `0xC3`.
 #[inline]
 #[tactic(auto, using(crate::proofs::ByteReads::byte_right, crate::proofs::ByteReads::byte_left))]
 pub fn next_byte<Input: InputIndexer, Dir: Direction>(
@@ -92,7 +93,8 @@ pub fn next_byte<Input: InputIndexer, Dir: Direction>(
 }
 
 /// Whether these bytes stand beside a position in a direction. Where they do the position moves past them, else it may be
-/// any. Over units, which are no bytes, they never do.
+/// any. Over units, which are no bytes, they never do. `try_match_lit(&input, Forward::new(), &mut pos, b"ab")` is true before
+/// `abc`, and the position stands before `c`.
 #[inline]
 pub fn try_match_lit<const N: usize, Input: InputIndexer, Dir: Direction>(
     input: &Input,

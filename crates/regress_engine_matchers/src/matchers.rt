@@ -11,7 +11,8 @@ use std::ops::Range;
 
 /// Whether the text of a range stands beside the position once more, to its right or to its left by the direction
 /// ("BackreferenceMatcher"). Where it does the position moves past it, else it may be any. What is said of the answer is said
-/// of ranges and positions between characters: over UTF-16 an end inside a pair is none.
+/// of ranges and positions between characters: over UTF-16 an end inside a pair is none. In `abab`, with the range of the first
+/// `ab` and a position at its end, `backref(&input, Forward::new(), range, &mut pos)` is true.
 #[inline]
 pub fn backref<Input: InputIndexer, Dir: Direction>(
     input: &Input,
@@ -32,7 +33,8 @@ pub fn backref<Input: InputIndexer, Dir: Direction>(
 
 /// Whether the text of a range stands beside the position once more, each character with the same fold or upper case by the
 /// mode, to its right or to its left by the direction ("BackreferenceMatcher", where case is ignored). Where it does the
-/// position moves past it, else it may be any. What is said of the answer is said of ranges between characters.
+/// position moves past it, else it may be any. What is said of the answer is said of ranges between characters. In `abAB`, with
+/// the range of `ab` and a position at its end, `backref_icase(&input, Forward::new(), range, &mut pos)` is true.
 #[inline]
 pub fn backref_icase<Input: CharInput, Dir: Direction>(
     input: &Input,

@@ -21,7 +21,8 @@ pub struct PreparedBracket<'a> {
 }
 
 impl<'a> PreparedBracket<'a> {
-    /// The test on the characters that the class `bc` matches, as `Bracket { bc }` is one. It goes over the intervals of ASCII once.
+    /// The test on the characters that the class `bc` matches, as `Bracket { bc }` is one: `PreparedBracket::new(&bc)`. It goes
+    /// over the intervals of ASCII once.
     pub fn new(bc: &'a BracketContents) -> PreparedBracket<'a>
         ensures { result.bc.now ≡ bc.now }
     {

@@ -143,7 +143,7 @@ fn is_one_char(bytes: &[u8]) -> bool
 }
 
 impl Node {
-    /// A node that matches nothing: a set of no code point.
+    /// A node that matches nothing, a set of no code point: of `Node::make_always_fails(alloc)` `match_always_fails` is true.
     pub fn make_always_fails(alloc: Global) -> Node
         ensures { tree result ≡ char_set [] }
     {

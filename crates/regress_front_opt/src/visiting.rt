@@ -13,6 +13,7 @@ use std::alloc::Global;
 /// Rewrites all nodes of a tree, each after those below it, and answers whether one was changed.
 ///
 /// `in_lookbehind` tells whether the tree itself stands in a lookbehind. It errs where memory is refused.
+/// `visit(&SpelledChars, alloc, false, &mut node)?` is true where some `Char` became a literal.
 #[cycle(visit)]
 pub fn visit<P: Pass>(
     pass: &P,

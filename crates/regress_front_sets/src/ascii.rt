@@ -18,7 +18,7 @@ fn add_ascii(bitmap: &mut AsciiBitmap, interval: Interval)
 }
 
 impl CodePointSet {
-    /// Whether all members are ASCII, as those of the empty set are.
+    /// Whether all members are ASCII, as those of the empty set are: `CodePointSet::new(alloc).is_ascii()` is true.
     pub fn is_ascii(&self) -> bool
         ensures { IsTrue result ↔ ((c : ℕ) → IsTrue (in_set self.now c) → c < 0x80) }
     {

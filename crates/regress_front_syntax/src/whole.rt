@@ -54,7 +54,7 @@ pub struct Refused {
     pub place: usize,
 }
 
-/// Reads a pattern with flags ("ParsePattern") as `parse` does, and tells where it is refused.
+/// Reads a pattern with flags ("ParsePattern") as `parse` does, and tells where it is refused: of `a)` behind one code point.
 pub fn parse_telling_place(
     alloc: Global,
     points: &[CodePoint],
@@ -87,6 +87,7 @@ pub fn parse_telling_place(
 
 /// Reads a pattern with flags ("ParsePattern"): its tree, and the names of its groups. `Syntax` where the text is no pattern;
 /// `TooDeep`, `TooManyGroups` and `TooManyLoops` where it passes that limit; `OutOfMemory` at any time.
+/// `parse(alloc, &[0x2A], Flags::default(), &tables)` errs with `Syntax`: nothing stands before the `*`.
 pub fn parse(
     alloc: Global,
     points: &[CodePoint],

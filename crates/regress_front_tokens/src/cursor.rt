@@ -6,7 +6,7 @@ ghost use Rattle.regress_front_tokens.specs.Readings.{IsNext, Tells};
 
 use regress_front_tables::CodePoint;
 
-/// Whether the code point is one of these characters of ASCII.
+/// Whether the code point is one of these characters of ASCII: `is_one_of(0x6D, "ims")` is true.
 pub fn is_one_of(point: CodePoint, marks: &str) -> bool
     ensures { result ≡ holds marks.now point }
 {
@@ -36,7 +36,7 @@ pub struct Cursor<'p> {
 impl<'p> Cursor<'p> {
     ghost use Rattle.regress_front_tokens.specs.Cursors.{unread, SameText};
 
-    /// A cursor at the beginning of a text.
+    /// A cursor at the beginning of a text: `Cursor::new(&[0x61, 0x2A])` stands before the `a` of `a*`.
     pub fn new(points: &'p [CodePoint]) -> Self
         ensures { unread result ≡ points.now }
     {
@@ -46,21 +46,21 @@ impl<'p> Cursor<'p> {
         }
     }
 
-    /// How many code points are still to be read.
+    /// How many code points are still to be read: `cursor.remaining()` is 2 before `a*`.
     pub fn remaining(&self) -> usize
         ensures { result ≡ length (unread self.now) }
     {
         self.points.len() - self.position
     }
 
-    /// The next code point, if there is one.
+    /// The next code point, if there is one: `cursor.peek()` is `Some(0x61)` before `a*`.
     pub fn peek(&self) -> Option<CodePoint>
         ensures { result ≡ slice_get (unread self.now) 0 }
     {
         self.points.get(self.position).copied()
     }
 
-    /// The code point so many places behind the next one, if there is one.
+    /// The code point so many places behind the next one, if there is one: `cursor.peek_at(1)` is `Some(0x2A)` before `a*`.
     pub fn peek_at(&self, distance: usize) -> Option<CodePoint>
         ensures { result ≡ slice_get (unread self.now) distance }
     {
@@ -69,21 +69,21 @@ impl<'p> Cursor<'p> {
             .and_then(|rest| rest.get(distance).copied())
     }
 
-    /// Whether the next code point is this character.
+    /// Whether the next code point is this character: `cursor.is_at('a')` is true before `a*`.
     pub fn is_at(&self, mark: char) -> bool
         ensures { result ≡ is_at (λ c. c == mark) (unread self.now) }
     {
         self.peek() == Some(CodePoint::from(mark))
     }
 
-    /// Whether the next code point is one of these characters of ASCII.
+    /// Whether the next code point is one of these characters of ASCII: `cursor.is_at_any("*+?")` is false before `a*`.
     pub fn is_at_any(&self, marks: &str) -> bool
         ensures { result ≡ is_at (λ c. holds marks.now c) (unread self.now) }
     {
         self.peek().is_some_and(|point| is_one_of(point, marks))
     }
 
-    /// Goes on behind the next code point.
+    /// Goes on behind the next code point: after `cursor.bump()` before `a*` the `*` is next.
     pub fn bump(&mut self)
         requires { 0 < length (unread self.old) }
         ensures read { unread self.new ≡ drop 1 (unread self.old) }
@@ -92,7 +92,7 @@ impl<'p> Cursor<'p> {
         self.position += 1;
     }
 
-    /// The next code point, if there is one. Goes on behind it.
+    /// The next code point, if there is one: `cursor.next()` is `Some(0x61)` before `a*`. Goes on behind it.
     pub fn next(&mut self) -> Option<CodePoint>
         ensures read { IsNext (unread self.old) result (unread self.new) }
         ensures kept { SameText self.old self.new }
@@ -102,7 +102,7 @@ impl<'p> Cursor<'p> {
         Some(point)
     }
 
-    /// Whether the next code point is this character. Goes on behind it, if so.
+    /// Whether the next code point is this character, as `cursor.eat('a')` tells before `a*`. Goes on behind it, if so.
     pub fn eat(&mut self, mark: char) -> bool
         ensures found { result ≡ is_at (λ c. c == mark) (unread self.old) }
         ensures read { unread self.new ≡ (if result then drop 1 (unread self.old) else unread self.old) }
@@ -115,7 +115,7 @@ impl<'p> Cursor<'p> {
         found
     }
 
-    /// As many code points as pass the test. Goes on behind them.
+    /// As many code points as pass the test, as `cursor.take_while(is_decimal_digit)` the `12` of `12a`. Goes on behind them.
     pub fn take_while<F: Fn(CodePoint) -> bool>(&mut self, test: F) -> &'p [CodePoint]
         requires { F.IsAlwaysCallable test }
         ensures read { (passes : ℕ → Bool) → Tells (F.post test) passes
@@ -128,7 +128,8 @@ impl<'p> Cursor<'p> {
         &rest[..count]
     }
 
-    /// As many code points as pass the test, but at most so many. Goes on behind them.
+    /// As many code points as pass the test, but at most so many, as `cursor.take_up_to(1, is_decimal_digit)` the `1` of `12a`.
+    /// Goes on behind them.
     pub fn take_up_to<F: Fn(CodePoint) -> bool>(&mut self, most: usize, test: F) -> &'p [CodePoint]
         requires { F.IsAlwaysCallable test }
         ensures read { (passes : ℕ → Bool) → Tells (F.post test) passes

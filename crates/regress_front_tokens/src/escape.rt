@@ -70,6 +70,7 @@ impl Cursor<'_> {
     ghost use Rattle.regress_front_tokens.specs.Cursors.{unread, SameText};
 
     /// Behind the backslash, outside a class, but for `\b` and `\B` ("AtomEscape"). A syntax error where no escape stands here.
+    /// Before `x41` `cursor.escape(alloc, &mode)?` is `Escape::Point(0x41)`.
     pub fn escape(&mut self, alloc: Global, mode: &Mode) -> Result<Escape, Error>
         requires { HasFewGroups mode.now }
         ensures read { IsRead escape_view (escape_at (mode_view mode.now)) (unread self.old) result (unread self.new) }
@@ -104,7 +105,8 @@ impl Cursor<'_> {
         self.identity(mode)
     }
 
-    /// Behind the backslash, in a class without `v` ("ClassEscape"). A syntax error where no escape stands here.
+    /// Behind the backslash, in a class without `v` ("ClassEscape"). A syntax error where no escape stands here. Before `b`
+    /// `cursor.class_escape(alloc, &mode)?` is `Escape::Point(8)`.
     pub fn class_escape(&mut self, alloc: Global, mode: &Mode) -> Result<Escape, Error>
         requires { HasFewGroups mode.now }
         ensures read { IsRead escape_view (class_escape_at (mode_view mode.now)) (unread self.old) result (unread self.new) }

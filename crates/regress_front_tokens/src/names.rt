@@ -85,7 +85,8 @@ impl<'p> Cursor<'p> {
         Ok(Some(name))
     }
 
-    /// Behind `<`: a group's name and `>` ("GroupName"). A syntax error where they don't stand here.
+    /// Behind `<`: a group's name and `>` ("GroupName"). A syntax error where they don't stand here. Before `year>` the answer of
+    /// `cursor.name(alloc, tables)?` is `year`.
     pub fn name(&mut self, alloc: Global, tables: &Tables) -> Result<CaptureGroupName, Error>
         ensures read { IsRead code_points_of (name_at (table tables.now)) (unread self.old) result (unread self.new) }
         ensures kept { SameText self.old self.new }

@@ -93,7 +93,7 @@ impl Cursor<'_> {
     }
 
     /// A quantifier, with the mark that makes it lazy. Counts stop at the greatest `usize`, and the first may be above the
-    /// second ("Quantifier").
+    /// second ("Quantifier"). Before `{2,3}?` `cursor.quantifier()` is that of 2 to 3, not greedy.
     pub fn quantifier(&mut self) -> Option<Quantifier>
         ensures read { IsReading quantifier_view quantifier_at (unread self.old) result (unread self.new) }
         ensures kept { SameText self.old self.new }

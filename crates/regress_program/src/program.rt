@@ -79,6 +79,10 @@ pub fn answer<R: Source, W: Sink>(
 /// failed. The errors are found in this order: a text that is no pattern or passes a limit, before anything is read; a read
 /// that fails; input that is not UTF-8; then a write that fails. A request for memory may be refused at any time, and over a
 /// source that never ends one is. After a write that fails, a beginning of the output was written.
+///
+/// ```rust
+/// run(alloc, &mut source, &mut sink, "i", "(a)b")?;       // of `xAB` it writes `1..3 1..2`
+/// ```
 pub fn run<R: Source, W: Sink>(
     alloc: Global,
     source: &mut R,

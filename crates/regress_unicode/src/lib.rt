@@ -19,7 +19,7 @@ use unicode::sets::{BinaryProperty, Set};
 
 /// The parts of Unicode's own table: simple case folding, upper case, the characters of identifiers, the properties that the
 /// standard lists ("Binary Unicode property aliases", "UnicodeMatchProperty"), and the keycaps. The only error is
-/// `OutOfMemory`.
+/// `OutOfMemory`. `unicode_parts(alloc)?.fold` has the pair of 395 and 3B5 (hexadecimal).
 pub fn unicode_parts(alloc: Global) -> Result<TableParts, TableError>
     ensures unicode { IfOk result (λ parts. IsUnicode (parts_of parts)) }
     ensures refused { IsOkUnless result TableError.OutOfMemory }
