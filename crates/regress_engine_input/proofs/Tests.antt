@@ -6,11 +6,5 @@ use Rattle.std.proofs.lemmas.Bool.Decides.{nat_tests}
 pub le-true : (a b : ℕ) → a ≤ b → nat_le a b ≡ true
 le-true a b h = grind (arith, nat_tests)
 
-pub le-false : (a b : ℕ) → b < a → nat_le a b ≡ false
-le-false a b h = grind (arith, nat_tests)
-
-pub eq-same : (a b : ℕ) → a ≡ b → (a == b) ≡ true
-eq-same a b h = grind (arith, nat_tests)
-
 pub eq-apart : (a b : ℕ) → a ≢ b → (a == b) ≡ false
 eq-apart a b h = grind (arith, nat_tests)

@@ -142,14 +142,6 @@ AreFirstOf-interval xs k i set both within is first bytes =
     from b (inl old) = inl old
     from b (inr new) = inr (new.0, new.2, new.3)
 
--- a bracket by the intervals of its set, or of those outside
-pub AreFirstOf-inverted : (intervals inverse : List (ℕ × ℕ)) (set : ℕ → Bool)
-    → ((c : ℕ) → in_intervals inverse c ≡ (nat_le c 0x10_FFFF && not (in_intervals intervals c)))
-    → AreFirstOf (in_intervals inverse) set → AreFirstOf (bracket_has true intervals) set
-AreFirstOf-inverted intervals inverse set outside first =
-    AreFirstOf-same (in_intervals inverse) (bracket_has true intervals) set
-    (λ c below. outside c ∙ ap (λ b. b && not (in_intervals intervals c)) (le-leb c 0x10_FFFF below)) first
-
 -- the first bytes of one string more
 pub AreFirstOf-string : (before : List (List ℕ)) (string : List ℕ) (c val : ℕ) (set both : ℕ → Bool) → slice_get string 0 ≡ Some c → is_code_point c
     → slice_get (encode_utf8 c) 0 ≡ Some val → ((b : ℕ) → both b ≡ (set b || (val == b))) → AreFirstOf (begins_one before) set
@@ -188,9 +180,6 @@ AreFirstOfStrings-more strings k string c val set both within is begins below fi
       some = All-push (λ cs. 0 < length cs) front items known.some (slice_get_within items 0 c begins);
       first = AreFirstOf-string front items c val set both begins below first adds known.first;
     })
-
-pub AreFirstOfStrings-none : (set : ℕ → Bool) → ((b : ℕ) → set b ≡ false) → AreFirstOfStrings [] set
-AreFirstOfStrings-none set no_byte = record { some = All-nil (λ cs. 0 < length cs); first = AreFirstOf-none (begins_one []) set (λ c. refl) no_byte }
 
 -- the first code point of a string of code points is one
 pub string-points : (strings : List (BoxedSlice ℕ Global)) (k : ℕ) (string : BoxedSlice ℕ Global) (c : ℕ) → k < length strings → string ≡ get_or strings k string

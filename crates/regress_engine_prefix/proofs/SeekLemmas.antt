@@ -179,13 +179,3 @@ found-behind start free bytes from (Some k) h = (
       let e : o ≡ from + (o - from) = omega (arith, low) in
       h.2 (o - from) (omega arith) (omega (arith, low, high)) ((same-behind start free bytes from (o - from)).back (subst (BeginsAs start bytes) e is)),
 )
-
--- the start of the text is found there alone
-pub found-anchored : (start : StartPredicate) → is_anchored start ≡ true → (bytes : List ℕ) (from : ℕ) → (from ≡ 0 → IsNextHit start bytes from (Some 0)) × (¬ (from ≡ 0) → IsNextHit start bytes from None)
-found-anchored StartAnchored is bytes from = (λ zero. (omega (arith, zero), refl, λ o low high begins. omega (arith, high)), λ some o low begins. some (omega (arith, low, begins)))
-found-anchored Arbitrary is bytes from = absurd (cc)
-found-anchored (ByteSet1 _) is bytes from = absurd (cc)
-found-anchored (ByteSet2 _) is bytes from = absurd (cc)
-found-anchored (ByteSet3 _) is bytes from = absurd (cc)
-found-anchored (ByteSeq _) is bytes from = absurd (cc)
-found-anchored (ByteBracket _) is bytes from = absurd (cc)

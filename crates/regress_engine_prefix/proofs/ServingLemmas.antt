@@ -5,15 +5,6 @@ use Rattle.regress_engine_prefix.specs.Starts.{BeginsAs, is_arbitrary, tells_byt
 use Rattle.regress_engine_prefix.specs.declared.start.StartPredicate.{StartPredicate}
 use Rattle.regress_engine_prefix.specs.declared.start.StartPredicate.TheVariants.{Arbitrary, ByteSet1, ByteSet2, ByteSet3, ByteSeq, ByteBracket, StartAnchored}
 
--- what says nothing serves each tree
-pub nothing-serves : (units : Bool) (t : Tree) → Serves units t Arbitrary
-nothing-serves units t = record {
-  begins = record { each = λ bytes utf8 context text s some. tt };
-  boundary = λ known bytes utf8 at begins. absurd (cc);
-  first = tt;
-  bytes = λ _. refl;
-}
-
 -- two predicates say the same of bytes
 pub record SayTheSame (start other : StartPredicate) : Type 0 where
   pub on : (bytes : List ℕ) (at : ℕ) → BeginsAs start bytes at → BeginsAs other bytes at

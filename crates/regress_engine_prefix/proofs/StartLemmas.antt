@@ -176,11 +176,6 @@ holds-at_start (ByteSet3 _) prefix t is told = tt
 holds-at_start (ByteSeq _) prefix t is told = tt
 holds-at_start (ByteBracket _) prefix t is told = tt
 
--- of a condition that holds sooner
-pub anchored-weaker : (strong weak : Type 0) → (strong → weak) → (start : StartPredicate) → IsAnchoredOnlyIf strong start → IsAnchoredOnlyIf weak start
-anchored-weaker strong weak h StartAnchored held = h held
-anchored-weaker strong weak h _ held = tt
-
 -- what is known of a literal is looked for
 pub keeps-literal : (start : StartPredicate) (prefix : Prefix) (t : Tree) → KeepsSequence prefix start → Foretells prefix t → KeepsLiteral t start
 keeps-literal start prefix t keeps told = go (first_literal t) told.spelled

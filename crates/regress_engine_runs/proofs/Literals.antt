@@ -100,10 +100,6 @@ and-turned true false = refl
 and-turned false true = refl
 and-turned false false = refl
 
-if-none : (b : Bool) (x : Option ℕ) → x ≡ None → let none : Option ℕ = None in (if b then x else none) ≡ none
-if-none true x e = e
-if-none false x e = refl
-
 module _ (input : Input) where
   -- forward the front comes first
   append-forward : (xs ys : List ℕ) (o : ℕ) → literal input Forward (xs ++ ys) o ≡ option_and_then (literal input Forward ys) (literal input Forward xs o)

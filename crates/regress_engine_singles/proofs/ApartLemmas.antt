@@ -119,22 +119,6 @@ apart-by-test program v are i test does b bs low fails groups o q takes others =
         let is : passed test (Some (b, suc o)) ≡ Some q = ap (passed test) (sym next) ∙ sym (does groups o) ∙ takes in
         absurd (grind arith)
 
--- So are two that test one character, of which no one passes both.
-pub apart-by-tests : (program : Program) (v : View) (i j : Instruction) (test other : ℕ → Bool)
-    → ((groups : List Marks) (o : ℕ) → advance program (input_of v) i Forward groups o ≡ passed test ((input_of v).next Forward o))
-    → ((groups : List Marks) (o : ℕ) → advance program (input_of v) j Forward groups o ≡ passed other ((input_of v).next Forward o))
-    → ((c : ℕ) → test c ≡ true → other c ≡ false) → AreApart program (input_of v) i j
-apart-by-tests program v i j test other does also never groups o q takes gs =
-    by_next ((input_of v).next Forward o) (sym (does groups o) ∙ takes) ∙ sym (also gs o)
-  where
-    by_next : (x : Option (ℕ × ℕ)) → passed test x ≡ Some q → None ≡ passed other x
-    by_next None e = refl
-    by_next (Some (c, p)) e = by_test (test c) refl e
-      where
-        by_test : (b : Bool) → test c ≡ b → (if b then Some p else None) ≡ Some q → None ≡ (if other c then Some p else None)
-        by_test false f g = absurd (grind arith)
-        by_test true f g = ap (λ b. if b then Some p else None) (sym (never c f))
-
 -- the members of a set of ASCII are in it, and under 0x80
 pub held-low : (set : ℕ → Bool) → ((c : ℕ) → 0x80 ≤ c → set c ≡ false) → (c : ℕ) → holds (members set) c ≡ true → (set c ≡ true) × (c < 0x80)
 held-low set high c held = let is : set c ≡ true = sym (holds-members set (λ d p. let less = low d p in omega (arith, less)) c) ∙ held in (is, low c is)

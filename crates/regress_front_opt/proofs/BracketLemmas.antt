@@ -88,12 +88,6 @@ pub all-takes : (xs : List (ℕ × ℕ)) → xs ≡ [] → Takes any (bracket_ha
 unfolding in_intervals
 all-takes xs e = record { alone = refl; members = λ c l. rw e refl; lawful = tt }
 
-pub bytes-take : (ms bs : List ℕ) → length ms ≤ most_members → list_all (λ c. nat_lt c 0x80) ms ≡ true → bs ≡ ms → Takes (byte_set bs) (holds ms)
-bytes-take ms bs few ascii same = rw same (record { alone = refl; members = λ c l. refl; lawful = (few, ascii-all ms ascii) })
-
-pub points-take : (ms : List ℕ) → length ms ≤ most_members → All is_code_point ms → Takes (char_set ms) (holds ms)
-points-take ms few points = record { alone = refl; members = λ c l. refl; lawful = (few, points) }
-
 pub few-takes : (t : Tree) (ms : List ℕ) (xs : List (ℕ × ℕ)) → Takes t (holds ms) → ((c : ℕ) → holds ms c ≡ in_intervals xs c) → Takes t (bracket_has false xs)
 few-takes t ms xs h same = record { alone = h.alone; members = λ c l. h.members c l ∙ same c; lawful = h.lawful }
 

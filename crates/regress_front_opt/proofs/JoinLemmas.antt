@@ -151,10 +151,6 @@ and-false false b h = refl
 
 -- ---- the other way round
 
-starts_literal : List Tree → Bool
-starts_literal [] = false
-starts_literal (t ∷ ts) = is_literal t
-
 ends-reverse : (t : Tree) (ts : List Tree) → ends_literal (reverse (t ∷ ts)) ≡ is_literal t
 ends-reverse t ts = ap ends_literal (reverse-append (t ∷ []) ts) ∙ ends-append (reverse ts) t
 

@@ -57,11 +57,6 @@ no-loop = by_kind (λ n. ((loopee : Box Node Global) (quant : Quantifier) (group
     kinds (Node-F.Anchor EndOfLine multiline) h = rw (fold-roll-Node Tree node_tree (Node-F.Anchor EndOfLine multiline)) refl
     kinds x h = rw (fold-roll-Node Tree node_tree x) refl
 
--- no `Cat`: it has no parts either
-pub no-parts : (t : Tree) → is_cat t ≡ false → parts t ≡ []
-no-parts (cat a b) h = absurd (false≢true (sym h))
-no-parts _ h = refl
-
 pub no-cat : (n : Node) → ((parts : Vec Node Global) → n ≡ N.Cat parts → ⊥) → is_cat (tree n) ≡ false
 no-cat = by_kind (λ n. ((parts : Vec Node Global) → n ≡ N.Cat parts → ⊥) → is_cat (tree n) ≡ false) kinds
   where

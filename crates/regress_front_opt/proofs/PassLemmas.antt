@@ -29,10 +29,6 @@ turned-advances {u = u} h = record { next = u; first = there h; others = stays }
 pub advances-then : {dir : Direction} {t u v : Tree} → Advances dir t u → Reaches dir u v → Advances dir t v
 advances-then a h = record { next = a.next; first = a.first; others = reaches-then a.others h }
 
-pub reaches-advances : {dir : Direction} {t u v : Tree} → Reaches dir t u → Advances dir u v → Advances dir t v
-reaches-advances stays a = a
-reaches-advances (and_then h rest) a = record { next = _; first = h; others = reaches-then rest (advances-reaches a) }
-
 pub advances-in : {dir below : Direction} (f : Tree → Tree) → ((a b : Tree) → Rewrites below a b → Rewrites dir (f a) (f b)) → {t u : Tree} → Advances below t u → Advances dir (f t) (f u)
 advances-in f place {t = t} a = record { next = f a.next; first = place t a.next a.first; others = reaches-in f place a.others }
 

@@ -18,10 +18,6 @@ pub round-reaches : (t u : Tree) (changed : Bool) → IsRound t u (Ok changed) �
 round-reaches t u true h = advances-reaches h
 round-reaches t u false h = subst (Reaches Forward t) (sym h.0) stays
 
-pub round-normal : (t u : Tree) (changed : Bool) → changed ≡ false → IsRound t u (Ok changed) → IsNormal u
-round-normal t u true e h = absurd (false≢true (sym e))
-round-normal t u false e h = subst IsNormal (sym h.0) h.1
-
 -- neither of two tests passes anywhere
 neither-first : (a b : Bool) → (a || b) ≡ false → a ≡ false
 neither-first false b e = refl

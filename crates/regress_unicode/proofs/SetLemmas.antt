@@ -24,14 +24,6 @@ pub in_ranges-more : (rs : List (ℕ × ℕ)) (i : ℕ) (c : ℕ) → i < length
     → in_ranges (take (i + 1) rs) c ≡ (in_ranges (take i rs) c || between (get_or rs i (0, 0)).0 (get_or rs i (0, 0)).1 c)
 in_ranges-more rs i c h = rw (take_more rs i (0, 0) h) (in_ranges-push (take i rs) (get_or rs i (0, 0)) c)
 
--- a range ends no earlier than it begins, and is of code points
-pub range-at : (rs : List (ℕ × ℕ)) (i : ℕ) → AreRanges rs → i < length rs
-    → ((get_or rs i (0, 0)).0 ≤ (get_or rs i (0, 0)).1) × ((get_or rs i (0, 0)).1 ≤ last_code_point)
-range-at rs i all h =
-    let r = get_or rs i (0, 0) in
-    let parts = and_parts _ _ (and_at (list_all is_range) is_range refl (λ _ _. refl) rs i (0, 0) h all) in
-    (leb-true _ _ parts.0, leb-true _ _ parts.1)
-
 -- intervals that hold what ranges hold, hold what the ranges are of
 pub holds-exactly : (xs rs : List (ℕ × ℕ)) (p : ℕ → Bool) → IntervalsRise xs → ((c : ℕ) → in_intervals xs c ≡ in_ranges rs c) → HasExactly rs p
     → (c : ℕ) → in_intervals xs c ≡ (nat_le c last_code_point && p c)
