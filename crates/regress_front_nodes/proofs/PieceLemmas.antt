@@ -202,11 +202,6 @@ surrogate-is c h k = elim k [ inl a ↦ grind (arith, nat_tests) | inr a ↦ abs
 pub scalar-from : (c : ℕ) → c ≤ last_code_point → is_surrogate c ≡ false → IsScalar c
 scalar-from c h e = grind (arith, nat_tests)
 
--- a character goes to the end of the literal
-pub letter-added : (ps ts : List Tree) (old new : List ℕ) (c : ℕ) → new ≡ old ++ encode_utf8 c → InScalarRange c
-    → ps ++ bytes_before new ts ≡ ps ++ bytes_before old (before (c ∷ []) ts)
-letter-added ps ts old new c e h = rw (e, surrogate-not c h) (ap (λ us. ps ++ us) (joined-literals old (encode_utf8 c) ts))
-
 -- what isn't part of a literal ends the literal before it
 pub set-added : (ps qs ts : List Tree) (old new : List ℕ) (t : Tree) → is_literal t ≡ false → qs ≡ (ps ++ bytes_before old []) ++ t ∷ [] → new ≡ []
     → qs ++ bytes_before new ts ≡ ps ++ bytes_before old (t ∷ ts)
@@ -216,14 +211,6 @@ set-added ps qs ts old new t h e k =
     ∙ append_assoc ps (bytes_before old []) (t ∷ ts)
     ∙ ap (λ us. ps ++ us) (closed-before old t ts h)
     )
-
-pub surrogate-added : (ps qs ts : List Tree) (old new : List ℕ) (c : ℕ) → c ≤ last_code_point → OutOfScalarRange c → qs ≡ (ps ++ bytes_before old []) ++ char c ∷ []
-    → new ≡ [] → qs ++ bytes_before new ts ≡ ps ++ bytes_before old (before (c ∷ []) ts)
-surrogate-added ps qs ts old new c valid out e k = rw (surrogate-is c valid out) (set-added ps qs ts old new (char c) refl e k)
-
--- one more piece, as a tree
-pub pushed-piece : (old new : List Piece) (p : Piece) (ts : List Tree) → new ≡ old ++ p ∷ [] → map piece_tree old ≡ ts → map piece_tree new ≡ ts ++ piece_tree p ∷ []
-pushed-piece old new p ts e h = rw (e, map-append piece_tree old (p ∷ []), h) refl
 
 -- ---- the pieces of a text
 

@@ -407,11 +407,3 @@ in_intervals-at intervals k i c l inside =
     (ap (λ (p : ℕ × ℕ). between p.0 p.1 c) one ∙ inside)
 
 -- ---- the maps of lawful parts
-
--- the fold of lawful parts is a map of case
-pub IsCaseMap-fold : (parts : TableParts) → IsLawful parts → IsCaseMap parts.fold
-IsCaseMap-fold parts h = record { range = h.range.0.0; order = h.order.0; idempotent = h.idempotent.0; class_size = h.class_size.0 }
-
--- and so is the upper case
-pub IsCaseMap-upper : (parts : TableParts) → IsLawful parts → IsCaseMap parts.upper
-IsCaseMap-upper parts h = record { range = h.range.0.1; order = h.order.1; idempotent = h.idempotent.1; class_size = h.class_size.1 }

@@ -20,17 +20,11 @@ tree-Any = ap tree (sym rolls-Any) ∙ fold-roll-Syntax Pattern node_tree Syntax
 pub tree-Class : (negated : Bool) (c : ClassValue) → tree (Class negated c) ≡ class negated (class_view c)
 tree-Class negated c = ap tree (sym (rolls-Class negated c)) ∙ fold-roll-Syntax Pattern node_tree (Syntax-F.Class negated c)
 
-pub tree-ClassEscape : (c : ClassValue) → tree (ClassEscape c) ≡ class_escape (class_view c)
-tree-ClassEscape c = ap tree (sym (rolls-ClassEscape c)) ∙ fold-roll-Syntax Pattern node_tree (Syntax-F.ClassEscape c)
-
 pub tree-Alternative : (terms : Vec Syntax Global) → tree (Alternative terms) ≡ sequence_of (map tree terms.items)
 tree-Alternative terms = ap tree (sym (rolls-Alternative terms)) ∙ fold-roll-Syntax Pattern node_tree (Syntax-F.Alternative terms)
 
 pub tree-Disjunction : (arms : Vec Syntax Global) → tree (Disjunction arms) ≡ choice_of (map tree arms.items)
 tree-Disjunction arms = ap tree (sym (rolls-Disjunction arms)) ∙ fold-roll-Syntax Pattern node_tree (Syntax-F.Disjunction arms)
-
-pub tree-Capture : (k : ℕ) (name : Option (String Global)) (contents : Box Syntax Global) → tree (Capture k name contents) ≡ capture k (option_map code_points_of name) (tree contents.value)
-tree-Capture k name contents = ap tree (sym (rolls-Capture k name contents)) ∙ fold-roll-Syntax Pattern node_tree (Syntax-F.Capture k name contents)
 
 pub tree-Group : (contents : Box Syntax Global) → tree (Group contents) ≡ grouped (tree contents.value)
 tree-Group contents = ap tree (sym (rolls-Group contents)) ∙ fold-roll-Syntax Pattern node_tree (Syntax-F.Group contents)
@@ -41,9 +35,6 @@ tree-Modified on off contents = ap tree (sym (rolls-Modified on off contents)) �
 pub tree-Loop : (loopee : Box Syntax Global) (quant : Quantifier) (groups : Range ℕ)
     → tree (Loop loopee quant groups) ≡ repeated (tree loopee.value) groups.start groups.end quant.min (most quant) quant.greedy
 tree-Loop loopee quant groups = ap tree (sym (rolls-Loop loopee quant groups)) ∙ fold-roll-Syntax Pattern node_tree (Syntax-F.Loop loopee quant groups)
-
-pub tree-Look : (negated backward : Bool) (contents : Box Syntax Global) → tree (Look negated backward contents) ≡ look negated backward (tree contents.value)
-tree-Look negated backward contents = ap tree (sym (rolls-Look negated backward contents)) ∙ fold-roll-Syntax Pattern node_tree (Syntax-F.Look negated backward contents)
 
 pub tree-LineStart : tree LineStart ≡ line_start
 tree-LineStart = ap tree (sym rolls-LineStart) ∙ fold-roll-Syntax Pattern node_tree Syntax-F.LineStart
