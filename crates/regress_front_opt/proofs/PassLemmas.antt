@@ -3,6 +3,7 @@ use Rattle.std.proofs.Common.{◌≡◌, ℕ, zero, suc, ◌<◌, Bool, true, fa
 use Rattle.std.proofs.lemmas.List.Elements.{All-nil, All-cons, All-append}
 use Rattle.std.specs.Result.{IsErrAnd}
 use Rattle.std.proofs.lemmas.Result.{err_from_is_err_and}
+use Rattle.std.specs.declared.alloc.AllocError.{AllocError}
 use Rattle.regress_meaning.specs.Meaning.{Direction}
 use Rattle.regress_front_core.specs.declared.error.Error.{Error}
 use Rattle.regress_front_core.specs.declared.error.Error.TheVariants.{OutOfMemory}
@@ -13,7 +14,7 @@ use Rattle.regress_front_nodes.specs.TreeMeaning.{direction}
 use Rattle.regress_front_rules.specs.NormalForm.{nodes_below, Nowhere}
 use Rattle.regress_front_rules.specs.Rules.{Turns, Rewrites, there, in_part, in_first, in_second, in_capture, in_look, in_loop, in_single_loop, Reaches, stays, and_then}
 use Rattle.regress_front_opt.specs.declared.action.PassAction.{PassAction}
-use Rattle.regress_front_opt.specs.Passes.{HasLaws, Advances, IsPassed, IsVisited, IsVisitedHere, IsVisitedBelow, AreVisited}
+use Rattle.regress_front_opt.specs.Passes.{HasLaws, Advances, IsPassed, IsVisited, IsVisitedHere, IsVisitedBelow, AreVisited, of_errors}
 use Rattle.regress_front_rules.proofs.KeepLemmas.{reaches-then, reaches-in, reaches-keeps, reaches-weight, rewrites-turned}
 use Rattle.regress_front_rules.specs.Weight.{weight}
 use Rattle.regress_front_rules.proofs.PlaceLemmas.{nowhere-parts}
@@ -62,11 +63,16 @@ module _ (dir : Direction) (broken : Tree → Bool) where
   visited-reaches t u false h = subst (Reaches dir t) (sym h.0) stays
 
   -- where memory is refused
-  pub refused : (t u v : Tree) (r : Result Bool Error) (e : Error) → Reaches dir t u → Reaches dir u v × (e ≡ OutOfMemory) → IsErrAnd r (λ y. y ≡ e) → IsVisited dir broken t v r
-  refused t u v r e h k w = let p = err_from_is_err_and r w in rw (p.1, p.2) (reaches-then h k.0, k.1)
+  pub refused : (t u : Tree) (r : Result Bool Error) → Reaches dir t u × (OutOfMemory ≡ OutOfMemory) → IsErrAnd r (λ y. y ≡ OutOfMemory) → IsVisited dir broken t u r
+  refused t u r h w = let p = err_from_is_err_and r w in rw (p.1, p.2) h
 
-  pub refused-below : (t u v : Tree) (r : Result Bool Error) (e : Error) → Reaches dir t u → Reaches dir u v × (e ≡ OutOfMemory) → IsErrAnd r (λ y. y ≡ e) → IsVisitedBelow dir broken t v r
-  refused-below t u v r e h k w = let p = err_from_is_err_and r w in rw (p.1, p.2) (reaches-then h k.0, k.1)
+  pub refused-tree : (t u v : Tree) (r : Result Bool AllocError) (e : AllocError) → Reaches dir t u → Reaches dir u v × (OutOfMemory ≡ OutOfMemory) → IsErrAnd r (λ y. y ≡ e)
+      → IsVisited dir broken t v (of_errors r)
+  refused-tree t u v r e h k w = let p = err_from_is_err_and r w in rw p.1 (reaches-then h k.0, refl)
+
+  pub refused-below : (t u v : Tree) (r : Result Bool AllocError) (e : AllocError) → Reaches dir t u → Reaches dir u v × (OutOfMemory ≡ OutOfMemory) → IsErrAnd r (λ y. y ≡ e)
+      → IsVisitedBelow dir broken t v (of_errors r)
+  refused-below t u v r e h k w = let p = err_from_is_err_and r w in rw p.1 (reaches-then h k.0, refl)
 
   -- ---- places
 

@@ -1,5 +1,6 @@
 -- What passes do at a node, and in all of a tree.
 use Rattle.std.specs.Prelude.{◌≡◌, ℕ, Bool, true, false, List, [], ◌∷◌, Option, Some, None, Result, Ok, Err, All}
+use Rattle.std.specs.declared.alloc.AllocError.{AllocError}
 use Rattle.regress_meaning.specs.Meaning.{Direction, Forward}
 use Rattle.regress_front_core.specs.declared.error.Error.{Error}
 use Rattle.regress_front_core.specs.declared.error.Error.TheVariants.{OutOfMemory}
@@ -56,6 +57,11 @@ IsVisitedBelow dir broken t u (Err e) = Reaches dir t u × (e ≡ OutOfMemory)
 abbrev pub AreVisited : Direction → (Tree → Bool) → (ts us first : List Tree) → Bool → Type 0
 AreVisited dir broken ts us first true = Advances dir (cat_of ts) (cat_of us)
 AreVisited dir broken ts us first false = (us ≡ ts) × All (Nowhere broken) first
+
+-- An answer that errs where memory is refused, as one of all errors.
+abbrev pub of_errors : Result Bool AllocError → Result Bool Error
+of_errors (Ok changed) = Ok changed
+of_errors (Err e) = Err OutOfMemory
 
 -- What a round of all passes does to a whole tree: nothing, and then the tree is in normal form, or it moves on by rules.
 abbrev pub IsRound : Tree → Tree → Result Bool Error → Type 0

@@ -2,19 +2,18 @@
 ghost use Rattle.std.specs.Prelude.{map};
 ghost use Rattle.regress_front_nodes.specs.Trees.{tree, cat_of, alt};
 ghost use Rattle.regress_front_nodes.specs.TreeMeaning.{direction};
-ghost use Rattle.regress_front_opt.specs.Passes.{HasLaws, IsVisited, IsVisitedBelow, IsVisitedHere};
+ghost use Rattle.regress_front_opt.specs.Passes.{HasLaws, IsVisited, IsVisitedBelow, IsVisitedHere, of_errors};
 
 use crate::action::PassAction;
 use crate::passing::Pass;
 use regress_front_nodes::Node;
 use regress_front_tables::Error;
-use std::alloc::Global;
+use std::alloc::{AllocError, Global};
 
 /// Rewrites all nodes of a tree, each after those below it, and answers whether one was changed.
 ///
 /// `in_lookbehind` tells whether the tree itself stands in a lookbehind. It errs where memory is refused.
 /// `visit(&SpelledChars, alloc, false, &mut node)?` is true where some `Char` became a literal.
-#[cycle(visit)]
 pub fn visit<P: Pass>(
     pass: &P,
     alloc: Global,
@@ -24,32 +23,51 @@ pub fn visit<P: Pass>(
     requires { HasLaws (tree node.old) }
     ensures { IsVisited (direction in_lookbehind) P.broken (tree node.old) (tree node.new) result }
 {
+    Ok(visit_tree(pass, alloc, in_lookbehind, node)?)
+}
+
+// What calls itself by the nesting of a tree has small frames: its answer is held in registers, since it errs where memory is
+// refused alone, and what is done at one node is out of line.
+
+/// The same, where only memory can fail.
+#[cycle(visit)]
+fn visit_tree<P: Pass>(
+    pass: &P,
+    alloc: Global,
+    in_lookbehind: bool,
+    node: &mut Node,
+) -> Result<bool, AllocError>
+    requires { HasLaws (tree node.old) }
+    ensures { IsVisited (direction in_lookbehind) P.broken (tree node.old) (tree node.new) (of_errors result) }
+{
     let below = visit_below(pass, alloc, in_lookbehind, node)?;
     let here = visit_here(pass, alloc, in_lookbehind, node)?;
     Ok(below | here)
 }
 
 /// Rewrites one node, and none below it.
+#[inline(never)]
 fn visit_here<P: Pass>(
     pass: &P,
     alloc: Global,
     in_lookbehind: bool,
     node: &mut Node,
-) -> Result<bool, Error>
+) -> Result<bool, AllocError>
     requires { HasLaws (tree node.old) }
-    ensures { IsVisitedHere (direction in_lookbehind) P.broken (tree node.old) (tree node.new) result }
+    ensures { IsVisitedHere (direction in_lookbehind) P.broken (tree node.old) (tree node.new) (of_errors result) }
 {
-    match pass.rewrite(alloc, in_lookbehind, node)? {
-        PassAction::Keep => Ok(false),
-        PassAction::Modified => Ok(true),
-        PassAction::Remove => {
+    match pass.rewrite(alloc, in_lookbehind, node) {
+        Ok(PassAction::Keep) => Ok(false),
+        Ok(PassAction::Modified) => Ok(true),
+        Ok(PassAction::Remove) => {
             *node = Node::Empty;
             Ok(true)
         }
-        PassAction::Replace(other) => {
+        Ok(PassAction::Replace(other)) => {
             *node = other;
             Ok(true)
         }
+        Err(_) => Err(AllocError),
     }
 }
 
@@ -60,9 +78,9 @@ fn visit_below<P: Pass>(
     alloc: Global,
     in_lookbehind: bool,
     node: &mut Node,
-) -> Result<bool, Error>
+) -> Result<bool, AllocError>
     requires { HasLaws (tree node.old) }
-    ensures { IsVisitedBelow (direction in_lookbehind) P.broken (tree node.old) (tree node.new) result }
+    ensures { IsVisitedBelow (direction in_lookbehind) P.broken (tree node.old) (tree node.new) (of_errors result) }
 {
     match node {
         Node::Cat(parts) => visit_parts(pass, alloc, in_lookbehind, parts),
@@ -71,10 +89,10 @@ fn visit_below<P: Pass>(
             backwards,
             contents,
             ..
-        } => visit(pass, alloc, *backwards, contents),
-        Node::CaptureGroup { contents, .. } => visit(pass, alloc, in_lookbehind, contents),
-        Node::Loop { loopee, .. } => visit(pass, alloc, in_lookbehind, loopee),
-        Node::Loop1CharBody { loopee, .. } => visit(pass, alloc, in_lookbehind, loopee),
+        } => visit_tree(pass, alloc, *backwards, contents),
+        Node::CaptureGroup { contents, .. } => visit_tree(pass, alloc, in_lookbehind, contents),
+        Node::Loop { loopee, .. } => visit_tree(pass, alloc, in_lookbehind, loopee),
+        Node::Loop1CharBody { loopee, .. } => visit_tree(pass, alloc, in_lookbehind, loopee),
         _ => Ok(false),
     }
 }
@@ -86,13 +104,13 @@ fn visit_parts<P: Pass>(
     alloc: Global,
     in_lookbehind: bool,
     parts: &mut [Node],
-) -> Result<bool, Error>
+) -> Result<bool, AllocError>
     requires { HasLaws (cat_of (map tree parts.old)) }
-    ensures { IsVisitedBelow (direction in_lookbehind) P.broken (cat_of (map tree parts.old)) (cat_of (map tree parts.new)) result }
+    ensures { IsVisitedBelow (direction in_lookbehind) P.broken (cat_of (map tree parts.old)) (cat_of (map tree parts.new)) (of_errors result) }
 {
     let mut changed = false;
     for part in parts {
-        changed |= visit(pass, alloc, in_lookbehind, part)?;
+        changed |= visit_tree(pass, alloc, in_lookbehind, part)?;
     }
     Ok(changed)
 }
@@ -105,11 +123,11 @@ fn visit_arms<P: Pass>(
     in_lookbehind: bool,
     first: &mut Node,
     second: &mut Node,
-) -> Result<bool, Error>
+) -> Result<bool, AllocError>
     requires { HasLaws (alt (tree first.old) (tree second.old)) }
-    ensures { IsVisitedBelow (direction in_lookbehind) P.broken (alt (tree first.old) (tree second.old)) (alt (tree first.new) (tree second.new)) result }
+    ensures { IsVisitedBelow (direction in_lookbehind) P.broken (alt (tree first.old) (tree second.old)) (alt (tree first.new) (tree second.new)) (of_errors result) }
 {
-    let begun = visit(pass, alloc, in_lookbehind, first)?;
-    let ended = visit(pass, alloc, in_lookbehind, second)?;
+    let begun = visit_tree(pass, alloc, in_lookbehind, first)?;
+    let ended = visit_tree(pass, alloc, in_lookbehind, second)?;
     Ok(begun | ended)
 }

@@ -5,8 +5,8 @@ use Rattle.regress_front_nodes.specs.TreeMeaning.{direction}
 use Rattle.regress_front_opt.specs.Passes.{AreVisited}
 use Rattle.regress_front_opt.proofs.visiting.+visit.Given as goal
 
-abbrev pub decreases-visit : goal.decreases-visit
-decreases-visit g l = 3 * nesting (tree l.node.now) + 2
+abbrev pub decreases-visit_tree : goal.decreases-visit_tree
+decreases-visit_tree g l = 3 * nesting (tree l.node.now) + 2
 
 abbrev pub decreases-visit_below : goal.decreases-visit_below
 decreases-visit_below g l = 3 * nesting (tree l.node.now) + 1
