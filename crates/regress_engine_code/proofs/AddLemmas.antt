@@ -2,7 +2,7 @@
 use Rattle.std.proofs.Common.{◌≡◌, ℕ, suc, ◌+◌, ◌-◌, ◌≤◌, inl, inr, Bool, List, [], ◌∷◌, ◌++◌, length, refl, sym, ap, ap₂, ◌∙◌, subst, arith, length-append, Option}
 use Rattle.std.proofs.lemmas.List.{length-set}
 use Rattle.regress_meaning.specs.Table.{Table}
-use Rattle.regress_front_core.specs.declared.error.Error.{Error}
+use Rattle.regress_engine_code.specs.declared.refused.Refused.{Refused}
 use Rattle.regress_front_nodes.specs.Trees.{Tree, cat_of}
 use Rattle.regress_front_nodes.specs.Trees as tree
 use Rattle.regress_front_nodes.specs.Sizes.{loops}
@@ -11,7 +11,7 @@ use Rattle.regress_engine_code.specs.Counts.{count}
 use Rattle.regress_engine_code.specs.Instructions.{Instruction, Program, Stands, StandFrom}
 use Rattle.regress_engine_code.specs.Instructions as code
 use Rattle.regress_engine_code.specs.Layout.{Spot, next, later, Target, resets, Lies}
-use Rattle.regress_engine_code.specs.Written.{Written, end, with, changed, Keeps, Adds, AddsTree, MayRefuse}
+use Rattle.regress_engine_code.specs.Written.{Written, end, with, changed, Keeps, Adds, AddsTree, MayStop}
 use Rattle.regress_engine_code.proofs.LayoutLemmas.{resets-length}
 use Rattle.regress_engine_code.proofs.CountLemmas.{counted}
 use Rattle.regress_engine_code.proofs.WrittenLemmas.{Keeps-same, Keeps-chain, Keeps-with, Keeps-changed, Has-earlier, Has-later, Has-behind, Stands-changed, StandFrom-with, end-with}
@@ -91,10 +91,10 @@ one-longer w i w' e =
     )
 
 -- the same bounds and more
-pub MayRefuse-more : (a l b m : ℕ) (e : Error) → a ≤ b → l ≤ m → MayRefuse a l e → MayRefuse b m e
-MayRefuse-more a l b m e more further (inl memory) = inl memory
-MayRefuse-more a l b m e more further (inr (large, inl past)) = inr (large, inl (omega (arith, more, past)))
-MayRefuse-more a l b m e more further (inr (large, inr past)) = inr (large, inr (omega (arith, further, past)))
+pub MayStop-more : (a l b m : ℕ) (e : Refused) → a ≤ b → l ≤ m → MayStop a l e → MayStop b m e
+MayStop-more a l b m e more further (inl memory) = inl memory
+MayStop-more a l b m e more further (inr (large, inl past)) = inr (large, inl (omega (arith, more, past)))
+MayStop-more a l b m e more further (inr (large, inr past)) = inr (large, inr (omega (arith, further, past)))
 
 module _ (units : Bool) (table : Table) (unicode : Bool) where
   -- a tree lies in a program that is made for the table and the mode

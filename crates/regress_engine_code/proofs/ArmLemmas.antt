@@ -1,7 +1,7 @@
 -- Strings of a set, one by one.
 use Rattle.std.specs.Result.{IsErrAnd, IfErr}
 use Rattle.std.proofs.lemmas.Result.{err_from_is_err_and}
-use Rattle.regress_front_core.specs.declared.error.Error.{Error}
+use Rattle.regress_engine_code.specs.declared.refused.Refused.{Refused}
 use Rattle.std.proofs.Common.{Result, ◌≡◌, ℕ, zero, suc, map, take, drop, get_or, ◌+◌, ◌<◌, ◌≤◌, Bool, List, [], ◌∷◌, ◌++◌, length, All, refl, sym, ap, ◌∙◌, subst, arith, length-append, append_assoc}
 use Rattle.std.proofs.lemmas.List.{length-set, map-append, take_more}
 use Rattle.std.proofs.lemmas.List.Elements.{All-nil, All-cons, All-head, All-tail}
@@ -12,10 +12,10 @@ use Rattle.regress_engine_code.specs.declared.emitter.Emitter.{Emitter}
 use Rattle.regress_engine_code.specs.Counts.{string_count, strings_count, count}
 use Rattle.regress_engine_code.specs.Instructions.{Instruction, Program, alt, jump, fail, Stands, StandFrom}
 use Rattle.regress_engine_code.specs.Layout.{Spot, next, later, string_code, AreArms}
-use Rattle.regress_engine_code.specs.Written.{Written, end, with, changed, closed, MayRefuse}
+use Rattle.regress_engine_code.specs.Written.{Written, end, with, changed, closed, MayStop}
 use Rattle.regress_engine_code.specs.Emitting.{target, AddsArms, OpensArms, RefusesArms, Refuses}
 use Rattle.regress_engine_code.proofs.JumpLemmas.{closed-more}
-use Rattle.regress_engine_code.proofs.AddLemmas.{MayRefuse-more, Lie, Adds-turned, Adds-all, Adds-one, Adds-chain, Adds-opened, one-longer}
+use Rattle.regress_engine_code.proofs.AddLemmas.{MayStop-more, Lie, Adds-turned, Adds-all, Adds-one, Adds-chain, Adds-opened, one-longer}
 
 places-more : (n m j : ℕ) (js : List ℕ) → n ≤ m → j < m → All (λ k. k < n) js → All (λ k. k < m) (js ++ j ∷ [])
 places-more n m j [] more within places = All-cons (λ k. k < m) j [] within (All-nil (λ k. k < m))
@@ -129,7 +129,7 @@ parts-up_to f xs k x within is =
     ap (map f) (take_more xs k x within) ∙ map-append f (take k xs) (get_or xs k x ∷ []) ∙ ap (λ z. map f (take k xs) ++ f z ∷ []) (sym is)
 
 -- an error that is handed on
-pub err-handed : {T : Type 0} (r : Result T Error) (x : Error) (Q : Error → Type 0) → IsErrAnd r (λ e. e ≡ x) → Q x → IfErr r Q
+pub err-handed : {T : Type 0} (r : Result T Refused) (x : Refused) (Q : Refused → Type 0) → IsErrAnd r (λ e. e ≡ x) → Q x → IfErr r Q
 err-handed r x Q is holds = let p = err_from_is_err_and r is in rw (p.1, p.2) holds
 
 pub all-last : {A : Type 0} (P : A → Type 0) (xs : List A) (y : A) → All P (xs ++ y ∷ []) → P y
@@ -137,19 +137,19 @@ all-last P [] y all = All-head P y [] all
 all-last P (x ∷ xs) y all = all-last P xs y (All-tail P x (xs ++ y ∷ []) all)
 
 -- what is refused of strings is refused of a set that has one more
-pub arms-refuse : (emitter : Emitter) (icase : Bool) (others : List (List ℕ)) (last : List ℕ) (ss : List (List ℕ)) (w : Written) (e : Error) → ss ≡ others ++ last ∷ []
+pub arms-refuse : (emitter : Emitter) (icase : Bool) (others : List (List ℕ)) (last : List ℕ) (ss : List (List ℕ)) (w : Written) (e : Refused) → ss ≡ others ++ last ∷ []
     → RefusesArms emitter icase others w e → Refuses emitter (string_set ss icase) w e
 unfolding count
 arms-refuse emitter icase others last ss w e whole refused =
     let n : ℕ = length w.instructions + strings_count emitter.units (table emitter.tables.now) emitter.unicode icase (others ++ last ∷ []) in
     subst (λ (ts : List (List ℕ)). Refuses emitter (string_set ts icase) w e) (sym whole)
-    (MayRefuse-more n 0 n (w.loops + 0) e (omega arith) (omega arith) (refused last []))
+    (MayStop-more n 0 n (w.loops + 0) e (omega arith) (omega arith) (refused last []))
 
 -- and the end of a set is refused where its strings are too many
 pub end-refuse : (emitter : Emitter) (backward icase : Bool) (others : List (List ℕ)) (last : List ℕ) (ss : List (List ℕ)) (jumps : List ℕ) (is : List Instruction)
-    (w w1 w2 : Written) (e : Error) → ss ≡ others ++ last ∷ [] → OpensArms emitter backward icase others jumps w w1
+    (w w1 w2 : Written) (e : Refused) → ss ≡ others ++ last ∷ [] → OpensArms emitter backward icase others jumps w w1
     → length is ≡ string_count emitter.units (table emitter.tables.now) emitter.unicode icase last → w2 ≡ with w1 is
-    → MayRefuse (length w2.instructions) 0 e → Refuses emitter (string_set ss icase) w e
+    → MayStop (length w2.instructions) 0 e → Refuses emitter (string_set ss icase) w e
 unfolding count
 end-refuse emitter backward icase others last ss jumps is w w1 w2 e whole opens size spelled may =
     let n : ℕ = length w.instructions + strings_count emitter.units (table emitter.tables.now) emitter.unicode icase (others ++ last ∷ []) in
@@ -157,4 +157,4 @@ end-refuse emitter backward icase others last ss jumps is w w1 w2 e whole opens 
     let sum = sum_by-cons (string_count emitter.units (table emitter.tables.now) emitter.unicode icase) last [] in
     let long : length w2.instructions ≡ length w1.instructions + length is = ap (λ (v : Written). length v.instructions) spelled ∙ length-append w1.instructions is in
     subst (λ (ts : List (List ℕ)). Refuses emitter (string_set ts icase) w e) (sym whole)
-    (MayRefuse-more (length w2.instructions) 0 n (w.loops + 0) e (omega (arith, told, sum, long, size)) (omega arith) may)
+    (MayStop-more (length w2.instructions) 0 n (w.loops + 0) e (omega (arith, told, sum, long, size)) (omega arith) may)

@@ -7,6 +7,7 @@ use Rattle.std.proofs.lemmas.Result.{err_from_is_err_and}
 use Rattle.regress_meaning.specs.Table.{Table}
 use Rattle.regress_meaning.specs.Text.{holds}
 use Rattle.regress_front_core.specs.declared.error.Error.{Error}
+use Rattle.regress_engine_code.specs.declared.refused.Refused.{Refused}
 use Rattle.regress_front_nodes.specs.declared.node.AnchorType.{AnchorType}
 use Rattle.regress_front_nodes.specs.declared.node.AnchorType.TheVariants.{StartOfLine, EndOfLine}
 use Rattle.regress_front_nodes.specs.declared.node.Node.{Node}
@@ -23,18 +24,28 @@ use Rattle.regress_engine_code.specs.Counts.{count}
 use Rattle.regress_engine_code.specs.Instructions.{Instruction, Program, Stands, StandFrom}
 use Rattle.regress_engine_code.specs.Instructions as code
 use Rattle.regress_engine_code.specs.Layout.{Spot, next, later, chunks, byte_set_code}
-use Rattle.regress_engine_code.specs.Written.{Written, end, with, Has, Keeps, AddsTree, MayRefuse}
+use Rattle.regress_engine_code.specs.Written.{Written, end, with, Has, Keeps, AddsTree, MayRefuse, error_of, MayStop}
 use Rattle.regress_engine_code.specs.Emitting.{anchor_code}
 use Rattle.regress_engine_code.proofs.LiteralLemmas.{one-character, literal-alone}
 use Rattle.regress_engine_code.proofs.CountLemmas.{literal-length}
-use Rattle.regress_engine_code.proofs.AddLemmas.{MayRefuse-more, Adds-turned, Adds-all, Adds-one, tree_lies}
+use Rattle.regress_engine_code.proofs.AddLemmas.{MayStop-more, Adds-turned, Adds-all, Adds-one, tree_lies}
 use Rattle.regress_engine_code.proofs.WrittenLemmas.{get-front, get-back, Keeps-chain}
 
 -- an error that is handed on, and the same bounds or more
-pub err-refused : {T : Type 0} (r : Result T Error) (x : Error) (a l b m : ℕ) → IsErrAnd r (λ e. e ≡ x) → MayRefuse a l x → a ≤ b → l ≤ m
-    → IfErr r (MayRefuse b m)
+pub err-refused : {T : Type 0} (r : Result T Refused) (x : Refused) (a l b m : ℕ) → IsErrAnd r (λ e. e ≡ x) → MayStop a l x → a ≤ b → l ≤ m
+    → IfErr r (MayStop b m)
 err-refused r x a l b m is may more further =
-    let p = err_from_is_err_and r is in rw (p.1, p.2) (MayRefuse-more a l b m x more further may)
+    let p = err_from_is_err_and r is in rw (p.1, p.2) (MayStop-more a l b m x more further may)
+
+-- what an emitter answers, as it is told
+pub err-told : {T : Type 0} (r : Result T Error) (x : Refused) (a l b m : ℕ) → IsErrAnd r (λ e. e ≡ error_of x) → MayStop a l x → a ≤ b → l ≤ m
+    → IfErr r (MayRefuse b m)
+err-told r x a l b m is may more further =
+    let p = err_from_is_err_and r is in rw (p.1, p.2) (told (MayStop-more a l b m x more further may))
+  where
+    told : MayStop b m x → MayRefuse b m (error_of x)
+    told (inl memory) = inl (ap error_of memory)
+    told (inr (large, many)) = inr (ap error_of large, many)
 
 -- how much is written when some instructions more are
 pub with-size : (w w' : Written) (is : List Instruction) → w' ≡ with w is → (length w'.instructions ≡ length w.instructions + length is) × (w'.loops ≡ w.loops)

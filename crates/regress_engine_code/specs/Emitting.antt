@@ -1,6 +1,5 @@
 -- What an emitter writes of a tree, and when it refuses.
 use Rattle.std.specs.Prelude.{◌≡◌, ℕ, ◌+◌, ◌<◌, Bool, List, ◌∷◌, ◌++◌, length, All}
-use Rattle.regress_front_core.specs.declared.error.Error.{Error}
 use Rattle.regress_front_tables.specs.TableViews.{table}
 use Rattle.regress_front_nodes.specs.Trees.{Tree}
 use Rattle.regress_front_nodes.specs.Sizes.{loops}
@@ -8,9 +7,10 @@ use Rattle.regress_front_nodes.specs.declared.node.AnchorType.{AnchorType}
 use Rattle.regress_front_nodes.specs.declared.node.AnchorType.TheVariants.{StartOfLine, EndOfLine}
 use Rattle.regress_engine_code.specs.Instructions.{Instruction, Program, line_start, line_end}
 use Rattle.regress_engine_code.specs.declared.emitter.Emitter.{Emitter}
+use Rattle.regress_engine_code.specs.declared.refused.Refused.{Refused}
 use Rattle.regress_engine_code.specs.Counts.{strings_count, count}
 use Rattle.regress_engine_code.specs.Layout.{Target, AreArms}
-use Rattle.regress_engine_code.specs.Written.{Written, closed, Adds, AddsTree, MayRefuse}
+use Rattle.regress_engine_code.specs.Written.{Written, closed, Adds, AddsTree, MayStop}
 
 -- the instruction of an anchor
 abbrev pub anchor_code : AnchorType → Bool → Instruction
@@ -22,9 +22,9 @@ abbrev pub Emits : Emitter → (backward : Bool) → Tree → Written → Writte
 Emits emitter = AddsTree emitter.units (table emitter.tables.now) emitter.unicode
 
 -- Memory is refused, or the instructions or loops with those of the tree are too many.
-abbrev pub Refuses : Emitter → Tree → Written → Error → Type 0
+abbrev pub Refuses : Emitter → Tree → Written → Refused → Type 0
 Refuses emitter t w =
-    MayRefuse (length w.instructions + count emitter.units (table emitter.tables.now) emitter.unicode t) (w.loops + loops t)
+    MayStop (length w.instructions + count emitter.units (table emitter.tables.now) emitter.unicode t) (w.loops + loops t)
 
 -- a program, made for the table and the mode
 abbrev pub target : Emitter → Program → Target
@@ -46,6 +46,6 @@ pub record OpensArms (emitter : Emitter) (backward icase : Bool) (strings : List
       ≡ length old.instructions + strings_count emitter.units (table emitter.tables.now) emitter.unicode icase (strings ++ cs ∷ rest)
 
 -- Memory is refused, or the instructions with those of the strings, and of whatever strings behind them, are too many.
-abbrev pub RefusesArms : Emitter → (icase : Bool) → List (List ℕ) → Written → Error → Type 0
+abbrev pub RefusesArms : Emitter → (icase : Bool) → List (List ℕ) → Written → Refused → Type 0
 RefusesArms emitter icase strings w e = (cs : List ℕ) (rest : List (List ℕ))
-    → MayRefuse (length w.instructions + strings_count emitter.units (table emitter.tables.now) emitter.unicode icase (strings ++ cs ∷ rest)) 0 e
+    → MayStop (length w.instructions + strings_count emitter.units (table emitter.tables.now) emitter.unicode icase (strings ++ cs ∷ rest)) 0 e

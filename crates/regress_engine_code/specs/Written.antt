@@ -7,6 +7,8 @@ use Rattle.regress_front_core.specs.declared.error.Error.TheVariants.{OutOfMemor
 use Rattle.regress_front_nodes.specs.Trees.{Tree}
 use Rattle.regress_front_nodes.specs.declared.node.BracketContents.{BracketContents}
 use Rattle.regress_engine_code.specs.declared.code.Code.{Code}
+use Rattle.regress_engine_code.specs.declared.refused.Refused.{Refused}
+use Rattle.regress_engine_code.specs.declared.refused.Refused.TheVariants as refused
 use Rattle.regress_engine_code.specs.Instructions.{Instruction, jump, Program, Stands}
 use Rattle.regress_engine_code.specs.InsnViews.{instruction}
 use Rattle.regress_engine_code.specs.Layout.{Spot, Lies}
@@ -74,3 +76,12 @@ AreTooMany instructions loops = (0xFFFF_FFFF < instructions) ⊎ (65535 < loops)
 -- Memory is refused, or so many are too many.
 abbrev pub MayRefuse : (instructions loops : ℕ) → Error → Type 0
 MayRefuse instructions loops e = (e ≡ OutOfMemory) ⊎ ((e ≡ TooLarge) × AreTooMany instructions loops)
+
+-- the error that is told
+abbrev pub error_of : Refused → Error
+error_of refused.TooLarge = TooLarge
+error_of refused.OutOfMemory = OutOfMemory
+
+-- The same of what an emitter answers.
+abbrev pub MayStop : (instructions loops : ℕ) → Refused → Type 0
+MayStop instructions loops r = (r ≡ refused.OutOfMemory) ⊎ ((r ≡ refused.TooLarge) × AreTooMany instructions loops)

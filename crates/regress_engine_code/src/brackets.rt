@@ -6,14 +6,14 @@ ghost use Rattle.regress_front_bytes.specs.Bitmaps.{ascii_bitmap_contains};
 ghost use Rattle.regress_front_sets.specs.Intervals.{ends_of};
 ghost use Rattle.regress_front_nodes.specs.Trees.{bracket};
 ghost use Rattle.regress_front_nodes.specs.TreeMeaning.{bracket_has};
-ghost use Rattle.regress_engine_code.specs.Written.{written, bracket_ends, MayRefuse};
+ghost use Rattle.regress_engine_code.specs.Written.{written, bracket_ends, MayStop};
 ghost use Rattle.regress_engine_code.specs.Emitting.{Emits};
 
 use crate::code::Code;
 use crate::emitter::Emitter;
 use crate::insn::Insn;
+use crate::refused::Refused;
 use regress_front_bytes::AsciiBitmap;
-use regress_front_core::Error;
 use regress_front_nodes::BracketContents;
 use std::alloc::{AllocError, Global};
 
@@ -44,10 +44,10 @@ pub(crate) fn copies_of(
 
 impl<'u> Emitter<'u> {
     /// Writes a bracket: as a bitmap where its characters are ASCII. `OutOfMemory` is the only error.
-    pub(crate) fn bracket(&self, code: &mut Code, contents: &BracketContents) -> Result<(), Error>
+    pub(crate) fn bracket(&self, code: &mut Code, contents: &BracketContents) -> Result<(), Refused>
         ensures added { OnOk result ((backward : Bool) → Emits self.now backward
             (bracket contents.now.invert (ends_of contents.now.cps.intervals.items)) (written code.old) (written code.new)) }
-        ensures refused { IfErr result (MayRefuse 0 0) }
+        ensures refused { IfErr result (MayStop 0 0) }
     {
         if let Some(bitmap) = ascii_bitmap(contents) {
             return code.push(Insn::AsciiBracket(bitmap));

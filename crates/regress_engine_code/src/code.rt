@@ -2,14 +2,17 @@
 ghost use Rattle.std.specs.Prelude.{◌≡◌, ◌+◌, ◌-◌, ◌<◌, [], ◌∷◌, ◌++◌, length, map, All, IfOk, IfErr, OnOk};
 ghost use Rattle.regress_front_core.specs.Quantifiers.{most};
 ghost use Rattle.regress_engine_code.specs.Instructions.{fail, goal, begin_group, end_group, loop_again, single_loop, enter_loop};
+ghost use Rattle.regress_engine_code.specs.Instructions as code;
 ghost use Rattle.regress_engine_code.specs.InsnViews.{instruction};
 ghost use Rattle.regress_engine_code.specs.Layout.{resets};
-ghost use Rattle.regress_engine_code.specs.Written.{written, with, changed, closed, bracket_ends, MayRefuse};
+ghost use Rattle.regress_engine_code.specs.Written.{written, with, changed, closed, bracket_ends, MayStop};
 
 use crate::insn::{Insn, LoopFields};
-use regress_front_core::{CaptureGroupID, Error, LoopID};
+use crate::refused::Refused;
+use regress_front_core::{CaptureGroupID, LoopID};
 use regress_front_nodes::{BracketContents, Quantifier};
 use std::alloc::{AllocError, Global};
+use std::ops::Range;
 
 /// The instructions and brackets of a program so far, and how many loops begin in them.
 #[derive(Debug, Drop)]
@@ -17,6 +20,31 @@ pub(crate) struct Code {
     pub(crate) insns: Vec<Insn>,
     pub(crate) brackets: Vec<BracketContents>,
     pub(crate) loops: LoopID,
+}
+
+/// A lookaround over some groups, which goes on at an address.
+fn look(negate: bool, backwards: bool, groups: Range<CaptureGroupID>, continuation: u32) -> Insn
+    ensures { instruction result ≡ code.look negate backwards groups.start groups.end continuation }
+{
+    let Range {
+        start: start_group,
+        end: end_group,
+    } = groups;
+    if backwards {
+        Insn::Lookbehind {
+            negate,
+            start_group,
+            end_group,
+            continuation,
+        }
+    } else {
+        Insn::Lookahead {
+            negate,
+            start_group,
+            end_group,
+            continuation,
+        }
+    }
 }
 
 impl Code {
@@ -32,9 +60,9 @@ impl Code {
     }
 
     /// Writes an instruction behind the others. `OutOfMemory` is the only error.
-    pub(crate) fn push(&mut self, insn: Insn) -> Result<(), Error>
+    pub(crate) fn push(&mut self, insn: Insn) -> Result<(), Refused>
         ensures ok { OnOk result (written self.new ≡ with (written self.old) (instruction insn ∷ [])) }
-        ensures err { IfErr result (MayRefuse 0 0) }
+        ensures err { IfErr result (MayStop 0 0) }
     {
         self.insns.push(insn)?;
         Ok(())
@@ -96,22 +124,23 @@ impl Code {
     }
 
     /// Writes instructions behind the others. `OutOfMemory` is the only error.
-    pub(crate) fn append(&mut self, mut insns: Vec<Insn>) -> Result<(), Error>
+    pub(crate) fn append(&mut self, mut insns: Vec<Insn>) -> Result<(), Refused>
         ensures ok { OnOk result (written self.new ≡ with (written self.old) (map instruction insns.items)) }
-        ensures err { IfErr result (MayRefuse 0 0) }
+        ensures err { IfErr result (MayStop 0 0) }
     {
         self.insns.append(&mut insns)?;
         Ok(())
     }
 
     /// Resets groups, from the first up to before the last. `OutOfMemory` is the only error.
+    #[inline(never)]
     pub(crate) fn push_resets(
         &mut self,
         first: CaptureGroupID,
         last: CaptureGroupID,
-    ) -> Result<(), Error>
+    ) -> Result<(), Refused>
         ensures ok { OnOk result (written self.new ≡ with (written self.old) (resets first (last - first))) }
-        ensures err { IfErr result (MayRefuse 0 0) }
+        ensures err { IfErr result (MayStop 0 0) }
     {
         for group in first..last {
             self.push(Insn::ResetCaptureGroup(group))?;
@@ -120,27 +149,28 @@ impl Code {
     }
 
     /// The address of the next instruction. It errs with `TooLarge` where that is past `u32::MAX`.
-    pub(crate) fn next_address(&self) -> Result<u32, Error>
+    pub(crate) fn next_address(&self) -> Result<u32, Refused>
         ensures ok { IfOk result (λ address. address ≡ length (written self.now).instructions) }
-        ensures err { IfErr result (MayRefuse (length (written self.now).instructions) 0) }
+        ensures err { IfErr result (MayStop (length (written self.now).instructions) 0) }
     {
-        u32::try_from(self.insns.len()).map_err(|_| Error::TooLarge)
+        u32::try_from(self.insns.len()).map_err(|_| Refused::TooLarge)
     }
 
     /// The address of the instruction behind the next `more`. It errs with `TooLarge` where that is past `u32::MAX`.
-    pub(crate) fn address_behind(&self, more: usize) -> Result<u32, Error>
+    pub(crate) fn address_behind(&self, more: usize) -> Result<u32, Refused>
         ensures ok { IfOk result (λ address. address ≡ length (written self.now).instructions + more) }
-        ensures err { IfErr result (MayRefuse (length (written self.now).instructions + more) 0) }
+        ensures err { IfErr result (MayStop (length (written self.now).instructions + more) 0) }
     {
-        u32::try_from(self.insns.len().saturating_add(more)).map_err(|_| Error::TooLarge)
+        u32::try_from(self.insns.len().saturating_add(more)).map_err(|_| Refused::TooLarge)
     }
 
     /// Keeps a place for an instruction that is written later, and answers its address. It errs with `TooLarge` where that is
     /// past `u32::MAX`, and with `OutOfMemory`.
-    pub(crate) fn reserve(&mut self) -> Result<u32, Error>
+    #[inline(never)]
+    pub(crate) fn reserve(&mut self) -> Result<u32, Refused>
         ensures address { IfOk result (λ address. address ≡ length (written self.old).instructions) }
         ensures kept { OnOk result (written self.new ≡ with (written self.old) (fail ∷ [])) }
-        ensures err { IfErr result (MayRefuse (length (written self.old).instructions) 0) }
+        ensures err { IfErr result (MayStop (length (written self.old).instructions) 0) }
     {
         let address = self.next_address()?;
         self.push_fail()?;
@@ -153,6 +183,40 @@ impl Code {
         ensures { written self.new ≡ changed (written self.old) address (instruction insn) }
     {
         self.insns[address as usize] = insn;
+    }
+
+    /// Writes a choice in the place of the instruction at `fork`, and in the place of the one at `jump`, which ends the first
+    /// alternative, a jump to the end. It errs with `TooLarge` where the end has no address.
+    #[inline(never)]
+    pub(crate) fn close_choice(&mut self, fork: u32, jump: u32) -> Result<(), Refused>
+        requires forks { fork < length (written self.old).instructions }
+        requires jumps { jump < length (written self.old).instructions }
+        ensures ok { OnOk result (written self.new ≡ changed
+            (changed (written self.old) jump (code.jump (length (written self.old).instructions))) fork (code.alt (jump + 1))) }
+        ensures err { IfErr result (MayStop (length (written self.old).instructions) 0) }
+    {
+        let target = self.next_address()?;
+        let secondary = jump + 1;
+        self.change(jump, Insn::Jump { target });
+        self.change(fork, Insn::Alt { secondary });
+        Ok(())
+    }
+
+    /// Writes a lookaround over some groups, which goes on at an address, in the place of the instruction at another.
+    #[inline(never)]
+    pub(crate) fn enter_look(
+        &mut self,
+        address: u32,
+        negate: bool,
+        backwards: bool,
+        groups: Range<CaptureGroupID>,
+        continuation: u32,
+    )
+        requires { address < length (written self.old).instructions }
+        ensures { written self.new
+            ≡ changed (written self.old) address (code.look negate backwards groups.start groups.end continuation) }
+    {
+        self.change(address, look(negate, backwards, groups, continuation));
     }
 
     /// Writes a repetition in the place of the instruction at an address.
@@ -184,10 +248,10 @@ impl Code {
     }
 
     /// Writes at some addresses, from the last on, jumps to the end. It errs with `TooLarge` where the end has no address.
-    pub(crate) fn close(&mut self, mut jumps: Vec<u32>) -> Result<(), Error>
+    pub(crate) fn close(&mut self, mut jumps: Vec<u32>) -> Result<(), Refused>
         requires { All (λ j. j < length (written self.old).instructions) jumps.items }
         ensures ok { OnOk result (written self.new ≡ closed (written self.old) jumps.items (length (written self.old).instructions)) }
-        ensures err { IfErr result (MayRefuse (length (written self.old).instructions) 0) }
+        ensures err { IfErr result (MayStop (length (written self.old).instructions) 0) }
     {
         let target = self.next_address()?;
         while let Some(jump) = jumps.pop() {
@@ -197,11 +261,11 @@ impl Code {
     }
 
     /// Adds a bracket, and answers its index. `OutOfMemory` is the only error.
-    pub(crate) fn add_bracket(&mut self, contents: BracketContents) -> Result<usize, Error>
+    pub(crate) fn add_bracket(&mut self, contents: BracketContents) -> Result<usize, Refused>
         ensures index { IfOk result (λ index. index ≡ length (written self.old).brackets) }
         ensures added { OnOk result (written self.new
             ≡ record (written self.old) { brackets = (written self.old).brackets ++ bracket_ends contents ∷ [] }) }
-        ensures err { IfErr result (MayRefuse 0 0) }
+        ensures err { IfErr result (MayStop 0 0) }
     {
         let index = self.brackets.len();
         self.brackets.push(contents)?;
@@ -209,13 +273,13 @@ impl Code {
     }
 
     /// The number of the next loop. It errs with `TooLarge` where 65535 loops begin already.
-    pub(crate) fn next_loop(&mut self) -> Result<LoopID, Error>
+    pub(crate) fn next_loop(&mut self) -> Result<LoopID, Refused>
         ensures id { IfOk result (λ id. id ≡ (written self.old).loops) }
         ensures counted { OnOk result (written self.new ≡ record (written self.old) { loops = (written self.old).loops + 1 }) }
-        ensures err { IfErr result (MayRefuse 0 ((written self.old).loops + 1)) }
+        ensures err { IfErr result (MayStop 0 ((written self.old).loops + 1)) }
     {
         let id = self.loops;
-        self.loops = id.checked_add(1).ok_or(Error::TooLarge)?;
+        self.loops = id.checked_add(1).ok_or(Refused::TooLarge)?;
         Ok(id)
     }
 }

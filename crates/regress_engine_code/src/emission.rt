@@ -4,12 +4,13 @@ ghost use Rattle.regress_front_nodes.specs.Trees.{tree};
 ghost use Rattle.regress_front_nodes.specs.Sizes.{loops};
 ghost use Rattle.regress_front_nodes.specs.WellFormed.{IsWellFormed};
 ghost use Rattle.regress_engine_prefix.specs.Starts.{Serves, KeepsLiteral, IsAnchoredOnlyIf};
-ghost use Rattle.regress_engine_code.specs.Written.{MayRefuse};
+ghost use Rattle.regress_engine_code.specs.Written.{MayRefuse, MayStop};
 ghost use Rattle.regress_engine_code.specs.Standing.{length_for, StandsFor};
 
 use crate::code::Code;
 use crate::compiled::CompiledRegex;
 use crate::emitter::Emitter;
+use crate::refused::Refused;
 use regress_engine_prefix::{StartPredicate, predicate_for_re};
 use regress_front_core::{CaptureGroupName, Error};
 use regress_front_nodes::ir::Regex;
@@ -53,11 +54,11 @@ pub fn emit_units<'u>(alloc: Global, regex: &Regex<'u>) -> Result<CompiledRegex<
 
 /// How many groups there are, by their names. It errs with `TooLarge` past `u32::MAX`; a tree has no fewer instructions, so this
 /// sets no limit of its own.
-fn group_count(names: &[CaptureGroupName]) -> Result<u32, Error>
+fn group_count(names: &[CaptureGroupName]) -> Result<u32, Refused>
     ensures ok { IfOk result (λ n. n ≡ length names.now) }
-    ensures err { IfErr result (MayRefuse (length names.now) 0) }
+    ensures err { IfErr result (MayStop (length names.now) 0) }
 {
-    u32::try_from(names.len()).map_err(|_| Error::TooLarge)
+    u32::try_from(names.len()).map_err(|_| Refused::TooLarge)
 }
 
 /// Where a match of a tree may begin; over units at the start of the text, or anywhere. It errs with `OutOfMemory` alone.

@@ -13,7 +13,8 @@ ghost use Rattle.regress_engine_code.specs.Emitting.{anchor_code, Emits, Refuses
 use crate::code::Code;
 use crate::insn::Insn;
 use crate::leaves::{byte_set, char_set};
-use regress_front_core::{CaptureGroupID, Error};
+use crate::refused::Refused;
+use regress_front_core::CaptureGroupID;
 use regress_front_nodes::{AnchorType, Node, Quantifier};
 use regress_front_tables::Tables;
 use std::alloc::Global;
@@ -51,31 +52,6 @@ fn word_boundary(invert: bool, unicode_icase: bool) -> Insn
     }
 }
 
-/// A lookaround over some groups, which goes on at an address.
-fn look(negate: bool, backwards: bool, groups: Range<CaptureGroupID>, continuation: u32) -> Insn
-    ensures { instruction result ≡ code.look negate backwards groups.start groups.end continuation }
-{
-    let Range {
-        start: start_group,
-        end: end_group,
-    } = groups;
-    if backwards {
-        Insn::Lookbehind {
-            negate,
-            start_group,
-            end_group,
-            continuation,
-        }
-    } else {
-        Insn::Lookahead {
-            negate,
-            start_group,
-            end_group,
-            continuation,
-        }
-    }
-}
-
 // What calls itself by the nesting of a pattern has small frames: what ends before the next level is kept out of line, and hands
 // back what a register holds. What only tells the kinds of nodes apart stands in its callers, so that it has no frame.
 impl<'u> Emitter<'u> {
@@ -83,7 +59,7 @@ impl<'u> Emitter<'u> {
     /// address or a loop has no number, and with `OutOfMemory`.
     #[cycle(emit)]
     #[inline(always)]
-    pub(crate) fn node(&self, code: &mut Code, node: &Node, backward: bool) -> Result<(), Error>
+    pub(crate) fn node(&self, code: &mut Code, node: &Node, backward: bool) -> Result<(), Refused>
         requires { IsLawful (tree node.now) }
         ensures added { OnOk result (Emits self.now backward (tree node.now) (written code.old) (written code.new)) }
         ensures refused { IfErr result (Refuses self.now (tree node.now) (written code.old)) }
@@ -119,7 +95,7 @@ impl<'u> Emitter<'u> {
 
     /// Writes a node of a kind that has no parts. `OutOfMemory` and `TooLarge` are errors as for any node.
     #[inline(never)]
-    fn leaf(&self, code: &mut Code, node: &Node, backward: bool) -> Result<(), Error>
+    fn leaf(&self, code: &mut Code, node: &Node, backward: bool) -> Result<(), Refused>
         requires lawful { IsLawful (tree node.now) }
         requires leaf { is_leaf (tree node.now) ≡ true }
         ensures added { OnOk result (Emits self.now backward (tree node.now) (written code.old) (written code.new)) }
@@ -164,7 +140,7 @@ impl<'u> Emitter<'u> {
         first: &Node,
         second: &Node,
         backward: bool,
-    ) -> Result<(), Error>
+    ) -> Result<(), Refused>
         requires { IsLawful (alt (tree first.now) (tree second.now)) }
         ensures added { OnOk result (Emits self.now backward (alt (tree first.now) (tree second.now)) (written code.old) (written code.new)) }
         ensures refused { IfErr result (Refuses self.now (alt (tree first.now) (tree second.now)) (written code.old)) }
@@ -172,18 +148,14 @@ impl<'u> Emitter<'u> {
         let fork = code.reserve()?;
         self.node(code, first, backward)?;
         let jump = code.reserve()?;
-        let secondary = code.next_address()?;
         self.node(code, second, backward)?;
-        let target = code.next_address()?;
-        code.change(jump, Insn::Jump { target });
-        code.change(fork, Insn::Alt { secondary });
-        Ok(())
+        code.close_choice(fork, jump)
     }
 
     /// Writes parts one after another, in the order in which they stand: in a lookbehind that is the order of reading.
     #[cycle(emit)]
     #[inline(never)]
-    fn parts(&self, code: &mut Code, parts: &[Node], backward: bool) -> Result<(), Error>
+    fn parts(&self, code: &mut Code, parts: &[Node], backward: bool) -> Result<(), Refused>
         requires { IsLawful (cat_of (map tree parts.now)) }
         ensures added { OnOk result (Emits self.now backward (cat_of (map tree parts.now)) (written code.old) (written code.new)) }
         ensures refused { IfErr result (Refuses self.now (cat_of (map tree parts.now)) (written code.old)) }
@@ -203,7 +175,7 @@ impl<'u> Emitter<'u> {
         id: CaptureGroupID,
         contents: &Node,
         backward: bool,
-    ) -> Result<(), Error>
+    ) -> Result<(), Refused>
         requires { IsLawful (tree contents.now) }
         ensures added { OnOk result ((name : Option (List ℕ)) →
             Emits self.now backward (capture id name (tree contents.now)) (written code.old) (written code.new)) }
@@ -225,7 +197,7 @@ impl<'u> Emitter<'u> {
         backwards: bool,
         groups: Range<CaptureGroupID>,
         contents: &Node,
-    ) -> Result<(), Error>
+    ) -> Result<(), Refused>
         requires { IsLawful (tree contents.now) }
         ensures added { OnOk result ((backward : Bool) →
             Emits self.now backward (node.look negate backwards groups.start groups.end (tree contents.now)) (written code.old) (written code.new)) }
@@ -235,8 +207,7 @@ impl<'u> Emitter<'u> {
         self.node(code, contents, backwards)?;
         code.push_goal()?;
         let continuation = code.next_address()?;
-        let insn = look(negate, backwards, groups, continuation);
-        code.change(at, insn);
+        code.enter_look(at, negate, backwards, groups, continuation);
         Ok(())
     }
 
@@ -250,7 +221,7 @@ impl<'u> Emitter<'u> {
         quant: &Quantifier,
         groups: &Range<CaptureGroupID>,
         backward: bool,
-    ) -> Result<(), Error>
+    ) -> Result<(), Refused>
         requires { IsLawful (tree loopee.now) }
         ensures added { OnOk result (Emits self.now backward
             (loop (tree loopee.now) groups.now.start groups.now.end quant.now.min (most quant.now) quant.now.greedy) (written code.old) (written code.new)) }
@@ -276,7 +247,7 @@ impl<'u> Emitter<'u> {
         loopee: &Node,
         quant: &Quantifier,
         backward: bool,
-    ) -> Result<(), Error>
+    ) -> Result<(), Refused>
         requires { IsLawful (single_loop (tree loopee.now) quant.now.min (most quant.now) quant.now.greedy) }
         ensures added { OnOk result (Emits self.now backward
             (single_loop (tree loopee.now) quant.now.min (most quant.now) quant.now.greedy) (written code.old) (written code.new)) }

@@ -9,6 +9,7 @@ mod emitter;
 mod insn;
 mod laws;
 mod leaves;
+mod refused;
 mod strings;
 
 pub use compiled::CompiledRegex;

@@ -11,34 +11,39 @@ ghost use Rattle.regress_front_nodes.specs.WellFormed.{AreLawful};
 ghost use Rattle.regress_engine_code.specs.Instructions.{Program};
 ghost use Rattle.regress_engine_code.specs.InsnViews.{instruction};
 ghost use Rattle.regress_engine_code.specs.Layout.{piece_code, string_code};
-ghost use Rattle.regress_engine_code.specs.Written.{written, MayRefuse};
+ghost use Rattle.regress_engine_code.specs.Written.{written, MayStop};
 ghost use Rattle.regress_engine_code.specs.Emitting.{target, OpensArms, RefusesArms, Emits, Refuses};
 
 use crate::code::Code;
 use crate::emitter::Emitter;
 use crate::insn::Insn;
 use crate::leaves::{byte_set, char_set, literal};
-use regress_front_core::Error;
+use crate::refused::Refused;
 use regress_front_nodes::{Piece, lower_code_point_sequence};
 use regress_front_tables::CodePoint;
 use std::boxed::BoxedSlice;
 
 impl<'u> Emitter<'u> {
     /// Writes a literal. `OutOfMemory` is the only error.
-    pub(crate) fn literal(&self, code: &mut Code, text: &[u8], backward: bool) -> Result<(), Error>
+    pub(crate) fn literal(
+        &self,
+        code: &mut Code,
+        text: &[u8],
+        backward: bool,
+    ) -> Result<(), Refused>
         requires { IsUtf8 text.now }
         ensures added { OnOk result (Emits self.now backward (bytes text.now) (written code.old) (written code.new)) }
-        ensures refused { IfErr result (MayRefuse 0 0) }
+        ensures refused { IfErr result (MayStop 0 0) }
     {
         code.append(literal(self.alloc, text, backward, self.units)?)
     }
 
     /// The instructions of a piece of a string. `OutOfMemory` is the only error.
-    fn piece(&self, piece: &Piece, backward: bool) -> Result<Vec<Insn>, Error>
+    fn piece(&self, piece: &Piece, backward: bool) -> Result<Vec<Insn>, Refused>
         requires { AreLawful 0 (piece_tree piece.now) }
         ensures ok { IfOk result (λ insns. (program : Program) → program.units ≡ self.now.units →
             map instruction insns.items ≡ piece_code program backward (piece_tree piece.now)) }
-        ensures err { IfErr result (MayRefuse 0 0) }
+        ensures err { IfErr result (MayStop 0 0) }
     {
         let insn = match piece {
             Piece::ByteSequence(bytes) => {
@@ -51,21 +56,34 @@ impl<'u> Emitter<'u> {
         Ok(vec![in self.alloc; insn]?)
     }
 
+    /// The pieces of a string, from left to right. `OutOfMemory` is the only error.
+    fn pieces_forward(&self, points: &[CodePoint], icase: bool) -> Result<Vec<Piece>, Refused>
+        requires { All is_code_point points.now }
+        ensures pieces { IfOk result (λ pieces. map piece_tree pieces.items
+            ≡ pieces_of (table self.now.tables.now) icase self.now.unicode points.now) }
+        ensures lawful { IfOk result (λ pieces. All (AreLawful 0) (map piece_tree pieces.items)) }
+        ensures err { IfErr result (MayStop 0 0) }
+    {
+        match lower_code_point_sequence(self.alloc, points, icase, self.unicode, self.tables) {
+            Ok(pieces) => Ok(pieces),
+            Err(_) => Err(Refused::OutOfMemory),
+        }
+    }
+
     /// The pieces of a string, in the order of reading. `OutOfMemory` is the only error.
-    fn pieces(&self, points: &[CodePoint], icase: bool, backward: bool) -> Result<Vec<Piece>, Error>
+    fn pieces(
+        &self,
+        points: &[CodePoint],
+        icase: bool,
+        backward: bool,
+    ) -> Result<Vec<Piece>, Refused>
         requires { All is_code_point points.now }
         ensures ok { IfOk result (λ pieces. map piece_tree pieces.items
             ≡ in_reading_order backward (pieces_of (table self.now.tables.now) icase self.now.unicode points.now)) }
         ensures lawful { IfOk result (λ pieces. All (AreLawful 0) (map piece_tree pieces.items)) }
-        ensures err { IfErr result (MayRefuse 0 0) }
+        ensures err { IfErr result (MayStop 0 0) }
     {
-        let mut pieces = lower_code_point_sequence(
-            self.alloc,
-            points,
-            icase,
-            self.unicode,
-            self.tables,
-        )?;
+        let mut pieces = self.pieces_forward(points, icase)?;
         if backward {
             pieces.reverse();
         }
@@ -73,11 +91,16 @@ impl<'u> Emitter<'u> {
     }
 
     /// The instructions of a string, in the order of reading. `OutOfMemory` is the only error.
-    fn string(&self, points: &[CodePoint], icase: bool, backward: bool) -> Result<Vec<Insn>, Error>
+    fn string(
+        &self,
+        points: &[CodePoint],
+        icase: bool,
+        backward: bool,
+    ) -> Result<Vec<Insn>, Refused>
         requires { All is_code_point points.now }
         ensures ok { IfOk result (λ insns. (program : Program) → program.units ≡ self.now.units →
             map instruction insns.items ≡ string_code (target self.now program) backward icase points.now) }
-        ensures err { IfErr result (MayRefuse 0 0) }
+        ensures err { IfErr result (MayStop 0 0) }
     {
         let pieces = self.pieces(points, icase, backward)?;
         let mut insns = Vec::new(self.alloc);
@@ -95,7 +118,7 @@ impl<'u> Emitter<'u> {
         strings: &[BoxedSlice<CodePoint>],
         icase: bool,
         backward: bool,
-    ) -> Result<Vec<u32>, Error>
+    ) -> Result<Vec<u32>, Refused>
         requires { All (All is_code_point) (map boxed_slice_items strings.now) }
         ensures ok { IfOk result (λ jumps. OpensArms self.now backward icase (map boxed_slice_items strings.now) jumps.items (written code.old) (written code.new)) }
         ensures err { IfErr result (RefusesArms self.now icase (map boxed_slice_items strings.now) (written code.old)) }
@@ -118,7 +141,7 @@ impl<'u> Emitter<'u> {
         alternatives: &[BoxedSlice<CodePoint>],
         icase: bool,
         backward: bool,
-    ) -> Result<(), Error>
+    ) -> Result<(), Refused>
         requires { All (All is_code_point) (map boxed_slice_items alternatives.now) }
         ensures added { OnOk result (Emits self.now backward (string_set (map boxed_slice_items alternatives.now) icase) (written code.old) (written code.new)) }
         ensures refused { IfErr result (Refuses self.now (string_set (map boxed_slice_items alternatives.now) icase) (written code.old)) }

@@ -8,10 +8,11 @@ use Rattle.regress_front_tables.specs.TableViews.{table}
 use Rattle.regress_front_nodes.specs.Trees.{tree}
 use Rattle.regress_front_nodes.proofs.CopyLemmas.{map-AllZip}
 use Rattle.regress_engine_code.specs.InsnViews.{instruction}
+use Rattle.regress_engine_code.specs.Counts.{count}
 use Rattle.regress_engine_code.specs.Layout.{Target}
-use Rattle.regress_engine_code.specs.Written.{written, AddsTree}
+use Rattle.regress_engine_code.specs.Written.{Written, written, AddsTree}
 use Rattle.regress_engine_code.proofs.BeginLemmas.{all-begin}
-use Rattle.regress_engine_code.proofs.EmitLemmas.{err-refused}
+use Rattle.regress_engine_code.proofs.EmitLemmas.{err-told}
 use Rattle.regress_engine_code.proofs.StandingLemmas.{groups-few, told-layout, whole-counted}
 use Rattle.regress_engine_code.proofs.emission.whole_program.Goals as goal
 
@@ -61,9 +62,17 @@ invariant_of-result c =
       ) ∣₁;
     }
 
+pub returns-in_err-node-clause-refused : goal.returns-in_err-node-clause-refused
+returns-in_err-node-clause-refused c =
+    let regex = c.args.regex.now in
+    let none = ap (λ (v : Written). length v.instructions) c.new-code.ensures in
+    let no_loop = ap (λ (v : Written). v.loops) c.new-code.ensures in
+    let same = ap (λ (u : Bool). count c.args.units (table regex.tables.now) u (tree regex.node)) c.is_unicode.ensures in
+    err-told c.from_residual-in_err-node.result c.in_err-node.field-0.0 _ _ _ _ c.from_residual-in_err-node.ensures.1 c.in_err-node.ensures.refused (omega (arith, none, same)) (omega (arith, no_loop))
+
 pub returns-in_err-groups-clause-refused : goal.returns-in_err-groups-clause-refused
 returns-in_err-groups-clause-refused c =
     let regex = c.args.regex.now in
     let few = groups-few c.args.units (table regex.tables.now) (is_unicode (options regex.flags)) (length regex.group_names.items) (tree regex.node) c.requires in
     let same = ap length c.deref.ensures.value in
-    err-refused c.from_residual-in_err-groups.result c.in_err-groups.field-0.0 _ _ _ _ c.from_residual-in_err-groups.ensures.1 c.in_err-groups.ensures.err (omega (arith, few, same)) (omega arith)
+    err-told c.from_residual-in_err-groups.result c.in_err-groups.field-0.0 _ _ _ _ c.from_residual-in_err-groups.ensures.1 c.in_err-groups.ensures.err (omega (arith, few, same)) (omega arith)

@@ -15,7 +15,7 @@ use Rattle.regress_engine_code.specs.Layout.{resets}
 use Rattle.regress_engine_code.specs.Written.{Written, written, with, changed}
 use Rattle.regress_engine_code.specs.Emitting.{Emits}
 use Rattle.regress_engine_code.proofs.LayoutLemmas.{resets-length}
-use Rattle.regress_engine_code.proofs.AddLemmas.{Adds-nothing, AddsTree-counted, AddsTree-more, AddsTree-capture, AddsTree-single_loop, AddsTree-look, AddsTree-alt, AddsTree-loop, MayRefuse-more}
+use Rattle.regress_engine_code.proofs.AddLemmas.{Adds-nothing, AddsTree-counted, AddsTree-more, AddsTree-capture, AddsTree-single_loop, AddsTree-look, AddsTree-alt, AddsTree-loop, MayStop-more}
 use Rattle.regress_engine_code.proofs.EmitLemmas.{err-refused, with-size, parts-within, parts-lawful, single-count, of-capture}
 use Rattle.regress_engine_code.proofs.emitter.Emitter.+emit.Goals as goal
 
@@ -32,14 +32,6 @@ alternation-returns-in_err-jump-clause-refused t c =
     let two = AddsTree-counted c.args.self.now.units (table c.args.self.now.tables.now) c.args.self.now.unicode c.requires.0 c.args.backward (tree c.args.first.now) (written c.reserve.new.self) (written c.node.new.code) c.requires.1.0 c.in_ok-node.ensures.added in
     (err-refused c.from_residual-in_err-jump.result c.in_err-jump.field-0.0 _ _ _ _ c.from_residual-in_err-jump.ensures.1 c.in_err-jump.ensures.err (omega arith) (omega arith))
 
-pub alternation-returns-in_err-secondary-clause-refused : goal.alternation-returns-in_err-secondary-clause-refused
-unfolding count
-alternation-returns-in_err-secondary-clause-refused t c =
-    let one = with-size (written c.args.code.now) (written c.reserve.new.self) (code.fail ∷ []) c.in_ok-fork.ensures.kept in
-    let two = AddsTree-counted c.args.self.now.units (table c.args.self.now.tables.now) c.args.self.now.unicode c.requires.0 c.args.backward (tree c.args.first.now) (written c.reserve.new.self) (written c.node.new.code) c.requires.1.0 c.in_ok-node.ensures.added in
-    let three = with-size (written c.node.new.code) (written c.reserve-2.new.self) (code.fail ∷ []) c.in_ok-jump.ensures.kept in
-    (err-refused c.from_residual-in_err-secondary.result c.in_err-secondary.field-0.0 _ _ _ _ c.from_residual-in_err-secondary.ensures.1 c.in_err-secondary.ensures.err (omega arith) (omega arith))
-
 pub alternation-returns-in_err-node-2-clause-refused : goal.alternation-returns-in_err-node-2-clause-refused
 unfolding count
 alternation-returns-in_err-node-2-clause-refused t c =
@@ -48,24 +40,32 @@ alternation-returns-in_err-node-2-clause-refused t c =
     let three = with-size (written c.node.new.code) (written c.reserve-2.new.self) (code.fail ∷ []) c.in_ok-jump.ensures.kept in
     (err-refused c.from_residual-in_err-node-2.result c.in_err-node-2.field-0.0 _ _ _ _ c.from_residual-in_err-node-2.ensures.1 c.in_err-node-2.ensures.refused (omega arith) (omega arith))
 
-pub alternation-returns-in_err-target-clause-refused : goal.alternation-returns-in_err-target-clause-refused
+pub alternation-returns-clause-refused : goal.alternation-returns-clause-refused
 unfolding count
-alternation-returns-in_err-target-clause-refused t c =
+alternation-returns-clause-refused t c =
     let one = with-size (written c.args.code.now) (written c.reserve.new.self) (code.fail ∷ []) c.in_ok-fork.ensures.kept in
     let two = AddsTree-counted c.args.self.now.units (table c.args.self.now.tables.now) c.args.self.now.unicode c.requires.0 c.args.backward (tree c.args.first.now) (written c.reserve.new.self) (written c.node.new.code) c.requires.1.0 c.in_ok-node.ensures.added in
     let three = with-size (written c.node.new.code) (written c.reserve-2.new.self) (code.fail ∷ []) c.in_ok-jump.ensures.kept in
     let four = AddsTree-counted c.args.self.now.units (table c.args.self.now.tables.now) c.args.self.now.unicode c.requires.0 c.args.backward (tree c.args.second.now) (written c.reserve-2.new.self) (written c.node-2.new.code) c.requires.1.1 c.in_ok-node-2.ensures.added in
-    (err-refused c.from_residual-in_err-target.result c.in_err-target.field-0.0 _ _ _ _ c.from_residual-in_err-target.ensures.1 c.in_err-target.ensures.err (omega arith) (omega arith))
+    IfErr-weaker c.close_choice.result _ _ (λ e may. MayStop-more _ _ _ _ e (omega (arith, one, two, three, four)) (omega (arith, one, two, three, four)) may) c.close_choice.ensures.err
 
 pub alternation-returns-clause-added : goal.alternation-returns-clause-added
 alternation-returns-clause-added t c =
+    let w0 = written c.args.code.now in
+    let w2 = written c.node.new.code in
+    let w3 = written c.reserve-2.new.self in
     let w4 = written c.node-2.new.code in
-    let w5 = written c.change.new.self in
-    (AddsTree-alt c.args.self.now.units (table c.args.self.now.tables.now) c.args.self.now.unicode c.args.backward (tree c.args.first.now) (tree c.args.second.now) code.fail code.fail
-    (written c.args.code.now) (written c.reserve.new.self) (written c.node.new.code) (written c.reserve-2.new.self) w4 w5 (written c.change-2.new.self)
-    c.in_ok-fork.ensures.kept c.in_ok-node.ensures.added c.in_ok-jump.ensures.kept c.in_ok-node-2.ensures.added
-    (c.change.ensures ∙ ap₂ (λ (a b : ℕ). changed w4 a (code.jump b)) c.in_ok-jump.ensures.address c.in_ok-target.ensures.ok)
-    (c.change-2.ensures ∙ ap₂ (λ (a b : ℕ). changed w5 a (code.alt b)) c.in_ok-fork.ensures.address c.in_ok-secondary.ensures.ok))
+    let jump : Instruction = code.jump (length w4.instructions) in
+    let w5 = changed w4 (length w2.instructions) jump in
+    let three = with-size w2 w3 (code.fail ∷ []) c.in_ok-jump.ensures.kept in
+    let behind : length w2.instructions + 1 ≡ length w3.instructions = omega (arith, three) in
+    IfOk-weaker c.close_choice.result _ _
+    (λ _ closed. AddsTree-alt c.args.self.now.units (table c.args.self.now.tables.now) c.args.self.now.unicode c.args.backward (tree c.args.first.now) (tree c.args.second.now) code.fail code.fail
+    w0 (written c.reserve.new.self) w2 w3 w4 w5 (written c.close_choice.new.self)
+    c.in_ok-fork.ensures.kept c.in_ok-node.ensures.added c.in_ok-jump.ensures.kept c.in_ok-node-2.ensures.added refl
+    (closed ∙ ap₂ (λ (a b : ℕ). changed (changed w4 a jump) b (code.alt (a + 1))) c.in_ok-jump.ensures.address c.in_ok-fork.ensures.address
+    ∙ ap (λ (a : ℕ). changed w5 (length w0.instructions) (code.alt a)) behind))
+    c.close_choice.ensures.ok
 
 pub node-returns-in-CaptureGroup-clause-added : goal.node-returns-in-CaptureGroup-clause-added
 node-returns-in-CaptureGroup-clause-added t c =
@@ -113,10 +113,9 @@ lookaround-returns-clause-added t c = λ backward.
     let w3 = written c.push_goal.new.self in
     let inside : ℕ → Instruction = λ a. code.look c.args.negate c.args.backwards c.args.groups.start c.args.groups.end a in
     AddsTree-look c.args.self.now.units (table c.args.self.now.tables.now) c.args.self.now.unicode backward c.args.negate c.args.backwards c.args.groups.start c.args.groups.end (tree c.args.contents.now) code.fail
-    (written c.args.code.now) (written c.reserve.new.self) (written c.node.new.code) w3 (written c.change.new.self)
+    (written c.args.code.now) (written c.reserve.new.self) (written c.node.new.code) w3 (written c.enter_look.new.self)
     c.in_ok-at.ensures.kept c.in_ok-node.ensures.added c.in_ok-push_goal.ensures
-    (c.change.ensures ∙ ap (changed w3 c.in_ok-at.at) c.look-insn.ensures
-    ∙ ap₂ (λ (a b : ℕ). changed w3 a (inside b)) c.in_ok-at.ensures.address c.in_ok-continuation.ensures.ok)
+    (c.enter_look.ensures ∙ ap₂ (λ (a b : ℕ). changed w3 a (inside b)) c.in_ok-at.ensures.address c.in_ok-continuation.ensures.ok)
 
 pub repetition-returns-in_err-node-clause-refused : goal.repetition-returns-in_err-node-clause-refused
 unfolding count
@@ -171,7 +170,7 @@ single_repetition-returns-clause-refused t c =
     let quant = c.args.quant.now in
     let one = with-size (written c.args.code.now) (written c.push_single_loop.new.self) (code.single_loop quant.min (most quant) quant.greedy ∷ []) c.in_ok-push_single_loop.ensures in
     let alone = single-count c.args.self.now.units (table c.args.self.now.tables.now) c.args.self.now.unicode c.requires.0 (tree c.args.loopee.now) c.requires.1.0 c.requires.1.2 in
-    IfErr-weaker c.node.result _ _ (λ e may. MayRefuse-more _ _ _ _ e (omega (arith, one, alone)) (omega (arith, one, alone)) may) c.node.ensures.refused
+    IfErr-weaker c.node.result _ _ (λ e may. MayStop-more _ _ _ _ e (omega (arith, one, alone)) (omega (arith, one, alone)) may) c.node.ensures.refused
 
 pub parts-loop-part-init : goal.parts-loop-part-init
 parts-loop-part-init t c = Adds-nothing c.args.self.now.units (written c.args.code.now)

@@ -9,7 +9,7 @@ use Rattle.regress_engine_code.specs.InsnViews.{instruction}
 use Rattle.regress_engine_code.specs.Layout.{string_code}
 use Rattle.regress_engine_code.specs.Written.{written}
 use Rattle.regress_engine_code.specs.Emitting.{target, RefusesArms}
-use Rattle.regress_engine_code.proofs.AddLemmas.{MayRefuse-more}
+use Rattle.regress_engine_code.proofs.AddLemmas.{MayStop-more}
 use Rattle.regress_engine_code.proofs.CountLemmas.{string-length}
 use Rattle.regress_engine_code.proofs.PieceLemmas.{among}
 use Rattle.regress_engine_code.proofs.ArmLemmas.{OpensArms-nothing, OpensArms-more, arms-room, parts-around, parts-up_to, err-handed}
@@ -62,4 +62,4 @@ returns-in_err-secondary-clause-err c =
     (λ ds rest.
     let room = arms-room emitter c.args.backward c.args.icase (map boxed_slice_items (take k strings)) c.loop-string.jumps.items cs (map boxed_slice_items (drop (suc k) strings)) (map boxed_slice_items strings)
     (written c.args.code.now) (written c.loop-string.code) c.loop-string.invariant (parts-around boxed_slice_items strings k item c.loop-string-test.true c.string-item.is) ds rest in
-    MayRefuse-more (length (written c.loop-string.code).instructions + (c.len.result + 2)) 0 _ 0 c.in_err-secondary.field-0.0 (omega (arith, room, size, many, c.len.ensures)) (omega arith) c.in_err-secondary.ensures.err)
+    MayStop-more (length (written c.loop-string.code).instructions + (c.len.result + 2)) 0 _ 0 c.in_err-secondary.field-0.0 (omega (arith, room, size, many, c.len.ensures)) (omega arith) c.in_err-secondary.ensures.err)
