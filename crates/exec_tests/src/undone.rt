@@ -130,13 +130,13 @@ fn repetition(greedy: bool) -> LoopFields
 fn is_entered_and_left(alloc: Global, greedy: bool) -> Result<bool, AllocError> {
     let repetition = repetition(greedy);
     let mut memory = Memory::new(alloc);
-    memory.begin(1, 0)?;
+    memory.begin(1, 1)?;
     let mut spot = start();
     let entered = memory.enter(&repetition, false, &mut spot)?;
     if !entered || spot.at != 1 || memory.pop().is_some() {
         return Ok(false);
     }
-    memory.begin(1, 0)?;
+    memory.begin(1, 1)?;
     memory.restore_loop(0, LoopData { iters: 1, entry: 0 });
     spot.offset = 1;
     let going = memory.again(&repetition, 0, false, &mut spot)?;
