@@ -2,7 +2,7 @@
 ghost use Rattle.std.specs.Prelude.{◌≡◌, false, true, length, map, string_bytes, IfOk};
 ghost use Rattle.regress_front_nodes.specs.Trees.{tree};
 ghost use Rattle.regress_front_nodes.specs.WellFormed.{IsWellFormed};
-ghost use Rattle.regress_engine_prefix.specs.Starts.{KeepsLiteral};
+ghost use Rattle.regress_engine_prefix.specs.Starts.{IsAnchoredOnlyIf, KeepsLiteral};
 ghost use Rattle.regress_engine_code.specs.Standing.{IsCopyOf, StandsFor, names_of};
 
 use regress_engine_code::{CompiledRegex, emit, emit_units};
@@ -16,6 +16,7 @@ fn of_bytes<'u>(alloc: Global, regex: &Regex<'u>) -> Result<CompiledRegex<'u>, E
     ensures emitted { IfOk result (StandsFor regex.now) }
     ensures of_bytes { IfOk result (λ program. program.units ≡ false) }
     ensures literal { IfOk result (λ program. KeepsLiteral (tree regex.now.node) program.start_pred) }
+    ensures anchored { IfOk result (λ program. IsAnchoredOnlyIf (regex.now.flags.multiline ≡ false) program.start_pred) }
 {
     emit(alloc, regex)
 }
@@ -25,6 +26,7 @@ fn of_units<'u>(alloc: Global, regex: &Regex<'u>) -> Result<CompiledRegex<'u>, E
     requires { IsWellFormed (length regex.now.group_names.items) (tree regex.now.node) }
     ensures emitted { IfOk result (StandsFor regex.now) }
     ensures of_units { IfOk result (λ program. program.units ≡ true) }
+    ensures anchored { IfOk result (λ program. IsAnchoredOnlyIf (regex.now.flags.multiline ≡ false) program.start_pred) }
 {
     emit_units(alloc, regex)
 }
