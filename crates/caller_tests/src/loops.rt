@@ -1,18 +1,10 @@
 //! What callers do with matches. What they ask of a match and of a start is said by the calls that give them; only a search that
 //! goes on from a match of a loop takes a line of proof, which names that clause.
 
+use crate::told::compiled;
 use regress::{Error, Match, Regex, Tables};
 use std::alloc::Global;
 use std::test::Fail;
-
-/// A pattern without flags. It promises nothing, so what calls it with a text of its own has little to prove.
-pub(crate) fn compiled<'t>(
-    alloc: Global,
-    pattern: &str,
-    tables: &'t Tables,
-) -> Result<Regex<'t>, Error> {
-    Regex::new(alloc, pattern, tables)
-}
 
 /// The text of each match.
 fn parts<'t>(alloc: Global, regex: &Regex<'_>, text: &'t str) -> Result<Vec<&'t str>, Error> {
@@ -101,7 +93,7 @@ fn unit_parts<'t>(
 #[test]
 fn parts_of_a_text(rt: HostRuntime) -> Result<(), Fail> {
     let tables = Tables::small(rt.alloc())?;
-    let regex = compiled(rt.alloc(), "(é+)|a", &tables)?;
+    let regex = compiled(rt.alloc(), "(é+)|a", "", &tables)?;
     let whole = parts(rt.alloc(), &regex, "xaéé é")?;
     let first = parts_of_group(rt.alloc(), &regex, "xaéé é", 1)?;
     assert!(rt;
@@ -114,7 +106,7 @@ fn parts_of_a_text(rt: HostRuntime) -> Result<(), Fail> {
 #[test]
 fn fields_of_a_line(rt: HostRuntime) -> Result<(), Fail> {
     let tables = Tables::small(rt.alloc())?;
-    let comma = compiled(rt.alloc(), ",", &tables)?;
+    let comma = compiled(rt.alloc(), ",", "", &tables)?;
     let told = fields(rt.alloc(), &comma, "é, b ,,c")?;
     assert!(rt; told.as_slice() == ["é", "b", "", "c"].as_slice());
     assert!(rt; pair(&comma, "é,b,c")? == Some(("é", "b,c")) && pair(&comma, "é")?.is_none());
@@ -124,7 +116,7 @@ fn fields_of_a_line(rt: HostRuntime) -> Result<(), Fail> {
 #[test]
 fn what_stands_behind_a_match(rt: HostRuntime) -> Result<(), Fail> {
     let tables = Tables::small(rt.alloc())?;
-    let regex = compiled(rt.alloc(), "é", &tables)?;
+    let regex = compiled(rt.alloc(), "é", "", &tables)?;
     let found = second(&regex, "éaé")?.ok_or("no match")?;
     assert!(rt; found.range() == (3..5));
     let starts = starts_behind(rt.alloc(), &regex, "éaé")?;
@@ -135,7 +127,7 @@ fn what_stands_behind_a_match(rt: HostRuntime) -> Result<(), Fail> {
 #[test]
 fn parts_of_units(rt: HostRuntime) -> Result<(), Fail> {
     let tables = Tables::small(rt.alloc())?;
-    let regex = compiled(rt.alloc(), "[^a]", &tables)?;
+    let regex = compiled(rt.alloc(), "[^a]", "", &tables)?;
     let units = [0xD83D, 0xDE00, 0x61, 0xE9];
     let parts = unit_parts(rt.alloc(), &regex, &units)?;
     assert!(rt; parts.len() == 2 && parts[0] == &units[..2] && parts[1] == &units[3..]);

@@ -1,7 +1,6 @@
 //! Long patterns and long texts: with ample memory nothing gives up.
 
-use crate::loops;
-use crate::told::{compiled_under, first};
+use crate::told::{compiled, compiled_under, first};
 use regress::{Flags, Tables};
 use std::alloc::{AllocError, Global};
 use std::test::Fail;
@@ -247,7 +246,7 @@ fn a_name_behind_many_groups_is_found(rt: HostRuntime) -> Result<(), Fail> {
     let pattern = joined(rt.alloc(), "", "(a)", 200, "(?<last>b)")?;
     let text = joined(rt.alloc(), "", "a", 200, "b")?;
     let tables = Tables::small(rt.alloc())?;
-    let regex = loops::compiled(rt.alloc(), pattern.as_str(), &tables)?;
+    let regex = compiled(rt.alloc(), pattern.as_str(), "", &tables)?;
     let found = first(&regex, text.as_str())?.ok_or("no match")?;
     assert!(rt; found.named_group("last") == Some(200..201) && found.group(200) == Some(199..200));
     Ok(())
