@@ -1,5 +1,5 @@
 -- Names that stand in a set, and in a tree.
-use Rattle.std.proofs.Common.{◌≡◌, ℕ, ◌+◌, ◌<◌, Bool, true, false, cond, not, ◌||◌, ◌&&◌, ◌==◌, List, [], ◌∷◌, ◌++◌, map, drop, length, get_or, ◌⊎◌, inl, inr, Bor, BTreeSet, Ordering, String, Global, string_bytes, refl, sym, ap, subst, ◌∙◌, arith}
+use Rattle.std.proofs.Common.{◌≡◌, ℕ, ◌+◌, ◌<◌, Bool, true, false, cond, not, ◌||◌, ◌&&◌, ◌==◌, List, [], ◌∷◌, ◌++◌, map, drop, length, get_or, ◌⊎◌, inl, inr, Bor, BTreeSet, Ordering, String, Vec, Global, string_bytes, refl, sym, ap, subst, ◌∙◌, arith}
 use Rattle.std.specs.Prelude.{IsTrue, ◌↔◌, Option, None, Some}
 use Rattle.std.specs.List.{list_any}
 use Rattle.std.specs.Ordering.{is_eq, nat_cmp}
@@ -16,10 +16,12 @@ use Rattle.std.specs.String.{string_len}
 use Rattle.std.proofs.lemmas.Bool.Decides.{nat_tests}
 use Rattle.regress_meaning.specs.Text.{same_text}
 use Rattle.regress_meaning.specs.Class.{among}
-use Rattle.regress_meaning.specs.Pattern.{Pattern, names_of, nothing, sequence, capture}
+use Rattle.regress_meaning.specs.Pattern.{Pattern, names_of, nothing, character, sequence, capture}
 use Rattle.regress_meaning.specs.Grammar.{is_name, share_a_name, names_apart}
+use Rattle.regress_front_tokens.specs.declared.syntax.Term.{Term}
+use Rattle.regress_front_tokens.specs.declared.syntax.Term.TheVariants.{Text, One}
 use Rattle.regress_front_tokens.specs.declared.syntax.Syntax.{Syntax}
-use Rattle.regress_front_tokens.specs.Trees.{tree, sequence_of, choice_of}
+use Rattle.regress_front_tokens.specs.Trees.{tree, term_trees, trees_of, sequence_of, choice_of}
 use Rattle.regress_front_tokens.specs.Words.{code_points_of}
 use Rattle.regress_front_tables.proofs.EntryLemmas.{same_text-chars}
 use Rattle.std.proofs.lemmas.Str.{IsUtf8-string_bytes, encodes-chars, length-le-encodes}
@@ -253,10 +255,33 @@ terms-first whole names empty = (
   rw (none-passes (has_name names) (names_of whole) (λ name m. none-held names empty name)) (sym (and-true (names_apart whole))),
 )
 
+-- what stands in an alternative from one place on
+terms-from : (terms : List (Term Syntax)) (i : ℕ) (item : Term Syntax) → i < length terms → item ≡ get_or terms i item
+    → trees_of (drop i terms) ≡ term_trees tree item ++ trees_of (drop (i + 1) terms)
+terms-from terms i item within read = rw (drop_more terms i item within, ← read) refl
+
 -- the terms from one on
-pub terms-split : (terms : List Syntax) (i : ℕ) (term : Syntax) → i < length terms → term ≡ get_or terms i term
-    → sequence_of (map tree (drop i terms)) ≡ sequence (tree term) (sequence_of (map tree (drop (i + 1) terms)))
-terms-split terms i term within read = rw (drop_more terms i term within, ← read) refl
+pub terms-split : (terms : List (Term Syntax)) (i : ℕ) (item : Term Syntax) (term : Syntax) → i < length terms → item ≡ get_or terms i item → item ≡ One term
+    → sequence_of (trees_of (drop i terms)) ≡ sequence (tree term) (sequence_of (trees_of (drop (i + 1) terms)))
+terms-split terms i item term within read is =
+    ap sequence_of (terms-from terms i item within read ∙ ap (λ t. term_trees tree t ++ trees_of (drop (i + 1) terms)) is)
+
+-- behind characters, which have no names
+characters-left : (whole : Pattern) (names : BTreeSet (Bor (String Global))) (cs : List ℕ) (ps : List Pattern)
+    → AreTermsLeft whole (sequence_of (map character cs ++ ps)) names → AreTermsLeft whole (sequence_of ps) names
+characters-left whole names [] ps left = left
+characters-left whole names (c ∷ cs) ps left =
+    let rest : Pattern = sequence_of (map character cs ++ ps) in
+    characters-left whole names cs ps (left.0, left.1 ∙ ap (λ b. b && not (list_any (has_name names) (names_of rest))) (and-true (names_apart rest)))
+
+-- behind a text
+pub text-left : (whole : Pattern) (terms : List (Term Syntax)) (i : ℕ) (item : Term Syntax) (points : Vec ℕ Global) (names : BTreeSet (Bor (String Global)))
+    → i < length terms → item ≡ get_or terms i item → item ≡ Text points
+    → AreTermsLeft whole (sequence_of (trees_of (drop i terms))) names → AreTermsLeft whole (sequence_of (trees_of (drop (i + 1) terms))) names
+text-left whole terms i item points names within read is left =
+    let from : trees_of (drop i terms) ≡ map character points.items ++ trees_of (drop (i + 1) terms) =
+    terms-from terms i item within read ∙ ap (λ t. term_trees tree t ++ trees_of (drop (i + 1) terms)) is in
+    characters-left whole names points.items (trees_of (drop (i + 1) terms)) (subst (λ ps. AreTermsLeft whole (sequence_of ps) names) from left)
 
 -- a term that does not stand apart
 pub terms-none : (whole rest p q : Pattern) (names : BTreeSet (Bor (String Global))) → rest ≡ sequence p q → AreTermsLeft whole rest names

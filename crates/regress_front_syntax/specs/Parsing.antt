@@ -7,6 +7,7 @@ use Rattle.regress_meaning.specs.Limits.{WithinLimits, depth, quantifiers, opens
 use Rattle.regress_meaning.specs.Reading.{Front, Opening, quantified, closed, whole_tree, disjunction_at, read_term, single, no_term}
 use Rattle.regress_front_core.specs.declared.error.Error.{Error}
 use Rattle.regress_front_core.specs.declared.error.Error.TheVariants.{Syntax as SyntaxError, TooDeep, TooManyGroups, TooManyLoops, TooLarge, OutOfMemory}
+use Rattle.regress_front_tokens.specs.declared.syntax.Term.{Term}
 use Rattle.regress_front_tokens.specs.declared.syntax.Syntax.{Syntax}
 use Rattle.regress_front_tokens.specs.declared.syntax.Syntax.TheVariants.{Alternative}
 use Rattle.regress_front_core.specs.declared.quantifier.Quantifier.{Quantifier}
@@ -79,7 +80,7 @@ unboxed (Ok s) = Ok s.value
 unboxed (Err e) = Err e
 
 -- terms that were answered, as the tree that they are one after another
-abbrev pub as_alternative : Result (Vec Syntax) Error → Result Syntax Error
+abbrev pub as_alternative : Result (Vec (Term Syntax)) Error → Result Syntax Error
 as_alternative (Ok terms) = Ok (Alternative terms)
 as_alternative (Err e) = Err e
 

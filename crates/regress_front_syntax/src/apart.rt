@@ -2,12 +2,12 @@
 ghost use Rattle.std.specs.Prelude.{◌≡◌, Some, map, IfOk};
 ghost use Rattle.regress_meaning.specs.Pattern.{capture};
 ghost use Rattle.regress_meaning.specs.Grammar.{names_apart};
-ghost use Rattle.regress_front_tokens.specs.Trees.{tree, sequence_of, choice_of};
+ghost use Rattle.regress_front_tokens.specs.Trees.{tree, trees_of, sequence_of, choice_of};
 ghost use Rattle.regress_front_tokens.specs.Words.{code_points_of};
 ghost use Rattle.regress_front_syntax.specs.Names.{AreJoined, IsAdding, IsNaming};
 
 use regress_front_tables::CaptureGroupName;
-use regress_front_tokens::Syntax;
+use regress_front_tokens::{Syntax, Term};
 use std::alloc::{AllocError, Global};
 use std::collections::BTreeSet;
 use std::mem::swap;
@@ -68,14 +68,20 @@ fn names_in<'s>(alloc: Global, syntax: &'s Syntax) -> Result<Option<Names<'s>>, 
     }
 }
 
-/// The same of terms one after another.
+/// The same of terms one after another. A text has no names.
 #[cycle(naming)]
 #[inline(never)]
-fn names_in_terms<'s>(alloc: Global, terms: &'s [Syntax]) -> Result<Option<Names<'s>>, AllocError>
-    ensures { IfOk result (IsNaming (sequence_of (map tree terms.now))) }
+fn names_in_terms<'s>(
+    alloc: Global,
+    terms: &'s [Term<Syntax>],
+) -> Result<Option<Names<'s>>, AllocError>
+    ensures { IfOk result (IsNaming (sequence_of (trees_of terms.now))) }
 {
     let mut names = Names::new(alloc);
     for term in terms {
+        let Term::One(term) = term else {
+            continue;
+        };
         let Some(more) = names_in(alloc, term)? else {
             return Ok(None);
         };

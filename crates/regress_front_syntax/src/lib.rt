@@ -6,5 +6,5 @@ mod group;
 mod parser;
 mod whole;
 
-pub use regress_front_tokens::{Class, Modifiers, Quantifier, Syntax};
+pub use regress_front_tokens::{Class, Modifiers, Quantifier, Syntax, Term};
 pub use whole::{Parsed, Refused, parse, parse_telling_place};

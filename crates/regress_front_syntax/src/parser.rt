@@ -3,7 +3,8 @@ ghost use Rattle.std.specs.Prelude.{◌≡◌, ◌==◌, ◌+◌, ◌<◌, ◌�
 ghost use Rattle.regress_meaning.specs.Text.{◌∈◌, is_at};
 ghost use Rattle.regress_meaning.specs.Tokens.{bounds_at};
 ghost use Rattle.regress_front_tokens.specs.Escapes.{escape_view, mode_view, HasFewGroups};
-ghost use Rattle.regress_front_tokens.specs.Trees.{tree};
+ghost use Rattle.regress_front_tokens.specs.Trees.{tree, trees_of};
+ghost use Rattle.regress_meaning.specs.Pattern.{character};
 ghost use Rattle.regress_meaning.specs.Grammar.{ends_alternative, tree_of};
 ghost use Rattle.regress_meaning.specs.Reading.{disjunction_at, alternative_at, term_at};
 ghost use Rattle.regress_meaning.specs.Reading.{escape_opening, class_opening, parenthesis_opening};
@@ -16,7 +17,7 @@ use regress_front_classes::bracketed_class;
 use regress_front_tables::{
     CodePoint, Error, MAX_CAPTURE_GROUPS, MAX_LOOPS, MAX_NESTING_DEPTH, Quantifier,
 };
-use regress_front_tokens::{Cursor, Escape, Mode, Syntax};
+use regress_front_tokens::{Cursor, Escape, Mode, Syntax, Term};
 use std::alloc::{AllocError, Global};
 
 /// Why a quantifier is refused.
@@ -77,17 +78,43 @@ fn misplacement(cursor: &Cursor) -> &'static str
 // Parsing calls itself 256 levels deep. So that none of its functions has room on the stack for what others need only in
 // passing, those that end before the next level are kept out of line.
 
-/// Adds a tree behind others.
-#[inline(never)]
-fn push(trees: &mut Vec<Syntax>, tree: Syntax) -> Result<(), AllocError>
-    ensures { OnOk result (trees.new.items ≡ trees.old.items ++ (tree ∷ [])) }
+/// Adds a character behind other terms. With a character before it it makes a text.
+fn push_character(
+    alloc: Global,
+    terms: &mut Vec<Term<Syntax>>,
+    point: CodePoint,
+) -> Result<(), AllocError>
+    ensures { OnOk result (trees_of terms.new.items ≡ trees_of terms.old.items ++ (character point ∷ [])) }
 {
-    Ok(trees.push(tree)?)
+    let last = match terms.pop() {
+        None => Term::One(Syntax::Character(point)),
+        Some(Term::Text(mut points)) => {
+            points.push(point)?;
+            Term::Text(points)
+        }
+        Some(Term::One(Syntax::Character(first))) => Term::Text(vec![in alloc; first, point]?),
+        Some(other) => {
+            terms.push(other)?;
+            Term::One(Syntax::Character(point))
+        }
+    };
+    Ok(terms.push(last)?)
+}
+
+/// Adds a term behind others.
+#[inline(never)]
+fn push(alloc: Global, terms: &mut Vec<Term<Syntax>>, term: Syntax) -> Result<(), AllocError>
+    ensures { OnOk result (trees_of terms.new.items ≡ trees_of terms.old.items ++ (tree term ∷ [])) }
+{
+    match term {
+        Syntax::Character(point) => push_character(alloc, terms, point),
+        term => Ok(terms.push(Term::One(term))?),
+    }
 }
 
 /// Adds terms behind other alternatives, as one more.
 #[inline(never)]
-fn push_alternative(arms: &mut Vec<Syntax>, terms: Vec<Syntax>) -> Result<(), AllocError>
+fn push_alternative(arms: &mut Vec<Syntax>, terms: Vec<Term<Syntax>>) -> Result<(), AllocError>
     ensures { OnOk result (arms.new.items ≡ arms.old.items ++ (Syntax.Alternative terms ∷ [])) }
 {
     Ok(arms.push(Syntax::Alternative(terms))?)
@@ -194,7 +221,7 @@ impl<'p> Parser<'p> {
     /// Terms one after another ("Alternative").
     #[cycle(parser)]
     #[inline(never)]
-    fn alternative(&mut self, mode: &Mode, nesting: u32) -> Result<Vec<Syntax>, Error>
+    fn alternative(&mut self, mode: &Mode, nesting: u32) -> Result<Vec<Term<Syntax>>, Error>
         requires shallow { nesting ≤ 256 }
         requires coherent { IsCoherent (mode_view mode.now) }
         requires few { HasFewGroups mode.now }
@@ -206,7 +233,7 @@ impl<'p> Parser<'p> {
         while !self.ends_alternative() {
             // By `?` there would be room on the stack for the term more than once.
             match self.term(mode, nesting) {
-                Ok(term) => push(&mut terms, term)?,
+                Ok(term) => push(self.alloc, &mut terms, term)?,
                 Err(error) => return Err(error),
             }
         }

@@ -1,15 +1,18 @@
 -- The equations of `tree`, one for each variant.
-use Rattle.std.proofs.Common.{◌≡◌, ℕ, Bool, map, Vec, Box, Global, String, Option, option_map, sym, ap, ◌∙◌}
+use Rattle.std.proofs.Common.{◌≡◌, ℕ, Bool, List, [], ◌∷◌, ◌++◌, map, Vec, Box, Global, refl, sym, ap, ◌∙◌}
+use Rattle.std.specs.List.{flat_map}
 use Rattle.std.specs.declared.ops.Range.{Range}
-use Rattle.regress_meaning.specs.Pattern.{Pattern, character, any, class, class_escape, capture, grouped, modified, repeated, look, line_start, line_end, word_boundary}
-use Rattle.regress_front_tokens.specs.Trees.{tree, class_view, settings, node_tree, sequence_of, choice_of}
-use Rattle.regress_front_tokens.specs.Words.{code_points_of}
+use Rattle.regress_meaning.specs.Pattern.{Pattern, character, any, class, grouped, modified, repeated, line_start, line_end, word_boundary}
+use Rattle.regress_front_tokens.specs.Trees.{tree, class_view, settings, node_tree, sequence_of, choice_of, term_trees, trees_of}
 use Rattle.regress_front_core.specs.Quantifiers.{most}
 use Rattle.regress_front_tokens.specs.declared.syntax.Class.{Class as ClassValue}
 use Rattle.regress_front_core.specs.declared.quantifier.Quantifier.{Quantifier}
 use Rattle.regress_front_tokens.specs.declared.syntax.Modifiers.{Modifiers}
+use Rattle.regress_front_tokens.specs.declared.syntax.Term.{Term}
+use Rattle.regress_front_tokens.specs.declared.syntax.Term.TheVariants.{Text, One}
 use Rattle.regress_front_tokens.specs.declared.syntax.Syntax.{Syntax, Syntax-F, fold-roll-Syntax}
-use Rattle.regress_front_tokens.specs.declared.syntax.Syntax.TheVariants.{Character, Any, Class, ClassEscape, Alternative, Disjunction, Capture, Group, Modified, Loop, Look, LineStart, LineEnd, WordBoundary, rolls-Character, rolls-Any, rolls-Class, rolls-ClassEscape, rolls-Alternative, rolls-Disjunction, rolls-Capture, rolls-Group, rolls-Modified, rolls-Loop, rolls-Look, rolls-LineStart, rolls-LineEnd, rolls-WordBoundary}
+use Rattle.regress_front_tokens.specs.declared.syntax.Syntax.TheShapes.{former-Syntax-Alternative-0-at-2}
+use Rattle.regress_front_tokens.specs.declared.syntax.Syntax.TheVariants.{Character, Any, Class, Alternative, Disjunction, Group, Modified, Loop, LineStart, LineEnd, WordBoundary, rolls-Character, rolls-Any, rolls-Class, rolls-Alternative, rolls-Disjunction, rolls-Group, rolls-Modified, rolls-Loop, rolls-LineStart, rolls-LineEnd, rolls-WordBoundary}
 
 pub tree-Character : (c : ℕ) → tree (Character c) ≡ character c
 tree-Character c = ap tree (sym (rolls-Character c)) ∙ fold-roll-Syntax Pattern node_tree (Syntax-F.Character c)
@@ -20,8 +23,18 @@ tree-Any = ap tree (sym rolls-Any) ∙ fold-roll-Syntax Pattern node_tree Syntax
 pub tree-Class : (negated : Bool) (c : ClassValue) → tree (Class negated c) ≡ class negated (class_view c)
 tree-Class negated c = ap tree (sym (rolls-Class negated c)) ∙ fold-roll-Syntax Pattern node_tree (Syntax-F.Class negated c)
 
-pub tree-Alternative : (terms : Vec Syntax Global) → tree (Alternative terms) ≡ sequence_of (map tree terms.items)
-tree-Alternative terms = ap tree (sym (rolls-Alternative terms)) ∙ fold-roll-Syntax Pattern node_tree (Syntax-F.Alternative terms)
+-- what stands in an alternative, with the tree of a term in its place
+each-term : (t : Term Syntax) → term_trees (λ p. p) (former-Syntax-Alternative-0-at-2.map Syntax Pattern tree t) ≡ term_trees tree t
+each-term (Text points) = refl
+each-term (One s) = refl
+
+all-terms : (ts : List (Term Syntax)) → flat_map (term_trees (λ p. p)) (map (former-Syntax-Alternative-0-at-2.map Syntax Pattern tree) ts) ≡ trees_of ts
+all-terms [] = refl
+all-terms (t ∷ ts) = λ i. each-term t i ++ all-terms ts i
+
+pub tree-Alternative : (terms : Vec (Term Syntax) Global) → tree (Alternative terms) ≡ sequence_of (trees_of terms.items)
+tree-Alternative terms =
+    ap tree (sym (rolls-Alternative terms)) ∙ fold-roll-Syntax Pattern node_tree (Syntax-F.Alternative terms) ∙ ap sequence_of (all-terms terms.items)
 
 pub tree-Disjunction : (arms : Vec Syntax Global) → tree (Disjunction arms) ≡ choice_of (map tree arms.items)
 tree-Disjunction arms = ap tree (sym (rolls-Disjunction arms)) ∙ fold-roll-Syntax Pattern node_tree (Syntax-F.Disjunction arms)

@@ -1,5 +1,6 @@
 -- The trees that the values of the parser stand for.
 use Rattle.std.specs.Prelude.{List, [], ◌∷◌, map, fold, option_map}
+use Rattle.std.specs.List.{flat_map}
 use Rattle.regress_front_core.specs.Quantifiers.{most}
 use Rattle.regress_meaning.specs.Class as meaning
 use Rattle.regress_meaning.specs.Pattern.{Pattern, Settings, nothing, character, any, class, class_escape, sequence, choice, capture, grouped, modified, repeated, look, reference, line_start, line_end, word_boundary}
@@ -8,6 +9,7 @@ use Rattle.regress_front_tokens.specs.declared.syntax.Modifiers.{Modifiers}
 use Rattle.regress_front_tokens.specs.declared.syntax.Class.{Class}
 use Rattle.regress_front_tokens.specs.declared.syntax.Class.TheOpen.{Class-F}
 use Rattle.regress_front_tokens.specs.declared.syntax.Class.TheFolds.{fold-Class}
+use Rattle.regress_front_tokens.specs.declared.syntax.Term.{Term}
 use Rattle.regress_front_tokens.specs.declared.syntax.Syntax.{Syntax}
 use Rattle.regress_front_tokens.specs.declared.syntax.Syntax.TheOpen.{Syntax-F}
 use Rattle.regress_front_tokens.specs.declared.syntax.Syntax.TheFolds.{fold-Syntax}
@@ -51,13 +53,18 @@ choice_of [] = nothing
 choice_of (p ∷ []) = p
 choice_of (p ∷ q ∷ ps) = choice p (choice_of (q ∷ ps))
 
+-- the trees of the terms that stand for what stands in an alternative, where one term is seen so
+abbrev pub term_trees : {A : Type 0} → (A → Pattern) → Term A → List Pattern
+term_trees seen (Term.Text points) = map character points.items
+term_trees seen (Term.One a) = seen a ∷ []
+
 -- one value, with the tree of each part in its place
 abbrev pub node_tree : Syntax-F Pattern → Pattern
 node_tree (Syntax-F.Character c) = character c
 node_tree Syntax-F.Any = any
 node_tree (Syntax-F.Class negated c) = class negated (class_view c)
 node_tree (Syntax-F.ClassEscape c) = class_escape (class_view c)
-node_tree (Syntax-F.Alternative terms) = sequence_of terms.items
+node_tree (Syntax-F.Alternative terms) = sequence_of (flat_map (term_trees (λ p. p)) terms.items)
 node_tree (Syntax-F.Disjunction arms) = choice_of arms.items
 node_tree (Syntax-F.Capture k name contents) = capture k (option_map code_points_of name) contents.value
 node_tree (Syntax-F.Group contents) = grouped contents.value
@@ -72,3 +79,7 @@ node_tree (Syntax-F.WordBoundary negated) = word_boundary negated
 -- The tree that a value stands for.
 abbrev pub tree : Syntax → Pattern
 tree = fold-Syntax Pattern node_tree
+
+-- the trees of all terms of an alternative, one after another
+abbrev pub trees_of : List (Term Syntax) → List Pattern
+trees_of = flat_map (term_trees tree)

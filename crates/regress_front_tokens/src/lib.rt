@@ -15,4 +15,4 @@ pub use escape::{Escape, INVALID_ESCAPE};
 pub use mode::Mode;
 pub use regress_front_tables::Quantifier;
 pub use scan::mode_of;
-pub use syntax::{Class, Modifiers, Syntax};
+pub use syntax::{Class, Modifiers, Syntax, Term};

@@ -43,6 +43,15 @@ pub enum Class {
     Nested { negated: bool, contents: Box<Class> },
 }
 
+/// What stands in an alternative, where a value of `T` is one term.
+#[derive(Debug, Drop)]
+pub enum Term<T> {
+    /// Characters side by side, at least two: each is a term of its own.
+    Text(Vec<CodePoint>),
+    /// One term.
+    One(T),
+}
+
 /// The tree of a pattern ("Patterns").
 #[derive(Debug, Drop)]
 pub enum Syntax {
@@ -58,7 +67,7 @@ pub enum Syntax {
     /// `\d`, `\P{..}` and their like, outside a class.
     ClassEscape(Class),
     /// Terms one after another.
-    Alternative(Vec<Syntax>),
+    Alternative(Vec<Term<Syntax>>),
     /// Alternatives, at least one.
     Disjunction(Vec<Syntax>),
     /// A capturing group: its number from 0, its name, if it has one, and its contents.

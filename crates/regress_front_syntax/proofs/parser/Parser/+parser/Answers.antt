@@ -1,12 +1,12 @@
 use Rattle.std.proofs.lemmas.List.{map-append}
 use Rattle.std.proofs.lemmas.Result.{err_from_is_err_and}
-use Rattle.std.proofs.Common.{◌≡◌, suc, ◌+◌, true, false, [], ◌∷◌, length, drop, map, Some, refl, sym, ap, subst, ◌∙◌, length-drop, arith}
+use Rattle.std.proofs.Common.{◌≡◌, suc, ◌+◌, [], ◌∷◌, length, drop, map, Some, refl, sym, ap, subst, ◌∙◌, length-drop, arith}
 use Rattle.regress_meaning.specs.Pattern.{sequence, choice, nothing}
-use Rattle.regress_meaning.specs.Reading.{disjunction_at, alternative_at, quantified, read_term, parenthesis_opening}
+use Rattle.regress_meaning.specs.Reading.{disjunction_at, alternative_at, read_term, parenthesis_opening}
 use Rattle.regress_front_tokens.specs.Cursors.{unread}
 use Rattle.regress_front_tokens.specs.Escapes.{mode_view}
 use Rattle.regress_front_tokens.specs.declared.syntax.Syntax.TheVariants.{Alternative}
-use Rattle.regress_front_tokens.specs.Trees.{tree, choice_of}
+use Rattle.regress_front_tokens.specs.Trees.{tree, trees_of, choice_of}
 use Rattle.regress_front_syntax.specs.Openings.{opened_by}
 use Rattle.regress_front_syntax.specs.Parsing.{Place, Grows, IsRefusal, front_to, place, place_behind, contents_of}
 use Rattle.regress_front_tokens.proofs.TreeLaws.{tree-Alternative, tree-Disjunction}
@@ -63,7 +63,7 @@ alternative-loop-self-preserved t c =
           let goes_on = sym c.loop-self-test.ensures in
           let state = loop_goes_on sequence sequence_joins (alternative_at m) (tree c.in-Ok.term) c.loop-self.invariant.state grows
           (term-goes_on m (c.reading_goes_by_steps.ensures m c.requires.coherent) now there (tree c.in-Ok.term) goes_on read) refl refl refl (Leads_refl there) in
-          rw (c.in_ok-push-in-Ok.ensures, map-append) state;
+          rw c.in_ok-push-in-Ok.ensures state;
     }
 
 pub alternative-loop-self-smaller : goal.alternative-loop-self-smaller
@@ -83,7 +83,7 @@ alternative-returns-clause-answer t c =
     let m = mode_view c.args.mode.now in
     let now = place c.args.nesting c.loop-self.self in
     let ends = sym c.loop-self-test.ensures in
-    let made = tree-Alternative c.loop-self.terms ∙ sequence_of-before (map tree c.loop-self.terms.items) in
+    let made = tree-Alternative c.loop-self.terms ∙ sequence_of-before (trees_of c.loop-self.terms.items) in
     rw made (loop_ends sequence sequence_joins (alternative_at m) nothing c.loop-self.invariant.state (nothing-grows now c.requires.shallow)
     (alternative-ends m (c.reading_goes_by_steps.ensures m c.requires.coherent) now ends))
 

@@ -3,7 +3,7 @@ use Rattle.regress_meaning.specs.Pattern.{sequence, choice}
 use Rattle.regress_meaning.specs.Reading.{disjunction_at, alternative_at}
 use Rattle.regress_front_tokens.specs.Cursors.{unread}
 use Rattle.regress_front_tokens.specs.Escapes.{mode_view}
-use Rattle.regress_front_tokens.specs.Trees.{tree}
+use Rattle.regress_front_tokens.specs.Trees.{tree, trees_of}
 use Rattle.regress_front_syntax.specs.Parsing.{place}
 use Rattle.regress_front_syntax.proofs.LoopLemmas.{LoopState}
 use Rattle.regress_front_syntax.proofs.parser.Parser.+parser.Given as goal
@@ -28,7 +28,7 @@ decreases-contents l = 5 * (256 - l.nesting)
 abbrev pub invariant-alternative-loop-self : goal.invariant-alternative-loop-self
 invariant-alternative-loop-self l = record {
   progress : length (unread l.self.cursor) ≤ length (unread l.fn.self.cursor);
-  state : LoopState sequence (alternative_at (mode_view l.mode)) (place l.nesting l.fn.self) (place l.nesting l.self) (map tree l.terms.items);
+  state : LoopState sequence (alternative_at (mode_view l.mode)) (place l.nesting l.fn.self) (place l.nesting l.self) (trees_of l.terms.items);
 }
 
 abbrev pub decreases-alternative-loop-self : goal.decreases-alternative-loop-self
