@@ -1,5 +1,5 @@
 -- A lowered tree is alike its pattern: parts one after another, and alternatives.
-use Rattle.std.proofs.Common.{◌≡◌, Bool, true, false, List, [], ◌∷◌, ◌++◌, reverse, All, refl, sym, ap, ◌∙◌}
+use Rattle.std.proofs.Common.{◌≡◌, List, [], ◌∷◌, ◌++◌, reverse, All, refl, sym, ap, ◌∙◌}
 use Rattle.std.specs.List.{flat_map}
 use Rattle.std.proofs.lemmas.List.{append-nil, reverse-append}
 use Rattle.std.proofs.lemmas.Grind.{flat_map-append}
@@ -11,11 +11,9 @@ use Rattle.regress_front_nodes.specs.Trees.{Tree, cat_of}
 use Rattle.regress_front_nodes.specs.TreeMeaning.{node_outcomes}
 use Rattle.regress_meaning.specs.Laws.{IsInside}
 use Rattle.regress_front_nodes.specs.Alike.{AreAlike, GoAlike, StayInside}
-use Rattle.regress_front_nodes.specs.TreeMeaning.{direction}
-use Rattle.regress_front_nodes.specs.Forms.{cat_made, in_reading_order}
 use Rattle.regress_front_tree.specs.Lowering.{HasArms, one_arm, two_halves}
 use Rattle.regress_front_nodes.proofs.StepLemmas.{flat_map-self}
-use Rattle.regress_front_nodes.proofs.SequenceLemmas.{made-outcomes, cat_of-append}
+use Rattle.regress_front_nodes.proofs.SequenceLemmas.{cat_of-append}
 use Rattle.regress_front_nodes.proofs.DistinctLemmas.{joined-alike, followed-alike}
 
 module _ (w : Context) (valid : All is_code_point w.text) where
@@ -30,32 +28,26 @@ module _ (w : Context) (valid : All is_code_point w.text) where
   abbrev pub Stays : Type 0
   Stays = (p : Pattern) (dir : Direction) (e : Settings) → StayInside w (outcomes w p dir e)
 
-  forward-alike : Stays → (e : Settings) (ps : List Pattern) (ts : List Tree) → AllAlike Forward e ps ts → GoAlike w (node_outcomes w (cat_of ts) Forward) (outcomes w (sequence_of ps) Forward e)
-  unfolding node_outcomes outcomes
-  forward-alike stays e [] [] h s inside = refl
-  forward-alike stays e [] (t ∷ ts) h s inside = absurd h
-  forward-alike stays e (p ∷ ps) [] h s inside = absurd h
-  forward-alike stays e (p ∷ ps) (t ∷ ts) h s inside =
-      followed-alike (IsInside w.text) (node_outcomes w (cat_of ts) Forward) (outcomes w (sequence_of ps) Forward e) (node_outcomes w t Forward s) (outcomes w p Forward e s)
-      (forward-alike stays e ps ts h.1) (stays p Forward e s inside) (h.0 s inside)
+  -- one term before others
 
-  backward-alike : Stays → (e : Settings) (ps : List Pattern) (ts : List Tree) → AllAlike Backward e ps ts → GoAlike w (node_outcomes w (cat_of (reverse ts)) Backward) (outcomes w (sequence_of ps) Backward e)
+  pub term-ahead : Stays → (e : Settings) (p : Pattern) (ps : List Pattern) (t : Tree) (ts : List Tree) → GoAlike w (node_outcomes w t Forward) (outcomes w p Forward e)
+      → GoAlike w (node_outcomes w (cat_of ts) Forward) (outcomes w (sequence_of ps) Forward e) → GoAlike w (node_outcomes w (cat_of (t ∷ ts)) Forward) (outcomes w (sequence_of (p ∷ ps)) Forward e)
   unfolding node_outcomes outcomes
-  backward-alike stays e [] [] h s inside = refl
-  backward-alike stays e [] (t ∷ ts) h s inside = absurd h
-  backward-alike stays e (p ∷ ps) [] h s inside = absurd h
-  backward-alike stays e (p ∷ ps) (t ∷ ts) h s inside =
+  term-ahead stays e p ps t ts first rest s inside =
+      followed-alike (IsInside w.text) (node_outcomes w (cat_of ts) Forward) (outcomes w (sequence_of ps) Forward e) (node_outcomes w t Forward s) (outcomes w p Forward e s)
+      rest (stays p Forward e s inside) (first s inside)
+
+  pub term-behind : Stays → (e : Settings) (p : Pattern) (ps : List Pattern) (t : Tree) (ts : List Tree) → GoAlike w (node_outcomes w t Backward) (outcomes w p Backward e)
+      → GoAlike w (node_outcomes w (cat_of (reverse ts)) Backward) (outcomes w (sequence_of ps) Backward e)
+      → GoAlike w (node_outcomes w (cat_of (reverse (t ∷ ts))) Backward) (outcomes w (sequence_of (p ∷ ps)) Backward e)
+  unfolding node_outcomes outcomes
+  term-behind stays e p ps t ts first rest s inside =
       let turned : node_outcomes w (cat_of (reverse (t ∷ ts))) Backward s ≡ flat_map (node_outcomes w t Backward) (node_outcomes w (cat_of (reverse ts)) Backward s) =
       ap (λ us. node_outcomes w (cat_of us) Backward s) (reverse-append (t ∷ []) ts)
       ∙ cat_of-append w (reverse ts) (t ∷ []) Backward s
       ∙ (λ i. flat_map (λ r. flat_map-self (node_outcomes w t Backward r) i) (node_outcomes w (cat_of (reverse ts)) Backward s)) in
       rw turned (followed-alike (IsInside w.text) (node_outcomes w t Backward) (outcomes w p Backward e) (node_outcomes w (cat_of (reverse ts)) Backward s) (outcomes w (sequence_of ps) Backward e s)
-      h.0 (stays (sequence_of ps) Backward e s inside) (backward-alike stays e ps ts h.1 s inside))
-
-  pub terms-alike : Stays → (b : Bool) (e : Settings) (ps : List Pattern) (ts : List Tree) → AllAlike (direction b) e ps ts
-      → GoAlike w (node_outcomes w (cat_made (in_reading_order b ts)) (direction b)) (outcomes w (sequence_of ps) (direction b) e)
-  terms-alike stays false e ps ts h s inside = rw (made-outcomes w ts Forward s) (forward-alike stays e ps ts h s inside)
-  terms-alike stays true e ps ts h s inside = rw (made-outcomes w (reverse ts) Backward s) (backward-alike stays e ps ts h s inside)
+      first (stays (sequence_of ps) Backward e s inside) (rest s inside))
 
   -- alternatives
 

@@ -123,7 +123,7 @@ back-fits {n = n} {k = k} {l = l} {numbers} {others} {names} {second} {t} {u} e 
   plain = (b.plain, a.plain);
 }
 
-leaf-cat : {n k : ℕ} {t u : Tree} → Leaf n k t → Leaf n k u → Leaf n k (cat t u)
+pub leaf-cat : {n k : ℕ} {t u : Tree} → Leaf n k t → Leaf n k u → Leaf n k (cat t u)
 leaf-cat a b = cat-fits (omega arith) a b
 
 -- a tree that takes one character

@@ -11,3 +11,5 @@ pub mod LoweredAlike
 pub mod ArmLemmas
 pub mod LowerableLemmas
 pub mod LoweringLemmas
+pub mod TextLemmas
+pub mod TextSteps

@@ -12,16 +12,18 @@ use Rattle.regress_meaning.specs.Pattern as meaning
 use Rattle.regress_meaning.specs.Pattern.{Pattern, Settings}
 use Rattle.regress_meaning.specs.Laws.{IsInside}
 use Rattle.regress_meaning.specs.Meaning.{State, Direction, Forward, Backward, Context, step, same_all, closed, class_steps, captured, cleared, repeat_group, references, outcomes}
+use Rattle.regress_front_tokens.specs.Trees.{sequence_of}
 use Rattle.regress_front_nodes.specs.Trees.{Tree, back, string_set, cat_of}
 use Rattle.regress_front_nodes.specs.TreeMeaning.{alternatives, node_outcomes}
 use Rattle.regress_front_nodes.specs.Alike.{distinct, GoAlike}
 use Rattle.regress_front_nodes.specs.TreeMeaning.{direction}
 use Rattle.regress_front_nodes.specs.Forms.{cat_made, in_reading_order}
-use Rattle.regress_front_tree.specs.Lowering.{class_value, LowersClass, Lowers, LowersAll, of_character, of_any, of_class, of_negated_class, of_class_escape, of_terms, of_arms, of_capture, of_group, of_modified, of_repeated, of_look, of_reference, of_line_start, of_line_end, of_word_boundary, no_pattern, and_next}
+use Rattle.regress_front_tree.specs.Lowering.{class_value, LowersClass, Lowers, LowersAll, of_character, of_any, of_class, of_negated_class, of_class_escape, of_terms, of_arms, of_capture, of_group, of_modified, of_repeated, of_look, of_reference, of_line_start, of_line_end, of_word_boundary, no_pattern, and_next, LowersTerms, no_term, next_term, next_text}
 use Rattle.regress_front_nodes.proofs.DistinctLemmas.{changed-alike, looked-alike, iterated-alike}
 use Rattle.regress_front_nodes.proofs.CharacterLemmas.{takes-steps}
 use Rattle.regress_front_nodes.proofs.SequenceLemmas.{made-outcomes}
-use Rattle.regress_front_tree.proofs.AlikeLemmas.{AllAlike, Stays, terms-alike, arms-outcomes, arms-alike}
+use Rattle.regress_front_tree.proofs.AlikeLemmas.{AllAlike, Stays, term-ahead, term-behind, arms-outcomes, arms-alike}
+use Rattle.regress_front_tree.proofs.TextSteps.{text-ahead, text-behind}
 use Rattle.regress_front_tree.proofs.StringLemmas.{among-All, each-string, like, like-sized, empty-agrees, no_empty-agrees, arms-of-class}
 use Rattle.regress_meaning.proofs.StepLaws.{Leads-cleared}
 
@@ -121,7 +123,8 @@ module _ (w : Context) (valid : All is_code_point w.text) (stays : Stays w valid
     lowered-alike {b} {e} (of_class {c = c} {t = t} h) s inside = class-outcomes (direction b) e c t h s inside
     lowered-alike {b} {e} (of_negated_class {t = t} h) s inside = ap distinct (takes-steps w valid t _ h (direction b) s)
     lowered-alike {b} {e} (of_class_escape {c = c} {t = t} h) s inside = class-outcomes (direction b) e c t h s inside
-    lowered-alike {b} {e} (of_terms {ps = ps} {ts = ts} h) s inside = terms-alike w valid stays b e ps ts (all-alike h) s inside
+    lowered-alike (of_terms {b = false} {ts = ts} h) s inside = rw (made-outcomes w ts Forward s) (terms-ahead h s inside)
+    lowered-alike (of_terms {b = true} {ts = ts} h) s inside = rw (made-outcomes w (reverse ts) Backward s) (terms-behind h s inside)
     lowered-alike {b} {e} (of_arms {ps = ps} {ts = ts} {t = t} h arms) s inside = arms-alike w valid (direction b) e ps ts t (all-alike h) arms s inside
     lowered-alike {b} {e} (of_capture {j = j} {p = p} {t = t} full h) s inside = changed-alike (captured j s.place) (node_outcomes w t (direction b) s) (outcomes w p (direction b) e s) (lowered-alike h s inside)
     lowered-alike (of_group h) s inside = lowered-alike h s inside
@@ -140,3 +143,15 @@ module _ (w : Context) (valid : All is_code_point w.text) (stays : Stays w valid
     all-alike : {b : Bool} {e : Settings} {k l : ℕ} {ps : List Pattern} {ts : List Tree} → LowersAll w.table w.unicode b e k ps ts l → AllAlike w valid (direction b) e ps ts
     all-alike no_pattern = tt
     all-alike (and_next h rest) = (lowered-alike h, all-alike rest)
+
+    terms-ahead : {e : Settings} {k l : ℕ} {ps : List Pattern} {ts : List Tree} → LowersTerms w.table w.unicode false e k ps ts l
+        → GoAlike w (node_outcomes w (cat_of ts) Forward) (outcomes w (sequence_of ps) Forward e)
+    terms-ahead no_term s inside = refl
+    terms-ahead {e} (next_term {p = p} {ps = ps} {t = t} {ts = ts} h rest) s inside = term-ahead w valid stays e p ps t ts (lowered-alike h) (terms-ahead rest) s inside
+    terms-ahead {e} (next_text {cs = cs} {ps = ps} {us = us} {ts = ts} pieces rest) s inside = text-ahead w valid stays e cs us pieces ps ts (terms-ahead rest) s inside
+
+    terms-behind : {e : Settings} {k l : ℕ} {ps : List Pattern} {ts : List Tree} → LowersTerms w.table w.unicode true e k ps ts l
+        → GoAlike w (node_outcomes w (cat_of (reverse ts)) Backward) (outcomes w (sequence_of ps) Backward e)
+    terms-behind no_term s inside = refl
+    terms-behind {e} (next_term {p = p} {ps = ps} {t = t} {ts = ts} h rest) s inside = term-behind w valid stays e p ps t ts (lowered-alike h) (terms-behind rest) s inside
+    terms-behind {e} (next_text {cs = cs} {ps = ps} {us = us} {ts = ts} pieces rest) s inside = text-behind w valid stays e cs us pieces ps ts (terms-behind rest) s inside

@@ -15,9 +15,10 @@ use Rattle.regress_front_nodes.specs.Sizes.{size}
 use Rattle.regress_front_tree.specs.Lowered.{IsLowered}
 use Rattle.regress_front_nodes.specs.Characters.{is_character}
 use Rattle.regress_front_nodes.specs.Forms.{cat_made, in_reading_order}
-use Rattle.regress_front_tree.specs.Lowering.{HasArms, one_arm, two_halves, class_arms, class_value, LowersClass, Lowers, of_character, of_any, of_class, of_negated_class, of_class_escape, of_terms, of_arms, of_capture, of_group, of_modified, of_repeated, of_look, of_reference, of_line_start, of_line_end, of_word_boundary, LowersAll, no_pattern, and_next}
+use Rattle.regress_front_tree.specs.Lowering.{HasArms, one_arm, two_halves, class_arms, class_value, LowersClass, Lowers, of_character, of_any, of_class, of_negated_class, of_class_escape, of_terms, of_arms, of_capture, of_group, of_modified, of_repeated, of_look, of_reference, of_line_start, of_line_end, of_word_boundary, LowersAll, no_pattern, and_next, LowersTerms, no_term, next_term, next_text}
 use Rattle.regress_front_tree.proofs.SameLemmas.{same-push, same-made, same-arms}
 use Rattle.regress_front_tree.proofs.GroupLemmas.{Fits, same-fits, Leaf, leaf, cat-fits, back-fits, takes-leaf, no_part-leaf, class-leaves, All-turned, back-leaves, capture-fits}
+use Rattle.regress_front_tree.proofs.TextLemmas.{text-names, text-plain, text-weight, text-numbered, text-fits, pieces-size}
 use Rattle.regress_front_tree.proofs.NumberLemmas.{numbered-from, IsNumberedFrom, sequence-numbered, capture-numbered, choice-names, choice-numbers, choice-quantifiers, choice-numbered}
 use Rattle.regress_front_nodes.proofs.NodeLemmas.{same_text-same}
 
@@ -101,7 +102,7 @@ module _ (table : Table) (unicode : Bool) where
     counted (of_class h) few = omega arith
     counted (of_negated_class h) few = omega arith
     counted (of_class_escape h) few = omega arith
-    counted (of_terms h) few = all-counted h few
+    counted (of_terms h) few = terms-counted h few
     counted (of_arms {ps = ps} h a) few =
         let e = ap length (choice-names ps) in
         omega (arith, few, e, all-counted h (omega (arith, few, e)))
@@ -124,6 +125,17 @@ module _ (table : Table) (unicode : Bool) where
         let first = counted h (omega (arith, few, both)) in
         omega (arith, both, first, all-counted i (omega (arith, few, both, first)))
 
+    terms-counted : {b : Bool} {e : Settings} {k l : ℕ} {ps : List Pattern} {ts : List Tree} → LowersTerms table unicode b e k ps ts l
+        → k + length (names_of (sequence_of ps)) ≤ most_groups → l ≡ k + length (names_of (sequence_of ps))
+    terms-counted no_term few = omega arith
+    terms-counted (next_term {p = p} {ps = ps} h i) few =
+        let both = length-append (names_of p) (names_of (sequence_of ps)) in
+        let first = counted h (omega (arith, few, both)) in
+        omega (arith, both, first, terms-counted i (omega (arith, few, both, first)))
+    terms-counted (next_text {cs = cs} {ps = ps} pieces i) few =
+        let same = ap length (text-names cs ps) in
+        omega (arith, same, terms-counted i (omega (arith, few, same)))
+
   -- the groups, the names and the loops
 
   class-leaf : {n k : ℕ} {e : Settings} {c : Class} {t : Tree} → LowersClass table unicode e c t → Leaf n k t
@@ -141,12 +153,12 @@ module _ (table : Table) (unicode : Bool) where
     fits (of_class h) m = class-leaf h
     fits (of_negated_class {t = t} h) m = takes-leaf t h.alone h.lawful
     fits (of_class_escape h) m = class-leaf h
-    fits (of_terms {b = false} {ts = ts} h) m = same-fits (same-made ts) (all-fits h m).0
-    fits (of_terms {b = true} {ts = ts} h) m = same-fits (same-made (reverse ts)) (all-fits h m).1
+    fits (of_terms {b = false} {ts = ts} h) m = same-fits (same-made ts) (terms-fits h m).0
+    fits (of_terms {b = true} {ts = ts} h) m = same-fits (same-made (reverse ts)) (terms-fits h m).1
     fits {n = n} {k = k} (of_arms {ps = ps} {ts = ts} {t = t} h a) m =
         let terms : Pattern = sequence_of ps in
         let arms : Pattern = choice_of ps in
-        let all : FitsPart n k terms (cat_of ts) = (all-fits h (choice-numbered ps m)).0 in
+        let all : FitsPart n k terms (cat_of ts) = all-fits h (choice-numbered ps m) in
         let numbers = subst (λ ns. Fits n k ns (names_of terms) (quantifiers terms) (cat_of ts)) (choice-numbers ps) all in
         let names = subst (λ ns. Fits n k (group_numbers arms) ns (quantifiers terms) (cat_of ts)) (choice-names ps) numbers in
         let loops = subst (λ c. Fits n k (group_numbers arms) (names_of arms) c (cat_of ts)) (choice-quantifiers ps) names in
@@ -190,17 +202,26 @@ module _ (table : Table) (unicode : Bool) where
         leaf (boundary negated (unicode && e.icase)) refl tt refl refl (λ i. refl) tt
 
     all-fits : {b : Bool} {e : Settings} {n k l : ℕ} {ps : List Pattern} {ts : List Tree} → LowersAll table unicode b e k ps ts l
+        → IsNumberedFrom n k (sequence_of ps) → FitsPart n k (sequence_of ps) (cat_of ts)
+    all-fits no_pattern m = no_part-leaf
+    all-fits {n = n} {k = k} (and_next {ps = ps} h i) m =
+        let parts = sequence-numbered m in
+        let e = counted h parts.0.few in
+        cat-fits e (fits h parts.0) (all-fits i (subst (λ j. IsNumberedFrom n j (sequence_of ps)) (sym e) parts.1))
+
+    terms-fits : {b : Bool} {e : Settings} {n k l : ℕ} {ps : List Pattern} {ts : List Tree} → LowersTerms table unicode b e k ps ts l
         → IsNumberedFrom n k (sequence_of ps) → FitsPart n k (sequence_of ps) (cat_of ts) × FitsPart n k (sequence_of ps) (cat_of (reverse ts))
-    all-fits no_pattern m = (no_part-leaf, no_part-leaf)
-    all-fits {n = n} {k = k} (and_next {p = p} {ps = ps} {t = t} {ts = ts} h i) m =
+    terms-fits no_term m = (no_part-leaf, no_part-leaf)
+    terms-fits {n = n} {k = k} (next_term {p = p} {ps = ps} {t = t} {ts = ts} h i) m =
         let parts = sequence-numbered m in
         let e = counted h parts.0.few in
         let a = fits h parts.0 in
-        let rest = all-fits i (subst (λ j. IsNumberedFrom n j (sequence_of ps)) (sym e) parts.1) in (
+        let rest = terms-fits i (subst (λ j. IsNumberedFrom n j (sequence_of ps)) (sym e) parts.1) in (
           cat-fits e a rest.0,
           subst (λ us. FitsPart n k (sequence_of (p ∷ ps)) (cat_of us)) (sym (reverse-append (t ∷ []) ts))
               (same-fits (same-push (reverse ts) t) (back-fits e a rest.1)),
         )
+    terms-fits (next_text {cs = cs} {ps = ps} {us = us} {ts = ts} pieces i) m = text-fits cs ps us ts pieces.kinds pieces.lawful (terms-fits i (text-numbered cs ps m))
 
   -- how many nodes there are
 
@@ -223,7 +244,7 @@ module _ (table : Table) (unicode : Bool) where
       sized (of_negated_class {t = t} h) plain = omega (arith, takes-size t h.alone)
       sized (of_class_escape h) plain = class-size h plain
       sized (of_terms {b = b} {ts = ts} h) plain =
-          omega (arith, made-size (in_reading_order b ts), turned-size b ts, (all-sized h plain).0)
+          omega (arith, made-size (in_reading_order b ts), turned-size b ts, terms-sized h plain)
       sized (of_arms {ps = []} {ts = ts} h a) plain = omega (arith, arms-size a, (all-sized h plain).0, (all-sized h plain).1)
       sized (of_arms {ps = p ∷ ps} {ts = ts} h a) plain =
           let rest = all-sized h (choice-plain (p ∷ ps) plain) in
@@ -246,6 +267,15 @@ module _ (table : Table) (unicode : Bool) where
       all-sized (and_next h i) plain =
           let rest = all-sized i plain.1 in
           (omega (arith, sized h plain.0, rest.0), omega (arith, rest.1))
+
+      terms-sized : {b : Bool} {e : Settings} {k l : ℕ} {ps : List Pattern} {ts : List Tree} → LowersTerms table unicode b e k ps ts l
+          → HoldsNoStrings (sequence_of ps) → size (cat_of ts) ≤ weight (sequence_of ps)
+      terms-sized no_term plain = omega arith
+      terms-sized (next_term h i) plain = omega (arith, sized h plain.0, terms-sized i plain.1)
+      terms-sized {e = e} (next_text {cs = cs} {ps = ps} {us = us} {ts = ts} pieces i) plain =
+          let own = pieces-size table e.icase unicode cs pieces.points in
+          let few : size (cat_of us) ≤ length cs + 1 = rw pieces.are own in
+          omega (arith, few, join-size us ts, text-weight cs ps, terms-sized i (text-plain cs ps plain))
 
 pub lowered-law : HaveNoStrings → (table : Table) (unicode backward : Bool) (e : Settings) (n k : ℕ) (p : Pattern) (t : Tree) (l : ℕ)
     → Lowers table unicode backward e k p t l → group_numbers p ≡ count_up k (length (names_of p)) → FitsGroups n p

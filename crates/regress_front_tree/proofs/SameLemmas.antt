@@ -104,7 +104,7 @@ same-one t = record {
 }
 
 -- the parts of two are the parts of one
-same-join : (ts us : List Tree) → Same (cat (cat_of ts) (cat_of us)) (cat_of (ts ++ us))
+pub same-join : (ts us : List Tree) → Same (cat (cat_of ts) (cat_of us)) (cat_of (ts ++ us))
 same-join [] us = record {
   ids = refl;
   goals = omega arith;

@@ -8,9 +8,11 @@ use Rattle.regress_meaning.specs.Pattern as meaning
 use Rattle.regress_meaning.specs.Pattern.{Pattern, Settings}
 use Rattle.regress_meaning.specs.Meaning.{is_line_end, same, closed, with}
 use Rattle.regress_front_tokens.specs.Trees.{sequence_of, choice_of}
-use Rattle.regress_front_nodes.specs.Trees.{Tree, alt, line_start, line_end, boundary, capture, back, string_set, look, loop}
+use Rattle.regress_front_nodes.specs.Trees.{Tree, char, bytes, byte_set, char_set, alt, line_start, line_end, boundary, capture, back, string_set, look, loop}
 use Rattle.regress_front_nodes.specs.Forms.{cat_made, in_reading_order}
 use Rattle.regress_front_nodes.specs.Characters.{Takes}
+use Rattle.regress_front_nodes.specs.Pieces.{pieces_of}
+use Rattle.regress_front_nodes.specs.WellFormed.{AreLawful}
 
 -- The tree has these arms, the earlier preferred.
 pub data HasArms : List Tree → Tree → Type 0 where
@@ -33,6 +35,14 @@ abbrev pub class_arms : Bool → List (List ℕ) → Tree → Bool → List Tree
 class_arms icase strings characters has_empty =
     (if length strings == 0 then [] else string_set strings icase ∷ []) ++ (characters ∷ (if has_empty then string_set ([] ∷ []) icase ∷ [] else []))
 
+-- the tree may be a piece of a text: by itself it takes some of its characters
+abbrev pub is_piece : Tree → Bool
+is_piece (char c) = true
+is_piece (bytes bs) = true
+is_piece (byte_set bs) = true
+is_piece (char_set cs) = true
+is_piece _ = false
+
 -- how many groups were opened, with one more
 abbrev pub one_more : ℕ → ℕ
 one_more k = min (suc k) most_groups
@@ -41,6 +51,13 @@ module _ (table : Table) (unicode : Bool) where
   -- the strings that a class stands for
   abbrev pub class_value : Settings → Class → Strings
   class_value e c = value_of table (unicode && e.icase) c
+
+  -- The trees are the pieces of a text.
+  pub record ArePieces (icase : Bool) (cs : List ℕ) (us : List Tree) : Type 0 where
+    pub points : All is_code_point cs
+    pub are : us ≡ pieces_of table icase unicode cs
+    pub kinds : All (λ u. is_piece u ≡ true) us
+    pub lawful : All (AreLawful 0) us
 
   -- A class that isn't negated, as its arms.
   pub record LowersClass (e : Settings) (c : Class) (t : Tree) : Type 0 where
@@ -60,7 +77,7 @@ module _ (table : Table) (unicode : Bool) where
       of_negated_class : {b : Bool} {e : Settings} {k : ℕ} {c : Class} {t : Tree} → Takes t (λ d. not (closed table unicode e.icase (class_value e c).singles d))
           → Lowers b e k (meaning.class true c) t k
       of_class_escape : {b : Bool} {e : Settings} {k : ℕ} {c : Class} {t : Tree} → LowersClass e c t → Lowers b e k (meaning.class_escape c) t k
-      of_terms : {b : Bool} {e : Settings} {k l : ℕ} {ps : List Pattern} {ts : List Tree} → LowersAll b e k ps ts l
+      of_terms : {b : Bool} {e : Settings} {k l : ℕ} {ps : List Pattern} {ts : List Tree} → LowersTerms b e k ps ts l
           → Lowers b e k (sequence_of ps) (cat_made (in_reading_order b ts)) l
       of_arms : {b : Bool} {e : Settings} {k l : ℕ} {ps : List Pattern} {ts : List Tree} {t : Tree} → LowersAll b e k ps ts l → HasArms ts t
           → Lowers b e k (choice_of ps) t l
@@ -85,3 +102,12 @@ module _ (table : Table) (unicode : Bool) where
       no_pattern : {b : Bool} {e : Settings} {k : ℕ} → LowersAll b e k [] [] k
       and_next : {b : Bool} {e : Settings} {k l n : ℕ} {p : Pattern} {ps : List Pattern} {t : Tree} {ts : List Tree} → Lowers b e k p t l
           → LowersAll b e l ps ts n → LowersAll b e k (p ∷ ps) (t ∷ ts) n
+
+    -- The same of terms one after another, where characters side by side may be lowered together: to the pieces of their text,
+    -- which stand in its order either way.
+    pub data LowersTerms : Bool → Settings → ℕ → List Pattern → List Tree → ℕ → Type 0 where
+      no_term : {b : Bool} {e : Settings} {k : ℕ} → LowersTerms b e k [] [] k
+      next_term : {b : Bool} {e : Settings} {k l n : ℕ} {p : Pattern} {ps : List Pattern} {t : Tree} {ts : List Tree} → Lowers b e k p t l
+          → LowersTerms b e l ps ts n → LowersTerms b e k (p ∷ ps) (t ∷ ts) n
+      next_text : {b : Bool} {e : Settings} {k n : ℕ} {cs : List ℕ} {ps : List Pattern} {us ts : List Tree} → ArePieces e.icase cs us → LowersTerms b e k ps ts n
+          → LowersTerms b e k (map meaning.character cs ++ ps) (us ++ ts) n

@@ -10,14 +10,16 @@ ghost use Rattle.regress_front_tokens.specs.Words.{code_points_of};
 ghost use Rattle.regress_front_core.specs.Quantifiers.{most};
 ghost use Rattle.regress_front_nodes.specs.Trees as nodes;
 ghost use Rattle.regress_front_nodes.specs.Trees.{tree, anchor_of, empty, loop};
-ghost use Rattle.regress_front_tree.specs.Lowering.{HasArms};
+ghost use Rattle.regress_front_nodes.specs.Pieces.{piece_tree};
+ghost use Rattle.regress_front_tables.specs.TableViews.{table};
+ghost use Rattle.regress_front_tree.specs.Lowering.{HasArms, ArePieces};
 ghost use Rattle.regress_front_nodes.specs.Forms.{cat_made, in_reading_order};
-ghost use Rattle.regress_front_tree.specs.Scopes.{settings_of, IsLowerable, LowersInScope, LowersAllInScope, IsSamePattern};
+ghost use Rattle.regress_front_tree.specs.Scopes.{settings_of, IsLowerable, LowersInScope, LowersAllInScope, LowersTermsInScope, AddsTextInScope, IsSamePattern};
 
 use crate::arms::alternatives;
 use crate::brackets::{character_node, class_node, negated_class_node};
-use regress_front_nodes::{AnchorType, Node, NodeList};
-use regress_front_syntax::{Class, Modifiers, Quantifier, Syntax};
+use regress_front_nodes::{AnchorType, Node, NodeList, Piece, lower_code_point_sequence};
+use regress_front_syntax::{Class, Modifiers, Quantifier, Syntax, Term};
 use regress_front_tables::{CaptureGroupID, CaptureGroupName, CodePoint, Tables};
 use std::alloc::{AllocError, Global};
 use std::mem::replace;
@@ -83,6 +85,20 @@ fn push(nodes: &mut NodeList, node: Box<Node>) -> Result<(), AllocError>
     ensures { OnOk result (nodes.new.items ≡ nodes.old.items ++ (node.value ∷ [])) }
 {
     Ok(nodes.push(Box::into_inner(node))?)
+}
+
+/// The pieces of a text: where no case is ignored one literal, but for surrogates.
+fn text_pieces(
+    alloc: Global,
+    points: &[CodePoint],
+    icase: bool,
+    unicode: bool,
+    tables: &Tables,
+) -> Result<Vec<Piece>, AllocError>
+    requires { All is_code_point points.now }
+    ensures { IfOk result (λ pieces. ArePieces (table tables.now) unicode icase points.now (map piece_tree pieces.items)) }
+{
+    lower_code_point_sequence(alloc, points, icase, unicode, tables).map_err(|_| AllocError)
 }
 
 /// Puts nodes one after another in the place of one.
@@ -256,20 +272,60 @@ impl<'t> Lowering<'t> {
         Ok(nodes)
     }
 
+    /// The nodes of terms one after another, in the order of the text.
+    #[cycle(lowering)]
+    #[inline(never)]
+    fn terms(&mut self, terms: &[Term<Syntax>], scope: &Scope) -> Result<NodeList, AllocError>
+        requires { All IsLowerable (parsed.trees_of terms.now) }
+        ensures ok { IfOk result (λ nodes. LowersTermsInScope self.old scope.now (parsed.trees_of terms.now) (map tree nodes.items) self.new) }
+        ensures kept { IsSamePattern self.old self.new }
+    {
+        let mut nodes = Vec::new(self.alloc);
+        for term in terms {
+            match term {
+                Term::Text(points) => self.text(points, scope, &mut nodes)?,
+                Term::One(term) => {
+                    let mut node = Box::new(self.alloc, Node::Empty)?;
+                    self.lower(term, scope, &mut node)?;
+                    push(&mut nodes, node)?;
+                }
+            }
+        }
+        Ok(nodes)
+    }
+
+    /// Adds the nodes of a text behind others, in the order of the text.
+    #[inline(never)]
+    fn text(
+        &self,
+        points: &[CodePoint],
+        scope: &Scope,
+        nodes: &mut NodeList,
+    ) -> Result<(), AllocError>
+        requires { All is_code_point points.now }
+        ensures { OnOk result (AddsTextInScope self.now scope.now points.now (map tree nodes.old.items) (map tree nodes.new.items)) }
+    {
+        let pieces = text_pieces(self.alloc, points, scope.icase, self.unicode, self.tables)?;
+        for piece in pieces {
+            nodes.push(Node::from(piece))?;
+        }
+        Ok(())
+    }
+
     /// Lowers terms one after another ("Alternative").
     #[cycle(lowering)]
     #[inline(never)]
     fn alternative(
         &mut self,
-        terms: &[Syntax],
+        terms: &[Term<Syntax>],
         scope: &Scope,
         node: &mut Node,
     ) -> Result<(), AllocError>
-        requires { All IsLowerable (map parsed.tree terms.now) }
-        ensures ok { OnOk result (LowersInScope self.old scope.now (parsed.sequence_of (map parsed.tree terms.now)) (tree node.new) self.new) }
+        requires { All IsLowerable (parsed.trees_of terms.now) }
+        ensures ok { OnOk result (LowersInScope self.old scope.now (parsed.sequence_of (parsed.trees_of terms.now)) (tree node.new) self.new) }
         ensures kept { IsSamePattern self.old self.new }
     {
-        let nodes = self.each(terms, scope)?;
+        let nodes = self.terms(terms, scope)?;
         line_up(nodes, scope.backward, node);
         Ok(())
     }

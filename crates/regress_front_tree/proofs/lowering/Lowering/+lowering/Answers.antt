@@ -1,4 +1,4 @@
-use Rattle.std.proofs.Common.{◌≡◌, [], length, refl, sym, arith, rules, add-one, option_map}
+use Rattle.std.proofs.Common.{◌≡◌, [], length, map, refl, sym, arith, rules, add-one, option_map}
 use Rattle.std.proofs.lemmas.Bool.{eqb-true, eqb-false}
 use Rattle.std.proofs.lemmas.List.{take_all, nil_from_length}
 use Rattle.std.proofs.lemmas.Result.{IfOk-weaker}
@@ -6,12 +6,13 @@ use Rattle.regress_front_tokens.specs.declared.syntax.Syntax.TheViews.{the_lemma
 use Rattle.regress_front_tokens.specs.Trees as parsed
 use Rattle.regress_front_tokens.specs.Words.{code_points_of}
 use Rattle.regress_front_nodes.specs.Trees.{tree}
-use Rattle.regress_front_tree.specs.Lowering.{no_pattern, of_terms, of_arms, of_capture, of_group, of_repeated, of_look, of_line_start, of_line_end}
+use Rattle.regress_front_tree.specs.Lowering.{no_pattern, no_term, of_terms, of_arms, of_capture, of_group, of_repeated, of_look, of_line_start, of_line_end}
 use Rattle.regress_front_tree.specs.Scopes.{IsLowerable}
 use Rattle.regress_front_tokens.proofs.TreeLaws as law
-use Rattle.regress_front_tree.proofs.LowerableLemmas.{IsLowerable-terms, IsLowerable-arms, contents-IsLowerable, each_is}
-use Rattle.regress_front_tree.proofs.LoweringLemmas.{each_more, nodes-length, Lowers-nothing, LowersInScope-modified, IsSamePattern-chain}
+use Rattle.regress_front_tree.proofs.LowerableLemmas.{IsLowerable-terms, IsLowerable-arms, contents-IsLowerable, each_is, term-IsLowerable, text-points}
+use Rattle.regress_front_tree.proofs.LoweringLemmas.{each_more, terms_more, text_more, nodes-length, Lowers-nothing, LowersInScope-modified, IsSamePattern-chain}
 use Rattle.regress_front_tree.proofs.lowering.Lowering.+lowering.Goals as goal
+use Rattle.regress_front_tree.proofs.lowering.Lowering.+lowering.Goals.{terms-in-Text+in_ok-text-in-Text, terms-in-One+in_ok-node-in-One+in_ok-lower-in-One+in_ok-push-in-One}
 
 pub lower-alternative-requires : goal.lower-alternative-requires
 lower-alternative-requires t c =
@@ -47,6 +48,58 @@ each-returns-clause-ok t c = rw (take_all c.loop-part.part-index c.args.parts.no
 
 pub each-returns-clause-kept : goal.each-returns-clause-kept
 each-returns-clause-kept t c = c.loop-part.invariant.same
+
+-- terms
+
+pub lower-returns-in-Alternative-clause-ok : goal.lower-returns-in-Alternative-clause-ok
+lower-returns-in-Alternative-clause-ok t c = rw (c.in-Alternative.is, law.tree-Alternative, ← c.deref.ensures.value) c.alternative.ensures.ok
+
+pub terms-loop-term-init : goal.terms-loop-term-init
+terms-loop-term-init t c = record { lowered = rw c.new-nodes.ensures.items no_term; same = record { tables = refl; unicode = refl } }
+
+pub terms-text-requires : goal.terms-text-requires
+terms-text-requires t c =
+    rw c.deref.ensures.value (text-points c.args.terms.now c.loop-term.term-index c.term-item.result c.in-Text.points c.loop-term-test.true c.term-item.is c.in-Text.is c.requires)
+
+pub terms-returns-in_err-text-in-Text-clause-kept : goal.terms-returns-in_err-text-in-Text-clause-kept
+terms-returns-in_err-text-in-Text-clause-kept t c = c.loop-term.invariant.same
+
+pub terms-returns-in_err-node-in-One-clause-kept : goal.terms-returns-in_err-node-in-One-clause-kept
+terms-returns-in_err-node-in-One-clause-kept t c = c.loop-term.invariant.same
+
+pub terms-lower-requires : goal.terms-lower-requires
+terms-lower-requires t c =
+    (search (rules, the_lemmas), term-IsLowerable c.args.terms.now c.loop-term.term-index c.term-item.result c.in-One.term c.loop-term-test.true c.term-item.is c.in-One.is c.requires)
+
+pub terms-returns-in_err-lower-in-One-clause-kept : goal.terms-returns-in_err-lower-in-One-clause-kept
+terms-returns-in_err-lower-in-One-clause-kept t c = IsSamePattern-chain _ _ _ c.loop-term.invariant.same c.lower.ensures.kept
+
+pub terms-returns-in_err-push-in-One-clause-kept : goal.terms-returns-in_err-push-in-One-clause-kept
+terms-returns-in_err-push-in-One-clause-kept t c = IsSamePattern-chain _ _ _ c.loop-term.invariant.same c.lower.ensures.kept
+
+pub terms-loop-term-preserved : goal.terms-loop-term-preserved
+terms-loop-term-preserved t c =
+    let terms = c.args.terms.now in
+    let i = c.loop-term.term-index in
+    elim c.match-term.branch [
+      | terms-in-Text+in_ok-text-in-Text w ↦ rw (w.self-is, w.nodes-is) (record {
+        lowered = text_more c.args.self.now c.loop-term.self c.args.scope.now terms (map tree c.loop-term.nodes.items) (map tree w.text.new.nodes.items) i c.term-item.result w.in-Text.points
+            c.loop-term-test.true c.term-item.is w.in-Text.is c.loop-term.invariant.same c.loop-term.invariant.lowered (rw w.deref.ensures.value at w.in_ok-text-in-Text.ensures);
+        same = c.loop-term.invariant.same;
+      })
+      | terms-in-One+in_ok-node-in-One+in_ok-lower-in-One+in_ok-push-in-One w ↦ rw (w.self-is, w.nodes-is) (record {
+        lowered = rw w.in_ok-push-in-One.ensures
+            (terms_more c.args.self.now c.loop-term.self w.lower.new.self c.args.scope.now terms c.loop-term.nodes.items i c.term-item.result w.in-One.term w.lower.new.node
+            c.loop-term-test.true c.term-item.is w.in-One.is c.loop-term.invariant.same c.loop-term.invariant.lowered w.in_ok-lower-in-One.ensures.ok);
+        same = IsSamePattern-chain _ _ _ c.loop-term.invariant.same w.lower.ensures.kept;
+      })
+    ]
+
+pub terms-returns-clause-ok : goal.terms-returns-clause-ok
+terms-returns-clause-ok t c = rw (take_all c.loop-term.term-index c.args.terms.now (omega arith)) at c.loop-term.invariant.lowered
+
+pub terms-returns-clause-kept : goal.terms-returns-clause-kept
+terms-returns-clause-kept t c = c.loop-term.invariant.same
 
 pub capture-lower-requires : goal.capture-lower-requires
 capture-lower-requires t c = (search (rules, the_lemmas), contents-IsLowerable c.args.id (option_map code_points_of c.args.name.now) (parsed.tree c.args.contents.now) c.requires)
