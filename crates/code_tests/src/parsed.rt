@@ -11,7 +11,6 @@ const ALIKE: &[(&str, &str, &str)] = &[
     ("", "", "Goal"),
     ("a", "", "Char(97), Goal"),
     ("a", "i", "CharSet([65, 97, 97, 97]), Goal"),
-    ("ab", "", "Char(97), Char(98), Goal"),
     (
         "a|b",
         "",
@@ -90,19 +89,9 @@ const BEHIND: &[(&str, &str, &str)] = &[
         "Lookbehind { negate: false, start_group: 0, end_group: 0, continuation: 2 }, Goal, Goal",
     ),
     (
-        "(?<=ab)c",
-        "",
-        "Lookbehind { negate: false, start_group: 0, end_group: 0, continuation: 4 }, Char(98), Char(97), Goal, Char(99), Goal",
-    ),
-    (
         "(?<!a)",
         "i",
         "Lookbehind { negate: true, start_group: 0, end_group: 0, continuation: 3 }, CharSet([65, 97, 97, 97]), Goal, Goal",
-    ),
-    (
-        "(?<=ab|c)",
-        "",
-        "Lookbehind { negate: false, start_group: 0, end_group: 0, continuation: 7 }, Alt { secondary: 5 }, Char(98), Char(97), Jump { target: 6 }, Char(99), Goal, Goal",
     ),
     (
         "(?<=^.$)",
@@ -134,19 +123,44 @@ const BEHIND: &[(&str, &str, &str)] = &[
         "",
         "Lookbehind { negate: false, start_group: 0, end_group: 1, continuation: 9 }, EnterLoop(LoopFields { loop_id: 0, min_iters: 1, max_iters: 18446744073709551615, greedy: false, exit: 8 }), ResetCaptureGroup(0), Char(98), BeginCaptureGroup(0), Char(97), EndCaptureGroup(0), LoopAgain { begin: 1 }, Goal, Goal",
     ),
+];
+
+/// Patterns with texts, their flags, their programs of bytes and their programs of units.
+const TEXTS: &[(&str, &str, &str, &str)] = &[
+    (
+        "ab",
+        "",
+        "ByteSeq2([97, 98]), Goal",
+        "Char(97), Char(98), Goal",
+    ),
+    (
+        "(?<=ab)c",
+        "",
+        "Lookbehind { negate: false, start_group: 0, end_group: 0, continuation: 3 }, ByteSeq2([97, 98]), Goal, Char(99), Goal",
+        "Lookbehind { negate: false, start_group: 0, end_group: 0, continuation: 4 }, Char(98), Char(97), Goal, Char(99), Goal",
+    ),
+    (
+        "(?<=ab|c)",
+        "",
+        "Lookbehind { negate: false, start_group: 0, end_group: 0, continuation: 6 }, Alt { secondary: 4 }, ByteSeq2([97, 98]), Jump { target: 5 }, Char(99), Goal, Goal",
+        "Lookbehind { negate: false, start_group: 0, end_group: 0, continuation: 7 }, Alt { secondary: 5 }, Char(98), Char(97), Jump { target: 6 }, Char(99), Goal, Goal",
+    ),
     (
         "(?<=a(?=bc))",
         "",
+        "Lookbehind { negate: false, start_group: 0, end_group: 0, continuation: 6 }, Lookahead { negate: false, start_group: 0, end_group: 0, continuation: 4 }, ByteSeq2([98, 99]), Goal, Char(97), Goal, Goal",
         "Lookbehind { negate: false, start_group: 0, end_group: 0, continuation: 7 }, Lookahead { negate: false, start_group: 0, end_group: 0, continuation: 5 }, Char(98), Char(99), Goal, Char(97), Goal, Goal",
     ),
     (
         "(?=a(?<!bc))",
         "",
+        "Lookahead { negate: false, start_group: 0, end_group: 0, continuation: 6 }, Char(97), Lookbehind { negate: true, start_group: 0, end_group: 0, continuation: 5 }, ByteSeq2([98, 99]), Goal, Goal, Goal",
         "Lookahead { negate: false, start_group: 0, end_group: 0, continuation: 7 }, Char(97), Lookbehind { negate: true, start_group: 0, end_group: 0, continuation: 6 }, Char(99), Char(98), Goal, Goal, Goal",
     ),
     (
         "(?<=(?<=ab)c)",
         "",
+        "Lookbehind { negate: false, start_group: 0, end_group: 0, continuation: 6 }, Char(99), Lookbehind { negate: false, start_group: 0, end_group: 0, continuation: 5 }, ByteSeq2([97, 98]), Goal, Goal, Goal",
         "Lookbehind { negate: false, start_group: 0, end_group: 0, continuation: 7 }, Char(99), Lookbehind { negate: false, start_group: 0, end_group: 0, continuation: 6 }, Char(98), Char(97), Goal, Goal, Goal",
     ),
 ];
@@ -257,6 +271,15 @@ fn programs_of_lookbehinds(rt: HostRuntime) -> Result<(), Fail> {
 }
 
 #[test]
+fn programs_of_texts(rt: HostRuntime) -> Result<(), Fail> {
+    for (pattern, flags, bytes, units) in TEXTS {
+        is_program(rt.alloc(), pattern, flags, false, bytes)?;
+        is_program(rt.alloc(), pattern, flags, true, units)?;
+    }
+    Ok(())
+}
+
+#[test]
 fn programs_of_strings(rt: HostRuntime) -> Result<(), Fail> {
     for (pattern, flags, bytes, units) in STRINGS {
         is_program(rt.alloc(), pattern, flags, false, bytes)?;
@@ -265,17 +288,20 @@ fn programs_of_strings(rt: HostRuntime) -> Result<(), Fail> {
     Ok(())
 }
 
-/// A piece of a pattern, how often it stands there, and how many instructions the program has.
-const LONG: &[(&str, usize, usize)] = &[("a", 100_000, 100_001), ("a|", 50_000, 150_001)];
+/// A piece of a pattern, how often it stands there, and how many instructions its programs of bytes and of units have.
+const LONG: &[(&str, usize, usize, usize)] = &[
+    ("a", 100_000, 6_251, 100_001),
+    ("a|", 50_000, 150_001, 150_001),
+];
 
 #[test]
 fn long_patterns_have_programs(rt: HostRuntime) -> Result<(), Fail> {
     let tables = Tables::small(rt.alloc())?;
-    for (piece, times, length) in LONG {
+    for (piece, times, of_bytes, of_units) in LONG {
         let pattern = piece.repeat(rt.alloc(), *times)?;
-        for units in [false, true] {
+        for (units, length) in [(false, *of_bytes), (true, *of_units)] {
             let program = program(rt.alloc(), pattern.as_str(), "", units, &tables)?;
-            assert!(rt; program.insns().len() == *length);
+            assert!(rt; program.insns().len() == length);
         }
     }
     Ok(())

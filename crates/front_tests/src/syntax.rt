@@ -79,89 +79,94 @@ const TERMS_READ: &[(&str, &str, &str)] = &[
     (
         "",
         r"^$\b\B",
-        "[LineStart, LineEnd, WordBoundary { negated: false }, WordBoundary { negated: true }]",
+        "[One(LineStart), One(LineEnd), One(WordBoundary { negated: false }), One(WordBoundary { negated: true })]",
     ),
-    ("", r".\d\n", "[Any, ClassEscape(Digits), Character(10)]"),
-    ("", r"\S", "[ClassEscape(Complement(Spaces))]"),
+    ("", r".\d\n", "[One(Any), One(ClassEscape(Digits)), One(Character(10))]"),
+    ("", r"\S", "[One(ClassEscape(Complement(Spaces)))]"),
     (
         "",
         "]}a{",
-        "[Character(93), Character(125), Character(97), Character(123)]",
+        "[Text([93, 125, 97, 123])]",
     ),
     (
         "",
         "a{,3}",
-        "[Character(97), Character(123), Character(44), Character(51), Character(125)]",
+        "[Text([97, 123, 44, 51, 125])]",
     ),
     (
         "",
         "a{2,3",
-        "[Character(97), Character(123), Character(50), Character(44), Character(51)]",
+        "[Text([97, 123, 50, 44, 51])]",
     ),
     (
         "",
         "a*",
-        "[Loop { loopee: Character(97), quant: Quantifier { min: 0, max: None, greedy: true }, enclosed_groups: 0..0 }]",
+        "[One(Loop { loopee: Character(97), quant: Quantifier { min: 0, max: None, greedy: true }, enclosed_groups: 0..0 })]",
+    ),
+    (
+        "",
+        "abc*d.e",
+        "[Text([97, 98]), One(Loop { loopee: Character(99), quant: Quantifier { min: 0, max: None, greedy: true }, enclosed_groups: 0..0 }), One(Character(100)), One(Any), One(Character(101))]",
     ),
     (
         "",
         "a+?",
-        "[Loop { loopee: Character(97), quant: Quantifier { min: 1, max: None, greedy: false }, enclosed_groups: 0..0 }]",
+        "[One(Loop { loopee: Character(97), quant: Quantifier { min: 1, max: None, greedy: false }, enclosed_groups: 0..0 })]",
     ),
     (
         "",
         "a??",
-        "[Loop { loopee: Character(97), quant: Quantifier { min: 0, max: Some(1), greedy: false }, enclosed_groups: 0..0 }]",
+        "[One(Loop { loopee: Character(97), quant: Quantifier { min: 0, max: Some(1), greedy: false }, enclosed_groups: 0..0 })]",
     ),
     (
         "",
         "a{2}",
-        "[Loop { loopee: Character(97), quant: Quantifier { min: 2, max: Some(2), greedy: true }, enclosed_groups: 0..0 }]",
+        "[One(Loop { loopee: Character(97), quant: Quantifier { min: 2, max: Some(2), greedy: true }, enclosed_groups: 0..0 })]",
     ),
     (
         "",
         "a{2,}",
-        "[Loop { loopee: Character(97), quant: Quantifier { min: 2, max: None, greedy: true }, enclosed_groups: 0..0 }]",
+        "[One(Loop { loopee: Character(97), quant: Quantifier { min: 2, max: None, greedy: true }, enclosed_groups: 0..0 })]",
     ),
     (
         "",
         "a{02,3}?",
-        "[Loop { loopee: Character(97), quant: Quantifier { min: 2, max: Some(3), greedy: false }, enclosed_groups: 0..0 }]",
+        "[One(Loop { loopee: Character(97), quant: Quantifier { min: 2, max: Some(3), greedy: false }, enclosed_groups: 0..0 })]",
     ),
     (
         "",
         "a{18446744073709551614}",
-        "[Loop { loopee: Character(97), quant: Quantifier { min: 18446744073709551614, max: Some(18446744073709551614), greedy: true }, enclosed_groups: 0..0 }]",
+        "[One(Loop { loopee: Character(97), quant: Quantifier { min: 18446744073709551614, max: Some(18446744073709551614), greedy: true }, enclosed_groups: 0..0 })]",
     ),
     (
         "",
         "(?:a)",
-        "[Group(Disjunction([Alternative([Character(97)])]))]",
+        "[One(Group(Disjunction([Alternative([One(Character(97))])])))]",
     ),
     (
         "",
         "(?i-ms:a)",
-        "[Modified { on: Modifiers { icase: true, multiline: false, dot_all: false }, off: Modifiers { icase: false, multiline: true, dot_all: true }, contents: Disjunction([Alternative([Character(97)])]) }]",
+        "[One(Modified { on: Modifiers { icase: true, multiline: false, dot_all: false }, off: Modifiers { icase: false, multiline: true, dot_all: true }, contents: Disjunction([Alternative([One(Character(97))])]) })]",
     ),
     (
         "u",
         "(?=a)",
-        "[Look { negated: false, backward: false, contents: Disjunction([Alternative([Character(97)])]) }]",
+        "[One(Look { negated: false, backward: false, contents: Disjunction([Alternative([One(Character(97))])]) })]",
     ),
     (
         "u",
         "(?!a)",
-        "[Look { negated: true, backward: false, contents: Disjunction([Alternative([Character(97)])]) }]",
+        "[One(Look { negated: true, backward: false, contents: Disjunction([Alternative([One(Character(97))])]) })]",
     ),
     (
         "u",
         "(?<=a)",
-        "[Look { negated: false, backward: true, contents: Disjunction([Alternative([Character(97)])]) }]",
+        "[One(Look { negated: false, backward: true, contents: Disjunction([Alternative([One(Character(97))])]) })]",
     ),
     (
         "u",
         "(?<!a)",
-        "[Look { negated: true, backward: true, contents: Disjunction([Alternative([Character(97)])]) }]",
+        "[One(Look { negated: true, backward: true, contents: Disjunction([Alternative([One(Character(97))])]) })]",
     ),
 ];
 
@@ -170,45 +175,45 @@ const ESCAPES_READ: &[(&str, &str, &str)] = &[
     (
         "",
         r"\cj\c1\-",
-        "[Character(10), Character(92), Character(99), Character(49), Character(45)]",
+        "[Text([10, 92, 99, 49, 45])]",
     ),
-    ("u", r"\cJ\/", "[Character(10), Character(47)]"),
+    ("u", r"\cJ\/", "[Text([10, 47])]"),
     (
         "",
         r"\0\08\400\8",
-        "[Character(0), Character(0), Character(56), Character(32), Character(48), Character(56)]",
+        "[Text([0, 0, 56, 32, 48, 56])]",
     ),
     (
         "",
         r"\377\3777",
-        "[Character(255), Character(255), Character(55)]",
+        "[Text([255, 255, 55])]",
     ),
     (
         "",
         r"\x41\x4g",
-        "[Character(65), Character(120), Character(52), Character(103)]",
+        "[Text([65, 120, 52, 103])]",
     ),
-    ("u", r"\x41\u{41}", "[Character(65), Character(65)]"),
-    ("", r"\uD83D\uDE00", "[Character(55357), Character(56832)]"),
-    ("u", r"\uD83D\uDE00", "[Character(128512)]"),
-    ("u", r"\uD83D\u0041", "[Character(55357), Character(65)]"),
-    ("u", r"\uDE00\uDE00", "[Character(56832), Character(56832)]"),
+    ("u", r"\x41\u{41}", "[Text([65, 65])]"),
+    ("", r"\uD83D\uDE00", "[Text([55357, 56832])]"),
+    ("u", r"\uD83D\uDE00", "[One(Character(128512))]"),
+    ("u", r"\uD83D\u0041", "[Text([55357, 65])]"),
+    ("u", r"\uDE00\uDE00", "[Text([56832, 56832])]"),
     (
         "u",
         r"\u{D83D}\u{DE00}",
-        "[Character(55357), Character(56832)]",
+        "[Text([55357, 56832])]",
     ),
     (
         "u",
         r"\u{00000000000010FFFF}a",
-        "[Character(1114111), Character(97)]",
+        "[Text([1114111, 97])]",
     ),
     (
         "",
         r"\k<b>",
-        "[Character(107), Character(60), Character(98), Character(62)]",
+        "[Text([107, 60, 98, 62])]",
     ),
-    ("", r"\p\P", "[Character(112), Character(80)]"),
+    ("", r"\p\P", "[Text([112, 80])]"),
 ];
 
 /// Flags, a pattern of one alternative with classes, and its terms.
@@ -216,58 +221,58 @@ const CLASSES_READ: &[(&str, &str, &str)] = &[
     (
         "",
         "[^a]",
-        "[Class { negated: true, class: Union([Range { first: 97, last: 97 }]) }]",
+        "[One(Class { negated: true, class: Union([Range { first: 97, last: 97 }]) })]",
     ),
     (
         "",
         "[a-c-]",
-        "[Class { negated: false, class: Union([Range { first: 97, last: 99 }, Range { first: 45, last: 45 }]) }]",
+        "[One(Class { negated: false, class: Union([Range { first: 97, last: 99 }, Range { first: 45, last: 45 }]) })]",
     ),
     (
         "",
         r"[\d-x]",
-        "[Class { negated: false, class: Union([Digits, Range { first: 45, last: 45 }, Range { first: 120, last: 120 }]) }]",
+        "[One(Class { negated: false, class: Union([Digits, Range { first: 45, last: 45 }, Range { first: 120, last: 120 }]) })]",
     ),
     (
         "",
         r"[\b\cj\c_\c!\1]",
-        "[Class { negated: false, class: Union([Range { first: 8, last: 8 }, Range { first: 10, last: 10 }, Range { first: 31, last: 31 }, Range { first: 92, last: 92 }, Range { first: 99, last: 99 }, Range { first: 33, last: 33 }, Range { first: 1, last: 1 }]) }]",
+        "[One(Class { negated: false, class: Union([Range { first: 8, last: 8 }, Range { first: 10, last: 10 }, Range { first: 31, last: 31 }, Range { first: 92, last: 92 }, Range { first: 99, last: 99 }, Range { first: 33, last: 33 }, Range { first: 1, last: 1 }]) })]",
     ),
     (
         "",
         "[[a]",
-        "[Class { negated: false, class: Union([Range { first: 91, last: 91 }, Range { first: 97, last: 97 }]) }]",
+        "[One(Class { negated: false, class: Union([Range { first: 91, last: 91 }, Range { first: 97, last: 97 }]) })]",
     ),
     (
         "u",
         r"[\-]",
-        "[Class { negated: false, class: Union([Range { first: 45, last: 45 }]) }]",
+        "[One(Class { negated: false, class: Union([Range { first: 45, last: 45 }]) })]",
     ),
-    ("v", "[]", "[Class { negated: false, class: Union([]) }]"),
+    ("v", "[]", "[One(Class { negated: false, class: Union([]) })]"),
     (
         "v",
         r"[\q{ab|c|}\w]",
-        "[Class { negated: false, class: Union([Strings([[97, 98], [99], []]), Words]) }]",
+        "[One(Class { negated: false, class: Union([Strings([[97, 98], [99], []]), Words]) })]",
     ),
     (
         "v",
         r"[[^a]\-]",
-        "[Class { negated: false, class: Union([Nested { negated: true, contents: Union([Range { first: 97, last: 97 }]) }, Range { first: 45, last: 45 }]) }]",
+        "[One(Class { negated: false, class: Union([Nested { negated: true, contents: Union([Range { first: 97, last: 97 }]) }, Range { first: 45, last: 45 }]) })]",
     ),
     (
         "v",
         r"[\w&&\d&&[a]]",
-        "[Class { negated: false, class: Intersection(Words, [Digits, Nested { negated: false, contents: Union([Range { first: 97, last: 97 }]) }]) }]",
+        "[One(Class { negated: false, class: Intersection(Words, [Digits, Nested { negated: false, contents: Union([Range { first: 97, last: 97 }]) }]) })]",
     ),
     (
         "v",
         r"[\w--\d--_]",
-        "[Class { negated: false, class: Difference(Words, [Digits, Range { first: 95, last: 95 }]) }]",
+        "[One(Class { negated: false, class: Difference(Words, [Digits, Range { first: 95, last: 95 }]) })]",
     ),
     (
         "v",
         r"[^a--\q{ab}]",
-        "[Class { negated: true, class: Difference(Range { first: 97, last: 97 }, [Strings([[97, 98]])]) }]",
+        "[One(Class { negated: true, class: Difference(Range { first: 97, last: 97 }, [Strings([[97, 98]])]) })]",
     ),
 ];
 
@@ -416,7 +421,7 @@ fn alternatives_are_read(rt: HostRuntime) -> Result<(), Fail> {
     let text = whole(rt.alloc(), "ab|")?;
     assert!(rt;
         text.as_str()
-            == "Disjunction([Alternative([Character(97), Character(98)]), Alternative([])])"
+            == "Disjunction([Alternative([Text([97, 98])]), Alternative([])])"
     );
     Ok(())
 }
@@ -443,25 +448,25 @@ fn odd_patterns_are_accepted(rt: HostRuntime) -> Result<(), Fail> {
 
 /// Flags, a pattern, and how its terms begin.
 const REFERENCES: &[(&str, &str, &str)] = &[
-    ("", r"\2()()", "[Reference([1])"),
-    ("", r"\3()()", "[Character(3)"),
-    ("", r"\18446744073709551617()", "[Character(1)"),
-    ("", r"\k<b>()(?<b>)", "[Reference([1])"),
-    ("", r"\k<a>(?:(?<a>)|(?<a>))", "[Reference([0, 1])"),
-    ("", r"\k<abc>(?<a\u0062\u{63}>)", "[Reference([0])"),
-    ("", r"\k<$_1>(?<$_1>)", "[Reference([0])"),
-    ("", r"\2[(](a)[\](?<b>](c)", "[Reference([1])"),
-    ("", r"\2\((a)\[(b)]", "[Reference([1])"),
-    ("", r"\2(?<a>b)\k<\u{61}>(c)", "[Reference([1])"),
-    ("", r"\2(?:d)(?=e)(?<!f)(a)", "[Character(2)"),
-    ("", "\\k<a\u{200C}>(?<a\u{200C}>)", "[Reference([0])"),
+    ("", r"\2()()", "[One(Reference([1]))"),
+    ("", r"\3()()", "[One(Character(3))"),
+    ("", r"\18446744073709551617()", "[Text([1, 56,"),
+    ("", r"\k<b>()(?<b>)", "[One(Reference([1]))"),
+    ("", r"\k<a>(?:(?<a>)|(?<a>))", "[One(Reference([0, 1]))"),
+    ("", r"\k<abc>(?<a\u0062\u{63}>)", "[One(Reference([0]))"),
+    ("", r"\k<$_1>(?<$_1>)", "[One(Reference([0]))"),
+    ("", r"\2[(](a)[\](?<b>](c)", "[One(Reference([1]))"),
+    ("", r"\2\((a)\[(b)]", "[One(Reference([1]))"),
+    ("", r"\2(?<a>b)\k<\u{61}>(c)", "[One(Reference([1]))"),
+    ("", r"\2(?:d)(?=e)(?<!f)(a)", "[One(Character(2))"),
+    ("", "\\k<a\u{200C}>(?<a\u{200C}>)", "[One(Reference([0]))"),
 ];
 
 #[test]
 fn groups_are_numbered_and_named(rt: HostRuntime) -> Result<(), Fail> {
     begin_so(rt.alloc(), REFERENCES)?;
     let looped = terms(rt.alloc(), "", "(){1}")?;
-    assert!(rt; looped.as_str().ends_with("enclosed_groups: 0..1 }]"));
+    assert!(rt; looped.as_str().ends_with("enclosed_groups: 0..1 })]"));
     Ok(())
 }
 

@@ -7,14 +7,14 @@ use std::test::Fail;
 
 /// A pattern of each construct, its flags, and how many nodes its tree has, with the goal and the `Cat` above it.
 const CONSTRUCTS: &[(&str, &str, usize)] = &[
-    ("abc", "", 6),
+    ("abc", "", 3),
     ("a|b|c|d|e", "", 11),
     ("(a)(?<n>b)(?:c)", "", 8),
     ("a*b+?c{2,3}d{4}?", "", 11),
     ("^a$", "m", 6),
     (r"\b\B", "iu", 5),
     ("(?=a)(?!b)", "", 7),
-    ("(?<=ab|c)(?<!(d)e)", "", 14),
+    ("(?<=ab|c)(?<!(d)e)", "", 12),
     (r"(a)\1", "i", 6),
     (r"(?<n>a)|(?<n>b)\k<n>", "", 11),
     (".", "", 3),
@@ -28,7 +28,7 @@ const CONSTRUCTS: &[(&str, &str, usize)] = &[
     (r"[\w--\d]", "v", 3),
     (r"[\q{abc|d|}x]", "iv", 7),
     (r"\p{Emoji_Keycap_Sequence}", "v", 5),
-    (r"\x41\u{42}\cA\0", "u", 7),
+    (r"\x41\u{42}\cA\0", "u", 3),
     ("é", "i", 3),
     ("", "", 3),
 ];
@@ -38,7 +38,27 @@ const TREES: &[(&str, &str, &str)] = &[
     (
         "(?<=a(?=bc))",
         "",
-        "LookaroundAssertion { negate: false, backwards: true, start_group: 0, end_group: 0, contents: Cat([LookaroundAssertion { negate: false, backwards: false, start_group: 0, end_group: 0, contents: Cat([Char { c: 98 }, Char { c: 99 }]) }, Char { c: 97 }]) }",
+        "LookaroundAssertion { negate: false, backwards: true, start_group: 0, end_group: 0, contents: Cat([LookaroundAssertion { negate: false, backwards: false, start_group: 0, end_group: 0, contents: ByteSequence([98, 99]) }, Char { c: 97 }]) }",
+    ),
+    (
+        "abc*d",
+        "",
+        "Cat([ByteSequence([97, 98]), Loop { loopee: Char { c: 99 }, quant: Quantifier { min: 0, max: None, greedy: true }, enclosed_groups: 0..0 }, Char { c: 100 }])",
+    ),
+    (
+        "(?<=ab.cd)",
+        "",
+        "LookaroundAssertion { negate: false, backwards: true, start_group: 0, end_group: 0, contents: Cat([ByteSequence([99, 100]), MatchAnyExceptLineTerminator, ByteSequence([97, 98])]) }",
+    ),
+    (
+        r"é\uD800ab",
+        "",
+        "Cat([ByteSequence([195, 169]), Char { c: 55296 }, ByteSequence([97, 98])])",
+    ),
+    (
+        "(?<=a1b)",
+        "i",
+        "LookaroundAssertion { negate: false, backwards: true, start_group: 0, end_group: 0, contents: Cat([ByteSet([66, 98]), ByteSequence([49]), ByteSet([65, 97])]) }",
     ),
     (
         "(?<=a|b)",
