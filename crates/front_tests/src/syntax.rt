@@ -81,23 +81,15 @@ const TERMS_READ: &[(&str, &str, &str)] = &[
         r"^$\b\B",
         "[One(LineStart), One(LineEnd), One(WordBoundary { negated: false }), One(WordBoundary { negated: true })]",
     ),
-    ("", r".\d\n", "[One(Any), One(ClassEscape(Digits)), One(Character(10))]"),
+    (
+        "",
+        r".\d\n",
+        "[One(Any), One(ClassEscape(Digits)), One(Character(10))]",
+    ),
     ("", r"\S", "[One(ClassEscape(Complement(Spaces)))]"),
-    (
-        "",
-        "]}a{",
-        "[Text([93, 125, 97, 123])]",
-    ),
-    (
-        "",
-        "a{,3}",
-        "[Text([97, 123, 44, 51, 125])]",
-    ),
-    (
-        "",
-        "a{2,3",
-        "[Text([97, 123, 50, 44, 51])]",
-    ),
+    ("", "]}a{", "[Text([93, 125, 97, 123])]"),
+    ("", "a{,3}", "[Text([97, 123, 44, 51, 125])]"),
+    ("", "a{2,3", "[Text([97, 123, 50, 44, 51])]"),
     (
         "",
         "a*",
@@ -172,47 +164,19 @@ const TERMS_READ: &[(&str, &str, &str)] = &[
 
 /// Flags, a pattern of one alternative with escapes, and its terms.
 const ESCAPES_READ: &[(&str, &str, &str)] = &[
-    (
-        "",
-        r"\cj\c1\-",
-        "[Text([10, 92, 99, 49, 45])]",
-    ),
+    ("", r"\cj\c1\-", "[Text([10, 92, 99, 49, 45])]"),
     ("u", r"\cJ\/", "[Text([10, 47])]"),
-    (
-        "",
-        r"\0\08\400\8",
-        "[Text([0, 0, 56, 32, 48, 56])]",
-    ),
-    (
-        "",
-        r"\377\3777",
-        "[Text([255, 255, 55])]",
-    ),
-    (
-        "",
-        r"\x41\x4g",
-        "[Text([65, 120, 52, 103])]",
-    ),
+    ("", r"\0\08\400\8", "[Text([0, 0, 56, 32, 48, 56])]"),
+    ("", r"\377\3777", "[Text([255, 255, 55])]"),
+    ("", r"\x41\x4g", "[Text([65, 120, 52, 103])]"),
     ("u", r"\x41\u{41}", "[Text([65, 65])]"),
     ("", r"\uD83D\uDE00", "[Text([55357, 56832])]"),
     ("u", r"\uD83D\uDE00", "[One(Character(128512))]"),
     ("u", r"\uD83D\u0041", "[Text([55357, 65])]"),
     ("u", r"\uDE00\uDE00", "[Text([56832, 56832])]"),
-    (
-        "u",
-        r"\u{D83D}\u{DE00}",
-        "[Text([55357, 56832])]",
-    ),
-    (
-        "u",
-        r"\u{00000000000010FFFF}a",
-        "[Text([1114111, 97])]",
-    ),
-    (
-        "",
-        r"\k<b>",
-        "[Text([107, 60, 98, 62])]",
-    ),
+    ("u", r"\u{D83D}\u{DE00}", "[Text([55357, 56832])]"),
+    ("u", r"\u{00000000000010FFFF}a", "[Text([1114111, 97])]"),
+    ("", r"\k<b>", "[Text([107, 60, 98, 62])]"),
     ("", r"\p\P", "[Text([112, 80])]"),
 ];
 
@@ -248,7 +212,11 @@ const CLASSES_READ: &[(&str, &str, &str)] = &[
         r"[\-]",
         "[One(Class { negated: false, class: Union([Range { first: 45, last: 45 }]) })]",
     ),
-    ("v", "[]", "[One(Class { negated: false, class: Union([]) })]"),
+    (
+        "v",
+        "[]",
+        "[One(Class { negated: false, class: Union([]) })]",
+    ),
     (
         "v",
         r"[\q{ab|c|}\w]",
@@ -419,10 +387,7 @@ fn whole(alloc: Global, pattern: &str) -> Result<String, Fail> {
 #[test]
 fn alternatives_are_read(rt: HostRuntime) -> Result<(), Fail> {
     let text = whole(rt.alloc(), "ab|")?;
-    assert!(rt;
-        text.as_str()
-            == "Disjunction([Alternative([Text([97, 98])]), Alternative([])])"
-    );
+    assert!(rt; text.as_str() == "Disjunction([Alternative([Text([97, 98])]), Alternative([])])");
     Ok(())
 }
 

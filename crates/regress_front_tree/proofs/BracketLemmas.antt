@@ -23,8 +23,8 @@ use Rattle.regress_meaning.specs.TableParts.{is_code_point}
 use Rattle.regress_meaning.specs.Class.{among}
 use Rattle.regress_front_nodes.specs.Characters.{Takes}
 use Rattle.regress_front_tree.specs.Lowering.{AreByLength, LengthsFall}
-use Rattle.regress_front_tree.specs.ClassValues.{lists}
-use Rattle.regress_front_tree.proofs.ClassLemmas.{among-lists, filter-lists}
+use Rattle.regress_front_class_values.specs.ClassValues.{lists}
+use Rattle.regress_front_class_values.proofs.ClassLemmas.{among-lists, filter-lists}
 use Rattle.std.proofs.Math.Bool.{or-false}
 
 -- ---- strings of a class

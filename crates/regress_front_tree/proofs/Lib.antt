@@ -1,6 +1,4 @@
 pub mod BracketLemmas
-pub mod ClassLemmas
-pub mod ClassValueLemmas
 pub mod AlikeLemmas
 pub mod StringLemmas
 pub mod SameLemmas

@@ -1,6 +1,5 @@
 pub mod Lowering
 pub mod Parsed
 pub mod Lowered
-pub mod ClassValues
 pub mod Pairing
 pub mod Scopes

@@ -13,10 +13,10 @@ ghost use Rattle.regress_front_tokens.specs.Trees.{class_view};
 ghost use Rattle.regress_front_nodes.specs.Trees.{tree};
 ghost use Rattle.regress_front_nodes.specs.Characters.{Takes};
 ghost use Rattle.regress_front_tree.specs.Lowering.{AreByLength, LowersClass, class_value, class_arms};
-ghost use Rattle.regress_front_tree.specs.ClassValues.{lists};
+ghost use Rattle.regress_front_class_values.specs.ClassValues.{lists};
 
 use crate::arms::alternatives;
-use crate::class_value::class_value;
+use regress_front_class_values::class_value;
 use regress_front_nodes::{BracketContents, Node, NodeList};
 use regress_front_syntax::Class;
 use regress_front_tables::{CodePoint, CodePointSet, Tables, closure, expand_code_point};

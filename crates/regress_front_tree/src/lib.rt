@@ -4,7 +4,6 @@
 mod alike;
 mod arms;
 mod brackets;
-mod class_value;
 mod lawful;
 mod lowering;
 mod parse;

@@ -2,7 +2,7 @@ use Rattle.std.proofs.Common.{ℕ, Vec, Global, IfOk, arith}
 use Rattle.std.proofs.lemmas.Result.{IfOk-at_ok}
 use Rattle.regress_front_tables.specs.TableViews.{table}
 use Rattle.regress_front_tree.proofs.BracketLemmas.{stored_length, takes-one, takes-some}
-use Rattle.regress_front_tree.proofs.ClassValueLemmas.{behind_map_err}
+use Rattle.regress_front_class_values.proofs.ClassValueLemmas.{behind_map_err}
 use Rattle.regress_front_nodes.proofs.TreeLaws.{tree-Char, tree-CharSet}
 use Rattle.regress_front_tree.proofs.brackets.character_node.Goals as goal
 

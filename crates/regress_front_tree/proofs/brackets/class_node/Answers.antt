@@ -10,9 +10,9 @@ use Rattle.regress_front_tokens.specs.Trees.{class_view}
 use Rattle.regress_front_nodes.specs.Trees.{Tree, tree, bracket}
 use Rattle.regress_meaning.specs.Meaning.{closed}
 use Rattle.regress_front_tree.specs.Lowering.{HasArms, AreByLength, class_value, class_arms}
-use Rattle.regress_front_tree.specs.ClassValues.{lists}
+use Rattle.regress_front_class_values.specs.ClassValues.{lists}
 use Rattle.regress_front_tree.proofs.BracketLemmas.{takes-bracket}
-use Rattle.regress_front_tree.proofs.ClassValueLemmas.{value-points}
+use Rattle.regress_front_class_values.proofs.ClassValueLemmas.{value-points}
 use Rattle.regress_front_nodes.proofs.TreeLaws.{tree-Bracket}
 use Rattle.regress_front_tree.proofs.brackets.class_node.Goals as goal
 use Rattle.regress_front_tree.proofs.brackets.class_node.Goals.{then-unicode, else-unicode}

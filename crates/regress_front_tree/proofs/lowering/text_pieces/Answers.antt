@@ -2,7 +2,7 @@ use Rattle.std.proofs.Common.{map}
 use Rattle.regress_front_tables.specs.TableViews.{table}
 use Rattle.regress_front_nodes.specs.Pieces.{piece_tree}
 use Rattle.regress_front_tree.specs.Lowering.{ArePieces}
-use Rattle.regress_front_tree.proofs.ClassValueLemmas.{behind_map_err}
+use Rattle.regress_front_class_values.proofs.ClassValueLemmas.{behind_map_err}
 use Rattle.regress_front_tree.proofs.TextLemmas.{made-pieces}
 use Rattle.regress_front_tree.proofs.lowering.text_pieces.Goals as goal
 
