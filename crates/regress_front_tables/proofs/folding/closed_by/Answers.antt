@@ -4,16 +4,16 @@ use Rattle.regress_meaning.specs.TableParts.{image, in_intervals}
 use Rattle.regress_front_sets.specs.declared.interval.Interval.{Interval}
 use Rattle.regress_front_sets.specs.Intervals.{ends_of, in_interval}
 use Rattle.regress_front_sets.specs.Sets.{in_set}
-use Rattle.regress_front_sets.proofs.IntervalLemmas.{in_intervals-bounded}
+use Rattle.regress_front_sets.proofs.IntervalLemmas.{in_intervals-nil, in_intervals-bounded}
 use Rattle.regress_front_tables.specs.Folding.{Unites}
-use Rattle.regress_front_tables.proofs.FoldingLemmas.{Unites-none, Unites-both, closure-united, in_intervals-none, in_intervals-more, in_intervals-at, or_none}
+use Rattle.regress_front_tables.proofs.FoldingLemmas.{Unites-none, Unites-both, closure-united, in_intervals-more, in_intervals-at, or_none}
 use Rattle.regress_front_tables.proofs.folding.closed_by.Goals as goal
 
 pub loop-interval-init : goal.loop-interval-init
 loop-interval-init c =
     let s = in_set c.args.set in
-    Unites-none (image c.args.map.now.pairs.items) _ s _ (λ d. in_intervals-none d)
-    (λ d. ap (λ intervals. s d || in_intervals (ends_of intervals) d) c.new-added.ensures ∙ ap (λ b. s d || b) (in_intervals-none d) ∙ or_none (s d))
+    Unites-none (image c.args.map.now.pairs.items) _ s _ (λ d. in_intervals-nil d)
+    (λ d. ap (λ intervals. s d || in_intervals (ends_of intervals) d) c.new-added.ensures ∙ ap (λ b. s d || b) (in_intervals-nil d) ∙ or_none (s d))
 
 pub add_classes-requires : goal.add_classes-requires
 add_classes-requires c d inside =
