@@ -12,9 +12,9 @@ use Rattle.regress_front_nodes.specs.declared.node.AnchorType.TheVariants.{Start
 use Rattle.regress_front_nodes.specs.declared.node.Node.{Node}
 use Rattle.regress_front_nodes.specs.Trees.{Tree, tree, cat_of, anchor_of}
 use Rattle.regress_front_nodes.specs.Trees as node
-use Rattle.regress_front_nodes.specs.declared.node.Node.TheVariants.{CaptureGroup, Alt}
+use Rattle.regress_front_nodes.specs.declared.node.Node.TheVariants.{CaptureGroup}
 use Rattle.regress_front_nodes.specs.Forms.{in_reading_order}
-use Rattle.regress_front_nodes.proofs.TreeLaws.{tree-CaptureGroup, tree-Alt}
+use Rattle.regress_front_nodes.proofs.TreeLaws.{tree-CaptureGroup}
 use Rattle.regress_front_nodes.specs.Singles.{takes_one}
 use Rattle.regress_front_nodes.specs.Sizes.{loops}
 use Rattle.regress_front_nodes.specs.WellFormed.{AreLawful}
@@ -93,10 +93,6 @@ module _ (units : Bool) (table : Table) (unicode : Bool) where
       let program : Program = record { instructions = []; brackets = []; loops = 0; groups = 0; units = units } in
       (sym (literal-length program false bs) ∙ ap length (literal-alone program false bs alone.0 alone.1 lawful), refl)
   single-count n _ is lawful = absurd (grind arith)
-
--- the arms of a lawful node are lawful
-pub alt-lawful : (n : ℕ) (m : Node) (a b : Box Node Global) → m ≡ Alt a b → AreLawful n (tree m) → AreLawful n (tree a.value) × AreLawful n (tree b.value)
-alt-lawful n m a b is lawful = subst (AreLawful n) (ap tree is ∙ tree-Alt a b) lawful
 
 -- what holds of a group with each name holds of the node of a group
 pub of-capture : (m : Node) (id : ℕ) (contents : Box Node Global) (name : Option (String Global)) (R : Tree → Type 0) → m ≡ CaptureGroup id contents name

@@ -16,14 +16,6 @@ stand-parts program (x ∷ xs) ys address (here, rest) =
     let e : suc address + length xs ≡ address + suc (length xs) = omega arith in
     ((here, parts.0), subst (λ a. StandFrom program a ys) e parts.1)
 
--- and the other way round: what is pushed behind others
-pub stand-joined : (program : Program) (xs ys : List Instruction) (address : ℕ) → StandFrom program address xs → StandFrom program (address + length xs) ys
-    → StandFrom program address (xs ++ ys)
-stand-joined program [] ys address h k = let e : address + 0 ≡ address = omega arith in subst (λ a. StandFrom program a ys) e k
-stand-joined program (x ∷ xs) ys address (here, rest) k =
-    let e : address + suc (length xs) ≡ suc address + length xs = omega arith in
-    (here, stand-joined program xs ys (suc address) rest (subst (λ a. StandFrom program a ys) e k))
-
 -- the address of a spot that is told by another
 pub at-same : (p q : Spot) → q ≡ p → q.address ≡ p.address
 at-same p q e = ap (λ (m : Spot). m.address) e

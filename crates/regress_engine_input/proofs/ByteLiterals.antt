@@ -1,6 +1,7 @@
 -- Bytes of whole characters stand beside the offset of a place just where the characters stand beside the place.
 use Rattle.std.specs.Prelude.{nat_le, slice_range}
 use Rattle.std.proofs.Common.{◌≡◌, ℕ, zero, suc, ◌+◌, ◌-◌, ◌≤◌, Bool, true, false, ◌&&◌, List, [], ◌∷◌, ◌++◌, append_assoc, length, take, drop, min, option_map, chars, refl, sym, ap, ap₂, ◌∙◌, subst, arith, length-append, length-take, length-drop}
+use Rattle.std.proofs.lemmas.Bool.{and_parts}
 use Rattle.std.specs.Str.{IsUtf8, IsAscii}
 use Rattle.std.proofs.Math.Utf8.{encode, encodes, scalar, scalars}
 use Rattle.std.proofs.Math.Seq.{take-append_seam, take-add}
@@ -15,7 +16,7 @@ use Rattle.regress_meaning.specs.Steps.{literal}
 use Rattle.regress_engine_input.proofs.Tests.{le-true}
 use Rattle.regress_front_nodes.specs.ByteInputs.{TellsBytes, placed}
 use Rattle.regress_meaning.specs.Inputs.{Input, context_of, utf8_input, ascii_input}
-use Rattle.regress_engine_input.proofs.Standing.{and-right, stands_right, stands_left, right-split, split-right, left-split, split-left, placed-if, same_place}
+use Rattle.regress_engine_input.proofs.Standing.{stands_right, stands_left, right-split, split-right, left-split, split-left, placed-if, same_place}
 use Rattle.regress_engine_input.proofs.Utf8Parts.{cut, bytes-before, bytes-behind, offset-is}
 use Rattle.regress_engine_input.proofs.UnitTexts.{single_offset}
 
@@ -36,9 +37,9 @@ module _ (input : Input) (reading : Reading) (bs cs : List ℕ) (p : ℕ) (room 
       let b : Bool = nat_le (p + k) n && same_text cs (slice_range reading.points p (p + k)) in
       same_place (offset reading) (stands_right input.units o bs) b (o + length bs) (p + k)
       (λ h. let ys = right-split input.units o bs h in let es = same.right ys.0 ys.1 in both es.0 es.1)
-      (λ h. let es = right-split reading.points p cs (and-right (nat_le (p + k) n) (same_text cs (slice_range reading.points p (p + k))) h) in
+      (λ h. let es = right-split reading.points p cs (and_parts (nat_le (p + k) n) (same_text cs (slice_range reading.points p (p + k))) h).1 in
       let ys = (same.right_back es.0 es.1).0 in split-right input.units o bs ys.0 ys.1)
-      (λ h. let es = right-split reading.points p cs (and-right (nat_le (p + k) n) (same_text cs (slice_range reading.points p (p + k))) h) in (same.right_back es.0 es.1).1)
+      (λ h. let es = right-split reading.points p cs (and_parts (nat_le (p + k) n) (same_text cs (slice_range reading.points p (p + k))) h).1 in (same.right_back es.0 es.1).1)
       ∙ ap (option_map (offset reading)) (sym (placed-if cs (slice_range reading.points p (p + k)) (nat_le (p + k) n) (p + k)))
     where
       both : (es : List ℕ) → drop p reading.points ≡ cs ++ es → (nat_le (p + length cs) (length reading.points) && same_text cs (slice_range reading.points p (p + length cs))) ≡ true

@@ -4,19 +4,11 @@ use Rattle.std.proofs.Common.{◌≡◌, ℕ, ◌+◌, ◌-◌, ◌≤◌, Bool,
 use Rattle.std.specs.Cmp.Lexicographic as texts
 use Rattle.std.proofs.Math.Seq.{take-append_seam, drop-append_seam, take-add}
 use Rattle.std.proofs.lemmas.List.{take-append-drop}
-use Rattle.std.proofs.lemmas.Bool.{leb-true}
+use Rattle.std.proofs.lemmas.Bool.{leb-true, and_parts}
 use Rattle.regress_meaning.specs.Text.{same_text}
 use Rattle.regress_front_nodes.proofs.NodeLemmas.{same_text-same}
 use Rattle.regress_engine_input.proofs.Tests.{le-true}
 use Rattle.regress_front_nodes.specs.ByteInputs.{placed}
-
-pub and-left : (a b : Bool) → (a && b) ≡ true → a ≡ true
-and-left true b h = refl
-and-left false b h = absurd (cc)
-
-pub and-right : (a b : Bool) → (a && b) ≡ true → b ≡ true
-and-right true b h = h
-and-right false b h = absurd (cc)
 
 module _ (text : List ℕ) (o : ℕ) (word : List ℕ) where
   -- it stands there, by a test
@@ -40,10 +32,10 @@ module _ (text : List ℕ) (o : ℕ) (word : List ℕ) where
 
   pub left-split : stands_left ≡ true → (front : List ℕ) × (take o text ≡ front ++ word)
   left-split h =
-      let room : length word ≤ o = leb-true (length word) o (and-left (nat_le (length word) o) (same_text word (slice_range text (o - length word) o)) h) in
+      let room : length word ≤ o = leb-true (length word) o (and_parts (nat_le (length word) o) (same_text word (slice_range text (o - length word) o)) h).0 in
       let size : o - (o - length word) ≡ length word = omega arith in
       let e : word ≡ take (length word) (drop (o - length word) text) =
-      texts.same_text word (slice_range text (o - length word) o) (sym (and-right (nat_le (length word) o) (same_text word (slice_range text (o - length word) o)) h))
+      texts.same_text word (slice_range text (o - length word) o) (sym (and_parts (nat_le (length word) o) (same_text word (slice_range text (o - length word) o)) h).1)
       ∙ ap (λ n. take n (drop (o - length word) text)) size in
       let sum : o ≡ (o - length word) + length word = omega arith in
       (take (o - length word) text, ap (λ n. take n text) sum ∙ take-add (o - length word) (length word) text ∙ ap (λ w. take (o - length word) text ++ w) (sym e))

@@ -1,6 +1,7 @@
 -- Over units of UTF-16, comparing units does what comparing characters does, unless the far end lies inside a pair.
 use Rattle.std.specs.Prelude.{nat_le, slice_range}
 use Rattle.std.proofs.Common.{◌≡◌, ℕ, ◌+◌, ◌-◌, ◌≤◌, Bool, true, false, not, ◌&&◌, List, ◌++◌, append_assoc, length, take, drop, min, Some, None, if◌then◌else◌, option_map, All, refl, sym, ap, ap₂, ◌∙◌, subst, arith, length-append, length-take, length-drop}
+use Rattle.std.proofs.lemmas.Bool.{and_parts, not-true}
 use Rattle.std.proofs.Math.Seq.{take-append_seam, take-add}
 use Rattle.std.proofs.lemmas.List.{take-append-drop}
 use Rattle.std.proofs.lemmas.List.Elements.{All-drop}
@@ -12,7 +13,7 @@ use Rattle.regress_meaning.specs.Steps.{literal, repeated, splits, unless_split,
 use Rattle.regress_front_nodes.specs.ByteInputs.{placed}
 use Rattle.regress_engine_input.proofs.Tests.{le-true}
 use Rattle.regress_meaning.specs.Inputs.{Input, context_of, utf16_input}
-use Rattle.regress_engine_input.proofs.Standing.{and-left, and-right, stands_right, stands_left, right-split, split-right, left-split, split-left, placed-if, same_place}
+use Rattle.regress_engine_input.proofs.Standing.{stands_right, stands_left, right-split, split-right, left-split, split-left, placed-if, same_place}
 use Rattle.regress_engine_input.proofs.Utf16Texts.{IsShort, utf16_tells}
 use Rattle.regress_engine_input.proofs.Utf16Parts.{spells, spells-append, characters-append, characters-cut, splits-shift, splits-front, offset16, units-before, units-behind, place-outside}
 use Rattle.regress_engine_input.proofs.References.{placed_by-same, repeated-told}
@@ -25,10 +26,6 @@ unless-if units true o = by_test (splits units o)
     by_test : (t : Bool) → (if t then None else Some o) ≡ (if not t then Some o else None)
     by_test true = refl
     by_test false = refl
-
-not-true : (b : Bool) → not b ≡ true → b ≡ false
-not-true true h = absurd (cc)
-not-true false h = refl
 
 module _ (units : List ℕ) (short : All IsShort units) where
   abbrev reading : Reading
@@ -156,13 +153,13 @@ module _ (units : List ℕ) (short : All IsShort units) where
         let t : Bool = same_text ws (slice_range points p (p + k)) in
         unless-if units s far
         ∙ same_place at (s && not (splits units far)) (nat_le (p + k) n && t) far (p + k)
-        (λ h. let ys = right-split units (at p) (spells ws) (and-left s (not (splits units far)) h) in
-        let es = right ws own p room ys.0 ys.1 (not-true (splits units far) (and-right s (not (splits units far)) h)) in
+        (λ h. let ys = right-split units (at p) (spells ws) (and_parts s (not (splits units far)) h).0 in
+        let es = right ws own p room ys.0 ys.1 (not-true (splits units far) (and_parts s (not (splits units far)) h).1) in
         ap₂ (λ x y. x && y) (le-true (p + k) n (right_room ws own p room es.0 es.1)) (split-right points p ws es.0 es.1))
-        (λ h. let es = right-split points p ws (and-right (nat_le (p + k) n) t h) in
+        (λ h. let es = right-split points p ws (and_parts (nat_le (p + k) n) t h).1 in
         let r = right_back ws own p room es.0 es.1 in
         both s (splits units far) (split-right units (at p) (spells ws) (spells es.0) r.0) r.1)
-        (λ h. let es = right-split points p ws (and-right (nat_le (p + k) n) t h) in right_end ws own p room es.0 es.1)
+        (λ h. let es = right-split points p ws (and_parts (nat_le (p + k) n) t h).1 in right_end ws own p room es.0 es.1)
         ∙ ap (option_map at) (sym (placed-if ws (slice_range points p (p + k)) (nat_le (p + k) n) (p + k)))
     beside-units Backward =
         let k : ℕ = length ws in
@@ -170,8 +167,8 @@ module _ (units : List ℕ) (short : All IsShort units) where
         let s : Bool = stands_left units (at p) (spells ws) in
         unless-if units s far
         ∙ same_place at (s && not (splits units far)) (stands_left points p ws) far (p - k)
-        (λ h. let xs = left-split units (at p) (spells ws) (and-left s (not (splits units far)) h) in
-        let es = left ws own p room xs.0 xs.1 (not-true (splits units far) (and-right s (not (splits units far)) h)) in
+        (λ h. let xs = left-split units (at p) (spells ws) (and_parts s (not (splits units far)) h).0 in
+        let es = left ws own p room xs.0 xs.1 (not-true (splits units far) (and_parts s (not (splits units far)) h).1) in
         split-left points p ws room es.0 es.1)
         (λ h. let es = left-split points p ws h in
         let r = left_back ws own p room es.0 es.1 in

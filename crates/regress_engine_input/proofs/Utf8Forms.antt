@@ -85,9 +85,6 @@ form c within rest = by_size (cases_lt c 128) (cases_lt c 2048) (cases_lt c 6553
 
 -- the tests by which a byte is told
 module _ (b : ℕ) where
-  pub low-byte : b < 0x80 → nat_lt b 0x80 ≡ true
-  low-byte h = grind (arith, nat_tests)
-
   pub not_low : 0x80 ≤ b → nat_lt b 0x80 ≡ false
   not_low h = grind (arith, nat_tests)
 

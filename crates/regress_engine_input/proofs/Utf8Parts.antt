@@ -1,7 +1,8 @@
 -- Bytes of UTF-8, cut at the offset of a place: the characters before it stand before it, and the others behind.
 use Rattle.std.specs.Prelude.{slice_get, sum_by}
 use Rattle.std.specs.Char.{len_utf8}
-use Rattle.std.proofs.Common.{◌≡◌, ℕ, zero, suc, ◌+◌, ◌<◌, Bool, true, false, ◌&&◌, List, [], ◌∷◌, ◌++◌, length, take, drop, Some, chars, refl, sym, ap, ap₂, ◌∙◌, arith}
+use Rattle.std.proofs.Common.{◌≡◌, ℕ, zero, suc, ◌+◌, ◌<◌, true, List, [], ◌∷◌, ◌++◌, length, take, drop, Some, chars, sym, ap, ap₂, ◌∙◌, arith}
+use Rattle.std.proofs.lemmas.Bool.{and_parts}
 use Rattle.std.specs.Str.{IsUtf8}
 use Rattle.std.proofs.Math.Utf8.{encode, encodes, scalar, scalars}
 use Rattle.std.proofs.Math.Seq.{take-append_seam, drop-append_seam}
@@ -51,16 +52,8 @@ module _ (bytes : List ℕ) (utf8 : IsUtf8 bytes) where
 
 scalar-at : (cs : List ℕ) → scalars cs ≡ true → (p c : ℕ) → slice_get cs p ≡ Some c → scalar c ≡ true
 scalar-at [] all p c e = absurd (cc)
-scalar-at (d ∷ cs) all zero c e = let f : d ≡ c = cc in ap scalar (sym f) ∙ and-left (scalar d) (scalars cs) all
-  where
-    and-left : (a b : Bool) → (a && b) ≡ true → a ≡ true
-    and-left true b h = refl
-    and-left false b h = absurd (cc)
-scalar-at (d ∷ cs) all (suc p) c e = scalar-at cs (and-right (scalar d) (scalars cs) all) p c e
-  where
-    and-right : (a b : Bool) → (a && b) ≡ true → b ≡ true
-    and-right true b h = h
-    and-right false b h = absurd (cc)
+scalar-at (d ∷ cs) all zero c e = let f : d ≡ c = cc in ap scalar (sym f) ∙ (and_parts (scalar d) (scalars cs) all).0
+scalar-at (d ∷ cs) all (suc p) c e = scalar-at cs (and_parts (scalar d) (scalars cs) all).1 p c e
 
 pub scalar-here : (bytes : List ℕ) → IsUtf8 bytes → (p c : ℕ) → slice_get (chars bytes) p ≡ Some c → scalar c ≡ true
 scalar-here bytes utf8 = scalar-at (chars bytes) (scalars-chars bytes utf8)

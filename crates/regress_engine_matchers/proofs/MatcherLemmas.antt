@@ -1,7 +1,6 @@
 -- Two characters that are read side by side, and what is left of a range.
 use Rattle.std.proofs.Common.{◌≡◌, ℕ, zero, suc, ◌<◌, ◌≤◌, ◌==◌, Bool, true, false, Option, Some, None, if◌then◌else◌, length, option_map, option_and_then, refl, sym, ap, ap₂, ◌∙◌, ◌≢◌, arith}
-use Rattle.std.proofs.lemmas.Bool.{eq-eqb}
-use Rattle.std.proofs.lemmas.Bool.Decides.{nat_tests}
+use Rattle.std.proofs.lemmas.Bool.{eq-eqb, ne_eqb}
 use Rattle.regress_meaning.specs.Table.{canon}
 use Rattle.regress_meaning.specs.Meaning.{Direction, Forward, Backward, same}
 use Rattle.regress_meaning.specs.Inputs.{Input}
@@ -29,9 +28,6 @@ module _ (f g : ℕ → ℕ) where
 
 -- ---- what is copied, a character at a time
 
-eq-apart : (a b : ℕ) → a ≢ b → (a == b) ≡ false
-eq-apart a b h = grind (arith, nat_tests)
-
 module _ (input : Input) (dir : Direction) where
   abbrev alike_canon : ℕ → ℕ
   alike_canon = canon input.table input.unicode
@@ -47,7 +43,7 @@ module _ (input : Input) (dir : Direction) where
   unfolding copied
   copied-more n from to o apart =
       ap (λ b. if b then Some o else option_and_then (λ x. option_and_then (λ y. if same input.table input.unicode true x.0 y.0 then copied input n dir true x.1 to y.1 else None)
-      (input.next dir o)) (input.next dir from)) (eq-apart from to apart)
+      (input.next dir o)) (input.next dir from)) (ne_eqb from to apart)
       ∙ joined (input.next dir from) (input.next dir o)
     where
       by_test : (b : Bool) (p q : ℕ) → (if b then copied input n dir true p to q else None) ≡ option_and_then (λ (z : ℕ × ℕ). copied input n dir true z.0 to z.1) (if b then Some (p, q) else None)

@@ -117,10 +117,6 @@ in_intervals-more xs i c =
     ap (list_any (λ e. between e.0 e.1 c)) (map-append ends xs (i ∷ [])) ∙ list_any-append (λ e. between e.0 e.1 c) (ends_of xs) (ends i ∷ [])
     ∙ ap (λ b. in_intervals (ends_of xs) c || b) (or-false (in_interval i c))
 
-pub in_intervals-none : (c : ℕ) → in_intervals [] c ≡ false
-unfolding in_intervals
-in_intervals-none c = refl
-
 in_interval-below : (i : Interval) (c : ℕ) → in_interval i c ≡ true → c ≤ 0x10_FFFF
 in_interval-below i c e = let top = i.bounded in grind (arith, nat_tests)
 

@@ -1,4 +1,5 @@
 -- What is foretold of trees.
+use lib.Pointwise.{bytes_decides}
 use Rattle.std.proofs.Common.{◌≡◌, ℕ, zero, suc, ◌+◌, ◌-◌, ◌<◌, ◌≤◌, Bool, true, false, ◌&&◌, ◌||◌, List, [], ◌∷◌, ◌++◌, length, take, drop, get_or, map, slice_get, slice_range, nat_le, Option, Some, None, IfSome, All, Vec, Global, encode_utf8_all, if◌then◌else◌, refl, sym, ap, subst, ◌∙◌, arith}
 use Rattle.std.specs.Prelude.{encode_utf8, ◌==◌, nat_eq}
 use Rattle.std.specs.List.{list_all}
@@ -187,20 +188,10 @@ Foretells-bracket inverted intervals set first = Foretells-one (bracket inverted
 
 -- ---- literals
 
-same_text-is : (cs ds : List ℕ) → same_text cs ds ≡ true → cs ≡ ds
-same_text-is [] [] e = refl
-same_text-is [] (d ∷ ds) e = absurd (cc)
-same_text-is (c ∷ cs) [] e = absurd (cc)
-same_text-is (c ∷ cs) (d ∷ ds) e = by_first (nat_eq c d) refl e (same_text-is cs ds)
-  where
-    by_first : (b : Bool) → nat_eq c d ≡ b → (b && same_text cs ds) ≡ true → (same_text cs ds ≡ true → cs ≡ ds) → c ∷ cs ≡ d ∷ ds
-    by_first true h k rest = rw (eqb-true c d h, rest k) refl
-    by_first false h k rest = absurd (cc)
-
 literal-told : (bs text cs rest : List ℕ) → IsUtf8 bs → same_text (chars bs) cs ≡ true → text ≡ cs ++ rest → take (length bs) (encode_utf8_all text) ≡ bs
 literal-told bs text cs rest utf8 passes is =
     let spelled : encode_utf8_all text ≡ bs ++ encode_utf8_all rest =
-    ap encode_utf8_all (is ∙ ap (λ xs. xs ++ rest) (sym (same_text-is (chars bs) cs passes))) ∙ encodes-append (chars bs) rest ∙ ap (λ xs. xs ++ encode_utf8_all rest) (encodes-chars bs utf8) in
+    ap encode_utf8_all (is ∙ ap (λ xs. xs ++ rest) (sym ((bytes_decides (chars bs) cs).0 passes))) ∙ encodes-append (chars bs) rest ∙ ap (λ xs. xs ++ encode_utf8_all rest) (encodes-chars bs utf8) in
     rw spelled (take_at bs (encode_utf8_all rest) (length bs) refl)
 
 first-leads : (bs cs : List ℕ) → All is_code_point cs → encode_utf8_all cs ≡ bs → (b : ℕ) → slice_get bs 0 ≡ Some b → MayLead b

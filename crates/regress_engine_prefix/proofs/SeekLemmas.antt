@@ -1,5 +1,5 @@
 -- What a seeker finds in bytes.
-use Rattle.std.specs.Prelude.{slice_get, slice_index, option_map, position, IfSome, ◌==◌, ◌||◌}
+use Rattle.std.specs.Prelude.{slice_get, slice_index, option_map, position, ◌==◌, ◌||◌}
 use Rattle.std.specs.List.{position_or_len}
 use Rattle.std.proofs.Common.{◌≡◌, ◌≢◌, ◌⊎◌, inl, inr, ap₂, ℕ, zero, suc, ◌+◌, ◌-◌, ◌<◌, ◌≤◌, Bool, true, false, List, [], ◌∷◌, length, take, drop, get_or, Option, Some, None, refl, sym, ap, ◌∙◌, subst, arith, length-drop, length-take}
 use Rattle.std.proofs.Math.Bool.{or-false}
@@ -71,19 +71,6 @@ module _ (test : ℕ → Bool) (bytes : List ℕ) where
       by_byte None same is = absurd (cc)
       by_byte (Some b) same is = slice_get_within bytes k b same
 
-  -- the first byte that passes is the least index at which one does
-  pub first-least : (r : Option ℕ) → IsFirstByte test bytes r → IsLeast (λ k. is_some_and (slice_get bytes k) test ≡ true) 0 r
-  first-least None h = λ k low is. let room = is-there k is in h k low room (sym (passes-there k room) ∙ is)
-  first-least (Some k) h = (
-    omega arith,
-    passes-there k h.0.high ∙ h.1,
-    λ j low high is. h.0.before j low high (sym (passes-there j (is-there j is)) ∙ is),
-  )
-
-  pub first-inside : (r : Option ℕ) → IsFirstByte test bytes r → IfSome r (λ k. k ≤ length bytes)
-  first-inside None h = tt
-  first-inside (Some k) h = let high = h.0.high in omega (arith, high)
-
   -- and so is the first index that a list tells
   pub position-least : (r : Option ℕ) → r ≡ position test bytes → IsLeast (λ k. is_some_and (slice_get bytes k) test ≡ true) 0 r
   position-least None e = λ k low is.
@@ -96,10 +83,6 @@ module _ (test : ℕ → Bool) (bytes : List ℕ) where
         passes-there i inside ∙ here,
         λ k low high is. absurd (true≢false (sym (sym (passes-there k (is-there k is)) ∙ is) ∙ before k high)),
       )
-
-  pub position-inside : (r : Option ℕ) → r ≡ position test bytes → IfSome r (λ k. k ≤ length bytes)
-  position-inside None e = tt
-  position-inside (Some i) e = let inside = (position-Some test bytes i 0 (sym e)).0 in omega (arith, inside)
 
 -- ---- a literal
 
@@ -125,10 +108,6 @@ module _ (bytes front : List ℕ) where
     OccursAt-part bytes front k h.1,
     λ j low high e. let room = h.0.high in h.0.before j low high (stands-occurs j (omega (arith, high, room)) e),
   )
-
-  pub needle-inside : (r : Option ℕ) → FindsNeedle bytes front 0 r → IfSome r (λ k. k ≤ length bytes)
-  needle-inside None h = tt
-  needle-inside (Some k) h = let room = h.0.high in omega (arith, room)
 
 -- ---- an offset behind which the bytes are searched
 

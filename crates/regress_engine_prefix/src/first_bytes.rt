@@ -1,5 +1,5 @@
 //! The first bytes of sets of code points in UTF-8.
-ghost use Rattle.std.specs.Prelude.{◌≡◌, ◌<◌, ℕ, All, IfOk, IfErr, IfSome, map};
+ghost use Rattle.std.specs.Prelude.{◌<◌, ℕ, All, IfOk, IfSome, map};
 ghost use Rattle.std.specs.Box.{boxed_slice_items};
 ghost use Rattle.regress_meaning.specs.Text.{holds};
 ghost use Rattle.regress_meaning.specs.TableParts.{is_code_point, in_intervals};
@@ -10,9 +10,9 @@ ghost use Rattle.regress_front_nodes.specs.TreeMeaning.{bracket_has};
 ghost use Rattle.regress_engine_prefix.specs.FirstBytes.{AreFirstOf, AreFirstOfStrings};
 
 use regress_front_bytes::{ByteBitmap, utf8_first_byte};
-use regress_front_core::Error;
 use regress_front_nodes::BracketContents;
 use regress_front_sets::{CodePoint, Interval, add_utf8_first_bytes_to_bitmap};
+use std::alloc::AllocError;
 use std::boxed::BoxedSlice;
 
 /// The first bytes of some code points.
@@ -38,17 +38,17 @@ fn first_of_intervals(intervals: &[Interval]) -> ByteBitmap
     set
 }
 
-/// The first bytes of the code points that a bracket matches. It errs with `OutOfMemory` alone.
-pub(crate) fn first_of_bracket(contents: &BracketContents) -> Result<ByteBitmap, Error>
-    ensures first { IfOk result (λ set.
+/// The first bytes of the code points that a bracket matches.
+pub(crate) fn first_of_bracket(contents: &BracketContents) -> Result<ByteBitmap, AllocError>
+    ensures { IfOk result (λ set.
         AreFirstOf (bracket_has contents.now.invert (ends_in contents.now.cps)) (byte_bitmap_contains set)) }
-    ensures refused { IfErr result (λ e. e ≡ Error.OutOfMemory) }
 {
-    if contents.invert {
-        let others = contents.cps.inverted()?;
-        Ok(first_of_intervals(others.intervals()))
-    } else {
-        Ok(first_of_intervals(contents.cps.intervals()))
+    if !contents.invert {
+        return Ok(first_of_intervals(contents.cps.intervals()));
+    }
+    match contents.cps.inverted() {
+        Ok(others) => Ok(first_of_intervals(others.intervals())),
+        Err(_) => Err(AllocError),
     }
 }
 

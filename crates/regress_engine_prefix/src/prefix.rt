@@ -1,5 +1,5 @@
 //! What is known of a match of a node before it is made.
-ghost use Rattle.std.specs.Prelude.{◌≡◌, ◌≢◌, ◌≤◌, ℕ, true, All, map, IfOk, IfErr, OnOk, IsTrue, IsFalse};
+ghost use Rattle.std.specs.Prelude.{◌≡◌, ◌≢◌, ◌≤◌, ℕ, true, All, map, IfOk, OnOk, IsTrue, IsFalse};
 ghost use Rattle.std.specs.Box.{boxed_slice_items};
 ghost use Rattle.regress_meaning.specs.TableParts.{is_code_point};
 ghost use Rattle.regress_front_nodes.specs.Trees.{tree, cat_of, alt, anchor_of, string_set, loop, single_loop};
@@ -9,7 +9,6 @@ ghost use Rattle.regress_engine_prefix.specs.Prefixes.{IsLawful, IsWeaker, Leads
 use crate::first_bytes::{first_of_ascii, first_of_bracket, first_of_chars, first_of_strings};
 use crate::joining::either;
 use regress_front_bytes::ByteBitmap;
-use regress_front_core::Error;
 use regress_front_nodes::{AnchorType, Node, Quantifier};
 use regress_front_tables::CodePoint;
 use std::alloc::{AllocError, Global};
@@ -54,11 +53,10 @@ fn of_strings(strings: &[BoxedSlice<CodePoint>], icase: bool) -> Prefix
     }
 }
 
-/// What holds of each match of a node. It errs with `OutOfMemory` alone.
-pub(crate) fn prefix_of(alloc: Global, node: &Node) -> Result<Prefix, Error>
+/// What holds of each match of a node.
+pub(crate) fn prefix_of(alloc: Global, node: &Node) -> Result<Prefix, AllocError>
     requires { IsLawful (tree node.now) }
-    ensures foretold { IfOk result (λ prefix. Foretells prefix (tree node.now)) }
-    ensures refused { IfErr result (λ e. e ≡ Error.OutOfMemory) }
+    ensures { IfOk result (λ prefix. Foretells prefix (tree node.now)) }
 {
     let mut known = Prefix::Unknown;
     find(alloc, node, &mut known)?;
@@ -118,22 +116,16 @@ fn find_of_leaf(alloc: Global, node: &Node, known: &mut Prefix) -> Result<(), Al
     requires leaf { is_leaf (tree node.now) ≡ true }
     ensures { OnOk result (Foretells known.new (tree node.now)) }
 {
-    match prefix_of_leaf(alloc, node) {
-        Ok(prefix) => {
-            *known = prefix;
-            Ok(())
-        }
-        Err(_) => Err(AllocError),
-    }
+    *known = prefix_of_leaf(alloc, node)?;
+    Ok(())
 }
 
-/// What holds of each match of a node of a kind that has no parts. It errs with `OutOfMemory` alone.
+/// What holds of each match of a node of a kind that has no parts.
 #[inline(never)]
-fn prefix_of_leaf(alloc: Global, node: &Node) -> Result<Prefix, Error>
+fn prefix_of_leaf(alloc: Global, node: &Node) -> Result<Prefix, AllocError>
     requires lawful { IsLawful (tree node.now) }
     requires leaf { is_leaf (tree node.now) ≡ true }
-    ensures foretold { IfOk result (λ prefix. Foretells prefix (tree node.now)) }
-    ensures refused { IfErr result (λ e. e ≡ Error.OutOfMemory) }
+    ensures { IfOk result (λ prefix. Foretells prefix (tree node.now)) }
 {
     match node {
         Node::Empty | Node::Goal => Ok(Prefix::Still),

@@ -60,11 +60,6 @@ module _ (target : Target) (input : Input) (reading : Reading) (tells : Tells re
   )
   moves dir address gone low high s w q false at stands room = tt
 
-  -- a test inside a test
-  both-tests : (b c : Bool) (x : State) → (if b then (if c then x ∷ [] else []) else []) ≡ (if b && c then x ∷ [] else [])
-  both-tests true c x = refl
-  both-tests false c x = refl
-
   -- a step over what is beside
   stepped-if : (b : Bool) (test : List ℕ → Bool) (s : State) (cs : List ℕ) (q : ℕ)
       → stepped test s (if b then Some (cs, q) else None) ≡ (if b && test cs then record s { place = q } ∷ [] else [])

@@ -1,8 +1,9 @@
 -- What a one-character loop repeats, at places.
+use lib.Pointwise.{bytes_decides}
 use Rattle.std.specs.Prelude.{chars, encode_utf8, slice_get, option_and_then}
 use Rattle.std.specs.Str.{encode_utf8_all}
-use Rattle.std.proofs.Common.{◌≡◌, ℕ, Bool, true, false, List, [], ◌∷◌, length, Option, Some, None, if◌then◌else◌, option_map, sym, ap, ap₂, ◌∙◌, refl, arith}
-use Rattle.std.proofs.lemmas.Bool.{eqb-true, and_parts}
+use Rattle.std.proofs.Common.{◌≡◌, ℕ, Bool, true, false, List, length, Option, Some, None, if◌then◌else◌, option_map, sym, ap, ◌∙◌, arith}
+use Rattle.std.proofs.lemmas.Bool.{and_parts}
 use Rattle.std.proofs.lemmas.List.{append-nil}
 use Rattle.std.proofs.lemmas.Str.{length-encode, len_utf8_bounds}
 use Rattle.regress_meaning.specs.Text.{same_text}
@@ -24,19 +25,12 @@ use Rattle.regress_engine_runs.specs.Closed.{Fits, takes_character}
 use Rattle.regress_engine_runs.proofs.Literals.{place-on, beside-fits}
 use Rattle.regress_engine_runs.proofs.Literals as literals
 
-same_text-is : (cs ds : List ℕ) → same_text cs ds ≡ true → cs ≡ ds
-same_text-is [] [] e = refl
-same_text-is [] (d ∷ ds) e = absurd (grind arith)
-same_text-is (c ∷ cs) [] e = absurd (grind arith)
-same_text-is (c ∷ cs) (d ∷ ds) e =
-    let both = and_parts _ _ e in ap₂ (λ x (xs : List ℕ). x ∷ xs) (eqb-true c d both.0) (same_text-is cs ds both.1)
-
 -- bytes of one character are whole characters
-one-whole : (bs : List ℕ) → is_one_character bs ≡ true → AreCharacters bs
+pub one-whole : (bs : List ℕ) → is_one_character bs ≡ true → AreCharacters bs
 one-whole bs e =
     let all = and_parts _ _ e in
     let first = and_parts _ _ all.0 in
-    let spelled = same_text-is (encode_utf8_all (chars bs)) bs all.1 in
+    let spelled = (bytes_decides (encode_utf8_all (chars bs)) bs).0 all.1 in
     let (c, is) = one-character bs e in
     let size = ap length (sym spelled ∙ ap encode_utf8_all is) ∙ ap length (append-nil (encode_utf8 c)) in
     let bounds = (len_utf8_bounds c).0 in

@@ -1,18 +1,13 @@
 -- What a one-character loop gives back is what it took, one by one, the other way round.
-use Rattle.std.specs.Prelude.{chars, encode_utf8, slice_get, option_and_then, reverse}
-use Rattle.std.specs.Str.{encode_utf8_all}
-use Rattle.std.proofs.Common.{◌≡◌, ℕ, zero, suc, ◌-◌, ◌≤◌, ◌⊎◌, inl, inr, Bool, true, false, not, List, [], ◌∷◌, ◌++◌, length, Option, Some, None, if◌then◌else◌, option_map, refl, sym, ap, ap₂, ◌∙◌, subst, arith}
-use Rattle.std.proofs.lemmas.Bool.{eqb-true, and_parts}
-use Rattle.std.proofs.lemmas.List.{append-nil, reverse-append}
+use Rattle.std.specs.Prelude.{chars, slice_get, option_and_then, reverse}
+use Rattle.std.proofs.Common.{◌≡◌, ℕ, zero, suc, ◌-◌, ◌≤◌, ◌⊎◌, inl, inr, Bool, true, false, not, List, [], ◌∷◌, ◌++◌, length, Option, Some, None, if◌then◌else◌, option_map, refl, sym, ap, ◌∙◌, subst, arith}
+use Rattle.std.proofs.lemmas.List.{reverse-append}
 use Rattle.std.proofs.lemmas.Option.{slice_get_within}
-use Rattle.std.proofs.lemmas.Str.{length-encode, len_utf8_bounds}
 use Rattle.regress_meaning.specs.Text.{same_text}
 use Rattle.regress_meaning.specs.Meaning.{Direction, Forward, Backward}
 use Rattle.regress_meaning.specs.Offsets.{offset}
 use Rattle.regress_meaning.specs.Inputs.{Tells, neighbour, point_told}
 use Rattle.regress_meaning.specs.Steps.{passed, literal}
-use Rattle.regress_front_nodes.specs.Singles.{is_one_character}
-use Rattle.regress_front_nodes.specs.WellFormed.{AreCharacters}
 use Rattle.regress_front_nodes.specs.TreeMeaning.{bracket_has}
 use Rattle.regress_engine_input.specs.Views.{View, AreOfKind, are_bytes, input_of, reading_of}
 use Rattle.regress_engine_input.proofs.KindLemmas.{tells}
@@ -24,30 +19,12 @@ use Rattle.regress_engine_code.proofs.LiteralLemmas.{one-character}
 use Rattle.regress_engine_runs.specs.States.{Marks}
 use Rattle.regress_engine_runs.specs.Runs.{advance, as_far, one_by_one, given_back}
 use Rattle.regress_engine_runs.specs.Closed.{Fits, takes_character}
+use Rattle.regress_engine_runs.proofs.BodyPlaces.{one-whole}
 use Rattle.regress_engine_runs.proofs.GivingBack.{ahead, HasPlace, offset_ahead, ahead-none, ahead-on, HasPlace-none, HasPlace-here, HasPlace-on, given_back-none, given_back-further}
 use Rattle.regress_engine_runs.proofs.RunViews.{one_stands}
 use Rattle.regress_engine_sought.specs.Ready.{IsBody}
 use Rattle.regress_engine_sought.specs.Sought.{Suits}
 use Rattle.regress_engine_sought.proofs.PlaceLemmas.{can-read}
-
--- ---- bytes of one character
-
-same-bytes : (cs ds : List ℕ) → same_text cs ds ≡ true → cs ≡ ds
-same-bytes [] [] e = refl
-same-bytes [] (d ∷ ds) e = absurd (grind arith)
-same-bytes (c ∷ cs) [] e = absurd (grind arith)
-same-bytes (c ∷ cs) (d ∷ ds) e =
-    let both = and_parts _ _ e in ap₂ (λ x (xs : List ℕ). x ∷ xs) (eqb-true c d both.0) (same-bytes cs ds both.1)
-
-one-spelled : (bs : List ℕ) → is_one_character bs ≡ true → AreCharacters bs
-one-spelled bs e =
-    let all = and_parts _ _ e in
-    let first = and_parts _ _ all.0 in
-    let spelled = same-bytes (encode_utf8_all (chars bs)) bs all.1 in
-    let (c, is) = one-character bs e in
-    let size = ap length (sym spelled ∙ ap encode_utf8_all is) ∙ ap length (append-nil (encode_utf8 c)) in
-    let bounds = (len_utf8_bounds c).0 in
-    (omega (arith, size, length-encode c, bounds), (chars bs, (first.1, spelled)))
 
 -- ---- one iteration goes one place further
 
@@ -99,7 +76,7 @@ module _ (v : View) (all : AreOfKind v.kind v.units) where
         let (c, is) = one-character bs takes in
         let can = can-read v all (offset (reading_of v) p) (p, room, refl) in
         subst (Further dir p)
-        (sym (sees_sequence v all are dir (offset (reading_of v) p) can bs (one-spelled bs takes) (ap length is)) ∙ in-bytes v.kind (literal (input_of v) dir bs (offset (reading_of v) p)) are)
+        (sym (sees_sequence v all are dir (offset (reading_of v) p) can bs (one-whole bs takes) (ap length is)) ∙ in-bytes v.kind (literal (input_of v) dir bs (offset (reading_of v) p)) are)
         (passed-further dir (λ d. same_text (chars bs) (d ∷ [])) p room)
     body-further at code.any fits takes p room = passed-further dir (λ c. true) p room
     body-further at code.any_in_line fits takes p room = passed-further dir _ p room

@@ -1,5 +1,6 @@
 pub mod BracketLemmas
 pub mod InsnLemmas
+pub mod FillLemmas
 pub mod TaskLemmas
 pub mod ReadyLemmas
 pub mod PlaceLemmas

@@ -1,7 +1,7 @@
 -- What single nodes match, and which trees nodes stand for.
-use Rattle.std.proofs.Common.{◌≡◌, ℕ, zero, suc, ◌+◌, ◌-◌, ◌<◌, ◌≤◌, Bool, true, false, not, ◌&&◌, ◌==◌, nat_le, nat_eq, List, [], ◌∷◌, ◌++◌, length, map, reverse, chars, All, slice_range, take, drop, refl, sym, ap, ◌∙◌, arith}
+use Rattle.std.proofs.Common.{◌≡◌, ℕ, zero, suc, ◌+◌, ◌-◌, ◌<◌, ◌≤◌, Bool, true, false, ◌&&◌, ◌==◌, nat_le, nat_eq, List, [], ◌∷◌, ◌++◌, length, map, reverse, chars, All, slice_range, take, drop, refl, sym, ap, ◌∙◌, arith}
 use Rattle.std.specs.List.{list_all}
-use Rattle.std.proofs.lemmas.Bool.{cond_both, leb-true, and_parts, false≢true, eqb-true}
+use Rattle.std.proofs.lemmas.Bool.{cond_both, leb-true, and_parts, false≢true, eqb-true, not-true}
 use Rattle.std.proofs.lemmas.Bool.Decides.{nat_tests}
 use Rattle.std.proofs.lemmas.List.{reverse-append, map-append, length-drop}
 use Rattle.std.proofs.lemmas.List.Elements.{All-nil, All-cons, All-head, All-take, All-drop}
@@ -81,10 +81,6 @@ map-reverse f (x ∷ xs) =
 not_zero : (n : ℕ) → (suc n == 0) ≡ true → ⊥
 not_zero n h = grind (arith, nat_tests)
 
-not_true : (b : Bool) → not b ≡ true → b ≡ false
-not_true true h = absurd (false≢true h)
-not_true false h = refl
-
 -- no code point passes, so no text of one does
 none_passes : (test : ℕ → Bool) → ((c : ℕ) → is_code_point c → test c ≡ false) → (cs : List ℕ) → All is_code_point cs → 0 < length cs → list_all test cs ≡ false
 none_passes test fails [] all some = absurd (omega arith)
@@ -147,5 +143,5 @@ module _ (context : Context) where
   always_fails-nothing (byte_set (c ∷ cs)) dir s h all inside = absurd (not_zero (length cs) h)
   always_fails-nothing (char_set (c ∷ cs)) dir s h all inside = absurd (not_zero (length cs) h)
   always_fails-nothing (bracket inverted intervals) dir s h all inside =
-      none_further dir (bracket_has inverted intervals) s (λ c l. some_below-fails code_points c (bracket_has inverted intervals) (not_true _ h) (omega arith)) all inside
+      none_further dir (bracket_has inverted intervals) s (λ c l. some_below-fails code_points c (bracket_has inverted intervals) (not-true _ h) (omega arith)) all inside
   always_fails-nothing _ dir s h all inside = absurd (false≢true h)

@@ -1,10 +1,10 @@
 -- Pieces: what a code point stands for, as a list, and literals that are joined.
 use Rattle.std.proofs.Common.{◌≡◌, ℕ, zero, suc, ◌+◌, ◌<◌, ◌≤◌, Bool, true, false, ◌&&◌, ◌==◌, List, [], ◌∷◌, ◌++◌, length, if◌then◌else◌, nat_le, nat_lt, map, filter, All, refl, sym, ap, ◌∙◌, inl, inr, encode_utf8, drop, get_or, IsUtf8, arith}
 use Rattle.std.specs.List.{AllPairs, list_all}
-use Rattle.std.specs.Char.{IsScalar, InScalarRange, OutOfScalarRange}
+use Rattle.std.specs.Char.{IsScalar}
 use Rattle.std.proofs.lemmas.Bool.{and_parts, and_right, or_cases, or_left, or_right, cases_eq, eqb-true, eq-eqb, ne_eqb, ltb-true}
 use Rattle.std.proofs.lemmas.Bool.Decides.{nat_tests}
-use Rattle.std.proofs.lemmas.List.{append_assoc, append-nil, map-append, drop_more, drop_all}
+use Rattle.std.proofs.lemmas.List.{map-append, drop_more, drop_all}
 use Rattle.std.proofs.lemmas.List.Elements.{All-nil, All-cons, All-head, All-tail, All-filter, All-weaker}
 use Rattle.std.proofs.lemmas.Str.{IsUtf8-append, IsUtf8-encode, length-encode, len_utf8_bounds}
 use Rattle.std.proofs.lemmas.List.Kept.{AllPairs-from_increasing}
@@ -174,43 +174,10 @@ module _ (table : Table) (unicode : Bool) (cp : ℕ) where
       let test : ℕ → Bool = λ c. canon table unicode c == canon table unicode cp in
       All-weaker (λ c. c < code_points) (λ c. c ≤ last_code_point) (λ c h. omega arith) (passing_below code_points test) (below-listed code_points test)
 
--- ---- literals that are joined
-
-joined-literals : (xs bs : List ℕ) (ts : List Tree) → bytes_before (xs ++ bs) ts ≡ bytes_before xs (bytes_before bs ts)
-joined-literals [] bs ts = refl
-joined-literals (a ∷ xs) [] ts = ap (λ (ys : List ℕ). bytes_before ys ts) (append-nil (a ∷ xs))
-joined-literals (a ∷ xs) (b ∷ bs) [] = refl
-joined-literals (a ∷ xs) (b ∷ bs) (bytes ds ∷ ts) = rw (append_assoc xs (b ∷ bs) ds) refl
-joined-literals (a ∷ xs) (b ∷ bs) (t ∷ ts) = refl
-
--- the tree is a literal
-abbrev pub is_literal : Tree → Bool
-is_literal (bytes bs) = true
-is_literal _ = false
-
-closed-before : (bs : List ℕ) (t : Tree) (ts : List Tree) → is_literal t ≡ false → bytes_before bs [] ++ (t ∷ ts) ≡ bytes_before bs (t ∷ ts)
-closed-before [] t ts h = refl
-closed-before (b ∷ bs) (bytes ds) ts h = absurd (cc)
-closed-before (b ∷ bs) t ts h = refl
-
-surrogate-not : (c : ℕ) → InScalarRange c → is_surrogate c ≡ false
-surrogate-not c h = elim h [ inl a ↦ grind (arith, nat_tests) | inr a ↦ grind (arith, nat_tests) ]
-
-surrogate-is : (c : ℕ) → c ≤ last_code_point → OutOfScalarRange c → is_surrogate c ≡ true
-surrogate-is c h k = elim k [ inl a ↦ grind (arith, nat_tests) | inr a ↦ absurd (omega arith) ]
+-- ---- scalar values
 
 pub scalar-from : (c : ℕ) → c ≤ last_code_point → is_surrogate c ≡ false → IsScalar c
 scalar-from c h e = grind (arith, nat_tests)
-
--- what isn't part of a literal ends the literal before it
-pub set-added : (ps qs ts : List Tree) (old new : List ℕ) (t : Tree) → is_literal t ≡ false → qs ≡ (ps ++ bytes_before old []) ++ t ∷ [] → new ≡ []
-    → qs ++ bytes_before new ts ≡ ps ++ bytes_before old (t ∷ ts)
-set-added ps qs ts old new t h e k =
-    rw (e, k) (
-    append_assoc (ps ++ bytes_before old []) (t ∷ []) ts
-    ∙ append_assoc ps (bytes_before old []) (t ∷ ts)
-    ∙ ap (λ us. ps ++ us) (closed-before old t ts h)
-    )
 
 -- ---- the pieces of a text
 

@@ -32,7 +32,7 @@ flat_map-agree P f g h (x ∷ xs) k =
 
 module _ (w : Context) where
   -- steps over the text that is there, and over more
-  step-in : (k : ℕ) (test : List ℕ → Bool) (s : State) → s.place + k ≤ length w.text
+  pub step-in : (k : ℕ) (test : List ℕ → Bool) (s : State) → s.place + k ≤ length w.text
       → step w Forward k test s ≡ (if test (take k (drop s.place w.text)) then record s { place = s.place + k } ∷ [] else [])
   unfolding step beside
   step-in k test s h =
@@ -40,7 +40,7 @@ module _ (w : Context) where
       let size : s.place + k - s.place ≡ k = omega arith in
       rw (room, size) refl
 
-  step-out : (k : ℕ) (test : List ℕ → Bool) (s : State) → length w.text < s.place + k → step w Forward k test s ≡ []
+  pub step-out : (k : ℕ) (test : List ℕ → Bool) (s : State) → length w.text < s.place + k → step w Forward k test s ≡ []
   unfolding step beside
   step-out k test s h = let room : nat_le (s.place + k) (length w.text) ≡ false = lt-leb (s.place + k) (length w.text) h in rw room refl
 
@@ -102,7 +102,7 @@ module _ (w : Context) where
 
   -- ---- from right to left
 
-  back-in : (k : ℕ) (test : List ℕ → Bool) (s : State) → k ≤ s.place
+  pub back-in : (k : ℕ) (test : List ℕ → Bool) (s : State) → k ≤ s.place
       → step w Backward k test s ≡ (if test (take k (drop (s.place - k) w.text)) then record s { place = s.place - k } ∷ [] else [])
   unfolding step beside
   back-in k test s h =
@@ -110,7 +110,7 @@ module _ (w : Context) where
       let size : s.place - (s.place - k) ≡ k = omega arith in
       rw (room, size) refl
 
-  back-out : (k : ℕ) (test : List ℕ → Bool) (s : State) → s.place < k → step w Backward k test s ≡ []
+  pub back-out : (k : ℕ) (test : List ℕ → Bool) (s : State) → s.place < k → step w Backward k test s ≡ []
   unfolding step beside
   back-out k test s h = let room : nat_le k s.place ≡ false = lt-leb k s.place h in rw room refl
 

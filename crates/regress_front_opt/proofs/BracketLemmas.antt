@@ -13,6 +13,7 @@ use Rattle.regress_front_core.specs.Limits.{most_members}
 use Rattle.regress_front_sets.specs.declared.interval.Interval.{Interval}
 use Rattle.regress_front_sets.specs.Intervals.{ends, ends_of, in_interval}
 use Rattle.regress_front_sets.proofs.IntervalLemmas.{in_intervals-append}
+use Rattle.regress_front_tables.proofs.FoldingLemmas.{or_none, or_split}
 use Rattle.regress_front_nodes.specs.Trees.{Tree, byte_set, char_set, any, bracket}
 use Rattle.regress_front_nodes.specs.TreeMeaning.{bracket_has}
 use Rattle.regress_front_nodes.specs.Characters.{Takes}
@@ -24,17 +25,9 @@ use Rattle.regress_front_rules.specs.Rules.{is_bracket}
 use Rattle.regress_front_opt.specs.Passes.{Advances}
 use Rattle.regress_front_opt.proofs.PassLemmas.{turned-advances}
 
-or-right : (b : Bool) → b ≡ (b || false)
-or-right true = refl
-or-right false = refl
-
-or-moved : (a b c : Bool) → ((a || b) || c) ≡ (a || (b || c))
-or-moved true b c = refl
-or-moved false b c = refl
-
 holds-one : (xs : List ℕ) (x d : ℕ) → holds (xs ++ x ∷ []) d ≡ (holds xs d || (x == d))
-holds-one [] x d = sym (or-right (x == d))
-holds-one (y ∷ xs) x d = ap (λ b. (y == d) || b) (holds-one xs x d) ∙ sym (or-moved (y == d) (holds xs d) (x == d))
+holds-one [] x d = or_none (x == d)
+holds-one (y ∷ xs) x d = ap (λ b. (y == d) || b) (holds-one xs x d) ∙ sym (or_split (y == d) (holds xs d) (x == d))
 
 none-between : (a d : ℕ) → (nat_le a d && nat_lt d a) ≡ false
 none-between a d = grind (arith, nat_tests)
@@ -46,11 +39,11 @@ to-the-last : (a b d : ℕ) → (nat_le a d && nat_lt d (b + 1)) ≡ between a b
 to-the-last a b d = grind (arith, nat_tests)
 
 pub holds-none : (xs : List ℕ) (a d : ℕ) → holds xs d ≡ (holds xs d || (nat_le a d && nat_lt d a))
-holds-none xs a d = or-right (holds xs d) ∙ ap (λ b. holds xs d || b) (sym (none-between a d))
+holds-none xs a d = sym (or_none (holds xs d)) ∙ ap (λ b. holds xs d || b) (sym (none-between a d))
 
 pub holds-more : (old xs ys : List ℕ) (a x d : ℕ) → a ≤ x → ys ≡ xs ++ x ∷ [] → holds xs d ≡ (holds old d || (nat_le a d && nat_lt d x)) → holds ys d ≡ (holds old d || (nat_le a d && nat_lt d (x + 1)))
 holds-more old xs ys a x d h e k =
-    ap (λ zs. holds zs d) e ∙ holds-one xs x d ∙ ap (λ b. b || (x == d)) k ∙ or-moved (holds old d) (nat_le a d && nat_lt d x) (x == d)
+    ap (λ zs. holds zs d) e ∙ holds-one xs x d ∙ ap (λ b. b || (x == d)) k ∙ or_split (holds old d) (nat_le a d && nat_lt d x) (x == d)
     ∙ ap (λ b. holds old d || b) (one-more a x d h)
 
 pub holds-all : (old xs : List ℕ) (i : Interval) (x d : ℕ) → x ≡ i.last + 1 → holds xs d ≡ (holds old d || (nat_le i.first d && nat_lt d x)) → holds xs d ≡ (holds old d || in_interval i d)
@@ -62,7 +55,7 @@ points-more xs ys x e h k = subst (All is_code_point) (sym e) (All-append is_cod
 
 one-interval : (i : Interval) (d : ℕ) → in_intervals (ends i ∷ []) d ≡ in_interval i d
 unfolding in_intervals
-one-interval i d = sym (or-right (between i.first i.last d))
+one-interval i d = or_none (between i.first i.last d)
 
 pub intervals-more : (is : List Interval) (k : ℕ) (i : Interval) (old new : List ℕ) (d : ℕ) → k < length is → i ≡ get_or is k i → holds old d ≡ in_intervals (ends_of (take k is)) d
     → holds new d ≡ (holds old d || in_interval i d) → holds new d ≡ in_intervals (ends_of (take (k + 1) is)) d

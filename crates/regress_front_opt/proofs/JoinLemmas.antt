@@ -3,6 +3,7 @@ use Rattle.std.proofs.Common.{◌≡◌, ℕ, suc, ◌+◌, ◌<◌, Bool, true,
 use Rattle.std.proofs.lemmas.Bool.{false≢true}
 use Rattle.std.proofs.lemmas.List.{append-nil, reverse-append, reverse-reverse, map-append, take_more, drop_more, take-append-drop}
 use Rattle.regress_meaning.specs.Meaning.{Direction, Forward, Backward}
+use Rattle.regress_front_tables.proofs.FoldingLemmas.{or_none}
 use Rattle.regress_front_nodes.specs.declared.node.Node.{Node}
 use Rattle.regress_front_nodes.specs.Trees.{Tree, tree, bytes, cat, cat_of}
 use Rattle.regress_front_nodes.specs.TreeMeaning.{direction}
@@ -65,13 +66,9 @@ ends-append [] t = refl
 ends-append (u ∷ []) t = refl
 ends-append (u ∷ v ∷ ts) t = ends-append (v ∷ ts) t
 
-or-right : (b : Bool) → (b || false) ≡ b
-or-right true = refl
-or-right false = refl
-
 pub meet-append : (ts : List Tree) (t : Tree) → literals_meet (ts ++ t ∷ []) ≡ (literals_meet ts || (ends_literal ts && is_literal t))
 meet-append [] t = refl
-meet-append (u ∷ []) t = or-right (is_literal u && is_literal t)
+meet-append (u ∷ []) t = or_none (is_literal u && is_literal t)
 meet-append (u ∷ v ∷ ts) t = by_test (is_literal u && is_literal v) (meet-append (v ∷ ts) t)
   where
     by_test : (b : Bool) → literals_meet (v ∷ (ts ++ t ∷ [])) ≡ (literals_meet (v ∷ ts) || (ends_literal (v ∷ ts) && is_literal t))
@@ -145,10 +142,6 @@ joins-more ns i d js ks t l e h k =
     ap (λ ms. js ++ map tree ms) (drop_more ns i d l) ∙ ap (λ u. js ++ u ∷ map tree (drop (i + 1) ns)) (sym e) ∙ sym (append_assoc js (t ∷ []) (map tree (drop (i + 1) ns))) in
     joins-then (subst (Joins (map tree ns)) here h) (joins-behind (map tree (drop (i + 1) ns)) k)
 
-pub and-false : (a b : Bool) → b ≡ false → (a && b) ≡ false
-and-false true b h = h
-and-false false b h = refl
-
 -- ---- the other way round
 
 ends-reverse : (t : Tree) (ts : List Tree) → ends_literal (reverse (t ∷ ts)) ≡ is_literal t
@@ -177,10 +170,6 @@ pub joined-advances : {dir : Direction} (ts us : List Tree) → Reaches dir (cat
 joined-advances ts us h some none = reaches-moves h (λ same.
     let meets : literals_meet ts ≡ literals_meet us = ap literals_meet (sym (parts-cat_of ts)) ∙ ap (λ t. literals_meet (parts t)) same ∙ ap literals_meet (parts-cat_of us) in
     false≢true (sym none ∙ sym meets ∙ some))
-
-pub or-parts : (a b : Bool) → (a || b) ≡ false → (a ≡ false) × (b ≡ false)
-or-parts true b h = absurd (false≢true (sym h))
-or-parts false b h = (refl, h)
 
 -- parts that are turned, joined and turned back
 pub turned-reaches : (ns ns' ms ms' : List Node) → ns' ≡ reverse ns → ms' ≡ reverse ms → Joins (map tree ns') (map tree ms) → Reaches Backward (cat_of (map tree ns)) (cat_of (map tree ms'))

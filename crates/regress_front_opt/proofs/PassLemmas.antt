@@ -175,12 +175,13 @@ advances-lighter a l =
     let rest = reaches-weight a.others l.0 (one.keeps.lawful l.0 l.1) in
     omega (arith, one.lighter l.0 l.1, rest)
 
+-- memory is refused when a node was changed by rules
+pub passed-reached : (dir : Direction) (broken : Tree → Bool) (t u : Tree) (r : Result PassAction Error) → Reaches dir t u → IsErrAnd r (λ e. e ≡ OutOfMemory) → IsPassed dir broken t u r
+passed-reached dir broken t u r h w = let p = err_from_is_err_and r w in rw (p.1, p.2) (h, refl)
+
 -- memory is refused before a node is changed
-pub passed-refused : (dir : Direction) (broken : Tree → Bool) (t : Tree) (r : Result PassAction Error) (e : Error) → e ≡ OutOfMemory → IsErrAnd r (λ y. y ≡ e) → IsPassed dir broken t t r
-passed-refused dir broken t r e h w = let p = err_from_is_err_and r w in rw (p.1, p.2) (stays, h)
+pub passed-refused : (dir : Direction) (broken : Tree → Bool) (t : Tree) (r : Result PassAction Error) → IsErrAnd r (λ e. e ≡ OutOfMemory) → IsPassed dir broken t t r
+passed-refused dir broken t r w = passed-reached dir broken t t r stays w
 
-pub passed-same : (dir : Direction) (broken : Tree → Bool) (t u : Tree) (r : Result PassAction Error) (e : Error) → u ≡ t → e ≡ OutOfMemory → IsErrAnd r (λ y. y ≡ e) → IsPassed dir broken t u r
-passed-same dir broken t u r e same h w = rw same (passed-refused dir broken t r e h w)
-
-pub passed-reached : (dir : Direction) (broken : Tree → Bool) (t u : Tree) (r : Result PassAction Error) (e : Error) → Reaches dir t u → e ≡ OutOfMemory → IsErrAnd r (λ y. y ≡ e) → IsPassed dir broken t u r
-passed-reached dir broken t u r e h k w = let p = err_from_is_err_and r w in rw (p.1, p.2) (h, k)
+pub passed-same : (dir : Direction) (broken : Tree → Bool) (t u : Tree) (r : Result PassAction Error) → u ≡ t → IsErrAnd r (λ e. e ≡ OutOfMemory) → IsPassed dir broken t u r
+passed-same dir broken t u r same w = rw same (passed-refused dir broken t r w)

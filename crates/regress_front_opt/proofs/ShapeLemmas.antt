@@ -77,7 +77,7 @@ pub plain-parts : (ts : List Tree) → is_plain (cat_of ts) ≡ list_all is_plai
 plain-parts [] = refl
 plain-parts (t ∷ ts) = ap (λ b. is_plain t && b) (plain-parts ts)
 
-zero-sum : (m n : ℕ) → ((m == 0) && (n == 0)) ≡ (m + n == 0)
+pub zero-sum : (m n : ℕ) → ((m == 0) && (n == 0)) ≡ (m + n == 0)
 zero-sum m n = grind (arith, nat_tests)
 
 -- how many there are
@@ -89,7 +89,7 @@ both-found a b h k =
     let sum : length (group_ids a ++ group_ids b) + (goals a + goals b) ≡ found a + found b = omega (arith, length-append (group_ids a) (group_ids b)) in
     (λ i. h i && k i) ∙ zero-sum (found a) (found b) ∙ ap (λ n. n == 0) (sym sum)
 
-none-found : (n g : ℕ) → (suc n + g == 0) ≡ false
+pub none-found : (n g : ℕ) → (suc n + g == 0) ≡ false
 none-found n g = grind (arith, nat_tests)
 
 plain-found : (t : Tree) → is_plain t ≡ (found t == 0)
@@ -205,9 +205,6 @@ no_cat-room t h = rw h refl
 
 pub room-cat : (ts : List Tree) → room_of (cat_of ts) ≡ length ts
 room-cat ts = rw (is_cat-cat_of, parts-cat_of) refl
-
-pub or-false : (a b : Bool) → a ≡ false → b ≡ false → (a || b) ≡ false
-or-false a b h k = rw (h, k) refl
 
 pub room-more : (ns : List Node) (i : ℕ) (d : Node) → i < length ns → room_of_all (map tree (take (i + 1) ns)) ≡ room_of_all (map tree (take i ns)) + room_of (tree (get_or ns i d))
 room-more ns i d l =

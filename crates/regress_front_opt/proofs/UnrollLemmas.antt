@@ -18,15 +18,13 @@ use Rattle.regress_front_rules.proofs.ClauseLemmas.{nesting-size}
 use Rattle.regress_front_opt.specs.Shapes.{is_flat, MayBeUnrolled}
 use Rattle.regress_front_opt.specs.Passes.{HasLaws, Advances}
 use Rattle.regress_front_opt.proofs.PassLemmas.{turned-advances}
+use Rattle.regress_front_opt.proofs.ShapeLemmas.{zero-sum, none-found}
 
 -- ---- neither groups nor loops
 
 pub flat-parts : (ts : List Tree) → is_flat (cat_of ts) ≡ list_all is_flat ts
 flat-parts [] = refl
 flat-parts (t ∷ ts) = ap (λ b. is_flat t && b) (flat-parts ts)
-
-zero-sum : (m n : ℕ) → ((m == 0) && (n == 0)) ≡ (m + n == 0)
-zero-sum m n = grind (arith, nat_tests)
 
 -- how many there are
 abbrev found : Tree → ℕ
@@ -36,9 +34,6 @@ both-found : (a b : Tree) → is_flat a ≡ (found a == 0) → is_flat b ≡ (fo
 both-found a b h k =
     let sum : length (group_ids a ++ group_ids b) + (loops a + loops b) ≡ found a + found b = omega (arith, length-append (group_ids a) (group_ids b)) in
     (λ i. h i && k i) ∙ zero-sum (found a) (found b) ∙ ap (λ n. n == 0) (sym sum)
-
-none-found : (n g : ℕ) → (suc n + g == 0) ≡ false
-none-found n g = grind (arith, nat_tests)
 
 one-found : (n g : ℕ) → (n + (g + 1) == 0) ≡ false
 one-found n g = grind (arith, nat_tests)

@@ -1,5 +1,5 @@
 //! Classes of few characters, of all and of none.
-ghost use Rattle.std.specs.Prelude.{◌≡◌, ℕ, ◌+◌, ◌≤◌, ◌||◌, true, false, All, IsTrue, length, IfOk, IfErr, MatchOption};
+ghost use Rattle.std.specs.Prelude.{◌≡◌, ℕ, ◌+◌, ◌≤◌, ◌||◌, true, false, All, IsTrue, length, IfOk, MatchOption};
 ghost use Rattle.std.specs.List.{list_all};
 ghost use Rattle.regress_meaning.specs.Text.{holds};
 ghost use Rattle.regress_meaning.specs.TableParts.{is_code_point, in_intervals};
@@ -52,11 +52,10 @@ fn few_members(alloc: Global, intervals: &[Interval]) -> Result<Option<Vec<CodeP
 }
 
 /// A set of few characters: of bytes where all are ASCII.
-fn set_of(alloc: Global, members: Vec<CodePoint>) -> Result<Node, Error>
+fn set_of(alloc: Global, members: Vec<CodePoint>) -> Result<Node, AllocError>
     requires few { length members.items ≤ most_members }
     requires points { All is_code_point members.items }
-    ensures set { IfOk result (λ n. (is_bracket (tree n) ≡ false) × Takes (tree n) (holds members.items)) }
-    ensures refused { IfErr result (λ e. e ≡ Error.OutOfMemory) }
+    ensures { IfOk result (λ n. (is_bracket (tree n) ≡ false) × Takes (tree n) (holds members.items)) }
 {
     match ascii_bytes(alloc, &members)? {
         Some(bytes) => Ok(Node::ByteSet(bytes)),
@@ -65,9 +64,8 @@ fn set_of(alloc: Global, members: Vec<CodePoint>) -> Result<Node, Error>
 }
 
 /// What matches the same as a class and is simpler; `None` where nothing is.
-fn simpler(alloc: Global, contents: &BracketContents) -> Result<Option<Node>, Error>
-    ensures found { IfOk result (IsSimpler contents.now) }
-    ensures refused { IfErr result (λ e. e ≡ Error.OutOfMemory) }
+fn simpler(alloc: Global, contents: &BracketContents) -> Result<Option<Node>, AllocError>
+    ensures { IfOk result (IsSimpler contents.now) }
 {
     if contents.is_empty() {
         return Ok(Some(Node::make_always_fails(alloc)));

@@ -1,5 +1,5 @@
 //! Sequences in sequences.
-ghost use Rattle.std.specs.Prelude.{◌≡◌, ◌+◌, ◌++◌, ◌≤◌, [], ◌∷◌, map, min, vec_len, OnOk, OnErr, IfErr};
+ghost use Rattle.std.specs.Prelude.{◌≡◌, ◌+◌, ◌++◌, ◌≤◌, [], ◌∷◌, map, min, vec_len, OnOk, OnErr};
 ghost use Rattle.std.specs.Vec.{vec_capacity};
 ghost use Rattle.std.specs.List.{list_any};
 ghost use Rattle.regress_meaning.specs.Tokens.{greatest};
@@ -11,7 +11,7 @@ use crate::action::PassAction;
 use crate::passing::Pass;
 use regress_front_nodes::{Node, NodeList};
 use regress_front_tables::Error;
-use std::alloc::Global;
+use std::alloc::{AllocError, Global};
 use std::mem;
 
 /// A `Cat` among the parts of a `Cat` gives its parts in its place, and `Empty` is left out.
@@ -87,10 +87,9 @@ fn move_behind(flat: &mut NodeList, part: Node)
 }
 
 /// Puts the parts of `Cat`s in their places, and leaves `Empty` out. Where memory is refused, nothing is moved.
-fn flatten(alloc: Global, parts: &mut NodeList) -> Result<(), Error>
+fn flatten(alloc: Global, parts: &mut NodeList) -> Result<(), AllocError>
     ensures moved { OnOk result (map tree parts.new.items ≡ flattened (map tree parts.old.items)) }
     ensures kept { OnErr result (parts.new.items ≡ parts.old.items) }
-    ensures refused { IfErr result (λ e. e ≡ Error.OutOfMemory) }
 {
     let mut flat = Vec::with_capacity(alloc, room_of_parts(parts))?;
     for part in parts.iter_mut() {

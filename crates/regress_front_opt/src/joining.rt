@@ -1,5 +1,5 @@
 //! Literals side by side.
-ghost use Rattle.std.specs.Prelude.{◌≡◌, ◌+◌, ◌++◌, ◌<◌, ◌≤◌, [], ◌∷◌, false, map, vec_len, IfErr, OnOk, if◌then◌else◌};
+ghost use Rattle.std.specs.Prelude.{◌≡◌, ◌+◌, ◌++◌, ◌<◌, ◌≤◌, [], ◌∷◌, false, map, vec_len, OnOk, if◌then◌else◌};
 ghost use Rattle.std.specs.Vec.{vec_capacity};
 ghost use Rattle.regress_front_nodes.specs.Trees.{tree, cat_of};
 ghost use Rattle.regress_front_nodes.specs.TreeMeaning.{direction};
@@ -11,7 +11,7 @@ use crate::action::PassAction;
 use crate::passing::Pass;
 use regress_front_nodes::{Node, NodeList};
 use regress_front_tables::Error;
-use std::alloc::Global;
+use std::alloc::{AllocError, Global};
 use std::mem;
 
 /// Literals side by side are one.
@@ -102,10 +102,9 @@ fn add(joined: &mut NodeList, part: Node) -> bool
 }
 
 /// Joins literals side by side, in the order of the parts. Where memory is refused, some stay apart.
-fn join_in_order(alloc: Global, parts: &mut NodeList) -> Result<(), Error>
+fn join_in_order(alloc: Global, parts: &mut NodeList) -> Result<(), AllocError>
     ensures joined { Joins (map tree parts.old.items) (map tree parts.new.items) }
     ensures apart { OnOk result (literals_meet (map tree parts.new.items) ≡ false) }
-    ensures refused { IfErr result (λ e. e ≡ Error.OutOfMemory) }
 {
     let mut joined = Vec::with_capacity(alloc, parts.len())?;
     let mut refused = false;
@@ -114,16 +113,15 @@ fn join_in_order(alloc: Global, parts: &mut NodeList) -> Result<(), Error>
     }
     *parts = joined;
     if refused {
-        return Err(Error::OutOfMemory);
+        return Err(AllocError);
     }
     Ok(())
 }
 
 /// Joins literals side by side. In a lookbehind the parts stand from right to left, so the later literal stands in front.
-fn join(alloc: Global, in_lookbehind: bool, parts: &mut NodeList) -> Result<(), Error>
+fn join(alloc: Global, in_lookbehind: bool, parts: &mut NodeList) -> Result<(), AllocError>
     ensures joined { Reaches (direction in_lookbehind) (cat_of (map tree parts.old.items)) (cat_of (map tree parts.new.items)) }
     ensures apart { OnOk result (literals_meet (map tree parts.new.items) ≡ false) }
-    ensures refused { IfErr result (λ e. e ≡ Error.OutOfMemory) }
 {
     if in_lookbehind {
         parts.reverse();

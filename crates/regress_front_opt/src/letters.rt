@@ -1,5 +1,5 @@
 //! Characters as literals.
-ghost use Rattle.std.specs.Prelude.{◌≡◌, false, encode_utf8, IfOk, IfErr, MatchOption};
+ghost use Rattle.std.specs.Prelude.{◌≡◌, false, encode_utf8, IfOk, MatchOption};
 ghost use Rattle.regress_meaning.specs.TableParts.{is_surrogate};
 ghost use Rattle.regress_front_nodes.specs.Trees.{tree, char};
 ghost use Rattle.regress_front_rules.specs.NormalForm.{is_loose_char};
@@ -9,7 +9,7 @@ use crate::action::PassAction;
 use crate::passing::Pass;
 use regress_front_nodes::Node;
 use regress_front_tables::Error;
-use std::alloc::Global;
+use std::alloc::{AllocError, Global};
 
 /// A `Char` that is no surrogate is a literal.
 #[derive(Drop)]
@@ -27,9 +27,8 @@ fn letter_of(node: &Node) -> Option<char>
 }
 
 /// The bytes of a character in UTF-8.
-fn spelled(alloc: Global, letter: char) -> Result<Vec<u8>, Error>
-    ensures bytes { IfOk result (λ bytes. bytes.items ≡ encode_utf8 letter) }
-    ensures refused { IfErr result (λ e. e ≡ Error.OutOfMemory) }
+fn spelled(alloc: Global, letter: char) -> Result<Vec<u8>, AllocError>
+    ensures { IfOk result (λ bytes. bytes.items ≡ encode_utf8 letter) }
 {
     let mut bytes = [0; 4];
     Ok(letter.encode_utf8(&mut bytes).as_bytes().to_vec(alloc)?)

@@ -1,5 +1,5 @@
 //! Repetitions of at least a few times.
-ghost use Rattle.std.specs.Prelude.{◌≡◌, ◌-◌, ◌≤◌, ◌&&◌, [], map, nat_le, IfOk, IfErr};
+ghost use Rattle.std.specs.Prelude.{◌≡◌, ◌-◌, ◌≤◌, ◌&&◌, [], map, nat_le, IfOk};
 ghost use Rattle.regress_front_core.specs.Quantifiers.{most};
 ghost use Rattle.regress_front_nodes.specs.Trees.{tree, loop};
 ghost use Rattle.regress_front_nodes.specs.Forms.{nesting, deepest_copy};
@@ -15,7 +15,7 @@ use crate::passing::Pass;
 use crate::sizes::{is_flat_node, node_count};
 use regress_front_nodes::{Node, NodeList, Quantifier};
 use regress_front_tables::{CaptureGroupID, Error};
-use std::alloc::Global;
+use std::alloc::{AllocError, Global};
 use std::ops::Range;
 
 /// A body is copied at most so often.
@@ -51,22 +51,21 @@ fn is_short_loop(node: &Node) -> bool
 }
 
 /// A copy of a body.
-fn copy_of(alloc: Global, body: &Node) -> Result<Node, Error>
+fn copy_of(alloc: Global, body: &Node) -> Result<Node, AllocError>
     requires { MayBeUnrolled (tree body.now) }
-    ensures copied { IfOk result (λ n. tree n ≡ tree body.now) }
-    ensures refused { IfErr result (λ e. e ≡ Error.OutOfMemory) }
+    ensures { IfOk result (λ n. tree n ≡ tree body.now) }
 {
-    match body.try_duplicate(alloc, 0)? {
-        Some(copy) => Ok(copy),
-        None => unreachable!(),
+    match body.try_duplicate(alloc, 0) {
+        Ok(Some(copy)) => Ok(copy),
+        Ok(None) => unreachable!(),
+        Err(_) => Err(AllocError),
     }
 }
 
 /// Copies of a body.
-fn copies_of(alloc: Global, body: &Node, count: usize) -> Result<NodeList, Error>
+fn copies_of(alloc: Global, body: &Node, count: usize) -> Result<NodeList, AllocError>
     requires { MayBeUnrolled (tree body.now) }
-    ensures copied { IfOk result (λ ns. map tree ns.items ≡ copies count (tree body.now) []) }
-    ensures refused { IfErr result (λ e. e ≡ Error.OutOfMemory) }
+    ensures { IfOk result (λ ns. map tree ns.items ≡ copies count (tree body.now) []) }
 {
     let mut nodes = Vec::new(alloc);
     for _ in 0..count {
@@ -81,11 +80,10 @@ fn rest_of(
     body: &Node,
     quant: Quantifier,
     groups: &Range<CaptureGroupID>,
-) -> Result<Node, Error>
+) -> Result<Node, AllocError>
     requires body { MayBeUnrolled (tree body.now) }
     requires order { quant.min ≤ most quant }
-    ensures copied { IfOk result (λ n. tree n ≡ loop (tree body.now) groups.now.start groups.now.end 0 (most quant - quant.min) quant.greedy) }
-    ensures refused { IfErr result (λ e. e ≡ Error.OutOfMemory) }
+    ensures { IfOk result (λ n. tree n ≡ loop (tree body.now) groups.now.start groups.now.end 0 (most quant - quant.min) quant.greedy) }
 {
     let loopee = Box::new(alloc, copy_of(alloc, body)?)?;
     Ok(Node::Loop {
@@ -101,11 +99,10 @@ fn unrolled_loop(
     body: &Node,
     quant: Quantifier,
     groups: &Range<CaptureGroupID>,
-) -> Result<Node, Error>
+) -> Result<Node, AllocError>
     requires body { MayBeUnrolled (tree body.now) }
     requires order { quant.min ≤ most quant }
-    ensures copied { IfOk result (λ n. tree n ≡ unrolled (tree body.now) groups.now.start groups.now.end quant.min (most quant) quant.greedy) }
-    ensures refused { IfErr result (λ e. e ≡ Error.OutOfMemory) }
+    ensures { IfOk result (λ n. tree n ≡ unrolled (tree body.now) groups.now.start groups.now.end quant.min (most quant) quant.greedy) }
 {
     let mut parts = copies_of(alloc, body, quant.min)?;
     parts.push(rest_of(alloc, body, quant, groups)?)?;

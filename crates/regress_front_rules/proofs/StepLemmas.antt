@@ -1,11 +1,12 @@
 -- Steps over several characters as steps one after another.
-use Rattle.std.proofs.Common.{◌≡◌, ℕ, ◌+◌, ◌-◌, ◌<◌, ◌≤◌, Bool, true, false, ◌&&◌, List, [], ◌∷◌, ◌++◌, length, if◌then◌else◌, nat_eq, nat_le, take, drop, refl, inl, inr, arith, length-append}
+use Rattle.std.proofs.Common.{◌≡◌, ℕ, ◌+◌, ◌-◌, ◌<◌, ◌≤◌, Bool, true, false, ◌&&◌, List, [], ◌∷◌, ◌++◌, length, if◌then◌else◌, nat_eq, take, drop, refl, inl, inr, arith, length-append}
 use Rattle.std.specs.List.{flat_map}
-use Rattle.std.proofs.lemmas.Bool.{cases_lt, le-leb, lt-leb}
+use Rattle.std.proofs.lemmas.Bool.{cases_lt}
 use Rattle.std.proofs.lemmas.List.{append-nil, take-take, drop-take, drop-drop}
 use Rattle.regress_meaning.specs.Text.{same_text}
-use Rattle.regress_meaning.specs.Meaning.{State, Direction, Forward, Backward, Context, beside, step}
+use Rattle.regress_meaning.specs.Meaning.{State, Direction, Forward, Backward, Context, step}
 use Rattle.regress_front_nodes.specs.TreeMeaning.{literal_steps}
+use Rattle.regress_front_nodes.proofs.PieceOutcomes.{step-in, step-out, back-in, back-out}
 use Rattle.regress_front_rules.specs.Rules.{joined}
 
 and_again : (a b c d : Bool) → d ≡ (b && c) → (a && d) ≡ ((a && b) && c)
@@ -19,38 +20,13 @@ same_text-append (x ∷ xs) ys [] = refl
 same_text-append (x ∷ xs) ys (c ∷ cs) = and_again (nat_eq x c) (same_text xs (take (length xs) cs)) (same_text ys (drop (length xs) cs)) (same_text (xs ++ ys) cs) (same_text-append xs ys cs)
 
 module _ (w : Context) where
-  -- steps over the text that is there, and over more
-  step-in : (k : ℕ) (test : List ℕ → Bool) (s : State) → s.place + k ≤ length w.text
-      → step w Forward k test s ≡ (if test (take k (drop s.place w.text)) then record s { place = s.place + k } ∷ [] else [])
-  unfolding step beside
-  step-in k test s h =
-      let room : nat_le (s.place + k) (length w.text) ≡ true = le-leb (s.place + k) (length w.text) h in
-      let size : s.place + k - s.place ≡ k = omega arith in
-      rw (room, size) refl
-
-  step-out : (k : ℕ) (test : List ℕ → Bool) (s : State) → length w.text < s.place + k → step w Forward k test s ≡ []
-  unfolding step beside
-  step-out k test s h = let room : nat_le (s.place + k) (length w.text) ≡ false = lt-leb (s.place + k) (length w.text) h in rw room refl
-
-  back-in : (k : ℕ) (test : List ℕ → Bool) (s : State) → k ≤ s.place
-      → step w Backward k test s ≡ (if test (take k (drop (s.place - k) w.text)) then record s { place = s.place - k } ∷ [] else [])
-  unfolding step beside
-  back-in k test s h =
-      let room : nat_le k s.place ≡ true = le-leb k s.place h in
-      let size : s.place - (s.place - k) ≡ k = omega arith in
-      rw (room, size) refl
-
-  back-out : (k : ℕ) (test : List ℕ → Bool) (s : State) → s.place < k → step w Backward k test s ≡ []
-  unfolding step beside
-  back-out k test s h = let room : nat_le k s.place ≡ false = lt-leb k s.place h in rw room refl
-
   -- forward, a step over several characters is one over the first of them, and then one over the others
   step-split : (p q t : List ℕ → Bool) (k m : ℕ) → ((cs : List ℕ) → t cs ≡ (p (take k cs) && q (drop k cs))) → (s : State)
       → flat_map (step w Forward m q) (step w Forward k p s) ≡ step w Forward (k + m) t s
   step-split p q t k m split s =
       elim (cases_lt (length w.text) (s.place + k)) [
-        | inl out ↦ rw (step-out k p s out, step-out (k + m) t s (omega arith)) refl
-        | inr room ↦ rw (step-in k p s room) (by_room room)
+        | inl out ↦ rw (step-out w k p s out, step-out w (k + m) t s (omega arith)) refl
+        | inr room ↦ rw (step-in w k p s room) (by_room room)
       ]
     where
       next : State
@@ -70,17 +46,17 @@ module _ (w : Context) where
       by_tests false b room e = refl
       by_tests true b room e =
           let there : s.place + k + m ≡ s.place + (k + m) = omega arith in
-          rw (step-in m q next room, e, there) (append-nil (if b then last ∷ [] else []))
+          rw (step-in w m q next room, e, there) (append-nil (if b then last ∷ [] else []))
 
       by_room : s.place + k ≤ length w.text → flat_map (step w Forward m q) (if p (take k here) then next ∷ [] else []) ≡ step w Forward (k + m) t s
       by_room room =
           elim (cases_lt (length w.text) (s.place + (k + m))) [
-            | inl out ↦ rw (step-out (k + m) t s out) (none (p (take k here)) out)
-            | inr more ↦ rw (step-in (k + m) t s more, first) (by_tests (p (take k here)) (q (take m (drop (s.place + k) w.text))) (omega arith) refl)
+            | inl out ↦ rw (step-out w (k + m) t s out) (none (p (take k here)) out)
+            | inr more ↦ rw (step-in w (k + m) t s more, first) (by_tests (p (take k here)) (q (take m (drop (s.place + k) w.text))) (omega arith) refl)
           ]
         where
           none : (a : Bool) → length w.text < s.place + (k + m) → flat_map (step w Forward m q) (if a then next ∷ [] else []) ≡ []
-          none true out = rw (step-out m q next (omega arith)) refl
+          none true out = rw (step-out w m q next (omega arith)) refl
           none false out = refl
 
   -- backward, it is one over the last of them, and then one over the others
@@ -88,8 +64,8 @@ module _ (w : Context) where
       → flat_map (step w Backward k p) (step w Backward m q s) ≡ step w Backward (k + m) t s
   back-split p q t k m split s =
       elim (cases_lt s.place m) [
-        | inl out ↦ rw (back-out m q s out, back-out (k + m) t s (omega arith)) refl
-        | inr room ↦ rw (back-in m q s room) (by_room room)
+        | inl out ↦ rw (back-out w m q s out, back-out w (k + m) t s (omega arith)) refl
+        | inr room ↦ rw (back-in w m q s room) (by_room room)
       ]
     where
       next : State
@@ -112,7 +88,7 @@ module _ (w : Context) where
       by_tests false false room e = refl
       by_tests a true room e =
           let there : s.place - m - k ≡ s.place - (k + m) = omega arith in
-          rw (back-in k p next (omega arith), there, e) (ends a)
+          rw (back-in w k p next (omega arith), there, e) (ends a)
         where
           ends : (a : Bool) → (if a then last ∷ [] else []) ++ [] ≡ (if a && true then last ∷ [] else [])
           ends true = refl
@@ -121,12 +97,12 @@ module _ (w : Context) where
       by_room : m ≤ s.place → flat_map (step w Backward k p) (if q (take m (drop (s.place - m) w.text)) then next ∷ [] else []) ≡ step w Backward (k + m) t s
       by_room room =
           elim (cases_lt s.place (k + m)) [
-            | inl out ↦ rw (back-out (k + m) t s out) (none (q (take m (drop (s.place - m) w.text))) out)
-            | inr more ↦ rw (back-in (k + m) t s more, first more) (by_tests (p (take k here)) (q (take m (drop (s.place - m) w.text))) more refl)
+            | inl out ↦ rw (back-out w (k + m) t s out) (none (q (take m (drop (s.place - m) w.text))) out)
+            | inr more ↦ rw (back-in w (k + m) t s more, first more) (by_tests (p (take k here)) (q (take m (drop (s.place - m) w.text))) more refl)
           ]
         where
           none : (a : Bool) → s.place < k + m → flat_map (step w Backward k p) (if a then next ∷ [] else []) ≡ []
-          none true out = rw (back-out k p next (omega arith)) refl
+          none true out = rw (back-out w k p next (omega arith)) refl
           none false out = refl
 
   -- two literals one after another are one, in the order of the text

@@ -334,7 +334,7 @@ or_none true = refl
 or_none false = refl
 
 -- a test of an alternative may be split either way
-or_split : (a b c : Bool) → ((a || b) || c) ≡ (a || (b || c))
+pub or_split : (a b c : Bool) → ((a || b) || c) ≡ (a || (b || c))
 or_split true b c = refl
 or_split false b c = refl
 
@@ -373,20 +373,11 @@ module _ (first last c d : ℕ) where
   pub walk-on : first ≤ c → c ≤ last → (between first last d && nat_lt d (c + 1)) ≡ ((between first last d && nat_lt d c) || d == c)
   walk-on low high = grind (arith, nat_tests)
 
-  -- at first there is none
-  pub walk-none : c ≤ first → (between first last d && nat_lt d c) ≡ false
-  walk-none le = grind (arith, nat_tests)
-
   -- and at last there are all
   pub walk-all : last < c → (between first last d && nat_lt d c) ≡ between first last d
   walk-all past = grind (arith, nat_tests)
 
 -- ---- the intervals of a set, one by one
-
--- nothing lies in no intervals
-pub in_intervals-none : (c : ℕ) → in_intervals [] c ≡ false
-unfolding in_intervals
-in_intervals-none c = refl
 
 -- one interval more
 pub in_intervals-more : (intervals : List Interval) (k : ℕ) (i : Interval) (c : ℕ) → k < length intervals

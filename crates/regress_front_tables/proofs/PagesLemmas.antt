@@ -99,25 +99,6 @@ pub record IsFilled (other value : ℕ → ℕ) (n : ℕ) (numbers : ℕ → Opt
   pub ahead : (c : ℕ) → n ≤ c / 256 → numbers c ≡ None
 
 module _ (other value : ℕ → ℕ) (numbers : ℕ → Option ℕ) where
-  pub IsFilled-none : ((c : ℕ) → numbers c ≡ None) → IsFilled other value 0 numbers
-  IsFilled-none none = record { done = λ c l. absurd (omega (arith, l)); ahead = λ c l. none c }
-
-  -- one more page
-  pub IsFilled-more : (n : ℕ) (page newer : ℕ → Option ℕ) → IsFilled other value n numbers
-      → ((c : ℕ) → newer c ≡ cond (c / 256 == n) (page c) (numbers c))
-      → ((c : ℕ) → c / 256 ≡ n → unwrap_or (page c) (other c) ≡ value c) → IsFilled other value (n + 1) newer
-  IsFilled-more n page newer h pushed told = record {
-    done = λ c l. elim (cases_eq (c / 256) n) [
-      | inl e ↦
-          let here : newer c ≡ page c = pushed c ∙ ap (λ b. cond b (page c) (numbers c)) (eq-eqb _ _ e) in
-          ap (λ o. unwrap_or o (other c)) here ∙ told c e
-      | inr ne ↦
-          let before : newer c ≡ numbers c = pushed c ∙ ap (λ b. cond b (page c) (numbers c)) (ne_eqb _ _ ne) in
-          ap (λ o. unwrap_or o (other c)) before ∙ h.done c (omega (arith, l, ne))
-    ];
-    ahead = λ c l. pushed c ∙ ap (λ b. cond b (page c) (numbers c)) (ne_eqb _ _ (λ e. omega (arith, e, l))) ∙ h.ahead c (omega (arith, l));
-  }
-
   -- when all code points have had their page, each has its value
   pub IsFilled-all : (n : ℕ) → 4352 ≤ n → IsFilled other value n numbers → ((c : ℕ) → last_code_point < c → value c ≡ other c)
       → (c : ℕ) → unwrap_or (numbers c) (other c) ≡ value c

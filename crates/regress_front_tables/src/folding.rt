@@ -51,7 +51,7 @@ pub fn closure(set: CodePointSet, unicode: bool, tables: &Tables) -> Result<Code
     ensures members { IfOk result (λ all. (c : ℕ) → in_set all c ≡ closure (canon (table tables.now) unicode) (in_set set) c) }
     ensures refused { IsOkUnless result Error.OutOfMemory }
 {
-    closed_by(set, map_of(tables, unicode))
+    Ok(closed_by(set, map_of(tables, unicode))?)
 }
 
 /// The code points that a code point of a pattern stands for, from low to high: itself, or where case is ignored all with its
@@ -105,17 +105,18 @@ fn sharing(alloc: Global, map: &CaseMap, c: CodePoint) -> Result<Vec<CodePoint>,
 }
 
 /// The code points that a map takes to where it takes a member.
-fn closed_by(set: CodePointSet, map: &CaseMap) -> Result<CodePointSet, Error>
-    ensures members { IfOk result (λ closed. (c : ℕ) → in_set closed c ≡ closure (image map.now.pairs.items) (in_set set) c) }
-    ensures refused { IsOkUnless result Error.OutOfMemory }
+fn closed_by(set: CodePointSet, map: &CaseMap) -> Result<CodePointSet, AllocError>
+    ensures { IfOk result (λ closed. (c : ℕ) → in_set closed c ≡ closure (image map.now.pairs.items) (in_set set) c) }
 {
     let mut added = CodePointSet::new(map.allocator());
     for interval in set.intervals() {
         add_classes(&mut added, &set, *interval, map)?;
     }
     let mut closed = set;
-    closed.add_set(added)?;
-    Ok(closed)
+    match closed.add_set(added) {
+        Ok(()) => Ok(closed),
+        Err(_) => Err(AllocError),
+    }
 }
 
 /// Adds what has the image of a code point of an interval, all of which is in a set, unless it is in the set as well.
@@ -124,11 +125,10 @@ fn add_classes(
     set: &CodePointSet,
     interval: Interval,
     map: &CaseMap,
-) -> Result<(), Error>
+) -> Result<(), AllocError>
     requires { (c : ℕ) → in_interval interval c ≡ true → in_set set.now c ≡ true }
-    ensures members { OnOk result (Unites (image map.now.pairs.items) (in_interval interval)
+    ensures { OnOk result (Unites (image map.now.pairs.items) (in_interval interval)
         (λ c. in_set set.now c || in_set added.old c) (λ c. in_set set.now c || in_set added.new c)) }
-    ensures refused { IsOkUnless result Error.OutOfMemory }
 {
     let mut c = interval.first;
     while c <= interval.last {
@@ -148,16 +148,17 @@ fn add_class(
     set: &CodePointSet,
     c: CodePoint,
     map: &CaseMap,
-) -> Result<(), Error>
+) -> Result<(), AllocError>
     requires { in_set set.now c ≡ true }
-    ensures members { OnOk result (Unites (image map.now.pairs.items) (λ d. d == c)
+    ensures { OnOk result (Unites (image map.now.pairs.items) (λ d. d == c)
         (λ d. in_set set.now d || in_set added.old d) (λ d. in_set set.now d || in_set added.new d)) }
-    ensures refused { IsOkUnless result Error.OutOfMemory }
 {
     if let Some(members) = map.class(map.image(c)) {
         for member in members {
             if !set.contains(*member) {
-                added.add_one(*member)?;
+                let Ok(()) = added.add_one(*member) else {
+                    return Err(AllocError);
+                };
             }
         }
     }

@@ -1,5 +1,6 @@
 -- Places of a text held as UTF-8, and where its bytes may be cut.
-use Rattle.std.proofs.Common.{◌≡◌, ℕ, zero, suc, ◌+◌, ◌<◌, ◌≤◌, ◌⊎◌, List, [], ◌∷◌, ◌++◌, length, map, option_map, take, drop, Option, Some, None, IfSome, Bool, true, false, ◌&&◌, sum_by, sym, ap, subst, ◌∙◌, refl, inl, inr, arith}
+use Rattle.std.proofs.Common.{◌≡◌, ℕ, zero, suc, ◌+◌, ◌<◌, ◌≤◌, ◌⊎◌, List, [], ◌∷◌, ◌++◌, length, map, option_map, take, drop, Option, Some, None, IfSome, true, sum_by, sym, ap, subst, ◌∙◌, refl, inl, inr, arith}
+use Rattle.std.proofs.lemmas.Bool.{and_parts}
 use Rattle.std.proofs.lemmas.List.{length-append, length-take-le, take_all, take-take, take-append-drop}
 use Rattle.std.proofs.lemmas.List.Sums.{sum_by-cons, sum_by-take-le}
 use Rattle.std.proofs.lemmas.List.Elements.{All-nil, All-cons, All-head, All-tail}
@@ -24,22 +25,12 @@ length-encodes (c ∷ cs) =
     length-append (encode_utf8 c) (encode_utf8_all cs) ∙ ap (λ n. n + length (encode_utf8_all cs)) (length-encode c)
     ∙ ap (λ n. len_utf8 c + n) (length-encodes cs) ∙ sym (sum_by-cons len_utf8 c cs)
 
--- the second of two tests that both pass
-second_passes : (a b : Bool) → (a && b) ≡ true → b ≡ true
-second_passes true b e = e
-second_passes false b e = cc
-
--- and the first
-first_passes : (a b : Bool) → (a && b) ≡ true → a ≡ true
-first_passes true b e = refl
-first_passes false b e = e
-
 -- characters behind a place are characters
 scalars-drop : (cs : List ℕ) (k : ℕ) → all_scalars cs ≡ true → all_scalars (drop k cs) ≡ true
 scalars-drop [] zero e = e
 scalars-drop [] (suc k) e = e
 scalars-drop (c ∷ cs) zero e = e
-scalars-drop (c ∷ cs) (suc k) e = scalars-drop cs k (second_passes _ _ e)
+scalars-drop (c ∷ cs) (suc k) e = scalars-drop cs k (and_parts _ _ e).1
 
 -- the offset of each place of a text is where it may be cut
 pub offset_is_boundary : (bytes : List ℕ) → IsUtf8 bytes → (place : ℕ) → IsCharBoundary bytes (offset (of_utf8 bytes) place)
@@ -66,8 +57,8 @@ offset-le r p q le = rw take-take at (sum_by-take-le r.width (take q r.points) p
 pub code_points : (cs : List ℕ) → all_scalars cs ≡ true → All (λ c. c ≤ 0x10_FFFF) cs
 code_points [] e = All-nil (λ c. c ≤ 0x10_FFFF)
 code_points (c ∷ cs) e =
-    All-cons (λ d. d ≤ 0x10_FFFF) c cs (low (scalar_cases c (first_passes (scalar c) (all_scalars cs) e)))
-    (code_points cs (second_passes (scalar c) (all_scalars cs) e))
+    All-cons (λ d. d ≤ 0x10_FFFF) c cs (low (scalar_cases c (and_parts (scalar c) (all_scalars cs) e).0))
+    (code_points cs (and_parts (scalar c) (all_scalars cs) e).1)
   where
     low : (c < 0xD800) ⊎ ((0xE000 ≤ c) × (c < 0x11_0000)) → c ≤ 0x10_FFFF
     low (inl below) = omega arith

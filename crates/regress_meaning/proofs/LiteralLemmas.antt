@@ -125,10 +125,6 @@ begins text cs = starts_with nat_eq text cs
 abbrev at_if : Bool → ℕ → List (Option (ℕ × ℕ)) → List State
 at_if b p groups = if b then record { place = p; groups = groups } ∷ [] else []
 
--- one character of it
-begins-cons : (d c : ℕ) (ds cs : List ℕ) → begins (d ∷ ds) (c ∷ cs) ≡ (c == d && begins ds cs)
-begins-cons d c ds cs = refl
-
 module _ (context : Context) where
   -- the code point at a place, where it passes
   step-there : (test : ℕ → Bool) (p : ℕ) (groups : List (Option (ℕ × ℕ))) → p < length context.text

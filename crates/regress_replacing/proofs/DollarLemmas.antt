@@ -1,9 +1,8 @@
 -- What a replacement text gives, step by step.
-use Rattle.std.proofs.Common.{◌≡◌, ◌≢◌, ℕ, zero, suc, ◌+◌, ◌<◌, true, false, ◌==◌, List, [], ◌∷◌, ◌++◌, length, take, drop, get_or, codes, refl, ap, arith, ne_eqb, lt-ltb, le-ltb}
+use Rattle.std.proofs.Common.{◌≡◌, ◌≢◌, ℕ, zero, suc, ◌+◌, ◌<◌, false, ◌==◌, List, [], ◌∷◌, ◌++◌, length, drop, get_or, codes, refl, ap, arith, ne_eqb}
 use Rattle.std.specs.Char.{is_ascii_digit}
-use Rattle.std.specs.List.{position_or_len}
 use Rattle.regress_meaning.specs.Text.{is_at}
-use Rattle.regress_replacing.specs.Replacing.{number_after, at_dollar, given_behind}
+use Rattle.regress_replacing.specs.Replacing.{at_dollar, given_behind}
 
 module _ (by_number : ℕ → List ℕ) (by_name : List ℕ → List ℕ) where
   -- what is passed over gives nothing
@@ -30,22 +29,6 @@ module _ (by_number : ℕ → List ℕ) (by_name : List ℕ → List ℕ) where
   pub given-end : given_behind by_number by_name 0 [] ≡ []
   unfolding given_behind
   given-end = refl
-
-  -- `${` with a name up to a `}`
-  pub name-closed : (inside : List ℕ) → position_or_len (λ c. c == 0x7D) inside < length inside
-      → at_dollar by_number by_name (0x7B ∷ inside)
-      ≡ (by_name (take (position_or_len (λ c. c == 0x7D) inside) inside), position_or_len (λ c. c == 0x7D) inside + 2)
-  name-closed inside closed = rw (lt-ltb _ _ closed) refl
-
-  -- `${` without one
-  pub name-open : (inside : List ℕ) → position_or_len (λ c. c == 0x7D) inside ≡ length inside
-      → at_dollar by_number by_name (0x7B ∷ inside) ≡ (codes "${" ++ inside, length inside + 1)
-  name-open inside unclosed = rw (unclosed, le-ltb (length inside) (length inside) (omega arith)) refl
-
-  -- `$` and a digit
-  pub digit-there : (t : List ℕ) → is_at (λ c. c == 0x24) t ≡ false → is_at (λ c. c == 0x7B) t ≡ false → is_at is_ascii_digit t ≡ true
-      → at_dollar by_number by_name t ≡ (by_number (number_after 0 t).0, (number_after 0 t).1)
-  digit-there t dollar brace digit = rw (dollar, brace, digit) refl
 
   -- any other `$`
   pub nothing-there : (t : List ℕ) → is_at (λ c. c == 0x24) t ≡ false → is_at (λ c. c == 0x7B) t ≡ false → is_at is_ascii_digit t ≡ false

@@ -9,7 +9,7 @@ ghost use Rattle.regress_meaning.specs.Matches.{match_list};
 ghost use Rattle.regress_meaning.specs.Literal.{is_syntax_character, escaped_text, literal_pattern, occurrences};
 
 use regress_front_core::Error;
-use std::alloc::Global;
+use std::alloc::{AllocError, Global};
 
 /// Whether a character does not stand for itself in every pattern ("SyntaxCharacter").
 fn is_syntax_character(c: char) -> bool
@@ -22,9 +22,8 @@ fn is_syntax_character(c: char) -> bool
 }
 
 /// Adds a character, behind a backslash where it is a syntax character.
-fn push_escaped(escaped: &mut String, c: char) -> Result<(), Error>
-    ensures pushed { OnOk result (string_bytes escaped.new ≡ string_bytes escaped.old ++ encode_utf8_all (escaped_text (c ∷ []))) }
-    ensures refused { IsOkUnless result Error.OutOfMemory }
+fn push_escaped(escaped: &mut String, c: char) -> Result<(), AllocError>
+    ensures { OnOk result (string_bytes escaped.new ≡ string_bytes escaped.old ++ encode_utf8_all (escaped_text (c ∷ []))) }
 {
     if is_syntax_character(c) {
         escaped.push('\\')?;

@@ -1,11 +1,12 @@
 use Rattle.std.proofs.Common.{[]}
 use Rattle.regress_meaning.specs.TableParts.{in_intervals}
 use Rattle.regress_front_bytes.specs.Bitmaps.{byte_bitmap_contains}
-use Rattle.regress_engine_prefix.proofs.LeadLemmas.{AreFirstOf-none, AreFirstOf-interval, in_intervals-none}
+use Rattle.regress_front_sets.proofs.IntervalLemmas.{in_intervals-nil}
+use Rattle.regress_engine_prefix.proofs.LeadLemmas.{AreFirstOf-none, AreFirstOf-interval}
 use Rattle.regress_engine_prefix.proofs.first_bytes.first_of_intervals.Goals as goal
 
 pub loop-interval-init : goal.loop-interval-init
-loop-interval-init c = AreFirstOf-none (in_intervals []) (byte_bitmap_contains c.default-set.result) in_intervals-none c.default-set.ensures
+loop-interval-init c = AreFirstOf-none (in_intervals []) (byte_bitmap_contains c.default-set.result) in_intervals-nil c.default-set.ensures
 
 pub loop-interval-preserved : goal.loop-interval-preserved
 loop-interval-preserved c =

@@ -1,11 +1,12 @@
 use Rattle.std.proofs.Common.{◌≡◌, ◌+◌, false, ◌&&◌, [], ◌∷◌, ◌++◌, map, if◌then◌else◌, refl, sym, ap, ◌∙◌, arith}
+use Rattle.std.proofs.lemmas.Bool.{and_right}
 use Rattle.std.proofs.lemmas.List.{map-append}
 use Rattle.regress_front_nodes.specs.declared.node.Node.TheVariants as N
 use Rattle.regress_front_nodes.specs.Trees.{tree, bytes}
 use Rattle.regress_front_nodes.proofs.TreeLaws.{tree-ByteSequence}
 use Rattle.regress_front_rules.specs.NormalForm.{is_literal, literals_meet}
 use Rattle.regress_front_opt.proofs.NodeKinds.{no-literal}
-use Rattle.regress_front_opt.proofs.JoinLemmas.{two-pushed, joins-same, joins-one, meet-same, meet-apart, and-false}
+use Rattle.regress_front_opt.proofs.JoinLemmas.{two-pushed, joins-same, joins-one, meet-same, meet-apart}
 use Rattle.regress_front_opt.proofs.joining.add_both.Goals as goal
 
 pub returns-then-refused-clause-joined : goal.returns-then-refused-clause-joined
@@ -44,7 +45,7 @@ returns-in_default-part c =
     let none = no-literal c.args.part c.in_default-part.not-ByteSequence in
     record {
       joined = joins-same ts _ (tree c.args.last) (tree c.args.part) _ _ pushed last refl;
-      apart = λ fine apart. ap literals_meet (pushed ∙ ap (λ t. ts ++ t ∷ tree c.args.part ∷ []) last) ∙ meet-apart ts (tree c.args.last) (tree c.args.part) (and-false (is_literal (tree c.args.last)) (is_literal (tree c.args.part)) none) apart;
+      apart = λ fine apart. ap literals_meet (pushed ∙ ap (λ t. ts ++ t ∷ tree c.args.part ∷ []) last) ∙ meet-apart ts (tree c.args.last) (tree c.args.part) (and_right (is_literal (tree c.args.last)) (is_literal (tree c.args.part)) none) apart;
       len = omega (arith, c.push_reserved-in_default-part.ensures.len, c.push_reserved-in_default-part-2.ensures.len);
       capacity = c.push_reserved-in_default-part-2.ensures.capacity ∙ c.push_reserved-in_default-part.ensures.capacity;
     }

@@ -10,10 +10,9 @@ returns-then-in_lookbehind c =
     record {
       joined = rw c.if-in_lookbehind.true (turned-reaches c.args.parts.now.items c.reverse.new.self.items c.join_in_order-outcome.new.parts.items c.reverse-then-in_lookbehind.new.self.items first last h.joined);
       apart = on_ok_weaker c.join_in_order-outcome.result (turned-apart c.join_in_order-outcome.new.parts.items c.reverse-then-in_lookbehind.new.self.items last) h.apart;
-      refused = h.refused;
     }
 
 pub returns : goal.returns
 returns c =
     let h = c.join_in_order.ensures in
-    record { joined = rw c.if-in_lookbehind.false (joins-reach h.joined); apart = h.apart; refused = h.refused }
+    record { joined = rw c.if-in_lookbehind.false (joins-reach h.joined); apart = h.apart }

@@ -1,10 +1,11 @@
 use Rattle.std.proofs.Common.{◌≡◌, ◌<◌, ◌≤◌, ◌+◌, ◌||◌, false, ◌∷◌, [], ◌++◌, length, map, drop, refl, sym, ap, ◌∙◌, subst, length-set, vec_len, arith}
+use Rattle.std.proofs.lemmas.Bool.{or_parts}
 use Rattle.std.proofs.lemmas.List.{drop-set-lt, drop_all, append-nil}
 use Rattle.std.proofs.lemmas.Grind.{drop_more_same}
 use Rattle.regress_front_nodes.specs.Trees.{tree}
 use Rattle.regress_front_opt.specs.Shapes.{Joins, as_they_are}
 use Rattle.regress_front_opt.proofs.ShapeLemmas.{same-at}
-use Rattle.regress_front_opt.proofs.JoinLemmas.{joins-more, or-parts}
+use Rattle.regress_front_opt.proofs.JoinLemmas.{joins-more}
 use Rattle.regress_front_opt.proofs.joining.join_in_order.Goals as goal
 
 pub returns-in_err-joined-clause-joined : goal.returns-in_err-joined-clause-joined
@@ -37,5 +38,5 @@ loop-part-preserved c =
       length-set items i c.replace.new.dest ∙ v.2,
       omega (arith, v.3, c.add-refused.ensures.len),
       omega (arith, v.4, c.add-refused.ensures.capacity),
-      λ e. let both = or-parts c.loop-part.refused c.add-refused.result e in c.add-refused.ensures.apart both.1 (v.5 both.0),
+      λ e. let both = or_parts c.loop-part.refused c.add-refused.result e in c.add-refused.ensures.apart both.1 (v.5 both.0),
     )

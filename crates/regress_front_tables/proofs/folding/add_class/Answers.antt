@@ -6,7 +6,7 @@ use Rattle.regress_front_sets.specs.Intervals.{ends_of}
 use Rattle.regress_front_sets.specs.Sets.{in_set}
 use Rattle.regress_front_sets.proofs.IntervalLemmas.{in_intervals-bounded}
 use Rattle.regress_front_tables.proofs.FoldingLemmas.{Lists-told, Lists-bounded, Unites-class, Unites-no_class, member-added, member-there}
-use Rattle.regress_front_tables.proofs.folding.add_class.Goals.{then-not-contains+in_ok-add_one, else-not-contains, in-Some+else-loop-member-test, in_default}
+use Rattle.regress_front_tables.proofs.folding.add_class.Goals.{then-not-contains+in-Ok, else-not-contains}
 use Rattle.regress_front_tables.proofs.folding.add_class.Goals as goal
 
 pub add_one-requires : goal.add_one-requires
@@ -21,25 +21,23 @@ loop-member-preserved c =
     let members = c.in-Some.members.now in
     let k = c.loop-member.member-index in
     elim c.if-not-contains.branch [
-      | then-not-contains+in_ok-add_one w ↦
-          rw w.added-is (member-added s (in_set c.loop-member.added) (in_set c.args.added.now) members k c.loop-member-test.true c.loop-member.invariant _ w.in_ok-add_one.ensures.members)
+      | then-not-contains+in-Ok w ↦
+          rw w.added-is (member-added s (in_set c.loop-member.added) (in_set c.args.added.now) members k c.loop-member-test.true c.loop-member.invariant _ (rw w.in-Ok.is at w.add_one.ensures.members))
       | else-not-contains w ↦
           rw w.added-is (member-there s (in_set c.loop-member.added) (in_set c.args.added.now) members k c.loop-member-test.true c.loop-member.invariant
           (sym c.contains.ensures ∙ w.if-not-contains.false))
     ]
 
-pub returns-clause-members : goal.returns-clause-members
-returns-clause-members c =
+pub returns-after-loop-member : goal.returns-after-loop-member
+returns-after-loop-member c =
     let map = c.args.map.now in
     let pairs = map.pairs.items in
     let set = c.args.set.now in
     let bound : c.args.c ≤ last_code_point = omega (arith, in_intervals-bounded (ends_of set.intervals.items) c.args.c set.canonical c.requires) in
-    elim c.match-class.branch [
-      | in-Some+else-loop-member-test w ↦
-          let members = w.in-Some.members.now in
-          let told = Lists-told pairs c.args.c members (rw (w.in-Some.is, c.image.ensures) at c.class.ensures) in
-          let all : take w.loop-member.member-index members ≡ members = take_all w.loop-member.member-index members w.loop-member-test.false in
-          rw w.added-is (Unites-class pairs map.lawful c.args.c members _ _ bound told (rw all at w.loop-member.invariant))
-      | in_default w ↦
-          rw w.added-is (Unites-no_class pairs c.args.c _ (or_left _ _ c.requires) (rw (w.in_default.is, c.image.ensures) at c.class.ensures))
-    ]
+    let members = c.in-Some.members.now in
+    let told = Lists-told pairs c.args.c members (rw (c.in-Some.is, c.image.ensures) at c.class.ensures) in
+    let all : take c.loop-member.member-index members ≡ members = take_all c.loop-member.member-index members c.loop-member-test.false in
+    Unites-class pairs map.lawful c.args.c members _ _ bound told (rw all at c.loop-member.invariant)
+
+pub returns-in_default : goal.returns-in_default
+returns-in_default c = Unites-no_class c.args.map.now.pairs.items c.args.c _ (or_left _ _ c.requires) (rw (c.in_default.is, c.image.ensures) at c.class.ensures)

@@ -34,11 +34,11 @@ loop-c-preserved c =
       omega (arith, c.loop-c.invariant.0),
       Unites-both (image c.args.map.now.pairs.items) (λ d. in_interval interval d && nat_lt d at) (λ d. d == at) (λ d. in_interval interval d && nat_lt d (at + 1)) _ _ _
           (λ d. walk-on interval.first interval.last at d c.loop-c.invariant.0 c.loop-c-test.true) c.loop-c.invariant.1
-          c.in_ok-add_class.ensures.members,
+          c.in_ok-add_class.ensures,
     )
 
-pub returns-clause-members : goal.returns-clause-members
-returns-clause-members c =
+pub returns : goal.returns
+returns c =
     let interval = c.args.interval in
     let at = c.loop-c.c in
     Unites-same (image c.args.map.now.pairs.items) (λ d. in_interval interval d && nat_lt d at) (in_interval interval) _ _

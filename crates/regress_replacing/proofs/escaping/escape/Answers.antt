@@ -17,7 +17,7 @@ loop-c-init c = c.in_ok-escaped.ensures.bytes
 
 pub loop-c-preserved : goal.loop-c-preserved
 loop-c-preserved c =
-    rw (escaped-append, encodes-append, ← c.loop-c.invariant) c.in_ok-push_escaped.ensures.pushed
+    rw (escaped-append, encodes-append, ← c.loop-c.invariant) c.in_ok-push_escaped.ensures
 
 pub returns-clause-escaped : goal.returns-clause-escaped
 returns-clause-escaped c =

@@ -1,4 +1,5 @@
-use Rattle.std.proofs.Common.{sym, ap, arith}
+use Rattle.std.proofs.Common.{sym, ap, ◌∙◌, arith}
+use Rattle.std.proofs.lemmas.Result.{on_ok_weaker}
 use Rattle.regress_engine_code.specs.Instructions.{enter_loop, loop_again}
 use Rattle.regress_engine_code.specs.InsnViews.{fields}
 use Rattle.regress_engine_code.specs.Standing.{program_of}
@@ -6,7 +7,6 @@ use Rattle.regress_engine_input.specs.Views.{way, input_of}
 use Rattle.regress_engine_sought.proofs.InsnLemmas.{stands-as, again-successors, no-repetition}
 use Rattle.regress_engine_copying.specs.StateOf.{state_of}
 use Rattle.regress_engine_copying.specs.Held.{held, put}
-use Rattle.regress_engine_copying.proofs.StateLemmas.{ok-on}
 use Rattle.regress_engine_copying.proofs.attempt.Attempt.end_iteration.Goals as goal
 
 pub instruction-requires : goal.instruction-requires
@@ -27,7 +27,7 @@ returns-in-EnterLoop g c =
     let program = program_of c.args.self.now.program.now in
     let input = input_of (g.Input.InputIndexer.view c.args.self.now.input) in
     let here = stands-as program c.args.begin _ _ c.in-EnterLoop.is c.instruction.ensures.stands in
-    ok-on c.again.result _ _ _ (ap (λ ss. put ss (held c.args.stack.now))
+    on_ok_weaker c.again.result (λ is. is ∙ ap (λ ss. put ss (held c.args.stack.now))
     (sym (again-successors program input (way c.args.stack.now.forward) (state_of c.args.state) c.args.begin (fields c.in-EnterLoop.repetition) here))) c.again.ensures
 
 pub returns-in_default : goal.returns-in_default

@@ -1,4 +1,5 @@
 use Rattle.std.proofs.Common.{◌+◌, ◌-◌, map, reverse, sym, ap, ◌∙◌}
+use Rattle.std.proofs.lemmas.Result.{on_ok_weaker}
 use Rattle.regress_engine_code.specs.InsnViews.{instruction}
 use Rattle.regress_engine_code.specs.Standing.{program_of}
 use Rattle.regress_engine_input.specs.Views.{way, input_of}
@@ -8,7 +9,6 @@ use Rattle.regress_engine_sought.proofs.ReadyLemmas.{body-at}
 use Rattle.regress_engine_copying.specs.StateOf.{state_of}
 use Rattle.regress_engine_copying.specs.Held.{held, put}
 use Rattle.regress_engine_copying.proofs.EndLemmas.{ends_at, repeat-few, repeat-greedy, repeat-lazy}
-use Rattle.regress_engine_copying.proofs.StateLemmas.{ok-on}
 use Rattle.regress_engine_copying.proofs.attempt.Attempt.repeat.Goals as goal
 
 pub returns-in_default : goal.returns-in_default
@@ -30,7 +30,7 @@ returns-then-greedy g c =
     let s = state_of c.args.state.now in
     let dir = way c.args.stack.now.forward in
     let here = c.instruction-insn.ensures.stands in
-    ok-on c.push_each.result _ _ _ (ap (λ ss. put ss (held c.args.stack.now))
+    on_ok_weaker c.push_each.result (λ is. is ∙ ap (λ ss. put ss (held c.args.stack.now))
     (ap (λ xs. ends_at program v i s dir here c.args.least c.args.most s (reverse xs)) c.as_slice.ensures.value
     ∙ repeat-greedy program v i s dir here c.args.least c.args.most (g.met.Input.InputIndexer.are_of_kind c.args.self.now.input) c.requires.suits c.args.greedy c.in-Some.near c.collect.new.ends.items c.if-greedy.true
     (ap (λ gs. after_times program (input_of v) c.args.least i dir (map marks_of gs) s.offset) (sym c.deref.ensures.value) ∙ sym c.in-Some.ensures.behind)
@@ -46,7 +46,7 @@ returns g c =
     let s = state_of c.args.state.now in
     let dir = way c.args.stack.now.forward in
     let here = c.instruction-insn.ensures.stands in
-    ok-on c.push_each-2.result _ _ _ (ap (λ ss. put ss (held c.args.stack.now))
+    on_ok_weaker c.push_each-2.result (λ is. is ∙ ap (λ ss. put ss (held c.args.stack.now))
     (ap (λ xs. ends_at program v i s dir here c.args.least c.args.most s (reverse xs)) (c.as_slice-2.ensures.value ∙ c.reverse.ensures.items)
     ∙ repeat-lazy program v i s dir here c.args.least c.args.most c.args.greedy c.in-Some.near c.collect.new.ends.items c.if-greedy.false
     (ap (λ gs. after_times program (input_of v) c.args.least i dir (map marks_of gs) s.offset) (sym c.deref.ensures.value) ∙ sym c.in-Some.ensures.behind)

@@ -1,4 +1,5 @@
 use Rattle.std.proofs.Common.{map, sym, ap, ◌∙◌, subst}
+use Rattle.std.proofs.lemmas.Result.{on_ok_weaker}
 use Rattle.regress_engine_code.specs.InsnViews.{instruction}
 use Rattle.regress_engine_code.specs.Standing.{program_of}
 use Rattle.regress_engine_input.specs.Views.{way, input_of}
@@ -9,7 +10,6 @@ use Rattle.regress_engine_sought.proofs.ReadyLemmas.{simple-ready}
 use Rattle.regress_engine_copying.specs.StateOf.{state_of}
 use Rattle.regress_engine_copying.specs.Held.{held, put}
 use Rattle.regress_engine_copying.proofs.PlainLemmas.{take-none, take-some}
-use Rattle.regress_engine_copying.proofs.StateLemmas.{ok-on}
 use Rattle.regress_engine_copying.proofs.attempt.Attempt.take.Goals as goal
 
 pub advance-requires-clause-ready : goal.advance-requires-clause-ready
@@ -34,5 +34,5 @@ returns g c =
     let input = input_of (g.Input.InputIndexer.view c.args.self.now.input) in
     let i = instruction c.args.insn.now in
     let dir = way c.args.stack.now.forward in
-    ok-on c.push.result _ _ _ (ap (λ ss. put ss (held c.args.stack.now)) (take-some program input i dir (state_of c.args.state) c.requires.simple c.in-Some.next
+    on_ok_weaker c.push.result (λ is. is ∙ ap (λ ss. put ss (held c.args.stack.now)) (take-some program input i dir (state_of c.args.state) c.requires.simple c.in-Some.next
     (c.in-Some.ensures ∙ ap (λ gs. advance program input i dir (map marks_of gs) c.args.state.offset) c.deref.ensures.value))) c.push.ensures

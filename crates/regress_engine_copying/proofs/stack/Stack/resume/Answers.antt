@@ -1,11 +1,11 @@
 use Rattle.std.proofs.Common.{[], ◌∷◌, None, Some, sym, ap, subst}
+use Rattle.std.proofs.lemmas.Bool.{not-true, not-false}
 use Rattle.regress_engine_sought.specs.Tasks.{Leads}
 use Rattle.regress_engine_copying.specs.StateOf.{state_of}
 use Rattle.regress_engine_copying.specs.Held.{held, entry_of, frame_of, pushed}
 use Rattle.regress_engine_copying.specs.Sound.{StaysSound}
 use Rattle.regress_engine_copying.specs.Tasks.{task_of}
 use Rattle.regress_engine_copying.proofs.SoundLemmas.{tried-sound, looked-sound, whole-at}
-use Rattle.regress_engine_copying.proofs.StateLemmas.{not-so, is-so}
 use Rattle.regress_engine_copying.proofs.TaskLemmas.{tried-leads, negated-leads, positive-leads}
 use Rattle.regress_engine_copying.proofs.stack.Stack.resume.Goals as goal
 
@@ -27,7 +27,7 @@ returns-then-not-frame-clause-leads c = λ program input.
     let f = c.in-Look.frame in
     let s = state_of c.in-Look.state in
     subst (λ e. Leads program input 0 (task_of [] (pushed e h)) (task_of [] (record h { forward = f.forward }))) (sym (ap entry_of c.in-Look.is))
-    (positive-leads program input f s h (not-so f.negated c.if-not-frame.true))
+    (positive-leads program input f s h (not-true f.negated c.if-not-frame.true))
 
 pub returns-then-not-frame-clause-sound : goal.returns-then-not-frame-clause-sound
 returns-then-not-frame-clause-sound c =
@@ -43,7 +43,7 @@ returns-else-not-frame-clause-leads c = λ program input.
     let f = c.in-Look.frame in
     let s = state_of c.in-Look.state in
     subst (λ e. Leads program input 0 (task_of [] (pushed e h)) (task_of (record s { at = f.continuation } ∷ []) (record h { forward = f.forward }))) (sym (ap entry_of c.in-Look.is))
-    (negated-leads program input f s h (is-so f.negated c.if-not-frame.false))
+    (negated-leads program input f s h (not-false f.negated c.if-not-frame.false))
 
 pub returns-else-not-frame-clause-sound : goal.returns-else-not-frame-clause-sound
 returns-else-not-frame-clause-sound c =

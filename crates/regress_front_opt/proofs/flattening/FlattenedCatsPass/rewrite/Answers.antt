@@ -21,7 +21,7 @@ returns-in_err-outcome-in-Cat c =
     let e = sym c.replace.ensures.value ∙ c.in-Cat.is in
     let kept = c.in_err-outcome-in-Cat.ensures.kept in
     let same = tree-Cat c.flatten-outcome.new.parts ∙ ap (λ ns. cat_of (map tree ns)) kept ∙ sym (tree-Cat c.in-Cat.parts) ∙ sym (ap tree e) in
-    passed-same (direction c.args._in_lookbehind) has_loose_part (tree c.args.node.now) _ c.from_residual.result c.in_err-outcome-in-Cat.field-0.0 same c.in_err-outcome-in-Cat.ensures.refused c.from_residual.ensures.1
+    passed-same (direction c.args._in_lookbehind) has_loose_part (tree c.args.node.now) _ c.from_residual.result same c.from_residual.ensures.1
 
 pub returns : goal.returns
 returns c =

@@ -18,8 +18,8 @@ pub returns-in_err-outcome-in-Cat : goal.returns-in_err-outcome-in-Cat
 returns-in_err-outcome-in-Cat c =
     let e = sym c.replace.ensures.value ∙ c.in-Cat.is in
     let reached = c.in_err-outcome-in-Cat.ensures.joined in
-    passed-reached (direction c.args.in_lookbehind) has_split_literal (tree c.args.node.now) _ c.from_residual.result c.in_err-outcome-in-Cat.field-0.0
-    (rw (e, tree-Cat c.in-Cat.parts, tree-Cat c.join-outcome.new.parts) reached) c.in_err-outcome-in-Cat.ensures.refused c.from_residual.ensures.1
+    passed-reached (direction c.args.in_lookbehind) has_split_literal (tree c.args.node.now) _ c.from_residual.result
+    (rw (e, tree-Cat c.in-Cat.parts, tree-Cat c.join-outcome.new.parts) reached) c.from_residual.ensures.1
 
 pub returns : goal.returns
 returns c =

@@ -24,7 +24,7 @@ unrolled_loop-requires-clause-order c =
 
 pub returns-in_err-other-in-Loop : goal.returns-in_err-other-in-Loop
 returns-in_err-other-in-Loop c =
-    passed-refused (direction c.args._in_lookbehind) is_unrollable (tree c.args.node.now) c.from_residual.result c.in_err-other-in-Loop.field-0.0 c.in_err-other-in-Loop.ensures.refused c.from_residual.ensures.1
+    passed-refused (direction c.args._in_lookbehind) is_unrollable (tree c.args.node.now) c.from_residual.result c.from_residual.ensures.1
 
 pub unreachable-requires : goal.unreachable-requires
 unreachable-requires c =
@@ -34,5 +34,5 @@ pub returns : goal.returns
 returns c =
     let arm = c.in-Loop in
     let short = rw (arm.is, tree-Loop) at c.if-not-is_short_loop.ensures in
-    let copied = rw c.deref.ensures at c.in_ok-other-in-Loop.ensures.copied in
+    let copied = rw c.deref.ensures at c.in_ok-other-in-Loop.ensures in
     rw (arm.is, tree-Loop, copied) (unrolled-advances (direction c.args._in_lookbehind) (tree arm.loopee.value) arm.enclosed_groups.start arm.enclosed_groups.end arm.quant.min (most arm.quant) arm.quant.greedy (sym short))
