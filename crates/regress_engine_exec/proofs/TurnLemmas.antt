@@ -13,6 +13,7 @@ use Rattle.regress_engine_runs.specs.Runs.{advance, after_times, choices, count_
 use Rattle.regress_engine_runs.specs.Meets.{IsAtPlace, reads_character}
 use Rattle.regress_engine_runs.specs.UndoStack.{Work, ReadOn, resume, whole, first_do, stands_for}
 use Rattle.regress_engine_runs.proofs.ReadLemmas.{read_now}
+use Rattle.regress_engine_sought.specs.Sought.{Suits}
 use Rattle.regress_engine_sought.specs.Tasks.{Task, Leads}
 use Rattle.regress_engine_sought.proofs.TaskLemmas.{leads-then, leads-same, leads-equal, leads-first, leads-later}
 use Rattle.regress_engine_sought.proofs.PlaceLemmas.{moves}
@@ -275,3 +276,7 @@ first-place program v p h second i here there is reads =
     let q : Spot = record p { at = p.at + 1 } in
     let first = step-on program (input_of v) (code.alt second) p q h k true here refl (fork-leads p h k second refl program (input_of v)) in
     (read_now program (input_of v) (reading_of v) (way p.forward) (state_at q k) (stands_for program (input_of v) (way p.forward) k.stack k.loops k.groups) (first.reads (reading_of v) reads) i there (class-reads i is)).0
+
+-- the loop is there
+pub loop-there : (program : Program) (v : View) (begin : ℕ) (f : LoopFields) (h : Held) → Suits program v → Stands program begin (code.enter_loop f) → IsHeld program v h → f.loop_id < length h.loops
+loop-there program v begin f h suits here held = let there = (suits.closed begin (code.enter_loop f) here).0 in let same = held.loops in omega (arith, there, same)

@@ -3,14 +3,12 @@ use Rattle.regress_engine_code.specs.Standing.{program_of}
 use Rattle.regress_engine_input.specs.Views.{input_of}
 use Rattle.regress_engine_undo.specs.Held.{held}
 use Rattle.regress_engine_exec.proofs.DispatchLemmas.{second-stuck, step-on}
+use Rattle.regress_engine_exec.proofs.TurnLemmas.{loop-there}
 use Rattle.regress_engine_exec.proofs.attempt.Attempt.choose.Goals as goal
 
 pub loop_data-entered-requires : goal.loop_data-entered-requires
 loop_data-entered-requires g c =
-    let fits = c.requires.suits.closed c.in-Some.turn.begin _ c.in-Some.ensures.begins in
-    let there = fits.0 in
-    let same = c.requires.sound.loops in
-    omega (arith, there, same)
+    loop-there (program_of c.args.self.now.program.now) (g.Input.InputIndexer.view c.args.self.now.input) c.in-Some.turn.begin _ (held c.args.memory.now) c.requires.suits c.in-Some.ensures.begins c.requires.sound
 
 pub returns-then-is_stuck-clause-leads : goal.returns-then-is_stuck-clause-leads
 returns-then-is_stuck-clause-leads g c =

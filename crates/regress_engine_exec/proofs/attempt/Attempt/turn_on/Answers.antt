@@ -6,7 +6,7 @@ use Rattle.regress_engine_sought.proofs.PlaceLemmas.{can-read}
 use Rattle.regress_engine_sought.specs.StateViews.{marks_of}
 use Rattle.regress_engine_singles.proofs.LeadingLemmas.{class-fits}
 use Rattle.regress_engine_undo.specs.Held.{held}
-use Rattle.regress_engine_exec.proofs.TurnLemmas.{turns-not, turned, turns-end, turns-on, turned-sound, ahead-as}
+use Rattle.regress_engine_exec.proofs.TurnLemmas.{turns-not, turned, turns-end, turns-on, turned-sound, ahead-as, loop-there}
 use Rattle.regress_engine_exec.proofs.attempt.Attempt.turn_on.Goals as goal
 
 pub taken_ahead-requires-clause-fits : goal.taken_ahead-requires-clause-fits
@@ -35,10 +35,7 @@ overflow_add-begun g c =
 
 pub begin_more-requires-clause-there : goal.begin_more-requires-clause-there
 begin_more-requires-clause-there g c =
-    let fits = c.requires.suits.closed c.args.turn.now.begin _ c.requires.turn.begins in
-    let there = fits.0 in
-    let same = c.requires.sound.loops in
-    omega (arith, there, same)
+    loop-there (program_of c.args.self.now.program.now) (g.Input.InputIndexer.view c.args.self.now.input) c.args.turn.now.begin (fields c.args.turn.now.repetition.now) (held c.args.memory.now) c.requires.suits c.requires.turn.begins c.requires.sound
 
 pub begin_more-requires-clause-count : goal.begin_more-requires-clause-count
 begin_more-requires-clause-count g c =
@@ -60,21 +57,16 @@ returns-then-taken-more-clause-leads g c =
     let told = c.in-Some.ensures h.groups in
     let within = told.within in
     let more = c.left-more.ensures.left in
-    let fits = c.requires.suits.closed c.args.turn.now.begin _ c.requires.turn.begins in
-    let there = fits.0 in
-    let same = c.requires.sound.loops in
-    let there' : f.loop_id < length h.loops = omega (arith, there, same) in
+    let there = loop-there program v c.args.turn.now.begin f h c.requires.suits c.requires.turn.begins c.requires.sound in
     let room : 0 < taken.before → c.args.count + taken.before ≤ c.args.turn.now.repetition.now.max_iters = λ some. omega (arith, within, more, some) in
     ahead-as program (input_of v) p h k c.args.turn.now.again taken.past c.begin_more.new.spot.forward c.requires.forward (c.in_ok-begin_more.ensures.forward ∙ c.requires.forward)
-    (turns-end program v p.at c.args.second _ _ _ f c.requires.turn c.requires.stands h k c.args.count p.offset taken.before taken.last taken.past there' c.requires.entered told.behind told.one room
-    (turned program v p.at c.args.second _ _ _ f c.requires.turn c.requires.stands h k c.args.count p.offset taken.before taken.last there' c.requires.entered told.behind c.in_ok-begin_more.ensures.written))
+    (turns-end program v p.at c.args.second _ _ _ f c.requires.turn c.requires.stands h k c.args.count p.offset taken.before taken.last taken.past there c.requires.entered told.behind told.one room
+    (turned program v p.at c.args.second _ _ _ f c.requires.turn c.requires.stands h k c.args.count p.offset taken.before taken.last there c.requires.entered told.behind c.in_ok-begin_more.ensures.written))
 
 pub returns-then-taken-more-clause-sound : goal.returns-then-taken-more-clause-sound
 returns-then-taken-more-clause-sound g c =
-    let fits = c.requires.suits.closed c.args.turn.now.begin _ c.requires.turn.begins in
-    let there = fits.0 in
-    let same = c.requires.sound.loops in
-    turned-sound (program_of c.args.self.now.program.now) (g.Input.InputIndexer.view c.args.self.now.input) (held c.args.memory.now) (held c.begin_more.new.memory) _ _ _ (omega (arith, there, same))
+    turned-sound (program_of c.args.self.now.program.now) (g.Input.InputIndexer.view c.args.self.now.input) (held c.args.memory.now) (held c.begin_more.new.memory) _ _ _
+    (loop-there (program_of c.args.self.now.program.now) (g.Input.InputIndexer.view c.args.self.now.input) c.args.turn.now.begin (fields c.args.turn.now.repetition.now) (held c.args.memory.now) c.requires.suits c.requires.turn.begins c.requires.sound)
     c.in_ok-begin_more.ensures.written c.requires.sound
 
 pub returns-clause-leads : goal.returns-clause-leads
@@ -89,21 +81,16 @@ returns-clause-leads g c =
     let told = c.in-Some.ensures h.groups in
     let within = told.within in
     let more = c.left-more.ensures.left in
-    let fits = c.requires.suits.closed c.args.turn.now.begin _ c.requires.turn.begins in
-    let there = fits.0 in
-    let same = c.requires.sound.loops in
+    let there = loop-there program v c.args.turn.now.begin f h c.requires.suits c.requires.turn.begins c.requires.sound in
     let fewer = c.if-taken-more.false in
-    let there' : f.loop_id < length h.loops = omega (arith, there, same) in
     let room : 0 < taken.before → c.args.count + taken.before ≤ c.args.turn.now.repetition.now.max_iters = λ some. omega (arith, within, more, some) in
     ahead-as program (input_of v) p h k c.way_on-spot.result taken.past c.begin_more.new.spot.forward c.requires.forward (c.in_ok-begin_more.ensures.forward ∙ c.requires.forward)
-    (turns-on program v p.at c.args.second _ _ _ f c.requires.turn c.requires.stands h k c.args.count p.offset taken.before taken.last taken.past c.way_on-spot.result there' c.requires.entered told.behind told.one room
-    (turned program v p.at c.args.second _ _ _ f c.requires.turn c.requires.stands h k c.args.count p.offset taken.before taken.last there' c.requires.entered told.behind c.in_ok-begin_more.ensures.written)
+    (turns-on program v p.at c.args.second _ _ _ f c.requires.turn c.requires.stands h k c.args.count p.offset taken.before taken.last taken.past c.way_on-spot.result there c.requires.entered told.behind told.one room
+    (turned program v p.at c.args.second _ _ _ f c.requires.turn c.requires.stands h k c.args.count p.offset taken.before taken.last there c.requires.entered told.behind c.in_ok-begin_more.ensures.written)
     (λ groups. (c.in-Some.ensures groups).stops (omega (arith, fewer))) c.way_on-spot.ensures)
 
 pub returns-clause-sound : goal.returns-clause-sound
 returns-clause-sound g c =
-    let fits = c.requires.suits.closed c.args.turn.now.begin _ c.requires.turn.begins in
-    let there = fits.0 in
-    let same = c.requires.sound.loops in
-    turned-sound (program_of c.args.self.now.program.now) (g.Input.InputIndexer.view c.args.self.now.input) (held c.args.memory.now) (held c.begin_more.new.memory) _ _ _ (omega (arith, there, same))
+    turned-sound (program_of c.args.self.now.program.now) (g.Input.InputIndexer.view c.args.self.now.input) (held c.args.memory.now) (held c.begin_more.new.memory) _ _ _
+    (loop-there (program_of c.args.self.now.program.now) (g.Input.InputIndexer.view c.args.self.now.input) c.args.turn.now.begin (fields c.args.turn.now.repetition.now) (held c.args.memory.now) c.requires.suits c.requires.turn.begins c.requires.sound)
     c.in_ok-begin_more.ensures.written c.requires.sound
