@@ -1,4 +1,4 @@
-use Rattle.std.proofs.Common.{true, refl, arith}
+use Rattle.std.proofs.Common.{true, refl}
 use Rattle.regress_engine_code.specs.Standing.{program_of}
 use Rattle.regress_engine_input.specs.Views.{input_of}
 use Rattle.regress_engine_undo.specs.Held.{held}

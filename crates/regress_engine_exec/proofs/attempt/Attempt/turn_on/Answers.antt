@@ -1,4 +1,4 @@
-use Rattle.std.proofs.Common.{◌+◌, ◌<◌, ◌≤◌, map, length, ◌∙◌, arith}
+use Rattle.std.proofs.Common.{◌+◌, ◌<◌, ◌≤◌, map, ◌∙◌, arith}
 use Rattle.regress_engine_code.specs.InsnViews.{fields}
 use Rattle.regress_engine_code.specs.Standing.{program_of}
 use Rattle.regress_engine_input.specs.Views.{input_of}
@@ -28,9 +28,7 @@ returns-in_default-clause-leads g c =
 pub overflow_add-begun : goal.overflow_add-begun
 overflow_add-begun g c =
     let within = (c.in-Some.ensures (map marks_of c.args.memory.now.groups.items)).within in
-    let more = c.left-more.ensures.left in
-    let most = c.left-more.ensures.room in
-    let count = c.ranges.count.fits in
+    let more = c.left-more.ensures.left in let most = c.left-more.ensures.room in let count = c.ranges.count.fits in
     omega (arith, within, more, most, count)
 
 pub begin_more-requires-clause-there : goal.begin_more-requires-clause-there
@@ -40,9 +38,7 @@ begin_more-requires-clause-there g c =
 pub begin_more-requires-clause-count : goal.begin_more-requires-clause-count
 begin_more-requires-clause-count g c =
     let within = (c.in-Some.ensures (map marks_of c.args.memory.now.groups.items)).within in
-    let more = c.left-more.ensures.left in
-    let most = c.left-more.ensures.room in
-    let count = c.ranges.count.fits in
+    let more = c.left-more.ensures.left in let most = c.left-more.ensures.room in let count = c.ranges.count.fits in
     omega (arith, within, more, most, count)
 
 pub returns-then-taken-more-clause-leads : goal.returns-then-taken-more-clause-leads
@@ -50,13 +46,11 @@ returns-then-taken-more-clause-leads g c =
     let program = program_of c.args.self.now.program.now in
     let v = g.Input.InputIndexer.view c.args.self.now.input in
     let p = c.args.spot.now in
-    let h = held c.args.memory.now in
-    let k = held c.begin_more.new.memory in
+    let h = held c.args.memory.now in let k = held c.begin_more.new.memory in
     let f = fields c.args.turn.now.repetition.now in
     let taken = c.in-Some.taken in
     let told = c.in-Some.ensures h.groups in
-    let within = told.within in
-    let more = c.left-more.ensures.left in
+    let within = told.within in let more = c.left-more.ensures.left in
     let there = loop-there program v c.args.turn.now.begin f h c.requires.suits c.requires.turn.begins c.requires.sound in
     let room : 0 < taken.before → c.args.count + taken.before ≤ c.args.turn.now.repetition.now.max_iters = λ some. omega (arith, within, more, some) in
     ahead-as program (input_of v) p h k c.args.turn.now.again taken.past c.begin_more.new.spot.forward c.requires.forward (c.in_ok-begin_more.ensures.forward ∙ c.requires.forward)
@@ -74,13 +68,11 @@ returns-clause-leads g c =
     let program = program_of c.args.self.now.program.now in
     let v = g.Input.InputIndexer.view c.args.self.now.input in
     let p = c.args.spot.now in
-    let h = held c.args.memory.now in
-    let k = held c.begin_more.new.memory in
+    let h = held c.args.memory.now in let k = held c.begin_more.new.memory in
     let f = fields c.args.turn.now.repetition.now in
     let taken = c.in-Some.taken in
     let told = c.in-Some.ensures h.groups in
-    let within = told.within in
-    let more = c.left-more.ensures.left in
+    let within = told.within in let more = c.left-more.ensures.left in
     let there = loop-there program v c.args.turn.now.begin f h c.requires.suits c.requires.turn.begins c.requires.sound in
     let fewer = c.if-taken-more.false in
     let room : 0 < taken.before → c.args.count + taken.before ≤ c.args.turn.now.repetition.now.max_iters = λ some. omega (arith, within, more, some) in
