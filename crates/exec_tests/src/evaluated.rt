@@ -79,7 +79,7 @@ fn shared(
 }
 
 /// All matches of a tree in a text, as the evaluator finds them.
-fn evaluated(alloc: Global, regex: &Regex<'_>, text: &str) -> Result<String, Error> {
+pub(crate) fn evaluated(alloc: Global, regex: &Regex<'_>, text: &str) -> Result<String, Error> {
     let names = shared(alloc, &regex.group_names)?;
     let pattern = CompiledPattern {
         node: &regex.node,

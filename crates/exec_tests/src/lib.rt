@@ -18,4 +18,6 @@ mod singles;
 #[cfg(test)]
 mod starts;
 #[cfg(test)]
+mod turns;
+#[cfg(test)]
 mod undone;

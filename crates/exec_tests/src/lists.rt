@@ -15,7 +15,7 @@ use std::test::Fail;
 
 /// Over which inputs a row is tried.
 #[derive(Clone, Copy, PartialEq)]
-enum Over {
+pub(crate) enum Over {
     Utf8,
     Others,
 }
@@ -40,7 +40,7 @@ fn beside_utf8(alloc: Global, regex: &Regex<'_>, text: &str) -> Result<String, F
 }
 
 /// All matches of a tree in a text, which no other input than UTF-8 holds where it is not of ASCII.
-fn told(alloc: Global, over: Over, regex: &Regex<'_>, text: &str) -> Result<String, Fail>
+pub(crate) fn told(alloc: Global, over: Over, regex: &Regex<'_>, text: &str) -> Result<String, Fail>
     requires { IsWellFormed (length regex.now.group_names.items) (tree regex.now.node) }
 {
     if over == Over::Others && text.is_ascii() {

@@ -4,7 +4,9 @@ use crate::parsed::parsed;
 use regress_engine_code::{Insn, emit};
 use regress_engine_input::{Backward, Direction, Utf8Input};
 use regress_engine_matchers::MatchAnyExceptLineTerminator;
-use regress_engine_singles::{ScannedBracket, are_apart, as_far, as_far_ahead, is_apart};
+use regress_engine_singles::{
+    ScannedBracket, are_apart, as_far, as_far_ahead, is_apart, taken_ahead,
+};
 use regress_front_bytes::AsciiBitmap;
 use regress_front_nodes::BracketContents;
 use regress_front_sets::CodePointSet;
@@ -50,6 +52,34 @@ fn scanned_brackets_have_what_their_class_does(rt: HostRuntime) -> Result<(), Fa
         let class = ScannedBracket { bc: &bc };
         assert!(rt; class.has(number * 2) != bc.invert);
         assert!(rt; class.has(number * 2 + 1) == bc.invert);
+    }
+    Ok(())
+}
+
+/// Where a run of characters of a class begins, how many follow the first at most, and how many there are before the last one,
+/// where that is, and what is behind it.
+const TAKEN: &[(usize, usize, Option<(usize, usize, usize)>)] = &[
+    (0, 9, Some((2, 2, 4))),
+    (0, 2, Some((2, 2, 4))),
+    (0, 1, Some((1, 1, 2))),
+    (1, 0, Some((0, 1, 2))),
+    (2, 9, Some((0, 2, 4))),
+    (4, 9, None),
+    (5, 9, Some((1, 6, 7))),
+    (7, 9, None),
+];
+
+#[test]
+fn characters_of_a_class_are_counted(rt: HostRuntime) -> Result<(), Fail> {
+    let tables = Tables::small(rt.alloc())?;
+    let regex = parsed(rt.alloc(), r"\S", "", &tables)?;
+    let program = emit(rt.alloc(), &regex)?;
+    let input = Utf8Input::new(TEXT, true, &tables);
+    assert!(rt; !program.brackets().is_empty());
+    for (at, more, taken) in TAKEN {
+        assert!(rt; TEXT.is_char_boundary(*at));
+        let found = taken_ahead(&program, &input, &Insn::Bracket(0), *more, *at);
+        assert!(rt; found.map(|run| (run.before, run.last, run.past)) == *taken);
     }
     Ok(())
 }

@@ -25,7 +25,7 @@ const LOOKED_AT: usize = 8;
 
 /// Whether an instruction is a class.
 #[inline]
-fn is_class(insn: &Insn) -> bool
+pub(crate) fn is_class(insn: &Insn) -> bool
     ensures { result ≡ is_class (instruction insn.now) }
 {
     matches!(insn, Insn::AsciiBracket(_) | Insn::Bracket(_))

@@ -10,6 +10,7 @@ mod reads;
 mod search;
 mod singles;
 mod step;
+mod turns;
 
 pub use regress_engine_sought::{ExecutorInput, Shown};
 pub use search::BacktrackExecutor;

@@ -1,10 +1,11 @@
 //! One step of a run.
-ghost use Rattle.std.specs.Prelude.{◌≡◌, ◌+◌, ◌^◌, ◌<◌, true, IfOk, IfSome, OnOk};
+ghost use Rattle.std.specs.Prelude.{◌≡◌, ◌+◌, ◌^◌, ◌<◌, true, [], ◌∷◌, IfOk, IfSome, OnOk};
 ghost use Rattle.regress_engine_code.specs.Instructions.{Instruction, Stands, loop_again, enter_loop, LoopFields};
 ghost use Rattle.regress_engine_code.specs.InsnViews.{instruction};
 ghost use Rattle.regress_engine_code.specs.Standing.{program_of};
-ghost use Rattle.regress_engine_input.specs.Views.{input_of, reading_of};
+ghost use Rattle.regress_engine_input.specs.Views.{way, input_of, reading_of};
 ghost use Rattle.regress_engine_runs.specs.Meets.{reads_character, ReadsPlaces};
+ghost use Rattle.regress_engine_runs.specs.UndoStack.{ReadOn, stands_for};
 ghost use Rattle.regress_engine_sought.specs.Ready.{is_simple};
 ghost use Rattle.regress_engine_sought.specs.Tasks.{Leads};
 ghost use Rattle.regress_engine_undo.specs.Held.{held};
@@ -74,6 +75,7 @@ impl<'a, 'r, Input: CharInput> Attempt<'a, 'r, Input> {
         requires sound { IsHeld (program_of self.now.program.now) (Input.view self.now.input) (held memory.old) }
         requires stands { (i : Instruction) × Stands (program_of self.now.program.now) spot.old.at i }
         requires reads { (i : Instruction) → Stands (program_of self.now.program.now) spot.old.at i → reads_character i ≡ true → ReadsPlaces (reading_of (Input.view self.now.input)) i (state_at spot.old (held memory.old)) }
+        requires later { ReadOn (program_of self.now.program.now) (input_of (Input.view self.now.input)) (reading_of (Input.view self.now.input)) (way spot.old.forward) (state_at spot.old (held memory.old) ∷ []) (stands_for (program_of self.now.program.now) (input_of (Input.view self.now.input)) (way spot.old.forward) (held memory.old).stack (held memory.old).loops (held memory.old).groups) }
         ensures leads { IfOk result (λ left. Steps (program_of self.now.program.now) (input_of (Input.view self.now.input)) spot.old (held memory.old) left spot.new (held memory.new)) }
         ensures sound { IfOk result (λ left. IfSome left (λ going. IsHeld (program_of self.now.program.now) (Input.view self.now.input) (held memory.new))) }
     {
@@ -88,6 +90,10 @@ impl<'a, 'r, Input: CharInput> Attempt<'a, 'r, Input> {
                 let second = *secondary as usize;
                 if self.is_stuck(WAYS_AHEAD, spot.at + 1, spot.forward, spot.offset) {
                     spot.at = second;
+                    return Ok(Some(true));
+                }
+                if self.is_class_at(spot.at + 1) {
+                    self.choose(second, memory, spot)?;
                     return Ok(Some(true));
                 }
                 if self.is_stuck(0, second, spot.forward, spot.offset) {

@@ -44,7 +44,7 @@ module _ (program : Program) (v : View) where
           by_test false g = absurd (grind arith)
 
   -- so does a class take it
-  class-next : (j : Instruction) → is_class j ≡ true → (groups : List Marks) (o q : ℕ) → advance program (input_of v) j Forward groups o ≡ Some q → (c : ℕ) × ((input_of v).next Forward o ≡ Some (c, q))
+  pub class-next : (j : Instruction) → is_class j ≡ true → (groups : List Marks) (o q : ℕ) → advance program (input_of v) j Forward groups o ≡ Some q → (c : ℕ) × ((input_of v).next Forward o ≡ Some (c, q))
   class-next (code.ascii_bracket cs) is groups o q e = passed-next _ o q e
   class-next (code.bracket k) is groups o q e = by_class (slice_get program.brackets k) e
     where

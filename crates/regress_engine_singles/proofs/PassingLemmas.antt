@@ -1,5 +1,6 @@
 -- Characters that pass a test, one by one.
-use Rattle.std.proofs.Common.{◌≡◌, ℕ, zero, suc, ◌-◌, ◌<◌, ◌≤◌, Bool, true, false, List, inl, inr, Option, Some, None, if◌then◌else◌, refl, sym, ap, ◌∙◌, subst, arith}
+use Rattle.std.specs.Prelude.{MatchOption}
+use Rattle.std.proofs.Common.{◌≡◌, ℕ, zero, suc, ◌-◌, ◌<◌, ◌≤◌, Bool, true, false, List, inl, inr, Option, Some, None, if◌then◌else◌, option_and_then, refl, sym, ap, ◌∙◌, subst, arith}
 use Rattle.regress_meaning.specs.Meaning.{Direction}
 use Rattle.regress_meaning.specs.Inputs.{Input}
 use Rattle.regress_meaning.specs.Steps.{passed}
@@ -11,8 +12,9 @@ use Rattle.regress_front_bytes.specs.ByteSets.{members}
 use Rattle.regress_engine_code.specs.Instructions.{Instruction, Program}
 use Rattle.regress_engine_code.proofs.BitmapLemmas.{holds-members}
 use Rattle.regress_engine_runs.specs.States.{Marks}
-use Rattle.regress_engine_runs.specs.Runs.{advance, as_far as taken_far}
-use Rattle.regress_engine_singles.specs.Passing.{as_far}
+use Rattle.regress_engine_runs.specs.Runs.{advance, after_times, as_far as taken_far}
+use Rattle.regress_engine_singles.specs.declared.taken.Taken.{Taken}
+use Rattle.regress_engine_singles.specs.Passing.{as_far, after, IsTaken}
 
 module _ (input : Input) (passes : ℕ → Bool) (dir : Direction) where
   pub far-goes : (left o q : ℕ) → 0 < left → Some q ≡ passed passes (input.next dir o) → as_far input passes dir (left - 1) q ≡ as_far input passes dir left o
@@ -43,6 +45,33 @@ module _ (input : Input) (passes : ℕ → Bool) (dir : Direction) (left times o
   pub far-led : as_far input passes dir left o ≡ as_far input passes dir times p → 0 < left → (q : ℕ) → Some q ≡ passed passes (input.next dir o)
       → as_far input passes dir (left - 1) q ≡ as_far input passes dir times p
   far-led rest some q e = far-goes input passes dir left o q some e ∙ rest
+
+-- those that were counted
+module _ (input : Input) (passes : ℕ → Bool) (dir : Direction) where
+  abbrev one_more : ℕ → Option ℕ
+  one_more o = passed passes (input.next dir o)
+
+  pub after-none : (n o p : ℕ) → n ≤ 0 → p ≡ o → after input passes dir n o ≡ Some p
+  unfolding after
+  after-none zero o p none same = ap Some (sym same)
+  after-none (suc n) o p none same = absurd (omega (arith, none))
+
+  after-one : (n o p q : ℕ) → after input passes dir n o ≡ Some p → Some q ≡ one_more p → after input passes dir (suc n) o ≡ Some q
+  unfolding after
+  after-one zero o p q e one = let same : o ≡ p = cc in ap (option_and_then (after input passes dir 0)) (ap one_more same ∙ sym one)
+  after-one (suc n) o p q e one = by_found (one_more o) (λ r f. after-one n r p q f one) e
+    where
+      by_found : (x : Option ℕ) → ((r : ℕ) → after input passes dir n r ≡ Some p → after input passes dir (suc n) r ≡ Some q) → option_and_then (after input passes dir n) x ≡ Some p
+          → option_and_then (after input passes dir (suc n)) x ≡ Some q
+      by_found None rest f = absurd (cc f)
+      by_found (Some r) rest f = rest r f
+
+  -- one more
+  pub after-next : (left more o p q : ℕ) → after input passes dir (more - left) o ≡ Some p → Some q ≡ passed passes (input.next dir p) → 0 < left → left ≤ more
+      → after input passes dir (more - (left - 1)) o ≡ Some q
+  after-next left more o p q e one some within =
+      let next : suc (more - left) ≡ more - (left - 1) = omega (arith, some, within) in
+      subst (λ n. after input passes dir n o ≡ Some q) next (after-one (more - left) o p q e one)
 
 -- behind what passes may be read on
 pub reads-on : (v : View) → AreOfKind v.kind v.units → (passes : ℕ → Bool) (dir : Direction) (o q : ℕ) → CanRead v o → Some q ≡ passed passes ((input_of v).next dir o) → CanRead v q
@@ -78,3 +107,30 @@ module _ (program : Program) (input : Input) (passes : ℕ → Bool) (i : Instru
       by_found : (x : Option ℕ) → ((q : ℕ) → as_far input passes dir n q ≡ taken_far program input n i dir groups q) → left x ≡ right x
       by_found None rest = refl
       by_found (Some q) rest = rest q
+
+  after-taken : (n o : ℕ) → after input passes dir n o ≡ after_times program input n i dir groups o
+  unfolding after after_times
+  after-taken zero o = refl
+  after-taken (suc n) o = ap (option_and_then (after input passes dir n)) (same o) ∙ by_found (advance program input i dir groups o) (λ q. after-taken n q)
+    where
+      by_found : (x : Option ℕ) → ((q : ℕ) → after input passes dir n q ≡ after_times program input n i dir groups q)
+          → option_and_then (after input passes dir n) x ≡ option_and_then (λ q. after_times program input n i dir groups q) x
+      by_found None rest = refl
+      by_found (Some q) rest = rest q
+
+  -- and as often
+  pub count-taken : (more o before last past : ℕ) → IsTaken (after input passes dir) (λ q. passed passes (input.next dir q)) more o before last past
+      → IsTaken (λ n q. after_times program input n i dir groups q) (advance program input i dir groups) more o before last past
+  count-taken more o before last past taken = record {
+    behind = sym (after-taken before o) ∙ taken.behind;
+    one = sym (same last) ∙ taken.one;
+    within = taken.within;
+    stops = λ fewer. taken.stops fewer ∙ same past;
+  }
+
+  pub option-taken : (more o : ℕ) (r : Option Taken)
+      → MatchOption r (None ≡ passed passes (input.next dir o)) (λ t. IsTaken (after input passes dir) (λ q. passed passes (input.next dir q)) more o t.before t.last t.past)
+      → MatchOption r (None ≡ advance program input i dir groups o)
+          (λ t. IsTaken (λ n q. after_times program input n i dir groups q) (advance program input i dir groups) more o t.before t.last t.past)
+  option-taken more o None none = none ∙ same o
+  option-taken more o (Some t) taken = count-taken more o t.before t.last t.past taken

@@ -1,5 +1,5 @@
 -- How far a test on one character passes, again and again.
-use Rattle.std.specs.Prelude.{ℕ, zero, suc, Bool, Some, None}
+use Rattle.std.specs.Prelude.{◌≡◌, ℕ, zero, suc, ◌<◌, ◌≤◌, Bool, Option, Some, None, option_and_then}
 use Rattle.regress_meaning.specs.Meaning.{Direction}
 use Rattle.regress_meaning.specs.Inputs.{Input}
 use Rattle.regress_meaning.specs.Steps.{passed}
@@ -9,3 +9,15 @@ module _ (input : Input) (passes : ℕ → Bool) (dir : Direction) where
   unfoldable pub as_far : ℕ → ℕ → ℕ
   as_far zero o = o
   as_far (suc n) o = elim (passed passes (input.next dir o)) [ None ↦ o | Some q ↦ as_far n q ]
+
+  -- the offset behind so many, where there are so many
+  unfoldable pub after : ℕ → ℕ → Option ℕ
+  after zero o = Some o
+  after (suc n) o = option_and_then (after n) (passed passes (input.next dir o))
+
+-- So many characters are taken from an offset on, and then one more: at most so many, and no more of them where they are fewer.
+pub record IsTaken (after : ℕ → ℕ → Option ℕ) (next : ℕ → Option ℕ) (more o before last past : ℕ) : Type 0 where
+  pub behind : after before o ≡ Some last
+  pub one : next last ≡ Some past
+  pub within : before ≤ more
+  pub stops : before < more → None ≡ next past

@@ -5,8 +5,10 @@ mod ahead;
 mod apart;
 mod class;
 mod far;
+mod taken;
 
 pub use ahead::as_far_ahead;
 pub use apart::{are_apart, is_apart};
 pub use class::ScannedBracket;
 pub use far::as_far;
+pub use taken::{Taken, taken_ahead};

@@ -26,6 +26,9 @@ pub step-requires-clause-reads : goal.step-requires-clause-reads
 step-requires-clause-reads g c =
     tried-reads (program_of c.args.self.now.program.now) (g.Input.InputIndexer.view c.args.self.now.input) _ _ (way c.steps.spot.forward) (state_at c.steps.spot (held c.steps.memory)) _ c.steps.invariant.tried
 
+pub step-requires-clause-later : goal.step-requires-clause-later
+step-requires-clause-later g c = c.steps.invariant.tried.reads
+
 pub returns-in_default : goal.returns-in_default
 returns-in_default g c =
     let program = program_of c.args.self.now.program.now in

@@ -9,6 +9,7 @@ use Rattle.regress_engine_sought.proofs.InsnLemmas.{stands-as}
 use Rattle.regress_engine_undo.specs.Held.{held}
 use Rattle.regress_engine_undo.proofs.BackLemmas.{frame-held}
 use Rattle.regress_engine_exec.proofs.DispatchLemmas.{first-stuck, second-stuck, step-on, jump-on, mark-on, look-on}
+use Rattle.regress_engine_exec.proofs.TurnLemmas.{first-place}
 use Rattle.regress_engine_exec.proofs.attempt.Attempt.step.Goals as goal
 
 pub group_data-requires : goal.group_data-requires
@@ -97,6 +98,13 @@ repeat-requires-clause-body g c =
     let fits = c.requires.suits.closed p.at _ here in
     let e : suc p.at ≡ p.at + 2 - 1 = omega arith in
     (fits.0, subst (λ a. Stands program a fits.0) e fits.1, fits.2, (c.requires.reads _ here refl).0, omega arith)
+
+pub choose-requires-clause-place : goal.choose-requires-clause-place
+choose-requires-clause-place g c =
+    let program = program_of c.args.self.now.program.now in
+    let here = stands-as program c.args.spot.now.at _ _ c.in-Alt.is c.instruction-insn.ensures.stands in
+    let (i, there, is) = c.is_class_at.ensures c.if-is_class_at.true in
+    first-place program (g.Input.InputIndexer.view c.args.self.now.input) c.args.spot.now (held c.args.memory.now) c.in-Alt.secondary i here there is c.requires.later
 
 pub returns-in-Jump-clause-leads : goal.returns-in-Jump-clause-leads
 returns-in-Jump-clause-leads g c =

@@ -1,0 +1,206 @@
+//! Iterations that are one character of a class each.
+ghost use Rattle.std.specs.Prelude.{◌≡◌, ◌⊎◌, ◌+◌, ◌-◌, ◌^◌, ◌<◌, ◌≤◌, ℕ, true, get_or, length, IfSome, OnOk};
+ghost use Rattle.regress_meaning.specs.Meaning.{Forward as ahead};
+ghost use Rattle.regress_engine_code.specs.Instructions.{Instruction, Stands, alt};
+ghost use Rattle.regress_engine_code.specs.InsnViews.{instruction, fields};
+ghost use Rattle.regress_engine_code.specs.Standing.{program_of};
+ghost use Rattle.regress_engine_input.specs.Views.{input_of, reading_of};
+ghost use Rattle.regress_engine_runs.specs.Meets.{IsAtPlace};
+ghost use Rattle.regress_engine_sought.specs.Tasks.{Leads};
+ghost use Rattle.regress_engine_sought.specs.Sought.{Suits};
+ghost use Rattle.regress_engine_singles.specs.Failing.{IsStuck};
+ghost use Rattle.regress_engine_singles.specs.Passed.{is_class};
+ghost use Rattle.regress_engine_undo.specs.Held.{held, loop_written};
+ghost use Rattle.regress_engine_undo.specs.Sound.{IsHeld};
+ghost use Rattle.regress_engine_undo.specs.Tasks.{task};
+ghost use Rattle.regress_engine_exec.specs.Stuck.{IsTurn};
+
+use crate::attempt::Attempt;
+use crate::leading::is_class;
+use regress_engine_code::{Insn, LoopFields};
+use regress_engine_matchers::CharInput;
+use regress_engine_singles::{Taken, taken_ahead};
+use regress_engine_undo::{Memory, Spot};
+use std::alloc::AllocError;
+
+/// Iterations of a repetition that are one character of a class each, as long as that takes one.
+#[derive(Debug, Clone, Copy)]
+struct Turn<'p> {
+    /// The class.
+    class: &'p Insn,
+    /// The repetition.
+    repetition: &'p LoopFields,
+    /// Where it begins.
+    begin: usize,
+    /// Where an iteration of it ends.
+    again: usize,
+}
+
+/// How many more iterations of a repetition there may be, of which so many have begun.
+#[inline]
+fn left(repetition: &LoopFields, count: usize) -> usize
+    ensures left { result ≡ repetition.now.max_iters - count }
+    ensures room { repetition.now.max_iters < 2 ^ 64 }
+{
+    repetition.max_iters.saturating_sub(count)
+}
+
+/// Writes that more iterations have begun, of a repetition of which so many had, the last one at an offset.
+#[inline]
+fn begin_more(
+    turn: &Turn<'_>,
+    count: usize,
+    taken: &Taken,
+    memory: &mut Memory,
+    spot: &mut Spot,
+) -> Result<(), AllocError>
+    requires there { turn.now.repetition.now.loop_id < length (held memory.old).loops }
+    requires count { count + taken.now.before < 2 ^ 64 }
+    requires begin { turn.now.begin + 1 < 2 ^ 64 }
+    ensures written { OnOk result (((taken.now.before ≤ 0) × (held memory.new ≡ held memory.old)) ⊎ (held memory.new ≡ loop_written turn.now.repetition.now.loop_id (count + taken.now.before, taken.now.last) (held memory.old))) }
+    ensures forward { OnOk result (spot.new.forward ≡ spot.old.forward) }
+{
+    if taken.before == 0 {
+        return Ok(());
+    }
+    spot.offset = taken.last;
+    let id = turn.repetition.loop_id as usize;
+    memory.iterate(id, count + taken.before - 1, turn.begin, spot)?;
+    Ok(())
+}
+
+impl<'a, 'r, Input: CharInput> Attempt<'a, 'r, Input> {
+    /// Whether a class stands at an address.
+    #[inline]
+    pub(crate) fn is_class_at(&self, at: usize) -> bool
+        ensures { result ≡ true → (i : Instruction) × Stands (program_of self.now.program.now) at i × (is_class i ≡ true) }
+    {
+        let insns = self.program.insns();
+        at < insns.len() && is_class(&insns[at])
+    }
+
+    /// The iterations that begin at an address with two ways, where the first one is a class and nothing else, and where that
+    /// takes a character surely nothing is led to by the other one, nor behind the repetition.
+    fn turn(&self, at: usize, second: usize) -> Option<Turn<'_>>
+        requires suits { Suits (program_of self.now.program.now) (Input.view self.now.input) }
+        requires class { (i : Instruction) × Stands (program_of self.now.program.now) (at + 1) i × (is_class i ≡ true) }
+        requires room { at + 1 < 2 ^ 64 }
+        ensures { IfSome result (λ t. IsTurn (program_of self.now.program.now) (input_of (Input.view self.now.input)) at second t.begin t.again (instruction t.class.now) (fields t.repetition.now)) }
+    {
+        let class = self.instruction(at + 1);
+        let insns = self.program.insns();
+        if at + 2 >= insns.len() {
+            return None;
+        }
+        let Insn::Jump { target } = &insns[at + 2] else {
+            return None;
+        };
+        let again = *target as usize;
+        if again >= insns.len() {
+            return None;
+        }
+        let Insn::LoopAgain { begin } = &insns[again] else {
+            return None;
+        };
+        let begin = *begin as usize;
+        let Insn::EnterLoop(repetition) = self.instruction(begin) else {
+            return None;
+        };
+        let exit = repetition.exit as usize;
+        if begin + 1 != at || !self.is_atomic(class, second) || !self.is_atomic(class, exit) {
+            return None;
+        }
+        Some(Turn {
+            class,
+            repetition,
+            begin,
+            again,
+        })
+    }
+
+    /// The address where it is gone on behind so many iterations, of which the class takes no more: where the last one ends, or
+    /// behind the repetition where nothing else is led to.
+    fn way_on(&self, turn: &Turn<'_>, second: usize, count: usize, offset: usize) -> usize
+        requires { Suits (program_of self.now.program.now) (Input.view self.now.input) }
+        ensures { (result ≡ turn.now.again) ⊎ ((result ≡ turn.now.repetition.now.exit) × (turn.now.repetition.now.min_iters ≤ count) × IsStuck (program_of self.now.program.now) (input_of (Input.view self.now.input)) ahead second offset) }
+    {
+        if count < turn.repetition.min_iters {
+            return turn.again;
+        }
+        if self.is_stuck(0, second, true, offset) {
+            return turn.repetition.exit as usize;
+        }
+        turn.again
+    }
+
+    /// Does as many iterations as are one character each, of a repetition of which so many have begun: goes on where the last
+    /// one ends, or behind the repetition where nothing else is left; by the other way where the class takes no character.
+    fn turn_on(
+        &self,
+        turn: &Turn<'_>,
+        second: usize,
+        count: usize,
+        memory: &mut Memory,
+        spot: &mut Spot,
+    ) -> Result<(), AllocError>
+        requires suits { Suits (program_of self.now.program.now) (Input.view self.now.input) }
+        requires sound { IsHeld (program_of self.now.program.now) (Input.view self.now.input) (held memory.old) }
+        requires stands { Stands (program_of self.now.program.now) spot.old.at (alt second) }
+        requires turn { IsTurn (program_of self.now.program.now) (input_of (Input.view self.now.input)) spot.old.at second turn.now.begin turn.now.again (instruction turn.now.class.now) (fields turn.now.repetition.now) }
+        requires entered { get_or (held memory.old).loops turn.now.repetition.now.loop_id (0, 0) ≡ (count, spot.old.offset) }
+        requires room { spot.old.at + 1 < 2 ^ 64 }
+        requires forward { spot.old.forward ≡ true }
+        requires place { IsAtPlace (reading_of (Input.view self.now.input)) spot.old.offset }
+        ensures leads { OnOk result (Leads (program_of self.now.program.now) (input_of (Input.view self.now.input)) 1 (task (program_of self.now.program.now) (input_of (Input.view self.now.input)) true spot.old (held memory.old)) (task (program_of self.now.program.now) (input_of (Input.view self.now.input)) true spot.new (held memory.new))) }
+        ensures sound { OnOk result (IsHeld (program_of self.now.program.now) (Input.view self.now.input) (held memory.new)) }
+    {
+        let more = left(turn.repetition, count);
+        let Some(taken) = taken_ahead(self.program, &self.input, turn.class, more, spot.offset)
+        else {
+            spot.at = second;
+            return Ok(());
+        };
+        let begun = count + taken.before;
+        begin_more(turn, count, &taken, memory, spot)?;
+        spot.offset = taken.past;
+        if taken.before >= more {
+            spot.at = turn.again;
+            return Ok(());
+        }
+        spot.at = self.way_on(turn, second, begun, taken.past);
+        Ok(())
+    }
+
+    /// Does an alternative whose first way is a class. It is apart so that no step makes room for it.
+    #[inline(never)]
+    pub(crate) fn choose(
+        &self,
+        second: usize,
+        memory: &mut Memory,
+        spot: &mut Spot,
+    ) -> Result<(), AllocError>
+        requires suits { Suits (program_of self.now.program.now) (Input.view self.now.input) }
+        requires sound { IsHeld (program_of self.now.program.now) (Input.view self.now.input) (held memory.old) }
+        requires stands { Stands (program_of self.now.program.now) spot.old.at (alt second) }
+        requires class { (i : Instruction) × Stands (program_of self.now.program.now) (spot.old.at + 1) i × (is_class i ≡ true) }
+        requires room { spot.old.at + 1 < 2 ^ 64 }
+        requires place { IsAtPlace (reading_of (Input.view self.now.input)) spot.old.offset }
+        ensures leads { OnOk result (Leads (program_of self.now.program.now) (input_of (Input.view self.now.input)) 1 (task (program_of self.now.program.now) (input_of (Input.view self.now.input)) true spot.old (held memory.old)) (task (program_of self.now.program.now) (input_of (Input.view self.now.input)) true spot.new (held memory.new))) }
+        ensures sound { OnOk result (IsHeld (program_of self.now.program.now) (Input.view self.now.input) (held memory.new)) }
+    {
+        if spot.forward {
+            if let Some(turn) = self.turn(spot.at, second) {
+                let entered = memory.loop_data(turn.repetition.loop_id as usize);
+                if entered.entry == spot.offset {
+                    return self.turn_on(&turn, second, entered.iters, memory, spot);
+                }
+            }
+        }
+        if self.is_stuck(0, second, spot.forward, spot.offset) {
+            spot.at += 1;
+            return Ok(());
+        }
+        memory.fork(second, spot)?;
+        Ok(())
+    }
+}

@@ -1,0 +1,101 @@
+//! Characters that are taken one after another, counted.
+ghost use Rattle.std.specs.Prelude.{◌≡◌, ℕ, true, List, None, MatchOption};
+ghost use Rattle.regress_meaning.specs.Meaning.{Forward as ahead};
+ghost use Rattle.regress_meaning.specs.Steps.{passed};
+ghost use Rattle.regress_engine_input.specs.Views.{way, input_of, CanRead};
+ghost use Rattle.regress_engine_code.specs.InsnViews.{instruction};
+ghost use Rattle.regress_engine_code.specs.Standing.{program_of};
+ghost use Rattle.regress_engine_runs.specs.States.{Marks};
+ghost use Rattle.regress_engine_runs.specs.Runs.{advance, after_times};
+ghost use Rattle.regress_engine_runs.specs.Closed.{Fits};
+ghost use Rattle.regress_engine_singles.specs.Passed.{is_class};
+ghost use Rattle.regress_engine_singles.specs.Passing.{after, IsTaken};
+
+use crate::class::ScannedBracket;
+use regress_engine_code::{CompiledRegex, Insn};
+use regress_engine_input::{Direction, Forward, InputIndexer, PositionType};
+use regress_engine_matchers::{CharInput, MatchByteSet, SingleCharMatcher};
+use regress_front_bytes::ascii_bitmap_holds_ascii;
+
+/// Characters that are taken one after another: some, and one more.
+#[derive(Debug, Clone, Copy)]
+pub struct Taken {
+    /// How many there are before the last one.
+    pub before: usize,
+    /// The offset of the last one.
+    pub last: usize,
+    /// The offset behind it.
+    pub past: usize,
+}
+
+/// The characters beside an offset, in a direction, that pass a test one after another, the first and at most so many more;
+/// `None` where the first does not pass.
+#[inline]
+fn taken_beside<Input: InputIndexer, Dir: Direction, Matcher: SingleCharMatcher<Input, Dir>>(
+    input: &Input,
+    dir: Dir,
+    matcher: &Matcher,
+    more: usize,
+    offset: usize,
+) -> Option<Taken>
+    requires place { CanRead (Input.view input.now) offset }
+    requires suits { Matcher.Suits matcher.now (Input.view input.now) }
+    ensures { MatchOption result (None ≡ passed (Matcher.passes matcher.now) ((input_of (Input.view input.now)).next (way Dir.FORWARD) offset)) (λ t. IsTaken (after (input_of (Input.view input.now)) (Matcher.passes matcher.now) (way Dir.FORWARD)) (λ o. passed (Matcher.passes matcher.now) ((input_of (Input.view input.now)).next (way Dir.FORWARD) o)) more offset t.before t.last t.past) }
+{
+    let mut last = <Input::Position as PositionType>::new(offset);
+    let mut past = last;
+    if !matcher.matches(input, dir, &mut past) {
+        return None;
+    }
+    let mut left = more;
+    while left > 0 {
+        let mut next = past;
+        if !matcher.matches(input, dir, &mut next) {
+            break;
+        }
+        last = past;
+        past = next;
+        left -= 1;
+    }
+    Some(Taken {
+        before: more - left,
+        last: input.pos_to_offset(last),
+        past: input.pos_to_offset(past),
+    })
+}
+
+/// The characters ahead of an offset that a class takes one after another, the first and at most so many more; `None` where it
+/// does not take the first.
+///
+/// Asks that the instruction is a class and fits the program, and that characters may be read from the offset on.
+///
+/// ```rust
+/// let taken = taken_ahead(&program, &input, &Insn::Bracket(0), usize::MAX, 0);
+/// ```
+pub fn taken_ahead<Input: CharInput>(
+    program: &CompiledRegex,
+    input: &Input,
+    insn: &Insn,
+    more: usize,
+    offset: usize,
+) -> Option<Taken>
+    requires class { is_class (instruction insn.now) ≡ true }
+    requires fits { Fits (program_of program.now) 0 (instruction insn.now) }
+    requires place { CanRead (Input.view input.now) offset }
+    ensures { (groups : List Marks) → MatchOption result (None ≡ advance (program_of program.now) (input_of (Input.view input.now)) (instruction insn.now) ahead groups offset) (λ t. IsTaken (λ n o. after_times (program_of program.now) (input_of (Input.view input.now)) n (instruction insn.now) ahead groups o) (advance (program_of program.now) (input_of (Input.view input.now)) (instruction insn.now) ahead groups) more offset t.before t.last t.past) }
+{
+    match insn {
+        Insn::AsciiBracket(bitmap) => {
+            ascii_bitmap_holds_ascii(bitmap);
+            let set = MatchByteSet { bytes: bitmap };
+            taken_beside(input, Forward::new(), &set, more, offset)
+        }
+        Insn::Bracket(index) => {
+            let class = ScannedBracket {
+                bc: &program.brackets()[*index],
+            };
+            taken_beside(input, Forward::new(), &class, more, offset)
+        }
+        _ => None,
+    }
+}
