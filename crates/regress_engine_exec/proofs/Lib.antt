@@ -2,3 +2,4 @@ pub mod SingleLemmas
 pub mod StuckLemmas
 pub mod DispatchLemmas
 pub mod TryLemmas
+pub mod AheadLemmas

@@ -10,6 +10,7 @@ mod reads;
 mod search;
 mod singles;
 mod step;
+mod stuck;
 
 pub use regress_engine_sought::{ExecutorInput, Shown};
 pub use search::BacktrackExecutor;
