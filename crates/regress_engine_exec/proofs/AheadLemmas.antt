@@ -21,7 +21,7 @@ other-unit units bs o k there other = by_test (same_text bs (slice_range units o
         let sizes = length-append bs rest in
         absurd (other (omega (arith, size, sizes, there)) (ap (λ (xs : List ℕ). get_or xs k 0) split ∙ get_or_append_left bs rest 0 k there))
 
-pub differs-there : (v : View) (bs : List ℕ) (o k : ℕ) → k < length bs → (k < length (drop o v.units) → get_or (drop o v.units) k 0 ≡ get_or bs k 0 → ⊥) → None ≡ literal (input_of v) Forward bs o
+differs-there : (v : View) (bs : List ℕ) (o k : ℕ) → k < length bs → (k < length (drop o v.units) → get_or (drop o v.units) k 0 ≡ get_or bs k 0 → ⊥) → None ≡ literal (input_of v) Forward bs o
 differs-there v bs o k there other = by_kind v.kind
   where
     by_kind : (kind : Kind) → None ≡ literal (input_of_kind kind v.table v.unicode v.units) Forward bs o
@@ -30,19 +30,18 @@ differs-there v bs o k there other = by_kind v.kind
     by_kind utf16 = other-unit v.units bs o k there other
     by_kind ucs2 = other-unit v.units bs o k there other
 
--- the bytes of a text are its units, and units are no bytes
-pub bytes-of : (v : View) (text : List ℕ) → Some text ≡ in_bytes v.kind (Some v.units) → (are_bytes v.kind ≡ true) × (text ≡ v.units)
-bytes-of v text e = by_kind (are_bytes v.kind) refl e
+-- the bytes of a text are its units
+units-read : (v : View) (text : List ℕ) → Some text ≡ in_bytes v.kind (Some v.units) → text ≡ v.units
+units-read v text e = by_kind (are_bytes v.kind) e
   where
-    by_kind : (b : Bool) → are_bytes v.kind ≡ b → Some text ≡ (if b then Some v.units else None) → (are_bytes v.kind ≡ true) × (text ≡ v.units)
-    by_kind true h f = (h, cc f)
-    by_kind false h f = absurd (cc f)
+    by_kind : (b : Bool) → Some text ≡ (if b then Some v.units else None) → text ≡ v.units
+    by_kind true f = cc f
+    by_kind false f = absurd (cc f)
 
 -- the same of the bytes behind an offset, as they are read
 pub differs-read : (v : View) (text bs : List ℕ) (o k : ℕ) → Some text ≡ in_bytes v.kind (Some v.units) → k < length bs
     → (k < length (take (length text - o) (drop o text)) → get_or (take (length text - o) (drop o text)) k 0 ≡ get_or bs k 0 → ⊥) → None ≡ literal (input_of v) Forward bs o
 differs-read v text bs o k is there other =
-    let (are, units) = bytes-of v text is in
     let whole : take (length text - o) (drop o text) ≡ drop o text = ap (λ n. take n (drop o text)) (sym (length-drop o text)) ∙ take_all (length (drop o text)) (drop o text) (omega arith) in
-    let same : take (length text - o) (drop o text) ≡ drop o v.units = whole ∙ ap (drop o) units in
+    let same : take (length text - o) (drop o text) ≡ drop o v.units = whole ∙ ap (drop o) (units-read v text is) in
     differs-there v bs o k there (subst (λ (xs : List ℕ). k < length xs → get_or xs k 0 ≡ get_or bs k 0 → ⊥) same other)

@@ -252,7 +252,7 @@ impl<'a, 'r, Input: CharInput> Attempt<'a, 'r, Input> {
     }
 
     /// The offset behind the character beside one, where that ends no line.
-    #[inline]
+    #[inline(always)]
     pub(crate) fn any_in_line(&self, forward: bool, offset: usize) -> Option<usize>
         requires { CanRead (Input.view self.now.input) offset }
         ensures { result ≡ passed (λ c. not (is_line_end c)) ((input_of (Input.view self.now.input)).next (way forward) offset) }
@@ -299,7 +299,7 @@ impl<'a, 'r, Input: CharInput> Attempt<'a, 'r, Input> {
 
     /// Whether another byte stands ahead of an offset, or none. The offset may be any.
     #[inline(always)]
-    fn other_ahead(&self, offset: usize, byte: u8) -> bool
+    pub(crate) fn other_ahead(&self, offset: usize, byte: u8) -> bool
         requires { are_bytes (Input.view self.now.input).kind ≡ true }
         ensures { (rest : List ℕ) → result ≡ true → None ≡ literal (input_of (Input.view self.now.input)) ahead (byte ∷ rest) offset }
     {
