@@ -13,6 +13,69 @@ use regress_rows::Row;
 use std::alloc::{AllocError, Global};
 use std::test::Fail;
 
+/// Alternatives of which most begin with other bytes than stand there, words that fail late, and lazy loops.
+const WAYS: &[Row] = &[
+    (
+        r"\b(?:break|case|catch|class|const|continue|default|delete|else|export|for|function|if|import|new|return|switch|this|throw|typeof|var|while)\b",
+        "",
+        "case c cas classes class while whil thi this var",
+        "0..4|19..24|25..30|40..44|45..48",
+    ),
+    (
+        "(?:cat|car|cab|ca|dog|do)",
+        "",
+        "cat cabs car ca dog dot d",
+        "0..3|4..7|9..12|13..15|16..19|20..22",
+    ),
+    (
+        "(?:cat|car||do)t",
+        "",
+        "catt cart dot ct",
+        "0..4|5..9|10..13|15..16",
+    ),
+    (
+        "car|[cd]a|(?:cab)t|d*o|cat",
+        "",
+        "car cat cabt ddo da",
+        "0..3|4..6|8..10|13..16|17..19",
+    ),
+    (
+        "(?:a(?:b(?:c(?:a|d)|d)|ca)|b(?:a|c)|c)+",
+        "",
+        "abcabd acab bcba",
+        "0..4|7..10|12..16",
+    ),
+    (
+        "(?:(?:(?:(?:(?:(?:(?:(?:(?:(?:(?:(?:(?:(?:(?:(?:(?:(?:(?:ab|b)|c)|d)|e)|f)|g)|h)|i)|j)|k)|l)|m)|n)|o)|p)|q)|r)|s)|t)!|at",
+        "",
+        "ab!t!at!k!z",
+        "0..3|3..5|5..7|8..10",
+    ),
+    (
+        "(?<=car|cat|do)[a-z]",
+        "",
+        "cars cats dos cabs",
+        "3..4|8..9|12..13",
+    ),
+    ("(?<!cat|car|c)a", "", "cata caraa a", "9..10|11..12"),
+    ("for|form|fo|else", "", "fo form f e", "0..2|3..6"),
+    (
+        "harbour",
+        "i",
+        "Harb hArBoUr hhaHARBOUR harbou",
+        "5..12|16..23",
+    ),
+    ("ab[cd]e", "i", "ABCe aBde abe ABC", "0..4|5..9"),
+    (
+        "<e>.*?</e>",
+        "",
+        "<e>a</b></e> <e><</e><e></e",
+        "0..12|13..21",
+    ),
+    ("<[^>]*?></", "", "<a></ <b></<></", "0..5|6..11|11..15"),
+    ("(?:ab|cd){2,}?e", "", "ababe cdabcde abe", "0..5|6..13"),
+];
+
 /// Over which inputs a row is tried.
 #[derive(Clone, Copy, PartialEq)]
 pub(crate) enum Over {
@@ -111,4 +174,10 @@ fn rows_match_so_over_utf8(rt: HostRuntime) -> Result<(), Fail> {
 #[test]
 fn rows_match_so_over_other_inputs(rt: HostRuntime) -> Result<(), Fail> {
     all_match_so(rt.alloc(), Over::Others)
+}
+
+#[test]
+fn ways_match_so_over_each_input(rt: HostRuntime) -> Result<(), Fail> {
+    match_so(rt.alloc(), Over::Utf8, WAYS)?;
+    match_so(rt.alloc(), Over::Others, WAYS)
 }

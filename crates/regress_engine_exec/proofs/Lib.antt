@@ -3,3 +3,4 @@ pub mod StuckLemmas
 pub mod DispatchLemmas
 pub mod TryLemmas
 pub mod TurnLemmas
+pub mod AheadLemmas

@@ -1,5 +1,9 @@
 -- What surely leads nowhere, and what is passed over.
-use Rattle.std.proofs.Common.{◌≡◌, ℕ, zero, suc, ◌+◌, ◌-◌, ◌<◌, ◌==◌, Bool, true, false, not, List, [], length, Option, Some, None, ◌⊎◌, inl, inr, refl, sym, ap, ◌∙◌, subst, arith}
+use Rattle.std.specs.Prelude.{nat_lt, get_or, slice_set}
+use Rattle.std.proofs.lemmas.Bool.{cases_lt}
+use Rattle.std.proofs.lemmas.Bool.Decides.{nat_tests}
+use Rattle.std.proofs.lemmas.List.{get_or-set_same, get_or-set_other}
+use Rattle.std.proofs.Common.{◌≡◌, ℕ, zero, suc, ◌+◌, ◌-◌, ◌<◌, ◌≤◌, ◌==◌, Bool, true, false, not, List, [], length, Option, Some, None, ◌⊎◌, inl, inr, refl, sym, ap, ◌∙◌, subst, arith}
 use Rattle.regress_meaning.specs.Meaning.{Direction, Forward, Backward}
 use Rattle.regress_meaning.specs.Inputs.{Input}
 use Rattle.regress_meaning.specs.Steps.{literal}
@@ -61,6 +65,9 @@ bytes-units program at _ e fits = absurd (grind arith)
 pub some-there : (n : ℕ) → false ≡ (n == 0) → 0 < n
 some-there zero e = absurd (grind arith)
 some-there (suc n) e = omega arith
+
+pub more-than : (n : ℕ) → 0 < n → nat_lt 0 n ≡ true
+more-than n some = grind (arith, nat_tests)
 
 pub is-not : (b : Bool) → not b ≡ true → b ≡ false
 is-not true e = absurd cc
@@ -203,3 +210,21 @@ module _ (program : Program) (input : Input) (forward : Bool) (at : ℕ) where
       let k : Held = pushed (take_on at q (left - 1)) h in
       past-stuck program input forward at near p (pushed (take_on at near left) h) k same stuck
       (take_on-more program input p h k at near left q i here some (subst (λ b. advance program input i (way b) h.groups near ≡ Some q) (sym same) (takes h.groups)) refl)
+
+-- ---- ways that are kept, each of which leads nowhere
+
+module _ (Stuck : ℕ → Type 0) (kept : List ℕ) (depth : ℕ) where
+  -- one more is kept
+  pub kept-more : (at : ℕ) → depth < length kept → ((j : ℕ) → j < depth + 1 → Stuck (get_or (slice_set kept depth at) j 0)) → Stuck at × ((j : ℕ) → j < depth → Stuck (get_or kept j 0))
+  kept-more at there all = (
+    subst Stuck (get_or-set_same kept depth at 0 there) (all depth (omega arith)),
+    λ j less. subst Stuck (get_or-set_other kept depth j at 0 (λ same. omega (arith, less, same))) (all j (omega (arith, less))),
+  )
+
+  -- the last one is told apart
+  pub kept-last : (depth ≡ 0 → ⊥) → Stuck (get_or kept (depth - 1) 0) → ((j : ℕ) → j < depth - 1 → Stuck (get_or kept j 0)) → (j : ℕ) → j < depth → Stuck (get_or kept j 0)
+  kept-last some last others j less = by_order (cases_lt j (depth - 1))
+    where
+      by_order : (j < depth - 1) ⊎ (depth - 1 ≤ j) → Stuck (get_or kept j 0)
+      by_order (inl before) = others j before
+      by_order (inr behind) = let same : depth - 1 ≡ j = omega (arith, behind, less) in subst (λ i. Stuck (get_or kept i 0)) same last

@@ -1,11 +1,14 @@
 //! Going back to a state that is still to be tried.
-ghost use Rattle.std.specs.Prelude.{◌≡◌, ◌<◌, ℕ, true, false, [], length, nat_lt, IfOk, IfSome, OnOk};
+ghost use Rattle.std.specs.Prelude.{◌≡◌, ◌<◌, ℕ, true, false, List, [], ◌∷◌, length, map, nat_lt, is_some, IfOk, IfSome, OnOk};
+ghost use Rattle.regress_engine_code.specs.InsnViews.{instruction};
+ghost use Rattle.regress_engine_code.specs.Instructions.{byte_seq};
 ghost use Rattle.regress_engine_code.specs.Standing.{program_of};
 ghost use Rattle.regress_engine_input.specs.Views.{way, input_of, reading_of};
-ghost use Rattle.regress_engine_runs.specs.Runs.{gap, after_look};
+ghost use Rattle.regress_engine_runs.specs.Runs.{advance, gap, after_look};
 ghost use Rattle.regress_engine_runs.specs.Meets.{IsAtPlace};
 ghost use Rattle.regress_engine_runs.specs.UndoStack.{give_back, take_on, whole};
-ghost use Rattle.regress_engine_sought.specs.Ready.{IsBody};
+ghost use Rattle.regress_engine_sought.specs.Ready.{IsBody, IsReady};
+ghost use Rattle.regress_engine_sought.specs.StateViews.{marks_of};
 ghost use Rattle.regress_engine_sought.specs.Tasks.{Leads};
 ghost use Rattle.regress_engine_undo.specs.Held.{held, undo_of, pushed};
 ghost use Rattle.regress_engine_sought.specs.Sought.{Suits};
@@ -14,6 +17,8 @@ ghost use Rattle.regress_engine_exec.specs.Stuck.{GivesFrom, TakesFrom};
 ghost use Rattle.regress_engine_undo.specs.Tasks.{task};
 
 use crate::attempt::Attempt;
+use crate::reads::first_byte;
+use regress_engine_code::Insn;
 use regress_engine_matchers::CharInput;
 use regress_engine_undo::{Frame, Memory, Spot, Undo};
 use regress_front_core::GroupData;
@@ -112,6 +117,51 @@ impl<'a, 'r, Input: CharInput> Attempt<'a, 'r, Input> {
         Ok(true)
     }
 
+    /// Whether an instruction takes something beside an offset. Where it takes bytes, the first of them is looked at at once.
+    #[inline(always)]
+    fn stands(
+        &self,
+        insn: &Insn,
+        first: Option<u8>,
+        forward: bool,
+        groups: &[GroupData<usize>],
+        offset: usize,
+    ) -> bool
+        requires suits { Suits (program_of self.now.program.now) (Input.view self.now.input) }
+        requires ready { IsReady (program_of self.now.program.now) (Input.view self.now.input) (instruction insn.now) (map marks_of groups.now) offset }
+        requires first { IfSome first (λ b. (rest : List ℕ) × (instruction insn.now ≡ byte_seq (b ∷ rest))) }
+        ensures { result ≡ is_some (advance (program_of self.now.program.now) (input_of (Input.view self.now.input)) (instruction insn.now) (way forward) (map marks_of groups.now) offset) }
+    {
+        if forward {
+            if let Some(byte) = first {
+                if self.other_ahead(offset, byte) {
+                    return false;
+                }
+            }
+        }
+        self.advance(insn, forward, groups, offset).is_some()
+    }
+
+    /// What `advance` answers. What is often repeated is done at once.
+    #[inline(always)]
+    fn once(
+        &self,
+        insn: &Insn,
+        forward: bool,
+        groups: &[GroupData<usize>],
+        offset: usize,
+    ) -> Option<usize>
+        requires suits { Suits (program_of self.now.program.now) (Input.view self.now.input) }
+        requires ready { IsReady (program_of self.now.program.now) (Input.view self.now.input) (instruction insn.now) (map marks_of groups.now) offset }
+        ensures { result ≡ advance (program_of self.now.program.now) (input_of (Input.view self.now.input)) (instruction insn.now) (way forward) (map marks_of groups.now) offset }
+    {
+        match insn {
+            Insn::AsciiBracket(bitmap) => self.ascii_bracket(forward, offset, bitmap),
+            Insn::MatchAnyExceptLineTerminator => self.any_in_line(forward, offset),
+            _ => self.advance(insn, forward, groups, offset),
+        }
+    }
+
     /// The near one of some offsets, from one on behind each iteration of the instruction before an address, at most so many,
     /// at which it may be gone on there, where what is taken first from there on stands, and how many may follow; `None`
     /// where it stands at none of them.
@@ -132,17 +182,18 @@ impl<'a, 'r, Input: CharInput> Attempt<'a, 'r, Input> {
         let Some(insn) = self.taken_first(at) else {
             return Some((offset, left));
         };
+        let first = first_byte(insn);
         let body = self.instruction(at - 1);
         let mut near = offset;
         let mut rest = left;
         'places: loop {
-            if self.advance(insn, forward, groups, near).is_some() {
+            if self.stands(insn, first, forward, groups, near) {
                 return Some((near, rest));
             }
             if rest == 0 {
                 return None;
             }
-            let Some(next) = self.advance(body, forward, groups, near) else {
+            let Some(next) = self.once(body, forward, groups, near) else {
                 return None;
             };
             near = next;

@@ -11,6 +11,7 @@ mod search;
 mod singles;
 mod step;
 mod turns;
+mod stuck;
 
 pub use regress_engine_sought::{ExecutorInput, Shown};
 pub use search::BacktrackExecutor;

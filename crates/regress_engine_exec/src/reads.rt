@@ -2,7 +2,7 @@
 ghost use Rattle.std.specs.Prelude.{◌≡◌, ◌<◌, ℕ, Bool, true, false, not, None, nat_lt, List, ◌∷◌, length, map, nat_eq, option_map, Some, is_some, IfSome, ◌&&◌, ◌||◌};
 ghost use Rattle.regress_meaning.specs.Text.{holds};
 ghost use Rattle.regress_meaning.specs.Class.{is_word};
-ghost use Rattle.regress_meaning.specs.Meaning.{Forward as ahead, is_line_end, is_some_and, word_at};
+ghost use Rattle.regress_meaning.specs.Meaning.{Forward as ahead, Backward as backward, is_line_end, is_some_and, word_at};
 ghost use Rattle.regress_meaning.specs.Steps.{passed, literal, point, repeated, at_boundary, only_if};
 ghost use Rattle.regress_front_bytes.specs.ByteSets.{members};
 ghost use Rattle.regress_front_bytes.specs.Bitmaps.{ascii_bitmap_contains};
@@ -19,7 +19,6 @@ ghost use Rattle.regress_engine_runs.specs.Closed.{Fits};
 ghost use Rattle.regress_engine_sought.specs.Sought.{Suits};
 ghost use Rattle.regress_engine_sought.specs.StateViews.{marks_of};
 ghost use Rattle.regress_engine_sought.specs.Ready.{IsReady};
-ghost use Rattle.regress_engine_singles.specs.Failing.{IsStuck};
 ghost use Rattle.regress_engine_exec.specs.Stuck.{bytes_in, is_byte_seq, is_edge, is_taking, IsTakenFirst};
 
 use crate::attempt::Attempt;
@@ -45,7 +44,7 @@ fn has_number(bytes: &[u8], number: u32) -> bool
 
 /// The bytes that an instruction takes, none where it takes no bytes.
 #[inline(always)]
-fn bytes_of(insn: &Insn) -> &[u8]
+pub(crate) fn bytes_of(insn: &Insn) -> &[u8]
     ensures bytes { result.now ≡ bytes_in (instruction insn.now) }
     ensures some { is_byte_seq (instruction insn.now) ≡ nat_lt 0 (length result.now) }
 {
@@ -130,17 +129,48 @@ impl<'a, 'r, Input: CharInput> Attempt<'a, 'r, Input> {
         Some((character, self.input.pos_to_offset(position)))
     }
 
-    /// The character beside an offset, forward or backward, and the offset behind it.
+    /// The character ahead of an offset, and the offset behind it, where a character of ASCII stands there in bytes.
+    #[inline(always)]
+    fn ascii_ahead(&self, offset: usize) -> Option<(Input::Element, usize)>
+        ensures { IfSome result (λ x. (input_of (Input.view self.now.input)).next ahead offset ≡ Some (Input.Element.code x.0, x.1)) }
+    {
+        let text = self.input.bytes()?;
+        if offset >= text.len() || text[offset] >= 0x80 {
+            return None;
+        }
+        let c = <Input::Element as ElementType>::try_from(u32::from(text[offset]))?;
+        Some((c, offset + 1))
+    }
+
+    /// The character before an offset, and the offset before it, where a character of ASCII stands there in bytes.
+    #[inline(always)]
+    fn ascii_before(&self, offset: usize) -> Option<(Input::Element, usize)>
+        ensures { IfSome result (λ x. (input_of (Input.view self.now.input)).next backward offset ≡ Some (Input.Element.code x.0, x.1)) }
+    {
+        let text = self.input.bytes()?;
+        if offset == 0 || offset > text.len() || text[offset - 1] >= 0x80 {
+            return None;
+        }
+        let c = <Input::Element as ElementType>::try_from(u32::from(text[offset - 1]))?;
+        Some((c, offset - 1))
+    }
+
+    /// The character beside an offset, forward or backward, and the offset behind it. One of ASCII in bytes is read at once.
     #[inline]
     pub(crate) fn beside(&self, forward: bool, offset: usize) -> Option<(Input::Element, usize)>
         requires { CanRead (Input.view self.now.input) offset }
         ensures { option_map (λ x. (Input.Element.code x.0, x.1)) result ≡ (input_of (Input.view self.now.input)).next (way forward) offset }
     {
         if forward {
-            self.read(Forward::new(), offset)
-        } else {
-            self.read(Backward::new(), offset)
+            if let Some(read) = self.ascii_ahead(offset) {
+                return Some(read);
+            }
+            return self.read(Forward::new(), offset);
         }
+        if let Some(read) = self.ascii_before(offset) {
+            return Some(read);
+        }
+        self.read(Backward::new(), offset)
     }
 
     /// The offset behind the character beside one, where that is the wanted one.
@@ -222,7 +252,7 @@ impl<'a, 'r, Input: CharInput> Attempt<'a, 'r, Input> {
     }
 
     /// The offset behind the character beside one, where that ends no line.
-    #[inline]
+    #[inline(always)]
     pub(crate) fn any_in_line(&self, forward: bool, offset: usize) -> Option<usize>
         requires { CanRead (Input.view self.now.input) offset }
         ensures { result ≡ passed (λ c. not (is_line_end c)) ((input_of (Input.view self.now.input)).next (way forward) offset) }
@@ -256,7 +286,7 @@ impl<'a, 'r, Input: CharInput> Attempt<'a, 'r, Input> {
 
     /// Whether some bytes don't stand beside an offset, which may be any. The first one is looked at at once.
     #[inline(always)]
-    fn lacks(&self, forward: bool, offset: usize, bytes: &[u8]) -> bool
+    pub(crate) fn lacks(&self, forward: bool, offset: usize, bytes: &[u8]) -> bool
         requires kind { are_bytes (Input.view self.now.input).kind ≡ true }
         requires some { 0 < length bytes.now }
         ensures { result ≡ not (is_some (literal (input_of (Input.view self.now.input)) (way forward) bytes.now offset)) }
@@ -269,7 +299,7 @@ impl<'a, 'r, Input: CharInput> Attempt<'a, 'r, Input> {
 
     /// Whether another byte stands ahead of an offset, or none. The offset may be any.
     #[inline(always)]
-    fn other_ahead(&self, offset: usize, byte: u8) -> bool
+    pub(crate) fn other_ahead(&self, offset: usize, byte: u8) -> bool
         requires { are_bytes (Input.view self.now.input).kind ≡ true }
         ensures { (rest : List ℕ) → result ≡ true → None ≡ literal (input_of (Input.view self.now.input)) ahead (byte ∷ rest) offset }
     {
@@ -437,49 +467,6 @@ impl<'a, 'r, Input: CharInput> Attempt<'a, 'r, Input> {
             return None;
         }
         self.bytes(forward, offset, bytes)
-    }
-
-    /// Whether surely nothing is led to by two ways, as far as ways so deep tell.
-    #[cycle(stuck)]
-    fn are_stuck(
-        &self,
-        ways: usize,
-        first: usize,
-        second: usize,
-        forward: bool,
-        offset: usize,
-    ) -> bool
-        requires { Suits (program_of self.now.program.now) (Input.view self.now.input) }
-        ensures { result ≡ true → IsStuck (program_of self.now.program.now) (input_of (Input.view self.now.input)) (way forward) first offset
-            × IsStuck (program_of self.now.program.now) (input_of (Input.view self.now.input)) (way forward) second offset }
-    {
-        if ways == 0 || !self.is_stuck(ways - 1, first, forward, offset) {
-            return false;
-        }
-        self.is_stuck(ways - 1, second, forward, offset)
-    }
-
-    /// Whether surely nothing is led to from an address on: bytes are taken there that don't stand beside an offset, or of two
-    /// ways there neither leads anywhere, as far as ways so deep tell.
-    #[inline(always)]
-    #[cycle(stuck)]
-    pub(crate) fn is_stuck(&self, ways: usize, at: usize, forward: bool, offset: usize) -> bool
-        requires { Suits (program_of self.now.program.now) (Input.view self.now.input) }
-        ensures { result ≡ true → IsStuck (program_of self.now.program.now) (input_of (Input.view self.now.input)) (way forward) at offset }
-    {
-        let insns = self.program.insns();
-        if at >= insns.len() {
-            return false;
-        }
-        let insn = &insns[at];
-        if let Insn::Alt { secondary } = insn {
-            return self.are_stuck(ways, at + 1, *secondary as usize, forward, offset);
-        }
-        let bytes = bytes_of(insn);
-        if bytes.is_empty() {
-            return false;
-        }
-        self.lacks(forward, offset, bytes)
     }
 
     /// What is taken at an address: the instruction there, or what a one-character loop there does at least once; `None` where

@@ -21,10 +21,6 @@ use regress_engine_undo::{Memory, Spot, begun, ended};
 use regress_front_core::GroupData;
 use std::alloc::AllocError;
 
-/// It is looked so many ways ahead whether the first of two leads anywhere: as deep as the ways of many words are nested. Of
-/// the second, and of the way out of a repetition, only bytes are looked at, since they may never be tried.
-const WAYS_AHEAD: usize = 16;
-
 impl<'a, 'r, Input: CharInput> Attempt<'a, 'r, Input> {
     /// Does an instruction that changes nothing but the offset, and answers whether it leads anywhere.
     #[inline]
@@ -57,7 +53,7 @@ impl<'a, 'r, Input: CharInput> Attempt<'a, 'r, Input> {
         match self.instruction(begin) {
             Insn::EnterLoop(repetition) => {
                 let exit = repetition.exit as usize;
-                let stuck = self.is_stuck(0, exit, spot.forward, spot.offset);
+                let stuck = self.is_stuck(exit, spot.forward, spot.offset);
                 memory.again(repetition, begin, stuck, spot)
             }
             _ => Ok(false),
@@ -88,7 +84,7 @@ impl<'a, 'r, Input: CharInput> Attempt<'a, 'r, Input> {
             }
             Insn::Alt { secondary } => {
                 let second = *secondary as usize;
-                if self.is_stuck(WAYS_AHEAD, spot.at + 1, spot.forward, spot.offset) {
+                if self.are_stuck(spot.at + 1, spot.forward, spot.offset) {
                     spot.at = second;
                     return Ok(Some(true));
                 }
@@ -96,7 +92,7 @@ impl<'a, 'r, Input: CharInput> Attempt<'a, 'r, Input> {
                     self.choose(second, memory, spot)?;
                     return Ok(Some(true));
                 }
-                if self.is_stuck(0, second, spot.forward, spot.offset) {
+                if self.is_stuck(second, spot.forward, spot.offset) {
                     spot.at += 1;
                     return Ok(Some(true));
                 }
@@ -119,7 +115,7 @@ impl<'a, 'r, Input: CharInput> Attempt<'a, 'r, Input> {
             }
             Insn::EnterLoop(repetition) => {
                 let exit = repetition.exit as usize;
-                let stuck = self.is_stuck(0, exit, spot.forward, spot.offset);
+                let stuck = self.is_stuck(exit, spot.forward, spot.offset);
                 let going = memory.enter(repetition, stuck, spot)?;
                 Ok(Some(going))
             }

@@ -127,7 +127,7 @@ impl<'a, 'r, Input: CharInput> Attempt<'a, 'r, Input> {
         if count < turn.repetition.min_iters {
             return turn.again;
         }
-        if self.is_stuck(0, second, true, offset) {
+        if self.is_stuck(second, true, offset) {
             return turn.repetition.exit as usize;
         }
         turn.again
@@ -196,7 +196,7 @@ impl<'a, 'r, Input: CharInput> Attempt<'a, 'r, Input> {
                 }
             }
         }
-        if self.is_stuck(0, second, spot.forward, spot.offset) {
+        if self.is_stuck(second, spot.forward, spot.offset) {
             spot.at += 1;
             return Ok(());
         }

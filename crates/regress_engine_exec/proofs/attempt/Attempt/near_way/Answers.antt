@@ -21,13 +21,13 @@ overflow_sub-at g c = let some = c.requires.body.4 in omega (arith, some)
 pub instruction-body-requires : goal.instruction-body-requires
 instruction-body-requires g c = (c.requires.body.0, c.requires.body.1)
 
-pub advance-requires-clause-ready : goal.advance-requires-clause-ready
-advance-requires-clause-ready g c =
+pub stands-requires-clause-ready : goal.stands-requires-clause-ready
+stands-requires-clause-ready g c =
     taking-ready (program_of c.args.self.now.program.now) (g.Input.InputIndexer.view c.args.self.now.input) (instruction c.in-Some.insn.now) (map marks_of c.args.groups.now) c.places.near
     c.in-Some.ensures.fits c.in-Some.ensures.takes (length-map c.args.groups.now marks_of ∙ c.requires.groups) c.places.invariant.body.3
 
-pub advance-requires-in-places-clause-ready : goal.advance-requires-in-places-clause-ready
-advance-requires-in-places-clause-ready g c =
+pub once-requires-clause-ready : goal.once-requires-clause-ready
+once-requires-clause-ready g c =
     body-asked (g.Input.InputIndexer.view c.args.self.now.input) (g.met.Input.InputIndexer.are_of_kind c.args.self.now.input) (program_of c.args.self.now.program.now) c.requires.suits c.args.at c.places.near
     (instruction c.instruction-body.result.now) (map marks_of c.args.groups.now) c.places.invariant.body c.instruction-body.ensures.stands (length-map c.args.groups.now marks_of ∙ c.requires.groups)
 
@@ -42,12 +42,12 @@ returns-then-rest-eq0-clause-leads g c =
     let groups = map marks_of c.args.groups.now in
     let near = c.places.near in
     let stuck = c.in-Some.ensures.stuck input c.args.forward near
-    (λ gs. none-is _ (sym c.is_some.ensures ∙ c.if-is_some.false) ∙ c.advance.ensures ∙ taking-any program input i dir groups gs near c.in-Some.ensures.takes) in
+    (λ gs. none-is _ (sym c.stands.ensures ∙ c.if-stands.false) ∙ taking-any program input i dir groups gs near c.in-Some.ensures.takes) in
     takes-then program input c.args.forward c.args.at c.args.offset c.args.left near c.places.rest None c.places.invariant.takes
     (takes-last program input c.args.forward c.args.at near c.places.rest j c.instruction-body.ensures.stands stuck (inl c.if-rest-eq0.true))
 
-pub returns-in_default-advance-clause-leads : goal.returns-in_default-advance-clause-leads
-returns-in_default-advance-clause-leads g c =
+pub returns-in_default-once-clause-leads : goal.returns-in_default-once-clause-leads
+returns-in_default-once-clause-leads g c =
     let program = program_of c.args.self.now.program.now in
     let v = g.Input.InputIndexer.view c.args.self.now.input in
     let input = input_of v in
@@ -57,10 +57,10 @@ returns-in_default-advance-clause-leads g c =
     let groups = map marks_of c.args.groups.now in
     let near = c.places.near in
     let stuck = c.in-Some.ensures.stuck input c.args.forward near
-    (λ gs. none-is _ (sym c.is_some.ensures ∙ c.if-is_some.false) ∙ c.advance.ensures ∙ taking-any program input i dir groups gs near c.in-Some.ensures.takes) in
+    (λ gs. none-is _ (sym c.stands.ensures ∙ c.if-stands.false) ∙ taking-any program input i dir groups gs near c.in-Some.ensures.takes) in
     takes-then program input c.args.forward c.args.at c.args.offset c.args.left near c.places.rest None c.places.invariant.takes
     (takes-last program input c.args.forward c.args.at near c.places.rest j c.instruction-body.ensures.stands stuck
-    (inr (λ gs. taking-any program input j dir gs groups near (body-taking program input v c.args.at near j c.places.invariant.body c.instruction-body.ensures.stands) ∙ sym c.in_default-advance.ensures)))
+    (inr (λ gs. taking-any program input j dir gs groups near (body-taking program input v c.args.at near j c.places.invariant.body c.instruction-body.ensures.stands) ∙ sym c.in_default-once.ensures)))
 
 pub places-preserved : goal.places-preserved
 places-preserved g c =
@@ -73,11 +73,11 @@ places-preserved g c =
     let groups = map marks_of c.args.groups.now in
     let near = c.places.near in
     let stuck = c.in-Some.ensures.stuck input c.args.forward near
-    (λ gs. none-is _ (sym c.is_some.ensures ∙ c.if-is_some.false) ∙ c.advance.ensures ∙ taking-any program input i dir groups gs near c.in-Some.ensures.takes) in
+    (λ gs. none-is _ (sym c.stands.ensures ∙ c.if-stands.false) ∙ taking-any program input i dir groups gs near c.in-Some.ensures.takes) in
     record {
-      takes = takes-then program input c.args.forward c.args.at c.args.offset c.args.left near c.places.rest (Some (c.in-Some-advance.next, c.places.rest - 1)) c.places.invariant.takes
-          (takes-over program input c.args.forward c.args.at near c.places.rest c.in-Some-advance.next j c.instruction-body.ensures.stands stuck c.if-rest-eq0.false
-          (λ gs. taking-any program input j dir gs groups near (body-taking program input v c.args.at near j c.places.invariant.body c.instruction-body.ensures.stands) ∙ sym c.in-Some-advance.ensures));
-      body = body-next v (g.met.Input.InputIndexer.are_of_kind c.args.self.now.input) program c.requires.suits c.args.at near c.in-Some-advance.next j dir groups
-          c.places.invariant.body c.instruction-body.ensures.stands (sym c.in-Some-advance.ensures);
+      takes = takes-then program input c.args.forward c.args.at c.args.offset c.args.left near c.places.rest (Some (c.in-Some-once.next, c.places.rest - 1)) c.places.invariant.takes
+          (takes-over program input c.args.forward c.args.at near c.places.rest c.in-Some-once.next j c.instruction-body.ensures.stands stuck c.if-rest-eq0.false
+          (λ gs. taking-any program input j dir gs groups near (body-taking program input v c.args.at near j c.places.invariant.body c.instruction-body.ensures.stands) ∙ sym c.in-Some-once.ensures));
+      body = body-next v (g.met.Input.InputIndexer.are_of_kind c.args.self.now.input) program c.requires.suits c.args.at near c.in-Some-once.next j dir groups
+          c.places.invariant.body c.instruction-body.ensures.stands (sym c.in-Some-once.ensures);
     }

@@ -115,21 +115,21 @@ returns-in-Jump-clause-leads g c =
     let here = stands-as program p.at _ _ c.in-Jump.is c.instruction-insn.ensures.stands in
     jump-on program input p h c.in-Jump.target here
 
+pub returns-then-are_stuck-clause-leads : goal.returns-then-are_stuck-clause-leads
+returns-then-are_stuck-clause-leads g c =
+    let program = program_of c.args.self.now.program.now in
+    let input = input_of (g.Input.InputIndexer.view c.args.self.now.input) in
+    let p = c.args.spot.now in
+    let here = stands-as program p.at _ _ c.in-Alt.is c.instruction-insn.ensures.stands in
+    first-stuck program input p (held c.args.memory.now) c.in-Alt.secondary here (c.are_stuck.ensures c.if-are_stuck.true)
+
 pub returns-then-is_stuck-clause-leads : goal.returns-then-is_stuck-clause-leads
 returns-then-is_stuck-clause-leads g c =
     let program = program_of c.args.self.now.program.now in
     let input = input_of (g.Input.InputIndexer.view c.args.self.now.input) in
     let p = c.args.spot.now in
     let here = stands-as program p.at _ _ c.in-Alt.is c.instruction-insn.ensures.stands in
-    first-stuck program input p (held c.args.memory.now) c.in-Alt.secondary here (c.is_stuck.ensures c.if-is_stuck.true)
-
-pub returns-then-is_stuck-2-clause-leads : goal.returns-then-is_stuck-2-clause-leads
-returns-then-is_stuck-2-clause-leads g c =
-    let program = program_of c.args.self.now.program.now in
-    let input = input_of (g.Input.InputIndexer.view c.args.self.now.input) in
-    let p = c.args.spot.now in
-    let here = stands-as program p.at _ _ c.in-Alt.is c.instruction-insn.ensures.stands in
-    second-stuck program input p (held c.args.memory.now) c.in-Alt.secondary here (c.is_stuck-in-Alt.ensures c.if-is_stuck-2.true)
+    second-stuck program input p (held c.args.memory.now) c.in-Alt.secondary here (c.is_stuck.ensures c.if-is_stuck.true)
 
 pub returns-in_ok-fork-in-Alt-clause-leads : goal.returns-in_ok-fork-in-Alt-clause-leads
 returns-in_ok-fork-in-Alt-clause-leads g c =

@@ -1,37 +1,24 @@
-use Rattle.std.specs.Prelude.{nat_lt}
-use Rattle.std.proofs.Common.{◌≡◌, ℕ, ◌<◌, true, not, length, sym, ap, ◌∙◌, arith}
-use Rattle.std.proofs.lemmas.Bool.Decides.{nat_tests}
+use Rattle.std.proofs.Common.{◌≡◌, true, not, length, sym, ap, ◌∙◌}
 use Rattle.regress_meaning.specs.Steps.{literal}
 use Rattle.regress_engine_code.specs.Standing.{program_of}
 use Rattle.regress_engine_input.specs.Views.{way, input_of}
 use Rattle.regress_engine_code.specs.declared.insn.Insn.TheVariants.{Goal}
-use Rattle.regress_engine_sought.proofs.InsnLemmas.{stands-as}
-use Rattle.regress_engine_singles.proofs.StuckLemmas.{simple-stuck, alt-stuck}
+use Rattle.regress_engine_singles.proofs.StuckLemmas.{simple-stuck}
 use Rattle.regress_engine_exec.proofs.DispatchLemmas.{bytes-simple, none-is, stands-read}
-use Rattle.regress_engine_exec.proofs.StuckLemmas.{bytes-taken, bytes-units, some-there, is-not}
+use Rattle.regress_engine_exec.proofs.StuckLemmas.{bytes-taken, bytes-units, some-there, more-than, is-not}
 use Rattle.regress_engine_exec.specs.Stuck.{is_byte_seq}
-use Rattle.regress_engine_exec.proofs.attempt.Attempt.+stuck.Goals as goal
+use Rattle.regress_engine_exec.proofs.attempt.Attempt.is_stuck.Goals as goal
 
-more-than : (n : ℕ) → 0 < n → nat_lt 0 n ≡ true
-more-than n some = grind (arith, nat_tests)
-
-pub is_stuck-returns-in-Alt : goal.is_stuck-returns-in-Alt
-is_stuck-returns-in-Alt g t c = λ yes.
-    let program = program_of c.args.self.now.program.now in
-    let here = stands-read c.insns-insns.result.now c.args.self.now.program.now.insns.items c.args.at Goal c.insns-insns.ensures c.if-at-insns.false in
-    let both = c.are_stuck.ensures yes in
-    alt-stuck program (input_of (g.Input.InputIndexer.view c.args.self.now.input)) (way c.args.forward) c.args.at c.args.offset _ (stands-as program c.args.at _ _ c.in-Alt.is here) both.0 both.1
-
-pub is_stuck-lacks-requires : goal.is_stuck-lacks-requires
-is_stuck-lacks-requires g t c =
+pub lacks-requires-clause-kind : goal.lacks-requires-clause-kind
+lacks-requires-clause-kind g c =
     let program = program_of c.args.self.now.program.now in
     let here = stands-read c.insns-insns.result.now c.args.self.now.program.now.insns.items c.args.at Goal c.insns-insns.ensures c.if-at-insns.false in
     let some = some-there (length c.bytes_of-bytes.result.now) (c.if-is_empty.ensures) in
     let bytes : is_byte_seq _ ≡ true = c.bytes_of-bytes.ensures.some ∙ more-than (length c.bytes_of-bytes.result.now) some in
-    record { kind = c.requires.kind ∙ ap not (bytes-units program c.args.at _ bytes (c.requires.closed c.args.at _ here)); some = some }
+    c.requires.kind ∙ ap not (bytes-units program c.args.at _ bytes (c.requires.closed c.args.at _ here))
 
-pub is_stuck-returns : goal.is_stuck-returns
-is_stuck-returns g t c = λ none.
+pub returns : goal.returns
+returns g c = λ none.
     let program = program_of c.args.self.now.program.now in
     let here = stands-read c.insns-insns.result.now c.args.self.now.program.now.insns.items c.args.at Goal c.insns-insns.ensures c.if-at-insns.false in
     let some = some-there (length c.bytes_of-bytes.result.now) (c.if-is_empty.ensures) in
