@@ -2,7 +2,7 @@
 ghost use Rattle.std.specs.Prelude.{◌≡◌, ◌<◌, ℕ, true, false, List, get_or, IfSome};
 ghost use Rattle.regress_meaning.specs.Meaning.{Forward as ahead};
 ghost use Rattle.regress_meaning.specs.Steps.{literal};
-ghost use Rattle.regress_engine_code.specs.Instructions.{Stands, boundary};
+ghost use Rattle.regress_engine_code.specs.Instructions.{Stands, boundary, line_start};
 ghost use Rattle.regress_engine_code.specs.InsnViews.{instruction};
 ghost use Rattle.regress_engine_code.specs.Standing.{program_of};
 ghost use Rattle.regress_engine_input.specs.Views.{are_bytes, input_of, reading_of, CanRead};
@@ -17,7 +17,7 @@ ghost use Rattle.regress_engine_singles.specs.Passed.{is_class, PassesOver};
 use crate::attempt::Attempt;
 use crate::reads::is_edge;
 use regress_engine_code::Insn;
-use regress_engine_matchers::CharInput;
+use regress_engine_matchers::{CharInput, CharProperties};
 use regress_engine_singles::as_far_ahead;
 
 /// So many instructions behind a run are looked at.
@@ -165,6 +165,29 @@ impl<'a, 'r, Input: CharInput> Attempt<'a, 'r, Input> {
         (self.start < at).then_some(at)
     }
 
+    /// How far from the start on no line begins, where the program asks for that first; `None` where one begins there, and
+    /// something may be led to.
+    fn passed_line(&self) -> Option<usize>
+        requires suits { Suits (program_of self.now.program.now) (Input.view self.now.input) }
+        requires place { IsAtPlace (reading_of (Input.view self.now.input)) self.now.start }
+        requires first { Stands (program_of self.now.program.now) 0 (line_start true) }
+        ensures { IfSome result (PassesOver (program_of self.now.program.now) (Input.view self.now.input) self.now.start) }
+    {
+        if !self.fails(LOOKED_AT, 0, self.start) {
+            return None;
+        }
+        let mut at = self.start;
+        'places: loop {
+            let Some((c, behind)) = self.beside(true, at) else {
+                return (self.start < at).then_some(at);
+            };
+            if <Input::CharProps as CharProperties>::is_line_terminator(c) {
+                return Some(behind);
+            }
+            at = behind;
+        }
+    }
+
     /// How far from the start on no run has an answer, where that is known without a run: the program begins with a run of
     /// characters, and nothing is led to from any of its ends, or with what is asked of an offset, and nothing is led to.
     pub(crate) fn passed(&self) -> Option<usize>
@@ -180,6 +203,7 @@ impl<'a, 'r, Input: CharInput> Attempt<'a, 'r, Input> {
             Insn::BeginCaptureGroup(_) => self.passed_from(1),
             Insn::WordBoundary { invert: false } => self.passed_inside(false),
             Insn::WordBoundaryUnicodeICase { invert: false } => self.passed_inside(true),
+            Insn::StartOfLine { multiline: true } => self.passed_line(),
             insn => {
                 if is_edge(insn) {
                     return self.passed_one();

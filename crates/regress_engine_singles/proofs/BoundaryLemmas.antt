@@ -30,7 +30,7 @@ table-is v = by_kind v.kind
 
 module _ (v : View) (all : AreOfKind v.kind v.units) where
   -- the character ahead of a place stands before the next one
-  point-behind : (o c q : ℕ) → IsAtPlace (reading_of v) o → (input_of v).next Forward o ≡ Some (c, q) → point (input_of v) Backward q ≡ Some c
+  pub point-behind : (o c q : ℕ) → IsAtPlace (reading_of v) o → (input_of v).next Forward o ≡ Some (c, q) → point (input_of v) Backward q ≡ Some c
   point-behind o c q (p, room, e) next = by_point (slice_get (reading_of v).points p) refl
     where
       told : Tells (reading_of v) (input_of v)
