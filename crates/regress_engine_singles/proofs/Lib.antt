@@ -4,5 +4,6 @@ pub mod Failures
 pub mod LeadingLemmas
 pub mod LineLemmas
 pub mod PassingLemmas
+pub mod StopLemmas
 pub mod StuckLemmas
 pub mod BoundaryLemmas

@@ -1,6 +1,6 @@
 -- From where a line begins that leads nowhere, and up to where the next one begins, a program that asks for the begin of a line leads nowhere.
 use Rattle.std.specs.Prelude.{option_map, ◌||◌, ◌&&◌, is_some}
-use Rattle.std.proofs.Common.{◌≡◌, ℕ, ◌<◌, Bool, true, false, not, Option, Some, None, if◌then◌else◌, refl, sym, ap, ◌∙◌, arith}
+use Rattle.std.proofs.Common.{◌≡◌, ℕ, Bool, true, false, not, Option, Some, None, if◌then◌else◌, refl, sym, ap, ◌∙◌, arith}
 use Rattle.regress_meaning.specs.Meaning.{Forward, Backward, is_line_end, is_some_and}
 use Rattle.regress_meaning.specs.Steps.{point, begins_line}
 use Rattle.regress_engine_input.specs.Views.{View, AreOfKind, input_of, reading_of}

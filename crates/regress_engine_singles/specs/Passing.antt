@@ -1,8 +1,9 @@
 -- How far a test on one character passes, again and again.
-use Rattle.std.specs.Prelude.{◌≡◌, ℕ, zero, suc, ◌<◌, ◌≤◌, Bool, Option, Some, None, option_and_then}
+use Rattle.std.specs.Prelude.{◌≡◌, ℕ, zero, suc, ◌<◌, ◌≤◌, Bool, true, false, List, length, slice_index, Option, Some, None, option_and_then}
 use Rattle.regress_meaning.specs.Meaning.{Direction}
 use Rattle.regress_meaning.specs.Inputs.{Input}
 use Rattle.regress_meaning.specs.Steps.{passed}
+use Rattle.regress_meaning.specs.Text.{holds}
 
 module _ (input : Input) (passes : ℕ → Bool) (dir : Direction) where
   -- the offset behind as many as there are, at most so many
@@ -21,3 +22,10 @@ pub record IsTaken (after : ℕ → ℕ → Option ℕ) (next : ℕ → Option �
   pub one : next last ≡ Some past
   pub within : before ≤ more
   pub stops : before < more → None ≡ next past
+
+-- From an offset up to another none of some bytes stands; there one of them does, or the bytes end.
+pub record StopsAt (stops bytes : List ℕ) (o end : ℕ) : Type 0 where
+  pub low : o ≤ end
+  pub room : end ≤ length bytes
+  pub none : (k : ℕ) → o ≤ k → k < end → holds stops (slice_index bytes k) ≡ false
+  pub stop : end < length bytes → holds stops (slice_index bytes end) ≡ true

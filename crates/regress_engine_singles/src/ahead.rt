@@ -10,6 +10,7 @@ ghost use Rattle.regress_engine_runs.specs.Closed.{Fits};
 
 use crate::class::ScannedBracket;
 use crate::far::as_far;
+use crate::stops::as_far_searched;
 use regress_engine_code::{CompiledRegex, Insn};
 use regress_engine_input::{Direction, Forward};
 use regress_engine_matchers::{CharInput, MatchAny, MatchAnyExceptLineTerminator, MatchByteSet};
@@ -41,9 +42,11 @@ pub fn as_far_ahead<Input: CharInput>(
             Some(as_far(input, Forward::new(), &set, times, offset))
         }
         Insn::Bracket(index) => {
-            let class = ScannedBracket {
-                bc: &program.brackets()[*index],
-            };
+            let bc = &program.brackets()[*index];
+            if let Some(far) = as_far_searched(input, bc, times, offset) {
+                return Some(far);
+            }
+            let class = ScannedBracket { bc };
             Some(as_far(input, Forward::new(), &class, times, offset))
         }
         Insn::MatchAny => Some(as_far(input, Forward::new(), &MatchAny::new(), times, offset)),

@@ -5,6 +5,7 @@ mod ahead;
 mod apart;
 mod class;
 mod far;
+mod stops;
 mod taken;
 
 pub use ahead::as_far_ahead;
