@@ -166,6 +166,54 @@ fn all_match_so(alloc: Global, over: Over) -> Result<(), Fail> {
     begin_so(alloc, over, rows::FIRST_MATCHES)
 }
 
+/// Where lines begin, and how far classes of all but a few characters go.
+const LINES: &[Row] = &[
+    ("^b", "m", "a\nb\rb\r\nb\nab", "2..3|4..5|7..8"),
+    ("^", "m", "a\n\r\nb", "0..0|2..2|3..3|4..4"),
+    ("^$", "m", "\n\na\r\r", "0..0|1..1|4..4|5..5"),
+    ("^b", "m", "ab", ""),
+    ("^(?:b|c)", "m", "cb\nbc\rac\nb", "0..1|3..4|9..10"),
+    ("^a\\B", "m", "a\nab\n\nba\naa", "2..3|9..10"),
+    (
+        "^a",
+        "m",
+        "é\u{2028}a\u{2029}aé\u{2030}a\na",
+        "5..6|9..10|17..18",
+    ),
+    ("^[^é]+", "m", "éa\nba\u{2028}é\nç", "4..9|12..14"),
+    (
+        "^([^,\n]*),([^,\n]*)$",
+        "m",
+        "a,b\nc\n,\nd,e,f\n,g",
+        "0..3 0..1 2..3|6..7 6..6 7..7|14..16 14..14 15..16",
+    ),
+    ("[^\"]*\"", "", "ab\"c\"\"d", "0..3|3..5|5..6"),
+    ("[^ab\n]{2}", "", "cdeaffff", "0..2|4..6|6..8"),
+    ("[^a]{0,2}b", "", "ccccb", "2..5"),
+    ("[^,;:]+", "", "a,b;cd:,e", "0..1|2..3|4..6|8..9"),
+    ("[^,]+", "", "é,日本,😀", "0..2|3..9|10..14"),
+    ("([^,]*),\\1", "", "é,é,,b", "0..5 0..2|5..6 5..5|6..7 6..6"),
+];
+
+#[test]
+fn lines_match_so(rt: HostRuntime) -> Result<(), Fail> {
+    match_so(rt.alloc(), Over::Utf8, LINES)?;
+    match_so(rt.alloc(), Over::Others, LINES)
+}
+
+#[test]
+fn lines_begin_behind_each_terminator_of_units(rt: HostRuntime) -> Result<(), Fail> {
+    let tables = Tables::small(rt.alloc())?;
+    let regex = parsed(rt.alloc(), "^b", "m", &tables)?;
+    let units = [
+        0x61, 0x62, 0x2028, 0x62, 0x2029, 0x62, 0xD, 0x62, 0x2030, 0x62,
+    ];
+    let (utf16, ucs2) = in_units(rt.alloc(), &regex, &units)?;
+    assert!(rt; utf16.as_str() == "3..4|5..6|7..8");
+    assert!(rt; ucs2.as_str() == "3..4|5..6|7..8");
+    Ok(())
+}
+
 #[test]
 fn rows_match_so_over_utf8(rt: HostRuntime) -> Result<(), Fail> {
     all_match_so(rt.alloc(), Over::Utf8)

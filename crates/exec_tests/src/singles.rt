@@ -40,6 +40,38 @@ fn runs_end_where_a_line_does(rt: HostRuntime) -> Result<(), Fail> {
     Ok(())
 }
 
+/// A class in `é,a;b\ncé`, from where and how many times it is taken at most, and where that ends.
+const FAR: &[(&str, usize, usize, usize)] = &[
+    ("[^,]", 0, 9, 2),
+    ("[^,]", 2, 9, 2),
+    ("[^,]", 3, 9, 10),
+    ("[^,]", 3, 4, 7),
+    ("[^;\n]", 0, 9, 4),
+    ("[^;\n]", 5, 9, 6),
+    ("[^,;\n]", 0, 9, 2),
+    ("[^,;\n]", 7, 9, 10),
+    ("[^,;\n]", 7, 1, 8),
+    ("[^abcé]", 2, 9, 3),
+    ("[^é]", 2, 9, 8),
+    ("[^b-c]", 0, 99, 5),
+];
+
+#[test]
+fn classes_go_as_far_as_what_they_do_not_match(rt: HostRuntime) -> Result<(), Fail> {
+    let tables = Tables::small(rt.alloc())?;
+    let text = "é,a;b\ncé";
+    let input = Utf8Input::new(text, true, &tables);
+    for (pattern, at, times, end) in FAR {
+        let regex = parsed(rt.alloc(), pattern, "", &tables)?;
+        let program = emit(rt.alloc(), &regex)?;
+        assert!(rt; text.is_char_boundary(*at));
+        assert!(rt; !program.brackets().is_empty());
+        let class = Insn::Bracket(0);
+        assert!(rt; as_far_ahead(&program, &input, &class, *times, *at) == Some(*end));
+    }
+    Ok(())
+}
+
 #[test]
 fn scanned_brackets_have_what_their_class_does(rt: HostRuntime) -> Result<(), Fail> {
     let mut bc = BracketContents {
