@@ -10,8 +10,8 @@ mod reads;
 mod search;
 mod singles;
 mod step;
-mod turns;
 mod stuck;
+mod turns;
 
 pub use regress_engine_sought::{ExecutorInput, Shown};
 pub use search::BacktrackExecutor;

@@ -131,6 +131,6 @@ module _ (program : Program) (input : Input) (passes : ℕ → Bool) (i : Instru
   pub option-taken : (more o : ℕ) (r : Option Taken)
       → MatchOption r (None ≡ passed passes (input.next dir o)) (λ t. IsTaken (after input passes dir) (λ q. passed passes (input.next dir q)) more o t.before t.last t.past)
       → MatchOption r (None ≡ advance program input i dir groups o)
-          (λ t. IsTaken (λ n q. after_times program input n i dir groups q) (advance program input i dir groups) more o t.before t.last t.past)
+      (λ t. IsTaken (λ n q. after_times program input n i dir groups q) (advance program input i dir groups) more o t.before t.last t.past)
   option-taken more o None none = none ∙ same o
   option-taken more o (Some t) taken = count-taken more o t.before t.last t.past taken
