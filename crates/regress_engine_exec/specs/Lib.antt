@@ -1,2 +1,1 @@
 pub mod Trying
-pub mod Stuck

@@ -13,13 +13,13 @@ ghost use Rattle.regress_engine_sought.specs.Tasks.{Leads};
 ghost use Rattle.regress_engine_undo.specs.Held.{held, undo_of, pushed};
 ghost use Rattle.regress_engine_sought.specs.Sought.{Suits};
 ghost use Rattle.regress_engine_undo.specs.Sound.{IsHeld};
-ghost use Rattle.regress_engine_exec.specs.Stuck.{GivesFrom, TakesFrom};
+ghost use Rattle.regress_engine_undo.specs.Stuck.{GivesFrom, TakesFrom};
 ghost use Rattle.regress_engine_undo.specs.Tasks.{task};
 
 use crate::attempt::Attempt;
-use crate::reads::first_byte;
 use regress_engine_code::Insn;
 use regress_engine_matchers::CharInput;
+use regress_engine_singles::first_byte;
 use regress_engine_undo::{Frame, Memory, Spot, Undo};
 use regress_front_core::GroupData;
 use std::alloc::AllocError;

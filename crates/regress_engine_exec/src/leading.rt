@@ -15,21 +15,12 @@ ghost use Rattle.regress_engine_singles.specs.Failing.{IsStuck};
 ghost use Rattle.regress_engine_singles.specs.Passed.{is_class, PassesOver};
 
 use crate::attempt::Attempt;
-use crate::reads::is_edge;
 use regress_engine_code::Insn;
 use regress_engine_matchers::{CharInput, CharProperties};
-use regress_engine_singles::as_far_ahead;
+use regress_engine_singles::{as_far_ahead, is_class, is_edge};
 
 /// So many instructions behind a run are looked at.
 const LOOKED_AT: usize = 8;
-
-/// Whether an instruction is a class.
-#[inline]
-pub(crate) fn is_class(insn: &Insn) -> bool
-    ensures { result ≡ is_class (instruction insn.now) }
-{
-    matches!(insn, Insn::AsciiBracket(_) | Insn::Bracket(_))
-}
 
 impl<'a, 'r, Input: CharInput> Attempt<'a, 'r, Input> {
     /// The offset behind the character ahead of one, where a class matches that.

@@ -1,5 +1,5 @@
 //! What an instruction that changes nothing but the offset reads beside it.
-ghost use Rattle.std.specs.Prelude.{◌≡◌, ◌<◌, ℕ, Bool, true, false, not, None, nat_lt, List, ◌∷◌, length, map, nat_eq, option_map, Some, is_some, IfSome, ◌&&◌, ◌||◌};
+ghost use Rattle.std.specs.Prelude.{◌≡◌, ◌<◌, ℕ, Bool, true, false, not, None, List, ◌∷◌, length, map, nat_eq, option_map, Some, is_some, IfSome, ◌&&◌, ◌||◌};
 ghost use Rattle.regress_meaning.specs.Text.{holds};
 ghost use Rattle.regress_meaning.specs.Class.{is_word};
 ghost use Rattle.regress_meaning.specs.Meaning.{Forward as ahead, Backward as backward, is_line_end, is_some_and, word_at};
@@ -9,7 +9,6 @@ ghost use Rattle.regress_front_bytes.specs.Bitmaps.{ascii_bitmap_contains};
 ghost use Rattle.regress_front_sets.specs.Intervals.{ends_of};
 ghost use Rattle.regress_front_nodes.specs.TreeMeaning.{bracket_has};
 ghost use Rattle.regress_engine_code.specs.Standing.{program_of};
-ghost use Rattle.regress_engine_code.specs.Instructions.{byte_seq};
 ghost use Rattle.regress_engine_code.specs.InsnViews.{instruction};
 ghost use Rattle.regress_engine_input.specs.Views.{way, input_of, reading_of, are_bytes, CanRead};
 ghost use Rattle.regress_engine_runs.specs.States.{Marks, range_of};
@@ -19,7 +18,8 @@ ghost use Rattle.regress_engine_runs.specs.Closed.{Fits};
 ghost use Rattle.regress_engine_sought.specs.Sought.{Suits};
 ghost use Rattle.regress_engine_sought.specs.StateViews.{marks_of};
 ghost use Rattle.regress_engine_sought.specs.Ready.{IsReady};
-ghost use Rattle.regress_engine_exec.specs.Stuck.{bytes_in, is_byte_seq, is_edge, is_taking, IsTakenFirst};
+ghost use Rattle.regress_engine_singles.specs.Taking.{is_edge};
+ghost use Rattle.regress_engine_undo.specs.Stuck.{IsTakenFirst};
 
 use crate::attempt::Attempt;
 use regress_engine_code::Insn;
@@ -27,7 +27,7 @@ use regress_engine_input::cursor::next;
 use regress_engine_input::{Backward, Direction, ElementType, Forward, InputIndexer, PositionType};
 use regress_engine_matchers::matchers::{backref, backref_icase};
 use regress_engine_matchers::{CharInput, CharProperties};
-use regress_engine_singles::ScannedBracket;
+use regress_engine_singles::{ScannedBracket, bytes_of, takes_some};
 use regress_front_bytes::{AsciiBitmap, ByteSet};
 use regress_front_core::{GroupData, MAX_CHAR_SET_LENGTH};
 use regress_front_nodes::BracketContents;
@@ -40,81 +40,6 @@ fn has_number(bytes: &[u8], number: u32) -> bool
     ensures { result ≡ holds bytes.now number }
 {
     bytes.iter().any(|byte| u32::from(*byte) == number)
-}
-
-/// The bytes that an instruction takes, none where it takes no bytes.
-#[inline(always)]
-pub(crate) fn bytes_of(insn: &Insn) -> &[u8]
-    ensures bytes { result.now ≡ bytes_in (instruction insn.now) }
-    ensures some { is_byte_seq (instruction insn.now) ≡ nat_lt 0 (length result.now) }
-{
-    match insn {
-        Insn::ByteSeq1(bytes) => bytes,
-        Insn::ByteSeq2(bytes) => bytes,
-        Insn::ByteSeq3(bytes) => bytes,
-        Insn::ByteSeq4(bytes) => bytes,
-        Insn::ByteSeq5(bytes) => bytes,
-        Insn::ByteSeq6(bytes) => bytes,
-        Insn::ByteSeq7(bytes) => bytes,
-        Insn::ByteSeq8(bytes) => bytes,
-        Insn::ByteSeq9(bytes) => bytes,
-        Insn::ByteSeq10(bytes) => bytes,
-        Insn::ByteSeq11(bytes) => bytes,
-        Insn::ByteSeq12(bytes) => bytes,
-        Insn::ByteSeq13(bytes) => bytes,
-        Insn::ByteSeq14(bytes) => bytes,
-        Insn::ByteSeq15(bytes) => bytes,
-        Insn::ByteSeq16(bytes) => bytes,
-        _ => &[],
-    }
-}
-
-/// The first of some bytes, where there is one.
-#[inline]
-fn first_of(bytes: &[u8]) -> Option<u8>
-    ensures { IfSome result (λ b. (rest : List ℕ) × (bytes.now ≡ b ∷ rest)) }
-{
-    bytes.first().copied()
-}
-
-/// The first of the bytes that an instruction takes, where it takes bytes.
-#[inline]
-pub(crate) fn first_byte(insn: &Insn) -> Option<u8>
-    ensures { IfSome result (λ b. (rest : List ℕ) × (instruction insn.now ≡ byte_seq (b ∷ rest))) }
-{
-    first_of(bytes_of(insn))
-}
-
-/// Whether an instruction asks what stands beside an offset, and takes nothing.
-#[inline]
-pub(crate) fn is_edge(insn: &Insn) -> bool
-    ensures { result ≡ is_edge (instruction insn.now) }
-{
-    matches!(
-        insn,
-        Insn::StartOfLine { .. }
-            | Insn::EndOfLine { .. }
-            | Insn::WordBoundary { .. }
-            | Insn::WordBoundaryUnicodeICase { .. }
-    )
-}
-
-/// Whether an instruction takes a character, one of some at the most, or bytes.
-#[inline]
-fn takes_some(insn: &Insn) -> bool
-    ensures { result ≡ true → is_taking (instruction insn.now) ≡ true }
-{
-    !bytes_of(insn).is_empty()
-        || matches!(
-            insn,
-            Insn::Char(_)
-                | Insn::CharSet(_)
-                | Insn::ByteSet2(_)
-                | Insn::ByteSet3(_)
-                | Insn::ByteSet4(_)
-                | Insn::AsciiBracket(_)
-                | Insn::Bracket(_)
-        )
 }
 
 impl<'a, 'r, Input: CharInput> Attempt<'a, 'r, Input> {

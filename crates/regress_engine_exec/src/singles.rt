@@ -15,14 +15,13 @@ ghost use Rattle.regress_engine_undo.specs.Held.{held};
 ghost use Rattle.regress_engine_sought.specs.Sought.{Suits};
 ghost use Rattle.regress_engine_undo.specs.Sound.{IsHeld};
 ghost use Rattle.regress_engine_singles.specs.Apart.{AreApart};
-ghost use Rattle.regress_engine_exec.specs.Stuck.{IsTakenFirst};
+ghost use Rattle.regress_engine_undo.specs.Stuck.{IsTakenFirst};
 ghost use Rattle.regress_engine_undo.specs.Tasks.{task_of, task, state_at};
 
 use crate::attempt::Attempt;
-use crate::reads::first_byte;
 use regress_engine_code::Insn;
 use regress_engine_matchers::CharInput;
-use regress_engine_singles::{are_apart, as_far_ahead, is_apart};
+use regress_engine_singles::{are_apart, as_far_ahead, first_byte, is_apart};
 use regress_engine_undo::{Memory, Spot};
 use regress_front_core::GroupData;
 use std::alloc::AllocError;

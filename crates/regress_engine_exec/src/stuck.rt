@@ -7,13 +7,13 @@ ghost use Rattle.regress_engine_code.specs.Standing.{program_of};
 ghost use Rattle.regress_engine_input.specs.Views.{way, input_of, are_bytes, in_bytes, unit_beside};
 ghost use Rattle.regress_engine_sought.specs.Sought.{Suits};
 ghost use Rattle.regress_engine_singles.specs.Failing.{IsStuck, TakesNothing};
-ghost use Rattle.regress_engine_exec.specs.Stuck.{is_byte_seq};
+ghost use Rattle.regress_engine_singles.specs.Taking.{is_byte_seq};
 
 use crate::attempt::Attempt;
-use crate::reads::bytes_of;
 use regress_engine_code::Insn;
 use regress_engine_input::PositionType;
 use regress_engine_matchers::CharInput;
+use regress_engine_singles::bytes_of;
 
 /// So many ways are kept while others are looked at: as deep as the ways of many words are nested.
 const WAYS_KEPT: usize = 8;

@@ -13,13 +13,12 @@ ghost use Rattle.regress_engine_singles.specs.Passed.{is_class};
 ghost use Rattle.regress_engine_undo.specs.Held.{held, loop_written};
 ghost use Rattle.regress_engine_undo.specs.Sound.{IsHeld};
 ghost use Rattle.regress_engine_undo.specs.Tasks.{task};
-ghost use Rattle.regress_engine_exec.specs.Stuck.{IsTurn};
+ghost use Rattle.regress_engine_undo.specs.Stuck.{IsTurn};
 
 use crate::attempt::Attempt;
-use crate::leading::is_class;
 use regress_engine_code::{Insn, LoopFields};
 use regress_engine_matchers::CharInput;
-use regress_engine_singles::{Taken, taken_ahead};
+use regress_engine_singles::{Taken, is_class, taken_ahead};
 use regress_engine_undo::{Memory, Spot};
 use std::alloc::AllocError;
 

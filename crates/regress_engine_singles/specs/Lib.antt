@@ -2,3 +2,4 @@ pub mod Apart
 pub mod Failing
 pub mod Passed
 pub mod Passing
+pub mod Taking

@@ -7,9 +7,11 @@ mod class;
 mod far;
 mod stops;
 mod taken;
+mod taking;
 
 pub use ahead::as_far_ahead;
 pub use apart::{are_apart, is_apart};
 pub use class::ScannedBracket;
 pub use far::as_far;
 pub use taken::{Taken, taken_ahead};
+pub use taking::{bytes_of, first_byte, is_class, is_edge, takes_some};

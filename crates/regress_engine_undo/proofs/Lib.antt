@@ -4,3 +4,8 @@ pub mod LeadLemmas
 pub mod StepLemmas
 pub mod BackLemmas
 pub mod LeaveLemmas
+pub mod AheadLemmas
+pub mod DispatchLemmas
+pub mod SingleLemmas
+pub mod StuckLemmas
+pub mod TurnLemmas

@@ -7,8 +7,8 @@ use Rattle.regress_engine_sought.proofs.InsnLemmas.{stands-as}
 use Rattle.regress_engine_sought.proofs.PlaceLemmas.{can-read}
 use Rattle.regress_engine_singles.proofs.LeadingLemmas.{class-simple, class-fits}
 use Rattle.regress_engine_singles.proofs.StuckLemmas.{simple-stuck, taken-stuck, begin-stuck, end-stuck}
-use Rattle.regress_engine_exec.proofs.DispatchLemmas.{none-is, stands-read}
-use Rattle.regress_engine_exec.proofs.StuckLemmas.{edge-simple}
+use Rattle.regress_engine_undo.proofs.DispatchLemmas.{none-is, stands-read}
+use Rattle.regress_engine_undo.proofs.StuckLemmas.{edge-simple}
 use Rattle.regress_engine_exec.proofs.attempt.Attempt.+fails.Goals as goal
 
 pub byte_ahead-requires-clause-kind : goal.byte_ahead-requires-clause-kind

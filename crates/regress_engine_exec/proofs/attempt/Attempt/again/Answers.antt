@@ -6,7 +6,7 @@ use Rattle.regress_engine_input.specs.Views.{input_of}
 use Rattle.regress_engine_sought.proofs.InsnLemmas.{stands-as, no-repetition}
 use Rattle.regress_engine_undo.specs.Held.{held}
 use Rattle.regress_engine_undo.proofs.MemoryLemmas.{ok-then}
-use Rattle.regress_engine_exec.proofs.DispatchLemmas.{again-on-step}
+use Rattle.regress_engine_undo.proofs.DispatchLemmas.{again-on-step}
 use Rattle.regress_engine_exec.proofs.attempt.Attempt.again.Goals as goal
 
 pub instruction-requires : goal.instruction-requires

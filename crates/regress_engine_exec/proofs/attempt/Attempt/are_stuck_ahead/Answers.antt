@@ -7,8 +7,8 @@ use Rattle.regress_engine_code.specs.declared.insn.Insn.TheVariants.{Goal}
 use Rattle.regress_engine_sought.proofs.InsnLemmas.{stands-as}
 use Rattle.regress_engine_singles.specs.Failing.{IsStuck}
 use Rattle.regress_engine_singles.proofs.StuckLemmas.{simple-stuck, alt-stuck}
-use Rattle.regress_engine_exec.proofs.DispatchLemmas.{bytes-simple, stands-read}
-use Rattle.regress_engine_exec.proofs.StuckLemmas.{bytes-units, kept-more, kept-last}
+use Rattle.regress_engine_undo.proofs.DispatchLemmas.{bytes-simple, stands-read}
+use Rattle.regress_engine_undo.proofs.StuckLemmas.{bytes-units, kept-more, kept-last}
 use Rattle.regress_engine_exec.proofs.attempt.Attempt.are_stuck_ahead.Goals as goal
 
 pub ways-preserved-in-Alt : goal.ways-preserved-in-Alt

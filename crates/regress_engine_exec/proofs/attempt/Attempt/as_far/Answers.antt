@@ -9,7 +9,7 @@ use Rattle.regress_engine_runs.specs.Meets.{IsAtPlace}
 use Rattle.regress_engine_sought.specs.StateViews.{marks_of}
 use Rattle.regress_engine_sought.proofs.ReadyLemmas.{body-asked, body-next, body-at}
 use Rattle.regress_engine_sought.proofs.PlaceLemmas.{can-read}
-use Rattle.regress_engine_exec.proofs.SingleLemmas.{far-place}
+use Rattle.regress_engine_undo.proofs.SingleLemmas.{far-place}
 use Rattle.regress_engine_exec.proofs.attempt.Attempt.as_far.Goals as goal
 use Rattle.regress_engine_runs.proofs.Iterations.{far-goes, far-stops, far-all}
 

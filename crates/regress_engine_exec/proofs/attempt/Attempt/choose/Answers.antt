@@ -2,8 +2,8 @@ use Rattle.std.proofs.Common.{true, refl}
 use Rattle.regress_engine_code.specs.Standing.{program_of}
 use Rattle.regress_engine_input.specs.Views.{input_of}
 use Rattle.regress_engine_undo.specs.Held.{held}
-use Rattle.regress_engine_exec.proofs.DispatchLemmas.{second-stuck, step-on}
-use Rattle.regress_engine_exec.proofs.TurnLemmas.{loop-there}
+use Rattle.regress_engine_undo.proofs.DispatchLemmas.{second-stuck, step-on}
+use Rattle.regress_engine_undo.proofs.TurnLemmas.{loop-there}
 use Rattle.regress_engine_exec.proofs.attempt.Attempt.choose.Goals as goal
 
 pub loop_data-entered-requires : goal.loop_data-entered-requires

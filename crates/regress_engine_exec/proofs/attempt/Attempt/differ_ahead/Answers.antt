@@ -1,5 +1,5 @@
 use Rattle.std.proofs.Common.{arith}
-use Rattle.regress_engine_exec.proofs.AheadLemmas.{differs-read}
+use Rattle.regress_engine_undo.proofs.AheadLemmas.{differs-read}
 use Rattle.regress_engine_exec.proofs.attempt.Attempt.differ_ahead.Goals as goal
 
 pub returns-then-k-rest : goal.returns-then-k-rest

@@ -3,7 +3,7 @@ use Rattle.regress_engine_code.specs.Standing.{program_of}
 use Rattle.regress_engine_input.specs.Views.{way, input_of, reading_of}
 use Rattle.regress_engine_runs.specs.Runs.{gap}
 use Rattle.regress_engine_runs.specs.Meets.{IsAtPlace}
-use Rattle.regress_engine_exec.specs.Stuck.{GivesFrom}
+use Rattle.regress_engine_undo.specs.Stuck.{GivesFrom}
 use Rattle.regress_engine_exec.proofs.attempt.Attempt.far_way.Given as goal
 
 -- what is given back from the far offset leads to what is given back from here

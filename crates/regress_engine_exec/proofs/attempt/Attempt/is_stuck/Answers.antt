@@ -4,9 +4,9 @@ use Rattle.regress_engine_code.specs.Standing.{program_of}
 use Rattle.regress_engine_input.specs.Views.{way, input_of}
 use Rattle.regress_engine_code.specs.declared.insn.Insn.TheVariants.{Goal}
 use Rattle.regress_engine_singles.proofs.StuckLemmas.{simple-stuck}
-use Rattle.regress_engine_exec.proofs.DispatchLemmas.{bytes-simple, none-is, stands-read}
-use Rattle.regress_engine_exec.proofs.StuckLemmas.{bytes-taken, bytes-units, some-there, more-than, is-not}
-use Rattle.regress_engine_exec.specs.Stuck.{is_byte_seq}
+use Rattle.regress_engine_undo.proofs.DispatchLemmas.{bytes-simple, none-is, stands-read}
+use Rattle.regress_engine_undo.proofs.StuckLemmas.{bytes-taken, bytes-units, some-there, more-than, is-not}
+use Rattle.regress_engine_singles.specs.Taking.{is_byte_seq}
 use Rattle.regress_engine_exec.proofs.attempt.Attempt.is_stuck.Goals as goal
 
 pub lacks-requires-clause-kind : goal.lacks-requires-clause-kind

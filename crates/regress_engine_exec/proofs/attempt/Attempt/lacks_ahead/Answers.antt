@@ -5,8 +5,8 @@ use Rattle.regress_engine_code.specs.InsnViews.{instruction}
 use Rattle.regress_engine_code.specs.Standing.{program_of}
 use Rattle.regress_engine_input.specs.Views.{input_of}
 use Rattle.regress_engine_singles.proofs.ApartLemmas.{not-there}
-use Rattle.regress_engine_exec.specs.Stuck.{is_byte_seq}
-use Rattle.regress_engine_exec.proofs.StuckLemmas.{bytes-taken, some-there, more-than}
+use Rattle.regress_engine_singles.specs.Taking.{is_byte_seq}
+use Rattle.regress_engine_undo.proofs.StuckLemmas.{bytes-taken, some-there, more-than}
 use Rattle.regress_engine_exec.proofs.attempt.Attempt.lacks_ahead.Goals as goal
 
 pub returns-then-ne : goal.returns-then-ne

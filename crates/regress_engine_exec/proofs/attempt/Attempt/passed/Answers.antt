@@ -5,8 +5,8 @@ use Rattle.std.proofs.Common.{sym, ◌∙◌}
 use Rattle.regress_engine_code.specs.declared.insn.Insn.TheVariants.{Goal}
 use Rattle.regress_engine_sought.proofs.InsnLemmas.{stands-as}
 use Rattle.regress_engine_singles.proofs.StuckLemmas.{begin-stuck}
-use Rattle.regress_engine_exec.proofs.DispatchLemmas.{stands-read}
-use Rattle.regress_engine_exec.proofs.StuckLemmas.{some-there}
+use Rattle.regress_engine_undo.proofs.DispatchLemmas.{stands-read}
+use Rattle.regress_engine_undo.proofs.StuckLemmas.{some-there}
 use Rattle.regress_engine_exec.proofs.attempt.Attempt.passed.Goals as goal
 
 pub returns-in-BeginCaptureGroup : goal.returns-in-BeginCaptureGroup

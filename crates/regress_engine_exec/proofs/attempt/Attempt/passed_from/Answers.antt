@@ -9,8 +9,8 @@ use Rattle.regress_engine_code.specs.declared.insn.Insn.TheVariants.{Goal}
 use Rattle.regress_engine_sought.proofs.InsnLemmas.{stands-as}
 use Rattle.regress_engine_sought.proofs.PlaceLemmas.{can-read}
 use Rattle.regress_engine_singles.proofs.LeadingLemmas.{class-fits, class-place, class-takes, passes-over}
-use Rattle.regress_engine_exec.proofs.DispatchLemmas.{none-is, stands-read}
-use Rattle.regress_engine_exec.proofs.SingleLemmas.{far-place}
+use Rattle.regress_engine_undo.proofs.DispatchLemmas.{none-is, stands-read}
+use Rattle.regress_engine_undo.proofs.SingleLemmas.{far-place}
 use Rattle.regress_engine_exec.proofs.attempt.Attempt.passed_from.Goals as goal
 
 -- the address of the loop's body, told otherwise

@@ -13,7 +13,7 @@ use Rattle.regress_engine_sought.proofs.ReadyLemmas.{body-at}
 use Rattle.regress_engine_sought.proofs.TaskLemmas.{leads-then}
 use Rattle.regress_engine_undo.specs.Held.{held, pushed}
 use Rattle.regress_engine_undo.proofs.BackLemmas.{give_back-held, take_on-held}
-use Rattle.regress_engine_exec.proofs.SingleLemmas.{repeat-few, repeat-greedy, repeat-lazy, atomic}
+use Rattle.regress_engine_undo.proofs.SingleLemmas.{repeat-few, repeat-greedy, repeat-lazy, atomic}
 use Rattle.regress_engine_exec.proofs.attempt.Attempt.repeat.Goals as goal
 
 pub returns-in_default-clause-leads : goal.returns-in_default-clause-leads

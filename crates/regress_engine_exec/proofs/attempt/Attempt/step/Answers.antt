@@ -8,8 +8,8 @@ use Rattle.regress_engine_sought.specs.StateViews.{marks_of}
 use Rattle.regress_engine_sought.proofs.InsnLemmas.{stands-as}
 use Rattle.regress_engine_undo.specs.Held.{held}
 use Rattle.regress_engine_undo.proofs.BackLemmas.{frame-held}
-use Rattle.regress_engine_exec.proofs.DispatchLemmas.{first-stuck, second-stuck, step-on, jump-on, mark-on, look-on}
-use Rattle.regress_engine_exec.proofs.TurnLemmas.{first-place}
+use Rattle.regress_engine_undo.proofs.DispatchLemmas.{first-stuck, second-stuck, step-on, jump-on, mark-on, look-on}
+use Rattle.regress_engine_undo.proofs.TurnLemmas.{first-place}
 use Rattle.regress_engine_exec.proofs.attempt.Attempt.step.Goals as goal
 
 pub group_data-requires : goal.group_data-requires

@@ -8,7 +8,7 @@ use Rattle.regress_engine_sought.specs.Ready.{IsReady}
 use Rattle.regress_engine_sought.proofs.ReadyLemmas.{simple-ready}
 use Rattle.regress_engine_undo.specs.Held.{held}
 use Rattle.regress_engine_undo.specs.Tasks.{state_at}
-use Rattle.regress_engine_exec.proofs.DispatchLemmas.{take-none, take-some}
+use Rattle.regress_engine_undo.proofs.DispatchLemmas.{take-none, take-some}
 use Rattle.regress_engine_exec.proofs.attempt.Attempt.take.Goals as goal
 
 pub advance-requires-clause-ready : goal.advance-requires-clause-ready

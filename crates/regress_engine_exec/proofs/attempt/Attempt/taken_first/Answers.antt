@@ -3,8 +3,8 @@ use Rattle.std.proofs.Common.{Option, Some, None}
 use Rattle.regress_engine_code.specs.Standing.{program_of}
 use Rattle.regress_engine_code.specs.declared.insn.Insn.TheVariants.{Goal}
 use Rattle.regress_engine_sought.proofs.InsnLemmas.{stands-as}
-use Rattle.regress_engine_exec.proofs.DispatchLemmas.{stands-read}
-use Rattle.regress_engine_exec.proofs.StuckLemmas.{first-behind}
+use Rattle.regress_engine_undo.proofs.DispatchLemmas.{stands-read}
+use Rattle.regress_engine_undo.proofs.StuckLemmas.{first-behind}
 use Rattle.regress_engine_exec.proofs.attempt.Attempt.taken_first.Goals as goal
 
 if_some : {A : Type 0} {P Q : A → Type 0} → ((a : A) → P a → Q a) → (x : Option A) → IfSome x P → IfSome x Q

@@ -9,7 +9,7 @@ use Rattle.regress_engine_runs.proofs.RunViews.{one_stands}
 use Rattle.regress_engine_sought.proofs.InsnLemmas.{stands-as}
 use Rattle.regress_engine_singles.specs.Passed.{is_class}
 use Rattle.regress_engine_singles.proofs.LeadingLemmas.{class-fits}
-use Rattle.regress_engine_exec.proofs.DispatchLemmas.{stands-read}
+use Rattle.regress_engine_undo.proofs.DispatchLemmas.{stands-read}
 use Rattle.regress_engine_exec.proofs.attempt.Attempt.turn.Goals as goal
 
 -- the class that stands there is the one that was read

@@ -6,7 +6,7 @@ use Rattle.regress_engine_sought.proofs.PlaceLemmas.{can-read}
 use Rattle.regress_engine_sought.specs.StateViews.{marks_of}
 use Rattle.regress_engine_singles.proofs.LeadingLemmas.{class-fits}
 use Rattle.regress_engine_undo.specs.Held.{held}
-use Rattle.regress_engine_exec.proofs.TurnLemmas.{turns-not, turned, turns-end, turns-on, turned-sound, ahead-as, loop-there}
+use Rattle.regress_engine_undo.proofs.TurnLemmas.{turns-not, turned, turns-end, turns-on, turned-sound, ahead-as, loop-there}
 use Rattle.regress_engine_exec.proofs.attempt.Attempt.turn_on.Goals as goal
 
 pub taken_ahead-requires-clause-fits : goal.taken_ahead-requires-clause-fits

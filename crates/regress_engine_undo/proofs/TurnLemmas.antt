@@ -28,8 +28,8 @@ use Rattle.regress_engine_undo.specs.Tasks.{task_of, task, state_at}
 use Rattle.regress_engine_undo.proofs.LeadLemmas.{loop-kept}
 use Rattle.regress_engine_undo.specs.Sound.{IsHeld}
 use Rattle.regress_engine_undo.proofs.StepLemmas.{again-on, stay-more, loop-sound, fork-leads}
-use Rattle.regress_engine_exec.specs.Stuck.{IsTurn}
-use Rattle.regress_engine_exec.proofs.DispatchLemmas.{first-stuck, second-stuck, step-on, take-some, jump-on, again-on-step}
+use Rattle.regress_engine_undo.specs.Stuck.{IsTurn}
+use Rattle.regress_engine_undo.proofs.DispatchLemmas.{first-stuck, second-stuck, step-on, take-some, jump-on, again-on-step}
 
 -- in fewer steps, and in fewer than that
 leads-fewer : (program : Program) (input : Input) (k l : ℕ) (t u : Task) → l ≤ k → Leads program input k t u → Leads program input l t u

@@ -24,7 +24,8 @@ use Rattle.regress_engine_undo.specs.declared.undo.Spot.{Spot}
 use Rattle.regress_engine_undo.specs.Held.{Held, pushed}
 use Rattle.regress_engine_singles.specs.Failing.{IsStuck}
 use Rattle.regress_engine_singles.proofs.StuckLemmas.{simple-stuck, loop-stuck, end-stuck, leads-stuck}
-use Rattle.regress_engine_exec.specs.Stuck.{bytes_in, is_byte_seq, is_edge, is_taking, IsTakenFirst, given_from, GivesFrom, TakesFrom}
+use Rattle.regress_engine_singles.specs.Taking.{bytes_in, is_byte_seq, is_edge, is_taking}
+use Rattle.regress_engine_undo.specs.Stuck.{IsTakenFirst, given_from, GivesFrom, TakesFrom}
 use Rattle.regress_engine_undo.specs.Tasks.{task}
 use Rattle.regress_engine_undo.proofs.BackLemmas.{give_back-last, give_back-none, give_back-more, take_on-last, take_on-more}
 

@@ -23,7 +23,7 @@ use Rattle.regress_engine_singles.proofs.Failures.{leads-without}
 use Rattle.regress_engine_singles.proofs.StuckLemmas.{leads-stuck}
 use Rattle.regress_engine_undo.specs.declared.undo.Spot.{Spot}
 use Rattle.regress_engine_undo.specs.Held.{Held, pushed}
-use Rattle.regress_engine_exec.specs.Stuck.{is_byte_seq}
+use Rattle.regress_engine_singles.specs.Taking.{is_byte_seq}
 use Rattle.regress_engine_undo.specs.Tasks.{task_of, task, state_at, GoesOn}
 use Rattle.regress_engine_undo.proofs.StepLemmas.{fork-leads}
 use Rattle.regress_engine_undo.proofs.BackLemmas.{resume-back}

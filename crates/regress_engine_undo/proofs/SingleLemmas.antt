@@ -18,7 +18,7 @@ use Rattle.regress_engine_singles.specs.Apart.{AreApart}
 use Rattle.regress_engine_singles.specs.Failing.{Fail, IsStuck}
 use Rattle.regress_engine_singles.proofs.Chains.{Takes, given-taken}
 use Rattle.regress_engine_singles.proofs.Failures.{leads-without, fail-each}
-use Rattle.regress_engine_exec.specs.Stuck.{IsTakenFirst}
+use Rattle.regress_engine_undo.specs.Stuck.{IsTakenFirst}
 use Rattle.regress_engine_undo.specs.declared.undo.Spot.{Spot}
 use Rattle.regress_engine_undo.specs.Held.{Held, pushed}
 use Rattle.regress_engine_sought.specs.Sought.{Suits}

@@ -1,42 +1,21 @@
 -- What surely leads nowhere.
-use Rattle.std.specs.Prelude.{◌≡◌, ℕ, ◌+◌, Bool, true, false, List, [], Option, Some, None}
+use Rattle.std.specs.Prelude.{◌≡◌, ℕ, ◌+◌, Bool, true, List, Option, Some, None}
 use Rattle.regress_meaning.specs.Inputs.{Input}
 use Rattle.regress_meaning.specs.Meaning.{Forward}
 use Rattle.regress_engine_input.specs.Views.{way}
 use Rattle.regress_engine_code.specs.Instructions.{Instruction, LoopFields, Program, Stands}
 use Rattle.regress_engine_code.specs.Instructions as code
-use Rattle.regress_engine_runs.specs.Closed.{Fits, takes_character}
+use Rattle.regress_engine_runs.specs.Closed.{Fits}
 use Rattle.regress_engine_runs.specs.Runs.{advance}
 use Rattle.regress_engine_runs.specs.States.{Marks}
 use Rattle.regress_engine_runs.specs.UndoStack.{give_back, take_on}
 use Rattle.regress_engine_sought.specs.Tasks.{Leads}
 use Rattle.regress_engine_singles.specs.Failing.{IsStuck, TakesNothing}
 use Rattle.regress_engine_singles.specs.Passed.{is_class}
+use Rattle.regress_engine_singles.specs.Taking.{is_taking}
 use Rattle.regress_engine_undo.specs.declared.undo.Spot.{Spot}
 use Rattle.regress_engine_undo.specs.Held.{Held, pushed}
 use Rattle.regress_engine_undo.specs.Tasks.{task}
-
--- an instruction takes bytes
-abbrev pub is_byte_seq : Instruction → Bool
-is_byte_seq (code.byte_seq bs) = true
-is_byte_seq _ = false
-
--- the bytes that an instruction takes
-abbrev pub bytes_in : Instruction → List ℕ
-bytes_in (code.byte_seq bs) = bs
-bytes_in _ = []
-
--- an instruction asks what stands beside an offset
-abbrev pub is_edge : Instruction → Bool
-is_edge (code.line_start multiline) = true
-is_edge (code.line_end multiline) = true
-is_edge (code.boundary inverted folded) = true
-is_edge _ = false
-
--- an instruction takes a character or bytes
-abbrev pub is_taking : Instruction → Bool
-is_taking (code.byte_seq bs) = true
-is_taking i = takes_character i
 
 -- From an address on an instruction takes a character or bytes first: where it takes nothing, nothing is led to.
 pub record IsTakenFirst (program : Program) (at : ℕ) (i : Instruction) : Type 0 where

@@ -1,0 +1,27 @@
+-- What an instruction takes: bytes, a character, or nothing.
+use Rattle.std.specs.Prelude.{ℕ, Bool, true, false, List, []}
+use Rattle.regress_engine_code.specs.Instructions.{Instruction}
+use Rattle.regress_engine_code.specs.Instructions as code
+use Rattle.regress_engine_runs.specs.Closed.{takes_character}
+
+-- an instruction takes bytes
+abbrev pub is_byte_seq : Instruction → Bool
+is_byte_seq (code.byte_seq bs) = true
+is_byte_seq _ = false
+
+-- the bytes that an instruction takes
+abbrev pub bytes_in : Instruction → List ℕ
+bytes_in (code.byte_seq bs) = bs
+bytes_in _ = []
+
+-- an instruction asks what stands beside an offset
+abbrev pub is_edge : Instruction → Bool
+is_edge (code.line_start multiline) = true
+is_edge (code.line_end multiline) = true
+is_edge (code.boundary inverted folded) = true
+is_edge _ = false
+
+-- an instruction takes a character or bytes
+abbrev pub is_taking : Instruction → Bool
+is_taking (code.byte_seq bs) = true
+is_taking i = takes_character i
