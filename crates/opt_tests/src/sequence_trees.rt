@@ -111,7 +111,7 @@ pub(crate) const SEQUENCES: &[Row] = &[
     (
         "ab",
         "i",
-        "Cat\n  CharSet([65, 97])\n  CharSet([66, 98])\n  Goal\n",
+        "Cat\n  ByteSet([65, 97])\n  ByteSet([66, 98])\n  Goal\n",
     ),
 ];
 
