@@ -25,3 +25,9 @@ is_edge _ = false
 abbrev pub is_taking : Instruction → Bool
 is_taking (code.byte_seq bs) = true
 is_taking i = takes_character i
+
+-- an instruction takes bytes, or one of some characters: not one that takes any
+abbrev pub takes_some : Instruction → Bool
+takes_some code.any = false
+takes_some code.any_in_line = false
+takes_some i = is_taking i

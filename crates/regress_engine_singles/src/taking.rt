@@ -1,9 +1,9 @@
 //! What an instruction takes.
-ghost use Rattle.std.specs.Prelude.{◌≡◌, ℕ, true, nat_lt, List, ◌∷◌, length, IfSome};
+ghost use Rattle.std.specs.Prelude.{◌≡◌, ℕ, true, nat_lt, List, ◌∷◌, length, slice_get, IfSome};
 ghost use Rattle.regress_engine_code.specs.Instructions.{byte_seq};
 ghost use Rattle.regress_engine_code.specs.InsnViews.{instruction};
 ghost use Rattle.regress_engine_singles.specs.Passed.{is_class};
-ghost use Rattle.regress_engine_singles.specs.Taking.{bytes_in, is_byte_seq, is_edge, is_taking};
+ghost use Rattle.regress_engine_singles.specs.Taking.{bytes_in, is_byte_seq, is_edge, is_taking, takes_some};
 
 use regress_engine_code::Insn;
 
@@ -41,7 +41,8 @@ pub fn bytes_of(insn: &Insn) -> &[u8]
 /// The first of some bytes, where there is one.
 #[inline]
 fn first_of(bytes: &[u8]) -> Option<u8>
-    ensures { IfSome result (λ b. (rest : List ℕ) × (bytes.now ≡ b ∷ rest)) }
+    ensures value { result ≡ slice_get bytes.now 0 }
+    ensures some { IfSome result (λ b. (rest : List ℕ) × (bytes.now ≡ b ∷ rest)) }
 {
     bytes.first().copied()
 }
@@ -53,7 +54,8 @@ fn first_of(bytes: &[u8]) -> Option<u8>
 /// ```
 #[inline]
 pub fn first_byte(insn: &Insn) -> Option<u8>
-    ensures { IfSome result (λ b. (rest : List ℕ) × (instruction insn.now ≡ byte_seq (b ∷ rest))) }
+    ensures value { result ≡ slice_get (bytes_in (instruction insn.now)) 0 }
+    ensures some { IfSome result (λ b. (rest : List ℕ) × (instruction insn.now ≡ byte_seq (b ∷ rest))) }
 {
     first_of(bytes_of(insn))
 }
@@ -83,7 +85,8 @@ pub fn is_edge(insn: &Insn) -> bool
 /// ```
 #[inline]
 pub fn takes_some(insn: &Insn) -> bool
-    ensures { result ≡ true → is_taking (instruction insn.now) ≡ true }
+    ensures value { result ≡ takes_some (instruction insn.now) }
+    ensures taking { result ≡ true → is_taking (instruction insn.now) ≡ true }
 {
     !bytes_of(insn).is_empty()
         || matches!(

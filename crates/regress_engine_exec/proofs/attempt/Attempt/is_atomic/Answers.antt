@@ -10,7 +10,7 @@ pub returns : goal.returns
 returns g c = λ yes.
     let program = program_of c.args.self.now.program.now in
     let v = g.Input.InputIndexer.view c.args.self.now.input in
-    let bytes = c.in-Some-first_byte.ensures in
+    let bytes = c.in-Some-first_byte.ensures.some in
     let fits = subst (Fits program 0) bytes.1 c.in-Some.ensures.fits in
     let are : are_bytes v.kind ≡ true = c.requires.suits.kind ∙ ap not fits in (
       instruction c.in-Some.taken.now,

@@ -38,4 +38,4 @@ pub returns-then-takes_some : goal.returns-then-takes_some
 returns-then-takes_some g c =
     let program = program_of c.args.self.now.program.now in
     let here = stands-read c.insns-insns.result.now c.args.self.now.program.now.insns.items c.args.at Goal c.insns-insns.ensures c.if-at-insns.false in
-    first-here program (g.Input.InputIndexer.view c.args.self.now.input) c.requires c.args.at _ here (c.takes_some.ensures c.if-takes_some.true)
+    first-here program (g.Input.InputIndexer.view c.args.self.now.input) c.requires c.args.at _ here (c.takes_some.ensures.taking c.if-takes_some.true)
