@@ -5,7 +5,8 @@ use regress_engine_code::{Insn, emit};
 use regress_engine_input::{Backward, Direction, Utf8Input};
 use regress_engine_matchers::MatchAnyExceptLineTerminator;
 use regress_engine_singles::{
-    ScannedBracket, are_apart, as_far, as_far_ahead, is_apart, taken_ahead,
+    ScannedBracket, are_apart, as_far, as_far_ahead, bytes_of, first_byte, is_apart, is_class,
+    is_edge, taken_ahead, takes_some,
 };
 use regress_front_bytes::AsciiBitmap;
 use regress_front_nodes::BracketContents;
@@ -165,5 +166,27 @@ fn classes_are_apart_that_share_no_character(rt: HostRuntime) -> Result<(), Fail
         assert!(rt; are_apart(&program, &ascii, &class) == *apart);
         assert!(rt; are_apart(&program, &class, &ascii) == *apart);
     }
+    Ok(())
+}
+
+#[test]
+fn what_instructions_take_is_told(rt: HostRuntime) -> Result<(), Fail> {
+    let ab = Insn::ByteSeq2(*b"ab");
+    let start = Insn::StartOfLine { multiline: true };
+    let bytes = bytes_of(&ab);
+    let first = first_byte(&ab);
+    let none = first_byte(&start);
+    prove!(bytes == b"ab");
+    prove!(first == Some(b'a'));
+    prove!(none.is_none());
+    let taking = takes_some(&ab) && takes_some(&Insn::Char(0x61)) && takes_some(&Insn::Bracket(0));
+    let any = takes_some(&Insn::MatchAny) || takes_some(&start);
+    prove!(taking);
+    prove!(!any);
+    let edges = is_edge(&start) && is_edge(&Insn::WordBoundary { invert: true });
+    let other = is_edge(&ab) || is_class(&ab);
+    prove!(edges && is_class(&Insn::Bracket(0)));
+    prove!(!other);
+    assert!(rt; bytes == b"ab" && first == Some(b'a') && taking && edges);
     Ok(())
 }

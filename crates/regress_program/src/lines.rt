@@ -6,6 +6,9 @@ ghost use Rattle.regress_match.specs.Views.{ends, item_of};
 use regress::{Match, Range};
 use std::alloc::{AllocError, Global};
 
+/// The room that a line begins with, in bytes: most are no longer.
+const ROOM: usize = 64;
+
 /// The line of a match with its newline: the range of the match, and for each group in order of its number a space and
 /// its range or `-`. Ranges are in bytes. Errs where a request for memory is refused.
 ///
@@ -15,7 +18,7 @@ use std::alloc::{AllocError, Global};
 pub fn line(alloc: Global, found: &Match) -> Result<String, AllocError>
     ensures { IfOk result (λ text. string_bytes text ≡ line_of (item_of found.now)) }
 {
-    let mut text = String::new(alloc);
+    let mut text = String::with_capacity(alloc, ROOM)?;
     push_range(&mut text, &found.range)?;
     for group in &found.captures {
         push_group(&mut text, group)?;
