@@ -176,7 +176,7 @@ fn what_instructions_take_is_told(rt: HostRuntime) -> Result<(), Fail> {
     let bytes = bytes_of(&ab);
     let first = first_byte(&ab);
     let none = first_byte(&start);
-    prove!(bytes == b"ab");
+    prove!(bytes == b"ab".as_slice());
     prove!(first == Some(b'a'));
     prove!(none.is_none());
     let taking = takes_some(&ab) && takes_some(&Insn::Char(0x61)) && takes_some(&Insn::Bracket(0));
@@ -187,6 +187,6 @@ fn what_instructions_take_is_told(rt: HostRuntime) -> Result<(), Fail> {
     let other = is_edge(&ab) || is_class(&ab);
     prove!(edges && is_class(&Insn::Bracket(0)));
     prove!(!other);
-    assert!(rt; bytes == b"ab" && first == Some(b'a') && taking && edges);
+    assert!(rt; bytes == b"ab".as_slice() && first == Some(b'a') && taking && edges);
     Ok(())
 }
