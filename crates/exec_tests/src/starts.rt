@@ -94,9 +94,9 @@ const PLACES: &[Row] = &[
 
 /// Of trees as the parser gives them.
 const PARSED: &[Row] = &[
-    ("abc", "", "one of [97]"),
+    ("abc", "", "all of [97, 98, 99]"),
     ("é", "", "one of [195]"),
-    ("abc|abd", "", "one of [97]"),
+    ("abc|abd", "", "all of [97, 98]"),
     ("abc|xyz", "", "one of [97, 120]"),
     ("[a-c]", "", "one of [97, 98, 99]"),
     ("(?:a|b)+", "", "one of [97, 98]"),
