@@ -21,3 +21,5 @@ mod starts;
 mod turns;
 #[cfg(test)]
 mod undone;
+#[cfg(test)]
+mod ways;

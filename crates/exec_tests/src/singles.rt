@@ -1,12 +1,12 @@
 //! Runs of characters that pass one test.
 
 use crate::parsed::parsed;
-use regress_engine_code::{Insn, emit};
+use regress_engine_code::{Insn, bytes_of, emit};
 use regress_engine_input::{Backward, Direction, Utf8Input};
 use regress_engine_matchers::MatchAnyExceptLineTerminator;
 use regress_engine_singles::{
-    ScannedBracket, are_apart, as_far, as_far_ahead, bytes_of, first_byte, is_apart, is_class,
-    is_edge, taken_ahead, takes_some,
+    ScannedBracket, are_apart, as_far, as_far_ahead, first_byte, is_apart, is_class, is_edge,
+    taken_ahead, takes_some,
 };
 use regress_front_bytes::AsciiBitmap;
 use regress_front_nodes::BracketContents;

@@ -63,7 +63,12 @@ const UNDONE: &[(&str, &str)] = &[
 const WORDS: &[&str] = &["ab\ncd\nabxcdb\nabcdc", "xabcaxbbcx", "cabxaadcbbcddc"];
 
 /// Fails at the first text in which a pattern's matches are not those that the evaluator finds.
-fn is_evaluated_so(alloc: Global, pattern: &str, flags: &str, texts: &[&str]) -> Result<(), Fail> {
+pub(crate) fn is_evaluated_so(
+    alloc: Global,
+    pattern: &str,
+    flags: &str,
+    texts: &[&str],
+) -> Result<(), Fail> {
     let tables = Tables::small(alloc)?;
     let read = parsed(alloc, pattern, flags, &tables)?;
     let regex = rewritten(alloc, pattern, flags, &tables)?;

@@ -10,6 +10,7 @@ pub mod PieceLemmas
 pub mod JumpLemmas
 pub mod ArmLemmas
 pub mod BitmapLemmas
+pub mod AheadLemmas
 pub mod StandingLemmas
 pub mod TakingLemmas
 pub mod BeginLemmas

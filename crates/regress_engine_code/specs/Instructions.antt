@@ -59,6 +59,16 @@ pub data Instruction : Type 0 where
   -- nothing matches
   fail : Instruction
 
+-- an instruction takes bytes
+abbrev pub is_byte_seq : Instruction → Bool
+is_byte_seq (byte_seq bs) = true
+is_byte_seq _ = false
+
+-- the bytes that an instruction takes
+abbrev pub bytes_in : Instruction → List ℕ
+bytes_in (byte_seq bs) = bs
+bytes_in _ = []
+
 -- a repetition begins here
 abbrev pub begins_loop : Instruction → Bool
 begins_loop (enter_loop fields) = true

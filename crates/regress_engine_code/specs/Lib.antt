@@ -1,5 +1,6 @@
 pub mod Instructions
 pub mod Layout
+pub mod Ahead
 pub mod Counts
 pub mod InsnViews
 pub mod Written

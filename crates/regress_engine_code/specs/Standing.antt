@@ -1,5 +1,5 @@
 -- What an emitted program stands for.
-use Rattle.std.specs.Prelude.{◌≡◌, ℕ, Bool, List, length, map, count_by}
+use Rattle.std.specs.Prelude.{◌≡◌, ℕ, Bool, not, List, length, map, count_by}
 use Rattle.std.specs.Arc.{arc_slice_items}
 use Rattle.std.specs.String.{string_bytes}
 use Rattle.regress_meaning.specs.Flags.{is_unicode}
@@ -10,6 +10,7 @@ use Rattle.regress_front_nodes.specs.Sizes.{loops}
 use Rattle.regress_front_nodes.specs.declared.ir.Regex.{Regex}
 use Rattle.regress_engine_code.specs.declared.compiled.CompiledRegex.{CompiledRegex}
 use Rattle.regress_engine_code.specs.Instructions.{Program, begins_loop}
+use Rattle.regress_engine_code.specs.Ahead.{may_stand}
 use Rattle.regress_engine_code.specs.Counts.{count}
 use Rattle.regress_engine_code.specs.Layout.{Target, IsLayout}
 use Rattle.regress_engine_code.specs.Laid.{program_from, target_from}
@@ -27,6 +28,10 @@ target_of compiled = target_from (program_of compiled) compiled.tables.now compi
 abbrev pub names_of : CompiledRegex → List (List ℕ)
 names_of compiled = map string_bytes (arc_slice_items compiled.group_names)
 
+-- by what a program tells of an address, this byte does not stand ahead where something is led to
+abbrev pub lacks : CompiledRegex → (at b : ℕ) → Bool
+lacks compiled at b = not (may_stand compiled.ahead.items at b)
+
 -- how many instructions a program of a tree has, in units or in bytes
 abbrev pub length_for : (units : Bool) → Regex → ℕ
 length_for units regex = count units (table regex.tables.now) (is_unicode (options regex.flags)) (tree regex.node)
@@ -43,10 +48,12 @@ pub record StandsFor (regex : Regex) (compiled : CompiledRegex) : Type 0 where
   pub begun : count_by begins_loop (program_of compiled).instructions ≡ compiled.loops
   pub start : Serves compiled.units (tree regex.node) compiled.start_pred
 
--- A program is a copy of another: the same program, with the same names of groups, flags, tables and start.
+-- A program is a copy of another: the same program, with the same names of groups, flags, tables and start, and the same is
+-- told of each address.
 pub record IsCopyOf (compiled copy : CompiledRegex) : Type 0 where
   pub program : program_of copy ≡ program_of compiled
   pub names : names_of copy ≡ names_of compiled
   pub start : IsSameStart compiled.start_pred copy.start_pred
   pub flags : copy.flags ≡ compiled.flags
   pub tables : copy.tables.now ≡ compiled.tables.now
+  pub lacks : (at b : ℕ) → lacks copy at b ≡ lacks compiled at b

@@ -1,11 +1,13 @@
 //! Programs as they are handed out.
 ghost use Rattle.std.specs.Prelude.{◌≡◌, IfOk, IfErr};
 ghost use Rattle.std.specs.Arc.{arc_slice_items};
+ghost use Rattle.regress_engine_code.specs.Ahead.{AreAhead};
 ghost use Rattle.regress_engine_code.specs.Laid.{program_from, target_from, IsLaid};
 
 use crate::brackets::copies_of;
 use crate::insn::Insn;
 use regress_engine_prefix::StartPredicate;
+use regress_front_bytes::ByteBitmap;
 use regress_front_core::{CaptureGroupName, Error, Flags};
 use regress_front_nodes::BracketContents;
 use regress_front_tables::Tables;
@@ -24,11 +26,14 @@ pub struct CompiledRegex<'u> {
     pub(crate) flags: Flags,
     pub(crate) tables: &'u Tables,
     pub(crate) units: bool,
+    /// Of a program of bytes, for each address the bytes that may stand ahead; of units nothing.
+    pub(crate) ahead: Vec<ByteBitmap>,
     pub(crate) ghost laid: { ∥ IsLaid (target_from (program_from insns.items brackets.items loops groups units) tables.now flags) start_pred ∥₁ },
+    pub(crate) ghost told: { AreAhead (program_from insns.items brackets.items loops groups units) ahead.items },
 }
 
 impl<'u> CompiledRegex<'u> {
-    ghost use Rattle.regress_engine_code.specs.Standing.{IsCopyOf};
+    ghost use Rattle.regress_engine_code.specs.Standing.{IsCopyOf, lacks};
 
     /// The instructions. An address is an index into them, and the program begins at 0: `program.insns()[0]` is done first.
     pub fn insns(&self) -> &[Insn]
@@ -102,6 +107,20 @@ impl<'u> CompiledRegex<'u> {
         self.units
     }
 
+    /// Whether nothing is led to from an address on, read forward, where a byte stands ahead: in a program of bytes each thing
+    /// that is taken first from there on begins otherwise, as far as is told without going back to an earlier address. Of
+    /// characters beyond ASCII only those in literals are told apart. Of `ab|[c-e]` at address 0 that holds of the byte `x`.
+    ///
+    /// ```rust
+    /// let nowhere = program.lacks(0, b'x');
+    /// ```
+    #[inline(always)]
+    pub fn lacks(&self, at: usize, byte: u8) -> bool
+        ensures { result ≡ lacks self.now at byte }
+    {
+        at < self.ahead.len() && !self.ahead[at].contains(byte)
+    }
+
     /// The same program once more. It errs with `OutOfMemory` alone.
     ///
     /// ```rust
@@ -121,6 +140,7 @@ impl<'u> CompiledRegex<'u> {
             flags: self.flags,
             tables: self.tables,
             units: self.units,
+            ahead: self.ahead.to_vec(alloc)?,
         })
     }
 }

@@ -7,6 +7,7 @@ ghost use Rattle.regress_engine_prefix.specs.Starts.{Serves, KeepsLiteral, IsAnc
 ghost use Rattle.regress_engine_code.specs.Written.{MayRefuse};
 ghost use Rattle.regress_engine_code.specs.Standing.{length_for, StandsFor};
 
+use crate::ahead::bytes_ahead;
 use crate::code::Code;
 use crate::compiled::CompiledRegex;
 use crate::emitter::Emitter;
@@ -99,6 +100,7 @@ fn whole_program<'u>(
     let groups = group_count(&regex.group_names)?;
     let group_names = ArcSlice::from_clones(alloc, &regex.group_names)?;
     let start_pred = start_of(alloc, regex, units)?;
+    let ahead = bytes_ahead(alloc, &code.insns, &code.brackets, units)?;
     Ok(CompiledRegex {
         insns: code.insns,
         brackets: code.brackets,
@@ -109,5 +111,6 @@ fn whole_program<'u>(
         flags: regex.flags,
         tables: regex.tables,
         units,
+        ahead,
     })
 }

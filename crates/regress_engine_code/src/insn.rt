@@ -1,4 +1,7 @@
 //! The instructions of a program.
+ghost use Rattle.std.specs.Prelude.{◌≡◌, nat_lt, length};
+ghost use Rattle.regress_engine_code.specs.Instructions.{bytes_in, is_byte_seq};
+ghost use Rattle.regress_engine_code.specs.InsnViews.{instruction};
 
 use regress_front_bytes::{AsciiBitmap, ByteArraySet};
 use regress_front_core::{CaptureGroupID, LoopID, MAX_CHAR_SET_LENGTH};
@@ -147,4 +150,35 @@ pub enum Insn {
     ByteSeq16([u8; 16]),
     /// Nothing matches.
     JustFail,
+}
+
+/// The bytes that an instruction takes, none where it takes no bytes.
+///
+/// ```rust
+/// let bytes = bytes_of(&Insn::ByteSeq2(*b"ab")); // b"ab"
+/// ```
+#[inline(always)]
+pub fn bytes_of(insn: &Insn) -> &[u8]
+    ensures bytes { result.now ≡ bytes_in (instruction insn.now) }
+    ensures some { is_byte_seq (instruction insn.now) ≡ nat_lt 0 (length result.now) }
+{
+    match insn {
+        Insn::ByteSeq1(bytes) => bytes,
+        Insn::ByteSeq2(bytes) => bytes,
+        Insn::ByteSeq3(bytes) => bytes,
+        Insn::ByteSeq4(bytes) => bytes,
+        Insn::ByteSeq5(bytes) => bytes,
+        Insn::ByteSeq6(bytes) => bytes,
+        Insn::ByteSeq7(bytes) => bytes,
+        Insn::ByteSeq8(bytes) => bytes,
+        Insn::ByteSeq9(bytes) => bytes,
+        Insn::ByteSeq10(bytes) => bytes,
+        Insn::ByteSeq11(bytes) => bytes,
+        Insn::ByteSeq12(bytes) => bytes,
+        Insn::ByteSeq13(bytes) => bytes,
+        Insn::ByteSeq14(bytes) => bytes,
+        Insn::ByteSeq15(bytes) => bytes,
+        Insn::ByteSeq16(bytes) => bytes,
+        _ => &[],
+    }
 }

@@ -1,1 +1,2 @@
 pub mod TryLemmas
+pub mod WayLemmas

@@ -1,5 +1,5 @@
 -- A run that is tried.
-use Rattle.std.specs.Prelude.{◌≡◌, ℕ, Bool, true, Option, Some, None}
+use Rattle.std.specs.Prelude.{◌≡◌, ℕ, Bool, true, Option, Some, None, ◌⊎◌}
 use Rattle.regress_meaning.specs.Inputs.{Input}
 use Rattle.regress_engine_input.specs.Views.{View, input_of}
 use Rattle.regress_engine_code.specs.Instructions.{Program}
@@ -19,3 +19,8 @@ pub record IsTrying (program : Program) (v : View) (n : ℕ) (r : Option Whole) 
 abbrev pub Steps : Program → Input → Spot → Held → Option Bool → Spot → Held → Type 0
 Steps program input p h None q k = (q ≡ p) × (k.groups ≡ h.groups) × ComesAs program input (task program input true p h) (state_at p h)
 Steps program input p h (Some going) q k = Leads program input 1 (task program input true p h) (task program input going q k)
+
+-- From one address at an offset it is gone on at another, which may be the same.
+abbrev pub IsWay : Program → Input → (forward : Bool) → (o start at : ℕ) → Type 0
+IsWay program input forward o start at = (h : Held) → (at ≡ start)
+    ⊎ Leads program input 1 (task program input true (record { at = start; offset = o; forward = forward }) h) (task program input true (record { at = at; offset = o; forward = forward }) h)

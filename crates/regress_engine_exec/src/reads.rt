@@ -22,12 +22,12 @@ ghost use Rattle.regress_engine_singles.specs.Taking.{is_edge};
 ghost use Rattle.regress_engine_undo.specs.Stuck.{IsTakenFirst};
 
 use crate::attempt::Attempt;
-use regress_engine_code::Insn;
+use regress_engine_code::{Insn, bytes_of};
 use regress_engine_input::cursor::next;
 use regress_engine_input::{Backward, Direction, ElementType, Forward, InputIndexer, PositionType};
 use regress_engine_matchers::matchers::{backref, backref_icase};
 use regress_engine_matchers::{CharInput, CharProperties};
-use regress_engine_singles::{ScannedBracket, bytes_of, takes_some};
+use regress_engine_singles::{ScannedBracket, takes_some};
 use regress_front_bytes::{AsciiBitmap, ByteSet};
 use regress_front_core::{GroupData, MAX_CHAR_SET_LENGTH};
 use regress_front_nodes::BracketContents;
@@ -207,19 +207,6 @@ impl<'a, 'r, Input: CharInput> Attempt<'a, 'r, Input> {
         } else {
             None
         }
-    }
-
-    /// Whether some bytes don't stand beside an offset, which may be any. The first one is looked at at once.
-    #[inline(always)]
-    pub(crate) fn lacks(&self, forward: bool, offset: usize, bytes: &[u8]) -> bool
-        requires kind { are_bytes (Input.view self.now.input).kind ≡ true }
-        requires some { 0 < length bytes.now }
-        ensures { result ≡ not (is_some (literal (input_of (Input.view self.now.input)) (way forward) bytes.now offset)) }
-    {
-        if forward && self.other_ahead(offset, bytes[0]) {
-            return true;
-        }
-        self.bytes(forward, offset, bytes).is_none()
     }
 
     /// Whether another byte stands ahead of an offset, or none. The offset may be any.

@@ -84,16 +84,13 @@ impl<'a, 'r, Input: CharInput> Attempt<'a, 'r, Input> {
             }
             Insn::Alt { secondary } => {
                 let second = *secondary as usize;
-                if self.are_stuck(spot.at + 1, spot.forward, spot.offset) {
-                    spot.at = second;
-                    return Ok(Some(true));
-                }
                 if self.is_class_at(spot.at + 1) {
                     self.choose(second, memory, spot)?;
                     return Ok(Some(true));
                 }
-                if self.is_stuck(second, spot.forward, spot.offset) {
-                    spot.at += 1;
+                let way = self.way_of_two(spot.at, second, spot.forward, spot.offset);
+                if way != spot.at {
+                    spot.at = way;
                     return Ok(Some(true));
                 }
                 memory.fork(second, spot)?;

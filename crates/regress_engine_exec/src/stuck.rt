@@ -1,25 +1,17 @@
-//! Ways that surely lead nowhere, since the bytes that they take don't stand.
-ghost use Rattle.std.specs.Prelude.{◌≡◌, None, true};
-ghost use Rattle.regress_meaning.specs.Meaning.{Forward as ahead};
-ghost use Rattle.regress_meaning.specs.Steps.{literal};
-ghost use Rattle.regress_engine_code.specs.InsnViews.{instruction};
+//! Ways that surely lead nowhere, since what they begin with doesn't stand.
+ghost use Rattle.std.specs.Prelude.{◌≡◌, ◌+◌, ◌^◌, ◌<◌, ℕ, true, Some};
+ghost use Rattle.regress_meaning.specs.Meaning.{Forward as ahead, Backward as backward};
+ghost use Rattle.regress_engine_code.specs.Instructions.{Stands, alt};
 ghost use Rattle.regress_engine_code.specs.Standing.{program_of};
-ghost use Rattle.regress_engine_input.specs.Views.{way, input_of, are_bytes, in_bytes, unit_beside};
+ghost use Rattle.regress_engine_input.specs.Views.{way, input_of, in_bytes, unit_beside};
 ghost use Rattle.regress_engine_sought.specs.Sought.{Suits};
-ghost use Rattle.regress_engine_singles.specs.Failing.{IsStuck, TakesNothing};
-ghost use Rattle.regress_engine_singles.specs.Taking.{is_byte_seq};
+ghost use Rattle.regress_engine_singles.specs.Failing.{IsStuck};
+ghost use Rattle.regress_engine_exec.specs.Trying.{IsWay};
 
 use crate::attempt::Attempt;
-use regress_engine_code::Insn;
+use regress_engine_code::{Insn, bytes_of};
 use regress_engine_input::PositionType;
 use regress_engine_matchers::CharInput;
-use regress_engine_singles::bytes_of;
-
-/// So many ways are kept while others are looked at: as deep as the ways of many words are nested.
-const WAYS_KEPT: usize = 8;
-
-/// At most so many instructions that go two ways are looked at.
-const WAYS_AHEAD: usize = 255;
 
 impl<'a, 'r, Input: CharInput> Attempt<'a, 'r, Input> {
     /// The byte ahead of an offset, which may be any; `None` where the text ends, and over units.
@@ -34,91 +26,21 @@ impl<'a, 'r, Input: CharInput> Attempt<'a, 'r, Input> {
         self.input.peek_byte_right(position)
     }
 
-    /// Whether some bytes surely don't stand ahead of an offset, which may be any.
-    #[inline]
-    fn differ_ahead(&self, bytes: &[u8], offset: usize) -> bool
-        ensures { result ≡ true → None ≡ literal (input_of (Input.view self.now.input)) ahead bytes.now offset }
-    {
-        let Some(text) = self.input.bytes() else {
-            return false;
-        };
-        if offset > text.len() {
-            return false;
-        }
-        let rest = &text[offset..];
-        let mut k = 0;
-        'bytes: while k < bytes.len() {
-            if k >= rest.len() {
-                return true;
-            }
-            if rest[k] != bytes[k] {
-                return true;
-            }
-            k += 1;
-        }
-        false
-    }
-
-    /// Whether an instruction takes bytes that surely don't stand ahead of an offset, where this byte does, or none.
+    /// Whether surely nothing is led to from an address on, read forward, where this byte stands ahead.
     #[inline(always)]
-    fn lacks_ahead(&self, insn: &Insn, next: Option<u8>, offset: usize) -> bool
-        requires kind { is_byte_seq (instruction insn.now) ≡ true → are_bytes (Input.view self.now.input).kind ≡ true }
-        requires next { next ≡ in_bytes (Input.view self.now.input).kind (unit_beside (Input.view self.now.input).units ahead offset) }
-        ensures { result ≡ true → (is_byte_seq (instruction insn.now) ≡ true) × TakesNothing (program_of self.now.program.now) (input_of (Input.view self.now.input)) ahead (instruction insn.now) offset }
-    {
-        let bytes = bytes_of(insn);
-        if bytes.is_empty() {
-            return false;
-        }
-        if next != Some(bytes[0]) {
-            return true;
-        }
-        self.differ_ahead(bytes, offset)
-    }
-
-    /// Whether surely nothing is led to from an address on, read forward: bytes are taken there that don't stand ahead of an
-    /// offset, or of two ways there neither leads anywhere, as far as it is looked. Each way is looked at once.
-    fn are_stuck_ahead(&self, start: usize, offset: usize) -> bool
+    fn is_stuck_ahead(&self, at: usize, byte: u8) -> bool
         requires { Suits (program_of self.now.program.now) (Input.view self.now.input) }
-        ensures { result ≡ true → IsStuck (program_of self.now.program.now) (input_of (Input.view self.now.input)) ahead start offset }
+        ensures { (o : ℕ) → Some byte ≡ in_bytes (Input.view self.now.input).kind (unit_beside (Input.view self.now.input).units ahead o) → result ≡ true → IsStuck (program_of self.now.program.now) (input_of (Input.view self.now.input)) ahead at o }
     {
-        let insns = self.program.insns();
-        let next = self.next_byte(offset);
-        let mut kept = [0u32; WAYS_KEPT];
-        let mut depth = 0;
-        let mut left = WAYS_AHEAD;
-        let mut at = start;
-        'ways: loop {
-            if at >= insns.len() {
-                return false;
-            }
-            let insn = &insns[at];
-            if let Insn::Alt { secondary } = insn {
-                if depth >= WAYS_KEPT || left == 0 {
-                    return false;
-                }
-                kept[depth] = *secondary;
-                depth += 1;
-                left -= 1;
-                at += 1;
-                continue;
-            }
-            if !self.lacks_ahead(insn, next, offset) {
-                return false;
-            }
-            if depth == 0 {
-                return true;
-            }
-            depth -= 1;
-            at = kept[depth] as usize;
-        }
+        self.program.lacks(at, byte)
     }
 
-    /// Whether surely nothing is led to from an address on: bytes are taken there that don't stand beside an offset.
+    /// Whether surely nothing is led to from an address on, read backward: bytes are taken there that don't stand before an
+    /// offset.
     #[inline]
-    pub(crate) fn is_stuck(&self, at: usize, forward: bool, offset: usize) -> bool
+    fn is_stuck_behind(&self, at: usize, offset: usize) -> bool
         requires { Suits (program_of self.now.program.now) (Input.view self.now.input) }
-        ensures { result ≡ true → IsStuck (program_of self.now.program.now) (input_of (Input.view self.now.input)) (way forward) at offset }
+        ensures { result ≡ true → IsStuck (program_of self.now.program.now) (input_of (Input.view self.now.input)) backward at offset }
     {
         let insns = self.program.insns();
         if at >= insns.len() {
@@ -128,19 +50,74 @@ impl<'a, 'r, Input: CharInput> Attempt<'a, 'r, Input> {
         if bytes.is_empty() {
             return false;
         }
-        self.lacks(forward, offset, bytes)
+        self.bytes(false, offset, bytes).is_none()
     }
 
-    /// Whether surely nothing is led to from an address on, where also both of two ways may lead nowhere.
+    /// Whether surely nothing is led to from an address on, by what stands beside an offset.
     #[inline]
-    pub(crate) fn are_stuck(&self, at: usize, forward: bool, offset: usize) -> bool
+    pub(crate) fn is_stuck(&self, at: usize, forward: bool, offset: usize) -> bool
         requires { Suits (program_of self.now.program.now) (Input.view self.now.input) }
         ensures { result ≡ true → IsStuck (program_of self.now.program.now) (input_of (Input.view self.now.input)) (way forward) at offset }
     {
-        if forward {
-            self.are_stuck_ahead(at, offset)
-        } else {
-            self.is_stuck(at, forward, offset)
+        if !forward {
+            return self.is_stuck_behind(at, offset);
         }
+        match self.next_byte(offset) {
+            Some(byte) => self.is_stuck_ahead(at, byte),
+            None => false,
+        }
+    }
+
+    /// The address at which it is gone on from one, read forward, where this byte stands ahead: as long as one of two ways
+    /// surely leads nowhere, by the other.
+    #[inline(always)]
+    fn way_ahead(&self, start: usize, byte: u8) -> usize
+        requires { Suits (program_of self.now.program.now) (Input.view self.now.input) }
+        ensures { (o : ℕ) → Some byte ≡ in_bytes (Input.view self.now.input).kind (unit_beside (Input.view self.now.input).units ahead o) → IsWay (program_of self.now.program.now) (input_of (Input.view self.now.input)) true o start result }
+    {
+        let insns = self.program.insns();
+        let mut at = start;
+        'ways: while at < insns.len() {
+            let Insn::Alt { secondary } = &insns[at] else {
+                break;
+            };
+            let second = *secondary as usize;
+            if second <= at {
+                break;
+            }
+            if self.is_stuck_ahead(at + 1, byte) {
+                at = second;
+                continue;
+            }
+            if !self.is_stuck_ahead(second, byte) {
+                break;
+            }
+            at += 1;
+        }
+        at
+    }
+
+    /// The address at which it is gone on from two ways, by what stands beside an offset: that of both where neither surely
+    /// leads nowhere.
+    #[inline(always)]
+    pub(crate) fn way_of_two(&self, at: usize, second: usize, forward: bool, offset: usize) -> usize
+        requires suits { Suits (program_of self.now.program.now) (Input.view self.now.input) }
+        requires stands { Stands (program_of self.now.program.now) at (alt second) }
+        requires room { at + 1 < 2 ^ 64 }
+        ensures { IsWay (program_of self.now.program.now) (input_of (Input.view self.now.input)) forward offset at result }
+    {
+        if forward {
+            return match self.next_byte(offset) {
+                Some(byte) => self.way_ahead(at, byte),
+                None => at,
+            };
+        }
+        if self.is_stuck_behind(at + 1, offset) {
+            return second;
+        }
+        if self.is_stuck_behind(second, offset) {
+            return at + 1;
+        }
+        at
     }
 }

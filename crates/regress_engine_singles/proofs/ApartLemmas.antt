@@ -50,7 +50,7 @@ other-first input (b ∷ bs) o some other = by_found (literal input Forward (b �
     by_found (Some q) e = absurd (other (first-unit input.units bs b o q e))
 
 -- what an input shows are the units of its view
-units-are : (v : View) → (input_of v).units ≡ v.units
+pub units-are : (v : View) → (input_of v).units ≡ v.units
 units-are v = by_kind v.kind
   where
     by_kind : (k : Kind) → (input_of_kind k v.table v.unicode v.units).units ≡ v.units
@@ -74,16 +74,24 @@ not-there v are bs o p some same found is other = other-first (input_of v) bs o 
 low-right : (b x y z : ℕ) → nat_lt b 0x80 ≡ true → bytes_right b x y z ≡ (b, 1)
 low-right b x y z e = rw e refl
 
--- So where it is one of ASCII it is the character there.
-pub byte-next : (kind : Kind) (table : Table) (unicode : Bool) (units bs : List ℕ) (b o q : ℕ) → are_bytes kind ≡ true → b < 0x80
-    → literal (input_of_kind kind table unicode units) Forward (b ∷ bs) o ≡ Some q → (input_of_kind kind table unicode units).next Forward o ≡ Some (b, suc o)
-byte-next utf8 table unicode units bs b o q are low e =
+-- a byte of ASCII that stands at an offset is the character ahead
+pub unit-next : (kind : Kind) (table : Table) (unicode : Bool) (units : List ℕ) (b o : ℕ) → are_bytes kind ≡ true → b < 0x80 → slice_get units o ≡ Some b
+    → (input_of_kind kind table unicode units).next Forward o ≡ Some (b, suc o)
+unit-next utf8 table unicode units b o are low here =
     let one : o + 1 ≡ suc o = omega arith in
     let small : nat_lt b 0x80 ≡ true = grind (arith, nat_tests) in
-    ap (λ (x : Option ℕ). option_map (λ w. onto_right o (bytes_right w (byte_at units (o + 1)) (byte_at units (o + 2)) (byte_at units (o + 3)))) x) (first-unit units bs b o q e)
+    ap (λ (x : Option ℕ). option_map (λ w. onto_right o (bytes_right w (byte_at units (o + 1)) (byte_at units (o + 2)) (byte_at units (o + 3)))) x) here
     ∙ ap (λ x. Some (onto_right o x)) (low-right b (byte_at units (o + 1)) (byte_at units (o + 2)) (byte_at units (o + 3)) small)
     ∙ ap (λ p. Some (b, p)) one
-byte-next ascii table unicode units bs b o q are low e = ap (option_map (λ c. (c, suc o))) (first-unit units bs b o q e)
+unit-next ascii table unicode units b o are low here = ap (option_map (λ c. (c, suc o))) here
+unit-next utf16 table unicode units b o are low here = absurd cc
+unit-next ucs2 table unicode units b o are low here = absurd cc
+
+-- So the first of bytes that stand there is, where it is one of ASCII.
+pub byte-next : (kind : Kind) (table : Table) (unicode : Bool) (units bs : List ℕ) (b o q : ℕ) → are_bytes kind ≡ true → b < 0x80
+    → literal (input_of_kind kind table unicode units) Forward (b ∷ bs) o ≡ Some q → (input_of_kind kind table unicode units).next Forward o ≡ Some (b, suc o)
+byte-next utf8 table unicode units bs b o q are low e = unit-next utf8 table unicode units b o are low (first-unit units bs b o q e)
+byte-next ascii table unicode units bs b o q are low e = unit-next ascii table unicode units b o are low (first-unit units bs b o q e)
 byte-next utf16 table unicode units bs b o q are low e = absurd cc
 byte-next ucs2 table unicode units bs b o q are low e = absurd cc
 

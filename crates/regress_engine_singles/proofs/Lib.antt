@@ -1,6 +1,7 @@
 pub mod ApartLemmas
 pub mod Chains
 pub mod Failures
+pub mod LackLemmas
 pub mod LeadingLemmas
 pub mod LineLemmas
 pub mod PassingLemmas

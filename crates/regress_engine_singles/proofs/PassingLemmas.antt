@@ -1,6 +1,6 @@
 -- Characters that pass a test, one by one.
 use Rattle.std.specs.Prelude.{MatchOption}
-use Rattle.std.proofs.Common.{◌≡◌, ℕ, zero, suc, ◌-◌, ◌<◌, ◌≤◌, Bool, true, false, List, inl, inr, Option, Some, None, if◌then◌else◌, option_and_then, refl, sym, ap, ◌∙◌, subst, arith}
+use Rattle.std.proofs.Common.{◌≡◌, ℕ, zero, suc, ◌+◌, ◌-◌, ◌<◌, ◌≤◌, Bool, true, false, List, inl, inr, Option, Some, None, if◌then◌else◌, option_and_then, refl, sym, ap, ◌∙◌, subst, arith}
 use Rattle.regress_meaning.specs.Meaning.{Direction}
 use Rattle.regress_meaning.specs.Inputs.{Input}
 use Rattle.regress_meaning.specs.Steps.{passed}
@@ -14,7 +14,7 @@ use Rattle.regress_engine_code.proofs.BitmapLemmas.{holds-members}
 use Rattle.regress_engine_runs.specs.States.{Marks}
 use Rattle.regress_engine_runs.specs.Runs.{advance, after_times, as_far as taken_far}
 use Rattle.regress_engine_singles.specs.declared.taken.Taken.{Taken}
-use Rattle.regress_engine_singles.specs.Passing.{as_far, after, IsTaken}
+use Rattle.regress_engine_singles.specs.Passing.{as_far, after, IsBegun, IsTaken}
 
 module _ (input : Input) (passes : ℕ → Bool) (dir : Direction) where
   pub far-goes : (left o q : ℕ) → 0 < left → Some q ≡ passed passes (input.next dir o) → as_far input passes dir (left - 1) q ≡ as_far input passes dir left o
@@ -73,6 +73,29 @@ module _ (input : Input) (passes : ℕ → Bool) (dir : Direction) where
       let next : suc (more - left) ≡ more - (left - 1) = omega (arith, some, within) in
       subst (λ n. after input passes dir n o ≡ Some q) next (after-one (more - left) o p q e one)
 
+  -- as many as there are where each is one unit
+  after-each : (n o : ℕ) → ((k : ℕ) → o ≤ k → k < o + n → Some (suc k) ≡ passed passes (input.next dir k)) → after input passes dir n o ≡ Some (o + n)
+  unfolding after
+  after-each zero o each = ap Some (omega arith)
+  after-each (suc n) o each =
+      ap (option_and_then (after input passes dir n)) (sym (each o (omega arith) (omega arith))) ∙ after-each n (suc o) (λ k from less. each k (omega (arith, from)) (omega (arith, less))) ∙ ap Some (omega arith)
+
+  -- so some are taken, and then one more
+  pub begun-each : (more o past : ℕ) → o < past → past - o ≤ more + 1 → ((k : ℕ) → o ≤ k → k < past → Some (suc k) ≡ passed passes (input.next dir k))
+      → IsBegun (after input passes dir) (λ q. passed passes (input.next dir q)) more o (past - 1 - o) (past - 1) past
+  begun-each more o past some within each =
+      let end : o + (past - 1 - o) ≡ past - 1 = omega (arith, some) in
+      let last : suc (past - 1) ≡ past = omega (arith, some) in
+      record {
+        behind = after-each (past - 1 - o) o (λ k from less. each k from (omega (arith, less, end))) ∙ ap Some end;
+        one = ap Some (sym last) ∙ each (past - 1) (omega (arith, some)) (omega (arith, some));
+        within = omega (arith, within);
+      }
+
+  -- or one alone
+  pub begun-one : (more o past : ℕ) → Some past ≡ passed passes (input.next dir o) → IsBegun (after input passes dir) (λ q. passed passes (input.next dir q)) more o 0 o past
+  begun-one more o past one = record { behind = after-none 0 o o (omega arith) refl; one = one; within = omega arith }
+
 -- behind what passes may be read on
 pub reads-on : (v : View) → AreOfKind v.kind v.units → (passes : ℕ → Bool) (dir : Direction) (o q : ℕ) → CanRead v o → Some q ≡ passed passes ((input_of v).next dir o) → CanRead v q
 reads-on v all passes dir o q can e = by_read ((input_of v).next dir o) refl e
@@ -85,10 +108,27 @@ reads-on v all passes dir o q can e = by_read ((input_of v).next dir o) refl e
         by_test true g = let same : p ≡ q = cc in subst (CanRead v) same ((view_reads v all).on dir o (c, p) can h).0
         by_test false g = absurd (cc)
 
+-- and behind what was counted
+pub after-reads : (v : View) → AreOfKind v.kind v.units → (passes : ℕ → Bool) (dir : Direction) (n o q : ℕ) → CanRead v o → after (input_of v) passes dir n o ≡ Some q → CanRead v q
+unfolding after
+after-reads v all passes dir zero o q can e = let same : o ≡ q = cc in subst (CanRead v) same can
+after-reads v all passes dir (suc n) o q can e =
+    by_found (passed passes ((input_of v).next dir o)) refl e (λ r f g. after-reads v all passes dir n r q (reads-on v all passes dir o r can (sym f)) g)
+  where
+    by_found : (x : Option ℕ) → passed passes ((input_of v).next dir o) ≡ x → option_and_then (after (input_of v) passes dir n) x ≡ Some q
+        → ((r : ℕ) → passed passes ((input_of v).next dir o) ≡ Some r → after (input_of v) passes dir n r ≡ Some q → CanRead v q) → CanRead v q
+    by_found None h f on = absurd (cc f)
+    by_found (Some r) h f on = on r h f
+
 -- a test of bytes under 0x80, and the list of those that pass
 pub by-members : (f : ℕ → Bool) → ((c : ℕ) → 0x80 ≤ c → f c ≡ false) → (found : Option (ℕ × ℕ)) → passed f found ≡ passed (holds (members f)) found
 by-members f low None = refl
 by-members f low (Some (c, o)) = ap (λ b. if b then Some o else None) (sym (holds-members f (λ d held. elim (cases_lt d 256) [ inl small ↦ small | inr large ↦ absurd (cc (sym held ∙ low d (omega (arith, large)))) ]) c))
+
+-- tests that answer alike let the same pass
+pub passed-alike : (f h : ℕ → Bool) → ((c : ℕ) → f c ≡ h c) → (found : Option (ℕ × ℕ)) → passed h found ≡ passed f found
+passed-alike f h same None = refl
+passed-alike f h same (Some (c, o)) = ap (λ b. if b then Some o else None) (sym (same c))
 
 -- An instruction that takes what passes a test goes as far as the test passes.
 module _ (program : Program) (input : Input) (passes : ℕ → Bool) (i : Instruction) (dir : Direction) (groups : List Marks)

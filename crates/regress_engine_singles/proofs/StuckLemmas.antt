@@ -1,20 +1,38 @@
 -- What leads nowhere from an address and an offset.
-use Rattle.std.specs.Prelude.{slice_set, get_or}
-use Rattle.std.proofs.Common.{◌≡◌, ℕ, suc, ◌+◌, ◌-◌, ◌<◌, Bool, true, List, [], ◌∷◌, ◌++◌, Option, Some, None, if◌then◌else◌, refl, sym, ap, ◌∙◌, subst, arith}
-use Rattle.regress_meaning.specs.Meaning.{Direction}
+use Rattle.std.specs.Prelude.{slice_set, get_or, nat_lt, nat_le}
+use Rattle.std.proofs.Common.{◌≡◌, ◌⊎◌, inl, inr, ℕ, zero, suc, ◌+◌, ◌-◌, ◌<◌, ◌≤◌, Bool, true, false, List, [], ◌∷◌, ◌++◌, length, Option, Some, None, if◌then◌else◌, refl, sym, ap, ◌∙◌, subst, arith, get_or-set_same, length-set}
+use Rattle.std.proofs.lemmas.Bool.{leb-true, cases_lt}
+use Rattle.std.proofs.lemmas.List.{get_or_past}
+use Rattle.regress_meaning.specs.Meaning.{Direction, Forward, Backward}
 use Rattle.regress_meaning.specs.Inputs.{Input}
-use Rattle.regress_engine_code.specs.Instructions.{Instruction, Program, Stands}
+use Rattle.regress_engine_code.specs.Instructions.{LoopFields, Instruction, Program, Stands}
 use Rattle.regress_engine_code.specs.Instructions as code
 use Rattle.regress_engine_runs.specs.States.{Marks, Whole, unset, begun, ended}
-use Rattle.regress_engine_runs.specs.Runs.{successors, moved_to, advance, as_far, one_by_one, given_back, counted}
+use Rattle.regress_engine_runs.specs.Runs.{successors, moved_to, ordered, one_more, count_of, gap, advance, as_far, one_by_one, given_back, counted}
 use Rattle.regress_engine_runs.specs.UndoStack.{Work, whole, at_each}
-use Rattle.regress_engine_runs.proofs.Iterations.{after-stops}
+use Rattle.regress_engine_runs.proofs.GivingBack.{back_to-end}
+use Rattle.regress_engine_runs.proofs.Iterations.{after-all, after-stops, far-all, far-stops}
 use Rattle.regress_engine_sought.specs.Ready.{is_simple}
 use Rattle.regress_engine_sought.specs.Tasks.{Leads}
 use Rattle.regress_engine_sought.proofs.InsnLemmas.{simple-plain, simple-successors, single-successors}
 use Rattle.regress_engine_sought.proofs.TaskLemmas.{leads-then, leads-later}
 use Rattle.regress_engine_singles.specs.Failing.{Fail, failed, steps, IsStuck, TakesNothing}
 use Rattle.regress_engine_singles.proofs.Failures.{fail-both, leads-without}
+
+-- where a repetition begins no iteration has begun
+none-begun : (loops : List (ℕ × ℕ)) (id o : ℕ) → (get_or (slice_set loops id (0, o)) id (0, 0)).0 ≡ 0
+none-begun loops id o = by_room (cases_lt id (length loops))
+  where
+    by_room : (id < length loops) ⊎ (length loops ≤ id) → (get_or (slice_set loops id (0, o)) id (0, 0)).0 ≡ 0
+    by_room (inl within) = ap (λ (x : ℕ × ℕ). x.0) (get_or-set_same loops id (0, o) (0, 0) within)
+    by_room (inr past) =
+        let size = length-set loops id (0, o) in
+        ap (λ (x : ℕ × ℕ). x.0) (get_or_past (slice_set loops id (0, o)) id (0, 0) (omega (arith, size, past)))
+
+-- nothing lies between an offset and itself
+no-gap : (dir : Direction) (o : ℕ) → gap dir o o ≡ 0
+no-gap Forward o = omega arith
+no-gap Backward o = omega arith
 
 module _ (program : Program) (input : Input) where
   -- where the next address is said otherwise
@@ -41,6 +59,35 @@ module _ (program : Program) (input : Input) where
   alt-stuck dir at o target here first second loops groups =
       steps here refl (fail-both program input (next-stuck dir at o first loops groups) (whole target o loops groups ∷ []) (second loops groups))
 
+  -- nor does a jump to what leads nowhere
+  pub jump-stuck : (dir : Direction) (at o target : ℕ) → Stands program at (code.jump target) → IsStuck program input dir target o → IsStuck program input dir at o
+  jump-stuck dir at o target here there loops groups = steps here refl (there loops groups)
+
+  -- nor does the begin of a repetition, where neither its body nor the way out does
+  pub enter-stuck : (dir : Direction) (at o : ℕ) (f : LoopFields) → Stands program at (code.enter_loop f) → IsStuck program input dir (at + 1) o → (f.least ≡ 0 → IsStuck program input dir f.exit o)
+      → IsStuck program input dir at o
+  enter-stuck dir at o f here body out loops groups =
+      let begun : List (ℕ × ℕ) = slice_set loops f.loop_id (0, o) in
+      let s : Whole = whole at o begun groups in
+      steps here refl
+      (fail-both program input
+      (either f.greedy (nat_lt (count_of f.loop_id s) f.most) (nat_le f.least (count_of f.loop_id s)) (one_more f.loop_id at s) (whole f.exit o begun groups)
+      (next-stuck dir at o body (slice_set begun f.loop_id (suc (count_of f.loop_id s), o)) groups)
+      (λ e. let none = none-begun loops f.loop_id o in
+      let few = leb-true f.least (count_of f.loop_id s) e in
+      out (omega (arith, none, few)) begun groups))
+      [] failed)
+    where
+      either : (greedy more way : Bool) (s t : Whole) → Fail program input dir (s ∷ []) → (way ≡ true → Fail program input dir (t ∷ [])) → Fail program input dir (ordered greedy more way s t)
+      either true true true s t first second = fail-both program input first (t ∷ []) (second refl)
+      either true true false s t first second = first
+      either true false true s t first second = second refl
+      either true false false s t first second = failed
+      either false true true s t first second = fail-both program input (second refl) (s ∷ []) first
+      either false true false s t first second = first
+      either false false true s t first second = second refl
+      either false false false s t first second = failed
+
   -- nor does the begin of a group before what leads nowhere
   pub begin-stuck : (dir : Direction) (at o k : ℕ) → Stands program at (code.begin_group k) → IsStuck program input dir (at + 1) o → IsStuck program input dir at o
   begin-stuck dir at o k here behind loops groups =
@@ -50,6 +97,10 @@ module _ (program : Program) (input : Input) where
   pub end-stuck : (dir : Direction) (at o k : ℕ) → Stands program at (code.end_group k) → IsStuck program input dir (at + 1) o → IsStuck program input dir at o
   end-stuck dir at o k here behind loops groups =
       steps here refl (next-stuck dir at o behind loops (slice_set groups k (ended dir o (get_or groups k unset))))
+
+  -- nor what unsets it
+  pub reset-stuck : (dir : Direction) (at o k : ℕ) → Stands program at (code.reset_group k) → IsStuck program input dir (at + 1) o → IsStuck program input dir at o
+  reset-stuck dir at o k here behind loops groups = steps here refl (next-stuck dir at o behind loops (slice_set groups k unset))
 
   -- nor does a one-character loop all of whose ways lead nowhere
   pub ways-stuck : (dir : Direction) (at o least most : ℕ) (greedy : Bool) (i : Instruction) → Stands program at (code.single_loop least most greedy) → Stands program (at + 1) i
@@ -72,6 +123,37 @@ module _ (program : Program) (input : Input) where
         | None ↦ []
         | Some near ↦ if greedy then given_back input dir near (as_far program input (most - least) i dir groups near) else one_by_one program input (most - least) i dir groups near
       ]))) (after-stops program input i dir groups least o some (none groups)) failed)
+
+  -- what takes nothing is done no further
+  one-stops : (dir : Direction) (groups : List Marks) (o n : ℕ) (i : Instruction) → None ≡ advance program input i dir groups o → one_by_one program input n i dir groups o ≡ o ∷ []
+  unfolding one_by_one
+  one-stops dir groups o zero i stops = refl
+  one-stops dir groups o (suc n) i stops = ap (λ (x : Option ℕ). o ∷ elim x [ None ↦ [] | Some q ↦ one_by_one program input n i dir groups q ]) (sym stops)
+
+  -- so its loop leads to where it begins
+  counted-none : (dir : Direction) (groups : List Marks) (o least most : ℕ) (greedy : Bool) (i : Instruction) → least ≤ 0 → None ≡ advance program input i dir groups o
+      → counted program input least most greedy i dir groups o ≡ o ∷ []
+  counted-none dir groups o least most greedy i none stops =
+      ap (λ (x : Option ℕ). elim x [
+        | None ↦ []
+        | Some near ↦ if greedy then given_back input dir near (as_far program input (most - least) i dir groups near) else one_by_one program input (most - least) i dir groups near
+      ]) (sym (after-all program input i dir groups least o none))
+      ∙ by_way greedy
+    where
+      far : (n : ℕ) → as_far program input n i dir groups o ≡ o
+      far zero = sym (far-all program input i dir groups 0 o (omega arith))
+      far (suc n) = sym (far-stops program input i dir groups (suc n) o (omega arith) stops)
+
+      by_way : (g : Bool) → (if g then given_back input dir o (as_far program input (most - least) i dir groups o) else one_by_one program input (most - least) i dir groups o) ≡ o ∷ []
+      by_way true = ap (given_back input dir o) (far (most - least)) ∙ back_to-end input (gap dir o o) dir o o (no-gap dir o)
+      by_way false = one-stops dir groups o (most - least) i stops
+
+  -- so neither does one that need not be done lead anywhere, before what leads nowhere
+  pub left-stuck : (dir : Direction) (at o least most : ℕ) (greedy : Bool) (i : Instruction) → Stands program at (code.single_loop least most greedy) → Stands program (at + 1) i → least ≤ 0
+      → TakesNothing program input dir i o → IsStuck program input dir (at + 2) o → IsStuck program input dir at o
+  left-stuck dir at o least most greedy i here body few none behind =
+      ways-stuck dir at o least most greedy i here body (λ loops groups.
+      subst (λ (os : List ℕ). Fail program input dir (at_each program input (at + 2) loops groups os)) (sym (counted-none dir groups o least most greedy i few (none groups))) (behind loops groups))
 
   -- What leads nowhere leads to what is left to be done.
   pub leads-stuck : (dir : Direction) (at o : ℕ) (loops : List (ℕ × ℕ)) (groups : List Marks) (work : Work) → IsStuck program input dir at o

@@ -23,6 +23,12 @@ pub record IsTaken (after : ℕ → ℕ → Option ℕ) (next : ℕ → Option �
   pub within : before ≤ more
   pub stops : before < more → None ≡ next past
 
+-- So many characters are taken from an offset on, and then one more: at most so many.
+pub record IsBegun (after : ℕ → ℕ → Option ℕ) (next : ℕ → Option ℕ) (more o before last past : ℕ) : Type 0 where
+  pub behind : after before o ≡ Some last
+  pub one : Some past ≡ next last
+  pub within : before ≤ more
+
 -- From an offset up to another none of some bytes stands; there one of them does, or the bytes end.
 pub record StopsAt (stops bytes : List ℕ) (o end : ℕ) : Type 0 where
   pub low : o ≤ end

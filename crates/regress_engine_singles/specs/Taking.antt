@@ -1,18 +1,8 @@
 -- What an instruction takes: bytes, a character, or nothing.
-use Rattle.std.specs.Prelude.{ℕ, Bool, true, false, List, []}
+use Rattle.std.specs.Prelude.{Bool, true, false}
 use Rattle.regress_engine_code.specs.Instructions.{Instruction}
 use Rattle.regress_engine_code.specs.Instructions as code
 use Rattle.regress_engine_runs.specs.Closed.{takes_character}
-
--- an instruction takes bytes
-abbrev pub is_byte_seq : Instruction → Bool
-is_byte_seq (code.byte_seq bs) = true
-is_byte_seq _ = false
-
--- the bytes that an instruction takes
-abbrev pub bytes_in : Instruction → List ℕ
-bytes_in (code.byte_seq bs) = bs
-bytes_in _ = []
 
 -- an instruction asks what stands beside an offset
 abbrev pub is_edge : Instruction → Bool

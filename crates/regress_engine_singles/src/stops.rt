@@ -25,7 +25,7 @@ fn alone(interval: Interval) -> Option<u8>
 }
 
 /// The characters of ASCII that a class does not match, where it matches all but one to three of these.
-fn all_but(class: &BracketContents) -> Option<[u8; 3]>
+pub(crate) fn all_but(class: &BracketContents) -> Option<[u8; 3]>
     ensures others { IfSome result (λ stops. (c : ℕ) → bracket_has class.now.invert (ends_of class.now.cps.intervals.items) c ≡ not (holds stops c)) }
     ensures ascii { IfSome result (λ stops. (c : ℕ) → 0x80 ≤ c → holds stops c ≡ false) }
 {

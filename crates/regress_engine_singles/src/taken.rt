@@ -2,19 +2,21 @@
 ghost use Rattle.std.specs.Prelude.{◌≡◌, ℕ, true, List, None, MatchOption};
 ghost use Rattle.regress_meaning.specs.Meaning.{Forward as ahead};
 ghost use Rattle.regress_meaning.specs.Steps.{passed};
-ghost use Rattle.regress_engine_input.specs.Views.{way, input_of, CanRead};
+ghost use Rattle.regress_engine_input.specs.Views.{input_of, CanRead};
 ghost use Rattle.regress_engine_code.specs.InsnViews.{instruction};
 ghost use Rattle.regress_engine_code.specs.Standing.{program_of};
 ghost use Rattle.regress_engine_runs.specs.States.{Marks};
 ghost use Rattle.regress_engine_runs.specs.Runs.{advance, after_times};
 ghost use Rattle.regress_engine_runs.specs.Closed.{Fits};
 ghost use Rattle.regress_engine_singles.specs.Passed.{is_class};
-ghost use Rattle.regress_engine_singles.specs.Passing.{after, IsTaken};
+ghost use Rattle.regress_engine_singles.specs.Passing.{after, IsBegun, IsTaken};
 
+use crate::ascii::{AllBut, ByteMatcher, ascii_end, passed_ahead};
 use crate::class::ScannedBracket;
+use crate::stops::all_but;
 use regress_engine_code::{CompiledRegex, Insn};
-use regress_engine_input::{Direction, Forward, InputIndexer, PositionType};
-use regress_engine_matchers::{CharInput, MatchByteSet, SingleCharMatcher};
+use regress_engine_input::InputIndexer;
+use regress_engine_matchers::{CharInput, MatchByteSet};
 use regress_front_bytes::ascii_bitmap_holds_ascii;
 
 /// Characters that are taken one after another: some, and one more.
@@ -28,39 +30,64 @@ pub struct Taken {
     pub past: usize,
 }
 
-/// The characters beside an offset, in a direction, that pass a test one after another, the first and at most so many more;
-/// `None` where the first does not pass.
+/// The first of the characters ahead of an offset that pass a test one after another, at most so many more than one: those of
+/// ASCII, or one alone; `None` where the first does not pass.
 #[inline]
-fn taken_beside<Input: InputIndexer, Dir: Direction, Matcher: SingleCharMatcher<Input, Dir>>(
+fn first_taken<Input: InputIndexer, Matcher: ByteMatcher<Input>>(
     input: &Input,
-    dir: Dir,
     matcher: &Matcher,
     more: usize,
     offset: usize,
 ) -> Option<Taken>
     requires place { CanRead (Input.view input.now) offset }
     requires suits { Matcher.Suits matcher.now (Input.view input.now) }
-    ensures { MatchOption result (None ≡ passed (Matcher.passes matcher.now) ((input_of (Input.view input.now)).next (way Dir.FORWARD) offset)) (λ t. IsTaken (after (input_of (Input.view input.now)) (Matcher.passes matcher.now) (way Dir.FORWARD)) (λ o. passed (Matcher.passes matcher.now) ((input_of (Input.view input.now)).next (way Dir.FORWARD) o)) more offset t.before t.last t.past) }
+    ensures { MatchOption result (None ≡ passed (Matcher.passes matcher.now) ((input_of (Input.view input.now)).next ahead offset)) (λ t. IsBegun (after (input_of (Input.view input.now)) (Matcher.passes matcher.now) ahead) (λ o. passed (Matcher.passes matcher.now) ((input_of (Input.view input.now)).next ahead o)) more offset t.before t.last t.past) }
 {
-    let mut last = <Input::Position as PositionType>::new(offset);
-    let mut past = last;
-    if !matcher.matches(input, dir, &mut past) {
-        return None;
+    let past = ascii_end(input, matcher, more.saturating_add(1), offset);
+    if past > offset {
+        return Some(Taken {
+            before: past - 1 - offset,
+            last: past - 1,
+            past,
+        });
     }
-    let mut left = more;
+    let past = passed_ahead(input, matcher, offset)?;
+    Some(Taken {
+        before: 0,
+        last: offset,
+        past,
+    })
+}
+
+/// The characters ahead of an offset that pass a test one after another, the first and at most so many more; `None` where the
+/// first does not pass.
+#[inline]
+fn taken_beside<Input: InputIndexer, Matcher: ByteMatcher<Input>>(
+    input: &Input,
+    matcher: &Matcher,
+    more: usize,
+    offset: usize,
+) -> Option<Taken>
+    requires place { CanRead (Input.view input.now) offset }
+    requires suits { Matcher.Suits matcher.now (Input.view input.now) }
+    ensures { MatchOption result (None ≡ passed (Matcher.passes matcher.now) ((input_of (Input.view input.now)).next ahead offset)) (λ t. IsTaken (after (input_of (Input.view input.now)) (Matcher.passes matcher.now) ahead) (λ o. passed (Matcher.passes matcher.now) ((input_of (Input.view input.now)).next ahead o)) more offset t.before t.last t.past) }
+{
+    let first = first_taken(input, matcher, more, offset)?;
+    let mut last = first.last;
+    let mut past = first.past;
+    let mut left = more - first.before;
     while left > 0 {
-        let mut next = past;
-        if !matcher.matches(input, dir, &mut next) {
+        let Some(next) = passed_ahead(input, matcher, past) else {
             break;
-        }
+        };
         last = past;
         past = next;
         left -= 1;
     }
     Some(Taken {
         before: more - left,
-        last: input.pos_to_offset(last),
-        past: input.pos_to_offset(past),
+        last,
+        past,
     })
 }
 
@@ -88,13 +115,14 @@ pub fn taken_ahead<Input: CharInput>(
         Insn::AsciiBracket(bitmap) => {
             ascii_bitmap_holds_ascii(bitmap);
             let set = MatchByteSet { bytes: bitmap };
-            taken_beside(input, Forward::new(), &set, more, offset)
+            taken_beside(input, &set, more, offset)
         }
         Insn::Bracket(index) => {
-            let class = ScannedBracket {
-                bc: &program.brackets()[*index],
-            };
-            taken_beside(input, Forward::new(), &class, more, offset)
+            let bc = &program.brackets()[*index];
+            match all_but(bc) {
+                Some(stops) => taken_beside(input, &AllBut { stops }, more, offset),
+                None => taken_beside(input, &ScannedBracket { bc }, more, offset),
+            }
         }
         _ => None,
     }

@@ -1,42 +1,11 @@
 //! What an instruction takes.
-ghost use Rattle.std.specs.Prelude.{◌≡◌, ℕ, true, nat_lt, List, ◌∷◌, length, slice_get, IfSome};
-ghost use Rattle.regress_engine_code.specs.Instructions.{byte_seq};
+ghost use Rattle.std.specs.Prelude.{◌≡◌, ℕ, true, List, ◌∷◌, slice_get, IfSome};
+ghost use Rattle.regress_engine_code.specs.Instructions.{byte_seq, bytes_in};
 ghost use Rattle.regress_engine_code.specs.InsnViews.{instruction};
 ghost use Rattle.regress_engine_singles.specs.Passed.{is_class};
-ghost use Rattle.regress_engine_singles.specs.Taking.{bytes_in, is_byte_seq, is_edge, is_taking, takes_some};
+ghost use Rattle.regress_engine_singles.specs.Taking.{is_edge, is_taking, takes_some};
 
-use regress_engine_code::Insn;
-
-/// The bytes that an instruction takes, none where it takes no bytes.
-///
-/// ```rust
-/// let bytes = bytes_of(&Insn::ByteSeq2(*b"ab")); // b"ab"
-/// ```
-#[inline(always)]
-pub fn bytes_of(insn: &Insn) -> &[u8]
-    ensures bytes { result.now ≡ bytes_in (instruction insn.now) }
-    ensures some { is_byte_seq (instruction insn.now) ≡ nat_lt 0 (length result.now) }
-{
-    match insn {
-        Insn::ByteSeq1(bytes) => bytes,
-        Insn::ByteSeq2(bytes) => bytes,
-        Insn::ByteSeq3(bytes) => bytes,
-        Insn::ByteSeq4(bytes) => bytes,
-        Insn::ByteSeq5(bytes) => bytes,
-        Insn::ByteSeq6(bytes) => bytes,
-        Insn::ByteSeq7(bytes) => bytes,
-        Insn::ByteSeq8(bytes) => bytes,
-        Insn::ByteSeq9(bytes) => bytes,
-        Insn::ByteSeq10(bytes) => bytes,
-        Insn::ByteSeq11(bytes) => bytes,
-        Insn::ByteSeq12(bytes) => bytes,
-        Insn::ByteSeq13(bytes) => bytes,
-        Insn::ByteSeq14(bytes) => bytes,
-        Insn::ByteSeq15(bytes) => bytes,
-        Insn::ByteSeq16(bytes) => bytes,
-        _ => &[],
-    }
-}
+use regress_engine_code::{Insn, bytes_of};
 
 /// The first of some bytes, where there is one.
 #[inline]

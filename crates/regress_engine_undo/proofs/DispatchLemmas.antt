@@ -4,7 +4,7 @@ use Rattle.std.proofs.lemmas.Option.{slice_get-map, slice_get-get_or}
 use Rattle.std.proofs.Common.{◌≡◌, ℕ, suc, ◌+◌, ◌<◌, Bool, true, false, not, List, length, map, [], ◌∷◌, Option, Some, None, if◌then◌else◌, refl, sym, ap, ◌∙◌, subst, arith}
 use Rattle.regress_meaning.specs.Inputs.{Input}
 use Rattle.regress_engine_input.specs.Views.{way}
-use Rattle.regress_engine_code.specs.Instructions.{Instruction, Program, Stands}
+use Rattle.regress_engine_code.specs.Instructions.{Instruction, Program, Stands, is_byte_seq}
 use Rattle.regress_engine_code.specs.Instructions as code
 use Rattle.regress_engine_code.specs.InsnViews.{instruction}
 use Rattle.regress_engine_code.specs.InsnViews.{instruction}
@@ -23,7 +23,6 @@ use Rattle.regress_engine_singles.proofs.Failures.{leads-without}
 use Rattle.regress_engine_singles.proofs.StuckLemmas.{leads-stuck}
 use Rattle.regress_engine_undo.specs.declared.undo.Spot.{Spot}
 use Rattle.regress_engine_undo.specs.Held.{Held, pushed}
-use Rattle.regress_engine_singles.specs.Taking.{is_byte_seq}
 use Rattle.regress_engine_undo.specs.Tasks.{task_of, task, state_at, GoesOn}
 use Rattle.regress_engine_undo.proofs.StepLemmas.{fork-leads}
 use Rattle.regress_engine_undo.proofs.BackLemmas.{resume-back}

@@ -4,7 +4,6 @@ pub mod LeadLemmas
 pub mod StepLemmas
 pub mod BackLemmas
 pub mod LeaveLemmas
-pub mod AheadLemmas
 pub mod DispatchLemmas
 pub mod SingleLemmas
 pub mod StuckLemmas

@@ -1,14 +1,12 @@
 -- What surely leads nowhere, and what is passed over.
-use Rattle.std.specs.Prelude.{nat_lt, get_or, slice_set}
-use Rattle.std.proofs.lemmas.Bool.{cases_lt}
+use Rattle.std.specs.Prelude.{nat_lt}
 use Rattle.std.proofs.lemmas.Bool.Decides.{nat_tests}
-use Rattle.std.proofs.lemmas.List.{get_or-set_same, get_or-set_other}
-use Rattle.std.proofs.Common.{◌≡◌, ℕ, zero, suc, ◌+◌, ◌-◌, ◌<◌, ◌≤◌, ◌==◌, Bool, true, false, not, List, [], length, Option, Some, None, ◌⊎◌, inl, inr, refl, sym, ap, ◌∙◌, subst, arith}
+use Rattle.std.proofs.Common.{◌≡◌, ℕ, zero, suc, ◌+◌, ◌-◌, ◌<◌, ◌==◌, Bool, true, false, not, List, [], length, Option, Some, None, ◌⊎◌, inl, inr, refl, sym, ap, ◌∙◌, subst, arith}
 use Rattle.regress_meaning.specs.Meaning.{Direction, Forward, Backward}
 use Rattle.regress_meaning.specs.Inputs.{Input}
 use Rattle.regress_meaning.specs.Steps.{literal}
 use Rattle.regress_engine_input.specs.Views.{View, way, reading_of}
-use Rattle.regress_engine_code.specs.Instructions.{Instruction, Program, Stands}
+use Rattle.regress_engine_code.specs.Instructions.{Instruction, Program, Stands, bytes_in, is_byte_seq}
 use Rattle.regress_engine_code.specs.Instructions as code
 use Rattle.regress_engine_runs.specs.States.{Marks}
 use Rattle.regress_engine_runs.specs.Runs.{advance, against, gap}
@@ -24,7 +22,7 @@ use Rattle.regress_engine_undo.specs.declared.undo.Spot.{Spot}
 use Rattle.regress_engine_undo.specs.Held.{Held, pushed}
 use Rattle.regress_engine_singles.specs.Failing.{IsStuck}
 use Rattle.regress_engine_singles.proofs.StuckLemmas.{simple-stuck, loop-stuck, end-stuck, leads-stuck}
-use Rattle.regress_engine_singles.specs.Taking.{bytes_in, is_byte_seq, is_edge, is_taking}
+use Rattle.regress_engine_singles.specs.Taking.{is_edge, is_taking}
 use Rattle.regress_engine_undo.specs.Stuck.{IsTakenFirst, given_from, GivesFrom, TakesFrom}
 use Rattle.regress_engine_undo.specs.Tasks.{task}
 use Rattle.regress_engine_undo.proofs.BackLemmas.{give_back-last, give_back-none, give_back-more, take_on-last, take_on-more}
@@ -211,21 +209,3 @@ module _ (program : Program) (input : Input) (forward : Bool) (at : ℕ) where
       let k : Held = pushed (take_on at q (left - 1)) h in
       past-stuck program input forward at near p (pushed (take_on at near left) h) k same stuck
       (take_on-more program input p h k at near left q i here some (subst (λ b. advance program input i (way b) h.groups near ≡ Some q) (sym same) (takes h.groups)) refl)
-
--- ---- ways that are kept, each of which leads nowhere
-
-module _ (Stuck : ℕ → Type 0) (kept : List ℕ) (depth : ℕ) where
-  -- one more is kept
-  pub kept-more : (at : ℕ) → depth < length kept → ((j : ℕ) → j < depth + 1 → Stuck (get_or (slice_set kept depth at) j 0)) → Stuck at × ((j : ℕ) → j < depth → Stuck (get_or kept j 0))
-  kept-more at there all = (
-    subst Stuck (get_or-set_same kept depth at 0 there) (all depth (omega arith)),
-    λ j less. subst Stuck (get_or-set_other kept depth j at 0 (λ same. omega (arith, less, same))) (all j (omega (arith, less))),
-  )
-
-  -- the last one is told apart
-  pub kept-last : (depth ≡ 0 → ⊥) → Stuck (get_or kept (depth - 1) 0) → ((j : ℕ) → j < depth - 1 → Stuck (get_or kept j 0)) → (j : ℕ) → j < depth → Stuck (get_or kept j 0)
-  kept-last some last others j less = by_order (cases_lt j (depth - 1))
-    where
-      by_order : (j < depth - 1) ⊎ (depth - 1 ≤ j) → Stuck (get_or kept j 0)
-      by_order (inl before) = others j before
-      by_order (inr behind) = let same : depth - 1 ≡ j = omega (arith, behind, less) in subst (λ i. Stuck (get_or kept i 0)) same last

@@ -8,6 +8,8 @@ use Rattle.regress_front_tables.specs.TableViews.{table}
 use Rattle.regress_front_nodes.specs.Trees.{tree}
 use Rattle.regress_front_nodes.proofs.CopyLemmas.{map-AllZip}
 use Rattle.regress_engine_code.specs.InsnViews.{instruction}
+use Rattle.regress_engine_code.specs.Ahead.{AreAhead}
+use Rattle.regress_engine_code.specs.Laid.{program_from}
 use Rattle.regress_engine_code.specs.Layout.{Target}
 use Rattle.regress_engine_code.specs.Written.{written, AddsTree}
 use Rattle.regress_engine_code.proofs.BeginLemmas.{all-begin}
@@ -59,6 +61,9 @@ invariant_of-result c =
             (c.in_ok-groups.ensures.ok ∙ ap length c.deref.ensures.value),
         c.in_ok-start_pred.ensures.serves,
       ) ∣₁;
+      told = subst (λ brackets. AreAhead (program_from c.node.new.code.insns.items brackets c.from.result c.in_ok-groups.groups c.args.units) c.in_ok-ahead.ahead.items) c.deref-4.ensures.value
+          (subst (λ insns. AreAhead (program_from insns c.deref-4.result.now c.from.result c.in_ok-groups.groups c.args.units) c.in_ok-ahead.ahead.items) c.deref-3.ensures.value
+          (c.in_ok-ahead.ensures c.from.result c.in_ok-groups.groups));
     }
 
 pub returns-in_err-groups-clause-refused : goal.returns-in_err-groups-clause-refused

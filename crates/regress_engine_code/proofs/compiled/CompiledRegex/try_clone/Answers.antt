@@ -2,6 +2,7 @@ use Rattle.std.proofs.Common.{◌≡◌, rules, sym, subst}
 use Rattle.std.proofs.Math.Logic.{∥∥₁_elim, ∥∥₁_prop}
 use Rattle.regress_engine_prefix.proofs.ServingLemmas.{copy-serves}
 use Rattle.regress_engine_code.specs.Instructions.{Program}
+use Rattle.regress_engine_code.specs.Ahead.{AreAhead}
 use Rattle.regress_engine_code.specs.Laid.{program_from, target_from, IsLaid}
 use Rattle.regress_engine_code.specs.Standing.{program_of}
 use Rattle.regress_engine_code.proofs.compiled.CompiledRegex.try_clone.Goals as goal
@@ -13,4 +14,8 @@ invariant_of-result c =
     let same : program_from c.in_ok-to_vec.field-0.items c.in_ok-copies_of.field-0.items self.loops self.groups self.units ≡ program_of self = search rules in
     let laid : ∥ IsLaid (target_from (program_of self) self.tables.now self.flags) copy ∥₁ = ∥∥₁_elim self.laid ∥∥₁_prop
     (λ (n, t, formed, layout, serves). ∣ (n, t, formed, layout, copy-serves self.units t self.start_pred copy c.in_ok-copy.ensures serves) ∣₁) in
-    record { laid = subst (λ (p : Program). ∥ IsLaid (target_from p self.tables.now self.flags) copy ∥₁) (sym same) laid }
+    let ahead : c.in_ok-to_vec-2.field-0.items ≡ self.ahead.items = search rules in
+    record {
+      laid = subst (λ (p : Program). ∥ IsLaid (target_from p self.tables.now self.flags) copy ∥₁) (sym same) laid;
+      told = subst (λ (p : Program). AreAhead p c.in_ok-to_vec-2.field-0.items) (sym same) (subst (AreAhead (program_of self)) (sym ahead) self.told);
+    }

@@ -1,4 +1,4 @@
-use Rattle.std.proofs.Common.{◌≡◌, ◌+◌, ◌-◌, suc, true, ap, ◌∙◌, subst, refl, arith}
+use Rattle.std.proofs.Common.{◌≡◌, ◌+◌, ◌-◌, suc, true, inl, inr, ap, ◌∙◌, subst, refl, arith}
 use Rattle.regress_engine_code.specs.Instructions.{Stands}
 use Rattle.regress_engine_code.specs.Instructions as code
 use Rattle.regress_engine_code.specs.Standing.{program_of}
@@ -8,7 +8,7 @@ use Rattle.regress_engine_sought.specs.StateViews.{marks_of}
 use Rattle.regress_engine_sought.proofs.InsnLemmas.{stands-as}
 use Rattle.regress_engine_undo.specs.Held.{held}
 use Rattle.regress_engine_undo.proofs.BackLemmas.{frame-held}
-use Rattle.regress_engine_undo.proofs.DispatchLemmas.{first-stuck, second-stuck, step-on, jump-on, mark-on, look-on}
+use Rattle.regress_engine_undo.proofs.DispatchLemmas.{step-on, jump-on, mark-on, look-on}
 use Rattle.regress_engine_undo.proofs.TurnLemmas.{first-place}
 use Rattle.regress_engine_exec.proofs.attempt.Attempt.step.Goals as goal
 
@@ -115,21 +115,14 @@ returns-in-Jump-clause-leads g c =
     let here = stands-as program p.at _ _ c.in-Jump.is c.instruction-insn.ensures.stands in
     jump-on program input p h c.in-Jump.target here
 
-pub returns-then-are_stuck-clause-leads : goal.returns-then-are_stuck-clause-leads
-returns-then-are_stuck-clause-leads g c =
-    let program = program_of c.args.self.now.program.now in
-    let input = input_of (g.Input.InputIndexer.view c.args.self.now.input) in
-    let p = c.args.spot.now in
-    let here = stands-as program p.at _ _ c.in-Alt.is c.instruction-insn.ensures.stands in
-    first-stuck program input p (held c.args.memory.now) c.in-Alt.secondary here (c.are_stuck.ensures c.if-are_stuck.true)
+pub way_of_two-way-requires-clause-stands : goal.way_of_two-way-requires-clause-stands
+way_of_two-way-requires-clause-stands g c = stands-as (program_of c.args.self.now.program.now) c.args.spot.now.at _ _ c.in-Alt.is c.instruction-insn.ensures.stands
 
-pub returns-then-is_stuck-clause-leads : goal.returns-then-is_stuck-clause-leads
-returns-then-is_stuck-clause-leads g c =
-    let program = program_of c.args.self.now.program.now in
-    let input = input_of (g.Input.InputIndexer.view c.args.self.now.input) in
-    let p = c.args.spot.now in
-    let here = stands-as program p.at _ _ c.in-Alt.is c.instruction-insn.ensures.stands in
-    second-stuck program input p (held c.args.memory.now) c.in-Alt.secondary here (c.is_stuck.ensures c.if-is_stuck.true)
+pub returns-then-way-spot-clause-leads : goal.returns-then-way-spot-clause-leads
+returns-then-way-spot-clause-leads g c = elim (c.way_of_two-way.ensures (held c.args.memory.now)) [
+  | inl same ↦ absurd (c.if-way-spot.true same)
+  | inr on ↦ on
+]
 
 pub returns-in_ok-fork-in-Alt-clause-leads : goal.returns-in_ok-fork-in-Alt-clause-leads
 returns-in_ok-fork-in-Alt-clause-leads g c =

@@ -1,16 +1,17 @@
-use Rattle.std.proofs.Common.{◌≡◌, true, not, length, sym, ap, ◌∙◌}
+use Rattle.std.proofs.Common.{◌≡◌, true, not, length, ap, ◌∙◌}
+use Rattle.regress_meaning.specs.Meaning.{Backward}
 use Rattle.regress_meaning.specs.Steps.{literal}
 use Rattle.regress_engine_code.specs.Standing.{program_of}
-use Rattle.regress_engine_input.specs.Views.{way, input_of}
+use Rattle.regress_engine_input.specs.Views.{input_of}
 use Rattle.regress_engine_code.specs.declared.insn.Insn.TheVariants.{Goal}
 use Rattle.regress_engine_singles.proofs.StuckLemmas.{simple-stuck}
 use Rattle.regress_engine_undo.proofs.DispatchLemmas.{bytes-simple, none-is, stands-read}
-use Rattle.regress_engine_undo.proofs.StuckLemmas.{bytes-taken, bytes-units, some-there, more-than, is-not}
-use Rattle.regress_engine_singles.specs.Taking.{is_byte_seq}
-use Rattle.regress_engine_exec.proofs.attempt.Attempt.is_stuck.Goals as goal
+use Rattle.regress_engine_undo.proofs.StuckLemmas.{bytes-taken, bytes-units, some-there, more-than}
+use Rattle.regress_engine_code.specs.Instructions.{is_byte_seq}
+use Rattle.regress_engine_exec.proofs.attempt.Attempt.is_stuck_behind.Goals as goal
 
-pub lacks-requires-clause-kind : goal.lacks-requires-clause-kind
-lacks-requires-clause-kind g c =
+pub bytes-requires-clause-kind : goal.bytes-requires-clause-kind
+bytes-requires-clause-kind g c =
     let program = program_of c.args.self.now.program.now in
     let here = stands-read c.insns-insns.result.now c.args.self.now.program.now.insns.items c.args.at Goal c.insns-insns.ensures c.if-at-insns.false in
     let some = some-there (length c.bytes_of-bytes.result.now) (c.if-is_empty.ensures) in
@@ -25,5 +26,5 @@ returns g c = λ none.
     let bytes : is_byte_seq _ ≡ true = c.bytes_of-bytes.ensures.some ∙ more-than (length c.bytes_of-bytes.result.now) some in
     let input = input_of (g.Input.InputIndexer.view c.args.self.now.input) in
     let simple = bytes-simple program c.args.at _ bytes (c.requires.closed c.args.at _ here) in
-    simple-stuck program input (way c.args.forward) c.args.at c.args.offset _ here simple.0
-    (λ groups. none-is _ (is-not _ (sym c.lacks.ensures ∙ none)) ∙ ap (λ bs. literal input (way c.args.forward) bs c.args.offset) c.bytes_of-bytes.ensures.bytes ∙ bytes-taken program input _ (way c.args.forward) groups c.args.offset bytes)
+    simple-stuck program input Backward c.args.at c.args.offset _ here simple.0
+    (λ groups. none-is _ (c.is_none.ensures ∙ ap not none) ∙ c.bytes.ensures ∙ ap (λ bs. literal input Backward bs c.args.offset) c.bytes_of-bytes.ensures.bytes ∙ bytes-taken program input _ Backward groups c.args.offset bytes)

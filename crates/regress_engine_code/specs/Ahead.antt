@@ -1,0 +1,55 @@
+-- The bytes that may stand ahead of an address, read forward, where something is led to from there.
+use Rattle.std.specs.Prelude.{◌≡◌, ℕ, suc, ◌<◌, Bool, true, not, ◌||◌, ◌&&◌, ◌==◌, List, [], ◌∷◌, length, None, Some, slice_get, nat_lt, nat_le}
+use Rattle.regress_meaning.specs.Text.{holds}
+use Rattle.regress_front_bytes.specs.Bitmaps.{byte_bitmap_contains}
+use Rattle.regress_front_bytes.specs.declared.bitmaps.ByteBitmap.{ByteBitmap}
+use Rattle.regress_front_nodes.specs.TreeMeaning.{bracket_has}
+use Rattle.regress_engine_code.specs.Instructions.{Instruction, Program}
+use Rattle.regress_engine_code.specs.Instructions as code
+
+-- a byte is one of a character beyond ASCII, or passes
+abbrev pub high_or : (ℕ → Bool) → ℕ → Bool
+high_or passes b = nat_le 0x80 b || passes b
+
+-- bytes begin with a byte, or there are none
+abbrev pub starts : List ℕ → ℕ → Bool
+starts [] b = true
+starts (c ∷ cs) b = c == b
+
+-- a bracket with an index matches the character that a byte is, if it is one
+abbrev pub bracket_begins : Program → ℕ → ℕ → Bool
+bracket_begins program k b = elim (slice_get program.brackets k) [ None ↦ true | Some x ↦ high_or (bracket_has x.0 x.1) b ]
+
+-- a byte may stand ahead of an address behind another; ahead of one that is not behind it each may
+abbrev pub behind : (ℕ → ℕ → Bool) → (at next b : ℕ) → Bool
+behind may at next b = not (nat_lt at next) || may next b
+
+-- A byte may stand ahead of an instruction at an address, by what may stand ahead of those behind it.
+abbrev pub begins : Program → (ℕ → ℕ → Bool) → Instruction → (at b : ℕ) → Bool
+begins program may (code.byte_seq bs) at b = starts bs b
+begins program may (code.byte_set cs) at b = high_or (holds cs) b
+begins program may (code.bracket k) at b = bracket_begins program k b
+begins program may (code.ascii_bracket cs) at b = high_or (holds cs) b
+begins program may (code.line_start multiline) at b = behind may at (suc at) b
+begins program may (code.line_end multiline) at b = behind may at (suc at) b
+begins program may (code.boundary inverted folded) at b = behind may at (suc at) b
+begins program may (code.begin_group k) at b = behind may at (suc at) b
+begins program may (code.end_group k) at b = behind may at (suc at) b
+begins program may (code.reset_group k) at b = behind may at (suc at) b
+begins program may (code.jump a) at b = behind may at a b
+begins program may (code.alt a) at b = behind may at (suc at) b || behind may at a b
+begins program may (code.enter_loop f) at b = behind may at (suc at) b || (f.least == 0 && behind may at f.exit b)
+begins program may (code.single_loop least most greedy) at b = behind may at (suc at) b || (least == 0 && behind may at (suc (suc at)) b)
+begins program may _ at b = true
+
+-- by sets of bytes, one for each address from the first on, a byte may stand ahead of an address; of others each may
+abbrev pub may_stand : List ByteBitmap → ℕ → ℕ → Bool
+may_stand sets at b = elim (slice_get sets at) [ None ↦ true | Some set ↦ byte_bitmap_contains set b ]
+
+-- the same of the instruction at an address; where there is none each may
+abbrev pub begins_at : Program → (ℕ → ℕ → Bool) → (at b : ℕ) → Bool
+begins_at program may at b = elim (slice_get program.instructions at) [ None ↦ true | Some i ↦ begins program may i at b ]
+
+-- each byte of the set of an address may stand ahead of the instruction there, and no other
+abbrev pub AreAhead : Program → List ByteBitmap → Type 0
+AreAhead program sets = (at b : ℕ) → at < length sets → b < 256 → may_stand sets at b ≡ begins_at program (may_stand sets) at b
