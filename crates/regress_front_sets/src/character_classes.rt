@@ -142,8 +142,5 @@ pub const fn line_terminator() -> [Interval; 3]
 pub fn is_ascii_word(point: CodePoint) -> bool
     ensures { result ≡ is_ascii_word point }
 {
-    matches!(
-        char::from_u32(point),
-        Some('0'..='9' | 'A'..='Z' | 'a'..='z' | '_')
-    )
+    matches!(point, 0x30..=0x39 | 0x41..=0x5A | 0x5F | 0x61..=0x7A)
 }
