@@ -6,7 +6,7 @@ use regress_engine_input::{Backward, Direction, Utf8Input};
 use regress_engine_matchers::MatchAnyExceptLineTerminator;
 use regress_engine_singles::{
     ScannedBracket, are_apart, as_far, as_far_ahead, first_byte, is_apart, is_class, is_edge,
-    taken_ahead, takes_some,
+    taken_ahead, takes_one, takes_some,
 };
 use regress_front_bytes::AsciiBitmap;
 use regress_front_nodes::BracketContents;
@@ -185,8 +185,11 @@ fn what_instructions_take_is_told(rt: HostRuntime) -> Result<(), Fail> {
     prove!(!any);
     let edges = is_edge(&start) && is_edge(&Insn::WordBoundary { invert: true });
     let other = is_edge(&ab) || is_class(&ab);
+    let one = takes_one(&Insn::ByteSet3(*b"abc")) && takes_one(&Insn::Bracket(0));
+    let more = takes_one(&ab) || takes_one(&Insn::MatchAny);
     prove!(edges && is_class(&Insn::Bracket(0)));
     prove!(!other);
+    prove!(one && !more);
     assert!(rt; bytes == b"ab".as_slice() && first == Some(b'a') && taking && edges);
     Ok(())
 }

@@ -11,13 +11,16 @@ const WORDS: &[(&str, &str)] = &[
     ("(?:ca|cat|catc)+h?s?", ""),
     ("(?<=(?:case|do|e) )(?:do|e|c)", ""),
     ("(?:é|è|do|ü)+", ""),
+    (r"\b", ""),
+    (r"\b", "iu"),
+    (r"\b(?:c|$|)", ""),
 ];
 
 /// Texts in which each of these is sought.
 const TEXTS: &[&str] = &[
     "case catch classdo do double elsee else cat",
     "CASE doéü dodé è caſe el\u{FC}e",
-    "ca cats catcaca c",
+    "ca cats catcaca c é",
 ];
 
 /// Patterns whose ways are classes, groups, repetitions, assertions and references, and their flags.
@@ -35,6 +38,14 @@ const KINDS: &[(&str, &str)] = &[
     ("(?:a|ab)(?:c|bcd)(?:d*)", ""),
     ("(?<=(?:[ab]|cd|a|é))[bcd]", ""),
     ("(?:(?:a|b)|(?:c|(?:d|é)))+", "u"),
+    ("[ab]c", ""),
+    ("([ab])[cd]", ""),
+    ("BCD", "i"),
+    ("[bd]$", "m"),
+    ("[cd]\\b", ""),
+    ("[aé]b", ""),
+    ("[ab](?:c|d|)", ""),
+    ("([bÉ])", "i"),
 ];
 
 /// Texts in which each of these is sought.

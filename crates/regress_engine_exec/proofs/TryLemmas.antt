@@ -1,22 +1,21 @@
 -- A run that is tried.
 use Rattle.std.specs.Prelude.{replicate, IfSome}
-use Rattle.std.proofs.Common.{◌≡◌, ℕ, Bool, true, false, [], ◌∷◌, Option, Some, None, sym, subst}
+use Rattle.std.proofs.Common.{◌≡◌, ℕ, Bool, true, false, [], ◌∷◌, Option, Some, None, ◌⊎◌, inl, inr, sym, subst}
 use Rattle.std.proofs.lemmas.List.{length-replicate}
 use Rattle.regress_meaning.specs.Meaning.{Forward}
 use Rattle.regress_engine_input.specs.Views.{View, way, input_of, reading_of}
 use Rattle.regress_engine_code.specs.Instructions.{Program}
-use Rattle.regress_engine_runs.specs.States.{unset, first_state}
+use Rattle.regress_engine_runs.specs.States.{Whole, unset, first_state}
 use Rattle.regress_engine_runs.specs.Computed.{IsComputed}
 use Rattle.regress_engine_runs.specs.UndoStack.{ReadOn, outermost, stands_for}
-use Rattle.regress_engine_sought.specs.Tasks.{Leads, IsTried}
+use Rattle.regress_engine_sought.specs.Tasks.{Task, Leads, IsTried}
 use Rattle.regress_engine_sought.specs.Answering.{IsAnswer}
-use Rattle.regress_engine_sought.proofs.TaskLemmas.{leads-then, tried-first, tried-fails}
+use Rattle.regress_engine_sought.proofs.TaskLemmas.{leads-then, tried-first, tried-on, tried-fails}
 use Rattle.regress_engine_undo.specs.declared.undo.Spot.{Spot}
 use Rattle.regress_engine_undo.specs.Held.{Held}
 use Rattle.regress_engine_undo.specs.Sound.{IsSound, IsHeld}
 use Rattle.regress_engine_undo.specs.Tasks.{task}
-use Rattle.regress_engine_exec.specs.Trying.{Steps}
-use Rattle.regress_engine_exec.specs.Trying.{IsTrying}
+use Rattle.regress_engine_exec.specs.Trying.{Steps, IsTrying, IsWay}
 
 module _ (program : Program) (v : View) (start : ℕ) (ends : IsComputed program (input_of v) Forward (first_state program start ∷ [])) where
   -- nothing is tried yet
@@ -36,6 +35,21 @@ module _ (program : Program) (v : View) (start : ℕ) (ends : IsComputed program
   trying-fails q k tried empty =
       tried-fails program v start ends (way q.forward) k.groups
       (subst (λ s. IsTried program v ends.0.0 ends.0.1 (record { dir = way q.forward; states = []; work = stands_for program (input_of v) (way q.forward) s k.loops k.groups })) empty tried)
+
+-- it may begin where a way from its spot leads
+pub trying-way : (program : Program) (v : View) (n : ℕ) (r : Option Whole) (o start first : ℕ) (h : Held) → IsWay program (input_of v) true o start first
+    → IsTrying program v n r (record { at = start; offset = o; forward = true }) h → IsTrying program v n r (record { at = first; offset = o; forward = true }) h
+trying-way program v n r o start first h ways trying = by_way (ways h)
+  where
+    spot : ℕ → Spot
+    spot at = record { at = at; offset = o; forward = true }
+
+    from : ℕ → Task
+    from at = task program (input_of v) true (spot at) h
+
+    by_way : (first ≡ start) ⊎ Leads program (input_of v) 1 (from start) (from first) → IsTrying program v n r (spot first) h
+    by_way (inl same) = subst (λ at. IsTrying program v n r (spot at) h) (sym same) trying
+    by_way (inr leads) = record { tried = tried-on program v n r 1 (from start) (from first) leads trying.tried; held = trying.held }
 
 -- what a step came to
 pub steps-led : (program : Program) (v : View) (p q : Spot) (h k : Held) (o : Option Bool) (going b : Bool) → o ≡ Some going → going ≡ b → Steps program (input_of v) p h o q k

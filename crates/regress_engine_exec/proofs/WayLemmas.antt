@@ -1,9 +1,10 @@
 -- Where it is gone on from two ways, and what leads nowhere where a byte stands ahead.
-use Rattle.std.specs.Prelude.{slice_get}
+use Rattle.std.specs.Prelude.{slice_get, if◌then◌else◌}
 use Rattle.std.proofs.lemmas.Option.{slice_get_within}
 use Rattle.std.proofs.Common.{◌≡◌, ℕ, ◌+◌, ◌<◌, Bool, true, false, not, length, Option, Some, None, ◌⊎◌, inl, inr, refl, sym, ap, ◌∙◌, subst, arith}
 use Rattle.regress_meaning.specs.Inputs.{Input}
 use Rattle.regress_meaning.specs.Meaning.{Forward}
+use Rattle.regress_meaning.specs.Steps.{at_boundary}
 use Rattle.regress_front_bytes.specs.declared.bitmaps.ByteBitmap.{ByteBitmap}
 use Rattle.regress_front_bytes.specs.Bitmaps.{byte_bitmap_contains}
 use Rattle.regress_engine_input.specs.Views.{View, way, are_bytes, input_of, in_bytes, unit_beside}
@@ -20,7 +21,7 @@ use Rattle.regress_engine_singles.proofs.LackLemmas.{lack-stuck}
 use Rattle.regress_engine_undo.specs.declared.undo.Spot.{Spot}
 use Rattle.regress_engine_undo.specs.Held.{Held}
 use Rattle.regress_engine_undo.specs.Tasks.{task}
-use Rattle.regress_engine_undo.proofs.DispatchLemmas.{first-stuck, second-stuck}
+use Rattle.regress_engine_undo.proofs.DispatchLemmas.{first-stuck, second-stuck, take-some}
 use Rattle.regress_engine_exec.specs.Trying.{IsWay}
 
 module _ (program : Program) (input : Input) (forward : Bool) (o : ℕ) where
@@ -57,6 +58,11 @@ module _ (program : Program) (input : Input) (forward : Bool) (o : ℕ) where
   -- none yet
   pub way-here : (start : ℕ) → IsWay program input forward o start start
   way-here start h = inl refl
+
+-- behind `\b`, where a word begins or ends
+pub way-boundary : (program : Program) (input : Input) (folded : Bool) (o : ℕ) → Stands program 0 (code.boundary false folded) → at_boundary input folded o ≡ true → IsWay program input true o 0 1
+way-boundary program input folded o here so h =
+    inr (take-some program input (code.boundary false folded) (record { at = 0; offset = o; forward = true }) h o here refl (ap (λ (b : Bool). if b then Some o else None) so))
 
 -- ---- a byte ahead
 

@@ -1,5 +1,5 @@
 //! A run of a program from one offset of a text.
-ghost use Rattle.std.specs.Prelude.{◌+◌, ◌^◌, ◌<◌, [], ◌∷◌, IfOk};
+ghost use Rattle.std.specs.Prelude.{◌+◌, ◌^◌, ◌<◌, [], ◌∷◌, true, IfOk};
 ghost use Rattle.regress_meaning.specs.Meaning.{Forward as forward};
 ghost use Rattle.regress_engine_code.specs.Instructions.{Instruction, Stands};
 ghost use Rattle.regress_engine_code.specs.InsnViews.{instruction};
@@ -11,6 +11,7 @@ ghost use Rattle.regress_engine_runs.specs.UndoStack.{ReadOn, outermost};
 ghost use Rattle.regress_engine_sought.specs.Answering.{IsAnswer};
 ghost use Rattle.regress_engine_undo.specs.Held.{held};
 ghost use Rattle.regress_engine_sought.specs.Sought.{Suits};
+ghost use Rattle.regress_engine_exec.specs.Trying.{IsWay};
 ghost use Rattle.regress_engine_runs.proofs.OneAnswer.{IsComputed-prop};
 
 use regress_engine_code::{CompiledRegex, Insn};
@@ -40,14 +41,16 @@ impl<'a, 'r, Input: CharInput> Attempt<'a, 'r, Input> {
         &insns[at]
     }
 
-    /// Runs the program from the offset. It answers the offset where the run's answer ends, whose groups `memory` then has,
-    /// or `None` where the run has no answer. `answer` is room for groups.
+    /// Runs the program from the offset, at an address to which the run comes with nothing changed. It answers where the run's
+    /// answer ends, whose groups `memory` then has, or `None` where the run has none. `answer` is room for groups.
     pub(crate) fn run(
         &self,
+        first: usize,
         memory: &mut Memory,
         answer: &mut Vec<GroupData<usize>>,
     ) -> Result<Option<usize>, AllocError>
         requires suits { Suits (program_of self.now.program.now) (Input.view self.now.input) }
+        requires begun { IsWay (program_of self.now.program.now) (input_of (Input.view self.now.input)) true self.now.start 0 first }
         requires reads { ReadOn (program_of self.now.program.now) (input_of (Input.view self.now.input)) (reading_of (Input.view self.now.input)) forward (first_state (program_of self.now.program.now) self.now.start ∷ []) (outermost []) }
         ensures { IfOk result (λ found. IsAnswer (program_of self.now.program.now) (input_of (Input.view self.now.input)) self.now.start found (held memory.new).groups) }
     {
@@ -56,7 +59,7 @@ impl<'a, 'r, Input: CharInput> Attempt<'a, 'r, Input> {
             self.program.groups() as usize,
         )?;
         let mut spot = Spot {
-            at: 0,
+            at: first,
             offset: self.start,
             forward: true,
         };

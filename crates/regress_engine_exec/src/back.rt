@@ -82,8 +82,7 @@ impl<'a, 'r, Input: CharInput> Attempt<'a, 'r, Input> {
         }
     }
 
-    /// Goes on at the far one of some offsets at which it may be gone on, and later at those before it. It answers whether there
-    /// is any.
+    /// Goes on at the far one of the offsets at which it may be gone on, later at those before it; answers whether there is one.
     pub(crate) fn give_back(
         &self,
         at: usize,
@@ -201,8 +200,7 @@ impl<'a, 'r, Input: CharInput> Attempt<'a, 'r, Input> {
         }
     }
 
-    /// Goes on at the near one of some offsets at which it may be gone on, and later at those behind it. It answers whether
-    /// there is any.
+    /// Goes on at the near one of the offsets at which it may be gone on, later at those behind it; answers whether there is one.
     pub(crate) fn take_on(
         &self,
         at: usize,

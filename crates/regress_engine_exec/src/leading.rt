@@ -1,11 +1,11 @@
-//! A class and a run of characters with which a program begins.
+//! What a program begins with: a class and a run of characters, or what is asked of the place.
 ghost use Rattle.std.specs.Prelude.{◌≡◌, ◌<◌, ℕ, true, false, List, get_or, IfSome};
 ghost use Rattle.regress_meaning.specs.Meaning.{Forward as ahead};
 ghost use Rattle.regress_meaning.specs.Steps.{literal};
-ghost use Rattle.regress_engine_code.specs.Instructions.{Stands, boundary, line_start};
+ghost use Rattle.regress_engine_code.specs.Instructions.{Program, Stands, boundary, line_start};
 ghost use Rattle.regress_engine_code.specs.InsnViews.{instruction};
 ghost use Rattle.regress_engine_code.specs.Standing.{program_of};
-ghost use Rattle.regress_engine_input.specs.Views.{are_bytes, input_of, reading_of, CanRead};
+ghost use Rattle.regress_engine_input.specs.Views.{View, are_bytes, input_of, reading_of, CanRead};
 ghost use Rattle.regress_engine_runs.specs.States.{Marks};
 ghost use Rattle.regress_engine_runs.specs.Runs.{advance};
 ghost use Rattle.regress_engine_runs.specs.Closed.{Fits};
@@ -13,14 +13,37 @@ ghost use Rattle.regress_engine_runs.specs.Meets.{IsAtPlace};
 ghost use Rattle.regress_engine_sought.specs.Sought.{Suits};
 ghost use Rattle.regress_engine_singles.specs.Failing.{IsStuck};
 ghost use Rattle.regress_engine_singles.specs.Passed.{is_class, PassesOver};
+ghost use Rattle.regress_engine_exec.specs.Beginning.{IsKnown};
 
 use crate::attempt::Attempt;
 use regress_engine_code::Insn;
 use regress_engine_matchers::{CharInput, CharProperties};
-use regress_engine_singles::{as_far_ahead, is_class, is_edge};
+use regress_engine_singles::{as_far_ahead, is_class, is_edge, takes_one};
 
 /// So many instructions behind a run are looked at.
 const LOOKED_AT: usize = 8;
+
+/// What is known of a place before a run begins there.
+#[derive(Debug)]
+pub(crate) enum Beginning {
+    /// From the place on and up to this offset no run has an answer.
+    Passed(usize),
+    /// A run from the place comes to this address, and nothing else has changed then.
+    At(usize),
+}
+
+impl Beginning {
+    /// What is known where no run has an answer up to an offset, or nothing is known.
+    #[inline]
+    fn of(passed: Option<usize>) -> Beginning
+        ensures { (program : Program) (v : View) (start : ℕ) → IfSome passed (PassesOver program v start) → IsKnown program v start result }
+    {
+        match passed {
+            Some(past) => Beginning::Passed(past),
+            None => Beginning::At(0),
+        }
+    }
+}
 
 impl<'a, 'r, Input: CharInput> Attempt<'a, 'r, Input> {
     /// The offset behind the character ahead of one, where a class matches that.
@@ -85,6 +108,25 @@ impl<'a, 'r, Input: CharInput> Attempt<'a, 'r, Input> {
         }
     }
 
+    /// The offset behind the character ahead of the start, where the program takes that at an address and then leads nowhere.
+    fn passed_taken(&self, at: usize) -> Option<usize>
+        requires suits { Suits (program_of self.now.program.now) (Input.view self.now.input) }
+        requires place { IsAtPlace (reading_of (Input.view self.now.input)) self.now.start }
+        requires room { at < 2 }
+        ensures { ((o : ℕ) → IsStuck (program_of self.now.program.now) (input_of (Input.view self.now.input)) ahead at o → IsStuck (program_of self.now.program.now) (input_of (Input.view self.now.input)) ahead 0 o)
+            → IfSome result (PassesOver (program_of self.now.program.now) (Input.view self.now.input) self.now.start) }
+    {
+        let insns = self.program.insns();
+        if at >= insns.len() || !takes_one(&insns[at]) {
+            return None;
+        }
+        let (_, behind) = self.beside(true, self.start)?;
+        if !self.is_stuck(at + 1, true, behind) {
+            return None;
+        }
+        Some(behind)
+    }
+
     /// How far no run has an answer, where the program has a class at an address and then a loop of a class: up to where that
     /// stops, where nothing is led to from any of its ends.
     fn passed_from(&self, at: usize) -> Option<usize>
@@ -104,7 +146,7 @@ impl<'a, 'r, Input: CharInput> Attempt<'a, 'r, Input> {
             greedy,
         } = &insns[at + 1]
         else {
-            return None;
+            return self.passed_taken(at);
         };
         let first = &insns[at];
         let body = &insns[at + 2];
@@ -135,13 +177,17 @@ impl<'a, 'r, Input: CharInput> Attempt<'a, 'r, Input> {
         Some(behind)
     }
 
-    /// How far from the start on no word begins or ends, where the program asks for that first; `None` where one does there.
-    fn passed_inside(&self, folded: bool) -> Option<usize>
+    /// What is known of the start where the program asks first whether a word begins or ends: where one does, the run is behind
+    /// that at once, and else no run has an answer up to where the next one does.
+    fn at_word(&self, folded: bool) -> Beginning
         requires suits { Suits (program_of self.now.program.now) (Input.view self.now.input) }
         requires place { IsAtPlace (reading_of (Input.view self.now.input)) self.now.start }
         requires first { Stands (program_of self.now.program.now) 0 (boundary false folded) }
-        ensures { IfSome result (PassesOver (program_of self.now.program.now) (Input.view self.now.input) self.now.start) }
+        ensures { IsKnown (program_of self.now.program.now) (Input.view self.now.input) self.now.start result }
     {
+        if self.boundary(folded, self.start) {
+            return Beginning::At(1);
+        }
         let was = self.word_beside(folded, false, self.start);
         let mut at = self.start;
         'places: loop {
@@ -153,7 +199,7 @@ impl<'a, 'r, Input: CharInput> Attempt<'a, 'r, Input> {
             }
             at = behind;
         }
-        (self.start < at).then_some(at)
+        Beginning::of((self.start < at).then_some(at))
     }
 
     /// How far from the start on no line begins, where the program asks for that first; `None` where one begins there, and
@@ -179,27 +225,27 @@ impl<'a, 'r, Input: CharInput> Attempt<'a, 'r, Input> {
         }
     }
 
-    /// How far from the start on no run has an answer, where that is known without a run: the program begins with a run of
+    /// What is known of the start without a run: how far no run has an answer, where the program begins with a run of
     /// characters, and nothing is led to from any of its ends, or with what is asked of an offset, and nothing is led to.
-    pub(crate) fn passed(&self) -> Option<usize>
+    pub(crate) fn beginning(&self) -> Beginning
         requires suits { Suits (program_of self.now.program.now) (Input.view self.now.input) }
         requires place { IsAtPlace (reading_of (Input.view self.now.input)) self.now.start }
-        ensures { IfSome result (PassesOver (program_of self.now.program.now) (Input.view self.now.input) self.now.start) }
+        ensures { IsKnown (program_of self.now.program.now) (Input.view self.now.input) self.now.start result }
     {
         let insns = self.program.insns();
         if insns.is_empty() {
-            return None;
+            return Beginning::At(0);
         }
         match &insns[0] {
-            Insn::BeginCaptureGroup(_) => self.passed_from(1),
-            Insn::WordBoundary { invert: false } => self.passed_inside(false),
-            Insn::WordBoundaryUnicodeICase { invert: false } => self.passed_inside(true),
-            Insn::StartOfLine { multiline: true } => self.passed_line(),
+            Insn::BeginCaptureGroup(_) => Beginning::of(self.passed_from(1)),
+            Insn::WordBoundary { invert: false } => self.at_word(false),
+            Insn::WordBoundaryUnicodeICase { invert: false } => self.at_word(true),
+            Insn::StartOfLine { multiline: true } => Beginning::of(self.passed_line()),
             insn => {
                 if is_edge(insn) {
-                    return self.passed_one();
+                    return Beginning::of(self.passed_one());
                 }
-                self.passed_from(0)
+                Beginning::of(self.passed_from(0))
             }
         }
     }

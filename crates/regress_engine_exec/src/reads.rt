@@ -265,7 +265,7 @@ impl<'a, 'r, Input: CharInput> Attempt<'a, 'r, Input> {
     }
 
     /// Whether a character is of a word; folded, where case is ignored in Unicode mode.
-    #[inline]
+    #[inline(always)]
     #[tactic(auto, unfolding(regress_meaning::specs::Class::is_word))]
     pub(crate) fn is_word(&self, folded: bool, c: Input::Element) -> bool
         ensures { result ≡ is_word (Input.view self.now.input).table folded (Input.Element.code c) }

@@ -14,6 +14,7 @@ ghost use Rattle.regress_engine_undo.specs.Held.{held};
 ghost use Rattle.regress_engine_sought.specs.Sought.{IsMadeOf, IsItemAtPlaces};
 
 use crate::attempt::Attempt;
+use crate::leading::Beginning;
 use regress_engine_code::CompiledRegex;
 use regress_engine_input::Utf8Input;
 use regress_engine_sought::{ExecutorInput, Shown, Subject, captures};
@@ -73,11 +74,14 @@ impl<'r, Input: ExecutorInput> BacktrackExecutor<'r, Input> {
                 input,
                 start,
             };
-            if let Some(past) = attempt.passed() {
-                from = past;
-                continue;
-            }
-            if let Some(end) = attempt.run(&mut self.memory, &mut self.answer)? {
+            let first = match attempt.beginning() {
+                Beginning::Passed(past) => {
+                    from = past;
+                    continue;
+                }
+                Beginning::At(first) => first,
+            };
+            if let Some(end) = attempt.run(first, &mut self.memory, &mut self.answer)? {
                 return Ok(Some((start, end)));
             }
             let Some((_, behind)) = attempt.beside(true, start) else {

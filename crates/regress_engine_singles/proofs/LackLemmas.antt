@@ -32,7 +32,7 @@ behind-fails : (may : ℕ → ℕ → Bool) (at next b : ℕ) → behind may at 
 behind-fails may at next b e = let (later, fails) = or_parts (not (nat_lt at next)) (may next b) e in (ltb-true at next (not-false (nat_lt at next) later), fails)
 
 -- what takes one character takes something
-takes-taking : (i : Instruction) → takes_character i ≡ true → is_taking i ≡ true
+pub takes-taking : (i : Instruction) → takes_character i ≡ true → is_taking i ≡ true
 takes-taking (code.byte_seq bs) takes = refl
 takes-taking _ takes = takes
 

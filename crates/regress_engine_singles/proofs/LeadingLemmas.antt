@@ -24,7 +24,8 @@ use Rattle.regress_engine_singles.specs.Failing.{Fail, failed, steps, IsStuck}
 use Rattle.regress_engine_singles.specs.Passed.{is_class, PassesOver}
 use Rattle.regress_engine_singles.proofs.Chains.{Takes, given-taken}
 use Rattle.regress_engine_singles.proofs.Failures.{fail-each, fail-none}
-use Rattle.regress_engine_singles.proofs.StuckLemmas.{ways-stuck}
+use Rattle.regress_engine_singles.specs.Taking.{takes_one}
+use Rattle.regress_engine_singles.proofs.StuckLemmas.{step-stuck, ways-stuck}
 
 -- a character is read at one offset alone
 same-offset : (x : Option (ℕ × ℕ)) (d r c q : ℕ) → x ≡ Some (d, r) → x ≡ Some (c, q) → q ≡ r
@@ -53,7 +54,14 @@ module _ (program : Program) (v : View) where
       by_class (Some b) f = passed-next (bracket_has b.0 b.1) o q f
   class-next _ is groups o q e = absurd (grind arith)
 
-  -- whatever the groups are
+  -- and so does a set of bytes
+  one-next : (j : Instruction) → takes_one j ≡ true → (groups : List Marks) (o q : ℕ) → advance program (input_of v) j Forward groups o ≡ Some q → (c : ℕ) × ((input_of v).next Forward o ≡ Some (c, q))
+  one-next (code.byte_set cs) is groups o q e = passed-next _ o q e
+  one-next (code.ascii_bracket cs) is groups o q e = class-next (code.ascii_bracket cs) is groups o q e
+  one-next (code.bracket k) is groups o q e = class-next (code.bracket k) is groups o q e
+  one-next _ is groups o q e = absurd (grind arith)
+
+  -- a class takes the same whatever the groups are
   class-any : (j : Instruction) → is_class j ≡ true → (gs hs : List Marks) (o : ℕ) → advance program (input_of v) j Forward gs o ≡ advance program (input_of v) j Forward hs o
   class-any (code.ascii_bracket cs) is gs hs o = refl
   class-any (code.bracket k) is gs hs o = refl
@@ -63,6 +71,12 @@ pub class-simple : (j : Instruction) → is_class j ≡ true → is_simple j ≡
 class-simple (code.ascii_bracket cs) is = refl
 class-simple (code.bracket k) is = refl
 class-simple _ is = absurd (grind arith)
+
+one-simple : (j : Instruction) → takes_one j ≡ true → is_simple j ≡ true
+one-simple (code.byte_set cs) is = refl
+one-simple (code.ascii_bracket cs) is = refl
+one-simple (code.bracket k) is = refl
+one-simple _ is = absurd (grind arith)
 
 pub class-takes : (j : Instruction) → is_class j ≡ true → takes_character j ≡ true
 class-takes (code.ascii_bracket cs) is = refl
@@ -93,6 +107,17 @@ passes-one program v all start c q stuck place next = record {
   place = next-place v all Forward start c q place next;
   further = moves v Forward start c q next;
 }
+
+-- So it does from a character that an instruction takes at an address, where nothing is led to behind both.
+pub passes-taken : (program : Program) (v : View) → AreOfKind v.kind v.units → (at : ℕ) (j : Instruction) → Stands program at j → takes_one j ≡ true
+    → ((o : ℕ) → IsStuck program (input_of v) Forward at o → IsStuck program (input_of v) Forward 0 o) → (start c q : ℕ) → IsAtPlace (reading_of v) start → (input_of v).next Forward start ≡ Some (c, q)
+    → IsStuck program (input_of v) Forward (at + 1) q → PassesOver program v start q
+passes-taken program v all at j here is lead start c q place next stuck =
+    passes-one program v all start c q
+    (lead start (step-stuck program (input_of v) Forward at start j here (one-simple j is) (λ groups r e.
+    let (d, also) = one-next program v j is groups start r e in
+    subst (IsStuck program (input_of v) Forward (at + 1)) (same-offset ((input_of v).next Forward start) d r c q also next) stuck)))
+    place next
 
 -- A class at an address, and behind it a loop of another, which stops at an offset from which nothing is led to; nor is from where the loop takes something.
 pub record IsLeading (program : Program) (v : View) (at most far : ℕ) (i j : Instruction) : Type 0 where
@@ -162,22 +187,9 @@ module _ (program : Program) (v : View) (all : AreOfKind v.kind v.units) (suits 
 
   -- So does the class before it, where that is so behind the character that it takes.
   first-fails : (o : ℕ) → ((groups : List Marks) (q : ℕ) → advance program input i Forward groups o ≡ Some q → IsAtPlace (reading_of v) q × Reaches most q) → IsStuck program input Forward at o
-  first-fails o behind loops groups = by_found (advance program input i Forward groups o) refl
-    where
-      s : Whole
-      s = whole at o loops groups
-
-      by_found : (x : Option ℕ) → advance program input i Forward groups o ≡ x → Fail program input Forward (s ∷ [])
-      by_found x e =
-          steps leading.first (simple-plain i (class-simple i leading.first_class))
-          (subst (λ (ss : List Whole). Fail program input Forward (ss ++ [])) (sym (simple-successors program input i Forward s (class-simple i leading.first_class) ∙ ap (moved_to s) e)) (by_value x e))
-        where
-          by_value : (x : Option ℕ) → advance program input i Forward groups o ≡ x → Fail program input Forward (moved_to s x ++ [])
-          by_value None e = failed
-          by_value (Some q) e =
-              let next : at + 1 ≡ suc at = omega arith in
-              let (place, reaches) = behind groups q e in
-              subst (λ a. Fail program input Forward (whole a q loops groups ∷ [])) next (loop-fails q place reaches loops groups)
+  first-fails o behind = step-stuck program input Forward at o i leading.first (class-simple i leading.first_class) (λ groups q e.
+      let (place, reaches) = behind groups q e in
+      loop-fails q place reaches)
 
   module _ (lead : (o : ℕ) → IsStuck program input Forward at o → IsStuck program input Forward 0 o) where
     -- the class that the program begins with takes the same character as the loop

@@ -39,20 +39,31 @@ module _ (program : Program) (input : Input) where
   next-stuck : (dir : Direction) (at o : ℕ) → IsStuck program input dir (at + 1) o → IsStuck program input dir (suc at) o
   next-stuck dir at o stuck = let next : at + 1 ≡ suc at = omega arith in subst (λ a. IsStuck program input dir a o) next stuck
 
-  -- what takes nothing leads nowhere
-  pub simple-stuck : (dir : Direction) (at o : ℕ) (i : Instruction) → Stands program at i → is_simple i ≡ true → TakesNothing program input dir i o → IsStuck program input dir at o
-  simple-stuck dir at o i here simple none loops groups =
-      let s : Whole = whole at o loops groups in
-      let left : successors program input i dir s ≡ [] = simple-successors program input i dir s simple ∙ ap (moved_to s) (sym (none groups)) in
-      steps here (simple-plain i simple) (subst (λ (ss : List Whole). Fail program input dir (ss ++ [])) (sym left) failed)
+  -- what changes nothing but the offset leads nowhere, where nothing is led to behind what it takes
+  pub step-stuck : (dir : Direction) (at o : ℕ) (i : Instruction) → Stands program at i → is_simple i ≡ true
+      → ((groups : List Marks) (q : ℕ) → advance program input i dir groups o ≡ Some q → IsStuck program input dir (at + 1) q) → IsStuck program input dir at o
+  step-stuck dir at o i here simple behind loops groups =
+      steps here (simple-plain i simple)
+      (subst (λ (ss : List Whole). Fail program input dir (ss ++ [])) (sym (simple-successors program input i dir s simple)) (by_found (advance program input i dir groups o) refl))
+    where
+      s : Whole
+      s = whole at o loops groups
 
-  -- nor does what takes something, before what leads nowhere
+      by_found : (x : Option ℕ) → advance program input i dir groups o ≡ x → Fail program input dir (moved_to s x ++ [])
+      by_found None e = failed
+      by_found (Some q) e = next-stuck dir at q (behind groups q e) loops groups
+
+  -- so does what takes nothing
+  pub simple-stuck : (dir : Direction) (at o : ℕ) (i : Instruction) → Stands program at i → is_simple i ≡ true → TakesNothing program input dir i o → IsStuck program input dir at o
+  simple-stuck dir at o i here simple none = step-stuck dir at o i here simple (λ groups q e. let no : None ≡ Some q = none groups ∙ e in absurd (cc no))
+
+  -- and what takes something, before what leads nowhere
   pub taken-stuck : (dir : Direction) (at o q : ℕ) (i : Instruction) → Stands program at i → is_simple i ≡ true
       → ((groups : List Marks) → Some q ≡ advance program input i dir groups o) → IsStuck program input dir (at + 1) q → IsStuck program input dir at o
-  taken-stuck dir at o q i here simple some behind loops groups =
-      let s : Whole = whole at o loops groups in
-      let left : successors program input i dir s ≡ whole (suc at) q loops groups ∷ [] = simple-successors program input i dir s simple ∙ ap (moved_to s) (sym (some groups)) in
-      steps here (simple-plain i simple) (subst (λ (ss : List Whole). Fail program input dir (ss ++ [])) (sym left) (next-stuck dir at q behind loops groups))
+  taken-stuck dir at o q i here simple some behind = step-stuck dir at o i here simple (λ groups r e.
+      let is : Some q ≡ Some r = some groups ∙ e in
+      let same : q ≡ r = ap (λ (x : Option ℕ). elim x [ None ↦ 0 | Some y ↦ y ]) is in
+      subst (IsStuck program input dir (at + 1)) same behind)
 
   -- nor do two ways that both lead nowhere
   pub alt-stuck : (dir : Direction) (at o target : ℕ) → Stands program at (code.alt target) → IsStuck program input dir (at + 1) o → IsStuck program input dir target o → IsStuck program input dir at o

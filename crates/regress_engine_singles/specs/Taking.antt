@@ -3,6 +3,7 @@ use Rattle.std.specs.Prelude.{Bool, true, false}
 use Rattle.regress_engine_code.specs.Instructions.{Instruction}
 use Rattle.regress_engine_code.specs.Instructions as code
 use Rattle.regress_engine_runs.specs.Closed.{takes_character}
+use Rattle.regress_engine_singles.specs.Passed.{is_class}
 
 -- an instruction asks what stands beside an offset
 abbrev pub is_edge : Instruction → Bool
@@ -21,3 +22,8 @@ abbrev pub takes_some : Instruction → Bool
 takes_some code.any = false
 takes_some code.any_in_line = false
 takes_some i = is_taking i
+
+-- an instruction takes the character ahead, where that is one of some
+abbrev pub takes_one : Instruction → Bool
+takes_one (code.byte_set cs) = true
+takes_one i = is_class i

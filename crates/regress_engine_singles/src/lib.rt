@@ -15,4 +15,4 @@ pub use apart::{are_apart, is_apart};
 pub use class::ScannedBracket;
 pub use far::as_far;
 pub use taken::{Taken, taken_ahead};
-pub use taking::{first_byte, is_class, is_edge, takes_some};
+pub use taking::{first_byte, is_class, is_edge, takes_one, takes_some};

@@ -3,7 +3,7 @@ ghost use Rattle.std.specs.Prelude.{◌≡◌, ℕ, true, List, ◌∷◌, slice
 ghost use Rattle.regress_engine_code.specs.Instructions.{byte_seq, bytes_in};
 ghost use Rattle.regress_engine_code.specs.InsnViews.{instruction};
 ghost use Rattle.regress_engine_singles.specs.Passed.{is_class};
-ghost use Rattle.regress_engine_singles.specs.Taking.{is_edge, is_taking, takes_some};
+ghost use Rattle.regress_engine_singles.specs.Taking.{is_edge, is_taking, takes_one, takes_some};
 
 use regress_engine_code::{Insn, bytes_of};
 
@@ -80,4 +80,20 @@ pub fn is_class(insn: &Insn) -> bool
     ensures { result ≡ is_class (instruction insn.now) }
 {
     matches!(insn, Insn::AsciiBracket(_) | Insn::Bracket(_))
+}
+
+/// Whether an instruction takes one character where that is in a set of bytes or in a class.
+///
+/// ```rust
+/// let one = takes_one(&Insn::ByteSet2(*b"ab")); // true
+/// ```
+#[inline]
+pub fn takes_one(insn: &Insn) -> bool
+    ensures { result ≡ takes_one (instruction insn.now) }
+{
+    is_class(insn)
+        || matches!(
+            insn,
+            Insn::ByteSet2(_) | Insn::ByteSet3(_) | Insn::ByteSet4(_)
+        )
 }

@@ -22,6 +22,7 @@ use Rattle.regress_engine_undo.specs.declared.undo.Spot.{Spot}
 use Rattle.regress_engine_undo.specs.Held.{Held, pushed}
 use Rattle.regress_engine_singles.specs.Failing.{IsStuck}
 use Rattle.regress_engine_singles.proofs.StuckLemmas.{simple-stuck, loop-stuck, end-stuck, leads-stuck}
+use Rattle.regress_engine_singles.proofs.LackLemmas.{takes-taking}
 use Rattle.regress_engine_singles.specs.Taking.{is_edge, is_taking}
 use Rattle.regress_engine_undo.specs.Stuck.{IsTakenFirst, given_from, GivesFrom, TakesFrom}
 use Rattle.regress_engine_undo.specs.Tasks.{task}
@@ -79,12 +80,7 @@ edge-simple (code.line_end multiline) e = refl
 edge-simple (code.boundary inverted folded) e = refl
 edge-simple _ e = absurd (grind arith)
 
--- a character is taken
-pub takes-taking : (i : Instruction) → takes_character i ≡ true → is_taking i ≡ true
-takes-taking (code.byte_seq bs) e = refl
-takes-taking _ e = e
-
--- so is what a one-character loop repeats
+-- what a one-character loop repeats takes something
 pub body-taking : (program : Program) (input : Input) (v : View) (at o : ℕ) (j : Instruction) → IsBody program v at o → Stands program (at - 1) j → is_taking j ≡ true
 body-taking program input v at o j (i, here, takes, place, some) there = takes-taking j (ap takes_character (sym (one_stands program input (at - 1) i j here there)) ∙ takes)
 

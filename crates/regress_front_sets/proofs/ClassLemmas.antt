@@ -1,5 +1,7 @@
 -- The members of the intervals that class escapes hold.
-use Rattle.std.proofs.Common.{◌≡◌, ℕ, ◌+◌, Bool, true, false, ◌||◌, ◌==◌, [], ◌∷◌, refl, ap, ◌∙◌, arith}
+use Rattle.std.proofs.Common.{◌≡◌, ℕ, ◌+◌, ◌<◌, ◌/◌, ◌%◌, ◌^◌, Bool, true, false, ◌||◌, ◌==◌, nat_eq, [], ◌∷◌, map, get_or, slice_index_or, bit_and, refl, sym, ap, ◌∙◌, arith}
+use Rattle.std.specs.List.{range_with_len}
+use Rattle.std.proofs.lemmas.List.FromFn.{get_or-map-range_with_len}
 use Rattle.std.proofs.Math.Bool.{or_assoc, or_comm, or-false}
 use Rattle.std.proofs.lemmas.Bool.Decides.{nat_tests}
 use Rattle.regress_meaning.specs.Text.{between}
@@ -20,6 +22,18 @@ regroup false false o l = ap (λ b. o || b) (or-false l) ∙ or_comm o l
 pub members_of_words : (c : ℕ) → in_intervals ((0x30, 0x39) ∷ (0x41, 0x5A) ∷ (0x5F, 0x5F) ∷ (0x61, 0x7A) ∷ []) c ≡ is_ascii_word c
 unfolding in_intervals
 members_of_words c = rw (between-one 0x5F c) (regroup (between 0x30 0x39 c) (between 0x41 0x5A c) (c == 0x5F) (between 0x61 0x7A c))
+
+-- the rows have a bit for each code point of a word
+abbrev row : ℕ → Bool
+row c = nat_eq (bit_and (slice_index_or {A = ℕ} (0x03FF000000000000 ∷ 0x07FFFFFE87FFFFFE ∷ []) (c / 64) 0 / 2 ^ (c % 64)) 1) 1
+
+-- by going over all of ASCII
+pub rows_of_words : (c : ℕ) → c < 128 → row c ≡ is_ascii_word c
+rows_of_words c small =
+    sym (get_or-map-range_with_len row 0 128 c c false small (omega arith)) ∙ ap (λ ws. get_or ws c false) same ∙ get_or-map-range_with_len is_ascii_word 0 128 c c false small (omega arith)
+  where
+    same : map row (range_with_len 0 128) ≡ map is_ascii_word (range_with_len 0 128)
+    same = refl
 
 pub members_of_digits : (c : ℕ) → in_intervals ((0x30, 0x39) ∷ []) c ≡ is_digit c
 unfolding in_intervals

@@ -38,6 +38,9 @@ pub const WORD_CHARS: [Interval; 4] = [
     },
 ];
 
+/// A bit for each code point of ASCII that is one of a word, in rows of 64.
+const WORD_ROWS: [u64; 2] = [0x03FF_0000_0000_0000, 0x07FF_FFFE_87FF_FFFE];
+
 /// What `\d` holds: ASCII digits.
 pub const DIGITS: [Interval; 1] = [Interval {
     first: 0x30,
@@ -142,5 +145,5 @@ pub const fn line_terminator() -> [Interval; 3]
 pub fn is_ascii_word(point: CodePoint) -> bool
     ensures { result ≡ is_ascii_word point }
 {
-    matches!(point, 0x30..=0x39 | 0x41..=0x5A | 0x5F | 0x61..=0x7A)
+    point < 128 && WORD_ROWS[(point / 64) as usize] >> (point % 64) & 1 == 1
 }

@@ -7,13 +7,17 @@ use Rattle.regress_engine_undo.specs.declared.undo.Spot.{Spot}
 use Rattle.regress_engine_undo.specs.Held.{Held, held}
 use Rattle.regress_engine_undo.specs.Tasks.{task, state_at}
 use Rattle.regress_engine_exec.specs.Trying.{Steps}
-use Rattle.regress_engine_exec.proofs.TryLemmas.{trying-first, trying-fails, steps-led, steps-held, steps-back}
+use Rattle.regress_engine_exec.proofs.TryLemmas.{trying-first, trying-way, trying-fails, steps-led, steps-held, steps-back}
 use Rattle.regress_engine_exec.proofs.attempt.Attempt.run.Goals as goal
 
 pub steps-init : goal.steps-init
 steps-init g c =
-    trying-first (program_of c.args.self.now.program.now) (g.Input.InputIndexer.view c.args.self.now.input) c.args.self.now.start c.args.self.now.ends (held c.begin.new.self) c.requires.reads
-    (c.in_ok-begin.ensures ∙ ap₂ (λ (l n : ℕ). blank l n) c.loops.ensures c.groups.ensures)
+    let program = program_of c.args.self.now.program.now in
+    let v = g.Input.InputIndexer.view c.args.self.now.input in
+    let ends = c.args.self.now.ends in
+    trying-way program v ends.0.0 ends.0.1 c.args.self.now.start 0 c.args.first (held c.begin.new.self) c.requires.begun
+    (trying-first program v c.args.self.now.start ends (held c.begin.new.self) c.requires.reads
+    (c.in_ok-begin.ensures ∙ ap₂ (λ (l n : ℕ). blank l n) c.loops.ensures c.groups.ensures))
   where
     blank : ℕ → ℕ → Held
     blank l n = record { stack = []; loops = replicate l (0, 0); groups = replicate n unset }

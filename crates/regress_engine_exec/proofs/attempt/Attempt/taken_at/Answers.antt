@@ -8,7 +8,8 @@ use Rattle.regress_engine_runs.specs.Closed.{takes_character}
 use Rattle.regress_engine_runs.proofs.RunViews.{one_stands}
 use Rattle.regress_engine_sought.proofs.InsnLemmas.{stands-as}
 use Rattle.regress_engine_undo.proofs.DispatchLemmas.{stands-read}
-use Rattle.regress_engine_undo.proofs.StuckLemmas.{first-here, first-loop, takes-taking}
+use Rattle.regress_engine_singles.proofs.LackLemmas.{takes-taking}
+use Rattle.regress_engine_undo.proofs.StuckLemmas.{first-here, first-loop}
 use Rattle.regress_engine_exec.proofs.attempt.Attempt.taken_at.Goals as goal
 
 pub instruction-requires : goal.instruction-requires

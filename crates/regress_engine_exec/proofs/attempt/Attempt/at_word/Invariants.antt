@@ -1,7 +1,7 @@
 use Rattle.std.proofs.Common.{◌-◌, length}
 use Rattle.regress_engine_code.specs.Standing.{program_of}
 use Rattle.regress_engine_singles.specs.Passed.{IsInside}
-use Rattle.regress_engine_exec.proofs.attempt.Attempt.passed_inside.Given as goal
+use Rattle.regress_engine_exec.proofs.attempt.Attempt.at_word.Given as goal
 
 -- up to here no word begins or ends
 abbrev pub invariant-places : goal.invariant-places

@@ -1,10 +1,12 @@
 use mathlib.Core.Bool.{beq}
 use Rattle.std.proofs.Common.{◌≡◌, Bool, true, false, not, refl, sym, ◌∙◌}
 use Rattle.regress_engine_code.specs.Standing.{program_of}
+use Rattle.regress_engine_input.specs.Views.{input_of}
 use Rattle.regress_engine_sought.proofs.PlaceLemmas.{can-read}
 use Rattle.regress_engine_sought.proofs.SearchLemmas.{search-less}
 use Rattle.regress_engine_singles.proofs.BoundaryLemmas.{inside-here, inside-on}
-use Rattle.regress_engine_exec.proofs.attempt.Attempt.passed_inside.Goals as goal
+use Rattle.regress_engine_exec.proofs.WayLemmas.{way-boundary}
+use Rattle.regress_engine_exec.proofs.attempt.Attempt.at_word.Goals as goal
 
 -- two answers that do not differ
 alike : (a b : Bool) → not (beq a b) ≡ false → a ≡ b
@@ -12,6 +14,14 @@ alike true true e = refl
 alike true false e = e
 alike false true e = sym e
 alike false false e = refl
+
+pub boundary-requires : goal.boundary-requires
+boundary-requires g c = can-read (g.Input.InputIndexer.view c.args.self.now.input) (g.met.Input.InputIndexer.are_of_kind c.args.self.now.input) c.args.self.now.start c.requires.place
+
+pub returns-then-boundary : goal.returns-then-boundary
+returns-then-boundary g c =
+    way-boundary (program_of c.args.self.now.program.now) (input_of (g.Input.InputIndexer.view c.args.self.now.input)) c.args.folded c.args.self.now.start c.requires.first
+    (sym c.boundary.ensures ∙ c.if-boundary.true)
 
 pub places-init : goal.places-init
 places-init g c =

@@ -7,10 +7,10 @@ use Rattle.regress_engine_sought.proofs.InsnLemmas.{stands-as}
 use Rattle.regress_engine_singles.proofs.StuckLemmas.{begin-stuck}
 use Rattle.regress_engine_undo.proofs.DispatchLemmas.{stands-read}
 use Rattle.regress_engine_undo.proofs.StuckLemmas.{some-there}
-use Rattle.regress_engine_exec.proofs.attempt.Attempt.passed.Goals as goal
+use Rattle.regress_engine_exec.proofs.attempt.Attempt.beginning.Goals as goal
 
 pub returns-in-BeginCaptureGroup : goal.returns-in-BeginCaptureGroup
 returns-in-BeginCaptureGroup g c =
     let program = program_of c.args.self.now.program.now in
     let here = stands-read c.insns-insns.result.now c.args.self.now.program.now.insns.items 0 Goal c.insns-insns.ensures (some-there _ (sym c.if-is_empty.false ∙ c.is_empty.ensures)) in
-    c.passed_from.ensures (λ o stuck. begin-stuck program (input_of (g.Input.InputIndexer.view c.args.self.now.input)) Forward 0 o _ (stands-as program 0 _ _ c.in-BeginCaptureGroup.is here) stuck)
+    c.of.ensures _ _ _ (c.passed_from.ensures (λ o stuck. begin-stuck program (input_of (g.Input.InputIndexer.view c.args.self.now.input)) Forward 0 o _ (stands-as program 0 _ _ c.in-BeginCaptureGroup.is here) stuck))

@@ -1,0 +1,13 @@
+-- What is known of a place before a run begins there.
+use Rattle.std.specs.Prelude.{ℕ, true}
+use Rattle.regress_engine_input.specs.Views.{View, input_of}
+use Rattle.regress_engine_code.specs.Instructions.{Program}
+use Rattle.regress_engine_singles.specs.Passed.{PassesOver}
+use Rattle.regress_engine_exec.specs.Trying.{IsWay}
+use Rattle.regress_engine_exec.specs.declared.leading.Beginning.{Beginning}
+use Rattle.regress_engine_exec.specs.declared.leading.Beginning.TheVariants.{Passed, At}
+
+-- No run has an answer up to an offset, or a run from the place comes to an address.
+abbrev pub IsKnown : Program → View → (start : ℕ) → Beginning → Type 0
+IsKnown program v start (Passed past) = PassesOver program v start past
+IsKnown program v start (At first) = IsWay program (input_of v) true start 0 first
