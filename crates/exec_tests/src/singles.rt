@@ -8,7 +8,7 @@ use regress_engine_singles::{
     ScannedBracket, are_apart, as_far, as_far_ahead, first_byte, is_apart, is_class, is_edge,
     taken_ahead, takes_one, takes_some,
 };
-use regress_front_bytes::AsciiBitmap;
+use regress_front_bytes::{AsciiBitmap, ByteArraySet};
 use regress_front_nodes::BracketContents;
 use regress_front_sets::CodePointSet;
 use regress_front_tables::Tables;
@@ -185,7 +185,7 @@ fn what_instructions_take_is_told(rt: HostRuntime) -> Result<(), Fail> {
     prove!(!any);
     let edges = is_edge(&start) && is_edge(&Insn::WordBoundary { invert: true });
     let other = is_edge(&ab) || is_class(&ab);
-    let one = takes_one(&Insn::ByteSet3(*b"abc")) && takes_one(&Insn::Bracket(0));
+    let one = takes_one(&Insn::ByteSet3(ByteArraySet(*b"abc"))) && takes_one(&Insn::Bracket(0));
     let more = takes_one(&ab) || takes_one(&Insn::MatchAny);
     prove!(edges && is_class(&Insn::Bracket(0)));
     prove!(!other);
