@@ -19,12 +19,19 @@ pub fn line(alloc: Global, found: &Match) -> Result<String, AllocError>
     ensures { IfOk result (λ text. string_bytes text ≡ line_of (item_of found.now)) }
 {
     let mut text = String::with_capacity(alloc, ROOM)?;
-    push_range(&mut text, &found.range)?;
-    for group in &found.captures {
-        push_group(&mut text, group)?;
-    }
-    text.push('\n')?;
+    push_line(&mut text, found)?;
     Ok(text)
+}
+
+/// Appends the line of a match with its newline.
+pub(crate) fn push_line(text: &mut String, found: &Match) -> Result<(), AllocError>
+    ensures { OnOk result (string_bytes text.new ≡ string_bytes text.old ++ line_of (item_of found.now)) }
+{
+    push_range(text, &found.range)?;
+    for group in &found.captures {
+        push_group(text, group)?;
+    }
+    text.push('\n')
 }
 
 /// Appends a space, and the range of a group or `-`.

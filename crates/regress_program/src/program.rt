@@ -17,7 +17,7 @@ ghost use Rattle.regress_program.specs.Running.{small, output, AppendsFront, Wai
 
 use crate::ending::Ending;
 use crate::error::ToolError;
-use crate::lines::line;
+use crate::lines::push_line;
 use crate::sink::Sink;
 use crate::source::{Failed, Source};
 use crate::words::{Request, read_words};
@@ -174,8 +174,11 @@ fn put_lines<W: Sink>(
     ensures write { IsErrOf result ToolError.Write ↔ (W.failed sink.new ≡ true) }
     ensures errors { IfErr result (λ e. (e ≡ ToolError.Write) ⊎ (e ≡ ToolError.OutOfMemory)) }
 {
+    let mut line = String::new(alloc);
     for found in regex.find_iter(text)? {
-        let line = line(alloc, &found?)?;
+        let found = found?;
+        line.clear();
+        push_line(&mut line, &found)?;
         if put_line(sink, pending, line.as_bytes()).is_err() {
             return Err(ToolError::Write);
         }
