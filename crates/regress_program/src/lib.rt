@@ -1,6 +1,6 @@
 //! The program around the library `regress`: it prints the matches of a pattern in the text that it is given.
 //!
-//! [`answer`] is the whole program over any source and sink. [`run`] is what it does with a pattern, [`line`] makes the line
+//! [`answer`] is the whole program over any source and sink. [`run`] is what it does with a pattern, [`push_line`] makes the line
 //! of a match, and [`StdSource`] and [`StdSink`] are std's readers and writers as a source and a sink.
 //!
 //! ```rust
@@ -21,7 +21,7 @@ mod words;
 
 pub use ending::Ending;
 pub use error::ToolError;
-pub use lines::line;
+pub use lines::push_line;
 pub use program::{answer, run};
 pub use sink::{Sink, StdSink};
 pub use source::{Failed, Source, StdSource};

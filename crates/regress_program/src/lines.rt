@@ -1,30 +1,18 @@
 //! The lines that are written.
-ghost use Rattle.std.specs.Prelude.{◌≡◌, ◌++◌, OnOk, IfOk, string_bytes, option_map};
+ghost use Rattle.std.specs.Prelude.{◌≡◌, ◌++◌, OnOk, string_bytes, option_map};
 ghost use Rattle.regress_meaning.specs.Output.{line_of, group_text, range_text};
 ghost use Rattle.regress_match.specs.Views.{ends, item_of};
 
 use regress::{Match, Range};
-use std::alloc::{AllocError, Global};
+use std::alloc::AllocError;
 
-/// The room that a line begins with, in bytes: most are no longer.
-const ROOM: usize = 64;
-
-/// The line of a match with its newline: the range of the match, and for each group in order of its number a space and
-/// its range or `-`. Ranges are in bytes. Errs where a request for memory is refused.
+/// Appends the line of a match with its newline: the range of the match, and for each group in order of its number a space and
+/// its range or `-`. Ranges are in bytes. Errs where a request for memory is refused; a beginning of the line may then be there.
 ///
 /// ```rust
-/// let text = line(alloc, &found)?; // "0..3 0..2 -\n", where the first group of two took 0..2
+/// push_line(&mut text, &found)?; // appends "0..3 0..2 -\n", where the first group of two took 0..2
 /// ```
-pub fn line(alloc: Global, found: &Match) -> Result<String, AllocError>
-    ensures { IfOk result (λ text. string_bytes text ≡ line_of (item_of found.now)) }
-{
-    let mut text = String::with_capacity(alloc, ROOM)?;
-    push_line(&mut text, found)?;
-    Ok(text)
-}
-
-/// Appends the line of a match with its newline.
-pub(crate) fn push_line(text: &mut String, found: &Match) -> Result<(), AllocError>
+pub fn push_line(text: &mut String, found: &Match) -> Result<(), AllocError>
     ensures { OnOk result (string_bytes text.new ≡ string_bytes text.old ++ line_of (item_of found.now)) }
 {
     push_range(text, &found.range)?;

@@ -73,7 +73,7 @@ pub fn answer<R: Source, W: Sink>(
     }
 }
 
-/// Reads all input, and writes a line for each match of a pattern in it, as [`line`] makes it.
+/// Reads all input, and writes a line for each match of a pattern in it, as [`push_line`] makes it.
 ///
 /// `flags` is a flags word, `pattern` the pattern as it stands; the tables are the small ones. Asks that neither stream has
 /// failed. The errors are found in this order: a text that is no pattern or passes a limit, before anything is read; a read
