@@ -82,7 +82,7 @@ impl<'a, 'r, Input: CharInput> Attempt<'a, 'r, Input> {
         }
     }
 
-    /// Goes on at the far one of the offsets at which it may be gone on, later at those before it; answers if there is one.
+    /// Goes on at the far one of the offsets where it may be gone on, later at those before it; answers whether there is one.
     pub(crate) fn give_back(
         &self,
         at: usize,
@@ -200,7 +200,7 @@ impl<'a, 'r, Input: CharInput> Attempt<'a, 'r, Input> {
         }
     }
 
-    /// Goes on at the near one of the offsets at which it may be gone on, later at those behind it; answers if there is one.
+    /// Goes on at the near one of the offsets where it may be gone on, later at those behind it; answers whether there is one.
     pub(crate) fn take_on(
         &self,
         at: usize,
@@ -276,7 +276,7 @@ impl<'a, 'r, Input: CharInput> Attempt<'a, 'r, Input> {
         }
     }
 
-    /// Undoes records until there is a state to be tried, and answers if there is one.
+    /// Undoes records until there is a state to be tried, and answers whether there is one.
     pub(crate) fn back(&self, memory: &mut Memory, spot: &mut Spot) -> Result<bool, AllocError>
         requires suits { Suits (program_of self.now.program.now) (Input.view self.now.input) }
         requires sound { IsHeld (program_of self.now.program.now) (Input.view self.now.input) (held memory.old) }

@@ -13,7 +13,7 @@ ghost use Rattle.regress_engine_runs.specs.Meets.{IsAtPlace};
 ghost use Rattle.regress_engine_sought.specs.Sought.{Suits};
 ghost use Rattle.regress_engine_singles.specs.Failing.{IsStuck};
 ghost use Rattle.regress_engine_singles.specs.Passed.{is_class, PassesOver};
-ghost use Rattle.regress_engine_exec.specs.Beginning.{IsKnown};
+ghost use Rattle.regress_engine_exec.specs.Beginning.{BeginsAt, IsKnown};
 
 use crate::attempt::Attempt;
 use regress_engine_code::Insn;
@@ -113,8 +113,7 @@ impl<'a, 'r, Input: CharInput> Attempt<'a, 'r, Input> {
         requires suits { Suits (program_of self.now.program.now) (Input.view self.now.input) }
         requires place { IsAtPlace (reading_of (Input.view self.now.input)) self.now.start }
         requires room { at < 2 }
-        ensures { ((o : ℕ) → IsStuck (program_of self.now.program.now) (input_of (Input.view self.now.input)) ahead at o → IsStuck (program_of self.now.program.now) (input_of (Input.view self.now.input)) ahead 0 o)
-            → IfSome result (PassesOver (program_of self.now.program.now) (Input.view self.now.input) self.now.start) }
+        ensures { BeginsAt (program_of self.now.program.now) (Input.view self.now.input) at → IfSome result (PassesOver (program_of self.now.program.now) (Input.view self.now.input) self.now.start) }
     {
         let insns = self.program.insns();
         if at >= insns.len() || !takes_one(&insns[at]) {
@@ -128,13 +127,12 @@ impl<'a, 'r, Input: CharInput> Attempt<'a, 'r, Input> {
     }
 
     /// How far no run has an answer, where the program has a class at an address and then a loop of a class: up to where that
-    /// stops, where nothing is led to from any of its ends.
+    /// stops, where nothing is led to from any of its ends; where it has no such loop, what `passed_taken` tells.
     fn passed_from(&self, at: usize) -> Option<usize>
         requires suits { Suits (program_of self.now.program.now) (Input.view self.now.input) }
         requires place { IsAtPlace (reading_of (Input.view self.now.input)) self.now.start }
         requires room { at < 2 }
-        ensures { ((o : ℕ) → IsStuck (program_of self.now.program.now) (input_of (Input.view self.now.input)) ahead at o → IsStuck (program_of self.now.program.now) (input_of (Input.view self.now.input)) ahead 0 o)
-            → IfSome result (PassesOver (program_of self.now.program.now) (Input.view self.now.input) self.now.start) }
+        ensures { BeginsAt (program_of self.now.program.now) (Input.view self.now.input) at → IfSome result (PassesOver (program_of self.now.program.now) (Input.view self.now.input) self.now.start) }
     {
         let insns = self.program.insns();
         if at + 2 >= insns.len() {
@@ -225,8 +223,9 @@ impl<'a, 'r, Input: CharInput> Attempt<'a, 'r, Input> {
         }
     }
 
-    /// What is known of the start without a run: how far no run has an answer, where the program begins with a run of
-    /// characters, and nothing is led to from any of its ends, or with what is asked of an offset, and nothing is led to.
+    /// What is known of the start without a run: how far no run has an answer, where nothing is led to from behind the run of
+    /// characters or the one character that the program begins with, or from an offset of which it asks something first; or
+    /// that a run is behind the `\b` that it begins with.
     pub(crate) fn beginning(&self) -> Beginning
         requires suits { Suits (program_of self.now.program.now) (Input.view self.now.input) }
         requires place { IsAtPlace (reading_of (Input.view self.now.input)) self.now.start }

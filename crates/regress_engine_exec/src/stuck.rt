@@ -35,7 +35,7 @@ impl<'a, 'r, Input: CharInput> Attempt<'a, 'r, Input> {
         self.program.lacks(at, byte)
     }
 
-    /// Whether nothing is led to from an address on, read backward: bytes are taken there that don't stand before an offset.
+    /// Whether surely nothing is led to from an address on, read backward: the bytes taken there don't stand before an offset.
     #[inline]
     fn is_stuck_behind(&self, at: usize, offset: usize) -> bool
         requires { Suits (program_of self.now.program.now) (Input.view self.now.input) }

@@ -85,7 +85,7 @@ pub fn is_class(insn: &Insn) -> bool
 /// Whether an instruction takes one character where that is in a set of bytes or in a class.
 ///
 /// ```rust
-/// let one = takes_one(&Insn::ByteSet2(*b"ab")); // true
+/// let one = takes_one(&Insn::ByteSet2(ByteArraySet(*b"ab"))); // true
 /// ```
 #[inline]
 pub fn takes_one(insn: &Insn) -> bool
