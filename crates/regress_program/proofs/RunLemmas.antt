@@ -156,8 +156,3 @@ IsWritten-part a b c pending coming rest i all line w next is now =
     ∙ ap (λ l. w.done ++ (l ++ lines_of rest)) (take-append-drop now.0 more) ∙ next_pending w.done pending line (lines_of rest)
     ∙ next_line (w.done ++ pending) line coming rest i next is ∙ w.whole in
     front-of a c (w.done ++ part) behind all whole (Appends-trans a b c _ _ w.appended now.1)
-
--- what holds anyway holds behind an error
-pub on_err-always : {T E P : Type 0} (r : Result T E) → P → OnErr r P
-on_err-always (Ok x) p = tt
-on_err-always (Err y) p = p
