@@ -99,6 +99,7 @@ fn run_over(
 
 /// A run: how many bytes are read and taken a call, which read and which write fails, what has to be answered and written, and
 /// how often is read and written.
+#[derive(Clone, Copy)]
 struct Case<'a> {
     pattern: &'a str,
     input: &'a [u8],

@@ -2,7 +2,7 @@
 
 use regress_front_bytes::{
     ByteArraySet, ByteBitmap, ByteSearcher, CodePointRange, EmptyString, FoldRange, SmallArraySet,
-    utf8_w2, utf8_w3, utf8_w4,
+    equal_range_by, utf8_w2, utf8_w3, utf8_w4,
 };
 use std::test::Fail;
 
@@ -51,5 +51,15 @@ fn every_second_is_moved(rt: HostRuntime) -> Result<(), Fail> {
     }
     let range = CodePointRange::from(0x61, 2);
     assert!(rt; range.first() == 0x61 && range.last() == 0x62);
+    Ok(())
+}
+
+#[test]
+fn equal_items_are_found(rt: HostRuntime) -> Result<(), Fail> {
+    let items = [1, 3, 3, 3, 7];
+    for (sought, start, end) in [(3, 1, 4), (1, 0, 1), (4, 4, 4), (9, 5, 5)] {
+        let range = equal_range_by(items.as_slice(), |x| x.cmp(&sought));
+        assert!(rt; range.start == start && range.end == end);
+    }
     Ok(())
 }

@@ -3,6 +3,8 @@
 #![tactic(auto)]
 
 #[cfg(test)]
+mod all_unicode;
+#[cfg(test)]
 mod bytes;
 #[cfg(test)]
 mod figures;
@@ -14,5 +16,3 @@ mod rewriting;
 mod sets;
 #[cfg(test)]
 mod tables;
-#[cfg(test)]
-mod unicode;

@@ -11,12 +11,14 @@ use std::test::Fail;
 /// The first and the last code point of an interval.
 type Pair = (CodePoint, CodePoint);
 
+fn are(intervals: &[Interval], expected: &[Pair]) -> bool {
+    let mut pairs = intervals.iter().zip(expected);
+    intervals.len() == expected.len() && pairs.all(|(i, e)| i.first == e.0 && i.last == e.1)
+}
+
 /// Whether a constant and what its function answers have these intervals.
 fn both_are(constant: &[Interval], answered: &[Interval], expected: &[Pair]) -> bool {
-    let mut pairs = constant.iter().zip(expected);
-    constant == answered
-        && constant.len() == expected.len()
-        && pairs.all(|(i, e)| i.first == e.0 && i.last == e.1)
+    are(constant, expected) && are(answered, expected)
 }
 
 const WORDS: &[Pair] = &[(0x30, 0x39), (0x41, 0x5A), (0x5F, 0x5F), (0x61, 0x7A)];
@@ -34,12 +36,14 @@ const SPACES: &[Pair] = &[
     (0xFEFF, 0xFEFF),
 ];
 
+const DECIMAL: &[Pair] = &[(0x30, 0x39)];
+
 const LINE_ENDS: &[Pair] = &[(0xA, 0xA), (0xD, 0xD), (0x2028, 0x2029)];
 
 #[test]
 fn class_escapes_have_the_standards_code_points(rt: HostRuntime) -> Result<(), Fail> {
     assert!(rt; both_are(&WORD_CHARS, &word_chars(), WORDS));
-    assert!(rt; both_are(&DIGITS, &digits(), &[(0x30, 0x39)]));
+    assert!(rt; both_are(&DIGITS, &digits(), DECIMAL));
     assert!(rt; both_are(&WHITESPACE, &whitespace(), SPACES));
     assert!(rt; both_are(&LINE_TERMINATOR, &line_terminator(), LINE_ENDS));
     Ok(())
@@ -51,7 +55,7 @@ fn intervals_overlap_where_they_share_a_code_point(rt: HostRuntime) -> Result<()
     let high = Interval { first: 5, last: 9 };
     assert!(rt; low.overlaps(high) && high.overlaps(low));
     assert!(rt; !low.overlaps(Interval { first: 6, last: 9 }));
-    assert!(rt; low.codepoints() == (1..6));
+    assert!(rt; low.codepoints() == (1..6) && low.contains(5) && !low.contains(6));
     Ok(())
 }
 
@@ -83,5 +87,7 @@ fn a_group_has_a_range_once_both_ends_are_known(rt: HostRuntime) -> Result<(), F
     assert!(rt; group.start_matched() && !group.end_matched() && group.as_range().is_none());
     group.end = Some(5);
     assert!(rt; group.end_matched() && group.as_range() == Some(3..5));
+    group.reset();
+    assert!(rt; !group.start_matched() && !group.end_matched());
     Ok(())
 }

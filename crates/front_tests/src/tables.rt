@@ -2,7 +2,7 @@
 
 use regress_front_tables::{
     CODE_POINT_MAX, CodePoint, Interval, TableError, TableLaw, TableParts, Tables,
-    expand_code_point, unfold_char,
+    expand_code_point, fold, unfold_char,
 };
 use std::alloc::Global;
 use std::test::Fail;
@@ -97,19 +97,16 @@ fn with_letters(
     Ok(parts)
 }
 
-/// Two intervals, and where the second is out of place.
-const LETTERS: &[(Interval, Interval, CodePoint)] = &[
-    (SMALL_LETTERS, CAPITAL_LETTERS, 0x41),
-    (CAPITAL_LETTERS, OVERLAPPING, 0x5A),
-    (CAPITAL_LETTERS, ADJACENT, 0x5B),
-];
-
 #[test]
 fn laws_on_intervals_are_told(rt: HostRuntime) -> Result<(), Fail> {
-    for (first, second, start) in LETTERS {
-        let parts = with_letters(rt.alloc(), *first, *second)?;
+    for (first, second, start) in [
+        (SMALL_LETTERS, CAPITAL_LETTERS, 0x41),
+        (CAPITAL_LETTERS, OVERLAPPING, 0x5A),
+        (CAPITAL_LETTERS, ADJACENT, 0x5B),
+    ] {
+        let parts = with_letters(rt.alloc(), first, second)?;
         assert!(rt; parts.key_out_of_place() == Some("Letters"));
-        assert!(rt; is_told(rt.alloc(), parts, &TableLaw::Canonical, *start));
+        assert!(rt; is_told(rt.alloc(), parts, &TableLaw::Canonical, start));
     }
     let mut parts = with_letters(rt.alloc(), CAPITAL_LETTERS, SMALL_LETTERS)?;
     assert!(rt; parts.key_out_of_place().is_none());
@@ -126,6 +123,7 @@ fn a_fold_is_undone(rt: HostRuntime) -> Result<(), Fail> {
     let tables = Tables::small(rt.alloc())?;
     let thetas = unfold_char(rt.alloc(), 0x3F4, &tables)?;
     assert!(rt; thetas.as_slice() == [0x398, 0x3B8, 0x3D1, 0x3F4].as_slice());
+    assert!(rt; fold(&tables, 0x3F4) == 0x3B8);
     Ok(())
 }
 
