@@ -36,7 +36,11 @@ fn read_item(alloc: Global, text: &str) -> Result<Item, RowError> {
     let range = read_span(words.next().ok_or(RowError::List)?)?;
     let mut groups = Vec::new(alloc);
     for word in words {
-        groups.push(if word == "-" { None } else { Some(read_span(word)?) })?;
+        groups.push(if word == "-" {
+            None
+        } else {
+            Some(read_span(word)?)
+        })?;
     }
     Ok(Item { range, groups })
 }
@@ -137,7 +141,11 @@ fn is_passed(item: &Item, place: usize) -> bool {
 pub fn tail(items: &[Item], place: usize) -> Option<&[Item]> {
     for (index, item) in items.iter().enumerate() {
         if !is_passed(item, place) {
-            return if item.range.start < place { None } else { items.get(index..) };
+            return if item.range.start < place {
+                None
+            } else {
+                items.get(index..)
+            };
         }
     }
     items.get(items.len()..)

@@ -70,7 +70,11 @@ pub fn points_of(alloc: Global, field: &str) -> Result<Vec<u32>, RowError> {
         }
     }
     // A backslash that ends the field has left nothing to be read behind it.
-    if is_escape { Ok(points) } else { Err(RowError::Escape) }
+    if is_escape {
+        Ok(points)
+    } else {
+        Err(RowError::Escape)
+    }
 }
 
 /// Code points as a text; `None` where one of them is no character.

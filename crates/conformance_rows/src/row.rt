@@ -27,21 +27,52 @@ pub enum Expected {
 #[derive(Drop)]
 pub enum Work {
     /// All matches in a text from a start on.
-    Matches { text: String, units: Vec<u16>, expected: Expected, start: usize },
+    Matches {
+        text: String,
+        units: Vec<u16>,
+        expected: Expected,
+        start: usize,
+    },
     /// All matches in 16-bit units from a start on: where they are UTF-16, and where each is a character.
-    Units { units: Vec<u16>, utf16: Vec<Item>, ucs2: Vec<Item>, start: usize },
+    Units {
+        units: Vec<u16>,
+        utf16: Vec<Item>,
+        ucs2: Vec<Item>,
+        start: usize,
+    },
     /// The named groups of the first match, as `a=0..1 b=-`.
-    Names { text: String, expected: String },
+    Names {
+        text: String,
+        expected: String,
+    },
     /// A text with its first match replaced.
-    Replace { text: String, replacement: String, expected: String },
+    Replace {
+        text: String,
+        replacement: String,
+        expected: String,
+    },
     /// A text with all its matches replaced.
-    ReplaceAll { text: String, replacement: String, expected: String },
+    ReplaceAll {
+        text: String,
+        replacement: String,
+        expected: String,
+    },
     /// The parts between the matches, as `<a><b>`.
-    Split { text: String, parts: String },
+    Split {
+        text: String,
+        parts: String,
+    },
     /// At most so many parts.
-    SplitN { text: String, limit: usize, parts: String },
+    SplitN {
+        text: String,
+        limit: usize,
+        parts: String,
+    },
     /// A pattern that stands for a text as it is written.
-    Escape { text: String, expected: String },
+    Escape {
+        text: String,
+        expected: String,
+    },
 }
 
 /// A row.
@@ -56,7 +87,13 @@ pub struct Row {
 }
 
 /// The errors that a row may expect, but for those of syntax with a text.
-const REFUSALS: &[&str] = &["!Syntax", "!TooDeep", "!TooManyGroups", "!TooManyLoops", "!TooLarge"];
+const REFUSALS: &[&str] = &[
+    "!Syntax",
+    "!TooDeep",
+    "!TooManyGroups",
+    "!TooManyLoops",
+    "!TooLarge",
+];
 
 /// The number that a field tells.
 fn number(field: &str) -> Result<usize, RowError> {
@@ -92,7 +129,13 @@ fn matches(alloc: Global, text: &str, list: &str, start: &str) -> Result<Work, R
 }
 
 /// A search in units.
-fn units(alloc: Global, text: &str, utf16: &str, ucs2: &str, start: &str) -> Result<Work, RowError> {
+fn units(
+    alloc: Global,
+    text: &str,
+    utf16: &str,
+    ucs2: &str,
+    start: &str,
+) -> Result<Work, RowError> {
     Ok(Work::Units {
         units: units_of(alloc, text)?,
         utf16: read_list(alloc, utf16)?,
@@ -131,7 +174,9 @@ fn read_work(alloc: Global, name: &str, fields: &[&str]) -> Result<Work, RowErro
             limit: number(limit)?,
             parts: text_of(alloc, parts)?,
         }),
-        ("" | "units" | "names" | "replace" | "replace_all" | "split" | "splitn", _) => Err(RowError::Fields),
+        ("" | "units" | "names" | "replace" | "replace_all" | "split" | "splitn", _) => Err(
+            RowError::Fields,
+        ),
         _ => Err(RowError::Work),
     }
 }
