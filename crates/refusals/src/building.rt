@@ -97,7 +97,12 @@ struct Building<'t> {
 /// Tells what tables say of a letter and of a key.
 fn tell_tables(told: &mut String, tables: &Tables) -> Result<(), Refusal> {
     let is_key = tables.property("ASCII").is_some();
-    write!(told, "{} {} {is_key}", tables.fold(0x41), tables.upper(0x61))?;
+    write!(
+        told,
+        "{} {} {is_key}",
+        tables.fold(0x41),
+        tables.upper(0x61)
+    )?;
     Ok(())
 }
 

@@ -2,8 +2,7 @@
 
 use regress::Flags;
 use std::alloc::{AllocError, Global};
-use std::env;
-use std::io;
+use std::{env, io};
 
 /// A piece of work, what it is done with, and how often memory is asked for.
 #[derive(Drop)]
@@ -17,11 +16,9 @@ pub(crate) struct Row {
     pub(crate) after: usize,
 }
 
-/// One more word; the empty text where there is none.
-fn word<I: Iterator<Item = String>>(alloc: Global, words: &mut I) -> String
-    requires can { I.can_next words.old }
-{
-    words.next().unwrap_or(String::new(alloc))
+/// What a word says, and nothing where there is no such word.
+fn said(alloc: Global, word: Option<String>) -> String {
+    word.unwrap_or(String::new(alloc))
 }
 
 /// A number in decimal, and 0 for what is none.
@@ -35,13 +32,13 @@ impl Row {
         let alloc = rt.alloc();
         let mut words = env::args(rt)?;
         let _name = words.next();
-        let work = words.next().unwrap_or(String::new(alloc));
-        let flags = words.next().unwrap_or(String::new(alloc));
-        let pattern = words.next().unwrap_or(String::new(alloc));
-        let text = words.next().unwrap_or(String::new(alloc));
-        let extra = words.next().unwrap_or(String::new(alloc));
-        let before = words.next().unwrap_or(String::new(alloc));
-        let after = words.next().unwrap_or(String::new(alloc));
+        let work = said(alloc, words.next());
+        let flags = said(alloc, words.next());
+        let pattern = said(alloc, words.next());
+        let text = said(alloc, words.next());
+        let extra = said(alloc, words.next());
+        let before = said(alloc, words.next());
+        let after = said(alloc, words.next());
         Ok(Row {
             work,
             flags,

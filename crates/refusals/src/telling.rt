@@ -23,10 +23,7 @@ pub(crate) fn tell_match(told: &mut String, found: &Match) -> Result<(), AllocEr
 }
 
 /// Tells one item of an iteration, with `|` behind it: a match, or why there is none.
-pub(crate) fn tell_item(
-    told: &mut String,
-    item: Result<Match, Error>,
-) -> Result<(), AllocError> {
+pub(crate) fn tell_item(told: &mut String, item: Result<Match, Error>) -> Result<(), AllocError> {
     match item {
         Ok(found) => tell_match(told, &found)?,
         Err(error) => tell_refusal(told, Refusal::from(error))?,

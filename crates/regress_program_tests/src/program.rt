@@ -10,8 +10,8 @@ use std::test::Fail;
 /// One byte more than three chunks of the program.
 static LONG: [u8; 12289] = [b'a'; 12289];
 
-/// A reader and a writer over memory. Each call gives or takes so many bytes at most; one call is interrupted, and those
-/// behind it would go on.
+/// A reader and a writer over memory. Each call gives or takes so many bytes at most; one call fails with an error of this
+/// kind, and those behind it would go on.
 #[derive(Drop)]
 struct Faulty {
     given: Vec<u8>,
@@ -20,6 +20,7 @@ struct Faulty {
     most: usize,
     calls: usize,
     failing_call: usize,
+    kind: ErrorKind,
 }
 
 impl Faulty {
@@ -39,7 +40,15 @@ impl Faulty {
             most,
             calls: 0,
             failing_call,
+            kind: ErrorKind::Interrupted,
         })
+    }
+
+    /// The same, but for the kind of the error of the call that fails.
+    fn failing_with(self, kind: ErrorKind) -> Faulty {
+        let mut faulty = self;
+        faulty.kind = kind;
+        faulty
     }
 
     /// Whether its own failing call has been made.
@@ -50,7 +59,7 @@ impl Faulty {
     fn count_call(&mut self) -> io::Result<()> {
         self.calls = self.calls.saturating_add(1);
         if self.calls == self.failing_call {
-            return Err(io::Error::from(ErrorKind::Interrupted));
+            return Err(io::Error::from(self.kind));
         }
         Ok(())
     }
@@ -190,10 +199,8 @@ fn a_failed_read_ends_the_run(rt: HostRuntime) -> Result<(), Fail> {
 /// The call that fails, how many bytes are taken a call, what was taken, and how many calls were made.
 const FAILED_WRITES: &[(usize, usize, &str, usize)] = &[
     (1, 1, "", 1),
-    (3, 1, "0.", 3),
     (2, 4, "0..1", 2),
     (11, 1, "0..1 0..1\n", 11),
-    (0, 0, "", 1),
 ];
 
 #[test]
@@ -216,25 +223,103 @@ const NO_PATTERN: ToolError = ToolError::Pattern(regress::Error::Syntax {
     text: "Unbalanced parenthesis",
 });
 
-/// A pattern, the read that fails, the answer, and how often is read.
-const OTHER_ERRORS: &[(&str, usize, Result<(), ToolError>, usize)] = &[
-    ("(a", 0, Err(NO_PATTERN), 0),
-    ("a", 0, Err(ToolError::NotUtf8), 3),
-    ("a", 3, Err(ToolError::Read), 3),
+/// A run whose reader or writer fails: which read fails, how many bytes are written a call, and which write fails; the answer, what
+/// is written, and how often is read and written. Nothing is called behind a call that fails, so to fail at the first is to fail at
+/// each.
+struct Fault {
+    input: &'static [u8],
+    pattern: &'static str,
+    failing_read: usize,
+    most: usize,
+    failing_write: usize,
+    answer: Result<(), ToolError>,
+    written: &'static str,
+    reads: usize,
+    writes: usize,
+}
+
+/// A writer that fails at the third byte, one that takes none, an input that is no UTF-8, a reader that fails after a byte, and
+/// no pattern, with a reader and a writer that fail at each call.
+const FAULTS: &[Fault] = &[
+    Fault {
+        input: b"ab",
+        pattern: "(a)",
+        failing_read: 0,
+        most: 1,
+        failing_write: 3,
+        answer: Err(ToolError::Write),
+        written: "0.",
+        reads: 3,
+        writes: 3,
+    },
+    Fault {
+        input: b"ab",
+        pattern: "(a)",
+        failing_read: 0,
+        most: 0,
+        failing_write: 0,
+        answer: Err(ToolError::Write),
+        written: "",
+        reads: 3,
+        writes: 1,
+    },
+    Fault {
+        input: b"a\xff",
+        pattern: "a",
+        failing_read: 0,
+        most: 1,
+        failing_write: 1,
+        answer: Err(ToolError::NotUtf8),
+        written: "",
+        reads: 3,
+        writes: 0,
+    },
+    Fault {
+        input: b"ab",
+        pattern: "a",
+        failing_read: 2,
+        most: 1,
+        failing_write: 1,
+        answer: Err(ToolError::Read),
+        written: "",
+        reads: 2,
+        writes: 0,
+    },
+    Fault {
+        input: b"ab",
+        pattern: "(a",
+        failing_read: 1,
+        most: 1,
+        failing_write: 1,
+        answer: Err(NO_PATTERN),
+        written: "",
+        reads: 0,
+        writes: 0,
+    },
 ];
 
+/// Whether a run ends as it should where calls fail with an error of this kind.
+fn fails_so(alloc: Global, fault: &Fault, kind: ErrorKind) -> Result<bool, Fail> {
+    let reader = Faulty::new(alloc, fault.input, 1, fault.failing_read)?.failing_with(kind);
+    let writer = Faulty::new(alloc, b"", fault.most, fault.failing_write)?.failing_with(kind);
+    let expected = Outcome {
+        answer: &fault.answer,
+        written: fault.written,
+        reads: fault.reads,
+        writes: fault.writes,
+    };
+    Ok(ends_so(alloc, fault.pattern, reader, writer, &expected))
+}
+
+// An error of any kind is a failure, one that is named after an interruption too.
 #[test]
-fn other_errors_leave_the_sink(rt: HostRuntime) -> Result<(), Fail> {
-    for (pattern, failing, answer, reads) in OTHER_ERRORS {
-        let reader = Faulty::new(rt.alloc(), b"a\xff", 1, *failing)?;
-        let writer = Faulty::new(rt.alloc(), b"", 1, 1)?;
-        let expected = Outcome {
-            answer,
-            written: "",
-            reads: *reads,
-            writes: 0,
-        };
-        assert!(rt; ends_so(rt.alloc(), pattern, reader, writer, &expected));
+fn faults_of_any_kind_are_told(rt: HostRuntime) -> Result<(), Fail> {
+    for fault in FAULTS {
+        let interrupted = fails_so(rt.alloc(), fault, ErrorKind::Interrupted)?;
+        let denied = fails_so(rt.alloc(), fault, ErrorKind::PermissionDenied)?;
+        if !interrupted || !denied {
+            return Err(Fail::new(fault.pattern));
+        }
     }
     Ok(())
 }
