@@ -12,10 +12,7 @@ fn push_set(out: &mut String, set: &CodePointSet) -> Result<(), AllocError> {
 }
 
 /// A class: its set, with `not` before it where the characters outside are matched.
-pub(crate) fn push_bracket(
-    out: &mut String,
-    contents: &BracketContents,
-) -> Result<(), AllocError> {
+pub(crate) fn push_bracket(out: &mut String, contents: &BracketContents) -> Result<(), AllocError> {
     if contents.invert {
         out.push_str("not ")?;
     }

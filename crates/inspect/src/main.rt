@@ -19,9 +19,8 @@ mod trees;
 use lines::{of_line, of_two_words};
 use regress_front::Tables;
 use std::alloc::AllocError;
-use std::env;
-use std::io;
 use std::io::{BufRead, BufReader};
+use std::{env, io};
 
 fn main(rt: HostRuntime) -> io::Result<()> {
     let Ok(tables) = Tables::small(rt.alloc()) else {

@@ -168,7 +168,10 @@ fn push_sizes(alloc: Global, out: &mut String, forms: &Forms<'_>) -> Result<(), 
     let points = forms.length;
     let nodes = node_count(alloc, &forms.tree)?;
     let left = node_count(alloc, &forms.rewritten)?;
-    write!(out, "    code points {points}, nodes {nodes}, rewritten {left}\n")?;
+    write!(
+        out,
+        "    code points {points}, nodes {nodes}, rewritten {left}\n"
+    )?;
     push_program_sizes(out, "of bytes", &forms.program)?;
     push_program_sizes(out, "of units", &forms.units)
 }

@@ -44,7 +44,8 @@ fn push_below(
         | Syntax::Modified { contents, .. }
         | Syntax::Look { contents, .. }
         | Syntax::Loop {
-            loopee: contents, ..
+            loopee: contents,
+            ..
         } => push_syntax(alloc, out, contents, depth),
         _ => Ok(()),
     }
@@ -89,11 +90,10 @@ fn push_head(out: &mut String, syntax: &Syntax) -> Result<(), AllocError> {
         Syntax::Group(_) => out.push_str("Group"),
         Syntax::Class { negated, .. } => write!(out, "Class {{ negated: {negated} }}"),
         Syntax::Look {
-            negated, backward, ..
-        } => write!(
-            out,
-            "Look {{ negated: {negated}, backward: {backward} }}"
-        ),
+            negated,
+            backward,
+            ..
+        } => write!(out, "Look {{ negated: {negated}, backward: {backward} }}"),
         Syntax::Character(point) => {
             out.push_str("Character ")?;
             push_point(out, *point)

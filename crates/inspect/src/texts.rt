@@ -43,10 +43,7 @@ pub(crate) fn push_bytes(out: &mut String, bytes: &[u8]) -> Result<(), AllocErro
 }
 
 /// Intervals of code points, as `['0', 'a'..='z']`.
-pub(crate) fn push_intervals(
-    out: &mut String,
-    intervals: &[Interval],
-) -> Result<(), AllocError> {
+pub(crate) fn push_intervals(out: &mut String, intervals: &[Interval]) -> Result<(), AllocError> {
     let mut before = "[";
     for interval in intervals {
         out.push_str(before)?;
