@@ -7,6 +7,7 @@
 mod classes;
 mod compiling;
 mod debugging;
+mod forms;
 mod lines;
 mod points;
 mod programs;

@@ -1,6 +1,6 @@
 //! What is printed of a pattern, each section under its heading.
 
-use crate::compiling::{Forms, compile};
+use crate::forms::{Forms, compile};
 use crate::programs::{push_ahead, push_program, push_start};
 use crate::request::Request;
 use crate::syntax::push_syntax;

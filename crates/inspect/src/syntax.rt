@@ -2,8 +2,8 @@
 
 use crate::classes::{push_name, push_quantifier};
 use crate::texts::{indent, push_interval, push_point, push_text};
-use regress_front::{Class, CodePoint, Modifiers, Syntax};
-use regress_front_syntax::Term;
+use regress_front::CodePoint;
+use regress_front_tokens::{Class, Modifiers, Syntax, Term};
 use std::alloc::{AllocError, Global};
 
 /// A part that stands below `depth` others, and all below it.
