@@ -6,8 +6,8 @@ use std::io;
 use std::io::{ErrorKind, Read, Write};
 use std::test::Fail;
 
-/// A reader and a writer over memory. Each call gives or takes so many bytes at most; one call is interrupted, and those
-/// behind it would go on.
+/// A reader and a writer over memory. Each call gives or takes so many bytes at most; one call fails with an error of a kind,
+/// and those behind it would go on.
 #[derive(Drop)]
 struct Faulty {
     given: Vec<u8>,
@@ -16,15 +16,17 @@ struct Faulty {
     most: usize,
     calls: usize,
     failing_call: usize,
+    kind: ErrorKind,
 }
 
 impl Faulty {
-    /// Gives these bytes, so many a call; the call of this number is interrupted. Calls are counted from 1.
+    /// Gives these bytes, so many a call; the call of this number fails. Calls are counted from 1.
     fn new(
         alloc: Global,
         bytes: &[u8],
         most: usize,
         failing_call: usize,
+        kind: ErrorKind,
     ) -> Result<Faulty, AllocError> {
         let mut given = Vec::new(alloc);
         given.extend_from_slice(bytes)?;
@@ -35,6 +37,7 @@ impl Faulty {
             most,
             calls: 0,
             failing_call,
+            kind,
         })
     }
 
@@ -46,7 +49,7 @@ impl Faulty {
     fn count_call(&mut self) -> io::Result<()> {
         self.calls = self.calls.saturating_add(1);
         if self.calls == self.failing_call {
-            return Err(io::Error::from(ErrorKind::Interrupted));
+            return Err(io::Error::from(self.kind));
         }
         Ok(())
     }
@@ -113,10 +116,10 @@ struct Case<'a> {
     writes: usize,
 }
 
-/// Whether a run ends so.
-fn ends_so(alloc: Global, case: &Case<'_>) -> Result<bool, AllocError> {
-    let mut reader = Faulty::new(alloc, case.input, case.given, case.failing_read)?;
-    let mut writer = Faulty::new(alloc, b"", case.taken, case.failing_write)?;
+/// Whether a run ends so where calls fail with an error of this kind.
+fn ends_so(alloc: Global, case: &Case<'_>, kind: ErrorKind) -> Result<bool, AllocError> {
+    let mut reader = Faulty::new(alloc, case.input, case.given, case.failing_read, kind)?;
+    let mut writer = Faulty::new(alloc, b"", case.taken, case.failing_write, kind)?;
     let answer = run_over(alloc, case.pattern, &mut reader, &mut writer);
     let is_answered = answer.as_ref() == Some(case.answer);
     let is_written = writer.taken.as_slice() == case.written.as_bytes();
@@ -207,14 +210,21 @@ const CASES: &[Case<'static>] = &[
     REFUSED,
 ];
 
-#[test]
-fn streams_that_fail_are_told(rt: HostRuntime) -> Result<(), Fail> {
+/// Runs each case, with failures of a kind.
+fn try_cases(alloc: Global, kind: ErrorKind) -> Result<(), Fail> {
     for (row, case) in CASES.iter().enumerate() {
-        if !ends_so(rt.alloc(), case)? {
+        if !ends_so(alloc, case, kind)? {
             return Err(Fail::new(row));
         }
     }
     Ok(())
+}
+
+// An error of any kind is a failure, one that is named after an interruption too.
+#[test]
+fn streams_that_fail_are_told(rt: HostRuntime) -> Result<(), Fail> {
+    try_cases(rt.alloc(), ErrorKind::Interrupted)?;
+    try_cases(rt.alloc(), ErrorKind::PermissionDenied)
 }
 
 /// One byte more than three chunks of the program.
@@ -264,7 +274,7 @@ fn many_lines_are_few_writes(rt: HostRuntime) -> Result<(), Fail> {
             writes: *writes,
             ..WHOLE
         };
-        if !ends_so(rt.alloc(), &case)? {
+        if !ends_so(rt.alloc(), &case, ErrorKind::Other)? {
             return Err(Fail::new(*length));
         }
     }
@@ -273,7 +283,7 @@ fn many_lines_are_few_writes(rt: HostRuntime) -> Result<(), Fail> {
 
 #[test]
 fn an_empty_write_passes(rt: HostRuntime) -> Result<(), Fail> {
-    let mut sink = StdSink::new(Faulty::new(rt.alloc(), b"", 0, 0)?);
+    let mut sink = StdSink::new(Faulty::new(rt.alloc(), b"", 0, 0, ErrorKind::Other)?);
     assert!(rt; sink.put(&[]) == Ok(0) && !sink.failed());
     assert!(rt; sink.put(b"a") == Err(Failed) && sink.failed());
     Ok(())
