@@ -1,5 +1,5 @@
 //! Tables, trees and programs.
-ghost use Rattle.std.specs.Prelude.{◌≡◌, ℕ, true, false, length, All, IfOk};
+ghost use Rattle.std.specs.Prelude.{length, IfOk};
 ghost use Rattle.regress_front.specs.Trees.{tree};
 ghost use Rattle.regress_front.specs.WellFormed.{IsWellFormed};
 

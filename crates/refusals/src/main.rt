@@ -3,6 +3,8 @@
 //! `refusals WORK FLAGS PATTERN TEXT EXTRA BEFORE AFTER` sets the work up, asks for memory BEFORE times, does the work and tells
 //! its answer. Then it asks for memory up to AFTER times: where one of these is refused, the work met no refusal, and it tells
 //! how many were granted; else it does the work once more, with the same values, and tells that.
+//!
+//! The work `itself` copies the program, as it was built, to the file TEXT.
 #![tactic(auto)]
 
 mod asking;
@@ -19,7 +21,7 @@ mod telling;
 use crate::refusal::Refusal;
 use crate::row::Row;
 use std::alloc::Global;
-use std::io;
+use std::{fs, io};
 
 /// How many bytes may be told without a request for memory.
 const TOLD: usize = 0x4_0000;
@@ -45,8 +47,17 @@ fn told_of(outcome: Result<bool, Refusal>) -> &'static str {
     }
 }
 
+/// Copies the program's own file to where a row says.
+fn copy_itself(rt: &HostRuntime, row: &Row) -> io::Result<()> {
+    fs::copy(rt, row.program.as_str(), row.text.as_str())?;
+    Ok(())
+}
+
 fn main(rt: HostRuntime) -> io::Result<()> {
     let row = Row::read(&rt)?;
+    if row.work.as_str() == "itself" {
+        return copy_itself(&rt, &row);
+    }
     let mut told = String::with_capacity(rt.alloc(), TOLD)?;
     let outcome = try_row(rt.alloc(), &row, &mut told);
     println!(rt; "{told}{}", told_of(outcome))

@@ -7,6 +7,8 @@ use std::{env, io};
 /// A piece of work, what it is done with, and how often memory is asked for.
 #[derive(Drop)]
 pub(crate) struct Row {
+    /// Where the program stands.
+    pub(crate) program: String,
     pub(crate) work: String,
     pub(crate) flags: String,
     pub(crate) pattern: String,
@@ -31,7 +33,7 @@ impl Row {
     pub(crate) fn read(rt: &HostRuntime) -> io::Result<Row> {
         let alloc = rt.alloc();
         let mut words = env::args(rt)?;
-        let _name = words.next();
+        let program = said(alloc, words.next());
         let work = said(alloc, words.next());
         let flags = said(alloc, words.next());
         let pattern = said(alloc, words.next());
@@ -40,6 +42,7 @@ impl Row {
         let before = said(alloc, words.next());
         let after = said(alloc, words.next());
         Ok(Row {
+            program,
             work,
             flags,
             pattern,

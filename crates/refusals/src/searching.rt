@@ -1,5 +1,4 @@
 //! Searches, by each road.
-ghost use Rattle.std.specs.Iterator.{IsFinite};
 ghost use Rattle.std.specs.Prelude.{IfSome};
 ghost use Rattle.regress_match.specs.Iterating.{position_of, producer_of};
 
