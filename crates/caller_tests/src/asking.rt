@@ -2,7 +2,7 @@
 
 use crate::told::{compiled, ends, first, is_same};
 use regress::{
-    Error, Flags, Regex, Tables, backends, is_start, is_unit_start, is_well_formed_utf16,
+    Error, Flags, Match, Regex, Tables, backends, is_start, is_unit_start, is_well_formed_utf16,
 };
 use std::alloc::Global;
 use std::test::Fail;
