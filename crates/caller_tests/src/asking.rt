@@ -1,8 +1,8 @@
 //! What is asked of a compiled pattern and of a text, and patterns that are compiled in other ways.
 
-use crate::told::{compiled, is_same};
+use crate::told::{compiled, ends, first, is_same};
 use regress::{
-    Error, Flags, Regex, Tables, backends, is_start, is_unit_start, is_well_formed_utf16,
+    Error, Flags, Match, Regex, Tables, backends, is_start, is_unit_start, is_well_formed_utf16,
 };
 use std::alloc::Global;
 use std::test::Fail;
@@ -65,25 +65,17 @@ fn of_two_programs(alloc: Global, tables: &Tables) -> Result<Regex<'_>, Error> {
     Regex::from_programs(alloc, of_bytes, of_units)
 }
 
-/// Where the first match in a text starts, and where the first in units does.
-fn starts(
-    regex: &Regex<'_>,
-    text: &str,
-    units: &[u16],
-) -> Result<(Option<usize>, Option<usize>), Error> {
-    let in_text = regex.find(text)?;
-    let in_units = regex.find_from_ucs2(units, 0)?.next().transpose()?;
-    Ok((
-        in_text.map(|found| found.start()),
-        in_units.map(|found| found.start()),
-    ))
+/// The first match in units that are each one character, from an offset on.
+fn first_in_units(regex: &Regex<'_>, units: &[u16], start: usize) -> Result<Option<Match>, Error> {
+    regex.find_from_ucs2(units, start)?.next().transpose()
 }
 
 #[test]
 fn each_search_goes_by_its_own_program(rt: HostRuntime) -> Result<(), Fail> {
     let tables = Tables::small(rt.alloc())?;
     let regex = of_two_programs(rt.alloc(), &tables)?;
-    assert!(rt; starts(&regex, "ab", &[0x61, 0x62])? == (Some(0), Some(1)));
+    assert!(rt; ends(first(&regex, "ab")?) == Some((0, 1)));
+    assert!(rt; ends(first_in_units(&regex, &[0x61, 0x62], 0)?) == Some((1, 2)));
     Ok(())
 }
 
@@ -102,5 +94,9 @@ fn units_stand_in_pairs(rt: HostRuntime) -> Result<(), Fail> {
         assert!(rt; is_unit_start(UNITS, start) == *expected);
     }
     assert!(rt; is_well_formed_utf16(PAIR) && !is_well_formed_utf16(UNITS));
+    // Where each unit is a character a search begins anywhere.
+    let tables = Tables::small(rt.alloc())?;
+    let regex = compiled(rt.alloc(), "(?<=(.)|).", "u", &tables)?;
+    assert!(rt; ends(first_in_units(&regex, UNITS, 2)?) == Some((2, 3)));
     Ok(())
 }

@@ -30,7 +30,11 @@ fn names_are_told_and_counted(rt: HostRuntime) -> Result<(), Fail> {
     is_same(rt.alloc(), "whole", came.as_str(), "n=0..1 m=1..2 ")?;
     found.captures.clear();
     let came = told(rt.alloc(), &found)?;
-    is_same(rt.alloc(), "shortened", came.as_str(), "n=- m=- ")
+    is_same(rt.alloc(), "shortened", came.as_str(), "n=- m=- ")?;
+    // A name alone means the first group that has it.
+    let other = first(&regex, "c")?.ok_or("no match")?;
+    assert!(rt; other.named_group("n").is_none() && other.group(3) == Some(0..1));
+    Ok(())
 }
 
 /// The text of a group of the first match, and that of the group of a name.

@@ -1,8 +1,9 @@
-//! What is known never to stand at one place: the more is known, the sooner the executor that undoes is done.
+//! What is known never to stand at one place, and how far a class goes: what tells nothing is proved too, and only slower.
 
 use crate::parsed::parsed;
 use regress_engine_code::{Insn, emit};
-use regress_engine_singles::{are_apart, is_apart};
+use regress_engine_input::Utf8Input;
+use regress_engine_singles::{are_apart, as_far_ahead, is_apart};
 use regress_front_bytes::AsciiBitmap;
 use regress_front_tables::Tables;
 use std::test::Fail;
@@ -55,6 +56,38 @@ fn classes_are_apart_that_share_no_character(rt: HostRuntime) -> Result<(), Fail
         let class = Insn::Bracket(0);
         assert!(rt; are_apart(&program, &ascii, &class) == *apart);
         assert!(rt; are_apart(&program, &class, &ascii) == *apart);
+    }
+    Ok(())
+}
+
+/// A class in `é,a;b\ncé`, from where and how many times it is taken at most, and where that ends.
+const FAR: &[(&str, usize, usize, usize)] = &[
+    ("[^,]", 0, 9, 2),
+    ("[^,]", 2, 9, 2),
+    ("[^,]", 3, 9, 10),
+    ("[^,]", 3, 4, 7),
+    ("[^;\n]", 0, 9, 4),
+    ("[^;\n]", 5, 9, 6),
+    ("[^,;\n]", 0, 9, 2),
+    ("[^,;\n]", 7, 9, 10),
+    ("[^,;\n]", 7, 1, 8),
+    ("[^abcé]", 2, 9, 3),
+    ("[^é]", 2, 9, 8),
+    ("[^b-c]", 0, 99, 5),
+];
+
+#[test]
+fn classes_go_as_far_as_what_they_do_not_match(rt: HostRuntime) -> Result<(), Fail> {
+    let tables = Tables::small(rt.alloc())?;
+    let text = "é,a;b\ncé";
+    let input = Utf8Input::new(text, true, &tables);
+    for (pattern, at, times, end) in FAR {
+        let regex = parsed(rt.alloc(), pattern, "", &tables)?;
+        let program = emit(rt.alloc(), &regex)?;
+        assert!(rt; text.is_char_boundary(*at));
+        assert!(rt; !program.brackets().is_empty());
+        let class = Insn::Bracket(0);
+        assert!(rt; as_far_ahead(&program, &input, &class, *times, *at) == Some(*end));
     }
     Ok(())
 }

@@ -10,20 +10,27 @@ use regress_engine_exec::BacktrackExecutor;
 use regress_engine_input::{Ucs2Input, Utf8Input, Utf16Input};
 use regress_front_nodes::ir::Regex;
 use regress_front_tables::Error;
-use regress_match::{Match, MatchProducer, Matches};
+use regress_match::{Match, MatchProducer, Matches, Range};
 use std::alloc::{AllocError, Global};
 use std::test::Fail;
 
+/// Adds a group: its range, or `-`.
+fn tell_group(told: &mut String, group: Option<Range>) -> Result<(), AllocError> {
+    match group {
+        Some(range) => write!(told, "{}..{}", range.start, range.end),
+        None => told.push('-'),
+    }
+}
+
 /// Adds a match to a text: its range and that of each group, parted by spaces, `-` for a group without one.
 fn tell(told: &mut String, found: &Match) -> Result<(), AllocError> {
-    let mut parting = "";
+    let mut is_first = true;
     for group in found.groups() {
-        told.push_str(parting)?;
-        match group {
-            Some(range) => write!(told, "{}..{}", range.start, range.end)?,
-            None => told.push('-')?,
+        if !is_first {
+            told.push(' ')?;
         }
-        parting = " ";
+        tell_group(told, group)?;
+        is_first = false;
     }
     Ok(())
 }

@@ -15,4 +15,6 @@ mod rewriting;
 #[cfg(test)]
 mod sets;
 #[cfg(test)]
+mod shown;
+#[cfg(test)]
 mod tables;
