@@ -1,7 +1,7 @@
 //! Tries rows of patterns and texts by every road, with the small tables.
 //!
-//! `conformance < rows` writes a line for each answer that differs from its row, and then `N rows, M answers, K wrong`. The
-//! exit status is 1 where one differs.
+//! `conformance < rows` writes a line for each answer that differs from its row, and then
+//! `N rows, M answers, K wrong`. The exit status is 1 where one differs.
 #![tactic(auto)]
 
 use conformance_roads::run;
