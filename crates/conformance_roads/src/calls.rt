@@ -1,5 +1,5 @@
-//! The calls of `regress`, each in a function of its own that promises nothing, so that what calls it has little to prove. Where
-//! memory is refused they err with `AllocError`.
+//! The calls of `regress`, each in a function of its own that promises nothing, so that what calls it has little to prove.
+//! Where memory is refused they err with `AllocError`.
 ghost use Rattle.std.specs.Iterator.{IsFinite};
 
 use conformance_rows::push_span;

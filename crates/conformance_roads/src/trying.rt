@@ -7,8 +7,8 @@ use crate::calls::{
 };
 use crate::report::{Report, told_error};
 use crate::works::{
-    all_given_back, all_replaced, all_replaced_with, escaped, first_parts, given_back, names,
-    parts, refusal, replaced, replaced_with, syntax_refusal,
+    all_replaced, all_replaced_with, escaped, first_parts, names, parts, refusal, replaced,
+    replaced_with, syntax_refusal,
 };
 use conformance_rows::{
     Expected, Item, Pattern, Row, RowError, Work, read_row, tail, told, told_in_units, units_before,
@@ -222,6 +222,20 @@ fn is_one_unit_each(points: &[u32]) -> bool {
     points.iter().all(|point| *point < 0xD800 || (0xE000..0x10000).contains(point))
 }
 
+/// The list in units that are each a character; `None` where the text or the pattern holds a character of two.
+fn ucs2_list(
+    alloc: Global,
+    text: &str,
+    units: &[u16],
+    pattern: &[u32],
+    items: &[Item],
+) -> Result<Option<String>, AllocError> {
+    if units.len() > text.chars().count() || !is_one_unit_each(pattern) {
+        return Ok(None);
+    }
+    Ok(Some(told_in_units(alloc, text, items)?))
+}
+
 /// Tries a search in a text by every road.
 fn try_matches(
     report: &mut Report,
@@ -244,11 +258,7 @@ fn try_matches(
     let list = told(alloc, items)?;
     let points = &row.pattern.points;
     let utf16 = told_in_units(alloc, text, items)?;
-    let ucs2 = if units.len() == text.chars().count() && is_one_unit_each(points) {
-        Some(told_in_units(alloc, text, items)?)
-    } else {
-        None
-    };
+    let ucs2 = ucs2_list(alloc, text, units, points, items)?;
     let programs = of_programs(alloc, points, flags, tables);
     try_text(report, alloc, regex, text, *start, list.as_str())?;
     try_tails(report, alloc, regex, text, *start, items)?;
@@ -301,6 +311,58 @@ fn try_unit_row(
     try_copying_units(report, alloc, program, &sought)
 }
 
+/// Tries a text with its first match replaced. A closure puts in the same text where it holds no `$`, and else the match itself.
+fn try_replaced(
+    report: &mut Report,
+    alloc: Global,
+    regex: &Regex<'_>,
+    text: &str,
+    new: &str,
+    expected: &str,
+) -> Result<(), AllocError> {
+    report.compare("replace", expected, replaced(regex, text, new))?;
+    let by_closure = if new.contains('$') { text } else { expected };
+    report.compare(
+        "replace_with",
+        by_closure,
+        replaced_with(alloc, regex, text, new),
+    )
+}
+
+/// Tries a text with all its matches replaced, in the same way.
+fn try_all_replaced(
+    report: &mut Report,
+    alloc: Global,
+    regex: &Regex<'_>,
+    text: &str,
+    new: &str,
+    expected: &str,
+) -> Result<(), AllocError> {
+    report.compare("replace_all", expected, all_replaced(regex, text, new))?;
+    let by_closure = if new.contains('$') { text } else { expected };
+    report.compare(
+        "replace_all_with",
+        by_closure,
+        all_replaced_with(alloc, regex, text, new),
+    )
+}
+
+/// Tries the parts of a text.
+fn try_parts(
+    report: &mut Report,
+    alloc: Global,
+    regex: &Regex<'_>,
+    text: &str,
+    expected: &str,
+) -> Result<(), AllocError> {
+    report.compare("split", expected, parts(alloc, regex, text))?;
+    report.compare(
+        "splitn",
+        expected,
+        first_parts(alloc, regex, text, usize::MAX),
+    )
+}
+
 /// Tries what is made of matches.
 fn try_made(
     report: &mut Report,
@@ -321,15 +383,13 @@ fn try_made(
             replacement,
             expected,
         } => {
-            let (text, new, expected) = (text.as_str(), replacement.as_str(), expected.as_str());
-            report.compare("replace", expected, replaced(regex, text, new))?;
-            if new.contains('$') {
-                return report.compare("replace_with", text, given_back(alloc, regex, text));
-            }
-            report.compare(
-                "replace_with",
-                expected,
-                replaced_with(alloc, regex, text, new),
+            try_replaced(
+                report,
+                alloc,
+                regex,
+                text.as_str(),
+                replacement.as_str(),
+                expected.as_str(),
             )
         }
         Work::ReplaceAll {
@@ -337,29 +397,19 @@ fn try_made(
             replacement,
             expected,
         } => {
-            let (text, new, expected) = (text.as_str(), replacement.as_str(), expected.as_str());
-            report.compare("replace_all", expected, all_replaced(regex, text, new))?;
-            if new.contains('$') {
-                return report.compare("replace_all_with", text, all_given_back(alloc, regex, text));
-            }
-            report.compare(
-                "replace_all_with",
-                expected,
-                all_replaced_with(alloc, regex, text, new),
+            try_all_replaced(
+                report,
+                alloc,
+                regex,
+                text.as_str(),
+                replacement.as_str(),
+                expected.as_str(),
             )
         }
         Work::Split {
             text,
             parts: expected,
-        } => {
-            let (text, expected) = (text.as_str(), expected.as_str());
-            report.compare("split", expected, parts(alloc, regex, text))?;
-            report.compare(
-                "splitn",
-                expected,
-                first_parts(alloc, regex, text, usize::MAX),
-            )
-        }
+        } => { try_parts(report, alloc, regex, text.as_str(), expected.as_str()) }
         Work::SplitN {
             text,
             limit,

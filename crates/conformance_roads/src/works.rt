@@ -81,52 +81,34 @@ pub(crate) fn all_replaced(
     unless_refused(regex.replace_all(text, replacement))
 }
 
-/// A copy of a text.
-fn copied(alloc: Global, text: &str) -> Result<String, Error> {
-    Ok(String::from_str(alloc, text)?)
+/// What a closure answers at a match: a new text where it holds no `$`, and else the text of the match.
+fn answer(alloc: Global, text: &str, new: &str, found: &Match) -> Result<String, Error> {
+    let part = if new.contains('$') {
+        text.get(found.range()).unwrap_or("")
+    } else {
+        new
+    };
+    Ok(String::from_str(alloc, part)?)
 }
 
-/// The text of a match.
-fn matched(alloc: Global, text: &str, found: &Match) -> Result<String, Error> {
-    copied(alloc, text.get(found.range()).unwrap_or(""))
-}
-
-/// A text with its first match replaced by what a closure answers: a new text.
+/// A text with its first match replaced by what a closure answers.
 pub(crate) fn replaced_with(
     alloc: Global,
     regex: &Regex<'_>,
     text: &str,
     new: &str,
 ) -> Result<String, AllocError> {
-    unless_refused(regex.replace_with(text, |_| copied(alloc, new)))
+    unless_refused(regex.replace_with(text, |found| answer(alloc, text, new, found)))
 }
 
-/// A text with all its matches replaced by what a closure answers: a new text.
+/// A text with all its matches replaced by what a closure answers.
 pub(crate) fn all_replaced_with(
     alloc: Global,
     regex: &Regex<'_>,
     text: &str,
     new: &str,
 ) -> Result<String, AllocError> {
-    unless_refused(regex.replace_all_with(text, |_| copied(alloc, new)))
-}
-
-/// A text with its first match replaced by itself.
-pub(crate) fn given_back(
-    alloc: Global,
-    regex: &Regex<'_>,
-    text: &str,
-) -> Result<String, AllocError> {
-    unless_refused(regex.replace_with(text, |found| matched(alloc, text, found)))
-}
-
-/// A text with each match replaced by itself.
-pub(crate) fn all_given_back(
-    alloc: Global,
-    regex: &Regex<'_>,
-    text: &str,
-) -> Result<String, AllocError> {
-    unless_refused(regex.replace_all_with(text, |found| matched(alloc, text, found)))
+    unless_refused(regex.replace_all_with(text, |found| answer(alloc, text, new, found)))
 }
 
 /// The parts between the matches of a text, each as `<part>`.

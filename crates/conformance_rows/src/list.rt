@@ -4,7 +4,7 @@ use crate::fault::RowError;
 use std::alloc::{AllocError, Global};
 
 /// A range of offsets.
-#[derive(Clone, Copy, Debug, PartialEq, Eq)]
+#[derive(Clone, Copy)]
 pub struct Span {
     /// Where it begins.
     pub start: usize,
@@ -45,7 +45,7 @@ fn read_item(alloc: Global, text: &str) -> Result<Item, RowError> {
     Ok(Item { range, groups })
 }
 
-/// The list that a field tells, as `0..3 0..1 -|3..3 - -`; none where it is empty. Errs with `List` where it tells none.
+/// The list that a field tells, as `0..3 0..1 -|3..3 - -`; empty where the field is. Errs with `List` where it tells none.
 ///
 /// ```rust
 /// let items = read_list(alloc, "0..1 -|1..2 1..2")?; // two matches with a group each
@@ -130,14 +130,15 @@ pub fn told_in_units(alloc: Global, text: &str, items: &[Item]) -> Result<String
     Ok(told)
 }
 
-/// Whether a search that begins at a place goes on behind a match: from its end on, and behind an empty one a character later.
+/// Whether a search that begins at a place goes on behind a match: from its end on, and behind an empty one a character
+/// later.
 fn is_passed(item: &Item, place: usize) -> bool {
     let Span { start, end } = item.range;
     end < place || end == place && start < end
 }
 
-/// What is left of a list where the search begins at a place, which is not before the first place of the list's own search;
-/// `None` where the list does not tell.
+/// What is left of a list where the search begins at a place, which is not before that of the list's own search; `None` where
+/// the list does not tell.
 pub fn tail(items: &[Item], place: usize) -> Option<&[Item]> {
     for (index, item) in items.iter().enumerate() {
         if !is_passed(item, place) {

@@ -47,8 +47,8 @@ fn push_plain(points: &mut Vec<u32>, text: &str) -> Result<(), RowError> {
     Ok(())
 }
 
-/// The code points that a field stands for: `\\`, `\t`, `\n`, `\r`, `\u{..}` for a character and `\uD83D` for a surrogate are
-/// escapes, and all else stands for itself. Errs with `Escape` at any other backslash, and where memory is refused.
+/// The code points that a field stands for: `\\`, `\t`, `\n`, `\r`, `\u{..}` for a character and `\uD83D` for a surrogate
+/// are escapes, and all else stands for itself. Errs with `Escape` at any other backslash, and where memory is refused.
 ///
 /// ```rust
 /// let points = points_of(alloc, r"\u{61}\uD83D")?; // 61 and D83D
@@ -78,7 +78,7 @@ pub fn points_of(alloc: Global, field: &str) -> Result<Vec<u32>, RowError> {
 }
 
 /// Code points as a text; `None` where one of them is no character.
-pub fn as_text(alloc: Global, points: &[u32]) -> Result<Option<String>, AllocError> {
+pub(crate) fn as_text(alloc: Global, points: &[u32]) -> Result<Option<String>, AllocError> {
     let mut text = String::new(alloc);
     for point in points {
         let Some(c) = char::from_u32(*point) else {
