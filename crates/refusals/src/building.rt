@@ -1,7 +1,7 @@
 //! Tables, trees and programs.
-ghost use Rattle.std.specs.Prelude.{length, IfOk};
-ghost use Rattle.regress_front.specs.Trees.{tree};
-ghost use Rattle.regress_front.specs.WellFormed.{IsWellFormed};
+ghost use Rattle.std.specs.Prelude.{◌≤◌, All, length, IfOk};
+ghost use Rattle.regress_front_nodes.specs.Trees.{tree};
+ghost use Rattle.regress_front_nodes.specs.WellFormed.{IsWellFormed};
 
 use crate::asking::{Work, try_work};
 use crate::refusal::Refusal;
@@ -23,6 +23,27 @@ pub(crate) fn compiled<'t>(
     Regex::with_flags(alloc, row.pattern.as_str(), row.flags(), tables)
 }
 
+/// The tree of a pattern of code points.
+fn tree_of<'t>(
+    alloc: Global,
+    points: &[u32],
+    flags: Flags,
+    tables: &'t Tables,
+) -> Result<ir::Regex<'t>, Error>
+    requires { All (λ c. c ≤ 0x10_FFFF) points.now }
+    ensures { IfOk result (λ re. IsWellFormed (length re.group_names.items) (tree re.node)) }
+{
+    try_parse(alloc, points, flags, tables)
+}
+
+/// Rewrites a tree.
+fn rewrite(alloc: Global, regex: &mut ir::Regex<'_>) -> Result<(), Error>
+    requires { IsWellFormed (length regex.old.group_names.items) (tree regex.old.node) }
+    ensures { IsWellFormed (length regex.new.group_names.items) (tree regex.new.node) }
+{
+    optimize(alloc, regex)
+}
+
 /// The tree of a pattern.
 pub(crate) fn parsed<'t>(
     alloc: Global,
@@ -35,15 +56,15 @@ pub(crate) fn parsed<'t>(
     if !are_code_points(points) {
         return Err(Error::TooLarge);
     }
-    try_parse(alloc, points, flags, tables)
+    tree_of(alloc, points, flags, tables)
 }
 
 /// The regex of a tree's programs.
-fn regex_of<'t>(alloc: Global, tree: &ir::Regex<'t>) -> Result<Regex<'t>, Error>
-    requires { IsWellFormed (length tree.now.group_names.items) (tree tree.now.node) }
+fn regex_of<'t>(alloc: Global, regex: &ir::Regex<'t>) -> Result<Regex<'t>, Error>
+    requires { IsWellFormed (length regex.now.group_names.items) (tree regex.now.node) }
 {
-    let byte_program = emit(alloc, tree)?;
-    let unit_program = emit_units(alloc, tree)?;
+    let byte_program = emit(alloc, regex)?;
+    let unit_program = emit_units(alloc, regex)?;
     Regex::from_programs(alloc, byte_program, unit_program)
 }
 
@@ -122,7 +143,7 @@ fn tell_tree(told: &mut String, work: &Building<'_>) -> Result<(), Refusal> {
 /// Tells the matches by a tree that rewriting leaves, and whether that went well.
 fn tell_rewritten(told: &mut String, work: &Building<'_>) -> Result<(), Refusal> {
     let mut tree = parsed(work.alloc, &work.points, work.row.flags(), work.tables)?;
-    let outcome = optimize(work.alloc, &mut tree);
+    let outcome = rewrite(work.alloc, &mut tree);
     let regex = regex_of(work.alloc, &tree)?;
     tell_all(told, &regex, work.row.text.as_str())?;
     Ok(outcome?)
