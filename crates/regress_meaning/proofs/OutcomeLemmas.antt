@@ -42,7 +42,7 @@ module _ (context : Context) where
       Goes-both context dir (outcomes context a dir e) (outcomes context b dir e) (Goes-outcomes a dir e) (Goes-outcomes b dir e) s
   Goes-outcomes (capture k name a) dir e s = Goes-captured context dir k (outcomes context a dir e) (Goes-outcomes a dir e) s
   Goes-outcomes (grouped a) dir e s = Goes-outcomes a dir e s
-  Goes-outcomes (atomic a) dir e s = All-take 1 (To context dir s) (outcomes context a dir e s) (Goes-outcomes a dir e s)
+  Goes-outcomes (atomic a) dir e s = All-take (To context dir s) 1 (outcomes context a dir e s) (Goes-outcomes a dir e s)
   Goes-outcomes (modified on off a) dir e s = Goes-outcomes a dir _ s
   Goes-outcomes (repeated a first last least most greedy) dir e s =
       Goes-iterations context dir (λ t. outcomes context a dir e (cleared first last t))
