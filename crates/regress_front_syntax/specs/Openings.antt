@@ -1,6 +1,6 @@
 -- What an opening parenthesis begins.
 use Rattle.std.specs.Prelude.{◌≡◌, ℕ, suc, Bool, true, false, not, ◌==◌, List, [], drop, if◌then◌else◌, Option, None, Some, option_map, Result, Ok, Err}
-use Rattle.regress_meaning.specs.Pattern.{Pattern, capture, grouped, modified, look}
+use Rattle.regress_meaning.specs.Pattern.{Pattern, capture, grouped, atomic, modified, look}
 use Rattle.regress_meaning.specs.Flags.{settings_of}
 use Rattle.regress_meaning.specs.Text.{is_at, span}
 use Rattle.regress_meaning.specs.Grammar.{is_flag}
@@ -9,7 +9,7 @@ use Rattle.regress_meaning.specs.Reading as meaning
 use Rattle.regress_front_core.specs.declared.error.Error.{Error}
 use Rattle.regress_front_core.specs.declared.error.Error.TheVariants.{Syntax, OutOfMemory}
 use Rattle.regress_front_syntax.specs.declared.group.Opening.{Opening}
-use Rattle.regress_front_syntax.specs.declared.group.Opening.TheVariants.{Capture, Group, Modified, Lookahead, Lookbehind}
+use Rattle.regress_front_syntax.specs.declared.group.Opening.TheVariants.{Capture, Group, Atomic, Modified, Lookahead, Lookbehind}
 use Rattle.regress_front_tokens.specs.Words.{code_points_of}
 
 -- what an opening stands for, with the text of its contents
@@ -17,6 +17,7 @@ abbrev pub opening_view : Opening → List ℕ → meaning.Opening
 opening_view (Capture None) t = meaning.group t
 opening_view (Capture (Some name)) t = meaning.named_group (code_points_of name) t
 opening_view Group t = meaning.uncaptured t
+opening_view Atomic t = meaning.atomic_group t
 opening_view (Modified on off) t = meaning.modifiers on.now off.now t
 opening_view (Lookahead negated) t = meaning.lookahead negated t
 opening_view (Lookbehind negated) t = meaning.lookbehind negated t
@@ -25,6 +26,7 @@ opening_view (Lookbehind negated) t = meaning.lookbehind negated t
 abbrev pub enclosed : Opening → ℕ → Pattern → Pattern
 enclosed (Capture name) k p = capture k (option_map code_points_of name) p
 enclosed Group k p = grouped p
+enclosed Atomic k p = atomic p
 enclosed (Modified on off) k p = modified (settings_of on.now) (settings_of off.now) p
 enclosed (Lookahead negated) k p = look negated false p
 enclosed (Lookbehind negated) k p = look negated true p
