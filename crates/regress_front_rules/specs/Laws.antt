@@ -3,7 +3,7 @@ use Rattle.std.specs.Prelude.{◌≡◌, ℕ, ◌+◌, ◌*◌, ◌<◌, ◌≤�
 use Rattle.regress_meaning.specs.Table.{Table}
 use Rattle.regress_meaning.specs.Meaning.{Direction, Forward}
 use Rattle.regress_front_nodes.specs.declared.node.Node.{Node}
-use Rattle.regress_front_nodes.specs.Trees.{Tree, tree, cat, cat_of, alt, capture, look, loop, single_loop}
+use Rattle.regress_front_nodes.specs.Trees.{Tree, tree, cat, cat_of, alt, capture, submatch, loop, single_loop}
 use Rattle.regress_front_nodes.specs.TreeMeaning.{node_outcomes}
 use Rattle.regress_front_nodes.specs.Alike.{IsAlike}
 use Rattle.regress_front_nodes.specs.Forms.{is_cat, parts, nesting}
@@ -62,7 +62,7 @@ abbrev pub AreListed : Tree → Type 0
 AreListed (cat a b) = AreListed a × AreListed b × (is_cat b ≡ true)
 AreListed (alt a b) = AreListed a × AreListed b
 AreListed (capture k name a) = AreListed a
-AreListed (look negated backward first last a) = AreListed a
+AreListed (submatch kind first last a) = AreListed a
 AreListed (loop a first last least most greedy) = AreListed a
 AreListed (single_loop a least most greedy) = AreListed a
 AreListed _ = Unit {0}

@@ -2,7 +2,7 @@
 use Rattle.std.specs.Prelude.{◌≡◌, ℕ, Bool, true, false, not, ◌&&◌, ◌||◌, ◌==◌, List, [], ◌∷◌, ◌++◌, length, nat_le, nat_lt, All}
 use Rattle.std.specs.List.{list_any}
 use Rattle.regress_meaning.specs.TableParts.{is_surrogate}
-use Rattle.regress_front_nodes.specs.Trees.{Tree, empty, char, bytes, cat, no_part, alt, line_start, line_end, boundary, capture, look, loop, single_loop}
+use Rattle.regress_front_nodes.specs.Trees.{Tree, empty, char, bytes, cat, no_part, alt, line_start, line_end, boundary, capture, submatch, lookaround, atomic, loop, single_loop}
 use Rattle.regress_front_nodes.specs.Forms.{is_empty, is_cat, parts}
 use Rattle.regress_front_nodes.specs.Sizes.{size, loops}
 use Rattle.regress_front_nodes.specs.Singles.{always_fails, takes_one}
@@ -13,7 +13,7 @@ abbrev pub nodes_below : Tree → List Tree
 nodes_below (cat a b) = a ∷ nodes_below a ++ nodes_below b
 nodes_below (alt a b) = (a ∷ nodes_below a) ++ b ∷ nodes_below b
 nodes_below (capture k name a) = a ∷ nodes_below a
-nodes_below (look negated backward first last a) = a ∷ nodes_below a
+nodes_below (submatch kind first last a) = a ∷ nodes_below a
 nodes_below (loop a first last least most greedy) = a ∷ nodes_below a
 nodes_below (single_loop a least most greedy) = a ∷ nodes_below a
 nodes_below _ = []
@@ -87,7 +87,8 @@ is_idle (line_end multiline) = true
 is_idle (boundary inverted folded) = true
 is_idle (cat a b) = is_idle a && is_idle b
 is_idle (alt a b) = is_idle a && is_idle b
-is_idle (look negated backward first last a) = has_no_group a && (goals a == 0)
+is_idle (submatch (lookaround negated backward) first last a) = has_no_group a && (goals a == 0)
+is_idle (submatch atomic first last a) = is_idle a
 is_idle (loop a first last least most greedy) = is_idle a
 is_idle _ = false
 

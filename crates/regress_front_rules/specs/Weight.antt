@@ -1,6 +1,6 @@
 -- A number that each rule lowers, so that rounds of rewriting end, and a number that none raises, which bounds the size.
 use Rattle.std.specs.Prelude.{ℕ, ◌+◌, ◌*◌, if◌then◌else◌, nat_le}
-use Rattle.regress_front_nodes.specs.Trees.{Tree, char, cat, no_part, alt, capture, bracket, look, loop, single_loop}
+use Rattle.regress_front_nodes.specs.Trees.{Tree, char, cat, no_part, alt, capture, bracket, submatch, loop, single_loop}
 use Rattle.regress_front_nodes.specs.Sizes.{size}
 
 -- How many loops have a minimum of 1 or more. Each is unrolled at most once: what is left of it has the minimum 0, and its
@@ -9,7 +9,7 @@ abbrev pub pending : Tree → ℕ
 pending (cat a b) = pending a + pending b
 pending (alt a b) = pending a + pending b
 pending (capture k name a) = pending a
-pending (look negated backward first last a) = pending a
+pending (submatch kind first last a) = pending a
 pending (loop a first last least most greedy) = pending a + (if nat_le 1 least then 1 else 0)
 pending (single_loop a least most greedy) = pending a
 pending _ = 0
@@ -22,7 +22,7 @@ bulk no_part = 2
 bulk (alt a b) = bulk a + bulk b + 1
 bulk (capture k name a) = bulk a + 1
 bulk (bracket inverted intervals) = 3
-bulk (look negated backward first last a) = bulk a + 1
+bulk (submatch kind first last a) = bulk a + 1
 bulk (loop a first last least most greedy) = bulk a + 2
 bulk (single_loop a least most greedy) = bulk a + 1
 bulk _ = 1
