@@ -1,6 +1,6 @@
 -- What passes look at and make of the parts of a `Cat`.
 use Rattle.std.specs.Prelude.{◌≡◌, ℕ, ◌≤◌, ◌+◌, Bool, true, false, ◌&&◌, ◌||◌, List, [], ◌∷◌, ◌++◌, length, if◌then◌else◌}
-use Rattle.regress_front_nodes.specs.Trees.{Tree, goal, cat, alt, capture, look, loop, single_loop, bytes}
+use Rattle.regress_front_nodes.specs.Trees.{Tree, goal, cat, alt, capture, submatch, loop, single_loop, bytes}
 use Rattle.regress_front_nodes.specs.Forms.{is_empty, is_cat, parts, nesting, deepest_copy}
 use Rattle.regress_front_nodes.specs.WellFormed.{group_ids}
 
@@ -28,7 +28,7 @@ is_plain goal = false
 is_plain (cat a b) = is_plain a && is_plain b
 is_plain (alt a b) = is_plain a && is_plain b
 is_plain (capture k name a) = false
-is_plain (look negated backward first last a) = is_plain a
+is_plain (submatch kind first last a) = is_plain a
 is_plain (loop a first last least most greedy) = is_plain a
 is_plain (single_loop a least most greedy) = is_plain a
 is_plain _ = true
@@ -38,7 +38,7 @@ abbrev pub is_flat : Tree → Bool
 is_flat (cat a b) = is_flat a && is_flat b
 is_flat (alt a b) = is_flat a && is_flat b
 is_flat (capture k name a) = false
-is_flat (look negated backward first last a) = is_flat a
+is_flat (submatch kind first last a) = is_flat a
 is_flat (loop a first last least most greedy) = false
 is_flat (single_loop a least most greedy) = is_flat a
 is_flat _ = true

@@ -38,6 +38,7 @@ pub(crate) fn is_plain_node(node: &Node) -> bool
         Node::Cat(parts) => are_plain(parts),
         Node::Alt(first, second) => is_plain_node(first) && is_plain_node(second),
         Node::LookaroundAssertion { contents, .. } => is_plain_node(contents),
+        Node::AtomicGroup { contents, .. } => is_plain_node(contents),
         Node::Loop { loopee, .. } | Node::Loop1CharBody { loopee, .. } => is_plain_node(loopee),
         _ => true,
     }

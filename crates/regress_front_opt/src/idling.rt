@@ -28,6 +28,7 @@ fn is_idle_node(node: &Node) -> bool
         Node::Cat(parts) => are_idle(parts),
         Node::Alt(first, second) => is_idle_node(first) && is_idle_node(second),
         Node::LookaroundAssertion { contents, .. } => is_plain_node(contents),
+        Node::AtomicGroup { contents, .. } => is_idle_node(contents),
         Node::Loop { loopee, .. } => is_idle_node(loopee),
         _ => false,
     }

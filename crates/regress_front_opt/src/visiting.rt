@@ -73,6 +73,7 @@ fn visit_below<P: Pass>(
             ..
         } => visit(pass, alloc, *backwards, contents),
         Node::CaptureGroup { contents, .. } => visit(pass, alloc, in_lookbehind, contents),
+        Node::AtomicGroup { contents, .. } => visit(pass, alloc, in_lookbehind, contents),
         Node::Loop { loopee, .. } => visit(pass, alloc, in_lookbehind, loopee),
         Node::Loop1CharBody { loopee, .. } => visit(pass, alloc, in_lookbehind, loopee),
         _ => Ok(false),

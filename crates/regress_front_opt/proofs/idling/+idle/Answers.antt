@@ -30,4 +30,4 @@ is_idle_node-returns-in-LookaroundAssertion t c =
 pub is_idle_node-returns-in_default : goal.is_idle_node-returns-in_default
 is_idle_node-returns-in_default t c =
     let i = c.in_default in
-    sym (no-idle c.args.node.now i.not-Empty i.not-Anchor i.not-WordBoundary i.not-Cat i.not-Alt i.not-LookaroundAssertion i.not-Loop)
+    sym (no-idle c.args.node.now i.not-Empty i.not-Anchor i.not-WordBoundary i.not-Cat i.not-Alt i.not-LookaroundAssertion i.not-AtomicGroup i.not-Loop)
