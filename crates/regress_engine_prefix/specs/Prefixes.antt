@@ -42,6 +42,7 @@ abbrev pub first_literal : Tree → Option (List ℕ)
 first_literal (node.bytes bs) = Some bs
 first_literal (node.cat a b) = first_literal a
 first_literal (node.capture k name a) = first_literal a
+first_literal (node.submatch node.atomic first last a) = first_literal a
 first_literal _ = None
 
 -- these bytes are known
