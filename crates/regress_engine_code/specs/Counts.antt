@@ -35,7 +35,7 @@ module _ (units : Bool) (table : Table) (unicode : Bool) where
   count (tree.alt a b) = count a + count b + 2
   count (tree.capture k name a) = count a + 2
   count (tree.string_set strings icase) = strings_count icase strings
-  count (tree.look negated backward first last a) = count a + 2
+  count (tree.submatch kind first last a) = count a + 2
   count (tree.loop a first last least most greedy) = count a + 2 + (last - first)
   count (tree.single_loop a least most greedy) = 2
   count _ = 1

@@ -100,6 +100,14 @@ pub enum Insn {
         end_group: CaptureGroupID,
         continuation: u32,
     },
+    /// The instructions behind this one, up to their `Goal`, match in the direction in which it stands itself, and their first match
+    /// alone is taken. The groups inside are those from `start_group` up to before `end_group`. It goes on at the address
+    /// `continuation`, where they end.
+    Atomic {
+        start_group: CaptureGroupID,
+        end_group: CaptureGroupID,
+        continuation: u32,
+    },
     /// A word starts or ends here; inverted, none does.
     WordBoundary {
         invert: bool,

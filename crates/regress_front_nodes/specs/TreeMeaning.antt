@@ -16,6 +16,11 @@ abbrev pub submatch_direction : Submatch → Direction → Direction
 submatch_direction (lookaround negated backward) dir = direction backward
 submatch_direction atomic dir = dir
 
+-- whether it is read backward, inside what is or is not
+abbrev pub reads_backward : Submatch → Bool → Bool
+reads_backward (lookaround negated backward) behind = backward
+reads_backward atomic behind = behind
+
 -- what follows it, by the outcomes of its contents: of an atomic group the first alone
 abbrev pub submatched : Submatch → State → List State → List State
 submatched (lookaround negated backward) s ts = looked negated s ts
