@@ -28,7 +28,7 @@ Fits program at (code.single_loop least most greedy) = (i : Instruction) × Stan
 Fits program at (code.begin_group k) = k < program.groups
 Fits program at (code.end_group k) = k < program.groups
 Fits program at (code.reset_group k) = k < program.groups
-Fits program at (code.look negated backward first last continuation) = (k : ℕ) → first ≤ k → k < last → k < program.groups
+Fits program at (code.submatch kind first last continuation) = (k : ℕ) → first ≤ k → k < last → k < program.groups
 Fits program at _ = Unit {0}
 
 -- A program is closed: each of its instructions fits it.

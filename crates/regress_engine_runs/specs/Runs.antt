@@ -5,7 +5,8 @@ use Rattle.regress_meaning.specs.Text.{holds}
 use Rattle.regress_meaning.specs.Meaning.{Direction, Forward, Backward, is_line_end}
 use Rattle.regress_meaning.specs.Inputs.{Input}
 use Rattle.regress_meaning.specs.Steps.{passed, only_if, literal, repeated, begins_line, ends_line, at_boundary}
-use Rattle.regress_front_nodes.specs.TreeMeaning.{direction, bracket_has}
+use Rattle.regress_front_nodes.specs.TreeMeaning.{submatch_direction, direction, bracket_has}
+use Rattle.regress_front_nodes.specs.Trees.{Submatch, lookaround, atomic}
 use Rattle.regress_engine_code.specs.Instructions.{LoopFields, Instruction, Program, Stands}
 use Rattle.regress_engine_code.specs.Instructions as code
 use Rattle.regress_engine_runs.specs.States.{Marks, unset, range_of, Whole, onward, begun, ended, mixed}
@@ -18,6 +19,13 @@ after_look true first last continuation s (Some t) = []
 after_look false first last continuation s None = []
 after_look false first last continuation s (Some t) =
     record s { at = continuation; groups = mixed 0 first last t.groups s.groups } ∷ []
+
+-- What follows what is matched by itself. An atomic group goes on where its contents end, with the groups inside.
+abbrev pub after_submatch : Submatch → (first last continuation : ℕ) → Whole → Option Whole → List Whole
+after_submatch (lookaround negated backward) first last continuation s o = after_look negated first last continuation s o
+after_submatch atomic first last continuation s None = []
+after_submatch atomic first last continuation s (Some t) =
+    record s { at = continuation; offset = t.offset; groups = mixed 0 first last t.groups s.groups } ∷ []
 
 -- how many iterations of a loop have begun
 abbrev pub count_of : ℕ → Whole → ℕ
@@ -56,7 +64,7 @@ fields_of _ = None
 -- it leads to its successors, whatever other states there are
 abbrev pub is_plain : Instruction → Bool
 is_plain code.goal = false
-is_plain (code.look negated backward first last continuation) = false
+is_plain (code.submatch kind first last continuation) = false
 is_plain _ = true
 
 -- the other direction
@@ -153,9 +161,9 @@ module _ (program : Program) (input : Input) where
     goes : {dir : Direction} {i : Instruction} {s : Whole} {ss : List Whole} {n : ℕ} {r : Option Whole}
         → Stands program s.at i → is_plain i ≡ true → Run dir (successors i dir s ++ ss) n r → Run dir (s ∷ ss) (suc n) r
     -- and at a lookaround what follows it, by the answer of a run of its contents
-    looks : {dir : Direction} {negated backward : Bool} {first last continuation : ℕ} {s : Whole} {ss : List Whole}
-        {m n : ℕ} {q r : Option Whole} → Stands program s.at (code.look negated backward first last continuation)
-        → Run (direction backward) (onward s ∷ []) m q → Run dir (after_look negated first last continuation s q ++ ss) n r
+    looks : {dir : Direction} {kind : Submatch} {first last continuation : ℕ} {s : Whole} {ss : List Whole}
+        {m n : ℕ} {q r : Option Whole} → Stands program s.at (code.submatch kind first last continuation)
+        → Run (submatch_direction kind dir) (onward s ∷ []) m q → Run dir (after_submatch kind first last continuation s q ++ ss) n r
         → Run dir (s ∷ ss) (suc (m + n)) r
 
   -- a run over states has this answer

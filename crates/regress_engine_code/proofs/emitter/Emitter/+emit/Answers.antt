@@ -3,7 +3,7 @@ use Rattle.std.proofs.lemmas.List.{take_all}
 use Rattle.std.proofs.lemmas.Result.{IfOk-weaker, IfErr-weaker}
 use Rattle.regress_front_core.specs.Quantifiers.{most}
 use Rattle.regress_front_tables.specs.TableViews.{table}
-use Rattle.regress_front_nodes.specs.Trees.{Tree, tree, cat_of}
+use Rattle.regress_front_nodes.specs.Trees.{Tree, tree, cat_of, lookaround, atomic}
 use Rattle.regress_front_nodes.specs.Forms.{nesting}
 use Rattle.regress_front_nodes.proofs.ChangeLemmas.{nesting-part}
 use Rattle.regress_front_nodes.proofs.CopyLemmas.{parts-more}
