@@ -174,7 +174,7 @@ Lies-rises target b (tree.back k icase) p q h = loops-same (next p) q h.1
 Lies-rises target b (tree.bracket inverted intervals) p q (i, is, h) = loops-same (next p) q h.1
 Lies-rises target b (tree.string_set strings icase) p q h = arms-rise target b icase strings p q h
 Lies-rises target b (tree.submatch kind first last a) p q (m, begin, h, ended) =
-    let e = Lies-rises target behind a (next p) m h in let f = loops-same (next m) q ended.1 in omega (arith, e, f)
+    let e = Lies-rises target (reads_backward kind b) a (next p) m h in let f = loops-same (next m) q ended.1 in omega (arith, e, f)
 Lies-rises target b (tree.loop a first last least most greedy) p q (m, begin, reset, h, ended) =
     let e = Lies-rises target b a _ m h in let f = loops-same (next m) q ended.1 in omega (arith, e, f)
 Lies-rises target b (tree.single_loop a least most greedy) p q h = Lies-rises target b a (next p) q h.1
