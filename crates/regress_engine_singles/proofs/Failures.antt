@@ -5,7 +5,7 @@ use Rattle.regress_meaning.specs.Meaning.{Direction}
 use Rattle.regress_meaning.specs.Inputs.{Input}
 use Rattle.regress_engine_code.specs.Instructions.{Program}
 use Rattle.regress_engine_runs.specs.States.{Marks, Whole}
-use Rattle.regress_engine_runs.specs.Runs.{Run, Runs, ends, finds, goes, looks, successors, after_look}
+use Rattle.regress_engine_runs.specs.Runs.{Run, Runs, ends, finds, goes, looks, successors, after_submatch}
 use Rattle.regress_engine_runs.specs.Meets.{Meets, now, later, inside, behind}
 use Rattle.regress_engine_runs.specs.UndoStack.{Frame, Work, outermost, first_do, whole, at_each, Comes, alone, within, ComesTo, meets_alone, meets_within, meets_outside}
 use Rattle.regress_engine_runs.specs.UndoStack as stack
@@ -70,10 +70,10 @@ module _ (program : Program) (input : Input) where
         subst (λ x. Run program input dir (x ∷ (p ++ rest)) (suc k) r) first
             (goes here plain (subst (λ ys. Run program input dir ys k r) (append_assoc new p rest) on)),
       )
-  middle-left xs rest (looks {dir = dir} {negated = negated} {first = low} {last = high} {continuation = continuation} {s = s} {ss = ss} {m = m} {q = q} {r = r} here inner run) gone (t ∷ p) e =
+  middle-left xs rest (looks {dir = dir} {kind = kind} {first = low} {last = high} {continuation = continuation} {s = s} {ss = ss} {m = m} {q = q} {r = r} here inner run) gone (t ∷ p) e =
       let first : s ≡ t = cc in
       let others : ss ≡ p ++ (xs ++ rest) = cc in
-      let new : List Whole = after_look negated low high continuation s q in
+      let new : List Whole = after_submatch kind low high continuation s q in
       let (k, less, on) = middle-left xs rest run gone (new ++ p) (ap (λ ys. new ++ ys) others ∙ sym (append_assoc new p (xs ++ rest))) in (
         suc (m + k),
         omega (arith, less),
@@ -97,10 +97,10 @@ module _ (program : Program) (input : Input) where
         subst (λ x. Run program input dir (x ∷ (p ++ (xs ++ rest))) (suc k) r) first
             (goes here plain (subst (λ ys. Run program input dir ys k r) (append_assoc new p (xs ++ rest)) on)),
       )
-  middle-put xs rest (looks {dir = dir} {negated = negated} {first = low} {last = high} {continuation = continuation} {s = s} {ss = ss} {m = m} {q = q} {r = r} here inner run) gone (t ∷ p) e =
+  middle-put xs rest (looks {dir = dir} {kind = kind} {first = low} {last = high} {continuation = continuation} {s = s} {ss = ss} {m = m} {q = q} {r = r} here inner run) gone (t ∷ p) e =
       let first : s ≡ t = cc in
       let others : ss ≡ p ++ rest = cc in
-      let new : List Whole = after_look negated low high continuation s q in
+      let new : List Whole = after_submatch kind low high continuation s q in
       let (k, on) = middle-put xs rest run gone (new ++ p) (ap (λ ys. new ++ ys) others ∙ sym (append_assoc new p rest)) in (
         suc (m + k),
         subst (λ x. Run program input dir (x ∷ (p ++ (xs ++ rest))) (suc (m + k)) r) first
@@ -121,10 +121,10 @@ module _ (program : Program) (input : Input) where
       (later here plain (subst (λ ys. Meets program input dir ys u) (append_assoc new p (xs ++ rest)) on))
   middle-meets xs rest {u = u} (inside {dir = dir} {s = s} here met) gone (t ∷ p) e =
       let first : s ≡ t = cc in subst (λ x. Meets program input dir (x ∷ (p ++ (xs ++ rest))) u) first (inside here met)
-  middle-meets xs rest {u = u} (behind {dir = dir} {negated = negated} {first = low} {last = high} {continuation = continuation} {s = s} {ss = ss} {q = q} here runs met) gone (t ∷ p) e =
+  middle-meets xs rest {u = u} (behind {dir = dir} {kind = kind} {first = low} {last = high} {continuation = continuation} {s = s} {ss = ss} {q = q} here runs met) gone (t ∷ p) e =
       let first : s ≡ t = cc in
       let others : ss ≡ p ++ rest = cc in
-      let new : List Whole = after_look negated low high continuation s q in
+      let new : List Whole = after_submatch kind low high continuation s q in
       let on = middle-meets xs rest met gone (new ++ p) (ap (λ ys. new ++ ys) others ∙ sym (append_assoc new p rest)) in
       subst (λ x. Meets program input dir (x ∷ (p ++ (xs ++ rest))) u) first
       (behind here runs (subst (λ ys. Meets program input dir ys u) (append_assoc new p (xs ++ rest)) on))

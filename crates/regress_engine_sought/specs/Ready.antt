@@ -25,7 +25,7 @@ is_simple (code.reset_group k) = false
 is_simple (code.enter_loop f) = false
 is_simple (code.loop_again begin) = false
 is_simple (code.single_loop least most greedy) = false
-is_simple (code.look negated backward first last continuation) = false
+is_simple (code.submatch kind first last continuation) = false
 is_simple _ = true
 
 -- the instruction before an address takes one character, and may be asked at an offset

@@ -136,7 +136,7 @@ module _ (program : Program) where
   Fits-prop at (code.begin_group k) = le_prop
   Fits-prop at (code.end_group k) = le_prop
   Fits-prop at (code.reset_group k) = le_prop
-  Fits-prop at (code.look negated backward first last continuation) = Π_prop (λ k. Π_prop (λ low. Π_prop (λ high. le_prop)))
+  Fits-prop at (code.submatch kind first last continuation) = Π_prop (λ k. Π_prop (λ low. Π_prop (λ high. le_prop)))
   Fits-prop at _ = Unit-prop
 
 -- ---- what is sought
