@@ -4,11 +4,12 @@ ghost use Rattle.regress_engine_code.specs.InsnViews.{instruction};
 ghost use Rattle.regress_engine_code.specs.Instructions.{byte_seq};
 ghost use Rattle.regress_engine_code.specs.Standing.{program_of};
 ghost use Rattle.regress_engine_input.specs.Views.{way, input_of, reading_of};
-ghost use Rattle.regress_engine_runs.specs.Runs.{advance, gap, after_look};
+ghost use Rattle.regress_engine_runs.specs.Runs.{advance, gap};
 ghost use Rattle.regress_engine_runs.specs.Meets.{IsAtPlace};
 ghost use Rattle.regress_engine_runs.specs.UndoStack.{give_back, take_on, whole};
 ghost use Rattle.regress_engine_sought.specs.Ready.{IsBody, IsReady};
 ghost use Rattle.regress_engine_sought.specs.StateViews.{marks_of};
+ghost use Rattle.regress_engine_sought.specs.Submatches.{submatch_of, is_negated};
 ghost use Rattle.regress_engine_sought.specs.Tasks.{Leads};
 ghost use Rattle.regress_engine_undo.specs.Held.{held, undo_of, pushed};
 ghost use Rattle.regress_engine_sought.specs.Sought.{Suits};
@@ -32,19 +33,21 @@ fn is_ahead(forward: bool, near: usize, far: usize) -> bool
     if forward { near < far } else { far < near }
 }
 
-/// Goes on behind a lookaround whose contents have no answer, where it is negated, and answers whether it is.
+/// Goes on behind a lookaround or an atomic group whose contents have no answer, where it is negated, and answers whether it
+/// is.
 #[inline]
 fn exhaust(frame: &Frame, spot: &mut Spot) -> bool
     ensures direction { spot.new.forward ≡ frame.now.spot.forward }
-    ensures way { result ≡ frame.now.negated }
-    ensures spot { frame.now.negated ≡ true → spot.new ≡ record frame.now.spot { at = frame.now.continuation } }
+    ensures way { result ≡ is_negated (submatch_of frame.now.kind) }
+    ensures spot { is_negated (submatch_of frame.now.kind) ≡ true → spot.new ≡ record frame.now.spot { at = frame.now.continuation } }
 {
     spot.forward = frame.spot.forward;
-    if frame.negated {
+    let is_negated = frame.kind.is_negated();
+    if is_negated {
         spot.at = frame.continuation;
         spot.offset = frame.spot.offset;
     }
-    frame.negated
+    is_negated
 }
 
 impl<'a, 'r, Input: CharInput> Attempt<'a, 'r, Input> {
@@ -272,7 +275,7 @@ impl<'a, 'r, Input: CharInput> Attempt<'a, 'r, Input> {
                 let going = self.take_on(at, offset, left, memory, spot)?;
                 Ok(going)
             }
-            Undo::Look(frame) => Ok(exhaust(&frame, spot)),
+            Undo::Submatch(frame) => Ok(exhaust(&frame, spot)),
         }
     }
 

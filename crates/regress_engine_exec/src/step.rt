@@ -17,6 +17,7 @@ ghost use Rattle.regress_engine_exec.specs.Trying.{Steps};
 use crate::attempt::Attempt;
 use regress_engine_code::Insn;
 use regress_engine_matchers::CharInput;
+use regress_engine_sought::Submatch;
 use regress_engine_undo::{Memory, Spot, begun, ended};
 use regress_front_core::GroupData;
 use std::alloc::AllocError;
@@ -135,7 +136,11 @@ impl<'a, 'r, Input: CharInput> Attempt<'a, 'r, Input> {
                 continuation,
             } => {
                 let target = *continuation as usize;
-                memory.look(*negate, false, *start_group, *end_group, target, spot)?;
+                let kind = Submatch::Lookaround {
+                    negated: *negate,
+                    backward: false,
+                };
+                memory.begin_submatch(kind, *start_group, *end_group, target, spot)?;
                 Ok(Some(true))
             }
             Insn::Lookbehind {
@@ -145,7 +150,20 @@ impl<'a, 'r, Input: CharInput> Attempt<'a, 'r, Input> {
                 continuation,
             } => {
                 let target = *continuation as usize;
-                memory.look(*negate, true, *start_group, *end_group, target, spot)?;
+                let kind = Submatch::Lookaround {
+                    negated: *negate,
+                    backward: true,
+                };
+                memory.begin_submatch(kind, *start_group, *end_group, target, spot)?;
+                Ok(Some(true))
+            }
+            Insn::Atomic {
+                start_group,
+                end_group,
+                continuation,
+            } => {
+                let target = *continuation as usize;
+                memory.begin_submatch(Submatch::Atomic, *start_group, *end_group, target, spot)?;
                 Ok(Some(true))
             }
             _ => {

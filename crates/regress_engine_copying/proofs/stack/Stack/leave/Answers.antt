@@ -1,5 +1,6 @@
 use Rattle.std.proofs.Common.{length, refl, sym, ap, ◌∙◌, arith}
 use Rattle.regress_engine_runs.specs.States.{Whole}
+use Rattle.regress_engine_sought.specs.Submatches.{submatch_of, end_offset}
 use Rattle.regress_engine_copying.specs.StateOf.{state_of}
 use Rattle.regress_engine_copying.specs.Held.{held}
 use Rattle.regress_engine_copying.proofs.LeaveLemmas.{leaves-all, leaves-negated, leaves-positive}
@@ -29,7 +30,7 @@ take_groups-requires-clause-count c =
 pub returns-clause-leaves : goal.returns-clause-leaves
 returns-clause-leaves c = λ program input here.
     leaves-positive program input (state_of c.args.found) (held c.args.self.now) here c.in-Some.frame (state_of c.in-Some.state) _ (held c.unwind.new.self) (held c.push.new.self) c.in-Some.ensures.outside c.if-frame.false
-    (ap (λ (w : Whole). record w { at = c.in-Some.frame.continuation }) c.take_groups.ensures.taken) c.in_ok-push.ensures
+    (ap (λ (w : Whole). record w { at = c.in-Some.frame.continuation; offset = end_offset (submatch_of c.in-Some.frame.kind) (state_of c.in-Some.state).offset (state_of c.args.found).offset }) c.take_groups.ensures.taken) c.in_ok-push.ensures
 
 pub returns-clause-sound : goal.returns-clause-sound
 returns-clause-sound c = λ program sound whole.
