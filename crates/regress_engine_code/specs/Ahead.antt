@@ -4,6 +4,7 @@ use Rattle.regress_meaning.specs.Text.{holds}
 use Rattle.regress_front_bytes.specs.Bitmaps.{byte_bitmap_contains}
 use Rattle.regress_front_bytes.specs.declared.bitmaps.ByteBitmap.{ByteBitmap}
 use Rattle.regress_front_nodes.specs.TreeMeaning.{bracket_has}
+use Rattle.regress_front_nodes.specs.Trees.{atomic}
 use Rattle.regress_engine_code.specs.Instructions.{Instruction, Program}
 use Rattle.regress_engine_code.specs.Instructions as code
 
@@ -33,6 +34,7 @@ begins program may (code.ascii_bracket cs) at b = high_or (holds cs) b
 begins program may (code.line_start multiline) at b = behind may at (suc at) b
 begins program may (code.line_end multiline) at b = behind may at (suc at) b
 begins program may (code.boundary inverted folded) at b = behind may at (suc at) b
+begins program may (code.submatch atomic first last continuation) at b = behind may at (suc at) b
 begins program may (code.begin_group k) at b = behind may at (suc at) b
 begins program may (code.end_group k) at b = behind may at (suc at) b
 begins program may (code.reset_group k) at b = behind may at (suc at) b
