@@ -23,16 +23,12 @@ fn start_of(alloc: Global, found: &Match) -> Result<String, Error> {
 }
 
 /// A text with its first match replaced by `$0`, as it stands.
-pub(crate) fn first_as_it_stands(
-    alloc: Global,
-    regex: &Regex<'_>,
-    text: &str,
-) -> Result<String, Error> {
+fn first_as_it_stands(alloc: Global, regex: &Regex<'_>, text: &str) -> Result<String, Error> {
     regex.replace_with(text, |_| Ok(String::from_str(alloc, "$0")?))
 }
 
 /// A text with each match replaced by its start.
-pub(crate) fn starts(alloc: Global, regex: &Regex<'_>, text: &str) -> Result<String, Error> {
+fn starts(alloc: Global, regex: &Regex<'_>, text: &str) -> Result<String, Error> {
     regex.replace_all_with(text, |found| start_of(alloc, found))
 }
 

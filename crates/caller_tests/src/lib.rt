@@ -1,25 +1,30 @@
-//! What callers of `regress` write, and tests of replacing, splitting and escaping and of long patterns and texts, by its public
-//! calls alone. The library itself is empty.
+//! What callers of `regress` write: their loops over matches and parts, closures, named groups and tables, each proved and run;
+//! what the calls of `regress` and of the program promise; long patterns and texts; and the program over streams that fail. By
+//! public calls alone; the library itself is empty.
 #![tactic(auto)]
 
 #[cfg(test)]
+mod asking;
+#[cfg(test)]
 mod closures;
 #[cfg(test)]
-mod escaping;
+mod example;
 #[cfg(test)]
 mod loops;
 #[cfg(test)]
+mod matches;
+#[cfg(test)]
 mod named;
+#[cfg(test)]
+mod promises;
 #[cfg(test)]
 mod refusals;
 #[cfg(test)]
-mod refused;
-#[cfg(test)]
-mod replacing;
+mod run_promises;
 #[cfg(test)]
 mod sizes;
 #[cfg(test)]
-mod splitting;
+mod streams;
 #[cfg(test)]
 mod tables;
 #[cfg(test)]

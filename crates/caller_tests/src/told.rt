@@ -1,18 +1,8 @@
-//! What compiles, searches and replaces, and how a table of replacements is tried. None of it promises anything, so that what
-//! calls it with texts of its own has little to prove.
+//! What compiles and searches. None of it promises anything, so that what calls it with texts of its own has little to prove.
 
 use regress::{Error, Flags, Match, Regex, Tables};
 use std::alloc::Global;
 use std::test::Fail;
-
-/// A pattern, its flags, a text, a replacement text, and the text with the first match replaced, or with all.
-pub(crate) type Row = (
-    &'static str,
-    &'static str,
-    &'static str,
-    &'static str,
-    &'static str,
-);
 
 /// A pattern under flags.
 pub(crate) fn compiled_under<'t>(
@@ -39,18 +29,9 @@ pub(crate) fn first(regex: &Regex<'_>, text: &str) -> Result<Option<Match>, Erro
     regex.find(text)
 }
 
-/// A text with its first match replaced.
-pub(crate) fn replaced(regex: &Regex<'_>, text: &str, replacement: &str) -> Result<String, Error> {
-    regex.replace(text, replacement)
-}
-
-/// A text with all its matches replaced.
-pub(crate) fn all_replaced(
-    regex: &Regex<'_>,
-    text: &str,
-    replacement: &str,
-) -> Result<String, Error> {
-    regex.replace_all(text, replacement)
+/// Where a match starts and ends.
+pub(crate) fn ends(found: Option<Match>) -> Option<(usize, usize)> {
+    found.map(|found| (found.start(), found.end()))
 }
 
 /// Fails, telling what came instead, unless the two texts are the same.
@@ -60,26 +41,4 @@ pub(crate) fn is_same(alloc: Global, row: &str, came: &str, expected: &str) -> R
     }
     let why = format!(in alloc; "at {row}: {came}")?;
     Err(Fail::new(why))
-}
-
-/// Fails at the first row that comes out otherwise with its first match replaced.
-pub(crate) fn replace_first_so(alloc: Global, rows: &[Row]) -> Result<(), Fail> {
-    let tables = Tables::small(alloc)?;
-    for (pattern, flags, text, replacement, expected) in rows {
-        let regex = compiled(alloc, pattern, flags, &tables)?;
-        let came = replaced(&regex, text, replacement)?;
-        is_same(alloc, pattern, came.as_str(), expected)?;
-    }
-    Ok(())
-}
-
-/// Fails at the first row that comes out otherwise with all matches replaced.
-pub(crate) fn replace_all_so(alloc: Global, rows: &[Row]) -> Result<(), Fail> {
-    let tables = Tables::small(alloc)?;
-    for (pattern, flags, text, replacement, expected) in rows {
-        let regex = compiled(alloc, pattern, flags, &tables)?;
-        let came = all_replaced(&regex, text, replacement)?;
-        is_same(alloc, pattern, came.as_str(), expected)?;
-    }
-    Ok(())
 }

@@ -1,96 +1,20 @@
-//! Tests of `regress_engine_input`.
-ghost use Rattle.regress_engine_input.specs.Views.{CanRead, LiesIn};
+//! Parts of texts as inputs, and the calls on inputs that no executor makes.
+ghost use Rattle.regress_engine_input.specs.Views.{CanRead};
 
-use regress_engine_input::cursor::{next, next_byte, try_match_lit};
+use regress_engine_input::cursor::try_match_lit;
 use regress_engine_input::{
-    AsciiInput, Backward, DefPosition, Direction, ElementType, Forward, InputIndexer, PositionType,
-    Ucs2Input, Utf8Input, Utf16Input,
+    AsciiInput, Backward, DefPosition, ElementType, Forward, InputIndexer, PositionType, Ucs2Input,
+    Utf8Input, Utf16Input,
 };
+use regress_front_bytes::{ByteBitmap, ByteSearcher, EmptyString};
 use regress_front_tables::Tables;
-use std::alloc::Global;
 use std::test::Fail;
 
 /// A character and the offset past it.
-pub type Read = Option<(u32, usize)>;
+type Read = Option<(u32, usize)>;
 
 /// An offset, what is read to its right, and what to its left.
-pub type Row = (usize, Read, Read);
-
-// characters of one to four bytes
-const TEXT: &str = "a\u{E9}\u{20AC}\u{1F600}";
-
-const IN_TEXT: &[Row] = &[
-    (0, Some((0x61, 1)), None),
-    (1, Some((0xE9, 3)), Some((0x61, 0))),
-    (3, Some((0x20AC, 6)), Some((0xE9, 1))),
-    (6, Some((0x1F600, 10)), Some((0x20AC, 3))),
-    (10, None, Some((0x1F600, 6))),
-];
-
-// a lone low unit, a lone high one, a pair, and a high unit at the end
-const UNITS: &[u16] = &[0xDC00, 0xD83D, 0xD83D, 0xDE00, 0x61, 0xD800];
-
-// at 3, inside the pair, each of its units is one character
-const IN_UNITS: &[Row] = &[
-    (0, Some((0xDC00, 1)), None),
-    (1, Some((0xD83D, 2)), Some((0xDC00, 0))),
-    (2, Some((0x1F600, 4)), Some((0xD83D, 1))),
-    (3, Some((0xDE00, 4)), Some((0xD83D, 2))),
-    (4, Some((0x61, 5)), Some((0x1F600, 2))),
-    (5, Some((0xD800, 6)), Some((0x61, 4))),
-    (6, None, Some((0xD800, 5))),
-];
-
-// a pair cut at both ends: a low unit before a high one is no pair
-const CUT: &[u16] = &[0xDE00, 0xD83D];
-
-const IN_CUT: &[Row] = &[
-    (0, Some((0xDE00, 1)), None),
-    (1, Some((0xD83D, 2)), Some((0xDE00, 0))),
-    (2, None, Some((0xD83D, 1))),
-];
-
-// where no pair is one character
-const APART: &[u16] = &[0xD83D, 0xDE00, 0x20AC];
-
-const IN_APART: &[Row] = &[
-    (0, Some((0xD83D, 1)), None),
-    (1, Some((0xDE00, 2)), Some((0xD83D, 0))),
-    (2, Some((0x20AC, 3)), Some((0xDE00, 1))),
-    (3, None, Some((0x20AC, 2))),
-];
-
-const IN_ASCII: &[Row] = &[
-    (0, Some((0x61, 1)), None),
-    (1, Some((0x7F, 2)), Some((0x61, 0))),
-    (2, None, Some((0x7F, 1))),
-];
-
-const IN_NONE: &[Row] = &[(0, None, None)];
-
-fn tables(alloc: Global) -> Result<Tables, Fail> {
-    Ok(Tables::small(alloc)?)
-}
-
-/// Whether this is read at an offset in a direction, and the position moves past it.
-fn reads<Input: InputIndexer, Dir: Direction>(
-    input: &Input,
-    dir: Dir,
-    at: usize,
-    wanted: Read,
-) -> bool
-    requires { CanRead (Input.view input.now) at }
-{
-    let mut pos = <Input::Position as PositionType>::new(at);
-    let found = next(input, dir, &mut pos);
-    match (found, wanted) {
-        (Some(c), Some((code, end))) => {
-            c.as_u32() == code && pos == <Input::Position as PositionType>::new(end)
-        }
-        (None, None) => pos == <Input::Position as PositionType>::new(at),
-        _ => false,
-    }
-}
+type Row = (usize, Read, Read);
 
 /// Whether a character and the position past it are these.
 fn is_read<Input: InputIndexer>(
@@ -107,188 +31,186 @@ fn is_read<Input: InputIndexer>(
     }
 }
 
-/// Whether all calls that read characters answer a row.
-pub fn row_is_read<Input: InputIndexer>(input: &Input, row: &Row) -> bool
+/// Whether the calls that look at characters answer a row.
+fn row_is_read<Input: InputIndexer>(input: &Input, row: &Row) -> bool
     requires { CanRead (Input.view input.now) row.now.0 }
 {
     let (at, right, left) = *row;
     let pos = <Input::Position as PositionType>::new(at);
-    reads(input, Forward, at, right)
-        && reads(input, Backward, at, left)
-        && is_read::<Input>(input.peek_right(pos), input.next_right_pos(pos), right)
+    is_read::<Input>(input.peek_right(pos), input.next_right_pos(pos), right)
         && is_read::<Input>(input.peek_left(pos), input.next_left_pos(pos), left)
 }
 
-fn utf8_rows_are_read(text: &str, rows: &[Row], tables: &Tables) -> bool {
-    let input = Utf8Input::new(text, true, tables);
-    for row in rows {
-        if !text.is_char_boundary(row.0) || !row_is_read(&input, row) {
-            return false;
-        }
-    }
-    true
-}
+const TEXT: &str = "a\u{E9}\u{20AC}\u{1F600}";
 
-fn utf16_rows_are_read(units: &[u16], rows: &[Row], tables: &Tables) -> bool {
-    let input = Utf16Input::new(units, true, tables);
-    for row in rows {
-        if row.0 > units.len() || !row_is_read(&input, row) {
-            return false;
-        }
-    }
-    true
-}
-
-fn ucs2_rows_are_read(units: &[u16], rows: &[Row], tables: &Tables) -> bool {
-    let input = Ucs2Input::new(units, true, tables);
-    for row in rows {
-        if row.0 > units.len() || !row_is_read(&input, row) {
-            return false;
-        }
-    }
-    true
-}
-
-fn ascii_rows_are_read(text: &str, rows: &[Row], tables: &Tables) -> bool {
-    if !text.is_ascii() {
-        return false;
-    }
-    let input = AsciiInput::new(text, true, tables);
-    for row in rows {
-        if row.0 > text.len() || !row_is_read(&input, row) {
-            return false;
-        }
-    }
-    true
-}
-
-/// The first kind of input over which some row is read otherwise.
-fn misread(tables: &Tables) -> Option<&'static str> {
-    if !utf8_rows_are_read(TEXT, IN_TEXT, tables) || !utf8_rows_are_read("", IN_NONE, tables) {
-        return Some("UTF-8");
-    }
-    if !ascii_rows_are_read("a\u{7F}", IN_ASCII, tables)
-        || !ascii_rows_are_read("", IN_NONE, tables)
-    {
-        return Some("ASCII");
-    }
-    if !utf16_rows_are_read(UNITS, IN_UNITS, tables)
-        || !utf16_rows_are_read(CUT, IN_CUT, tables)
-        || !utf16_rows_are_read(&[], IN_NONE, tables)
-    {
-        return Some("UTF-16");
-    }
-    // no pairs are joined
-    if !ucs2_rows_are_read(APART, IN_APART, tables) || !ucs2_rows_are_read(&[], IN_NONE, tables) {
-        return Some("UCS-2");
-    }
-    None
-}
-
-#[test]
-fn texts_are_read_both_ways(rt: HostRuntime) -> Result<(), Fail> {
-    match misread(&tables(rt.alloc())?) {
-        Some(kind) => Err(Fail::new(kind)),
-        None => Ok(()),
-    }
-}
-
-/// Whether moves by some bytes or units from an offset lead there.
-fn moves<Input: InputIndexer>(
-    input: &Input,
-    at: usize,
-    amount: usize,
-    right: Option<usize>,
-    left: Option<usize>,
-) -> bool
-    requires { LiesIn (Input.view input.now) at }
-{
-    let pos = <Input::Position as PositionType>::new(at);
-    input.pos_to_offset(pos) == at
-        && input.try_move_right(pos, amount)
-            == right.map(|o| <Input::Position as PositionType>::new(o))
-        && input.try_move_left(pos, amount)
-            == left.map(|o| <Input::Position as PositionType>::new(o))
-}
-
-// an offset, how far to move, and where that leads to the right and to the left
-const MOVES: &[(usize, usize, Option<usize>, Option<usize>)] = &[
-    (0, 0, Some(0), Some(0)),
-    (0, 1, Some(1), None),
-    (4, 6, Some(10), None),
-    (4, 7, None, None),
-    (10, 10, None, Some(0)),
-    (10, 11, None, None),
+// of the second and the third character
+const IN_MIDDLE: &[Row] = &[
+    (0, Some((0xE9, 2)), None),
+    (2, Some((0x20AC, 5)), Some((0xE9, 0))),
+    (5, None, Some((0x20AC, 2))),
 ];
 
-/// Whether all moves in the text are so.
-fn all_move(tables: &Tables) -> bool {
-    let input = Utf8Input::new(TEXT, true, tables);
-    for (at, amount, right, left) in MOVES {
-        if *at > 10 || !moves(&input, *at, *amount, *right, *left) {
+const IN_NONE: &[Row] = &[(0, None, None)];
+
+// a pair, with another high unit before it and another low one behind it
+const UNITS: &[u16] = &[0xD83D, 0xD83D, 0xDE00, 0xDE00];
+
+// cut at both ends
+const IN_PAIR: &[Row] = &[
+    (0, Some((0x1F600, 2)), None),
+    (1, Some((0xDE00, 2)), Some((0xD83D, 0))),
+    (2, None, Some((0x1F600, 0))),
+];
+
+// cut inside the pair
+const IN_HIGH_UNITS: &[Row] = &[
+    (0, Some((0xD83D, 1)), None),
+    (1, Some((0xD83D, 2)), Some((0xD83D, 0))),
+    (2, None, Some((0xD83D, 1))),
+];
+
+const IN_UNITS_APART: &[Row] = &[
+    (0, Some((0xD83D, 1)), None),
+    (1, Some((0xDE00, 2)), Some((0xD83D, 0))),
+    (2, None, Some((0xDE00, 1))),
+];
+
+const IN_ASCII: &[Row] = &[(0, Some((0x62, 1)), None), (1, None, Some((0x62, 0)))];
+
+fn utf8_part_is_read(start: usize, end: usize, rows: &[Row], tables: &Tables) -> bool {
+    if start > end || !TEXT.is_char_boundary(start) || !TEXT.is_char_boundary(end) {
+        return false;
+    }
+    let part = Utf8Input::new(TEXT, true, tables).subinput(
+        DefPosition::new(start)..DefPosition::new(end),
+    );
+    let text = &TEXT[start..end];
+    for row in rows {
+        if !text.is_char_boundary(row.0) || !row_is_read(&part, row) {
             return false;
         }
     }
-    input.left_end() == DefPosition::new(0) && input.right_end() == DefPosition::new(10)
+    part.bytes() == Some(text.as_bytes())
+}
+
+fn utf16_part_is_read(start: usize, end: usize, rows: &[Row], tables: &Tables) -> bool {
+    if start > end || end > UNITS.len() {
+        return false;
+    }
+    let part = Utf16Input::new(UNITS, true, tables).subinput(
+        DefPosition::new(start)..DefPosition::new(end),
+    );
+    for row in rows {
+        if row.0 > end - start || !row_is_read(&part, row) {
+            return false;
+        }
+    }
+    part.bytes().is_none()
+}
+
+fn ucs2_part_is_read(start: usize, end: usize, rows: &[Row], tables: &Tables) -> bool {
+    if start > end || end > UNITS.len() {
+        return false;
+    }
+    let part = Ucs2Input::new(UNITS, true, tables).subinput(
+        DefPosition::new(start)..DefPosition::new(end),
+    );
+    for row in rows {
+        if row.0 > end - start || !row_is_read(&part, row) {
+            return false;
+        }
+    }
+    part.bytes().is_none()
+}
+
+fn ascii_part_is_read(text: &str, start: usize, end: usize, rows: &[Row], tables: &Tables) -> bool {
+    if !text.is_ascii() || start > end || end > text.len() {
+        return false;
+    }
+    let part = AsciiInput::new(text, true, tables).subinput(
+        DefPosition::new(start)..DefPosition::new(end),
+    );
+    for row in rows {
+        if row.0 > end - start || !row_is_read(&part, row) {
+            return false;
+        }
+    }
+    true
 }
 
 #[test]
-fn moves_stay_in_the_text(rt: HostRuntime) -> Result<(), Fail> {
-    assert!(rt; all_move(&tables(rt.alloc())?));
+fn parts_are_inputs(rt: HostRuntime) -> Result<(), Fail> {
+    let tables = Tables::small(rt.alloc())?;
+    assert!(rt;
+        utf8_part_is_read(1, 6, IN_MIDDLE, &tables)
+            && utf8_part_is_read(6, 6, IN_NONE, &tables)
+            && utf16_part_is_read(1, 3, IN_PAIR, &tables)
+            && utf16_part_is_read(0, 2, IN_HIGH_UNITS, &tables)
+            && utf16_part_is_read(4, 4, IN_NONE, &tables)
+            && ucs2_part_is_read(1, 3, IN_UNITS_APART, &tables)
+            && ascii_part_is_read("abc", 1, 2, IN_ASCII, &tables)
+    );
     Ok(())
 }
 
-/// Whether the byte beside an offset is this, and the position moves past it.
-fn reads_byte<Input: InputIndexer, Dir: Direction>(
+/// Whether a searcher finds something from an offset on, at that offset.
+fn finds<Input: InputIndexer, Search: ByteSearcher>(
     input: &Input,
-    dir: Dir,
+    search: &Search,
     at: usize,
-    wanted: Option<(u8, usize)>,
-) -> bool
-    requires { LiesIn (Input.view input.now) at }
-{
-    let mut pos = <Input::Position as PositionType>::new(at);
-    match (next_byte(input, dir, &mut pos), wanted) {
-        (Some(b), Some((byte, end))) => {
-            b == byte && pos == <Input::Position as PositionType>::new(end)
-        }
-        (None, None) => pos == <Input::Position as PositionType>::new(at),
-        _ => false,
+    wanted: Option<usize>,
+) -> bool {
+    if at > input.pos_to_offset(input.right_end()) {
+        return false;
     }
+    let found = input.find_bytes(<Input::Position as PositionType>::new(at), search);
+    found == wanted.map(|o| <Input::Position as PositionType>::new(o))
 }
 
-/// An offset, and what is read there to the right and to the left.
-type ByteRow = (usize, Option<(u8, usize)>, Option<(u8, usize)>);
-
-// of a character of one byte and one of two
-const BYTES: &[ByteRow] = &[
-    (0, Some((0x61, 1)), None),
-    (2, Some((0xA9, 3)), Some((0xC3, 1))),
-    (3, None, Some((0xA9, 2))),
+// an offset, and where the letter is found from there on
+const LETTER_FROM: &[(usize, Option<usize>)] = &[
+    (0, Some(0)),
+    (1, Some(3)),
+    (2, Some(3)),
+    (3, Some(3)),
+    (4, None),
 ];
 
-// units are no bytes
-const NO_BYTES: &[ByteRow] = &[(0, None, None), (1, None, None)];
-
-/// Whether all rows of bytes are read so.
-fn bytes_are_read<Input: InputIndexer>(input: &Input, rows: &[ByteRow]) -> bool {
-    let length = input.pos_to_offset(input.right_end());
-    for (at, right, left) in rows {
-        if *at > length
-            || !reads_byte(input, Forward, *at, *right)
-            || !reads_byte(input, Backward, *at, *left)
-        {
+/// Whether the letter is found from each offset on where it is said.
+fn letters_are_found(tables: &Tables) -> bool {
+    let input = Utf8Input::new("a\u{E9}a", true, tables);
+    for (at, wanted) in LETTER_FROM {
+        if !finds(&input, b"a", *at, *wanted) {
             return false;
         }
     }
-    true
+    finds(&input, &ByteBitmap::new(&[0xA9, 0xC3]), 2, Some(2))
+        && finds(&input, &EmptyString, 4, Some(4))
 }
 
 #[test]
-fn bytes_are_read_both_ways(rt: HostRuntime) -> Result<(), Fail> {
-    let tables = tables(rt.alloc())?;
-    let text = Utf8Input::new("a\u{E9}", true, &tables);
+fn bytes_are_found_from_a_start(rt: HostRuntime) -> Result<(), Fail> {
+    let tables = Tables::small(rt.alloc())?;
+    let ascii = AsciiInput::new("aba", true, &tables);
+    assert!(rt; letters_are_found(&tables) && finds(&ascii, b"a", 1, Some(2)));
+    // units are no bytes
     let units = Utf16Input::new(&[0x61], true, &tables);
-    assert!(rt; bytes_are_read(&text, BYTES) && bytes_are_read(&units, NO_BYTES));
+    let single_units = Ucs2Input::new(&[0x61], true, &tables);
+    assert!(rt; finds(&units, b"a", 0, None) && finds(&single_units, &EmptyString, 0, None));
+    Ok(())
+}
+
+#[test]
+fn arrays_are_literals(rt: HostRuntime) -> Result<(), Fail> {
+    let tables = Tables::small(rt.alloc())?;
+    let input = Utf8Input::new("a\u{E9}a", true, &tables);
+    let mut ahead = DefPosition::new(0);
+    let mut behind = DefPosition::new(4);
+    let mut past = DefPosition::new(4);
+    let first = try_match_lit(&input, Forward, &mut ahead, &[0x61, 0xC3, 0xA9]);
+    let last = try_match_lit(&input, Backward, &mut behind, b"a");
+    let none = !try_match_lit(&input, Forward, &mut past, b"a");
+    let moved = ahead == DefPosition::new(3) && behind == DefPosition::new(3);
+    assert!(rt; first && last && none && moved);
     Ok(())
 }

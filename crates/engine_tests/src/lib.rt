@@ -1,19 +1,24 @@
-//! Tests of the engine, by its public calls alone. The library itself is empty.
+//! Tests of the engine's parts, by their public calls alone: what no program prints, sizes that no row can hold, both executors
+//! over units and beside the evaluator, and each call that nothing else makes. The library itself is empty.
 #![tactic(auto)]
 
 #[cfg(test)]
-mod brackets;
+mod apart;
+#[cfg(test)]
+mod code;
+#[cfg(test)]
+mod evaluated;
+#[cfg(test)]
+mod found;
 #[cfg(test)]
 mod inputs;
 #[cfg(test)]
-mod matchers;
+mod long;
 #[cfg(test)]
-mod parts;
+mod parsed;
 #[cfg(test)]
 mod positions;
 #[cfg(test)]
-mod promises;
-#[cfg(test)]
-mod properties;
-#[cfg(test)]
 mod singles;
+#[cfg(test)]
+mod units;

@@ -1,11 +1,20 @@
-//! Tests of the syntax, of nodes and of the tree, by their public calls alone. The library itself is empty.
+//! Tests of the front, by its public calls alone: what no program prints, sizes that no row can hold, and each call that nothing
+//! else makes; and the table of all of Unicode, with patterns that ask it. The library itself is empty.
 #![tactic(auto)]
 
 #[cfg(test)]
+mod all_unicode;
+#[cfg(test)]
+mod bytes;
+#[cfg(test)]
+mod figures;
+#[cfg(test)]
 mod nodes;
 #[cfg(test)]
-mod promises;
+mod rewriting;
 #[cfg(test)]
-mod syntax;
+mod sets;
 #[cfg(test)]
-mod tree;
+mod shown;
+#[cfg(test)]
+mod tables;

@@ -1,0 +1,270 @@
+//! The calls of `regress`, each in a function of its own that promises nothing, so that what calls it has little to prove.
+//! Where memory is refused they err with `AllocError`.
+ghost use Rattle.std.specs.Iterator.{IsFinite};
+
+use conformance_rows::push_span;
+use regress::backends::{self, DefaultExecutor, PikeVMExecutor, Utf8Input};
+use regress::{
+    CompiledRegex, Error, Flags, Match, Regex, Tables, are_code_points, is_ascii_text, is_start,
+    is_unit_start,
+};
+use regress_engine_input::{Ucs2Input, Utf16Input};
+use std::alloc::{AllocError, Global};
+
+/// The executor that copies.
+type Copying<'t> = PikeVMExecutor<'t, Utf8Input<'t, 't>>;
+
+/// Adds a match, parted from one that stands before it.
+fn push_match(told: &mut String, found: &Match) -> Result<(), AllocError> {
+    if !told.is_empty() {
+        told.push('|')?;
+    }
+    push_span(told, found.range.start, found.range.end)?;
+    for group in &found.captures {
+        match group {
+            Some(range) => {
+                told.push(' ')?;
+                push_span(told, range.start, range.end)?;
+            }
+            None => told.push_str(" -")?,
+        }
+    }
+    Ok(())
+}
+
+/// All matches that a search gives. An error of the search is one of memory.
+fn listed<I: Iterator<Item = Result<Match, Error>>>(
+    alloc: Global,
+    matches: I,
+) -> Result<String, AllocError>
+    requires can { I.can_next matches }
+    requires ends { IsFinite (I.remaining matches) }
+{
+    let mut told = String::new(alloc);
+    for found in matches {
+        let Ok(found) = found else {
+            return Err(AllocError);
+        };
+        push_match(&mut told, &found)?;
+    }
+    Ok(told)
+}
+
+/// A pattern that is given as a text.
+pub(crate) fn compiled<'t>(
+    alloc: Global,
+    pattern: &str,
+    flags: Flags,
+    tables: &'t Tables,
+) -> Result<Regex<'t>, Error> {
+    Regex::with_flags(alloc, pattern, flags, tables)
+}
+
+/// A pattern that is given as code points.
+pub(crate) fn compiled_points<'t>(
+    alloc: Global,
+    points: &[u32],
+    flags: Flags,
+    tables: &'t Tables,
+) -> Result<Regex<'t>, Error> {
+    if !are_code_points(points) {
+        return Err(Error::OutOfMemory);
+    }
+    Regex::from_unicode(alloc, points, flags, tables)
+}
+
+/// The regex of the programs that a pattern's tree becomes as it is read.
+pub(crate) fn of_programs<'t>(
+    alloc: Global,
+    points: &[u32],
+    flags: Flags,
+    tables: &'t Tables,
+) -> Result<Regex<'t>, Error> {
+    if !are_code_points(points) {
+        return Err(Error::OutOfMemory);
+    }
+    let tree = backends::try_parse(alloc, points, flags, tables)?;
+    let of_bytes = backends::emit(alloc, &tree)?;
+    Regex::from_programs(alloc, of_bytes, backends::emit_units(alloc, &tree)?)
+}
+
+/// The matches by `find_from`; behind the last nothing may come.
+pub(crate) fn default_matches(
+    alloc: Global,
+    regex: &Regex<'_>,
+    text: &str,
+    start: usize,
+) -> Result<String, AllocError> {
+    if !is_start(text, start) {
+        return String::from_str(alloc, "no start");
+    }
+    let Ok(mut matches) = regex.find_from(text, start) else {
+        return Err(AllocError);
+    };
+    let mut told = String::new(alloc);
+    while let Some(found) = matches.next() {
+        let Ok(found) = found else {
+            return Err(AllocError);
+        };
+        push_match(&mut told, &found)?;
+    }
+    if matches.next().is_some() {
+        told.push_str(" and more")?;
+    }
+    Ok(told)
+}
+
+/// The matches by the executor that undoes.
+pub(crate) fn undoing_matches<'t>(
+    alloc: Global,
+    regex: &'t Regex<'t>,
+    text: &'t str,
+    start: usize,
+) -> Result<String, AllocError> {
+    if !is_start(text, start) {
+        return String::from_str(alloc, "no start");
+    }
+    listed(
+        alloc,
+        backends::find::<DefaultExecutor<'t>>(regex, text, start)?,
+    )
+}
+
+/// The matches by the executor that copies.
+pub(crate) fn copying_matches<'t>(
+    alloc: Global,
+    regex: &'t Regex<'t>,
+    text: &'t str,
+    start: usize,
+) -> Result<String, AllocError> {
+    if !is_start(text, start) {
+        return String::from_str(alloc, "no start");
+    }
+    listed(alloc, backends::find::<Copying<'t>>(regex, text, start)?)
+}
+
+/// The matches by `find_from_ascii`.
+pub(crate) fn ascii_matches(
+    alloc: Global,
+    regex: &Regex<'_>,
+    text: &str,
+    start: usize,
+) -> Result<String, AllocError> {
+    if !is_ascii_text(text) {
+        return String::from_str(alloc, "no ASCII");
+    }
+    match regex.find_from_ascii(text, start) {
+        Ok(matches) => listed(alloc, matches),
+        Err(_) => Err(AllocError),
+    }
+}
+
+/// The matches by the executor that copies, over ASCII.
+pub(crate) fn copying_ascii_matches<'t>(
+    alloc: Global,
+    regex: &'t Regex<'t>,
+    text: &'t str,
+    start: usize,
+) -> Result<String, AllocError> {
+    if !is_ascii_text(text) || !is_start(text, start) {
+        return String::from_str(alloc, "no ASCII");
+    }
+    listed(
+        alloc,
+        backends::find_ascii::<Copying<'t>>(regex, text, start)?,
+    )
+}
+
+/// The matches by `find_from_utf16`.
+pub(crate) fn utf16_matches(
+    alloc: Global,
+    regex: &Regex<'_>,
+    units: &[u16],
+    start: usize,
+) -> Result<String, AllocError> {
+    if !is_unit_start(units, start) {
+        return String::from_str(alloc, "no start");
+    }
+    match regex.find_from_utf16(units, start) {
+        Ok(matches) => listed(alloc, matches),
+        Err(_) => Err(AllocError),
+    }
+}
+
+/// The matches by `find_from_ucs2`.
+pub(crate) fn ucs2_matches(
+    alloc: Global,
+    regex: &Regex<'_>,
+    units: &[u16],
+    start: usize,
+) -> Result<String, AllocError> {
+    match regex.find_from_ucs2(units, start) {
+        Ok(matches) => listed(alloc, matches),
+        Err(_) => Err(AllocError),
+    }
+}
+
+/// Whether there is a match, by `is_match_from`, and from the beginning on also by `is_match`.
+pub(crate) fn is_match(
+    alloc: Global,
+    regex: &Regex<'_>,
+    text: &str,
+    start: usize,
+) -> Result<String, AllocError> {
+    if !is_start(text, start) {
+        return String::from_str(alloc, "no start");
+    }
+    let Ok(found) = regex.is_match_from(text, start) else {
+        return Err(AllocError);
+    };
+    if start == 0 && regex.is_match(text) != Ok(found) {
+        return String::from_str(alloc, "is_match and is_match_from differ");
+    }
+    String::from_str(alloc, if found { "true" } else { "false" })
+}
+
+/// The program of units that a pattern's tree becomes as it is read.
+pub(crate) fn units_program<'t>(
+    alloc: Global,
+    points: &[u32],
+    flags: Flags,
+    tables: &'t Tables,
+) -> Result<CompiledRegex<'t>, Error> {
+    if !are_code_points(points) {
+        return Err(Error::OutOfMemory);
+    }
+    let tree = backends::try_parse(alloc, points, flags, tables)?;
+    backends::emit_units(alloc, &tree)
+}
+
+/// The matches in units of UTF-16 by the executor that copies.
+pub(crate) fn copying_utf16_matches<'t>(
+    alloc: Global,
+    program: &'t CompiledRegex<'t>,
+    units: &'t [u16],
+) -> Result<String, AllocError> {
+    if !program.is_unit_program() {
+        return String::from_str(alloc, "no program of units");
+    }
+    let input = Utf16Input::new(units, program.flags().is_unicode(), program.tables());
+    listed(
+        alloc,
+        backends::Matches::new(PikeVMExecutor::with_input(alloc, program, input), 0),
+    )
+}
+
+/// The matches in units that are each a character, by the executor that copies.
+pub(crate) fn copying_ucs2_matches<'t>(
+    alloc: Global,
+    program: &'t CompiledRegex<'t>,
+    units: &'t [u16],
+) -> Result<String, AllocError> {
+    if !program.is_unit_program() {
+        return String::from_str(alloc, "no program of units");
+    }
+    let input = Ucs2Input::new(units, program.flags().is_unicode(), program.tables());
+    listed(
+        alloc,
+        backends::Matches::new(PikeVMExecutor::with_input(alloc, program, input), 0),
+    )
+}

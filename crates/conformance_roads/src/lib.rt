@@ -1,0 +1,12 @@
+//! Rows of patterns and texts, tried by every road to their answers.
+#![tactic(auto)]
+
+mod calls;
+mod report;
+mod running;
+mod trying;
+mod works;
+
+pub use report::Report;
+pub use running::run;
+pub use trying::try_rows;

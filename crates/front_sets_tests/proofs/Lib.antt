@@ -1,2 +1,0 @@
-mod Forms
-mod Members

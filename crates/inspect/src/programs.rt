@@ -1,0 +1,169 @@
+//! Programs, each instruction on a line of its own behind its address, and start predicates.
+
+use crate::classes::{push_ascii, push_bitmap, push_bracket, push_quantifier};
+use crate::texts::{push_bytes, push_literal, push_point, push_points};
+use regress_engine_code::{CompiledRegex, Insn, LoopFields, StartPredicate, bytes_of};
+use regress_front::{ByteBitmap, Quantifier};
+use std::alloc::{AllocError, Global};
+
+/// The instructions of a program.
+pub(crate) fn push_program(
+    alloc: Global,
+    out: &mut String,
+    program: &CompiledRegex<'_>,
+) -> Result<(), AllocError> {
+    for (address, insn) in program.insns().iter().enumerate() {
+        write!(out, "    {address:>3} ")?;
+        push_insn(alloc, out, program, insn)?;
+        out.push('\n')?;
+    }
+    Ok(())
+}
+
+/// An instruction: what takes bytes with its text, and any other by its kind.
+fn push_insn(
+    alloc: Global,
+    out: &mut String,
+    program: &CompiledRegex<'_>,
+    insn: &Insn,
+) -> Result<(), AllocError> {
+    let bytes = bytes_of(insn);
+    if bytes.is_empty() {
+        return push_other(alloc, out, program, insn);
+    }
+    let length = bytes.len();
+    write!(out, "ByteSeq{length} ")?;
+    push_literal(out, bytes)
+}
+
+/// An instruction that takes no bytes.
+fn push_other(
+    alloc: Global,
+    out: &mut String,
+    program: &CompiledRegex<'_>,
+    insn: &Insn,
+) -> Result<(), AllocError> {
+    match insn {
+        Insn::AsciiBracket(set) => {
+            out.push_str("AsciiBracket ")?;
+            push_ascii(alloc, out, set)
+        }
+        Insn::Bracket(index) => push_class(out, program, *index),
+        Insn::EnterLoop(fields) => push_loop(out, fields),
+        Insn::Loop1CharBody {
+            min_iters,
+            max_iters,
+            greedy,
+        } => {
+            out.push_str("Loop1CharBody ")?;
+            push_quantifier(out, &Quantifier::new(*min_iters, *max_iters, *greedy))
+        }
+        other => push_set(out, other),
+    }
+}
+
+/// An instruction that takes one character of a few, or any that is told by its fields.
+fn push_set(out: &mut String, insn: &Insn) -> Result<(), AllocError> {
+    match insn {
+        Insn::Char(point) => {
+            out.push_str("Char ")?;
+            push_point(out, *point)
+        }
+        Insn::CharSet(points) => {
+            out.push_str("CharSet ")?;
+            push_points(out, points)
+        }
+        Insn::ByteSet2(set) => {
+            out.push_str("ByteSet2 ")?;
+            push_bytes(out, &set.0)
+        }
+        Insn::ByteSet3(set) => {
+            out.push_str("ByteSet3 ")?;
+            push_bytes(out, &set.0)
+        }
+        Insn::ByteSet4(set) => {
+            out.push_str("ByteSet4 ")?;
+            push_bytes(out, &set.0)
+        }
+        other => write!(out, "{other:?}"),
+    }
+}
+
+/// A bracket of a program, with its class.
+fn push_class(
+    out: &mut String,
+    program: &CompiledRegex<'_>,
+    index: usize,
+) -> Result<(), AllocError> {
+    write!(out, "Bracket {index} ")?;
+    match program.brackets().get(index) {
+        Some(contents) => push_bracket(out, contents),
+        None => out.push_str("which the program lacks"),
+    }
+}
+
+/// Where a repetition is entered.
+fn push_loop(out: &mut String, fields: &LoopFields) -> Result<(), AllocError> {
+    let id = fields.loop_id;
+    let exit = fields.exit;
+    write!(out, "EnterLoop {id} ")?;
+    push_quantifier(
+        out,
+        &Quantifier::new(fields.min_iters, fields.max_iters, fields.greedy),
+    )?;
+    write!(out, " exit: {exit}")
+}
+
+/// Where a match may begin.
+pub(crate) fn push_start(
+    alloc: Global,
+    out: &mut String,
+    start: &StartPredicate,
+) -> Result<(), AllocError> {
+    match start {
+        StartPredicate::Arbitrary => out.push_str("Arbitrary"),
+        StartPredicate::StartAnchored => out.push_str("StartAnchored"),
+        StartPredicate::ByteSet1(bytes) => push_bytes_of(out, "ByteSet1 ", bytes),
+        StartPredicate::ByteSet2(bytes) => push_bytes_of(out, "ByteSet2 ", bytes),
+        StartPredicate::ByteSet3(bytes) => push_bytes_of(out, "ByteSet3 ", bytes),
+        StartPredicate::ByteSeq(bytes) => {
+            out.push_str("ByteSeq ")?;
+            push_literal(out, bytes)
+        }
+        StartPredicate::ByteBracket(set) => {
+            out.push_str("ByteBracket ")?;
+            push_bitmap(alloc, out, set)
+        }
+    }
+}
+
+/// A kind of predicate, and its bytes.
+fn push_bytes_of(out: &mut String, kind: &str, bytes: &[u8]) -> Result<(), AllocError> {
+    out.push_str(kind)?;
+    push_bytes(out, bytes)
+}
+
+/// The bytes that may stand ahead of an address.
+fn ahead_of(program: &CompiledRegex<'_>, address: usize) -> ByteBitmap {
+    let mut ahead = ByteBitmap::default();
+    for byte in 0..=u8::MAX {
+        if !program.lacks(address, byte) {
+            ahead.set(byte);
+        }
+    }
+    ahead
+}
+
+/// For each address of a program the bytes that may stand ahead.
+pub(crate) fn push_ahead(
+    alloc: Global,
+    out: &mut String,
+    program: &CompiledRegex<'_>,
+) -> Result<(), AllocError> {
+    for address in 0..program.insns().len() {
+        write!(out, "    {address:>3} ")?;
+        push_bitmap(alloc, out, &ahead_of(program, address))?;
+        out.push('\n')?;
+    }
+    Ok(())
+}
