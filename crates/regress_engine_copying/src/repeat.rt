@@ -16,6 +16,7 @@ ghost use Rattle.regress_engine_copying.specs.Sound.{IsWhole};
 use crate::attempt::Attempt;
 use crate::stack::Stack;
 use crate::state::State;
+use regress_engine_advance::advance;
 use regress_engine_code::Insn;
 use regress_engine_matchers::CharInput;
 use regress_front_core::GroupData;
@@ -40,7 +41,8 @@ impl<'a, 'r, Input: CharInput> Attempt<'a, 'r, Input> {
         let mut behind = offset;
         let mut left = times;
         while left > 0 {
-            let Some(next) = self.advance(insn, forward, groups, behind) else {
+            let Some(next) = advance(self.program, &self.input, insn, forward, groups, behind)
+            else {
                 return None;
             };
             behind = next;
@@ -72,7 +74,8 @@ impl<'a, 'r, Input: CharInput> Attempt<'a, 'r, Input> {
             if left == 0 {
                 return Ok(());
             }
-            let Some(next) = self.advance(insn, forward, groups, behind) else {
+            let Some(next) = advance(self.program, &self.input, insn, forward, groups, behind)
+            else {
                 return Ok(());
             };
             behind = next;

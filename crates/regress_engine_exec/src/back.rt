@@ -18,6 +18,7 @@ ghost use Rattle.regress_engine_undo.specs.Stuck.{GivesFrom, TakesFrom};
 ghost use Rattle.regress_engine_undo.specs.Tasks.{task};
 
 use crate::attempt::Attempt;
+use regress_engine_advance::{advance, any_in_line, ascii_bracket, beside, other_ahead};
 use regress_engine_code::Insn;
 use regress_engine_matchers::CharInput;
 use regress_engine_singles::first_byte;
@@ -72,13 +73,13 @@ impl<'a, 'r, Input: CharInput> Attempt<'a, 'r, Input> {
         };
         let mut back = far;
         'places: loop {
-            if self.advance(insn, forward, groups, back).is_some() {
+            if advance(self.program, &self.input, insn, forward, groups, back).is_some() {
                 return Some(back);
             }
             if !is_ahead(forward, near, back) {
                 return None;
             }
-            let Some((_, before)) = self.beside(!forward, back) else {
+            let Some((_, before)) = beside(&self.input, !forward, back) else {
                 return None;
             };
             back = before;
@@ -108,7 +109,7 @@ impl<'a, 'r, Input: CharInput> Attempt<'a, 'r, Input> {
         if !is_ahead(spot.forward, near, way) {
             return Ok(true);
         }
-        let Some((_, next)) = self.beside(!spot.forward, way) else {
+        let Some((_, next)) = beside(&self.input, !spot.forward, way) else {
             return Ok(true);
         };
         memory.push(Undo::GiveBack {
@@ -136,12 +137,12 @@ impl<'a, 'r, Input: CharInput> Attempt<'a, 'r, Input> {
     {
         if forward {
             if let Some(byte) = first {
-                if self.other_ahead(offset, byte) {
+                if other_ahead(&self.input, offset, byte) {
                     return false;
                 }
             }
         }
-        self.advance(insn, forward, groups, offset).is_some()
+        advance(self.program, &self.input, insn, forward, groups, offset).is_some()
     }
 
     /// What `advance` answers. What is often repeated is done at once.
@@ -158,9 +159,9 @@ impl<'a, 'r, Input: CharInput> Attempt<'a, 'r, Input> {
         ensures { result ≡ advance (program_of self.now.program.now) (input_of (Input.view self.now.input)) (instruction insn.now) (way forward) (map marks_of groups.now) offset }
     {
         match insn {
-            Insn::AsciiBracket(bitmap) => self.ascii_bracket(forward, offset, bitmap),
-            Insn::MatchAnyExceptLineTerminator => self.any_in_line(forward, offset),
-            _ => self.advance(insn, forward, groups, offset),
+            Insn::AsciiBracket(bitmap) => ascii_bracket(&self.input, forward, offset, bitmap),
+            Insn::MatchAnyExceptLineTerminator => any_in_line(&self.input, forward, offset),
+            _ => advance(self.program, &self.input, insn, forward, groups, offset),
         }
     }
 
@@ -228,7 +229,14 @@ impl<'a, 'r, Input: CharInput> Attempt<'a, 'r, Input> {
             return Ok(true);
         }
         let insn = self.instruction(at - 1);
-        let Some(next) = self.advance(insn, spot.forward, &memory.groups, near) else {
+        let Some(next) = advance(
+            self.program,
+            &self.input,
+            insn,
+            spot.forward,
+            &memory.groups,
+            near,
+        ) else {
             return Ok(true);
         };
         memory.push(Undo::TakeOn {

@@ -16,6 +16,9 @@ ghost use Rattle.regress_engine_singles.specs.Passed.{is_class, PassesOver};
 ghost use Rattle.regress_engine_exec.specs.Beginning.{BeginsAt, IsKnown};
 
 use crate::attempt::Attempt;
+use regress_engine_advance::{
+    ascii_bracket, beside, boundary, bracket, bytes_beside, holds_at, is_word, word_beside,
+};
 use regress_engine_code::Insn;
 use regress_engine_matchers::{CharInput, CharProperties};
 use regress_engine_singles::{as_far_ahead, is_class, is_edge, takes_one};
@@ -55,8 +58,10 @@ impl<'a, 'r, Input: CharInput> Attempt<'a, 'r, Input> {
         ensures { (groups : List Marks) → result ≡ advance (program_of self.now.program.now) (input_of (Input.view self.now.input)) (instruction insn.now) ahead groups offset }
     {
         match insn {
-            Insn::AsciiBracket(bitmap) => self.ascii_bracket(true, offset, bitmap),
-            Insn::Bracket(index) => { self.bracket(true, offset, &self.program.brackets()[*index]) }
+            Insn::AsciiBracket(bitmap) => ascii_bracket(&self.input, true, offset, bitmap),
+            Insn::Bracket(index) => {
+                bracket(&self.input, true, offset, &self.program.brackets()[*index])
+            }
             _ => None,
         }
     }
@@ -70,7 +75,7 @@ impl<'a, 'r, Input: CharInput> Attempt<'a, 'r, Input> {
         ensures stands { result ≡ literal (input_of (Input.view self.now.input)) ahead byte.now offset }
         ensures place { IfSome result (IsAtPlace (reading_of (Input.view self.now.input))) }
     {
-        self.bytes(true, offset, byte)
+        bytes_beside(&self.input, true, offset, byte)
     }
 
     /// Whether surely nothing is led to from an address and an offset on, read forward: bytes are taken there that don't
@@ -87,7 +92,7 @@ impl<'a, 'r, Input: CharInput> Attempt<'a, 'r, Input> {
         }
         let insn = &insns[at];
         if is_edge(insn) {
-            if !self.holds_at(insn, offset) {
+            if !holds_at(&self.input, insn, offset) {
                 return true;
             }
             return self.fails(left - 1, at + 1, offset);
@@ -119,7 +124,7 @@ impl<'a, 'r, Input: CharInput> Attempt<'a, 'r, Input> {
         if at >= insns.len() || !takes_one(&insns[at]) {
             return None;
         }
-        let (_, behind) = self.beside(true, self.start)?;
+        let (_, behind) = beside(&self.input, true, self.start)?;
         if !self.is_stuck(at + 1, true, behind) {
             return None;
         }
@@ -171,7 +176,7 @@ impl<'a, 'r, Input: CharInput> Attempt<'a, 'r, Input> {
         if !self.fails(LOOKED_AT, 0, self.start) {
             return None;
         }
-        let (_, behind) = self.beside(true, self.start)?;
+        let (_, behind) = beside(&self.input, true, self.start)?;
         Some(behind)
     }
 
@@ -183,16 +188,16 @@ impl<'a, 'r, Input: CharInput> Attempt<'a, 'r, Input> {
         requires first { Stands (program_of self.now.program.now) 0 (boundary false folded) }
         ensures { IsKnown (program_of self.now.program.now) (Input.view self.now.input) self.now.start result }
     {
-        if self.boundary(folded, self.start) {
+        if boundary(&self.input, folded, self.start) {
             return Beginning::At(1);
         }
-        let was = self.word_beside(folded, false, self.start);
+        let was = word_beside(&self.input, folded, false, self.start);
         let mut at = self.start;
         'places: loop {
-            let Some((c, behind)) = self.beside(true, at) else {
+            let Some((c, behind)) = beside(&self.input, true, at) else {
                 break;
             };
-            if self.is_word(folded, c) != was {
+            if is_word(&self.input, folded, c) != was {
                 break;
             }
             at = behind;
@@ -213,7 +218,7 @@ impl<'a, 'r, Input: CharInput> Attempt<'a, 'r, Input> {
         }
         let mut at = self.start;
         'places: loop {
-            let Some((c, behind)) = self.beside(true, at) else {
+            let Some((c, behind)) = beside(&self.input, true, at) else {
                 return (self.start < at).then_some(at);
             };
             if <Input::CharProps as CharProperties>::is_line_terminator(c) {

@@ -4,9 +4,9 @@
 mod attempt;
 mod back;
 mod executor;
+mod first;
 mod leading;
 mod producer;
-mod reads;
 mod search;
 mod singles;
 mod step;

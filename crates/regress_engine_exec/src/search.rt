@@ -15,6 +15,7 @@ ghost use Rattle.regress_engine_sought.specs.Sought.{IsMadeOf, IsItemAtPlaces};
 
 use crate::attempt::Attempt;
 use crate::leading::Beginning;
+use regress_engine_advance::beside;
 use regress_engine_code::CompiledRegex;
 use regress_engine_input::Utf8Input;
 use regress_engine_sought::{ExecutorInput, Shown, Subject, captures};
@@ -84,7 +85,7 @@ impl<'r, Input: ExecutorInput> BacktrackExecutor<'r, Input> {
             if let Some(end) = attempt.run(first, &mut self.memory, &mut self.answer)? {
                 return Ok(Some((start, end)));
             }
-            let Some((_, behind)) = attempt.beside(true, start) else {
+            let Some((_, behind)) = beside(&attempt.input, true, start) else {
                 return Ok(None);
             };
             from = behind;

@@ -19,6 +19,7 @@ ghost use Rattle.regress_engine_undo.specs.Stuck.{IsTakenFirst};
 ghost use Rattle.regress_engine_undo.specs.Tasks.{task_of, task, state_at};
 
 use crate::attempt::Attempt;
+use regress_engine_advance::advance;
 use regress_engine_code::Insn;
 use regress_engine_matchers::CharInput;
 use regress_engine_singles::{are_apart, as_far_ahead, first_byte, is_apart};
@@ -45,7 +46,8 @@ impl<'a, 'r, Input: CharInput> Attempt<'a, 'r, Input> {
         let mut behind = offset;
         let mut left = times;
         while left > 0 {
-            let Some(next) = self.advance(insn, forward, groups, behind) else {
+            let Some(next) = advance(self.program, &self.input, insn, forward, groups, behind)
+            else {
                 return None;
             };
             behind = next;
@@ -77,7 +79,8 @@ impl<'a, 'r, Input: CharInput> Attempt<'a, 'r, Input> {
         let mut behind = offset;
         let mut left = times;
         while left > 0 {
-            let Some(next) = self.advance(insn, forward, groups, behind) else {
+            let Some(next) = advance(self.program, &self.input, insn, forward, groups, behind)
+            else {
                 break;
             };
             behind = next;

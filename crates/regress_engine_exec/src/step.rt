@@ -15,6 +15,7 @@ ghost use Rattle.regress_engine_undo.specs.Tasks.{state_at, task};
 ghost use Rattle.regress_engine_exec.specs.Trying.{Steps};
 
 use crate::attempt::Attempt;
+use regress_engine_advance::advance;
 use regress_engine_code::Insn;
 use regress_engine_matchers::CharInput;
 use regress_engine_sought::Submatch;
@@ -34,7 +35,14 @@ impl<'a, 'r, Input: CharInput> Attempt<'a, 'r, Input> {
         requires reads { reads_character (instruction insn.now) ≡ true → ReadsPlaces (reading_of (Input.view self.now.input)) (instruction insn.now) (state_at spot.old (held memory.now)) }
         ensures { Leads (program_of self.now.program.now) (input_of (Input.view self.now.input)) 1 (task (program_of self.now.program.now) (input_of (Input.view self.now.input)) true spot.old (held memory.now)) (task (program_of self.now.program.now) (input_of (Input.view self.now.input)) result spot.new (held memory.now)) }
     {
-        let Some(next) = self.advance(insn, spot.forward, &memory.groups, spot.offset) else {
+        let Some(next) = advance(
+            self.program,
+            &self.input,
+            insn,
+            spot.forward,
+            &memory.groups,
+            spot.offset,
+        ) else {
             return false;
         };
         spot.at += 1;

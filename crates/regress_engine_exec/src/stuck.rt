@@ -9,6 +9,7 @@ ghost use Rattle.regress_engine_singles.specs.Failing.{IsStuck};
 ghost use Rattle.regress_engine_exec.specs.Trying.{IsWay};
 
 use crate::attempt::Attempt;
+use regress_engine_advance::bytes_beside;
 use regress_engine_code::{Insn, bytes_of};
 use regress_engine_input::PositionType;
 use regress_engine_matchers::CharInput;
@@ -49,7 +50,7 @@ impl<'a, 'r, Input: CharInput> Attempt<'a, 'r, Input> {
         if bytes.is_empty() {
             return false;
         }
-        self.bytes(false, offset, bytes).is_none()
+        bytes_beside(&self.input, false, offset, bytes).is_none()
     }
 
     /// Whether surely nothing is led to from an address on, by what stands beside an offset.

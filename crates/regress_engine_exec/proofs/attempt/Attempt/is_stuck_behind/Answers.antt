@@ -10,8 +10,8 @@ use Rattle.regress_engine_undo.proofs.StuckLemmas.{bytes-taken, bytes-units, som
 use Rattle.regress_engine_code.specs.Instructions.{is_byte_seq}
 use Rattle.regress_engine_exec.proofs.attempt.Attempt.is_stuck_behind.Goals as goal
 
-pub bytes-requires-clause-kind : goal.bytes-requires-clause-kind
-bytes-requires-clause-kind g c =
+pub bytes_beside-requires-clause-kind : goal.bytes_beside-requires-clause-kind
+bytes_beside-requires-clause-kind g c =
     let program = program_of c.args.self.now.program.now in
     let here = stands-read c.insns-insns.result.now c.args.self.now.program.now.insns.items c.args.at Goal c.insns-insns.ensures c.if-at-insns.false in
     let some = some-there (length c.bytes_of-bytes.result.now) (c.if-is_empty.ensures) in
@@ -27,4 +27,4 @@ returns g c = λ none.
     let input = input_of (g.Input.InputIndexer.view c.args.self.now.input) in
     let simple = bytes-simple program c.args.at _ bytes (c.requires.closed c.args.at _ here) in
     simple-stuck program input Backward c.args.at c.args.offset _ here simple.0
-    (λ groups. none-is _ (c.is_none.ensures ∙ ap not none) ∙ c.bytes.ensures ∙ ap (λ bs. literal input Backward bs c.args.offset) c.bytes_of-bytes.ensures.bytes ∙ bytes-taken program input _ Backward groups c.args.offset bytes)
+    (λ groups. none-is _ (c.is_none.ensures ∙ ap not none) ∙ c.bytes_beside.ensures ∙ ap (λ bs. literal input Backward bs c.args.offset) c.bytes_of-bytes.ensures.bytes ∙ bytes-taken program input _ Backward groups c.args.offset bytes)

@@ -3,43 +3,43 @@ use Rattle.regress_engine_input.specs.Views.{way, CanRead}
 use Rattle.regress_engine_matchers.specs.References.{IsPlace}
 use Rattle.regress_engine_sought.proofs.PlaceLemmas.{can-read}
 use Rattle.regress_engine_sought.proofs.ReadyLemmas.{place_is, repeated_lies}
-use Rattle.regress_engine_exec.proofs.attempt.Attempt.once_more.Goals as goal
-use Rattle.regress_engine_exec.proofs.attempt.Attempt.once_more.Goals.{then-icase, else-icase}
+use Rattle.regress_engine_advance.proofs.references.once_more.Goals as goal
+use Rattle.regress_engine_advance.proofs.references.once_more.Goals.{then-icase, else-icase}
 
 pub backref_icase-stands-requires-clause-start : goal.backref_icase-stands-requires-clause-start
 backref_icase-stands-requires-clause-start g c =
-    let v = g.Input.InputIndexer.view c.args.self.now.input in
-    rw c.new-start.ensures (can-read v (g.met.Input.InputIndexer.are_of_kind c.args.self.now.input) _ c.requires.range.0)
+    let v = g.Input.InputIndexer.view c.args.input.now in
+    rw c.new-start.ensures (can-read v (g.met.Input.InputIndexer.are_of_kind c.args.input.now) _ c.requires.range.0)
 
 pub backref_icase-stands-requires-clause-end : goal.backref_icase-stands-requires-clause-end
 backref_icase-stands-requires-clause-end g c =
-    let v = g.Input.InputIndexer.view c.args.self.now.input in
-    rw c.new-end.ensures (can-read v (g.met.Input.InputIndexer.are_of_kind c.args.self.now.input) _ c.requires.range.1)
+    let v = g.Input.InputIndexer.view c.args.input.now in
+    rw c.new-end.ensures (can-read v (g.met.Input.InputIndexer.are_of_kind c.args.input.now) _ c.requires.range.1)
 
 pub backref_icase-stands-requires-clause-position : goal.backref_icase-stands-requires-clause-position
 backref_icase-stands-requires-clause-position g c =
-    let v = g.Input.InputIndexer.view c.args.self.now.input in
-    rw c.new-position.ensures (can-read v (g.met.Input.InputIndexer.are_of_kind c.args.self.now.input) _ c.requires.place)
+    let v = g.Input.InputIndexer.view c.args.input.now in
+    rw c.new-position.ensures (can-read v (g.met.Input.InputIndexer.are_of_kind c.args.input.now) _ c.requires.place)
 
 pub backref-stands-requires-clause-start : goal.backref-stands-requires-clause-start
 backref-stands-requires-clause-start g c =
-    let v = g.Input.InputIndexer.view c.args.self.now.input in
-    rw c.new-start.ensures (can-read v (g.met.Input.InputIndexer.are_of_kind c.args.self.now.input) _ c.requires.range.0)
+    let v = g.Input.InputIndexer.view c.args.input.now in
+    rw c.new-start.ensures (can-read v (g.met.Input.InputIndexer.are_of_kind c.args.input.now) _ c.requires.range.0)
 
 pub backref-stands-requires-clause-end : goal.backref-stands-requires-clause-end
 backref-stands-requires-clause-end g c =
-    let v = g.Input.InputIndexer.view c.args.self.now.input in
-    rw c.new-end.ensures (can-read v (g.met.Input.InputIndexer.are_of_kind c.args.self.now.input) _ c.requires.range.1)
+    let v = g.Input.InputIndexer.view c.args.input.now in
+    rw c.new-end.ensures (can-read v (g.met.Input.InputIndexer.are_of_kind c.args.input.now) _ c.requires.range.1)
 
 pub backref-stands-requires-clause-position : goal.backref-stands-requires-clause-position
 backref-stands-requires-clause-position g c =
-    let v = g.Input.InputIndexer.view c.args.self.now.input in
-    rw c.new-position.ensures (can-read v (g.met.Input.InputIndexer.are_of_kind c.args.self.now.input) _ c.requires.place)
+    let v = g.Input.InputIndexer.view c.args.input.now in
+    rw c.new-position.ensures (can-read v (g.met.Input.InputIndexer.are_of_kind c.args.input.now) _ c.requires.place)
 
 pub pos_to_offset-requires : goal.pos_to_offset-requires
 pos_to_offset-requires g c =
-    let v = g.Input.InputIndexer.view c.args.self.now.input in
-    let all = g.met.Input.InputIndexer.are_of_kind c.args.self.now.input in
+    let v = g.Input.InputIndexer.view c.args.input.now in
+    let all = g.met.Input.InputIndexer.are_of_kind c.args.input.now in
     let dir = way g.Dir.Direction.FORWARD in
     let start : IsPlace v (g.Input.Position.PositionType.offset c.new-start.result) = rw c.new-start.ensures (place_is v _ c.requires.range.0) in
     let end : IsPlace v (g.Input.Position.PositionType.offset c.new-end.result) = rw c.new-end.ensures (place_is v _ c.requires.range.1) in
