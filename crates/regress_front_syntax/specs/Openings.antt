@@ -34,17 +34,29 @@ enclosed (Lookbehind negated) k p = look negated true p
 -- it opens a capturing group
 abbrev pub is_capture : Opening → Bool
 is_capture (Capture name) = true
-is_capture _ = false
+is_capture Group = false
+is_capture Atomic = false
+is_capture (Modified on off) = false
+is_capture (Lookahead negated) = false
+is_capture (Lookbehind negated) = false
 
 -- it opens a lookbehind
 abbrev pub is_lookbehind : Opening → Bool
 is_lookbehind (Lookbehind negated) = true
-is_lookbehind _ = false
+is_lookbehind (Capture name) = false
+is_lookbehind Group = false
+is_lookbehind Atomic = false
+is_lookbehind (Modified on off) = false
+is_lookbehind (Lookahead negated) = false
 
 -- a quantifier may follow: behind a lookahead only without Unicode mode
 abbrev pub may_repeat : Bool → Opening → Bool
 may_repeat unicode (Lookahead negated) = not unicode
-may_repeat unicode _ = true
+may_repeat unicode (Capture name) = true
+may_repeat unicode Group = true
+may_repeat unicode Atomic = true
+may_repeat unicode (Modified on off) = true
+may_repeat unicode (Lookbehind negated) = true
 
 -- what is done with the tree: behind a lookbehind no quantifier is read
 abbrev pub finish : Bool → Bool → ℕ → Front → Option Front
@@ -54,7 +66,11 @@ finish false allowed k f = quantified allowed k f
 -- how many groups are opened with it, where k were opened before
 abbrev pub opened_by : Opening → ℕ → ℕ
 opened_by (Capture name) k = suc k
-opened_by _ k = k
+opened_by Group k = k
+opened_by Atomic k = k
+opened_by (Modified on off) k = k
+opened_by (Lookahead negated) k = k
+opened_by (Lookbehind negated) k = k
 
 -- The opening was read; or none that could be stands there.
 abbrev pub IsOpening : meaning.Opening → Result Opening Error → List ℕ → Type 0
