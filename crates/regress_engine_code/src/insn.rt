@@ -31,7 +31,7 @@ pub struct LoopFields {
 /// a lookbehind those behind, but the characters themselves always stand in the order of the text.
 #[derive(Debug, Clone, Copy)]
 pub enum Insn {
-    /// The end: of the whole program, or of what a lookaround holds.
+    /// The end: of the whole program, or of what a lookaround or an atomic group holds.
     Goal,
     /// One code point.
     Char(CodePoint),

@@ -140,9 +140,8 @@ atomic_group-returns-in_err-continuation-clause-refused t c =
 pub atomic_group-returns-clause-added : goal.atomic_group-returns-clause-added
 atomic_group-returns-clause-added t c =
     let w3 = written c.push_goal.new.self in
-    let kind = atomic in
-    let inside : ℕ → Instruction = λ a. code.submatch kind c.args.groups.start c.args.groups.end a in
-    AddsTree-submatch c.args.self.now.units (table c.args.self.now.tables.now) c.args.self.now.unicode c.args.backward kind c.args.groups.start c.args.groups.end (tree c.args.contents.now) code.fail
+    let inside : ℕ → Instruction = λ a. code.submatch atomic c.args.groups.start c.args.groups.end a in
+    AddsTree-submatch c.args.self.now.units (table c.args.self.now.tables.now) c.args.self.now.unicode c.args.backward atomic c.args.groups.start c.args.groups.end (tree c.args.contents.now) code.fail
     (written c.args.code.now) (written c.reserve.new.self) (written c.node.new.code) w3 (written c.change.new.self)
     c.in_ok-at.ensures.kept c.in_ok-node.ensures.added c.in_ok-push_goal.ensures
     (c.change.ensures
