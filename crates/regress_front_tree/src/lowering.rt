@@ -186,11 +186,7 @@ fn look(
 
 /// Puts a node into an atomic group over some groups.
 #[inline(never)]
-fn atomic(
-    alloc: Global,
-    groups: Range<CaptureGroupID>,
-    node: &mut Node,
-) -> Result<(), AllocError>
+fn atomic(alloc: Global, groups: Range<CaptureGroupID>, node: &mut Node) -> Result<(), AllocError>
     ensures { OnOk result (tree node.new ≡ nodes.submatch nodes.atomic groups.start groups.end (tree node.old)) }
 {
     let contents = Box::new(alloc, replace(node, Node::Empty))?;
