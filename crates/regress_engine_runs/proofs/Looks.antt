@@ -1,7 +1,7 @@
--- Entering a lookaround.
+-- Entering a lookaround or an atomic group.
 use Rattle.std.specs.Prelude.{nat_le, nat_lt}
 use Rattle.std.proofs.Common.{◌≡◌, ℕ, suc, ◌+◌, ◌&&◌, Bool, true, false, List, [], ◌∷◌, ◌++◌, length, Some, None, if◌then◌else◌, get_or, refl, sym, ap, ap₂, ◌∙◌, subst, arith}
-use Rattle.regress_meaning.specs.Meaning.{State, Direction, looked}
+use Rattle.regress_meaning.specs.Meaning.{State, Direction}
 use Rattle.regress_meaning.specs.Offsets.{Reading}
 use Rattle.regress_meaning.specs.Inputs.{Input, context_of}
 use Rattle.regress_front_nodes.specs.Trees.{Submatch, lookaround, atomic, Tree}
@@ -105,7 +105,6 @@ module _ (target : Target) (input : Input) (reading : Reading) where
         tt,
       )))
       (looks_around target.program input reading (lookaround false behind) first last (suc m.address) w (Some v) here (e [] (Some v) run))
-
   by_answer dir atomic first last a p m s w here end numbered stands [] [] h e =
       let Q : State → Whole → Type 0 = Arrives reading dir (suc m.address) (λ k. occurs k a) p.loops m.loops s.place w in
       first_expand target.program input reading Q (w ∷ []) [] []

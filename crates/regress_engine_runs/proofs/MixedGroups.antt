@@ -2,7 +2,6 @@
 use Rattle.std.specs.Prelude.{slice_set, get_or, nat_le, nat_lt}
 use Rattle.std.proofs.Common.{◌≡◌, ℕ, zero, suc, ◌+◌, ◌<◌, ◌≤◌, ◌&&◌, true, false, List, [], ◌∷◌, length, if◌then◌else◌, refl, sym, ap, ap₂, ◌∙◌, arith}
 use Rattle.std.proofs.lemmas.Bool.Decides.{nat_tests}
-use Rattle.regress_front_nodes.specs.Trees.{lookaround}
 use Rattle.regress_engine_runs.specs.States.{Marks, mixed}
 
 pub mixed-none : (i first last : ℕ) (new old : List Marks) → last ≤ first → mixed i first last new old ≡ old

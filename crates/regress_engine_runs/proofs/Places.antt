@@ -6,6 +6,7 @@ use Rattle.regress_meaning.specs.Laws.{IsAhead}
 use Rattle.regress_meaning.specs.Offsets.{Reading}
 use Rattle.regress_front_nodes.specs.Trees.{Tree}
 use Rattle.regress_front_nodes.specs.Trees as tree
+use Rattle.regress_front_nodes.specs.TreeMeaning.{reads_backward}
 use Rattle.regress_front_nodes.specs.WellFormed.{group_ids}
 use Rattle.regress_front_nodes.proofs.CountLemmas.{times, count-cons}
 use Rattle.regress_engine_code.specs.Layout.{Spot, next, Target, AreArms, Lies}

@@ -218,6 +218,38 @@ a_lookahead_may_be_left : answer 1 0 (cat_of (loop (submatch (lookaround false f
 unfolding computation
 a_lookahead_may_be_left = refl
 
+-- (?>a*)ab on aab, and (?>a*)b
+abbrev all_of_them : Tree
+all_of_them = submatch atomic 0 0 (loop (letter "a") 0 0 0 greatest true)
+
+an_atomic_group_gives_nothing_back : (answer 1 0 (cat_of (all_of_them ∷ letter "a" ∷ letter "b" ∷ [])) "aab" 0 ≡ nothing) × (answer 1 0 (cat_of (all_of_them ∷ letter "b" ∷ [])) "aab" 0 ≡ found 3 [])
+unfolding computation
+an_atomic_group_gives_nothing_back = (refl, refl)
+
+-- (?>(a)|(ab))(c) on abc and acc
+abbrev first_alone : Tree
+first_alone = cat_of (submatch atomic 0 2 (alt (capture 0 None (letter "a")) (capture 1 None (cat_of (letter "a" ∷ letter "b" ∷ [])))) ∷ capture 2 None (letter "c") ∷ [])
+
+an_atomic_group_is_not_tried_again : (answer 0 3 first_alone "abc" 0 ≡ nothing) × (answer 0 3 first_alone "acc" 0 ≡ found 2 (Some (0, 1) ∷ None ∷ Some (1, 2) ∷ []))
+unfolding computation
+an_atomic_group_is_not_tried_again = (refl, refl)
+
+-- (?:(?>(a+))b)*a on abaac
+abbrev atoms : Tree
+atoms = loop (cat_of (submatch atomic 0 1 (capture 0 None (loop (letter "a") 1 1 1 greatest true)) ∷ letter "b" ∷ [])) 0 1 0 greatest true
+
+an_iteration_with_an_atomic_group_is_left : answer 2 1 (cat_of (atoms ∷ letter "a" ∷ [])) "abaac" 0 ≡ found 3 (Some (0, 1) ∷ [])
+unfolding computation
+an_iteration_with_an_atomic_group_is_left = refl
+
+-- (?<=a(?>b*))c on abbc
+abbrev atomic_behind : Tree
+atomic_behind = cat_of (submatch (lookaround false true) 0 0 (cat_of (submatch atomic 0 0 (loop (letter "b") 0 0 0 greatest true) ∷ letter "a" ∷ [])) ∷ letter "c" ∷ [])
+
+an_atomic_group_is_read_backward : answer 1 0 atomic_behind "abbc" 3 ≡ found 4 []
+unfolding computation
+an_atomic_group_is_read_backward = refl
+
 -- (?<=(?<a>x)(?<b>y))z on xyz
 abbrev named_behind : Tree
 named_behind = cat_of (submatch (lookaround false true) 0 2 (cat_of (capture 1 (Some (codes "b")) (letter "y") ∷ capture 0 (Some (codes "a")) (letter "x") ∷ [])) ∷ letter "z" ∷ [])

@@ -3,8 +3,8 @@ use Rattle.std.proofs.Common.{◌≡◌, ℕ, suc, ◌+◌, Bool, true, false, L
 use Rattle.regress_meaning.specs.Meaning.{Direction}
 use Rattle.regress_meaning.specs.Inputs.{Input}
 use Rattle.regress_meaning.specs.Offsets.{Reading}
-use Rattle.regress_front_nodes.specs.TreeMeaning.{submatch_direction, direction}
-use Rattle.regress_front_nodes.specs.Trees.{Submatch, lookaround}
+use Rattle.regress_front_nodes.specs.TreeMeaning.{submatch_direction}
+use Rattle.regress_front_nodes.specs.Trees.{Submatch}
 use Rattle.regress_engine_code.specs.Instructions.{Instruction, Program, Stands}
 use Rattle.regress_engine_code.specs.Instructions as code
 use Rattle.regress_engine_runs.specs.States.{Whole, onward}

@@ -4,8 +4,7 @@ use Rattle.std.proofs.Common.{◌≡◌, ℕ, ◌+◌, ◌-◌, ◌⊎◌, inl, 
 use Rattle.std.proofs.lemmas.List.{set-set, set-get_or}
 use Rattle.regress_meaning.specs.Meaning.{Direction}
 use Rattle.regress_meaning.specs.Inputs.{Input}
-use Rattle.regress_front_nodes.specs.TreeMeaning.{submatch_direction, direction}
-use Rattle.regress_front_nodes.specs.Trees.{lookaround}
+use Rattle.regress_front_nodes.specs.TreeMeaning.{submatch_direction}
 use Rattle.regress_engine_code.specs.Instructions.{Instruction, Program, Stands}
 use Rattle.regress_engine_code.specs.Instructions as code
 use Rattle.regress_engine_runs.specs.States.{Whole, Marks, onward}
@@ -128,20 +127,22 @@ module _ (program : Program) (input : Input) where
       → Comes program input dir (t ∷ []) (outermost ts) n r → r ≡ Some t
   all_found t ts n r here (alone run) = (run_found program input here run).1
 
-  -- A lookaround begins: a frame is pushed, and its contents come first.
+  -- A lookaround or an atomic group begins: a frame is pushed, and its contents come first.
   pub frame_pushed : {dir : Direction} (s : Whole) (work : Work) (n : ℕ) (r : Option Whole) (f : Frame) → dir ≡ f.outside
       → Stands program s.at (code.submatch f.kind f.first f.last f.continuation) → Comes program input dir (s ∷ []) work n r
       → (m : ℕ) × (m < n) × Comes program input (submatch_direction f.kind f.outside) (onward s ∷ []) (inside [] f s work) m r
   frame_pushed s (outermost ts) n r f same here (alone run) =
       let (q, m, k, count, inner, outer) =
       run_looks program input (code.submatch f.kind f.first f.last f.continuation) here refl (λ e. grind arith) run in
-      (m + k, omega (arith, count), within refl inner (subst (λ d. Comes program input d (after_submatch f.kind f.first f.last f.continuation s q) (outermost ts) k r) same (alone outer)))
+      let contents = subst (λ d. Run program input (submatch_direction f.kind d) (onward s ∷ []) m q) same inner in
+      (m + k, omega (arith, count), within refl contents (subst (λ d. Comes program input d (after_submatch f.kind f.first f.last f.continuation s q) (outermost ts) k r) same (alone outer)))
   frame_pushed s (inside ts g t rest) n r f same here (within {n = l} {q = p} turned run beyond) =
       let (q, m, k, count, inner, outer) =
-      run_looks program input (code.submatch f.kind f.first f.last f.continuation) here refl (λ e. grind arith) run in (
+      run_looks program input (code.submatch f.kind f.first f.last f.continuation) here refl (λ e. grind arith) run in
+      let contents = subst (λ d. Run program input (submatch_direction f.kind d) (onward s ∷ []) m q) same inner in (
         m + (k + l),
         omega (arith, count),
-        within refl inner (subst (λ d. Comes program input d (after_submatch f.kind f.first f.last f.continuation s q) (inside ts g t rest) (k + l) r) same (within turned outer beyond)),
+        within refl contents (subst (λ d. Comes program input d (after_submatch f.kind f.first f.last f.continuation s q) (inside ts g t rest) (k + l) r) same (within turned outer beyond)),
       )
 
   -- what is computed is the number of steps

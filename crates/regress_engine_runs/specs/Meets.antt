@@ -3,8 +3,8 @@ use Rattle.std.specs.Prelude.{◌≡◌, ℕ, ◌≤◌, Bool, true, false, List
 use Rattle.regress_meaning.specs.Meaning.{Direction, Forward}
 use Rattle.regress_meaning.specs.Offsets.{Reading, offset}
 use Rattle.regress_meaning.specs.Inputs.{Input}
-use Rattle.regress_front_nodes.specs.TreeMeaning.{submatch_direction, direction}
-use Rattle.regress_front_nodes.specs.Trees.{Submatch, lookaround}
+use Rattle.regress_front_nodes.specs.TreeMeaning.{submatch_direction}
+use Rattle.regress_front_nodes.specs.Trees.{Submatch}
 use Rattle.regress_engine_code.specs.Instructions.{Instruction, Program, Stands}
 use Rattle.regress_engine_code.specs.Instructions as code
 use Rattle.regress_engine_runs.specs.States.{Whole, unset, range_of, onward, first_state}
@@ -18,7 +18,7 @@ module _ (program : Program) (input : Input) where
     -- one that is met where its successors have taken its place
     later : {dir : Direction} {i : Instruction} {s t : Whole} {ss : List Whole}
         → Stands program s.at i → is_plain i ≡ true → Meets dir (successors program input i dir s ++ ss) t → Meets dir (s ∷ ss) t
-    -- at a lookaround one that is met inside
+    -- at a lookaround or an atomic group one that is met inside
     inside : {dir : Direction} {kind : Submatch} {first last continuation : ℕ} {s t : Whole} {ss : List Whole}
         → Stands program s.at (code.submatch kind first last continuation)
         → Meets (submatch_direction kind dir) (onward s ∷ []) t → Meets dir (s ∷ ss) t

@@ -5,7 +5,7 @@ use Rattle.regress_meaning.specs.Text.{holds}
 use Rattle.regress_meaning.specs.Meaning.{Direction, Forward, Backward, is_line_end}
 use Rattle.regress_meaning.specs.Inputs.{Input}
 use Rattle.regress_meaning.specs.Steps.{passed, only_if, literal, repeated, begins_line, ends_line, at_boundary}
-use Rattle.regress_front_nodes.specs.TreeMeaning.{submatch_direction, direction, bracket_has}
+use Rattle.regress_front_nodes.specs.TreeMeaning.{submatch_direction, bracket_has}
 use Rattle.regress_front_nodes.specs.Trees.{Submatch, lookaround, atomic}
 use Rattle.regress_engine_code.specs.Instructions.{LoopFields, Instruction, Program, Stands}
 use Rattle.regress_engine_code.specs.Instructions as code
@@ -160,7 +160,7 @@ module _ (program : Program) (input : Input) where
     -- else its successors take its place
     goes : {dir : Direction} {i : Instruction} {s : Whole} {ss : List Whole} {n : ℕ} {r : Option Whole}
         → Stands program s.at i → is_plain i ≡ true → Run dir (successors i dir s ++ ss) n r → Run dir (s ∷ ss) (suc n) r
-    -- and at a lookaround what follows it, by the answer of a run of its contents
+    -- and at a lookaround or an atomic group what follows it, by the answer of a run of its contents
     looks : {dir : Direction} {kind : Submatch} {first last continuation : ℕ} {s : Whole} {ss : List Whole}
         {m n : ℕ} {q r : Option Whole} → Stands program s.at (code.submatch kind first last continuation)
         → Run (submatch_direction kind dir) (onward s ∷ []) m q → Run dir (after_submatch kind first last continuation s q ++ ss) n r
