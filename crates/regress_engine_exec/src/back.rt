@@ -18,7 +18,9 @@ ghost use Rattle.regress_engine_undo.specs.Stuck.{GivesFrom, TakesFrom};
 ghost use Rattle.regress_engine_undo.specs.Tasks.{task};
 
 use crate::attempt::Attempt;
-use regress_engine_advance::{advance, any_in_line, ascii_bracket, beside, other_ahead};
+use regress_engine_advance::{
+    advance, any_in_line, ascii_bracket, beside, other_ahead, taken_first,
+};
 use regress_engine_code::Insn;
 use regress_engine_matchers::CharInput;
 use regress_engine_singles::first_byte;
@@ -68,7 +70,7 @@ impl<'a, 'r, Input: CharInput> Attempt<'a, 'r, Input> {
         ensures leads { GivesFrom (program_of self.now.program.now) (input_of (Input.view self.now.input)) forward at near far result }
         ensures place { IfSome result (IsAtPlace (reading_of (Input.view self.now.input))) }
     {
-        let Some(insn) = self.taken_first(at) else {
+        let Some(insn) = taken_first(self.program, at) else {
             return Some(far);
         };
         let mut back = far;
@@ -182,7 +184,7 @@ impl<'a, 'r, Input: CharInput> Attempt<'a, 'r, Input> {
         ensures leads { TakesFrom (program_of self.now.program.now) (input_of (Input.view self.now.input)) forward at offset left result }
         ensures body { IfSome result (λ way. IsBody (program_of self.now.program.now) (Input.view self.now.input) at way.0) }
     {
-        let Some(insn) = self.taken_first(at) else {
+        let Some(insn) = taken_first(self.program, at) else {
             return Some((offset, left));
         };
         let first = first_byte(insn);

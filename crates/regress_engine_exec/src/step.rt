@@ -15,7 +15,7 @@ ghost use Rattle.regress_engine_undo.specs.Tasks.{state_at, task};
 ghost use Rattle.regress_engine_exec.specs.Trying.{Steps};
 
 use crate::attempt::Attempt;
-use regress_engine_advance::advance;
+use regress_engine_advance::{advance, is_stuck};
 use regress_engine_code::Insn;
 use regress_engine_matchers::CharInput;
 use regress_engine_sought::Submatch;
@@ -62,7 +62,7 @@ impl<'a, 'r, Input: CharInput> Attempt<'a, 'r, Input> {
         match self.instruction(begin) {
             Insn::EnterLoop(repetition) => {
                 let exit = repetition.exit as usize;
-                let stuck = self.is_stuck(exit, spot.forward, spot.offset);
+                let stuck = is_stuck(self.program, &self.input, exit, spot.forward, spot.offset);
                 memory.again(repetition, begin, stuck, spot)
             }
             _ => Ok(false),
@@ -121,7 +121,7 @@ impl<'a, 'r, Input: CharInput> Attempt<'a, 'r, Input> {
             }
             Insn::EnterLoop(repetition) => {
                 let exit = repetition.exit as usize;
-                let stuck = self.is_stuck(exit, spot.forward, spot.offset);
+                let stuck = is_stuck(self.program, &self.input, exit, spot.forward, spot.offset);
                 let going = memory.enter(repetition, stuck, spot)?;
                 Ok(Some(going))
             }

@@ -121,21 +121,6 @@ module _ (program : Program) (input : Input) where
       (leads-then program input 0 0 (leads-later program input (way p.forward) (onward s ∷ []) (record s { at = target } ∷ []) work)
       (leads-without program input (way p.forward) (onward s ∷ []) (record s { at = target } ∷ []) work (stuck h.loops h.groups))))
 
--- an instruction that was read stands there
-pub stands-read : (slice insns : List Insn) (at : ℕ) (d : Insn) → slice ≡ insns → at < length slice → slice_get (map instruction insns) at ≡ Some (instruction (get_or slice at d))
-stands-read slice insns at d same within =
-    subst (λ xs. slice_get (map instruction xs) at ≡ Some (instruction (get_or slice at d))) same
-    (slice_get-map instruction slice at ∙ ap (option_map instruction) (slice_get-get_or slice at d within))
-
--- what takes bytes reads no character
-pub bytes-simple : (program : Program) (at : ℕ) (i : Instruction) → is_byte_seq i ≡ true → Fits program at i → (is_simple i ≡ true) × (reads_character i ≡ false) × Fits program 0 i
-bytes-simple program at (code.byte_seq bs) e fits = (refl, refl, fits)
-bytes-simple program at _ e fits = absurd (grind arith)
-
-pub none-is : (x : Option ℕ) → is_some x ≡ false → None ≡ x
-none-is None e = refl
-none-is (Some o) e = absurd (cc e)
-
 module _ (program : Program) (input : Input) where
   -- an iteration ends
   pub again-on-step : (p q : Spot) (h k : Held) (going : Bool) (begin : ℕ) (f : code.LoopFields) → Stands program p.at (code.loop_again begin) → Stands program begin (code.enter_loop f)
