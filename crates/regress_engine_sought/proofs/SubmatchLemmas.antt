@@ -1,5 +1,5 @@
 -- How what is run by itself goes on, by its kind.
-use Rattle.std.proofs.Common.{◌≡◌, ℕ, Bool, true, false, List, [], ◌∷◌, Some, None, if◌then◌else◌, refl, sym, ◌∙◌, absurd}
+use Rattle.std.proofs.Common.{◌≡◌, ℕ, Bool, true, false, List, [], ◌∷◌, Some, None, if◌then◌else◌, refl, arith}
 use Rattle.regress_front_nodes.specs.TreeMeaning.{submatch_direction}
 use Rattle.regress_front_nodes.specs.Trees.{Submatch, lookaround, atomic}
 use Rattle.regress_engine_input.specs.Views.{way}
@@ -23,12 +23,12 @@ after-none atomic first last continuation s = refl
 -- where they have one, and it is negated
 pub after-negated : (kind : Submatch) (first last continuation : ℕ) (s t : Whole) → is_negated kind ≡ true → after_submatch kind first last continuation s (Some t) ≡ []
 after-negated (lookaround true backward) first last continuation s t e = refl
-after-negated (lookaround false backward) first last continuation s t e = absurd (grind e)
-after-negated atomic first last continuation s t e = absurd (grind e)
+after-negated (lookaround false backward) first last continuation s t e = absurd (grind arith)
+after-negated atomic first last continuation s t e = absurd (grind arith)
 
 -- and where it is not
 pub after-some : (kind : Submatch) (first last continuation : ℕ) (s t : Whole) → is_negated kind ≡ false
     → after_submatch kind first last continuation s (Some t) ≡ record s { at = continuation; offset = end_offset kind s.offset t.offset; groups = mixed 0 first last t.groups s.groups } ∷ []
-after-some (lookaround true backward) first last continuation s t e = absurd (grind e)
+after-some (lookaround true backward) first last continuation s t e = absurd (grind arith)
 after-some (lookaround false backward) first last continuation s t e = refl
 after-some atomic first last continuation s t e = refl
