@@ -37,8 +37,8 @@ module _ (program : Program) (input : Input) where
       let (k, less, last) = front-left more rest m r (subst (λ xs. Run program input dir xs m r) (sym (append_assoc (successors program input i dir s) ss rest)) on) in
       (k, omega (arith, count, less), last)
   front-left {dir = dir} (inner {first = low} {last = high} {continuation = continuation} {s = s} {ss = ss} here contents others) rest n r run =
-      let (q, m, k, count, within, on) = run_looks program input (code.submatch atomic low high continuation) here refl (λ e. absurd (grind e)) run in
-      let (j, some, at_end) = front-left contents [] m q within in
+      let (q, m, k, count, ran, on) = run_looks program input (code.submatch atomic low high continuation) here refl (λ e. grind arith) run in
+      let (j, some, at_end) = front-left contents [] m q ran in
       let none : q ≡ None = (run_none program input at_end).1 in
       let (l, less, last) = front-left others rest k r (subst (λ x. Run program input dir (after_submatch atomic low high continuation s x ++ (ss ++ rest)) k r) none on) in
       (l, omega (arith, count, less), last)
@@ -50,9 +50,9 @@ module _ (program : Program) (input : Input) where
       let (n, run) = front-put more rest r runs in
       (suc n, goes here plain (subst (λ xs. Run program input dir xs n r) (append_assoc (successors program input i dir s) ss rest) run))
   front-put (inner here contents others) rest r runs =
-      let (m, within) = front-put contents [] None (0, ends) in
+      let (m, ran) = front-put contents [] None (0, ends) in
       let (n, run) = front-put others rest r runs in
-      (suc (m + n), looks here within run)
+      (suc (m + n), looks here ran run)
 
   -- and meets what that meets
   front-meets : {dir : Direction} {xs : List Whole} → Gone dir xs → (rest : List Whole) (t : Whole) → Meets program input dir rest t → Meets program input dir (xs ++ rest) t
@@ -84,7 +84,7 @@ module _ (program : Program) (input : Input) where
         subst (λ x. Run program input dir (x ∷ (p ++ rest)) (suc k) r) first
             (goes here plain (subst (λ ys. Run program input dir ys k r) (append_assoc new p rest) on)),
       )
-  middle-left xs rest (looks {dir = dir} {kind = kind} {first = low} {last = high} {continuation = continuation} {s = s} {ss = ss} {m = m} {q = q} {r = r} here within-run run) gone (t ∷ p) e =
+  middle-left xs rest (looks {dir = dir} {kind = kind} {first = low} {last = high} {continuation = continuation} {s = s} {ss = ss} {m = m} {q = q} {r = r} here ran run) gone (t ∷ p) e =
       let first : s ≡ t = cc in
       let others : ss ≡ p ++ (xs ++ rest) = cc in
       let new : List Whole = after_submatch kind low high continuation s q in
@@ -92,7 +92,7 @@ module _ (program : Program) (input : Input) where
         suc (m + k),
         omega (arith, less),
         subst (λ x. Run program input dir (x ∷ (p ++ rest)) (suc (m + k)) r) first
-            (looks here within-run (subst (λ ys. Run program input dir ys k r) (append_assoc new p rest) on)),
+            (looks here ran (subst (λ ys. Run program input dir ys k r) (append_assoc new p rest) on)),
       )
 
   middle-put : (xs rest : List Whole) {dir : Direction} {ss : List Whole} {n : ℕ} {r : Option Whole} → Run program input dir ss n r → Gone dir xs → (p : List Whole) → ss ≡ p ++ rest
@@ -111,14 +111,14 @@ module _ (program : Program) (input : Input) where
         subst (λ x. Run program input dir (x ∷ (p ++ (xs ++ rest))) (suc k) r) first
             (goes here plain (subst (λ ys. Run program input dir ys k r) (append_assoc new p (xs ++ rest)) on)),
       )
-  middle-put xs rest (looks {dir = dir} {kind = kind} {first = low} {last = high} {continuation = continuation} {s = s} {ss = ss} {m = m} {q = q} {r = r} here within-run run) gone (t ∷ p) e =
+  middle-put xs rest (looks {dir = dir} {kind = kind} {first = low} {last = high} {continuation = continuation} {s = s} {ss = ss} {m = m} {q = q} {r = r} here ran run) gone (t ∷ p) e =
       let first : s ≡ t = cc in
       let others : ss ≡ p ++ rest = cc in
       let new : List Whole = after_submatch kind low high continuation s q in
       let (k, on) = middle-put xs rest run gone (new ++ p) (ap (λ ys. new ++ ys) others ∙ sym (append_assoc new p rest)) in (
         suc (m + k),
         subst (λ x. Run program input dir (x ∷ (p ++ (xs ++ rest))) (suc (m + k)) r) first
-            (looks here within-run (subst (λ ys. Run program input dir ys k r) (append_assoc new p (xs ++ rest)) on)),
+            (looks here ran (subst (λ ys. Run program input dir ys k r) (append_assoc new p (xs ++ rest)) on)),
       )
 
   middle-meets : (xs rest : List Whole) {dir : Direction} {ss : List Whole} {u : Whole} → Meets program input dir ss u → Gone dir xs → (p : List Whole) → ss ≡ p ++ rest
