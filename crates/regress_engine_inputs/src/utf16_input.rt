@@ -3,10 +3,11 @@ ghost use Rattle.std.specs.Prelude.{All, ◌<◌};
 ghost use Rattle.std.proofs.Props.{props};
 ghost use Rattle.std.proofs.Common.{rules};
 
-use crate::cursor::Direction;
-use crate::indexing::InputIndexer;
-use crate::position::{DefPosition, PositionType};
+use crate::position::DefPosition;
 use crate::units::{outside_pair, units_beside, utf16_left, utf16_right};
+use regress_engine_input::{Direction, InputIndexer, PositionType};
+use regress_engine_matchers::{CharInput, Utf16CharProperties};
+use regress_engine_sought::{ExecutorInput, Shown};
 use regress_front_tables::Tables;
 use std::ops::Range;
 
@@ -24,7 +25,7 @@ impl<'u, 't> Utf16Input<'u, 't> {
     ghost use Rattle.std.specs.Prelude.{◌≡◌};
     ghost use Rattle.regress_front_tables.specs.TableViews.{table};
     ghost use Rattle.regress_engine_input.specs.Views.{utf16};
-    ghost use Rattle.regress_engine_input.specs.InputViews.{utf16_view};
+    ghost use Rattle.regress_engine_inputs.specs.InputViews.{utf16_view};
 
     /// The text of these units, with the mode and the tables by which it is matched: `Utf16Input::new(&units, true, &tables)`.
     #[inline]
@@ -43,7 +44,7 @@ impl<'u, 't> InputIndexer for Utf16Input<'u, 't> {
     ghost use Rattle.std.specs.Prelude.{◌≡◌, ◌≤◌, slice_range};
     ghost use Rattle.regress_meaning.specs.Steps.{only_if};
     ghost use Rattle.regress_engine_input.specs.Views.{way, CanRead, LiesIn, units_repeated};
-    ghost use Rattle.regress_engine_input.specs.InputViews.{utf16_view};
+    ghost use Rattle.regress_engine_inputs.specs.InputViews.{utf16_view};
 
     type Element = u32;
 
@@ -126,4 +127,24 @@ impl<'u, 't> InputIndexer for Utf16Input<'u, 't> {
     ghost are_of_kind = { λ s. s.in_range };
 
     ghost bytes_by_kind = { Prim.search rules };
+}
+
+impl<'u, 't> CharInput for Utf16Input<'u, 't> {
+    ghost use Rattle.std.specs.Prelude.{refl};
+
+    type CharProps = Utf16CharProperties;
+
+    ghost canon_by_table = { λ _ _ _ _ _. refl };
+}
+
+impl<'u, 't> Shown for Utf16Input<'u, 't> {
+    ghost use Rattle.regress_engine_inputs.specs.InputViews.{utf16_view};
+
+    ghost shown = { utf16_view };
+}
+
+impl<'u, 't> ExecutorInput for Utf16Input<'u, 't> {
+    ghost use Rattle.std.specs.Prelude.{refl};
+
+    ghost shows = { λ _. refl };
 }

@@ -3,10 +3,11 @@ ghost use Rattle.std.specs.Str.{IsUtf8};
 ghost use Rattle.std.proofs.Props.{props};
 ghost use Rattle.std.proofs.Common.{rules};
 
-use crate::bytes::{bytes_beside, utf8_left, utf8_right};
-use crate::cursor::Direction;
-use crate::indexing::InputIndexer;
-use crate::position::{DefPosition, PositionType};
+use crate::bytes::{utf8_left, utf8_right};
+use crate::position::DefPosition;
+use regress_engine_input::{Direction, InputIndexer, PositionType, bytes_beside};
+use regress_engine_matchers::{CharInput, UTF8CharProperties};
+use regress_engine_sought::{ExecutorInput, Shown};
 use regress_front_tables::Tables;
 use std::ops::Range;
 
@@ -23,7 +24,7 @@ impl<'u, 't> Utf8Input<'u, 't> {
     ghost use Rattle.std.specs.Prelude.{◌≡◌};
     ghost use Rattle.regress_front_tables.specs.TableViews.{table};
     ghost use Rattle.regress_engine_input.specs.Views.{utf8};
-    ghost use Rattle.regress_engine_input.specs.InputViews.{utf8_view};
+    ghost use Rattle.regress_engine_inputs.specs.InputViews.{utf8_view};
 
     /// The text, with the mode and the tables by which it is matched: `Utf8Input::new("é", true, &tables)`.
     #[inline]
@@ -50,7 +51,7 @@ impl<'u, 't> InputIndexer for Utf8Input<'u, 't> {
     ghost use Rattle.std.specs.Prelude.{◌≡◌, ◌≤◌, slice_range};
     ghost use Rattle.regress_meaning.specs.Steps.{only_if};
     ghost use Rattle.regress_engine_input.specs.Views.{way, CanRead, LiesIn, units_repeated};
-    ghost use Rattle.regress_engine_input.specs.InputViews.{utf8_view};
+    ghost use Rattle.regress_engine_inputs.specs.InputViews.{utf8_view};
 
     type Element = char;
 
@@ -144,4 +145,24 @@ impl<'u, 't> InputIndexer for Utf8Input<'u, 't> {
     ghost are_of_kind = { λ s. s.utf8 };
 
     ghost bytes_by_kind = { Prim.search rules };
+}
+
+impl<'u, 't> CharInput for Utf8Input<'u, 't> {
+    ghost use Rattle.std.specs.Prelude.{refl};
+
+    type CharProps = UTF8CharProperties;
+
+    ghost canon_by_table = { λ _ _ _ _ _. refl };
+}
+
+impl<'u, 't> Shown for Utf8Input<'u, 't> {
+    ghost use Rattle.regress_engine_inputs.specs.InputViews.{utf8_view};
+
+    ghost shown = { utf8_view };
+}
+
+impl<'u, 't> ExecutorInput for Utf8Input<'u, 't> {
+    ghost use Rattle.std.specs.Prelude.{refl};
+
+    ghost shows = { λ _. refl };
 }

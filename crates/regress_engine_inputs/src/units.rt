@@ -9,7 +9,7 @@ ghost use Rattle.regress_meaning.specs.Offsets.{Begins, characters, of_utf16};
 ghost use Rattle.regress_meaning.specs.Steps.{literal, splits, unless_split};
 ghost use Rattle.regress_engine_input.specs.Views.{way};
 
-use crate::cursor::Direction;
+use regress_engine_input::Direction;
 
 /// The unit behind an offset, and the offset behind it.
 #[inline]

@@ -1,7 +1,7 @@
 -- There is room for what is read, and it is the character that ends there.
 use Rattle.std.proofs.Common.{◌<◌, sym, ◌∙◌, arith}
-use Rattle.regress_engine_input.proofs.Utf8Texts.{room_before_three, room_before_four, read_three, read_four}
-use Rattle.regress_engine_input.proofs.bytes.utf8_left.Goals as goal
+use Rattle.regress_engine_inputs.proofs.Utf8Reads.{room_before_three, room_before_four, read_three, read_four}
+use Rattle.regress_engine_inputs.proofs.bytes.utf8_left.Goals as goal
 
 pub overflow_sub-x : goal.overflow_sub-x
 overflow_sub-x c =

@@ -3,10 +3,11 @@ ghost use Rattle.std.specs.Str.{IsAscii};
 ghost use Rattle.std.proofs.Props.{props};
 ghost use Rattle.std.proofs.Common.{rules};
 
-use crate::bytes::{bytes_beside, single_byte_left, single_byte_right};
-use crate::cursor::Direction;
-use crate::indexing::InputIndexer;
-use crate::position::{DefPosition, PositionType};
+use crate::bytes::{single_byte_left, single_byte_right};
+use crate::position::DefPosition;
+use regress_engine_input::{Direction, InputIndexer, PositionType, bytes_beside};
+use regress_engine_matchers::{ASCIICharProperties, CharInput};
+use regress_engine_sought::{ExecutorInput, Shown};
 use regress_front_tables::Tables;
 use std::ops::Range;
 
@@ -23,7 +24,7 @@ impl<'u, 't> AsciiInput<'u, 't> {
     ghost use Rattle.std.specs.Prelude.{◌≡◌};
     ghost use Rattle.regress_front_tables.specs.TableViews.{table};
     ghost use Rattle.regress_engine_input.specs.Views.{ascii};
-    ghost use Rattle.regress_engine_input.specs.InputViews.{ascii_view};
+    ghost use Rattle.regress_engine_inputs.specs.InputViews.{ascii_view};
 
     /// A text of ASCII, with the mode and the tables by which it is matched: `AsciiInput::new("abc", true, &tables)`.
     #[inline]
@@ -51,7 +52,7 @@ impl<'u, 't> InputIndexer for AsciiInput<'u, 't> {
     ghost use Rattle.std.specs.Prelude.{◌≡◌, ◌≤◌, slice_range};
     ghost use Rattle.regress_meaning.specs.Steps.{only_if};
     ghost use Rattle.regress_engine_input.specs.Views.{way, CanRead, LiesIn, units_repeated};
-    ghost use Rattle.regress_engine_input.specs.InputViews.{ascii_view};
+    ghost use Rattle.regress_engine_inputs.specs.InputViews.{ascii_view};
 
     type Element = u8;
 
@@ -133,4 +134,25 @@ impl<'u, 't> InputIndexer for AsciiInput<'u, 't> {
     ghost are_of_kind = { λ s. s.ascii };
 
     ghost bytes_by_kind = { Prim.search rules };
+}
+
+impl<'u, 't> CharInput for AsciiInput<'u, 't> {
+    ghost use Rattle.regress_front_tables.specs.TableViews.{parts};
+    ghost use Rattle.regress_engine_inputs.specs.AsciiByTable.{ascii-by_table};
+
+    type CharProps = ASCIICharProperties;
+
+    ghost canon_by_table = { λ s dir o c read. ascii-by_table (parts s.tables.now) s.tables.now.lawful s.unicode s.text.now s.ascii dir o c read };
+}
+
+impl<'u, 't> Shown for AsciiInput<'u, 't> {
+    ghost use Rattle.regress_engine_inputs.specs.InputViews.{ascii_view};
+
+    ghost shown = { ascii_view };
+}
+
+impl<'u, 't> ExecutorInput for AsciiInput<'u, 't> {
+    ghost use Rattle.std.specs.Prelude.{refl};
+
+    ghost shows = { λ _. refl };
 }

@@ -3,8 +3,8 @@ use Rattle.std.proofs.lemmas.List.{take_all, length-drop}
 use Rattle.std.specs.List.{list_any}
 use Rattle.regress_meaning.specs.TableParts.{is_surrogate}
 use Rattle.regress_meaning.specs.Offsets.{characters}
-use Rattle.regress_engine_input.proofs.Utf16Whole.{characters-front, characters-none}
-use Rattle.regress_engine_input.proofs.units.is_well_formed_utf16.Goals as goal
+use Rattle.regress_engine_inputs.proofs.Utf16Whole.{characters-front, characters-none}
+use Rattle.regress_engine_inputs.proofs.units.is_well_formed_utf16.Goals as goal
 
 pub returns-then-is_half : goal.returns-then-is_half
 returns-then-is_half c =

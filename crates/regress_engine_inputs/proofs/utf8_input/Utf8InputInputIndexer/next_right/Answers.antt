@@ -2,8 +2,8 @@
 use Rattle.std.proofs.Common.{◌≡◌, Some, rules}
 use Rattle.regress_meaning.specs.Meaning.{Forward}
 use Rattle.regress_meaning.specs.Inputs.{utf8_next}
-use Rattle.regress_engine_input.proofs.Utf8Texts.{char-read}
-use Rattle.regress_engine_input.proofs.utf8_input.Utf8InputInputIndexer.next_right.Goals as goal
+use Rattle.regress_engine_inputs.proofs.Utf8Reads.{char-read}
+use Rattle.regress_engine_inputs.proofs.utf8_input.Utf8InputInputIndexer.next_right.Goals as goal
 
 pub returns-clause-point : goal.returns-clause-point
 returns-clause-point c =

@@ -1,8 +1,8 @@
 use Rattle.std.proofs.Common.{arith, All}
 use Rattle.std.proofs.lemmas.List.{get_or_default}
 use Rattle.regress_engine_input.proofs.Utf16Texts.{IsShort}
-use Rattle.regress_engine_input.proofs.Utf16Starts.{starts-outside}
-use Rattle.regress_engine_input.proofs.units.is_unit_start.Goals as goal
+use Rattle.regress_engine_inputs.proofs.Utf16Starts.{starts-outside}
+use Rattle.regress_engine_inputs.proofs.units.is_unit_start.Goals as goal
 
 pub returns : goal.returns
 returns c =

@@ -1,10 +1,10 @@
 -- What each input shows.
 use Rattle.regress_front_tables.specs.TableViews.{table}
 use Rattle.regress_engine_input.specs.Views.{View, utf8, ascii, utf16, ucs2}
-use Rattle.regress_engine_input.specs.declared.utf8_input.Utf8Input.{Utf8Input}
-use Rattle.regress_engine_input.specs.declared.ascii_input.AsciiInput.{AsciiInput}
-use Rattle.regress_engine_input.specs.declared.utf16_input.Utf16Input.{Utf16Input}
-use Rattle.regress_engine_input.specs.declared.ucs2_input.Ucs2Input.{Ucs2Input}
+use Rattle.regress_engine_inputs.specs.declared.utf8_input.Utf8Input.{Utf8Input}
+use Rattle.regress_engine_inputs.specs.declared.ascii_input.AsciiInput.{AsciiInput}
+use Rattle.regress_engine_inputs.specs.declared.utf16_input.Utf16Input.{Utf16Input}
+use Rattle.regress_engine_inputs.specs.declared.ucs2_input.Ucs2Input.{Ucs2Input}
 
 -- what an input of units shows that are each one character
 abbrev pub ucs2_view : Ucs2Input → View
