@@ -25,7 +25,19 @@ pub(crate) fn is_flat_node(node: &Node) -> bool
         Node::LookaroundAssertion { contents, .. } => is_flat_node(contents),
         Node::AtomicGroup { contents, .. } => is_flat_node(contents),
         Node::Loop1CharBody { loopee, .. } => is_flat_node(loopee),
-        _ => true,
+        Node::Empty
+        | Node::Goal
+        | Node::Char { .. }
+        | Node::ByteSequence(_)
+        | Node::ByteSet(_)
+        | Node::CharSet(_)
+        | Node::MatchAny
+        | Node::MatchAnyExceptLineTerminator
+        | Node::Anchor { .. }
+        | Node::WordBoundary { .. }
+        | Node::BackRef { .. }
+        | Node::Bracket(_)
+        | Node::StringSet { .. } => true,
     }
 }
 
@@ -86,7 +98,17 @@ pub(crate) fn node_count(node: &Node) -> usize
         Node::Loop { loopee, .. } | Node::Loop1CharBody { loopee, .. } => {
             node_count(loopee).saturating_add(1)
         }
-        _ => 1,
+        Node::Empty
+        | Node::Goal
+        | Node::Char { .. }
+        | Node::ByteSet(_)
+        | Node::CharSet(_)
+        | Node::MatchAny
+        | Node::MatchAnyExceptLineTerminator
+        | Node::Anchor { .. }
+        | Node::WordBoundary { .. }
+        | Node::BackRef { .. }
+        | Node::Bracket(_) => 1,
     }
 }
 

@@ -76,7 +76,19 @@ fn visit_below<P: Pass>(
         Node::AtomicGroup { contents, .. } => visit(pass, alloc, in_lookbehind, contents),
         Node::Loop { loopee, .. } => visit(pass, alloc, in_lookbehind, loopee),
         Node::Loop1CharBody { loopee, .. } => visit(pass, alloc, in_lookbehind, loopee),
-        _ => Ok(false),
+        Node::Empty
+        | Node::Goal
+        | Node::Char { .. }
+        | Node::ByteSequence(_)
+        | Node::ByteSet(_)
+        | Node::CharSet(_)
+        | Node::MatchAny
+        | Node::MatchAnyExceptLineTerminator
+        | Node::Anchor { .. }
+        | Node::WordBoundary { .. }
+        | Node::BackRef { .. }
+        | Node::Bracket(_)
+        | Node::StringSet { .. } => Ok(false),
     }
 }
 

@@ -65,7 +65,14 @@ fn names_in<'s>(alloc: Global, syntax: &'s Syntax) -> Result<Option<Names<'s>>, 
             loopee: contents,
             ..
         } => names_in(alloc, contents),
-        _ => Ok(Some(Names::new(alloc))),
+        Syntax::Character(_)
+        | Syntax::Any
+        | Syntax::Class { .. }
+        | Syntax::ClassEscape(_)
+        | Syntax::Reference(_)
+        | Syntax::LineStart
+        | Syntax::LineEnd
+        | Syntax::WordBoundary { .. } => Ok(Some(Names::new(alloc))),
     }
 }
 

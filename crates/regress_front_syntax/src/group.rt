@@ -101,7 +101,11 @@ impl Opening<'_> {
     {
         match self {
             Opening::Lookahead { .. } => !unicode,
-            _ => true,
+            Opening::Capture(_)
+            | Opening::Group
+            | Opening::Atomic
+            | Opening::Modified { .. }
+            | Opening::Lookbehind { .. } => true,
         }
     }
 
