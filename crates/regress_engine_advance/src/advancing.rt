@@ -35,7 +35,8 @@ pub fn advance<Input: CharInput>(
 ) -> Option<usize>
     requires suits { Suits (program_of program.now) (Input.view input.now) }
     requires ready { IsReady (program_of program.now) (Input.view input.now) (instruction insn.now) (map marks_of groups.now) offset }
-    ensures { result ≡ advance (program_of program.now) (input_of (Input.view input.now)) (instruction insn.now) (way forward) (map marks_of groups.now) offset }
+    ensures { result ≡ advance (program_of program.now) (input_of (Input.view input.now)) (instruction insn.now) (way forward)
+        (map marks_of groups.now) offset }
 {
     match insn {
         Insn::Char(c) => this_char(input, forward, offset, *c),

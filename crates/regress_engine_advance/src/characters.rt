@@ -161,7 +161,8 @@ pub fn bracket<Input: InputIndexer>(
     class: &BracketContents,
 ) -> Option<usize>
     requires { CanRead (Input.view input.now) offset }
-    ensures { result ≡ passed (bracket_has class.now.invert (ends_of class.now.cps.intervals.items)) ((input_of (Input.view input.now)).next (way forward) offset) }
+    ensures { result ≡ passed (bracket_has class.now.invert (ends_of class.now.cps.intervals.items))
+        ((input_of (Input.view input.now)).next (way forward) offset) }
 {
     let (c, past) = beside(input, forward, offset)?;
     if (ScannedBracket { bc: class }).has(c.as_u32()) {

@@ -34,9 +34,11 @@ pub fn after_times<Input: CharInput>(
     offset: usize,
 ) -> Option<usize>
     requires suits { Suits (program_of program.now) (Input.view input.now) }
-    requires body { (at : ℕ) × Stands (program_of program.now) (at - 1) (instruction insn.now) × IsBody (program_of program.now) (Input.view input.now) at offset }
+    requires body { (at : ℕ) × Stands (program_of program.now) (at - 1) (instruction insn.now)
+        × IsBody (program_of program.now) (Input.view input.now) at offset }
     requires groups { length groups.now ≡ program.now.groups }
-    ensures behind { result ≡ after_times (program_of program.now) (input_of (Input.view input.now)) times (instruction insn.now) (way forward) (map marks_of groups.now) offset }
+    ensures behind { result ≡ after_times (program_of program.now) (input_of (Input.view input.now)) times
+        (instruction insn.now) (way forward) (map marks_of groups.now) offset }
     ensures place { IfSome result (IsAtPlace (reading_of (Input.view input.now))) }
 {
     let mut behind = offset;
@@ -68,9 +70,11 @@ pub fn as_far<Input: CharInput>(
     offset: usize,
 ) -> usize
     requires suits { Suits (program_of program.now) (Input.view input.now) }
-    requires body { (at : ℕ) × Stands (program_of program.now) (at - 1) (instruction insn.now) × IsBody (program_of program.now) (Input.view input.now) at offset }
+    requires body { (at : ℕ) × Stands (program_of program.now) (at - 1) (instruction insn.now)
+        × IsBody (program_of program.now) (Input.view input.now) at offset }
     requires groups { length groups.now ≡ program.now.groups }
-    ensures far { result ≡ as_far (program_of program.now) (input_of (Input.view input.now)) times (instruction insn.now) (way forward) (map marks_of groups.now) offset }
+    ensures far { result ≡ as_far (program_of program.now) (input_of (Input.view input.now)) times
+        (instruction insn.now) (way forward) (map marks_of groups.now) offset }
     ensures place { IsAtPlace (reading_of (Input.view input.now)) result }
 {
     if forward {

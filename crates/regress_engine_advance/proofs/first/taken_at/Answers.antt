@@ -10,7 +10,7 @@ use Rattle.regress_engine_advance.proofs.TakenLemmas.{first-here, first-loop}
 use Rattle.regress_engine_advance.proofs.first.taken_at.Goals as goal
 
 pub returns-in-Loop1CharBody : goal.returns-in-Loop1CharBody
-returns-in-Loop1CharBody g c =
+returns-in-Loop1CharBody c =
     let program = program_of c.args.program.now in
     let insns = c.args.program.now.insns.items in
     let here = stands-as program c.args.at _ _ c.in-Loop1CharBody.is (stands-read c.insns-insns.result.now insns c.args.at Goal c.insns-insns.ensures c.if-at-insns.false) in
@@ -23,7 +23,7 @@ returns-in-Loop1CharBody g c =
     (takes-taking _ (ap takes_character (sym same) ∙ fits.2)) (omega (arith, few))
 
 pub returns-then-takes_some : goal.returns-then-takes_some
-returns-then-takes_some g c =
+returns-then-takes_some c =
     let program = program_of c.args.program.now in
     let here = stands-read c.insns-insns.result.now c.args.program.now.insns.items c.args.at Goal c.insns-insns.ensures c.if-at-insns.false in
     first-here program c.requires c.args.at _ here (c.takes_some.ensures.taking c.if-takes_some.true)

@@ -12,7 +12,7 @@ if_some f None h = tt
 if_some f (Some a) h = f a h
 
 pub returns-in-EndCaptureGroup : goal.returns-in-EndCaptureGroup
-returns-in-EndCaptureGroup g c =
+returns-in-EndCaptureGroup c =
     let program = program_of c.args.program.now in
     let here = stands-read c.insns-insns.result.now c.args.program.now.insns.items c.args.at Goal c.insns-insns.ensures c.if-at-insns.false in
     if_some (λ insn first. first-behind program c.requires c.args.at c.in-EndCaptureGroup.field-0 _ (stands-as program c.args.at _ _ c.in-EndCaptureGroup.is here) first)
