@@ -9,4 +9,4 @@ use Rattle.regress_engine_leading.specs.Known.{Comes}
 
 -- behind `\b`, where a word begins or ends
 pub comes-boundary : (program : Program) (input : Input) (folded : Bool) (o : ℕ) → Stands program 0 (code.boundary false folded) → at_boundary input folded o ≡ true → Comes program input o 1
-comes-boundary program input folded o here so = inr (refl, code.boundary false folded, here, refl, λ groups. ap (λ (b : Bool). if b then Some o else None) so)
+comes-boundary program input folded o here so = inr (refl, (code.boundary false folded, (here, refl, λ groups. ap (λ (b : Bool). if b then Some o else None) so)))

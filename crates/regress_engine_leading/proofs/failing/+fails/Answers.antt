@@ -70,7 +70,7 @@ returns-then-not-holds_at g t c = λ yes.
     let here = stands-read c.insns-insns.result.now c.args.program.now.insns.items c.args.at Goal c.insns-insns.ensures c.if-at-insns.false in
     let edge = sym c.is_edge.ensures ∙ c.if-is_edge.true in
     simple-stuck program (input_of (g.Input.InputIndexer.view c.args.input.now)) Forward c.args.at c.args.offset _ here (edge-simple _ edge)
-    (λ groups. c.if-not-holds_at.ensures true groups edge)
+    (λ groups. c.if-not-holds_at.ensures program true groups edge)
 
 pub returns-then-is_edge : goal.returns-then-is_edge
 returns-then-is_edge g t c = λ yes.
@@ -78,4 +78,4 @@ returns-then-is_edge g t c = λ yes.
     let here = stands-read c.insns-insns.result.now c.args.program.now.insns.items c.args.at Goal c.insns-insns.ensures c.if-at-insns.false in
     let edge = sym c.is_edge.ensures ∙ c.if-is_edge.true in
     taken-stuck program (input_of (g.Input.InputIndexer.view c.args.input.now)) Forward c.args.at c.args.offset c.args.offset _ here (edge-simple _ edge)
-    (λ groups. c.if-not-holds_at.ensures true groups edge) (c.fails.ensures yes)
+    (λ groups. c.if-not-holds_at.ensures program true groups edge) (c.fails.ensures yes)
