@@ -52,6 +52,6 @@ module _ (program : Program) (input : Input) (forward : Bool) (o : ℕ) where
 -- where a run comes to
 pub way-comes : (program : Program) (input : Input) (o first : ℕ) → Comes program input o first → IsWay program input true o 0 first
 way-comes program input o first (inl none) h = inl none
-way-comes program input o first (inr (one, i, here, simple, takes)) h =
+way-comes program input o first (inr (one, (i, (here, simple, takes)))) h =
     inr (subst (λ a. Leads program input 1 (task program input true (record { at = 0; offset = o; forward = true }) h) (task program input true (record { at = a; offset = o; forward = true }) h)) (sym one)
     (take-some program input i (record { at = 0; offset = o; forward = true }) h o here simple (takes h.groups)))
