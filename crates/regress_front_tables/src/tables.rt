@@ -24,9 +24,10 @@ use law::TableError;
 use parts::TableParts;
 use regress_front_sets::{CodePoint, CodePointSet, Interval};
 use std::alloc::{AllocError, Global};
+use std::fmt;
 
 /// Case and properties of code points, which patterns are compiled by. They keep all laws (`TableLaw`).
-#[derive(Debug, Drop)]
+#[derive(Drop)]
 pub struct Tables {
     pub(crate) fold: CaseMap,
     pub(crate) upper: CaseMap,
@@ -131,6 +132,21 @@ impl Tables {
         ensures { option_map (λ strings. map (λ s. s.items) strings.now) result ≡ (table self.now).sequences (chars key.now) }
     {
         entry(&self.sequences, key).map(|strings| strings.as_slice())
+    }
+}
+
+/// How much they know, and not what: of each map of case its pages and classes, of each set of identifiers its intervals, and
+/// how many keys there are.
+impl fmt::Debug for Tables {
+    fn fmt<W: fmt::Write>(&self, f: &mut fmt::Formatter<W>) -> fmt::Result {
+        f.debug_struct("Tables")
+            .field("fold", &self.fold)
+            .field("upper", &self.upper)
+            .field("id_start", &self.id_start.intervals().len())
+            .field("id_continue", &self.id_continue.intervals().len())
+            .field("properties", &self.properties.len())
+            .field("sequences", &self.sequences.len())
+            .finish()
     }
 }
 

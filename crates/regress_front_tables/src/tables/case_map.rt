@@ -10,9 +10,10 @@ use super::image::image;
 use super::pages::{PAGE_COUNT, PAGE_SIZE, Page, Pages};
 use regress_front_sets::CodePoint;
 use std::alloc::{AllocError, Global};
+use std::fmt;
 
 /// A map of case: each code point has an image, mostly itself.
-#[derive(Debug, Drop)]
+#[derive(Drop)]
 pub(crate) struct CaseMap {
     /// The code points that have images of their own, with these, from low to high.
     pub(crate) pairs: Vec<(CodePoint, CodePoint)>,
@@ -68,6 +69,16 @@ impl CaseMap {
     /// Where its memory is from.
     pub(crate) fn allocator(&self) -> Global {
         *self.pairs.allocator()
+    }
+}
+
+/// How many pages and classes there are.
+impl fmt::Debug for CaseMap {
+    fn fmt<W: fmt::Write>(&self, f: &mut fmt::Formatter<W>) -> fmt::Result {
+        f.debug_struct("CaseMap")
+            .field("pages", &self.images.count())
+            .field("classes", &self.classes.count())
+            .finish()
     }
 }
 
