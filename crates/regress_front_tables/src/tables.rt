@@ -6,6 +6,7 @@ ghost use Rattle.regress_front_sets.specs.Intervals.{ends_of};
 ghost use Rattle.regress_front_sets.specs.Sets.{ends_in};
 ghost use Rattle.regress_front_tables.specs.Entries.{entry_of};
 ghost use Rattle.regress_front_tables.specs.Listed.{listed};
+ghost use Rattle.regress_front_tables.specs.MapViews.{pairs_of};
 
 pub(crate) mod case_map;
 mod check;
@@ -35,7 +36,7 @@ pub struct Tables {
     id_continue: CodePointSet,
     properties: Vec<(String, CodePointSet)>,
     sequences: Vec<(String, Vec<Vec<CodePoint>>)>,
-    pub ghost lawful: { IsLawful (listed fold.pairs.items upper.pairs.items id_start id_continue properties.items sequences.items) } by { IsLawful-prop (listed fold.pairs.items upper.pairs.items id_start id_continue properties.items sequences.items) },
+    pub ghost lawful: { IsLawful (listed (pairs_of fold) (pairs_of upper) id_start id_continue properties.items sequences.items) } by { IsLawful-prop (listed (pairs_of fold) (pairs_of upper) id_start id_continue properties.items sequences.items) },
 }
 
 impl Tables {
@@ -58,8 +59,8 @@ impl Tables {
         check_laws(alloc, &parts)?;
         let properties = property_sets(alloc, parts.properties)?;
         Ok(Tables {
-            fold: CaseMap::new(alloc, parts.fold)?,
-            upper: CaseMap::new(alloc, parts.upper)?,
+            fold: CaseMap::new(alloc, &parts.fold)?,
+            upper: CaseMap::new(alloc, &parts.upper)?,
             id_start: CodePointSet::from_sorted_disjoint_intervals(parts.id_start),
             id_continue: CodePointSet::from_sorted_disjoint_intervals(parts.id_continue),
             properties,

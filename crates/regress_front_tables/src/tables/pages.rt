@@ -58,6 +58,11 @@ impl Pages {
         Ok(self.root.push(number)?)
     }
 
+    /// Where their memory is from.
+    pub(crate) fn allocator(&self) -> Global {
+        *self.root.allocator()
+    }
+
     /// How many pages are kept.
     pub(crate) fn count(&self) -> usize
         ensures { result ≡ vec_len self.now.pages }
