@@ -2,7 +2,7 @@
 use Rattle.std.proofs.Common.{◌≡◌, ℕ, true, [], ◌∷◌, Option, Some, None, refl, sym, subst}
 use Rattle.regress_meaning.specs.Meaning.{Forward}
 use Rattle.regress_meaning.specs.Steps.{passed}
-use Rattle.regress_engine_input.specs.Views.{View, input_of, reading_of}
+use Rattle.regress_engine_input.specs.Views.{View, way, input_of, reading_of}
 use Rattle.regress_engine_code.specs.Instructions.{Program}
 use Rattle.regress_engine_runs.specs.States.{Whole, first_state}
 use Rattle.regress_engine_runs.specs.Computed.{IsComputed}

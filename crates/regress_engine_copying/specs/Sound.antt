@@ -10,7 +10,7 @@ pub record IsWhole (program : Program) (s : Whole) : Type 0 where
   pub loops : length s.loops ≡ program.loops
   pub groups : length s.groups ≡ program.groups
 
--- each state that waits has the program's loops and groups, and those inside of a lookaround are there
+-- each state that waits has the program's loops and groups, and those inside of a lookaround or an atomic group are there
 unfoldable pub AreSound : Program → List Entry → Type 0
 AreSound program [] = Unit {0}
 AreSound program (tried s ∷ es) = IsWhole program s × AreSound program es

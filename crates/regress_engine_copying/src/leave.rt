@@ -26,8 +26,8 @@ impl Stack {
         None
     }
 
-    /// Leaves a goal at which a state is: that of a lookaround or an atomic group, behind which the run then
-    /// continues, or fails; or that of the whole program, and answers the state.
+    /// Leaves a goal at which a state is: that of a lookaround or an atomic group, behind which the run then continues, or fails; or
+    /// that of the whole program, and answers the state.
     pub(crate) fn leave(&mut self, found: State) -> Result<Option<State>, AllocError>
         requires { (program : Program) × AreSound program (held self.old).entries × IsWhole program (state_of found) }
         ensures leaves { IfOk result (λ left. Leaves (state_of found) (held self.old) (option_map state_of left) (held self.new)) }

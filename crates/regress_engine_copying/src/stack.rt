@@ -39,8 +39,8 @@ pub(crate) enum Pending {
     Submatch(Frame, State),
 }
 
-/// The states that are still to be tried, the next one on top, and whether they are read forward, up to the topmost lookaround or atomic
-/// group.
+/// The states that are still to be tried, the next one on top, and whether they are read forward, up to the topmost lookaround or
+/// atomic group.
 #[derive(Debug, Drop)]
 pub(crate) struct Stack {
     pending: Vec<Pending>,
