@@ -38,4 +38,14 @@ module _ (units : Bool) (table : Table) (unicode : Bool) where
   count (tree.submatch kind first last a) = count a + 2
   count (tree.loop a first last least most greedy) = count a + 2 + (last - first)
   count (tree.single_loop a least most greedy) = 2
-  count _ = 1
+  count tree.goal = 1
+  count (tree.char c) = 1
+  count (tree.byte_set bs) = 1
+  count (tree.char_set cs) = 1
+  count tree.any = 1
+  count tree.any_in_line = 1
+  count (tree.line_start multiline) = 1
+  count (tree.line_end multiline) = 1
+  count (tree.boundary inverted folded) = 1
+  count (tree.back k icase) = 1
+  count (tree.bracket inverted intervals) = 1

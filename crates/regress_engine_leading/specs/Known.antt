@@ -1,5 +1,5 @@
 -- What is known of a place before a run begins there.
-use Rattle.std.specs.Prelude.{◌≡◌, ℕ, Bool, true, Some, List, ◌⊎◌}
+use Rattle.std.specs.Prelude.{◌≡◌, ℕ, true, Some, List, ◌⊎◌}
 use Rattle.regress_meaning.specs.Inputs.{Input}
 use Rattle.regress_meaning.specs.Meaning.{Forward}
 use Rattle.regress_engine_input.specs.Views.{View, input_of}

@@ -47,7 +47,17 @@ reads_character (code.line_end multiline) = true
 reads_character (code.boundary inverted folded) = true
 reads_character (code.back k icase) = true
 reads_character (code.single_loop least most greedy) = true
-reads_character _ = false
+reads_character code.goal = false
+reads_character (code.byte_seq bs) = false
+reads_character (code.enter_loop f) = false
+reads_character (code.loop_again begin) = false
+reads_character (code.jump a) = false
+reads_character (code.alt a) = false
+reads_character (code.begin_group k) = false
+reads_character (code.end_group k) = false
+reads_character (code.reset_group k) = false
+reads_character (code.submatch kind first last continuation) = false
+reads_character code.fail = false
 
 -- an offset is that of a place
 abbrev pub IsAtPlace : Reading → ℕ → Type 0

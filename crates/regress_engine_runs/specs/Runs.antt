@@ -65,7 +65,27 @@ fields_of _ = None
 abbrev pub is_plain : Instruction → Bool
 is_plain code.goal = false
 is_plain (code.submatch kind first last continuation) = false
-is_plain _ = true
+is_plain (code.char c) = true
+is_plain (code.char_set cs) = true
+is_plain (code.byte_set bs) = true
+is_plain (code.byte_seq bs) = true
+is_plain code.any = true
+is_plain code.any_in_line = true
+is_plain (code.bracket k) = true
+is_plain (code.ascii_bracket cs) = true
+is_plain (code.line_start multiline) = true
+is_plain (code.line_end multiline) = true
+is_plain (code.boundary inverted folded) = true
+is_plain (code.back k icase) = true
+is_plain (code.enter_loop f) = true
+is_plain (code.loop_again begin) = true
+is_plain (code.single_loop least most greedy) = true
+is_plain (code.jump a) = true
+is_plain (code.alt a) = true
+is_plain (code.begin_group k) = true
+is_plain (code.end_group k) = true
+is_plain (code.reset_group k) = true
+is_plain code.fail = true
 
 -- the other direction
 abbrev pub against : Direction → Direction
@@ -105,7 +125,17 @@ module _ (program : Program) (input : Input) where
   advance (code.boundary inverted folded) dir groups o =
       let d = at_boundary input folded o in only_if (if inverted then not d else d) o
   advance (code.back k icase) dir groups o = repeated input dir icase (range_of (get_or groups k unset)) o
-  advance _ dir groups o = None
+  advance code.goal dir groups o = None
+  advance (code.enter_loop f) dir groups o = None
+  advance (code.loop_again begin) dir groups o = None
+  advance (code.single_loop least most greedy) dir groups o = None
+  advance (code.jump a) dir groups o = None
+  advance (code.alt a) dir groups o = None
+  advance (code.begin_group k) dir groups o = None
+  advance (code.end_group k) dir groups o = None
+  advance (code.reset_group k) dir groups o = None
+  advance (code.submatch kind first last continuation) dir groups o = None
+  advance code.fail dir groups o = None
 
   -- the offset behind so many iterations of an instruction that takes one character, where there are so many
   unfoldable pub after_times : ℕ → Instruction → Direction → List Marks → ℕ → Option ℕ

@@ -1,18 +1,12 @@
 -- Each instruction's step.
-use Rattle.std.specs.Prelude.{slice_set, slice_get, get_or, is_some, option_map}
-use Rattle.std.proofs.lemmas.Option.{slice_get-map, slice_get-get_or}
-use Rattle.std.proofs.Common.{◌≡◌, ℕ, suc, ◌+◌, ◌<◌, Bool, true, false, List, length, map, [], ◌∷◌, Option, Some, None, if◌then◌else◌, refl, sym, ap, ◌∙◌, subst, arith}
+use Rattle.std.specs.Prelude.{slice_set}
+use Rattle.std.proofs.Common.{◌≡◌, ℕ, suc, ◌+◌, Bool, true, false, [], ◌∷◌, Some, None, if◌then◌else◌, refl, sym, ap, ◌∙◌, subst, arith}
 use Rattle.regress_meaning.specs.Inputs.{Input}
 use Rattle.regress_engine_input.specs.Views.{way}
 use Rattle.regress_engine_code.specs.Instructions.{Instruction, Program, Stands, is_byte_seq}
 use Rattle.regress_engine_code.specs.Instructions as code
-use Rattle.regress_engine_code.specs.InsnViews.{instruction}
-use Rattle.regress_engine_code.specs.InsnViews.{instruction}
-use Rattle.regress_engine_code.specs.declared.insn.Insn.{Insn}
 use Rattle.regress_engine_runs.specs.States.{Marks, Whole, onward}
 use Rattle.regress_engine_runs.specs.Runs.{successors, is_plain, moved_to, advance, is_idle, choices}
-use Rattle.regress_engine_runs.specs.Meets.{reads_character}
-use Rattle.regress_engine_runs.specs.Closed.{Fits}
 use Rattle.regress_engine_runs.specs.UndoStack.{Frame, Work, frame, resume, stands_for}
 use Rattle.regress_engine_sought.specs.Ready.{is_simple}
 use Rattle.regress_engine_sought.specs.Tasks.{Task, Leads}

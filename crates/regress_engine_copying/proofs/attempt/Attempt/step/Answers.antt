@@ -1,4 +1,4 @@
-use Rattle.std.proofs.Common.{true, false, not, refl}
+use Rattle.std.proofs.Common.{true, false, refl}
 use Rattle.regress_engine_code.specs.InsnViews.{instruction}
 use Rattle.regress_engine_code.specs.Standing.{program_of}
 use Rattle.regress_engine_input.specs.Views.{way, input_of}
