@@ -14,8 +14,6 @@ use Rattle.regress_front_tables.specs.Folding.{IsCaseMap}
 use Rattle.regress_front_tables.specs.CaseMaps.{listed_image, pairs_told, told_at, pairs_in}
 use Rattle.regress_front_tables.proofs.ImageLemmas.{PairsRise-tail, PairsRise-above, key-absent, firsts-rise, pages-rise}
 
--- ---- what pairs list
-
 -- what the first pair is of
 listed-here : (p : ℕ × ℕ) (pairs : List (ℕ × ℕ)) (c : ℕ) → p.0 ≡ c → listed_image (p ∷ pairs) c ≡ p.1 + 1
 unfolding listed_image
@@ -62,8 +60,6 @@ image-told (p ∷ pairs) c k told some = elim (cases_eq p.0 c) [
   | inr ne ↦ rw (ne_eqb p.0 c ne) (image-told pairs c k (sym (listed-further p pairs c ne) ∙ told) some)
 ]
 
--- ---- by halving
-
 module _ (pairs : List (ℕ × ℕ)) (rise : PairsRise pairs) (c : ℕ) where
   -- what a binary search for c finds is its pair
   pub listed-found : (k : ℕ) → k < length pairs → HoldsAt (λ p. nat_cmp p.0 c ≡ Equal) pairs k
@@ -92,8 +88,6 @@ module _ (pairs : List (ℕ × ℕ)) (rise : PairsRise pairs) (c : ℕ) where
 pub listed-past : (pairs : List (ℕ × ℕ)) → All (λ p. is_code_point p.0 × is_code_point p.1) pairs → (c : ℕ) → last_code_point < c
     → listed_image pairs c ≡ 0
 listed-past pairs range c past = listed-absent pairs c (λ k d l same. omega (arith, (range k d l).0, same, past))
-
--- ---- pairs read off what is told
 
 -- a code point of which nothing is told
 told-none : (told : ℕ → ℕ) (c n : ℕ) → told c ≡ 0 → pairs_told told c (suc n) ≡ pairs_told told (suc c) n

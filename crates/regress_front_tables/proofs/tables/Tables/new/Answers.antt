@@ -1,7 +1,7 @@
 use Rattle.regress_meaning.specs.TableParts.{IntervalsRise}
 use Rattle.regress_front_sets.specs.Intervals.{ends_of}
 use Rattle.regress_front_tables.specs.Entries.{entry_of}
-use Rattle.regress_front_tables.proofs.ListLemmas.{All-from_map}
+use Rattle.regress_front_sets.proofs.ListLemmas.{All-from_map}
 use Rattle.regress_front_tables.proofs.tables.Tables.new.Goals as goal
 
 pub property_sets-requires : goal.property_sets-requires
