@@ -8,7 +8,7 @@ use regress::{
     CompiledRegex, Error, Flags, Match, Regex, Tables, are_code_points, is_ascii_text, is_start,
     is_unit_start,
 };
-use regress_engine_input::{Ucs2Input, Utf16Input};
+use regress_engine_inputs::{Ucs2Input, Utf16Input};
 use std::alloc::{AllocError, Global};
 
 /// The executor that copies.

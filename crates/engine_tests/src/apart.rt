@@ -2,7 +2,7 @@
 
 use crate::parsed::parsed;
 use regress_engine_code::{Insn, emit};
-use regress_engine_input::Utf8Input;
+use regress_engine_inputs::Utf8Input;
 use regress_engine_singles::{are_apart, as_far_ahead, is_apart};
 use regress_front_bytes::AsciiBitmap;
 use regress_front_tables::Tables;

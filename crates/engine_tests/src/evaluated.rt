@@ -34,6 +34,8 @@ const PATTERNS: &[(&str, &str)] = &[
     ("((?:[ab]|cd){1,2})*c", ""),
     ("(?:ca|cat|catc)+h?s?", "iu"),
     ("(?:ab|(?=c)c|(?!d)[de])*d", ""),
+    ("(?>a|ab)(c|b)?(?>(d)|a)*", ""),
+    ("(?:(?>a+|(b))(?<=(?>ab|b|a))|c)*d", ""),
 ];
 
 /// Texts in which each of these is sought.

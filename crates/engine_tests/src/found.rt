@@ -7,7 +7,7 @@ ghost use Rattle.regress_match.specs.Iterating.{producer_of, position_of};
 use regress_engine_code::{CompiledRegex, emit, emit_units};
 use regress_engine_copying::PikeVMExecutor;
 use regress_engine_exec::BacktrackExecutor;
-use regress_engine_input::{Ucs2Input, Utf8Input, Utf16Input};
+use regress_engine_inputs::{Ucs2Input, Utf8Input, Utf16Input};
 use regress_front_nodes::ir::Regex;
 use regress_front_tables::Error;
 use regress_match::{Match, MatchProducer, Matches, Range};

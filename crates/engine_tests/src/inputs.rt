@@ -2,10 +2,8 @@
 ghost use Rattle.regress_engine_input.specs.Views.{CanRead};
 
 use regress_engine_input::cursor::try_match_lit;
-use regress_engine_input::{
-    AsciiInput, Backward, DefPosition, ElementType, Forward, InputIndexer, PositionType, Ucs2Input,
-    Utf8Input, Utf16Input,
-};
+use regress_engine_input::{Backward, ElementType, Forward, InputIndexer, PositionType};
+use regress_engine_inputs::{AsciiInput, DefPosition, Ucs2Input, Utf8Input, Utf16Input};
 use regress_front_bytes::{ByteBitmap, ByteSearcher, EmptyString};
 use regress_front_tables::Tables;
 use std::test::Fail;

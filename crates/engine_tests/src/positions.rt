@@ -1,7 +1,6 @@
 //! Positions, characters as numbers, and directions.
-use regress_engine_input::{
-    Backward, CodeUnit, DefPosition, Direction, ElementType, Forward, IndexPosition, PositionType,
-};
+use regress_engine_input::{Backward, CodeUnit, Direction, ElementType, Forward, PositionType};
+use regress_engine_inputs::{DefPosition, IndexPosition};
 use std::test::Fail;
 
 #[test]

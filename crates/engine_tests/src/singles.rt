@@ -2,7 +2,8 @@
 ghost use Rattle.std.specs.Prelude.{◌≡◌, true};
 ghost use Rattle.regress_engine_input.specs.Views.{CanRead, View, are_bytes};
 
-use regress_engine_input::{Backward, Direction, Forward, InputIndexer, PositionType, Utf8Input};
+use regress_engine_input::{Backward, Direction, Forward, InputIndexer, PositionType};
+use regress_engine_inputs::Utf8Input;
 use regress_engine_matchers::{
     Char, MatchByteArraySet, MatchByteSeq, PreparedBracket, SingleCharMatcher,
 };

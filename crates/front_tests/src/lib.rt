@@ -9,6 +9,8 @@ mod bytes;
 #[cfg(test)]
 mod figures;
 #[cfg(test)]
+mod flags;
+#[cfg(test)]
 mod nodes;
 #[cfg(test)]
 mod rewriting;

@@ -153,3 +153,14 @@ fn much_is_looked_up(rt: HostRuntime) -> Result<(), Fail> {
     assert!(rt; letters.is_some_and(|set| set.contains(0x7A) && !set.contains(0x41)));
     Ok(())
 }
+
+/// How much the small table knows.
+const SMALL: &str =
+    "Tables { fold: CaseMap { pages: 4, classes: 29 }, upper: CaseMap { pages: 2, classes: 29 }, id_start: 4, id_continue: 6, properties: 3, sequences: 1 }";
+
+#[test]
+fn tables_tell_how_much_they_know(rt: HostRuntime) -> Result<(), Fail> {
+    let tables = Tables::small(rt.alloc())?;
+    assert!(rt; format!(in rt.alloc(); "{tables:?}")?.as_str() == SMALL);
+    Ok(())
+}

@@ -39,9 +39,9 @@ fn push_below(
             push_node(alloc, out, first, depth)?;
             push_node(alloc, out, second, depth)
         }
-        Node::CaptureGroup { contents, .. } | Node::LookaroundAssertion { contents, .. } => {
-            push_node(alloc, out, contents, depth)
-        }
+        Node::CaptureGroup { contents, .. }
+        | Node::LookaroundAssertion { contents, .. }
+        | Node::AtomicGroup { contents, .. } => push_node(alloc, out, contents, depth),
         Node::Loop { loopee, .. } | Node::Loop1CharBody { loopee, .. } => {
             push_node(alloc, out, loopee, depth)
         }
@@ -68,6 +68,11 @@ fn push_head(alloc: Global, out: &mut String, node: &Node) -> Result<(), AllocEr
             out,
             "LookaroundAssertion {{ negate: {negate}, backwards: {backwards} }} groups {start_group}..{end_group}"
         ),
+        Node::AtomicGroup {
+            start_group,
+            end_group,
+            ..
+        } => write!(out, "AtomicGroup groups {start_group}..{end_group}"),
         Node::Loop {
             quant,
             enclosed_groups,

@@ -15,7 +15,7 @@ use crate::api::Regex;
 pub use regress_engine_code::{emit, emit_units};
 pub use regress_engine_copying::PikeVMExecutor;
 pub use regress_engine_exec::BacktrackExecutor;
-pub use regress_engine_input::{AsciiInput, Utf8Input};
+pub use regress_engine_inputs::{AsciiInput, Utf8Input};
 pub use regress_engine_sought::{AnyText, AsciiText, Executor, TextKind};
 pub use regress_front::{optimize, try_parse};
 pub use regress_match::{MatchProducer, Matches};

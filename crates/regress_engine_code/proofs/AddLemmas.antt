@@ -3,7 +3,8 @@ use Rattle.std.proofs.Common.{◌≡◌, ℕ, suc, ◌+◌, ◌-◌, ◌≤◌, 
 use Rattle.std.proofs.lemmas.List.{length-set}
 use Rattle.regress_meaning.specs.Table.{Table}
 use Rattle.regress_front_core.specs.declared.error.Error.{Error}
-use Rattle.regress_front_nodes.specs.Trees.{Tree, cat_of}
+use Rattle.regress_front_nodes.specs.Trees.{Submatch, Tree, cat_of}
+use Rattle.regress_front_nodes.specs.TreeMeaning.{reads_backward}
 use Rattle.regress_front_nodes.specs.Trees as tree
 use Rattle.regress_front_nodes.specs.Sizes.{loops}
 use Rattle.regress_front_nodes.specs.WellFormed.{AreLawful}
@@ -153,22 +154,22 @@ module _ (units : Bool) (table : Table) (unicode : Bool) where
       (λ program same h. (h.0.0, subst (λ r. tree_lies b t program r (end w2)) h.0.1 h.1))
       (Adds-chain units Begun (tree_lies b t) w0 w1 w2 first adds)
 
-  -- a lookaround
-  pub AddsTree-look : (b negated behind : Bool) (first last : ℕ) (t : Tree) (ph : Instruction) (w0 w1 w2 w3 w4 : Written) → w1 ≡ with w0 (ph ∷ [])
-      → AddsTree units table unicode behind t w1 w2 → w3 ≡ with w2 (code.goal ∷ []) → w4 ≡ changed w3 (length w0.instructions) (code.look negated behind first last (length w3.instructions))
-      → AddsTree units table unicode b (tree.look negated behind first last t) w0 w4
-  AddsTree-look b negated behind first last t ph w0 w1 w2 w3 w4 begun adds ended closed =
-      let i : Instruction = code.look negated behind first last (length w3.instructions) in
+  -- what is matched by itself
+  pub AddsTree-submatch : (b : Bool) (kind : Submatch) (first last : ℕ) (t : Tree) (ph : Instruction) (w0 w1 w2 w3 w4 : Written) → w1 ≡ with w0 (ph ∷ [])
+      → AddsTree units table unicode (reads_backward kind b) t w1 w2 → w3 ≡ with w2 (code.goal ∷ []) → w4 ≡ changed w3 (length w0.instructions) (code.submatch kind first last (length w3.instructions))
+      → AddsTree units table unicode b (tree.submatch kind first last t) w0 w4
+  AddsTree-submatch b kind first last t ph w0 w1 w2 w3 w4 begun adds ended closed =
+      let i : Instruction = code.submatch kind first last (length w3.instructions) in
       let Ended : Lie = λ program p q. Stands program p.address code.goal × (q ≡ next p) in
-      let Inner : Lie = λ program p q. tree_lies behind t program p (end w2) × Ended program (end w2) q in
+      let Inner : Lie = λ program p q. tree_lies (reads_backward kind b) t program p (end w2) × Ended program (end w2) q in
       let start = one-longer w0 ph w1 begun in
       let opened = Adds-opened units Inner w0 w1 w3 w4 i start.0 start.1
-      (Adds-chain units (tree_lies behind t) Ended w1 w2 w3 adds (Adds-one units w2 w3 code.goal ended)) closed in
-      Adds-turned units (λ program p q. Stands program p.address i × Inner program (end w1) q) (tree_lies b (tree.look negated behind first last t)) w0 w4
+      (Adds-chain units (tree_lies (reads_backward kind b) t) Ended w1 w2 w3 adds (Adds-one units w2 w3 code.goal ended)) closed in
+      Adds-turned units (λ program p q. Stands program p.address i × Inner program (end w1) q) (tree_lies b (tree.submatch kind first last t)) w0 w4
       (λ program same h. (
         end w2,
-        subst (λ (a : ℕ). Stands program (length w0.instructions) (code.look negated behind first last a)) (sym (ap (λ (p : Spot). p.address) opened.0)) h.0,
-        subst (λ r. tree_lies behind t program r (end w2)) start.2 h.1.0,
+        subst (λ (a : ℕ). Stands program (length w0.instructions) (code.submatch kind first last a)) (sym (ap (λ (p : Spot). p.address) opened.0)) h.0,
+        subst (λ r. tree_lies (reads_backward kind b) t program r (end w2)) start.2 h.1.0,
         h.1.1,
       ))
       opened.1

@@ -4,6 +4,7 @@ use Rattle.std.proofs.lemmas.Bool.{cases_lt, ltb-true}
 use Rattle.std.proofs.Common.{◌≡◌, ℕ, suc, ◌<◌, ◌≤◌, ◌||◌, ◌&&◌, ◌==◌, ◌≢◌, not, Bool, true, false, List, length, Option, Some, None, ◌⊎◌, inl, inr, refl, sym, ap, ◌∙◌, subst, arith}
 use Rattle.regress_front_bytes.specs.Bitmaps.{byte_bitmap_contains}
 use Rattle.regress_front_bytes.specs.declared.bitmaps.ByteBitmap.{ByteBitmap}
+use Rattle.regress_front_nodes.specs.Trees.{atomic}
 use Rattle.regress_engine_code.specs.Instructions.{Instruction, Program}
 use Rattle.regress_engine_code.specs.Instructions as code
 use Rattle.regress_engine_code.specs.Ahead.{begins, begins_at, behind, may_stand}
@@ -33,6 +34,7 @@ module _ (program : Program) (f g : ℕ → ℕ → Bool) (at b : ℕ) (same : (
   begins-same (code.line_start multiline) = behind-same (suc at)
   begins-same (code.line_end multiline) = behind-same (suc at)
   begins-same (code.boundary inverted folded) = behind-same (suc at)
+  begins-same (code.submatch atomic first last continuation) = behind-same (suc at)
   begins-same (code.begin_group k) = behind-same (suc at)
   begins-same (code.end_group k) = behind-same (suc at)
   begins-same (code.reset_group k) = behind-same (suc at)

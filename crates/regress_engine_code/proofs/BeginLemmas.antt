@@ -5,6 +5,7 @@ use Rattle.std.proofs.Math.Seq.{take-length}
 use Rattle.std.proofs.lemmas.List.Elements.{All-nil, All-cons, All-head, All-tail}
 use Rattle.std.proofs.lemmas.List.Sums.{sum_by-cons}
 use Rattle.regress_front_nodes.specs.Trees.{Tree}
+use Rattle.regress_front_nodes.specs.TreeMeaning.{reads_backward}
 use Rattle.regress_front_nodes.specs.Trees as tree
 use Rattle.regress_front_nodes.specs.Forms.{in_reading_order}
 use Rattle.regress_front_nodes.specs.Pieces.{pieces_of}
@@ -114,9 +115,9 @@ module _ (target : Target) where
       let e = loops-begin a b (next p) m h in
       let behind = single (code.end_group k) m q end refl in
       omega (arith, before, e, behind)
-  loops-begin (tree.look negated behind first last a) b p q (m, begin, h, end) =
-      let before = plain-step p.address (code.look negated behind first last q.address) begin refl in
-      let e = loops-begin a behind (next p) m h in
+  loops-begin (tree.submatch kind first last a) b p q (m, begin, h, end) =
+      let before = plain-step p.address (code.submatch kind first last q.address) begin refl in
+      let e = loops-begin a (reads_backward kind b) (next p) m h in
       let last = single code.goal m q end refl in
       omega (arith, before, e, last)
   loops-begin (tree.loop a first last least most greedy) b p q (m, begin, reset, h, end) =

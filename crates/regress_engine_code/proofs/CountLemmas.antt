@@ -7,6 +7,7 @@ use Rattle.std.proofs.lemmas.List.Elements.{All-head, All-tail}
 use Rattle.std.proofs.lemmas.List.Sums.{sum_by-append, sum_by-cons}
 use Rattle.regress_meaning.specs.TableParts.{is_code_point}
 use Rattle.regress_front_nodes.specs.Trees.{Tree}
+use Rattle.regress_front_nodes.specs.TreeMeaning.{reads_backward}
 use Rattle.regress_front_nodes.specs.Trees as tree
 use Rattle.regress_front_nodes.specs.Pieces.{pieces_of}
 use Rattle.regress_front_nodes.specs.Forms.{in_reading_order}
@@ -160,8 +161,8 @@ module _ (target : Target) where
       let e = counted n a b (next p) m h lawful.1 in let f = one m q end.1 in
       let at = e.0 in let more = f.0 in let loop = e.1 in let loops' = f.1 in
       (omega (arith, at, more), omega (arith, loop, loops'))
-  counted n (tree.look negated behind first last a) b p q (m, begin, h, end) lawful =
-      let e = counted n a behind (next p) m h lawful.1 in let f = one m q end.1 in
+  counted n (tree.submatch kind first last a) b p q (m, begin, h, end) lawful =
+      let e = counted n a (reads_backward kind b) (next p) m h lawful.1 in let f = one m q end.1 in
       let at = e.0 in let more = f.0 in let loop = e.1 in let loops' = f.1 in
       (omega (arith, at, more), omega (arith, loop, loops'))
   counted n (tree.loop a first last least most greedy) b p q (m, begin, reset, h, end) lawful =
@@ -178,7 +179,7 @@ module _ (target : Target) where
       without n (tree.cat s t) is = absurd (grind arith)
       without n (tree.alt s t) is = absurd (grind arith)
       without n (tree.capture k name a) is = absurd (grind arith)
-      without n (tree.look negated behind first last a) is = absurd (grind arith)
+      without n (tree.submatch kind first last a) is = absurd (grind arith)
       without n (tree.loop a first last least most greedy) is = absurd (grind arith)
       without n (tree.single_loop a least most greedy) is = absurd (grind arith)
       without n _ is = refl

@@ -2,6 +2,7 @@
 use Rattle.std.specs.Prelude.{slice_get}
 use Rattle.std.proofs.Common.{◌≡◌, ℕ, zero, suc, ◌+◌, ◌-◌, ◌<◌, ◌≤◌, Bool, List, [], ◌∷◌, ◌++◌, length, Some, refl, ap, subst, arith}
 use Rattle.regress_front_nodes.specs.Trees.{Tree}
+use Rattle.regress_front_nodes.specs.TreeMeaning.{reads_backward}
 use Rattle.regress_front_nodes.specs.Trees as tree
 use Rattle.regress_engine_code.specs.Instructions.{Instruction, Program, Stands, StandFrom}
 use Rattle.regress_engine_code.specs.Instructions as code
@@ -47,8 +48,8 @@ Lies-forward target b (tree.capture k name a) p q (m, begin, h, end) =
     let e = Lies-forward target b a (next p) m h in let f = at-same (next m) q end.1 in omega (arith, e, f)
 Lies-forward target b (tree.bracket inverted intervals) p q (i, is, h) = let e = at-same (next p) q h.1 in omega (arith, e)
 Lies-forward target b (tree.string_set strings icase) p q h = arms-forward target b icase strings p q h
-Lies-forward target b (tree.look negated behind first last a) p q (m, begin, h, end) =
-    let e = Lies-forward target behind a (next p) m h in let f = at-same (next m) q end.1 in omega (arith, e, f)
+Lies-forward target b (tree.submatch kind first last a) p q (m, begin, h, end) =
+    let e = Lies-forward target (reads_backward kind b) a (next p) m h in let f = at-same (next m) q end.1 in omega (arith, e, f)
 Lies-forward target b (tree.loop a first last least most greedy) p q (m, begin, reset, h, end) =
     let e = Lies-forward target b a _ m h in let f = at-same (next m) q end.1 in omega (arith, e, f)
 Lies-forward target b (tree.single_loop a least most greedy) p q h = let e = Lies-forward target b a (next p) q h.1 in omega (arith, e)
@@ -132,11 +133,11 @@ module _ (target : Target) (is : List Instruction) (brackets : List (Bool × Lis
   Lies-moved has b (tree.bracket inverted intervals) p q agree (i, is', h) =
       let e = at-same (next p) q h.1 in (i, bracket-moved inverted intervals i has is', (agree p.address i (omega arith) (omega (arith, e)) h.0, h.1))
   Lies-moved has b (tree.string_set strings icase) p q agree h = arms-moved b icase strings p q agree h
-  Lies-moved has b (tree.look negated behind first last a) p q agree (m, begin, h, end) =
-      let e = Lies-forward target behind a (next p) m h in let f = at-same (next m) q end.1 in (
+  Lies-moved has b (tree.submatch kind first last a) p q agree (m, begin, h, end) =
+      let e = Lies-forward target (reads_backward kind b) a (next p) m h in let f = at-same (next m) q end.1 in (
         m,
         agree p.address _ (omega arith) (omega (arith, e, f)) begin,
-        Lies-moved has behind a (next p) m (λ j i below above. agree j i (omega (arith, below)) (omega (arith, above, f))) h,
+        Lies-moved has (reads_backward kind b) a (next p) m (λ j i below above. agree j i (omega (arith, below)) (omega (arith, above, f))) h,
         (agree m.address _ (omega (arith, e)) (omega (arith, f)) end.0, end.1),
       )
   Lies-moved has b (tree.loop a first last least most greedy) p q agree (m, begin, reset, h, end) =

@@ -4,7 +4,7 @@ use Rattle.std.proofs.lemmas.List.Sums.{sum_by-cons}
 use Rattle.std.proofs.Common.{◌≡◌, ℕ, zero, suc, ◌+◌, ◌<◌, ◌≤◌, ◌==◌, Bool, true, false, List, [], ◌∷◌, length, cond, if◌then◌else◌, nat_le, nat_lt, ◌&&◌, refl, sym, ap, ap₂, ◌∙◌, subst, arith, length-append}
 use Rattle.std.proofs.lemmas.Bool.Decides.{nat_tests}
 use Rattle.regress_meaning.specs.Table.{Table}
-use Rattle.regress_front_nodes.specs.Trees.{Tree, cat, alt, capture, look, loop, single_loop}
+use Rattle.regress_front_nodes.specs.Trees.{Tree, cat, alt, capture, submatch, loop, single_loop}
 use Rattle.regress_front_nodes.specs.Singles.{takes_one}
 use Rattle.regress_front_nodes.specs.WellFormed.{AreLawful, IsWellFormed, group_ids}
 use Rattle.regress_front_nodes.specs.Sizes.{loops}
@@ -69,7 +69,7 @@ groups-counted units table unicode n (alt a b) lawful =
     let second = groups-counted units table unicode n b lawful.1 in
     omega (arith, size, first, second)
 groups-counted units table unicode n (capture k name a) lawful = omega (arith, groups-counted units table unicode n a lawful.1)
-groups-counted units table unicode n (look negated backward first last a) lawful = omega (arith, groups-counted units table unicode n a lawful.1)
+groups-counted units table unicode n (submatch kind first last a) lawful = omega (arith, groups-counted units table unicode n a lawful.1)
 groups-counted units table unicode n (loop a first last least most greedy) lawful = omega (arith, groups-counted units table unicode n a lawful.2)
 groups-counted units table unicode n (single_loop a least most greedy) lawful = omega (arith, ap length (none a lawful.0))
   where
@@ -77,7 +77,7 @@ groups-counted units table unicode n (single_loop a least most greedy) lawful = 
     none (cat s t) is = absurd (grind arith)
     none (alt s t) is = absurd (grind arith)
     none (capture k name s) is = absurd (grind arith)
-    none (look negated backward first last s) is = absurd (grind arith)
+    none (submatch kind first last s) is = absurd (grind arith)
     none (loop s first last least most greedy) is = absurd (grind arith)
     none (single_loop s least most greedy) is = absurd (grind arith)
     none _ is = refl

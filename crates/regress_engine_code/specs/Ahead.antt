@@ -4,6 +4,7 @@ use Rattle.regress_meaning.specs.Text.{holds}
 use Rattle.regress_front_bytes.specs.Bitmaps.{byte_bitmap_contains}
 use Rattle.regress_front_bytes.specs.declared.bitmaps.ByteBitmap.{ByteBitmap}
 use Rattle.regress_front_nodes.specs.TreeMeaning.{bracket_has}
+use Rattle.regress_front_nodes.specs.Trees.{lookaround, atomic}
 use Rattle.regress_engine_code.specs.Instructions.{Instruction, Program}
 use Rattle.regress_engine_code.specs.Instructions as code
 
@@ -33,6 +34,7 @@ begins program may (code.ascii_bracket cs) at b = high_or (holds cs) b
 begins program may (code.line_start multiline) at b = behind may at (suc at) b
 begins program may (code.line_end multiline) at b = behind may at (suc at) b
 begins program may (code.boundary inverted folded) at b = behind may at (suc at) b
+begins program may (code.submatch atomic first last continuation) at b = behind may at (suc at) b
 begins program may (code.begin_group k) at b = behind may at (suc at) b
 begins program may (code.end_group k) at b = behind may at (suc at) b
 begins program may (code.reset_group k) at b = behind may at (suc at) b
@@ -40,7 +42,15 @@ begins program may (code.jump a) at b = behind may at a b
 begins program may (code.alt a) at b = behind may at (suc at) b || behind may at a b
 begins program may (code.enter_loop f) at b = behind may at (suc at) b || (f.least == 0 && behind may at f.exit b)
 begins program may (code.single_loop least most greedy) at b = behind may at (suc at) b || (least == 0 && behind may at (suc (suc at)) b)
-begins program may _ at b = true
+begins program may code.goal at b = true
+begins program may (code.char c) at b = true
+begins program may (code.char_set cs) at b = true
+begins program may code.any at b = true
+begins program may code.any_in_line at b = true
+begins program may (code.back k icase) at b = true
+begins program may (code.loop_again begin) at b = true
+begins program may (code.submatch (lookaround negated backward) first last continuation) at b = true
+begins program may code.fail at b = true
 
 -- by sets of bytes, one for each address from the first on, a byte may stand ahead of an address; of others each may
 abbrev pub may_stand : List ByteBitmap → ℕ → ℕ → Bool

@@ -2,6 +2,7 @@
 use Rattle.std.specs.Prelude.{true, false}
 use Rattle.regress_front_bytes.specs.ByteSets.{members}
 use Rattle.regress_front_bytes.specs.Bitmaps.{ascii_bitmap_contains}
+use Rattle.regress_front_nodes.specs.Trees.{lookaround, atomic}
 use Rattle.regress_engine_code.specs.declared.insn.LoopFields.{LoopFields}
 use Rattle.regress_engine_code.specs.declared.insn.Insn.{Insn}
 use Rattle.regress_engine_code.specs.declared.insn.Insn.TheVariants as insn
@@ -31,8 +32,9 @@ instruction (insn.ResetCaptureGroup k) = code.reset_group k
 instruction (insn.BackRef k icase) = code.back k icase
 instruction (insn.Bracket k) = code.bracket k
 instruction (insn.AsciiBracket bitmap) = code.ascii_bracket (members (ascii_bitmap_contains bitmap))
-instruction (insn.Lookahead negate first last continuation) = code.look negate false first last continuation
-instruction (insn.Lookbehind negate first last continuation) = code.look negate true first last continuation
+instruction (insn.Lookahead negate first last continuation) = code.submatch (lookaround negate false) first last continuation
+instruction (insn.Lookbehind negate first last continuation) = code.submatch (lookaround negate true) first last continuation
+instruction (insn.Atomic first last continuation) = code.submatch atomic first last continuation
 instruction (insn.WordBoundary invert) = code.boundary invert false
 instruction (insn.WordBoundaryUnicodeICase invert) = code.boundary invert true
 instruction (insn.CharSet cs) = code.char_set cs

@@ -1,5 +1,6 @@
 -- The instructions of a program, as definitions see them.
 use Rattle.std.specs.Prelude.{◌≡◌, ℕ, suc, Bool, true, false, List, [], ◌∷◌, Some, slice_get}
+use Rattle.regress_front_nodes.specs.Trees.{Submatch}
 
 -- A repetition: its number among the program's loops, how often at least and at most, whether more is preferred, and the
 -- address where it has been left.
@@ -12,7 +13,7 @@ pub record LoopFields : Type 0 where
 
 -- An instruction.
 pub data Instruction : Type 0 where
-  -- the end, of the whole or of what a lookaround holds
+  -- the end, of the whole or of what is matched by itself
   goal : Instruction
   -- take this code point
   char : ℕ → Instruction
@@ -54,8 +55,8 @@ pub data Instruction : Type 0 where
   end_group : ℕ → Instruction
   -- a group has taken nothing
   reset_group : ℕ → Instruction
-  -- a lookaround, whose contents follow: the groups inside, from the first up to before the last, and where it goes on
-  look : (negated backward : Bool) → (first last continuation : ℕ) → Instruction
+  -- what is matched by itself, whose contents follow: the groups inside, from the first up to before the last, and where it goes on
+  submatch : Submatch → (first last continuation : ℕ) → Instruction
   -- nothing matches
   fail : Instruction
 

@@ -4,7 +4,7 @@ use Rattle.regress_meaning.specs.Text.{holds, count_up}
 use Rattle.regress_meaning.specs.Table.{Table}
 use Rattle.regress_front_nodes.specs.Trees.{Tree}
 use Rattle.regress_front_nodes.specs.Trees as tree
-use Rattle.regress_front_nodes.specs.TreeMeaning.{bracket_has}
+use Rattle.regress_front_nodes.specs.TreeMeaning.{reads_backward, bracket_has}
 use Rattle.regress_front_nodes.specs.Forms.{in_reading_order}
 use Rattle.regress_front_nodes.specs.Pieces.{pieces_of}
 use Rattle.regress_engine_code.specs.Instructions.{LoopFields, Instruction, Program, Stands, StandFrom}
@@ -129,8 +129,8 @@ module _ (target : Target) where
   Lies backward (tree.back k icase) p q = IsOne (code.back (k - 1) icase) p q
   Lies backward (tree.bracket inverted intervals) p q = (i : Instruction) × IsBracket target.program inverted intervals i × IsOne i p q
   Lies backward (tree.string_set strings icase) p q = AreArms backward icase strings p q
-  Lies backward (tree.look negated behind first last a) p q = (m : Spot)
-      × Stands target.program p.address (code.look negated behind first last q.address) × Lies behind a (next p) m × IsOne code.goal m q
+  Lies backward (tree.submatch kind first last a) p q = (m : Spot) × Stands target.program p.address (code.submatch kind first last q.address)
+      × Lies (reads_backward kind backward) a (next p) m × IsOne code.goal m q
   Lies backward (tree.loop a first last least most greedy) p q = (m : Spot)
       × Stands target.program p.address (code.enter_loop (record { loop_id = p.loops; least = least; most = most; greedy = greedy; exit = q.address }))
       × StandFrom target.program (suc p.address) (resets first (last - first))

@@ -113,6 +113,7 @@ fn ahead_of(insn: &Insn, brackets: &[BracketContents], sets: &[ByteBitmap], at: 
         | Insn::EndOfLine { .. }
         | Insn::WordBoundary { .. }
         | Insn::WordBoundaryUnicodeICase { .. }
+        | Insn::Atomic { .. }
         | Insn::BeginCaptureGroup(_)
         | Insn::EndCaptureGroup(_)
         | Insn::ResetCaptureGroup(_) => behind(sets, at, at + 1),

@@ -48,7 +48,7 @@ impl Code {
         Ok(self.insns.push(Insn::JustFail)?)
     }
 
-    /// Writes the end of what a lookaround holds.
+    /// Writes the end of what a lookaround or an atomic group holds.
     #[inline(never)]
     pub(crate) fn push_goal(&mut self) -> Result<(), AllocError>
         ensures { OnOk result (written self.new ≡ with (written self.old) (goal ∷ [])) }

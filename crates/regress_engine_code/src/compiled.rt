@@ -12,10 +12,11 @@ use regress_front_core::{CaptureGroupName, Error, Flags};
 use regress_front_nodes::BracketContents;
 use regress_front_tables::Tables;
 use std::alloc::{AllocError, Global};
+use std::fmt;
 use std::sync::ArcSlice;
 
 /// A program, as `emit` or `emit_units` makes it of a tree. It borrows the tables that the tree was made with.
-#[derive(Debug, Drop)]
+#[derive(Drop)]
 pub struct CompiledRegex<'u> {
     pub(crate) insns: Vec<Insn>,
     pub(crate) brackets: Vec<BracketContents>,
@@ -142,5 +143,19 @@ impl<'u> CompiledRegex<'u> {
             units: self.units,
             ahead: self.ahead.to_vec(alloc)?,
         })
+    }
+}
+
+/// Its flags, whether it reads units, and how large it is, but not its instructions nor its tables.
+impl fmt::Debug for CompiledRegex<'_> {
+    fn fmt<W: fmt::Write>(&self, f: &mut fmt::Formatter<W>) -> fmt::Result {
+        f.debug_struct("CompiledRegex")
+            .field("flags", &self.flags)
+            .field("units", &self.units)
+            .field("insns", &self.insns.len())
+            .field("brackets", &self.brackets.len())
+            .field("loops", &self.loops)
+            .field("groups", &self.groups)
+            .finish()
     }
 }

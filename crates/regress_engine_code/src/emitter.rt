@@ -53,7 +53,7 @@ fn word_boundary(invert: bool, unicode_icase: bool) -> Insn
 
 /// A lookaround over some groups, which goes on at an address.
 fn look(negate: bool, backwards: bool, groups: Range<CaptureGroupID>, continuation: u32) -> Insn
-    ensures { instruction result ≡ code.look negate backwards groups.start groups.end continuation }
+    ensures { instruction result ≡ code.submatch (node.lookaround negate backwards) groups.start groups.end continuation }
 {
     let Range {
         start: start_group,
@@ -105,6 +105,11 @@ impl<'u> Emitter<'u> {
                 *start_group..*end_group,
                 contents,
             ),
+            Node::AtomicGroup {
+                start_group,
+                end_group,
+                contents,
+            } => self.atomic_group(code, *start_group..*end_group, contents, backward),
             Node::Loop {
                 loopee,
                 quant,
@@ -228,14 +233,46 @@ impl<'u> Emitter<'u> {
     ) -> Result<(), Error>
         requires { IsLawful (tree contents.now) }
         ensures added { OnOk result ((backward : Bool) →
-            Emits self.now backward (node.look negate backwards groups.start groups.end (tree contents.now)) (written code.old) (written code.new)) }
-        ensures refused { IfErr result (Refuses self.now (node.look negate backwards groups.start groups.end (tree contents.now)) (written code.old)) }
+            Emits self.now backward (node.submatch (node.lookaround negate backwards) groups.start groups.end (tree contents.now)) (written code.old) (written code.new)) }
+        ensures refused { IfErr result (Refuses self.now (node.submatch (node.lookaround negate backwards) groups.start groups.end (tree contents.now)) (written code.old)) }
     {
         let at = code.reserve()?;
         self.node(code, contents, backwards)?;
         code.push_goal()?;
         let continuation = code.next_address()?;
         let insn = look(negate, backwards, groups, continuation);
+        code.change(at, insn);
+        Ok(())
+    }
+
+    /// Writes an atomic group.
+    #[cycle(emit)]
+    #[inline(never)]
+    fn atomic_group(
+        &self,
+        code: &mut Code,
+        groups: Range<CaptureGroupID>,
+        contents: &Node,
+        backward: bool,
+    ) -> Result<(), Error>
+        requires { IsLawful (tree contents.now) }
+        ensures added { OnOk result (Emits self.now backward
+            (node.submatch node.atomic groups.start groups.end (tree contents.now)) (written code.old) (written code.new)) }
+        ensures refused { IfErr result (Refuses self.now (node.submatch node.atomic groups.start groups.end (tree contents.now)) (written code.old)) }
+    {
+        let at = code.reserve()?;
+        self.node(code, contents, backward)?;
+        code.push_goal()?;
+        let continuation = code.next_address()?;
+        let Range {
+            start: start_group,
+            end: end_group,
+        } = groups;
+        let insn = Insn::Atomic {
+            start_group,
+            end_group,
+            continuation,
+        };
         code.change(at, insn);
         Ok(())
     }

@@ -31,7 +31,7 @@ pub struct LoopFields {
 /// a lookbehind those behind, but the characters themselves always stand in the order of the text.
 #[derive(Debug, Clone, Copy)]
 pub enum Insn {
-    /// The end: of the whole program, or of what a lookaround holds.
+    /// The end: of the whole program, or of what a lookaround or an atomic group holds.
     Goal,
     /// One code point.
     Char(CodePoint),
@@ -96,6 +96,14 @@ pub enum Insn {
     /// The same of what stands behind.
     Lookbehind {
         negate: bool,
+        start_group: CaptureGroupID,
+        end_group: CaptureGroupID,
+        continuation: u32,
+    },
+    /// The instructions behind this one, up to their `Goal`, match in the direction in which it stands itself, and their first match
+    /// alone is taken. The groups inside are those from `start_group` up to before `end_group`. It goes on at the address
+    /// `continuation`, where they end.
+    Atomic {
         start_group: CaptureGroupID,
         end_group: CaptureGroupID,
         continuation: u32,

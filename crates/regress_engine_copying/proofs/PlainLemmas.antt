@@ -5,7 +5,7 @@ use Rattle.regress_meaning.specs.Inputs.{Input}
 use Rattle.regress_engine_code.specs.Instructions.{Instruction, Program}
 use Rattle.regress_engine_code.specs.InsnViews.{instruction}
 use Rattle.regress_engine_code.specs.declared.insn.Insn.{Insn}
-use Rattle.regress_engine_code.specs.declared.insn.Insn.TheVariants.{Goal, Lookahead, Lookbehind}
+use Rattle.regress_engine_code.specs.declared.insn.Insn.TheVariants.{Goal, Lookahead, Lookbehind, Atomic}
 use Rattle.regress_engine_runs.specs.States.{Whole}
 use Rattle.regress_engine_runs.specs.Runs.{advance, is_plain, moved_to, successors}
 use Rattle.regress_engine_sought.specs.Ready.{is_simple}
@@ -19,10 +19,11 @@ module _ (program : Program) (input : Input) (i : Instruction) (dir : Direction)
   pub take-some : (o : ℕ) → Some o ≡ advance program input i dir s.groups s.offset → record s { at = s.at + 1; offset = o } ∷ [] ≡ successors program input i dir s
   take-some o e = ap (λ a. record s { at = a; offset = o } ∷ []) (next-is s.at) ∙ ap (moved_to s) e ∙ sym (simple-successors program input i dir s simple)
 
--- what is no goal and no lookaround is plain
+-- what is no goal, no lookaround and no atomic group is plain
 pub others-plain : (j : Insn) → (j ≡ Goal → ⊥) → ((n : Bool) (first last on : ℕ) → j ≡ Lookahead n first last on → ⊥) → ((n : Bool) (first last on : ℕ) → j ≡ Lookbehind n first last on → ⊥)
-    → is_plain (instruction j) ≡ true
-others-plain Goal goal ahead behind = absurd (goal refl)
-others-plain (Lookahead n first last on) goal ahead behind = absurd (ahead n first last on refl)
-others-plain (Lookbehind n first last on) goal ahead behind = absurd (behind n first last on refl)
-others-plain _ goal ahead behind = refl
+    → ((first last on : ℕ) → j ≡ Atomic first last on → ⊥) → is_plain (instruction j) ≡ true
+others-plain Goal goal ahead behind atomic = absurd (goal refl)
+others-plain (Lookahead n first last on) goal ahead behind atomic = absurd (ahead n first last on refl)
+others-plain (Lookbehind n first last on) goal ahead behind atomic = absurd (behind n first last on refl)
+others-plain (Atomic first last on) goal ahead behind atomic = absurd (atomic first last on refl)
+others-plain _ goal ahead behind atomic = refl

@@ -10,7 +10,7 @@ use Rattle.regress_engine_runs.specs.States.{Whole, onward, first_state, unset}
 use Rattle.regress_engine_runs.specs.Runs.{advance, successors, choices, ordered, counted, is_idle, moved_to, fields_of, one_more}
 use Rattle.regress_engine_runs.specs.UndoStack.{Frame}
 use Rattle.regress_engine_sought.specs.Tasks.{HasGroups}
-use Rattle.regress_engine_copying.specs.Held.{Entry, tried, look, Held, pushed, put}
+use Rattle.regress_engine_copying.specs.Held.{Entry, tried, submatched, Held, pushed, put}
 use Rattle.regress_engine_copying.specs.Sound.{IsWhole, AreSound}
 
 module _ (program : Program) where
@@ -89,11 +89,11 @@ module _ (program : Program) where
   plain-sound input i dir s h k is w sound =
       subst (λ (x : Held). AreSound program x.entries) (sym is) (put-sound (successors program input i dir s) h.entries (successors-whole input i dir s w) sound)
 
-  -- a lookaround
-  pub look-sound : (f : Frame) (s : Whole) (b : Bool) (h k : Held) → k ≡ record { forward = b; entries = tried (onward s) ∷ look f s ∷ h.entries } → HasGroups program f → IsWhole program s
+  -- a lookaround or an atomic group
+  pub submatch-sound : (f : Frame) (s : Whole) (b : Bool) (h k : Held) → k ≡ record { forward = b; entries = tried (onward s) ∷ submatched f s ∷ h.entries } → HasGroups program f → IsWhole program s
       → AreSound program h.entries → AreSound program k.entries
   unfolding AreSound
-  look-sound f s b h k is groups w sound =
+  submatch-sound f s b h k is groups w sound =
       subst (λ (x : Held). AreSound program x.entries) (sym is) (record { loops = w.loops; groups = w.groups }, (w, groups, sound))
 
   -- what was on top
@@ -101,9 +101,9 @@ module _ (program : Program) where
   unfolding AreSound
   tried-sound s h sound = (sound.1, sound.0)
 
-  pub looked-sound : (f : Frame) (s : Whole) (h : Held) → AreSound program (pushed (look f s) h).entries → AreSound program h.entries × HasGroups program f × IsWhole program s
+  pub submatched-sound : (f : Frame) (s : Whole) (h : Held) → AreSound program (pushed (submatched f s) h).entries → AreSound program h.entries × HasGroups program f × IsWhole program s
   unfolding AreSound
-  looked-sound f s h sound = (sound.2, sound.1, sound.0)
+  submatched-sound f s h sound = (sound.2, sound.1, sound.0)
 
   -- one state, and nothing else
   pub alone-sound : (o : ℕ) (h : Held) (b : Bool) → h ≡ record { forward = b; entries = tried (first_state program o) ∷ [] } → AreSound program h.entries

@@ -1,18 +1,20 @@
 -- What each change of the stack leads to.
-use Rattle.std.proofs.Common.{◌≡◌, Bool, true, false, not, List, [], ◌∷◌, ◌++◌, map, None, refl, sym, ap, ◌∙◌, subst}
+use Rattle.std.proofs.Common.{◌≡◌, Bool, true, false, List, [], ◌∷◌, ◌++◌, map, if◌then◌else◌, refl, sym, ap, ◌∙◌, subst}
+use Rattle.regress_meaning.specs.Meaning.{Direction}
 use Rattle.regress_meaning.specs.Inputs.{Input}
-use Rattle.regress_front_nodes.specs.TreeMeaning.{direction}
+use Rattle.regress_front_nodes.specs.TreeMeaning.{submatch_direction}
 use Rattle.regress_engine_input.specs.Views.{way}
 use Rattle.regress_engine_code.specs.Instructions.{Instruction, Program, Stands}
 use Rattle.regress_engine_code.specs.Instructions as code
 use Rattle.regress_engine_runs.specs.States.{Whole, onward}
-use Rattle.regress_engine_runs.specs.Runs.{successors, is_plain, after_look}
+use Rattle.regress_engine_runs.specs.Runs.{successors, is_plain}
 use Rattle.regress_engine_runs.specs.UndoStack.{Work, outermost, inside, first_do}
 use Rattle.regress_engine_sought.specs.Tasks.{Leads}
-use Rattle.regress_engine_sought.proofs.InsnLemmas.{way-direction}
+use Rattle.regress_engine_sought.specs.Submatches.{submatch_of, is_negated, reads_forward}
+use Rattle.regress_engine_sought.proofs.SubmatchLemmas.{way-submatch, after-none}
 use Rattle.regress_engine_sought.proofs.TaskLemmas.{leads-then, leads-first, leads-later, leads-plain, leads-inside, leads-exhausted}
 use Rattle.regress_engine_copying.specs.declared.stack.Frame as stack
-use Rattle.regress_engine_copying.specs.Held.{Entry, tried, look, Held, frame_of, pushed, put}
+use Rattle.regress_engine_copying.specs.Held.{Entry, tried, submatched, Held, frame_of, pushed, put}
 use Rattle.regress_engine_copying.specs.Tasks.{work_of, task_of}
 
 -- one state before some others
@@ -45,38 +47,42 @@ module _ (program : Program) (input : Input) where
       leads-then program input 1 0 (leads-plain program input i (way h.forward) s (work_of h.entries) here plain)
       (put-leads (successors program input i (way h.forward) s) h k is)
 
-  -- a lookaround begins
-  pub look-leads : (f : stack.Frame) (s : Whole) (h k : Held) → Stands program s.at (code.look f.negated f.backward f.first f.last f.continuation) → f.forward ≡ h.forward
-      → k ≡ record { forward = not f.backward; entries = tried (onward s) ∷ look (frame_of f s) s ∷ h.entries }
+  -- a lookaround or an atomic group begins
+  pub submatch-leads : (f : stack.Frame) (s : Whole) (h k : Held) → Stands program s.at (code.submatch (submatch_of f.kind) f.first f.last f.continuation) → f.forward ≡ h.forward
+      → k ≡ record { forward = reads_forward (submatch_of f.kind) f.forward; entries = tried (onward s) ∷ submatched (frame_of f s) s ∷ h.entries }
       → Leads program input 1 (task_of (s ∷ []) h) (task_of [] k)
   unfolding work_of
-  look-leads f s h k here turned is =
+  submatch-leads f s h k here turned is =
       subst (λ x. Leads program input 1 (task_of (s ∷ []) h) (task_of [] x)) (sym is)
-      (subst (λ d. Leads program input 1 (task_of (s ∷ []) h) (record { dir = d; states = []; work = first_do (onward s ∷ []) within })) (way-direction f.backward)
-      (subst (λ b. Leads program input 1 (record { dir = way b; states = s ∷ []; work = work_of h.entries }) (record { dir = direction f.backward; states = []; work = first_do (onward s ∷ []) within })) turned
+      (subst (λ d. Leads program input 1 (task_of (s ∷ []) h) (record { dir = d; states = []; work = first_do (onward s ∷ []) within })) (way-submatch (submatch_of f.kind) f.forward)
+      (subst (λ b. Leads program input 1 (record { dir = way b; states = s ∷ []; work = work_of h.entries }) (record { dir = inner; states = []; work = first_do (onward s ∷ []) within })) turned
       (leads-then program input 1 0 (leads-inside program input s (work_of h.entries) (frame_of f s) here)
-      (leads-later program input (direction f.backward) [] (onward s ∷ []) within))))
+      (leads-later program input inner [] (onward s ∷ []) within))))
     where
       within : Work
       within = inside [] (frame_of f s) s (work_of h.entries)
+
+      inner : Direction
+      inner = submatch_direction (submatch_of f.kind) (way f.forward)
 
   -- a state is taken off
   pub tried-leads : (s : Whole) (h : Held) → Leads program input 0 (task_of [] (pushed (tried s) h)) (task_of (s ∷ []) h)
   unfolding work_of
   tried-leads s h = leads-first program input (way h.forward) [] (s ∷ []) (work_of h.entries)
 
-  -- a lookaround whose contents have no answer
-  exhausted-leads : (f : stack.Frame) (s : Whole) (h : Held) (b : Bool) → f.negated ≡ b
-      → Leads program input 0 (task_of [] (pushed (look (frame_of f s) s) h)) (task_of (after_look b f.first f.last f.continuation s None) (record h { forward = f.forward }))
+  -- a lookaround or an atomic group whose contents have no answer
+  exhausted-leads : (f : stack.Frame) (s : Whole) (h : Held) (b : Bool) → is_negated (submatch_of f.kind) ≡ b
+      → Leads program input 0 (task_of [] (pushed (submatched (frame_of f s) s) h)) (task_of (if b then record s { at = f.continuation } ∷ [] else []) (record h { forward = f.forward }))
   unfolding work_of
   exhausted-leads f s h b e =
-      subst (λ x. Leads program input 0 (task_of [] (pushed (look (frame_of f s) s) h)) (task_of (after_look x f.first f.last f.continuation s None) (record h { forward = f.forward }))) e
-      (leads-exhausted program input (way h.forward) (frame_of f s) s (work_of h.entries))
+      subst (λ x. Leads program input 0 (task_of [] (pushed (submatched (frame_of f s) s) h)) (task_of (if x then record s { at = f.continuation } ∷ [] else []) (record h { forward = f.forward }))) e
+      (subst (λ (ss : List Whole). Leads program input 0 (task_of [] (pushed (submatched (frame_of f s) s) h)) (task_of ss (record h { forward = f.forward }))) (after-none (submatch_of f.kind) f.first f.last f.continuation s)
+      (leads-exhausted program input (way h.forward) (frame_of f s) s (work_of h.entries)))
 
-  pub negated-leads : (f : stack.Frame) (s : Whole) (h : Held) → f.negated ≡ true
-      → Leads program input 0 (task_of [] (pushed (look (frame_of f s) s) h)) (task_of (record s { at = f.continuation } ∷ []) (record h { forward = f.forward }))
+  pub negated-leads : (f : stack.Frame) (s : Whole) (h : Held) → is_negated (submatch_of f.kind) ≡ true
+      → Leads program input 0 (task_of [] (pushed (submatched (frame_of f s) s) h)) (task_of (record s { at = f.continuation } ∷ []) (record h { forward = f.forward }))
   negated-leads f s h e = exhausted-leads f s h true e
 
-  pub positive-leads : (f : stack.Frame) (s : Whole) (h : Held) → f.negated ≡ false
-      → Leads program input 0 (task_of [] (pushed (look (frame_of f s) s) h)) (task_of [] (record h { forward = f.forward }))
+  pub positive-leads : (f : stack.Frame) (s : Whole) (h : Held) → is_negated (submatch_of f.kind) ≡ false
+      → Leads program input 0 (task_of [] (pushed (submatched (frame_of f s) s) h)) (task_of [] (record h { forward = f.forward }))
   positive-leads f s h e = exhausted-leads f s h false e

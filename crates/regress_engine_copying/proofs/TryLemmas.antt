@@ -1,20 +1,14 @@
--- A run that is tried, and what is read behind it.
-use Rattle.std.proofs.Common.{◌≡◌, ℕ, ◌≤◌, inl, inr, Bool, true, false, [], ◌∷◌, Option, Some, None, if◌then◌else◌, option_map, refl, sym, ap, ◌∙◌, subst, arith}
-use Rattle.std.proofs.lemmas.Bool.{cases_lt}
-use Rattle.regress_meaning.specs.Text.{holds}
-use Rattle.regress_meaning.specs.Meaning.{Direction, Forward}
-use Rattle.regress_meaning.specs.Steps.{passed, only_if}
-use Rattle.regress_front_bytes.specs.ByteSets.{members}
-use Rattle.regress_engine_input.specs.Views.{View, AreOfKind, CanRead, LiesIn, way, input_of, reading_of}
-use Rattle.regress_engine_matchers.proofs.ViewLemmas.{view_reads}
-use Rattle.regress_engine_code.proofs.BitmapLemmas.{holds-members}
+-- A run that is tried.
+use Rattle.std.proofs.Common.{◌≡◌, ℕ, true, [], ◌∷◌, Option, Some, None, refl, sym, subst}
+use Rattle.regress_meaning.specs.Meaning.{Forward}
+use Rattle.regress_meaning.specs.Steps.{passed}
+use Rattle.regress_engine_input.specs.Views.{View, way, input_of, reading_of}
 use Rattle.regress_engine_code.specs.Instructions.{Program}
 use Rattle.regress_engine_runs.specs.States.{Whole, first_state}
 use Rattle.regress_engine_runs.specs.Computed.{IsComputed}
 use Rattle.regress_engine_runs.specs.UndoStack.{ReadOn, outermost}
 use Rattle.regress_engine_sought.specs.Tasks.{Leads, IsTried}
 use Rattle.regress_engine_sought.specs.Answering.{IsAnswer}
-use Rattle.regress_engine_sought.proofs.PlaceLemmas.{lies-next}
 use Rattle.regress_engine_sought.proofs.TaskLemmas.{leads-then, leads-later, tried-first, tried-fails, tried-on}
 use Rattle.regress_engine_copying.specs.Held.{Held, tried}
 use Rattle.regress_engine_copying.specs.Tasks.{work_of, task_of}
@@ -48,23 +42,3 @@ module _ (program : Program) (v : View) (s : Whole) (h j k : Held) where
   pub taken-steps : Leads program (input_of v) 0 (task_of [] h) (task_of (s ∷ []) j) → Leads program (input_of v) 1 (task_of (s ∷ []) j) (task_of [] k)
       → Leads program (input_of v) 1 (task_of [] h) (task_of [] k)
   taken-steps first second = leads-then program (input_of v) 0 1 first second
-
--- ---- what is read
-
-module _ (v : View) (all : AreOfKind v.kind v.units) where
-  -- behind a character that passes lies in the text
-  pub passed-lies : (dir : Direction) (test : ℕ → Bool) (o q : ℕ) → CanRead v o → only_if true q ≡ passed test ((input_of v).next dir o) → LiesIn v q
-  passed-lies dir test o q can e = lies-next v (view_reads v all) dir o q can (by_read ((input_of v).next dir o) e)
-    where
-      by_test : (b : Bool) (r : ℕ) → Some q ≡ (if b then Some r else None) → Some q ≡ Some r
-      by_test true r f = f
-      by_test false r f = absurd (cc f)
-
-      by_read : (x : Option (ℕ × ℕ)) → Some q ≡ passed test x → Some q ≡ option_map (λ y. y.1) x
-      by_read None f = absurd (cc f)
-      by_read (Some (c, r)) f = by_test (test c) r f
-
--- a test of ASCII passes what is in the list of its members
-pub members-pass : (f : ℕ → Bool) → ((c : ℕ) → 0x80 ≤ c → f c ≡ false) → (x : Option (ℕ × ℕ)) → passed f x ≡ passed (holds (members f)) x
-members-pass f low None = refl
-members-pass f low (Some (c, o)) = ap (λ b. if b then Some o else None) (sym (holds-members f (λ d held. elim (cases_lt d 256) [ inl small ↦ small | inr large ↦ absurd (cc (sym held ∙ low d (omega (arith, large)))) ]) c))

@@ -3,9 +3,10 @@ use Rattle.std.specs.Prelude.{Bool, List, ◌∷◌, ◌++◌, map, reverse}
 use Rattle.regress_engine_input.specs.Views.{way}
 use Rattle.regress_engine_runs.specs.States.{Whole}
 use Rattle.regress_engine_runs.specs.UndoStack.{Frame}
+use Rattle.regress_engine_sought.specs.Submatches.{submatch_of}
 use Rattle.regress_engine_copying.specs.declared.stack.Frame as code
 use Rattle.regress_engine_copying.specs.declared.stack.Pending.{Pending}
-use Rattle.regress_engine_copying.specs.declared.stack.Pending.TheVariants.{Tried, Look}
+use Rattle.regress_engine_copying.specs.declared.stack.Pending.TheVariants.{Tried, Submatch}
 use Rattle.regress_engine_copying.specs.declared.stack.Stack.{Stack}
 use Rattle.regress_engine_copying.specs.StateOf.{state_of}
 
@@ -13,14 +14,13 @@ use Rattle.regress_engine_copying.specs.StateOf.{state_of}
 pub data Entry : Type 0 where
   -- a state to be tried
   tried : Whole → Entry
-  -- a lookaround, and the state at it
-  look : Frame → Whole → Entry
+  -- a lookaround or an atomic group, and the state at it
+  submatched : Frame → Whole → Entry
 
--- a lookaround at a state
+-- a lookaround or an atomic group at a state
 abbrev pub frame_of : code.Frame → Whole → Frame
 frame_of f s = record {
-  negated = f.negated;
-  backward = f.backward;
+  kind = submatch_of f.kind;
   first = f.first;
   last = f.last;
   continuation = f.continuation;
@@ -32,7 +32,7 @@ frame_of f s = record {
 -- what waits
 abbrev pub entry_of : Pending → Entry
 entry_of (Tried s) = tried (state_of s)
-entry_of (Look f s) = look (frame_of f (state_of s)) (state_of s)
+entry_of (Submatch f s) = submatched (frame_of f (state_of s)) (state_of s)
 
 -- Whether the topmost states are read forward, and what waits, the topmost first.
 pub record Held : Type 0 where

@@ -4,13 +4,13 @@ use Rattle.regress_engine_input.specs.Views.{way}
 use Rattle.regress_engine_runs.specs.States.{Whole}
 use Rattle.regress_engine_runs.specs.UndoStack.{Work, outermost, inside, first_do}
 use Rattle.regress_engine_sought.specs.Tasks.{Task}
-use Rattle.regress_engine_copying.specs.Held.{Entry, tried, look, Held}
+use Rattle.regress_engine_copying.specs.Held.{Entry, tried, submatched, Held}
 
 -- the work that a stack stands for
 unfoldable pub work_of : List Entry → Work
 work_of [] = outermost []
 work_of (tried s ∷ es) = first_do (s ∷ []) (work_of es)
-work_of (look f s ∷ es) = inside [] f s (work_of es)
+work_of (submatched f s ∷ es) = inside [] f s (work_of es)
 
 -- some states, and then what waits
 abbrev pub task_of : List Whole → Held → Task

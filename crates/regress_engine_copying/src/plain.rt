@@ -16,6 +16,7 @@ ghost use Rattle.regress_engine_copying.specs.Sound.{IsWhole};
 use crate::attempt::Attempt;
 use crate::stack::Stack;
 use crate::state::State;
+use regress_engine_advance::advance;
 use regress_engine_code::{Insn, LoopFields};
 use regress_engine_matchers::CharInput;
 use std::alloc::AllocError;
@@ -106,7 +107,14 @@ impl<'a, 'r, Input: CharInput> Attempt<'a, 'r, Input> {
         requires reads { reads_character (instruction insn.now) ≡ true → ReadsPlaces (reading_of (Input.view self.now.input)) (instruction insn.now) (state_of state) }
         ensures { OnOk result (held stack.new ≡ put (successors (program_of self.now.program.now) (input_of (Input.view self.now.input)) (instruction insn.now) (way stack.old.forward) (state_of state)) (held stack.old)) }
     {
-        let Some(next) = self.advance(insn, stack.forward, &state.groups, state.offset) else {
+        let Some(next) = advance(
+            self.program,
+            &self.input,
+            insn,
+            stack.forward,
+            &state.groups,
+            state.offset,
+        ) else {
             return Ok(());
         };
         state.at += 1;

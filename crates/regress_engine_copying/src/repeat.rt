@@ -16,39 +16,13 @@ ghost use Rattle.regress_engine_copying.specs.Sound.{IsWhole};
 use crate::attempt::Attempt;
 use crate::stack::Stack;
 use crate::state::State;
+use regress_engine_advance::{advance, after_times};
 use regress_engine_code::Insn;
 use regress_engine_matchers::CharInput;
 use regress_front_core::GroupData;
 use std::alloc::AllocError;
 
 impl<'a, 'r, Input: CharInput> Attempt<'a, 'r, Input> {
-    /// The offset behind so many iterations of an instruction that takes one character, where there are so many.
-    fn behind(
-        &self,
-        insn: &Insn,
-        times: usize,
-        forward: bool,
-        groups: &[GroupData<usize>],
-        offset: usize,
-    ) -> Option<usize>
-        requires suits { Suits (program_of self.now.program.now) (Input.view self.now.input) }
-        requires body { (at : ℕ) × Stands (program_of self.now.program.now) (at - 1) (instruction insn.now) × IsBody (program_of self.now.program.now) (Input.view self.now.input) at offset }
-        requires groups { length groups.now ≡ self.now.program.now.groups }
-        ensures behind { result ≡ after_times (program_of self.now.program.now) (input_of (Input.view self.now.input)) times (instruction insn.now) (way forward) (map marks_of groups.now) offset }
-        ensures place { IfSome result (IsAtPlace (reading_of (Input.view self.now.input))) }
-    {
-        let mut behind = offset;
-        let mut left = times;
-        while left > 0 {
-            let Some(next) = self.advance(insn, forward, groups, behind) else {
-                return None;
-            };
-            behind = next;
-            left -= 1;
-        }
-        Some(behind)
-    }
-
     /// Collects the offsets behind none, one, two and more iterations of an instruction that takes one character, at most so many.
     fn collect(
         &self,
@@ -72,7 +46,8 @@ impl<'a, 'r, Input: CharInput> Attempt<'a, 'r, Input> {
             if left == 0 {
                 return Ok(());
             }
-            let Some(next) = self.advance(insn, forward, groups, behind) else {
+            let Some(next) = advance(self.program, &self.input, insn, forward, groups, behind)
+            else {
                 return Ok(());
             };
             behind = next;
@@ -98,7 +73,15 @@ impl<'a, 'r, Input: CharInput> Attempt<'a, 'r, Input> {
     {
         let insn = self.instruction(state.at + 1);
         let forward = stack.forward;
-        let Some(near) = self.behind(insn, least, forward, &state.groups, state.offset) else {
+        let Some(near) = after_times(
+            self.program,
+            &self.input,
+            insn,
+            least,
+            forward,
+            &state.groups,
+            state.offset,
+        ) else {
             return Ok(());
         };
         self.collect(insn, most - least, forward, &state.groups, near, ends)?;

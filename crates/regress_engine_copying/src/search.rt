@@ -13,9 +13,8 @@ ghost use Rattle.regress_engine_copying.specs.StateOf.{groups_of};
 use crate::attempt::Attempt;
 use crate::stack::Stack;
 use crate::state::State;
+use regress_engine_advance::any;
 use regress_engine_code::CompiledRegex;
-use regress_engine_input::{Direction, Forward};
-use regress_engine_matchers::MatchAny;
 use regress_engine_sought::{ExecutorInput, Shown, Subject, captures};
 use regress_match::{Match, MatchProducer};
 use std::alloc::{AllocError, Global};
@@ -74,7 +73,7 @@ impl<'r, Input: ExecutorInput> PikeVMExecutor<'r, Input> {
             if let Some(found) = attempt.run(self.alloc, &mut self.stack, &mut self.ends)? {
                 return Ok(Some((start, found)));
             }
-            let Some(behind) = attempt.passed(Forward::new(), &MatchAny::new(), start) else {
+            let Some(behind) = any(&attempt.input, true, start) else {
                 return Ok(None);
             };
             from = behind;

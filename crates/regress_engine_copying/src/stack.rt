@@ -1,25 +1,25 @@
 //! What waits to be tried.
-ghost use Rattle.std.specs.Prelude.{◌≡◌, ◌+◌, ◌^◌, ◌<◌, ◌∷◌, [], None, true, map, not, option_map, option_to_list, reverse, IfOk, MatchOption, OnOk};
+ghost use Rattle.std.specs.Prelude.{◌≡◌, ◌+◌, ◌^◌, ◌<◌, ◌∷◌, [], None, true, map, option_map, option_to_list, reverse, IfOk, MatchOption, OnOk};
 ghost use Rattle.regress_meaning.specs.Inputs.{Input};
 ghost use Rattle.regress_engine_code.specs.Instructions.{Program};
 ghost use Rattle.regress_engine_runs.specs.States.{onward};
+ghost use Rattle.regress_engine_sought.specs.Submatches.{submatch_of, reads_forward};
 ghost use Rattle.regress_engine_sought.specs.Tasks.{Leads};
 ghost use Rattle.regress_engine_copying.specs.StateOf.{state_of};
-ghost use Rattle.regress_engine_copying.specs.Held.{held, entry_of, frame_of, tried, look, pushed, put};
+ghost use Rattle.regress_engine_copying.specs.Held.{held, entry_of, frame_of, tried, submatched, pushed, put};
 ghost use Rattle.regress_engine_copying.specs.Tasks.{task_of};
 ghost use Rattle.regress_engine_copying.specs.Sound.{StaysSound};
 
 use crate::state::State;
+use regress_engine_sought::Submatch;
 use regress_front_core::CaptureGroupID;
 use std::alloc::{AllocError, Global};
 
-/// A lookaround whose contents are tried.
+/// A lookaround or an atomic group whose contents are tried.
 #[derive(Debug, Clone, Copy)]
 pub(crate) struct Frame {
-    /// Whether it holds where its contents don't.
-    pub(crate) negated: bool,
-    /// Whether its contents are read backward.
-    pub(crate) backward: bool,
+    /// Which it is.
+    pub(crate) kind: Submatch,
     /// The first group inside.
     pub(crate) first: CaptureGroupID,
     /// The first group behind.
@@ -35,11 +35,12 @@ pub(crate) struct Frame {
 pub(crate) enum Pending {
     /// A state to be tried.
     Tried(State),
-    /// A lookaround, and the state at it: there is no other way through its contents.
-    Look(Frame, State),
+    /// A lookaround or an atomic group, and the state at it: there is no other way through its contents.
+    Submatch(Frame, State),
 }
 
-/// The states that are still to be tried, the next one on top, and whether they are read forward, up to the topmost lookaround.
+/// The states that are still to be tried, the next one on top, and whether they are read forward, up to the topmost lookaround or
+/// atomic group.
 #[derive(Debug, Drop)]
 pub(crate) struct Stack {
     pending: Vec<Pending>,
@@ -89,14 +90,14 @@ impl Stack {
         Ok(())
     }
 
-    /// Begins to try the contents of a lookaround, at which a state is.
-    pub(crate) fn look(&mut self, frame: Frame, state: State) -> Result<(), AllocError>
+    /// Begins to try the contents of a lookaround or an atomic group, at which a state is.
+    pub(crate) fn begin_submatch(&mut self, frame: Frame, state: State) -> Result<(), AllocError>
         requires { state.at + 1 < 2 ^ 64 }
-        ensures { OnOk result (held self.new ≡ record { forward = not frame.backward; entries = tried (onward (state_of state)) ∷ look (frame_of frame (state_of state)) (state_of state) ∷ (held self.old).entries }) }
+        ensures { OnOk result (held self.new ≡ record { forward = reads_forward (submatch_of frame.kind) frame.forward; entries = tried (onward (state_of state)) ∷ submatched (frame_of frame (state_of state)) (state_of state) ∷ (held self.old).entries }) }
     {
         let inside = state.copy_at(state.at + 1)?;
-        self.pending.push(Pending::Look(frame, state))?;
-        self.forward = !frame.backward;
+        self.pending.push(Pending::Submatch(frame, state))?;
+        self.forward = frame.kind.reads_forward(frame.forward);
         self.push(inside)
     }
 
@@ -107,7 +108,7 @@ impl Stack {
         self.pending.pop()
     }
 
-    /// The state that is to be tried where something is taken off: itself, or behind a lookaround whose contents have no answer,
+    /// The state that is to be tried where something is taken off: itself, or behind a lookaround whose contents have no match,
     /// where it is negated.
     fn resume(&mut self, pending: Pending) -> Option<State>
         ensures leads { (program : Program) → (input : Input) → Leads program input 0 (task_of [] (pushed (entry_of pending) (held self.old))) (task_of (option_to_list (option_map state_of result)) (held self.new)) }
@@ -116,9 +117,9 @@ impl Stack {
     {
         match pending {
             Pending::Tried(state) => Some(state),
-            Pending::Look(frame, mut state) => {
+            Pending::Submatch(frame, mut state) => {
                 self.forward = frame.forward;
-                if !frame.negated {
+                if !frame.kind.is_negated() {
                     return None;
                 }
                 state.at = frame.continuation;

@@ -15,6 +15,7 @@ use crate::stack::{Frame, Stack};
 use crate::state::State;
 use regress_engine_code::Insn;
 use regress_engine_matchers::CharInput;
+use regress_engine_sought::Submatch;
 use std::alloc::AllocError;
 
 impl<'a, 'r, Input: CharInput> Attempt<'a, 'r, Input> {
@@ -44,14 +45,16 @@ impl<'a, 'r, Input: CharInput> Attempt<'a, 'r, Input> {
                 continuation,
             } => {
                 let frame = Frame {
-                    negated: *negate,
-                    backward: false,
+                    kind: Submatch::Lookaround {
+                        negated: *negate,
+                        backward: false,
+                    },
                     first: *start_group,
                     last: *end_group,
                     continuation: *continuation as usize,
                     forward: stack.forward,
                 };
-                stack.look(frame, state)?;
+                stack.begin_submatch(frame, state)?;
                 Ok(None)
             }
             Insn::Lookbehind {
@@ -61,14 +64,31 @@ impl<'a, 'r, Input: CharInput> Attempt<'a, 'r, Input> {
                 continuation,
             } => {
                 let frame = Frame {
-                    negated: *negate,
-                    backward: true,
+                    kind: Submatch::Lookaround {
+                        negated: *negate,
+                        backward: true,
+                    },
                     first: *start_group,
                     last: *end_group,
                     continuation: *continuation as usize,
                     forward: stack.forward,
                 };
-                stack.look(frame, state)?;
+                stack.begin_submatch(frame, state)?;
+                Ok(None)
+            }
+            Insn::Atomic {
+                start_group,
+                end_group,
+                continuation,
+            } => {
+                let frame = Frame {
+                    kind: Submatch::Atomic,
+                    first: *start_group,
+                    last: *end_group,
+                    continuation: *continuation as usize,
+                    forward: stack.forward,
+                };
+                stack.begin_submatch(frame, state)?;
                 Ok(None)
             }
             _ => {

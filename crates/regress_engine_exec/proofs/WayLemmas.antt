@@ -1,23 +1,13 @@
--- Where it is gone on from two ways, and what leads nowhere where a byte stands ahead.
-use Rattle.std.specs.Prelude.{slice_get, if◌then◌else◌}
-use Rattle.std.proofs.lemmas.Option.{slice_get_within}
-use Rattle.std.proofs.Common.{◌≡◌, ℕ, ◌+◌, ◌<◌, Bool, true, false, not, length, Option, Some, None, ◌⊎◌, inl, inr, refl, sym, ap, ◌∙◌, subst, arith}
+-- Where it is gone on from two ways.
+use Rattle.std.proofs.Common.{◌≡◌, ℕ, ◌+◌, Bool, true, ◌⊎◌, inl, inr, refl, sym, subst, arith}
 use Rattle.regress_meaning.specs.Inputs.{Input}
-use Rattle.regress_meaning.specs.Meaning.{Forward}
-use Rattle.regress_meaning.specs.Steps.{at_boundary}
-use Rattle.regress_front_bytes.specs.declared.bitmaps.ByteBitmap.{ByteBitmap}
-use Rattle.regress_front_bytes.specs.Bitmaps.{byte_bitmap_contains}
-use Rattle.regress_engine_input.specs.Views.{View, way, are_bytes, input_of, in_bytes, unit_beside}
-use Rattle.regress_engine_code.specs.Instructions.{Instruction, Program, Stands}
+use Rattle.regress_engine_input.specs.Views.{way}
+use Rattle.regress_engine_code.specs.Instructions.{Program, Stands}
 use Rattle.regress_engine_code.specs.Instructions as code
-use Rattle.regress_engine_code.specs.Ahead.{begins, may_stand}
-use Rattle.regress_engine_code.specs.Standing.{program_of, lacks}
-use Rattle.regress_engine_code.specs.declared.compiled.CompiledRegex.{CompiledRegex}
-use Rattle.regress_engine_sought.specs.Sought.{Suits}
 use Rattle.regress_engine_sought.specs.Tasks.{Task, Leads}
 use Rattle.regress_engine_sought.proofs.TaskLemmas.{leads-then}
 use Rattle.regress_engine_singles.specs.Failing.{IsStuck}
-use Rattle.regress_engine_singles.proofs.LackLemmas.{lack-stuck}
+use Rattle.regress_engine_leading.specs.Known.{Comes}
 use Rattle.regress_engine_undo.specs.declared.undo.Spot.{Spot}
 use Rattle.regress_engine_undo.specs.Held.{Held}
 use Rattle.regress_engine_undo.specs.Tasks.{task}
@@ -59,49 +49,9 @@ module _ (program : Program) (input : Input) (forward : Bool) (o : ℕ) where
   pub way-here : (start : ℕ) → IsWay program input forward o start start
   way-here start h = inl refl
 
--- behind `\b`, where a word begins or ends
-pub way-boundary : (program : Program) (input : Input) (folded : Bool) (o : ℕ) → Stands program 0 (code.boundary false folded) → at_boundary input folded o ≡ true → IsWay program input true o 0 1
-way-boundary program input folded o here so h =
-    inr (take-some program input (code.boundary false folded) (record { at = 0; offset = o; forward = true }) h o here refl (ap (λ (b : Bool). if b then Some o else None) so))
-
--- ---- a byte ahead
-
--- what a program tells of an address, it tells of the instruction there
-lacks-told : (compiled : CompiledRegex) (at b : ℕ) → b < 256 → may_stand compiled.ahead.items at b ≡ false
-    → (at < length compiled.ahead.items) × ((i : Instruction) × Stands (program_of compiled) at i × (begins (program_of compiled) (may_stand compiled.ahead.items) i at b ≡ false))
-lacks-told compiled at b small not_there = (inside, by_insn (slice_get (program_of compiled).instructions at) refl)
-  where
-    by_set : (x : Option ByteBitmap) → slice_get compiled.ahead.items at ≡ x → at < length compiled.ahead.items
-    by_set None e = let never : true ≡ false = ap (λ (x : Option ByteBitmap). elim x [ None ↦ true | Some set ↦ byte_bitmap_contains set b ]) (sym e) ∙ not_there in absurd (cc never)
-    by_set (Some set) e = slice_get_within compiled.ahead.items at set e
-
-    inside : at < length compiled.ahead.items
-    inside = by_set (slice_get compiled.ahead.items at) refl
-
-    by_insn : (x : Option Instruction) → slice_get (program_of compiled).instructions at ≡ x
-        → (i : Instruction) × Stands (program_of compiled) at i × (begins (program_of compiled) (may_stand compiled.ahead.items) i at b ≡ false)
-    by_insn x e = by_told x e (ap (λ (y : Option Instruction). elim y [ None ↦ true | Some i ↦ begins (program_of compiled) (may_stand compiled.ahead.items) i at b ]) (sym e) ∙ sym (compiled.told at b inside small) ∙ not_there)
-      where
-        by_told : (x : Option Instruction) → slice_get (program_of compiled).instructions at ≡ x
-            → (elim x as (λ _. Bool) [ None ↦ true | Some i ↦ begins (program_of compiled) (may_stand compiled.ahead.items) i at b ]) ≡ false
-            → (i : Instruction) × Stands (program_of compiled) at i × (begins (program_of compiled) (may_stand compiled.ahead.items) i at b ≡ false)
-        by_told None e f = absurd (cc f)
-        by_told (Some i) e f = (i, e, f)
-
--- a byte that was read is one of bytes
-read-bytes : (v : View) (b o : ℕ) → Some b ≡ in_bytes v.kind (unit_beside v.units Forward o) → are_bytes v.kind ≡ true
-read-bytes v b o e = by_kind (are_bytes v.kind) refl e
-  where
-    by_kind : (t : Bool) → are_bytes v.kind ≡ t → Some b ≡ in_bytes v.kind (unit_beside v.units Forward o) → are_bytes v.kind ≡ true
-    by_kind true is f = is
-    by_kind false is f = let none : Some b ≡ None = f ∙ rw is refl in absurd (cc none)
-
--- nothing is led to where a byte stands ahead that a program lacks
-pub lacked-stuck : (compiled : CompiledRegex) (v : View) → Suits (program_of compiled) v → (at o b : ℕ) → b < 256 → Some b ≡ in_bytes v.kind (unit_beside v.units Forward o)
-    → lacks compiled at b ≡ true → IsStuck (program_of compiled) (input_of v) Forward at o
-lacked-stuck compiled v suits at o b small ahead lacked =
-    lack-stuck (program_of compiled) v suits (read-bytes v b o ahead) (may_stand compiled.ahead.items) (length compiled.ahead.items) (lacks-told compiled) at o b small ahead (by_test (may_stand compiled.ahead.items at b) lacked)
-  where
-    by_test : (t : Bool) → not t ≡ true → t ≡ false
-    by_test false e = refl
-    by_test true e = absurd (cc e)
+-- where a run comes to
+pub way-comes : (program : Program) (input : Input) (o first : ℕ) → Comes program input o first → IsWay program input true o 0 first
+way-comes program input o first (inl none) h = inl none
+way-comes program input o first (inr (one, (i, (here, simple, takes)))) h =
+    inr (subst (λ a. Leads program input 1 (task program input true (record { at = 0; offset = o; forward = true }) h) (task program input true (record { at = a; offset = o; forward = true }) h)) (sym one)
+    (take-some program input i (record { at = 0; offset = o; forward = true }) h o here simple (takes h.groups)))

@@ -4,11 +4,12 @@ ghost use Rattle.regress_engine_code.specs.InsnViews.{instruction};
 ghost use Rattle.regress_engine_code.specs.Instructions.{byte_seq};
 ghost use Rattle.regress_engine_code.specs.Standing.{program_of};
 ghost use Rattle.regress_engine_input.specs.Views.{way, input_of, reading_of};
-ghost use Rattle.regress_engine_runs.specs.Runs.{advance, gap, after_look};
+ghost use Rattle.regress_engine_runs.specs.Runs.{advance, gap};
 ghost use Rattle.regress_engine_runs.specs.Meets.{IsAtPlace};
 ghost use Rattle.regress_engine_runs.specs.UndoStack.{give_back, take_on, whole};
 ghost use Rattle.regress_engine_sought.specs.Ready.{IsBody, IsReady};
 ghost use Rattle.regress_engine_sought.specs.StateViews.{marks_of};
+ghost use Rattle.regress_engine_sought.specs.Submatches.{submatch_of, is_negated};
 ghost use Rattle.regress_engine_sought.specs.Tasks.{Leads};
 ghost use Rattle.regress_engine_undo.specs.Held.{held, undo_of, pushed};
 ghost use Rattle.regress_engine_sought.specs.Sought.{Suits};
@@ -17,6 +18,9 @@ ghost use Rattle.regress_engine_undo.specs.Stuck.{GivesFrom, TakesFrom};
 ghost use Rattle.regress_engine_undo.specs.Tasks.{task};
 
 use crate::attempt::Attempt;
+use regress_engine_advance::{
+    advance, any_in_line, ascii_bracket, beside, other_ahead, taken_first,
+};
 use regress_engine_code::Insn;
 use regress_engine_matchers::CharInput;
 use regress_engine_singles::first_byte;
@@ -32,19 +36,21 @@ fn is_ahead(forward: bool, near: usize, far: usize) -> bool
     if forward { near < far } else { far < near }
 }
 
-/// Goes on behind a lookaround whose contents have no answer, where it is negated, and answers whether it is.
+/// Goes on behind a lookaround or an atomic group whose contents have no answer, where it is negated, and answers whether it
+/// is.
 #[inline]
 fn exhaust(frame: &Frame, spot: &mut Spot) -> bool
     ensures direction { spot.new.forward ≡ frame.now.spot.forward }
-    ensures way { result ≡ frame.now.negated }
-    ensures spot { frame.now.negated ≡ true → spot.new ≡ record frame.now.spot { at = frame.now.continuation } }
+    ensures way { result ≡ is_negated (submatch_of frame.now.kind) }
+    ensures spot { is_negated (submatch_of frame.now.kind) ≡ true → spot.new ≡ record frame.now.spot { at = frame.now.continuation } }
 {
     spot.forward = frame.spot.forward;
-    if frame.negated {
+    let is_negated = frame.kind.is_negated();
+    if is_negated {
         spot.at = frame.continuation;
         spot.offset = frame.spot.offset;
     }
-    frame.negated
+    is_negated
 }
 
 impl<'a, 'r, Input: CharInput> Attempt<'a, 'r, Input> {
@@ -64,18 +70,18 @@ impl<'a, 'r, Input: CharInput> Attempt<'a, 'r, Input> {
         ensures leads { GivesFrom (program_of self.now.program.now) (input_of (Input.view self.now.input)) forward at near far result }
         ensures place { IfSome result (IsAtPlace (reading_of (Input.view self.now.input))) }
     {
-        let Some(insn) = self.taken_first(at) else {
+        let Some(insn) = taken_first(self.program, at) else {
             return Some(far);
         };
         let mut back = far;
         'places: loop {
-            if self.advance(insn, forward, groups, back).is_some() {
+            if advance(self.program, &self.input, insn, forward, groups, back).is_some() {
                 return Some(back);
             }
             if !is_ahead(forward, near, back) {
                 return None;
             }
-            let Some((_, before)) = self.beside(!forward, back) else {
+            let Some((_, before)) = beside(&self.input, !forward, back) else {
                 return None;
             };
             back = before;
@@ -105,7 +111,7 @@ impl<'a, 'r, Input: CharInput> Attempt<'a, 'r, Input> {
         if !is_ahead(spot.forward, near, way) {
             return Ok(true);
         }
-        let Some((_, next)) = self.beside(!spot.forward, way) else {
+        let Some((_, next)) = beside(&self.input, !spot.forward, way) else {
             return Ok(true);
         };
         memory.push(Undo::GiveBack {
@@ -133,12 +139,12 @@ impl<'a, 'r, Input: CharInput> Attempt<'a, 'r, Input> {
     {
         if forward {
             if let Some(byte) = first {
-                if self.other_ahead(offset, byte) {
+                if other_ahead(&self.input, offset, byte) {
                     return false;
                 }
             }
         }
-        self.advance(insn, forward, groups, offset).is_some()
+        advance(self.program, &self.input, insn, forward, groups, offset).is_some()
     }
 
     /// What `advance` answers. What is often repeated is done at once.
@@ -155,9 +161,9 @@ impl<'a, 'r, Input: CharInput> Attempt<'a, 'r, Input> {
         ensures { result ≡ advance (program_of self.now.program.now) (input_of (Input.view self.now.input)) (instruction insn.now) (way forward) (map marks_of groups.now) offset }
     {
         match insn {
-            Insn::AsciiBracket(bitmap) => self.ascii_bracket(forward, offset, bitmap),
-            Insn::MatchAnyExceptLineTerminator => self.any_in_line(forward, offset),
-            _ => self.advance(insn, forward, groups, offset),
+            Insn::AsciiBracket(bitmap) => ascii_bracket(&self.input, forward, offset, bitmap),
+            Insn::MatchAnyExceptLineTerminator => any_in_line(&self.input, forward, offset),
+            _ => advance(self.program, &self.input, insn, forward, groups, offset),
         }
     }
 
@@ -178,7 +184,7 @@ impl<'a, 'r, Input: CharInput> Attempt<'a, 'r, Input> {
         ensures leads { TakesFrom (program_of self.now.program.now) (input_of (Input.view self.now.input)) forward at offset left result }
         ensures body { IfSome result (λ way. IsBody (program_of self.now.program.now) (Input.view self.now.input) at way.0) }
     {
-        let Some(insn) = self.taken_first(at) else {
+        let Some(insn) = taken_first(self.program, at) else {
             return Some((offset, left));
         };
         let first = first_byte(insn);
@@ -225,7 +231,14 @@ impl<'a, 'r, Input: CharInput> Attempt<'a, 'r, Input> {
             return Ok(true);
         }
         let insn = self.instruction(at - 1);
-        let Some(next) = self.advance(insn, spot.forward, &memory.groups, near) else {
+        let Some(next) = advance(
+            self.program,
+            &self.input,
+            insn,
+            spot.forward,
+            &memory.groups,
+            near,
+        ) else {
             return Ok(true);
         };
         memory.push(Undo::TakeOn {
@@ -272,7 +285,7 @@ impl<'a, 'r, Input: CharInput> Attempt<'a, 'r, Input> {
                 let going = self.take_on(at, offset, left, memory, spot)?;
                 Ok(going)
             }
-            Undo::Look(frame) => Ok(exhaust(&frame, spot)),
+            Undo::Submatch(frame) => Ok(exhaust(&frame, spot)),
         }
     }
 

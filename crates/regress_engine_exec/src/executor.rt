@@ -1,7 +1,7 @@
 //! The executor that undoes, of a program of bytes and a text alone.
 use crate::search::BacktrackExecutor;
 use regress_engine_code::CompiledRegex;
-use regress_engine_input::{AsciiInput, Utf8Input};
+use regress_engine_inputs::{AsciiInput, Utf8Input};
 use regress_engine_sought::{AnyText, AsciiText, Executor};
 use std::alloc::{AllocError, Global};
 

@@ -4,14 +4,12 @@
 mod attempt;
 mod back;
 mod executor;
-mod leading;
 mod producer;
-mod reads;
 mod search;
 mod singles;
 mod step;
-mod stuck;
 mod turns;
+mod ways;
 
 pub use regress_engine_sought::{ExecutorInput, Shown};
 pub use search::BacktrackExecutor;

@@ -14,9 +14,10 @@ ghost use Rattle.regress_engine_undo.specs.Held.{held};
 ghost use Rattle.regress_engine_sought.specs.Sought.{IsMadeOf, IsItemAtPlaces};
 
 use crate::attempt::Attempt;
-use crate::leading::Beginning;
+use regress_engine_advance::beside;
 use regress_engine_code::CompiledRegex;
-use regress_engine_input::Utf8Input;
+use regress_engine_inputs::Utf8Input;
+use regress_engine_leading::{Beginning, known_at};
 use regress_engine_sought::{ExecutorInput, Shown, Subject, captures};
 use regress_engine_undo::Memory;
 use regress_front_core::GroupData;
@@ -69,22 +70,22 @@ impl<'r, Input: ExecutorInput> BacktrackExecutor<'r, Input> {
             let Some(start) = self.subject.next_start(from) else {
                 return Ok(None);
             };
-            let attempt = Attempt {
-                program,
-                input,
-                start,
-            };
-            let first = match attempt.beginning() {
+            let first = match known_at(program, &input, start) {
                 Beginning::Passed(past) => {
                     from = past;
                     continue;
                 }
                 Beginning::At(first) => first,
             };
+            let attempt = Attempt {
+                program,
+                input,
+                start,
+            };
             if let Some(end) = attempt.run(first, &mut self.memory, &mut self.answer)? {
                 return Ok(Some((start, end)));
             }
-            let Some((_, behind)) = attempt.beside(true, start) else {
+            let Some((_, behind)) = beside(&input, true, start) else {
                 return Ok(None);
             };
             from = behind;

@@ -15,8 +15,10 @@ ghost use Rattle.regress_engine_undo.specs.Tasks.{state_at, task};
 ghost use Rattle.regress_engine_exec.specs.Trying.{Steps};
 
 use crate::attempt::Attempt;
+use regress_engine_advance::{advance, is_stuck};
 use regress_engine_code::Insn;
 use regress_engine_matchers::CharInput;
+use regress_engine_sought::Submatch;
 use regress_engine_undo::{Memory, Spot, begun, ended};
 use regress_front_core::GroupData;
 use std::alloc::AllocError;
@@ -33,7 +35,14 @@ impl<'a, 'r, Input: CharInput> Attempt<'a, 'r, Input> {
         requires reads { reads_character (instruction insn.now) ≡ true → ReadsPlaces (reading_of (Input.view self.now.input)) (instruction insn.now) (state_at spot.old (held memory.now)) }
         ensures { Leads (program_of self.now.program.now) (input_of (Input.view self.now.input)) 1 (task (program_of self.now.program.now) (input_of (Input.view self.now.input)) true spot.old (held memory.now)) (task (program_of self.now.program.now) (input_of (Input.view self.now.input)) result spot.new (held memory.now)) }
     {
-        let Some(next) = self.advance(insn, spot.forward, &memory.groups, spot.offset) else {
+        let Some(next) = advance(
+            self.program,
+            &self.input,
+            insn,
+            spot.forward,
+            &memory.groups,
+            spot.offset,
+        ) else {
             return false;
         };
         spot.at += 1;
@@ -53,7 +62,7 @@ impl<'a, 'r, Input: CharInput> Attempt<'a, 'r, Input> {
         match self.instruction(begin) {
             Insn::EnterLoop(repetition) => {
                 let exit = repetition.exit as usize;
-                let stuck = self.is_stuck(exit, spot.forward, spot.offset);
+                let stuck = is_stuck(self.program, &self.input, exit, spot.forward, spot.offset);
                 memory.again(repetition, begin, stuck, spot)
             }
             _ => Ok(false),
@@ -112,7 +121,7 @@ impl<'a, 'r, Input: CharInput> Attempt<'a, 'r, Input> {
             }
             Insn::EnterLoop(repetition) => {
                 let exit = repetition.exit as usize;
-                let stuck = self.is_stuck(exit, spot.forward, spot.offset);
+                let stuck = is_stuck(self.program, &self.input, exit, spot.forward, spot.offset);
                 let going = memory.enter(repetition, stuck, spot)?;
                 Ok(Some(going))
             }
@@ -135,7 +144,11 @@ impl<'a, 'r, Input: CharInput> Attempt<'a, 'r, Input> {
                 continuation,
             } => {
                 let target = *continuation as usize;
-                memory.look(*negate, false, *start_group, *end_group, target, spot)?;
+                let kind = Submatch::Lookaround {
+                    negated: *negate,
+                    backward: false,
+                };
+                memory.begin_submatch(kind, *start_group, *end_group, target, spot)?;
                 Ok(Some(true))
             }
             Insn::Lookbehind {
@@ -145,7 +158,20 @@ impl<'a, 'r, Input: CharInput> Attempt<'a, 'r, Input> {
                 continuation,
             } => {
                 let target = *continuation as usize;
-                memory.look(*negate, true, *start_group, *end_group, target, spot)?;
+                let kind = Submatch::Lookaround {
+                    negated: *negate,
+                    backward: true,
+                };
+                memory.begin_submatch(kind, *start_group, *end_group, target, spot)?;
+                Ok(Some(true))
+            }
+            Insn::Atomic {
+                start_group,
+                end_group,
+                continuation,
+            } => {
+                let target = *continuation as usize;
+                memory.begin_submatch(Submatch::Atomic, *start_group, *end_group, target, spot)?;
                 Ok(Some(true))
             }
             _ => {

@@ -16,6 +16,7 @@ ghost use Rattle.regress_engine_undo.specs.Tasks.{task};
 ghost use Rattle.regress_engine_undo.specs.Stuck.{IsTurn};
 
 use crate::attempt::Attempt;
+use regress_engine_advance::{is_atomic, is_stuck};
 use regress_engine_code::{Insn, LoopFields};
 use regress_engine_matchers::CharInput;
 use regress_engine_singles::{Taken, is_class, taken_ahead};
@@ -106,7 +107,10 @@ impl<'a, 'r, Input: CharInput> Attempt<'a, 'r, Input> {
             return None;
         };
         let exit = repetition.exit as usize;
-        if begin + 1 != at || !self.is_atomic(class, second) || !self.is_atomic(class, exit) {
+        if begin + 1 != at
+            || !is_atomic(self.program, class, second)
+            || !is_atomic(self.program, class, exit)
+        {
             return None;
         }
         Some(Turn {
@@ -126,7 +130,7 @@ impl<'a, 'r, Input: CharInput> Attempt<'a, 'r, Input> {
         if count < turn.repetition.min_iters {
             return turn.again;
         }
-        if self.is_stuck(second, true, offset) {
+        if is_stuck(self.program, &self.input, second, true, offset) {
             return turn.repetition.exit as usize;
         }
         turn.again
@@ -195,7 +199,7 @@ impl<'a, 'r, Input: CharInput> Attempt<'a, 'r, Input> {
                 }
             }
         }
-        if self.is_stuck(second, spot.forward, spot.offset) {
+        if is_stuck(self.program, &self.input, second, spot.forward, spot.offset) {
             spot.at += 1;
             return Ok(());
         }

@@ -13,8 +13,5 @@ pub mod ByteLiterals
 pub mod References
 pub mod UnitReferences
 pub mod Utf16References
-pub mod Utf16Starts
-pub mod Utf16Whole
 pub mod GoingBack
 pub mod KindLemmas
-mod InputRows

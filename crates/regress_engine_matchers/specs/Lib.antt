@@ -1,3 +1,2 @@
 pub mod AsciiCase
-pub mod AsciiByTable
 pub mod References

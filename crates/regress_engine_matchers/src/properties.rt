@@ -10,9 +10,7 @@ ghost use Rattle.regress_front_nodes.specs.TreeMeaning.{bracket_has};
 ghost use Rattle.regress_front_tables.specs.TableViews.{table};
 ghost use Rattle.regress_engine_matchers.specs.AsciiCase.{ascii_canon};
 
-use regress_engine_input::{
-    AsciiInput, ElementType, InputIndexer, Ucs2Input, Utf8Input, Utf16Input,
-};
+use regress_engine_input::{ElementType, InputIndexer};
 use regress_front_nodes::BracketContents;
 use regress_front_tables::{Tables, is_ascii_word};
 
@@ -143,37 +141,4 @@ pub trait CharInput: InputIndexer {
     // the properties of the characters that the text has are those of the table
     ghost canon_by_table: { (s : Self) (dir : Direction) (o c : ℕ) → point (input_of (Self.view s)) dir o ≡ Some c
         → Self.CharProps.canon (Self.view s).table (Self.view s).unicode c ≡ canon (input_of (Self.view s)).table (input_of (Self.view s)).unicode c };
-}
-
-impl<'u, 't> CharInput for Ucs2Input<'u, 't> {
-    ghost use Rattle.std.specs.Prelude.{refl};
-
-    type CharProps = Utf16CharProperties;
-
-    ghost canon_by_table = { λ _ _ _ _ _. refl };
-}
-
-impl<'u, 't> CharInput for Utf16Input<'u, 't> {
-    ghost use Rattle.std.specs.Prelude.{refl};
-
-    type CharProps = Utf16CharProperties;
-
-    ghost canon_by_table = { λ _ _ _ _ _. refl };
-}
-
-impl<'u, 't> CharInput for Utf8Input<'u, 't> {
-    ghost use Rattle.std.specs.Prelude.{refl};
-
-    type CharProps = UTF8CharProperties;
-
-    ghost canon_by_table = { λ _ _ _ _ _. refl };
-}
-
-impl<'u, 't> CharInput for AsciiInput<'u, 't> {
-    ghost use Rattle.regress_engine_matchers.specs.AsciiByTable.{ascii-by_table};
-    ghost use Rattle.regress_front_tables.specs.TableViews.{parts};
-
-    type CharProps = ASCIICharProperties;
-
-    ghost canon_by_table = { λ s dir o c read. ascii-by_table (parts s.tables.now) s.tables.now.lawful s.unicode s.text.now s.ascii dir o c read };
 }

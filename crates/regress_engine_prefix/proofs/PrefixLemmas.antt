@@ -17,7 +17,7 @@ use Rattle.regress_meaning.specs.Meaning.{State, Forward, Outcomes, Context, bes
 use Rattle.regress_meaning.proofs.StepLaws.{All-flat_map}
 use Rattle.regress_front_bytes.specs.declared.bitmaps.ByteBitmap.{ByteBitmap}
 use Rattle.regress_front_bytes.specs.Bitmaps.{byte_bitmap_contains}
-use Rattle.regress_front_nodes.specs.Trees.{Tree, tree, anchor_of, empty, goal, char, bytes, byte_set, char_set, cat, cat_of, no_part, alt, line_start, line_end, boundary, capture, bracket, string_set, look, loop, single_loop}
+use Rattle.regress_front_nodes.specs.Trees.{Tree, tree, anchor_of, empty, goal, char, bytes, byte_set, char_set, cat, cat_of, no_part, alt, line_start, line_end, boundary, capture, bracket, string_set, submatch, lookaround, atomic, loop, single_loop}
 use Rattle.regress_front_nodes.specs.TreeMeaning.{bracket_has, one, node_outcomes, direction}
 use Rattle.regress_front_nodes.specs.WellFormed.{AreLawful}
 use Rattle.regress_front_nodes.specs.declared.node.AnchorType.{AnchorType}
@@ -82,10 +82,10 @@ looked-still true s (t ∷ ts) = All-nil (λ u. u.place ≡ s.place)
 looked-still false s [] = All-nil (λ u. u.place ≡ s.place)
 looked-still false s (t ∷ ts) = one-state (λ u. u.place ≡ s.place) (record s { groups = t.groups }) refl
 
-pub Foretells-look : (negated backward : Bool) (first last : ℕ) (a : Tree) → Foretells Still (look negated backward first last a)
+pub Foretells-look : (negated backward : Bool) (first last : ℕ) (a : Tree) → Foretells Still (submatch (lookaround negated backward) first last a)
 unfolding node_outcomes
 Foretells-look negated backward first last a =
-    Still-from (look negated backward first last a) tt (λ context s. looked-still negated s (node_outcomes context a (direction backward) s))
+    Still-from (submatch (lookaround negated backward) first last a) tt (λ context s. looked-still negated s (node_outcomes context a (direction backward) s))
 
 -- ---- a start that is not of a line
 
@@ -303,6 +303,15 @@ pub Foretells-capture : (p : Prefix) (k : ℕ) (name : Option (List ℕ)) (a : T
 unfolding node_outcomes
 Foretells-capture p k name a h = record {
   each = λ context valid s. All-map (λ v. Holds p s.place (encode_utf8_all (drop s.place context.text)) v.place) (captured k s.place) (node_outcomes context a Forward s)
+      (h.each context valid s);
+  leads = h.leads;
+  spelled = h.spelled;
+}
+
+pub Foretells-atomic : (p : Prefix) (first last : ℕ) (a : Tree) → Foretells p a → Foretells p (submatch atomic first last a)
+unfolding node_outcomes
+Foretells-atomic p first last a h = record {
+  each = λ context valid s. All-take (λ v. Holds p s.place (encode_utf8_all (drop s.place context.text)) v.place) 1 (node_outcomes context a Forward s)
       (h.each context valid s);
   leads = h.leads;
   spelled = h.spelled;

@@ -42,7 +42,25 @@ abbrev pub first_literal : Tree → Option (List ℕ)
 first_literal (node.bytes bs) = Some bs
 first_literal (node.cat a b) = first_literal a
 first_literal (node.capture k name a) = first_literal a
-first_literal _ = None
+first_literal (node.submatch node.atomic first last a) = first_literal a
+first_literal node.empty = None
+first_literal node.goal = None
+first_literal (node.char c) = None
+first_literal (node.byte_set bs) = None
+first_literal (node.char_set cs) = None
+first_literal node.no_part = None
+first_literal (node.alt a b) = None
+first_literal node.any = None
+first_literal node.any_in_line = None
+first_literal (node.line_start multiline) = None
+first_literal (node.line_end multiline) = None
+first_literal (node.boundary inverted folded) = None
+first_literal (node.back k icase) = None
+first_literal (node.bracket inverted intervals) = None
+first_literal (node.string_set strings icase) = None
+first_literal (node.submatch (node.lookaround negated backward) first last a) = None
+first_literal (node.loop a first last least most greedy) = None
+first_literal (node.single_loop a least most greedy) = None
 
 -- these bytes are known
 abbrev pub HasBytes : Prefix → List ℕ → Type 0

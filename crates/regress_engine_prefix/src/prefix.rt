@@ -76,6 +76,7 @@ fn find(alloc: Global, node: &Node, known: &mut Prefix) -> Result<(), AllocError
         Node::Cat(parts) => find_of_parts(alloc, parts, known),
         Node::Alt(first, second) => find_of_arms(alloc, first, second, known),
         Node::CaptureGroup { contents, .. } => find(alloc, contents, known),
+        Node::AtomicGroup { contents, .. } => find(alloc, contents, known),
         Node::Loop { loopee, quant, .. } => find_of_loop(alloc, loopee, quant, known),
         Node::Loop1CharBody { loopee, quant } => find_of_loop(alloc, loopee, quant, known),
         Node::LookaroundAssertion { .. } => still(known),

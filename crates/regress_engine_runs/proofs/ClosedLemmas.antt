@@ -10,6 +10,7 @@ use Rattle.regress_front_nodes.specs.Forms.{in_reading_order}
 use Rattle.regress_front_nodes.specs.Pieces.{pieces_of}
 use Rattle.regress_front_nodes.specs.Singles.{takes_one}
 use Rattle.regress_front_nodes.specs.WellFormed.{AreLawful, AreNumbered, IsWellFormed, group_ids}
+use Rattle.regress_front_nodes.specs.TreeMeaning.{reads_backward}
 use Rattle.regress_engine_code.specs.Instructions.{Instruction, Program, Stands, StandFrom}
 use Rattle.regress_engine_code.specs.Instructions as code
 use Rattle.regress_engine_code.specs.Layout.{char_set_code, byte_set_code, Spot, next, later, Target, literal_code, pieces_code, string_code, resets, IsBracket, IsOne, AreAll, AreArms, Lies, IsLayout}
@@ -196,12 +197,12 @@ module _ (target : Target) where
     where
       own : (k : ℕ) → if◌then◌else◌ {A = ℕ} (k == k) 1 0 ≡ 1
       own k = grind (arith, nat_tests)
-  all-fit n (tree.look negated behind first last a) b p q (m, begin, h, end) lawful count groups loops =
+  all-fit n (tree.submatch kind first last a) b p q (m, begin, h, end) lawful count groups loops =
       let place = at-same (next m) q end.1 in
       let same = ap (λ (r : Spot). r.loops) end.1 in
       subst (AllFit target.program p.address) (sym place)
-      (around (code.look negated behind first last q.address) code.goal p m q begin (groups-inside first last a lawful.0 groups)
-      (all-fit n a behind (next p) m h lawful.1 count groups (omega (arith, same, loops))) end.0 tt)
+      (around (code.submatch kind first last q.address) code.goal p m q begin (groups-inside first last a lawful.0 groups)
+      (all-fit n a (reads_backward kind b) (next p) m h lawful.1 count groups (omega (arith, same, loops))) end.0 tt)
   all-fit n (tree.loop a first last least most greedy) b p q (m, begin, reset, h, end) lawful count groups loops =
       let place = at-same (next m) q end.1 in
       let same = ap (λ (r : Spot). r.loops) end.1 in

@@ -2,11 +2,11 @@
 use Rattle.std.proofs.Common.{◌≡◌, ℕ, zero, suc, ◌+◌, ◌<◌, true, List, [], ◌∷◌, ◌++◌, Option, Some, None, option_and_then, option_map, refl, sym, ap, ◌∙◌, subst, arith, slice_get}
 use Rattle.regress_meaning.specs.Meaning.{Direction}
 use Rattle.regress_meaning.specs.Inputs.{Input}
-use Rattle.regress_front_nodes.specs.TreeMeaning.{direction}
+use Rattle.regress_front_nodes.specs.TreeMeaning.{submatch_direction}
 use Rattle.regress_engine_code.specs.Instructions.{Instruction, Program, Stands}
 use Rattle.regress_engine_code.specs.Instructions as code
 use Rattle.regress_engine_runs.specs.States.{Whole, onward}
-use Rattle.regress_engine_runs.specs.Runs.{Run, ends, finds, goes, looks, successors, is_plain, after_look}
+use Rattle.regress_engine_runs.specs.Runs.{Run, ends, finds, goes, looks, successors, is_plain, after_submatch}
 use Rattle.regress_engine_runs.specs.Computed.{Counted, more_steps, run, run_at}
 
 -- a value was found and taken on
@@ -41,15 +41,15 @@ module _ (program : Program) (input : Input) where
       let count : 1 ≡ n = ap (λ (x : ℕ × Option Whole). x.0) f in
       let answer : Some s ≡ r = ap (λ (x : ℕ × Option Whole). x.1) f in
       subst (λ k. Run program input dir (s ∷ ss) k r) count (subst (λ x. Run program input dir (s ∷ ss) 1 x) answer (finds here))
-  sound_at go sound dir s ss n r (Some (code.look negated backward first last continuation)) here e =
-      let ((m, q), inner, rest) = then_some (λ (x : ℕ × Option Whole). more_steps program input (suc x.0) (go dir (after_look negated first last continuation s x.1 ++ ss)))
-      (go (direction backward) (onward s ∷ [])) (n, r) e in
-      let ((k, p), outer, same) = map_some (λ (x : ℕ × Option Whole). (suc m + x.0, x.1)) (go dir (after_look negated first last continuation s q ++ ss)) (n, r) rest in
+  sound_at go sound dir s ss n r (Some (code.submatch kind first last continuation)) here e =
+      let ((m, q), inner, rest) = then_some (λ (x : ℕ × Option Whole). more_steps program input (suc x.0) (go dir (after_submatch kind first last continuation s x.1 ++ ss)))
+      (go (submatch_direction kind dir) (onward s ∷ [])) (n, r) e in
+      let ((k, p), outer, same) = map_some (λ (x : ℕ × Option Whole). (suc m + x.0, x.1)) (go dir (after_submatch kind first last continuation s q ++ ss)) (n, r) rest in
       let count : suc (m + k) ≡ n = let f : suc m + k ≡ n = ap (λ (x : ℕ × Option Whole). x.0) same in omega (arith, f) in
       let answer : p ≡ r = ap (λ (x : ℕ × Option Whole). x.1) same in
       subst (λ j. Run program input dir (s ∷ ss) j r) count
       (subst (λ x. Run program input dir (s ∷ ss) (suc (m + k)) x) answer
-      (looks here (sound (direction backward) (onward s ∷ []) m q inner) (sound dir (after_look negated first last continuation s q ++ ss) k p outer)))
+      (looks here (sound (submatch_direction kind dir) (onward s ∷ []) m q inner) (sound dir (after_submatch kind first last continuation s q ++ ss) k p outer)))
   sound_at go sound dir s ss n r (Some i) here e = plainly go sound dir s ss n r i here refl e
 
   -- what is computed is a run
@@ -67,7 +67,7 @@ module _ (program : Program) (input : Input) where
   plain-at : (go : Direction → List Whole → Counted program input) (dir : Direction) (s : Whole) (ss : List Whole) (i : Instruction) → is_plain i ≡ true
       → run_at program input go dir s ss (Some i) ≡ more_steps program input 1 (go dir (successors program input i dir s ++ ss))
   plain-at go dir s ss code.goal e = absurd (grind arith)
-  plain-at go dir s ss (code.look negated backward first last continuation) e = absurd (grind arith)
+  plain-at go dir s ss (code.submatch kind first last continuation) e = absurd (grind arith)
   plain-at go dir s ss _ e = refl
 
   -- A run is computed, with any number past its steps.
@@ -83,12 +83,12 @@ module _ (program : Program) (input : Input) where
       let e : 1 + n ≡ suc n = omega arith in
       ap (run_at program input (run program input f) dir s ss) here ∙ plain-at (run program input f) dir s ss i plain ∙ ap (more_steps program input 1) h ∙ ap (λ k. Some (k, r)) e
   runs-computed (looks here inner next) zero few = absurd (omega arith)
-  runs-computed (looks {dir = dir} {negated = negated} {backward = backward} {first = first} {last = last} {continuation = continuation} {s = s} {ss = ss} {m = m} {n = n} {q = q} {r = r} here inner next) (suc f) few =
+  runs-computed (looks {dir = dir} {kind = kind} {first = first} {last = last} {continuation = continuation} {s = s} {ss = ss} {m = m} {n = n} {q = q} {r = r} here inner next) (suc f) few =
       let h = runs-computed inner f (omega arith) in
       let k = runs-computed next f (omega arith) in
       let e : suc m + n ≡ suc (m + n) = omega arith in
       ap (run_at program input (run program input f) dir s ss) here
-      ∙ ap (option_and_then (λ (x : ℕ × Option Whole). more_steps program input (suc x.0) (run program input f dir (after_look negated first last continuation s x.1 ++ ss)))) h
+      ∙ ap (option_and_then (λ (x : ℕ × Option Whole). more_steps program input (suc x.0) (run program input f dir (after_submatch kind first last continuation s x.1 ++ ss)))) h
       ∙ ap (more_steps program input (suc m)) k ∙ ap (λ j. Some (j, r)) e
 
   -- So it has one number of steps and one answer.

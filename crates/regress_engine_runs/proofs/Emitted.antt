@@ -3,6 +3,7 @@ use Rattle.std.specs.Prelude.{ℕ, suc, ◌+◌, ◌-◌, Bool, true, false, not
 use Rattle.regress_front_nodes.specs.Trees.{Tree}
 use Rattle.regress_front_nodes.specs.Trees as tree
 use Rattle.regress_front_nodes.specs.Sizes.{loops}
+use Rattle.regress_front_nodes.specs.TreeMeaning.{reads_backward}
 use Rattle.regress_engine_code.specs.Instructions.{Instruction}
 use Rattle.regress_engine_code.specs.Instructions as code
 use Rattle.regress_engine_code.specs.Layout.{char_set_code, byte_set_code, Target, resets, literal_code, string_code}
@@ -58,8 +59,8 @@ module _ (target : Target) where
   emitted b (tree.back k icase) at l = code.back (k - 1) icase ∷ []
   emitted b (tree.bracket inverted intervals) at l = code.bracket (index_of (inverted, intervals) target.program.brackets) ∷ []
   emitted b (tree.string_set strings icase) at l = arms_code b icase strings at
-  emitted b (tree.look negated behind first last a) at l =
-      let x = emitted behind a (suc at) l in code.look negated behind first last (suc (suc at + length x)) ∷ (x ++ (code.goal ∷ []))
+  emitted b (tree.submatch kind first last a) at l =
+      let x = emitted (reads_backward kind b) a (suc at) l in code.submatch kind first last (suc (suc at + length x)) ∷ (x ++ (code.goal ∷ []))
   emitted b (tree.loop a first last least most greedy) at l =
       let x = resets first (last - first) ++ emitted b a (suc at + (last - first)) (suc l) in
       code.enter_loop (record { loop_id = l; least = least; most = most; greedy = greedy; exit = suc (suc at + length x) }) ∷ (x ++ (code.loop_again at ∷ []))

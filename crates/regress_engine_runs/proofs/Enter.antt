@@ -9,7 +9,7 @@ use Rattle.regress_meaning.specs.Inputs.{Input, Tells, neighbour, point_told, co
 use Rattle.regress_meaning.specs.Steps.{passed, only_if, point}
 use Rattle.regress_front_nodes.specs.Trees.{Tree}
 use Rattle.regress_front_nodes.specs.Trees as tree
-use Rattle.regress_front_nodes.specs.TreeMeaning.{node_outcomes, bracket_has, direction}
+use Rattle.regress_front_nodes.specs.TreeMeaning.{reads_backward, node_outcomes, bracket_has, direction}
 use Rattle.regress_front_nodes.specs.WellFormed.{AreLawful, goals}
 use Rattle.regress_front_nodes.specs.ByteInputs.{TellsBytes, placed}
 use Rattle.regress_front_nodes.specs.Singles.{takes_one}
@@ -202,11 +202,11 @@ module _ (target : Target) (input : Input) (reading : Reading) (tells : Tells re
   enters n (tree.capture k name a) b p q (m, begin, h, end) lawful once ended =
       subst (λ r. Enters target input reading b (tree.capture k name a) p r) (sym end.1)
       (in_group target input reading b k name a p m begin end.0 once (enters n a b (next p) m h lawful.1 (λ i. omega (arith, once i)) ended))
-  enters n (tree.look negated behind first last a) b p q (m, begin, h, end) lawful once ended =
-      subst (λ r. Enters target input reading b (tree.look negated behind first last a) p r) (sym end.1)
-      (looking target input reading b negated behind first last a p m
-      (subst (λ c. Stands target.program p.address (code.look negated behind first last c)) (ap (λ (r : Spot). r.address) end.1) begin) end.0 lawful.0
-      (enters n a behind (next p) m h lawful.1 once ended))
+  enters n (tree.submatch kind first last a) b p q (m, begin, h, end) lawful once ended =
+      subst (λ r. Enters target input reading b (tree.submatch kind first last a) p r) (sym end.1)
+      (looking target input reading b kind first last a p m
+      (subst (λ c. Stands target.program p.address (code.submatch kind first last c)) (ap (λ (r : Spot). r.address) end.1) begin) end.0 lawful.0
+      (enters n a (reads_backward kind b) (next p) m h lawful.1 once ended))
   enters n (tree.loop a first last least most greedy) b p q (m, begin, reset, h, end) lawful once ended =
       subst (λ r. Enters target input reading b (tree.loop a first last least most greedy) p r) (sym end.1)
       (repeating target input reading tells.rise b a first last least most greedy p m (record {

@@ -1,12 +1,12 @@
--- Entering a lookaround.
+-- Entering a lookaround or an atomic group.
 use Rattle.std.specs.Prelude.{nat_le, nat_lt}
 use Rattle.std.proofs.Common.{◌≡◌, ℕ, suc, ◌+◌, ◌&&◌, Bool, true, false, List, [], ◌∷◌, ◌++◌, length, Some, None, if◌then◌else◌, get_or, refl, sym, ap, ap₂, ◌∙◌, subst, arith}
-use Rattle.regress_meaning.specs.Meaning.{State, Direction, looked}
+use Rattle.regress_meaning.specs.Meaning.{State, Direction}
 use Rattle.regress_meaning.specs.Offsets.{Reading}
 use Rattle.regress_meaning.specs.Inputs.{Input, context_of}
-use Rattle.regress_front_nodes.specs.Trees.{Tree}
+use Rattle.regress_front_nodes.specs.Trees.{Submatch, lookaround, atomic, Tree}
 use Rattle.regress_front_nodes.specs.Trees as tree
-use Rattle.regress_front_nodes.specs.TreeMeaning.{node_outcomes, direction}
+use Rattle.regress_front_nodes.specs.TreeMeaning.{submatch_direction, submatched, reads_backward, node_outcomes, direction}
 use Rattle.regress_front_nodes.specs.WellFormed.{group_ids, AreNumbered}
 use Rattle.regress_engine_code.specs.Instructions.{Program, Stands}
 use Rattle.regress_engine_code.specs.Instructions as code
@@ -47,33 +47,33 @@ mixed-new i first last (n ∷ new) (m ∷ old) e h =
 
 module _ (target : Target) (input : Input) (reading : Reading) where
   -- the answer of the contents, and what follows it
-  by_answer : (dir : Direction) (negated behind : Bool) (first last : ℕ) (a : Tree) (p m : Spot) (s : State) (w : Whole)
-      → Stands target.program w.at (code.look negated behind first last (suc m.address)) → Stands target.program m.address code.goal
+  by_answer : (dir : Direction) (kind : Submatch) (first last : ℕ) (a : Tree) (p m : Spot) (s : State) (w : Whole)
+      → Stands target.program w.at (code.submatch kind first last (suc m.address)) → Stands target.program m.address code.goal
       → AreNumbered first last (group_ids a) → StandsFor reading s w → (us : List State) (vs : List Whole)
-      → Pairwise (Arrives reading (direction behind) m.address (λ k. occurs k a) p.loops m.loops s.place w) us vs
-      → Expands target.program input reading (direction behind) (onward w ∷ []) vs
+      → Pairwise (Arrives reading (submatch_direction kind dir) m.address (λ k. occurs k a) p.loops m.loops s.place w) us vs
+      → Expands target.program input reading (submatch_direction kind dir) (onward w ∷ []) vs
       → Leads target.program input reading dir (Arrives reading dir (suc m.address) (λ k. occurs k a) p.loops m.loops s.place w) (w ∷ [])
-      (looked negated s us)
-  by_answer dir true behind first last a p m s w here end numbered stands [] [] h e =
+      (submatched kind s us)
+  by_answer dir (lookaround true behind) first last a p m s w here end numbered stands [] [] h e =
       let v : Whole = record w { at = suc m.address } in
       let Q : State → Whole → Type 0 = Arrives reading dir (suc m.address) (λ k. occurs k a) p.loops m.loops s.place w in
       first_expand target.program input reading Q (w ∷ []) (v ∷ []) (s ∷ [])
-      (looks_around target.program input reading true behind first last (suc m.address) w None here (e [] None (0, ends)))
+      (looks_around target.program input reading (lookaround true behind) first last (suc m.address) w None here (e [] None (0, ends)))
       (leads_at_once target.program input reading Q (s ∷ []) (v ∷ []) (stays target input reading dir (suc m.address) (λ k. occurs k a) p.loops m.loops s w v refl stands refl refl, tt))
-  by_answer dir false behind first last a p m s w here end numbered stands [] [] h e =
+  by_answer dir (lookaround false behind) first last a p m s w here end numbered stands [] [] h e =
       let Q : State → Whole → Type 0 = Arrives reading dir (suc m.address) (λ k. occurs k a) p.loops m.loops s.place w in
       first_expand target.program input reading Q (w ∷ []) [] []
-      (looks_around target.program input reading false behind first last (suc m.address) w None here (e [] None (0, ends)))
+      (looks_around target.program input reading (lookaround false behind) first last (suc m.address) w None here (e [] None (0, ends)))
       (leads_at_once target.program input reading Q [] [] tt)
-  by_answer dir negated behind first last a p m s w here end numbered stands [] (v ∷ vs) h e = absurd h
-  by_answer dir negated behind first last a p m s w here end numbered stands (u ∷ us) [] h e = absurd h
-  by_answer dir true behind first last a p m s w here end numbered stands (u ∷ us) (v ∷ vs) (r, rest) e =
+  by_answer dir kind first last a p m s w here end numbered stands [] (v ∷ vs) h e = absurd h
+  by_answer dir kind first last a p m s w here end numbered stands (u ∷ us) [] h e = absurd h
+  by_answer dir (lookaround true behind) first last a p m s w here end numbered stands (u ∷ us) (v ∷ vs) (r, rest) e =
       let Q : State → Whole → Type 0 = Arrives reading dir (suc m.address) (λ k. occurs k a) p.loops m.loops s.place w in
       let run : SafeRuns target.program input reading (direction behind) (v ∷ (vs ++ [])) (Some v) = (1, finds (standing target input reading v r.at end)) in
       first_expand target.program input reading Q (w ∷ []) [] []
-      (looks_around target.program input reading true behind first last (suc m.address) w (Some v) here (e [] (Some v) run))
+      (looks_around target.program input reading (lookaround true behind) first last (suc m.address) w (Some v) here (e [] (Some v) run))
       (leads_at_once target.program input reading Q [] [] tt)
-  by_answer dir false behind first last a p m s w here end numbered stands (u ∷ us) (v ∷ vs) (r, rest) e =
+  by_answer dir (lookaround false behind) first last a p m s w here end numbered stands (u ∷ us) (v ∷ vs) (r, rest) e =
       let Q : State → Whole → Type 0 = Arrives reading dir (suc m.address) (λ k. occurs k a) p.loops m.loops s.place w in
       let run : SafeRuns target.program input reading (direction behind) (v ∷ (vs ++ [])) (Some v) = (1, finds (standing target input reading v r.at end)) in
       let kept : mixed 0 first last v.groups w.groups ≡ v.groups =
@@ -104,15 +104,54 @@ module _ (target : Target) (input : Input) (reading : Reading) where
         },
         tt,
       )))
-      (looks_around target.program input reading false behind first last (suc m.address) w (Some v) here (e [] (Some v) run))
+      (looks_around target.program input reading (lookaround false behind) first last (suc m.address) w (Some v) here (e [] (Some v) run))
+  by_answer dir atomic first last a p m s w here end numbered stands [] [] h e =
+      let Q : State → Whole → Type 0 = Arrives reading dir (suc m.address) (λ k. occurs k a) p.loops m.loops s.place w in
+      first_expand target.program input reading Q (w ∷ []) [] []
+      (looks_around target.program input reading atomic first last (suc m.address) w None here (e [] None (0, ends)))
+      (leads_at_once target.program input reading Q [] [] tt)
+  by_answer dir atomic first last a p m s w here end numbered stands (u ∷ us) (v ∷ vs) (r, rest) e =
+      let Q : State → Whole → Type 0 = Arrives reading dir (suc m.address) (λ k. occurs k a) p.loops m.loops s.place w in
+      let run : SafeRuns target.program input reading dir (v ∷ (vs ++ [])) (Some v) = (1, finds (standing target input reading v r.at end)) in
+      let kept : mixed 0 first last v.groups w.groups ≡ v.groups =
+      mixed-new 0 first last v.groups w.groups r.keeps.group_count
+      (λ k t. let f : 0 + k ≡ k = omega arith in r.keeps.groups k (outside_none first last a numbered k (sym (ap (is_within first last) f) ∙ t))) in
+      let z : Whole = record w { at = suc m.address; offset = v.offset; groups = v.groups } in
+      let y : Whole = record w { at = suc m.address; offset = v.offset; groups = mixed 0 first last v.groups w.groups } in
+      let same : y ≡ z = ap (λ (ms : List Marks). record w { at = suc m.address; offset = v.offset; groups = ms }) kept in
+      subst (λ (t : Whole). Expands target.program input reading dir (w ∷ []) (t ∷ []) → Leads target.program input reading dir Q (w ∷ []) (u ∷ [])) (sym same)
+      (λ step. first_expand target.program input reading Q (w ∷ []) (z ∷ []) (u ∷ []) step
+      (leads_at_once target.program input reading Q (u ∷ []) (z ∷ []) (
+        record {
+          at = refl;
+          stands = record {
+            place = r.stands.place;
+            count = r.stands.count;
+            groups = r.stands.groups;
+            inside = r.stands.inside;
+          };
+          keeps = record {
+            loops = λ k o. refl;
+            loop_count = refl;
+            groups = r.keeps.groups;
+            group_count = r.keeps.group_count;
+          };
+          ahead = r.ahead;
+        },
+        tt,
+      )))
+      (looks_around target.program input reading atomic first last (suc m.address) w (Some v) here (e [] (Some v) run))
 
-  pub looking : (b negated behind : Bool) (first last : ℕ) (a : Tree) (p m : Spot)
-      → Stands target.program p.address (code.look negated behind first last (suc m.address)) → Stands target.program m.address code.goal
-      → AreNumbered first last (group_ids a) → Enters target input reading behind a (next p) m
-      → Enters target input reading b (tree.look negated behind first last a) p (next m)
+  pub looking : (b : Bool) (kind : Submatch) (first last : ℕ) (a : Tree) (p m : Spot)
+      → Stands target.program p.address (code.submatch kind first last (suc m.address)) → Stands target.program m.address code.goal
+      → AreNumbered first last (group_ids a) → Enters target input reading (reads_backward kind b) a (next p) m
+      → Enters target input reading b (tree.submatch kind first last a) p (next m)
   unfolding node_outcomes
-  looking b negated behind first last a p m begin end numbered inner s w at stands may =
-      let turned : Direction = direction behind in
+  looking b (lookaround negated behind) first last a p m begin end numbered inner s w at stands may =
       let found = inner s (onward w) (ap suc at) stands may in
-      by_answer (direction b) negated behind first last a p m s w (standing target input reading w at begin) end numbered stands
-      (node_outcomes (context_of reading input) a turned s) found.0 found.2 found.1
+      by_answer (direction b) (lookaround negated behind) first last a p m s w (standing target input reading w at begin) end numbered stands
+      (node_outcomes (context_of reading input) a (direction behind) s) found.0 found.2 found.1
+  looking b atomic first last a p m begin end numbered inner s w at stands may =
+      let found = inner s (onward w) (ap suc at) stands may in
+      by_answer (direction b) atomic first last a p m s w (standing target input reading w at begin) end numbered stands
+      (node_outcomes (context_of reading input) a (direction b) s) found.0 found.2 found.1

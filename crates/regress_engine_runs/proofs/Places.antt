@@ -6,6 +6,7 @@ use Rattle.regress_meaning.specs.Laws.{IsAhead}
 use Rattle.regress_meaning.specs.Offsets.{Reading}
 use Rattle.regress_front_nodes.specs.Trees.{Tree}
 use Rattle.regress_front_nodes.specs.Trees as tree
+use Rattle.regress_front_nodes.specs.TreeMeaning.{reads_backward}
 use Rattle.regress_front_nodes.specs.WellFormed.{group_ids}
 use Rattle.regress_front_nodes.proofs.CountLemmas.{times, count-cons}
 use Rattle.regress_engine_code.specs.Layout.{Spot, next, Target, AreArms, Lies}
@@ -17,7 +18,7 @@ abbrev pub occurs : ℕ → Tree → ℕ
 occurs k (tree.cat a b) = occurs k a + occurs k b
 occurs k (tree.alt a b) = occurs k a + occurs k b
 occurs k (tree.capture j name a) = (if j == k then 1 else 0) + occurs k a
-occurs k (tree.look negated behind first last a) = occurs k a
+occurs k (tree.submatch kind first last a) = occurs k a
 occurs k (tree.loop a first last least most greedy) = occurs k a
 occurs k (tree.single_loop a least most greedy) = occurs k a
 occurs k _ = 0
@@ -133,7 +134,7 @@ occurs-is k (tree.cat a b) =
 occurs-is k (tree.alt a b) =
     let e = sum_by-append (λ id. if id == k then 1 else 0) (group_ids a) (group_ids b) in omega (arith, e, occurs-is k a, occurs-is k b)
 occurs-is k (tree.capture j name a) = let e = count-cons k j (group_ids a) in omega (arith, e, occurs-is k a)
-occurs-is k (tree.look negated behind first last a) = occurs-is k a
+occurs-is k (tree.submatch kind first last a) = occurs-is k a
 occurs-is k (tree.loop a first last least most greedy) = occurs-is k a
 occurs-is k (tree.single_loop a least most greedy) = occurs-is k a
 occurs-is k _ = refl
@@ -173,8 +174,8 @@ Lies-rises target b (tree.capture k name a) p q (m, begin, h, ended) =
 Lies-rises target b (tree.back k icase) p q h = loops-same (next p) q h.1
 Lies-rises target b (tree.bracket inverted intervals) p q (i, is, h) = loops-same (next p) q h.1
 Lies-rises target b (tree.string_set strings icase) p q h = arms-rise target b icase strings p q h
-Lies-rises target b (tree.look negated behind first last a) p q (m, begin, h, ended) =
-    let e = Lies-rises target behind a (next p) m h in let f = loops-same (next m) q ended.1 in omega (arith, e, f)
+Lies-rises target b (tree.submatch kind first last a) p q (m, begin, h, ended) =
+    let e = Lies-rises target (reads_backward kind b) a (next p) m h in let f = loops-same (next m) q ended.1 in omega (arith, e, f)
 Lies-rises target b (tree.loop a first last least most greedy) p q (m, begin, reset, h, ended) =
     let e = Lies-rises target b a _ m h in let f = loops-same (next m) q ended.1 in omega (arith, e, f)
 Lies-rises target b (tree.single_loop a least most greedy) p q h = Lies-rises target b a (next p) q h.1

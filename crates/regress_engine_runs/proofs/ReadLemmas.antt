@@ -3,11 +3,11 @@ use Rattle.std.proofs.Common.{◌≡◌, suc, ◌+◌, true, List, [], ◌∷◌
 use Rattle.regress_meaning.specs.Meaning.{Direction}
 use Rattle.regress_meaning.specs.Offsets.{Reading}
 use Rattle.regress_meaning.specs.Inputs.{Input}
-use Rattle.regress_front_nodes.specs.TreeMeaning.{direction}
+use Rattle.regress_front_nodes.specs.TreeMeaning.{submatch_direction}
 use Rattle.regress_engine_code.specs.Instructions.{Instruction, Program, Stands}
 use Rattle.regress_engine_code.specs.Instructions as code
 use Rattle.regress_engine_runs.specs.States.{Whole, onward}
-use Rattle.regress_engine_runs.specs.Runs.{Runs, successors, is_plain, after_look}
+use Rattle.regress_engine_runs.specs.Runs.{Runs, successors, is_plain, after_submatch}
 use Rattle.regress_engine_runs.specs.Runs as run
 use Rattle.regress_engine_runs.specs.Meets.{Meets, reads_character, ReadsPlaces}
 use Rattle.regress_engine_runs.specs.Meets as meets
@@ -42,8 +42,8 @@ module _ (program : Program) (input : Input) where
       meets_outside (subst (λ xs. Runs program input dir xs q) (sym (append_assoc ss ts us)) answered) beyond
 
   -- the contents of a lookaround, and what follows it
-  comes_pushed : (s : Whole) (work : Work) (f : Frame) → Stands program s.at (code.look f.negated f.backward f.first f.last f.continuation) → (t : Whole)
-      → ComesTo program input (direction f.backward) (onward s ∷ []) (inside [] f s work) t → ComesTo program input f.outside (s ∷ []) work t
+  comes_pushed : (s : Whole) (work : Work) (f : Frame) → Stands program s.at (code.submatch f.kind f.first f.last f.continuation) → (t : Whole)
+      → ComesTo program input (submatch_direction f.kind f.outside) (onward s ∷ []) (inside [] f s work) t → ComesTo program input f.outside (s ∷ []) work t
   comes_pushed s (outermost ts) f here t (meets_within met) = meets_alone (meets.inside here met)
   comes_pushed s (inside ts g u rest) f here t (meets_within met) = meets_within (meets.inside here met)
   comes_pushed s (outermost ts) f here t (meets_outside answered (meets_alone met)) = meets_alone (meets.behind here answered met)
@@ -72,16 +72,16 @@ module _ (program : Program) (input : Input) where
     read_later dir ss ts work on t j comes there reads = on t j (comes_later dir ss ts work t comes) there reads
 
     -- A frame is pushed.
-    pub read_inside : (s : Whole) (work : Work) (f : Frame) → Stands program s.at (code.look f.negated f.backward f.first f.last f.continuation)
-        → ReadOn program input reading f.outside (s ∷ []) work → ReadOn program input reading (direction f.backward) (onward s ∷ []) (inside [] f s work)
+    pub read_inside : (s : Whole) (work : Work) (f : Frame) → Stands program s.at (code.submatch f.kind f.first f.last f.continuation)
+        → ReadOn program input reading f.outside (s ∷ []) work → ReadOn program input reading (submatch_direction f.kind f.outside) (onward s ∷ []) (inside [] f s work)
     read_inside s work f here on t j comes there reads = on t j (comes_pushed s work f here t comes) there reads
 
     -- It is popped at a goal, or with nothing left inside.
     pub read_found : (dir : Direction) (v : Whole) (ts : List Whole) (f : Frame) (s : Whole) (work : Work) → Stands program v.at code.goal
         → ReadOn program input reading dir (v ∷ []) (inside ts f s work)
-        → ReadOn program input reading f.outside (after_look f.negated f.first f.last f.continuation s (Some v)) work
+        → ReadOn program input reading f.outside (after_submatch f.kind f.first f.last f.continuation s (Some v)) work
     read_found dir v ts f s work goal on t j comes there reads = on t j (meets_outside (1, run.finds goal) comes) there reads
 
     pub read_exhausted : (dir : Direction) (f : Frame) (s : Whole) (work : Work) → ReadOn program input reading dir [] (inside [] f s work)
-        → ReadOn program input reading f.outside (after_look f.negated f.first f.last f.continuation s None) work
+        → ReadOn program input reading f.outside (after_submatch f.kind f.first f.last f.continuation s None) work
     read_exhausted dir f s work on t j comes there reads = on t j (meets_outside (0, run.ends) comes) there reads

@@ -17,7 +17,7 @@ use Rattle.regress_meaning.specs.Tokens.{greatest}
 use Rattle.regress_meaning.specs.Meaning.{Forward}
 use Rattle.regress_meaning.specs.Inputs.{Input, ascii_input, ucs2_input, utf16_input, utf8_input}
 use Rattle.regress_meaning.specs.Steps.{copied}
-use Rattle.regress_front_nodes.specs.Trees.{Tree, cat_of, empty, any_in_line, char, cat, no_part, alt, capture, back, look, loop, goal, line_start, line_end, bytes, char_set, string_set, single_loop, bracket, boundary}
+use Rattle.regress_front_nodes.specs.Trees.{Tree, cat_of, empty, any_in_line, char, cat, no_part, alt, capture, back, submatch, lookaround, atomic, loop, goal, line_start, line_end, bytes, char_set, string_set, single_loop, bracket, boundary}
 use Rattle.regress_front_nodes.specs.WellFormed.{IsWellFormed}
 use Rattle.regress_front_nodes.specs.Pieces.{pieces_of, expansion}
 use Rattle.regress_engine_code.specs.Instructions.{Program}
@@ -116,7 +116,7 @@ digit = char_set (codes "0123456789")
 
 -- (?<=(\d+)(\d+))$ on 1053
 abbrev behind : Tree
-behind = cat_of (look false true 0 2 (cat_of (capture 1 None (loop digit 2 2 1 greatest true) ∷ capture 0 None (loop digit 2 2 1 greatest true) ∷ [])) ∷ line_end false ∷ [])
+behind = cat_of (submatch (lookaround false true) 0 2 (cat_of (capture 1 None (loop digit 2 2 1 greatest true) ∷ capture 0 None (loop digit 2 2 1 greatest true) ∷ [])) ∷ line_end false ∷ [])
 
 a_lookbehind_reads_backward : answer 2 2 behind "1053" 4 ≡ found 4 (Some (0, 1) ∷ Some (1, 4) ∷ [])
 unfolding computation
@@ -198,7 +198,7 @@ a_lazy_loop_takes_few = (refl, refl)
 
 -- (?=(a+))a*b\1 on baaabac, from 1 and from 3
 abbrev looking_ahead : Tree
-looking_ahead = cat_of (look false false 0 1 (capture 0 None (loop (letter "a") 1 1 1 greatest true)) ∷ loop (letter "a") 1 1 0 greatest true ∷ letter "b" ∷ back 1 false ∷ [])
+looking_ahead = cat_of (submatch (lookaround false false) 0 1 (capture 0 None (loop (letter "a") 1 1 1 greatest true)) ∷ loop (letter "a") 1 1 0 greatest true ∷ letter "b" ∷ back 1 false ∷ [])
 
 a_lookahead_is_not_tried_again : answer 2 1 looking_ahead "baaabac" 1 ≡ nothing
 unfolding computation
@@ -209,18 +209,50 @@ unfolding computation
 a_lookahead_keeps_its_groups = refl
 
 -- (?!(a))b on b
-a_negated_lookahead_keeps_none : answer 0 1 (cat_of (look true false 0 1 (capture 0 None (letter "a")) ∷ letter "b" ∷ [])) "b" 0 ≡ found 1 (None ∷ [])
+a_negated_lookahead_keeps_none : answer 0 1 (cat_of (submatch (lookaround true false) 0 1 (capture 0 None (letter "a")) ∷ letter "b" ∷ [])) "b" 0 ≡ found 1 (None ∷ [])
 unfolding computation
 a_negated_lookahead_keeps_none = refl
 
 -- (?=a)*b on b
-a_lookahead_may_be_left : answer 1 0 (cat_of (loop (look false false 0 0 (letter "a")) 0 0 0 greatest true ∷ letter "b" ∷ [])) "b" 0 ≡ found 1 []
+a_lookahead_may_be_left : answer 1 0 (cat_of (loop (submatch (lookaround false false) 0 0 (letter "a")) 0 0 0 greatest true ∷ letter "b" ∷ [])) "b" 0 ≡ found 1 []
 unfolding computation
 a_lookahead_may_be_left = refl
 
+-- (?>a*)ab on aab, and (?>a*)b
+abbrev all_of_them : Tree
+all_of_them = submatch atomic 0 0 (loop (letter "a") 0 0 0 greatest true)
+
+an_atomic_group_gives_nothing_back : (answer 1 0 (cat_of (all_of_them ∷ letter "a" ∷ letter "b" ∷ [])) "aab" 0 ≡ nothing) × (answer 1 0 (cat_of (all_of_them ∷ letter "b" ∷ [])) "aab" 0 ≡ found 3 [])
+unfolding computation
+an_atomic_group_gives_nothing_back = (refl, refl)
+
+-- (?>(a)|(ab))(c) on abc and acc
+abbrev first_alone : Tree
+first_alone = cat_of (submatch atomic 0 2 (alt (capture 0 None (letter "a")) (capture 1 None (cat_of (letter "a" ∷ letter "b" ∷ [])))) ∷ capture 2 None (letter "c") ∷ [])
+
+an_atomic_group_is_not_tried_again : (answer 0 3 first_alone "abc" 0 ≡ nothing) × (answer 0 3 first_alone "acc" 0 ≡ found 2 (Some (0, 1) ∷ None ∷ Some (1, 2) ∷ []))
+unfolding computation
+an_atomic_group_is_not_tried_again = (refl, refl)
+
+-- (?:(?>(a+))b)*a on abaac
+abbrev atoms : Tree
+atoms = loop (cat_of (submatch atomic 0 1 (capture 0 None (loop (letter "a") 1 1 1 greatest true)) ∷ letter "b" ∷ [])) 0 1 0 greatest true
+
+an_iteration_with_an_atomic_group_is_left : answer 2 1 (cat_of (atoms ∷ letter "a" ∷ [])) "abaac" 0 ≡ found 3 (Some (0, 1) ∷ [])
+unfolding computation
+an_iteration_with_an_atomic_group_is_left = refl
+
+-- (?<=a(?>b*))c on abbc
+abbrev atomic_behind : Tree
+atomic_behind = cat_of (submatch (lookaround false true) 0 0 (cat_of (submatch atomic 0 0 (loop (letter "b") 0 0 0 greatest true) ∷ letter "a" ∷ [])) ∷ letter "c" ∷ [])
+
+an_atomic_group_is_read_backward : answer 1 0 atomic_behind "abbc" 3 ≡ found 4 []
+unfolding computation
+an_atomic_group_is_read_backward = refl
+
 -- (?<=(?<a>x)(?<b>y))z on xyz
 abbrev named_behind : Tree
-named_behind = cat_of (look false true 0 2 (cat_of (capture 1 (Some (codes "b")) (letter "y") ∷ capture 0 (Some (codes "a")) (letter "x") ∷ [])) ∷ letter "z" ∷ [])
+named_behind = cat_of (submatch (lookaround false true) 0 2 (cat_of (capture 1 (Some (codes "b")) (letter "y") ∷ capture 0 (Some (codes "a")) (letter "x") ∷ [])) ∷ letter "z" ∷ [])
 
 groups_of_a_lookbehind_lie_in_order : answer 0 2 named_behind "xyz" 2 ≡ found 3 (Some (0, 1) ∷ Some (1, 2) ∷ [])
 unfolding computation
@@ -228,7 +260,7 @@ groups_of_a_lookbehind_lie_in_order = refl
 
 -- (?<=x)y on xyxy, from 1, 3 and 4
 abbrev after_x : Tree
-after_x = cat_of (look false true 0 0 (letter "x") ∷ letter "y" ∷ [])
+after_x = cat_of (submatch (lookaround false true) 0 0 (letter "x") ∷ letter "y" ∷ [])
 
 a_lookbehind_sees_what_was_passed : (answer 0 0 after_x "xyxy" 1 ≡ found 2 []) × (answer 0 0 after_x "xyxy" 3 ≡ found 4 []) × (answer 0 0 after_x "xyxy" 4 ≡ nothing)
 unfolding computation
@@ -361,7 +393,7 @@ an_arm_is_left false = refl
 
 -- behind ab, a lone surrogate and d; in bytes no text holds it
 abbrev torn : Tree
-torn = cat_of (look false true 0 0 (string_set ((0x61 ∷ 0x62 ∷ 0xD800 ∷ 0x64 ∷ []) ∷ []) false) ∷ bytes (codes "e") ∷ [])
+torn = cat_of (submatch (lookaround false true) 0 0 (string_set ((0x61 ∷ 0x62 ∷ 0xD800 ∷ 0x64 ∷ []) ∷ []) false) ∷ bytes (codes "e") ∷ [])
 
 pieces_are_turned : literally true torn (0x61 ∷ 0x62 ∷ 0xD800 ∷ 0x64 ∷ 0x65 ∷ []) 4 ≡ Some (Some 5)
 unfolding computation
@@ -369,7 +401,7 @@ pieces_are_turned = refl
 
 -- a literal of 17 characters in a lookbehind
 abbrev long_behind : Tree
-long_behind = look false true 0 0 (bytes (codes "abcdefghijklmnopq"))
+long_behind = submatch (lookaround false true) 0 0 (bytes (codes "abcdefghijklmnopq"))
 
 chunks_are_turned : (units : Bool) → literally units long_behind (codes "abcdefghijklmnopqr") 17 ≡ Some (Some 17)
 unfolding computation

@@ -3,24 +3,25 @@ use Rattle.std.proofs.Common.{◌≡◌, ℕ, suc, ◌+◌, Bool, true, false, L
 use Rattle.regress_meaning.specs.Meaning.{Direction}
 use Rattle.regress_meaning.specs.Inputs.{Input}
 use Rattle.regress_meaning.specs.Offsets.{Reading}
-use Rattle.regress_front_nodes.specs.TreeMeaning.{direction}
+use Rattle.regress_front_nodes.specs.TreeMeaning.{submatch_direction}
+use Rattle.regress_front_nodes.specs.Trees.{Submatch}
 use Rattle.regress_engine_code.specs.Instructions.{Instruction, Program, Stands}
 use Rattle.regress_engine_code.specs.Instructions as code
 use Rattle.regress_engine_runs.specs.States.{Whole, onward}
-use Rattle.regress_engine_runs.specs.Runs.{successors, is_plain, after_look}
+use Rattle.regress_engine_runs.specs.Runs.{successors, is_plain, after_submatch}
 use Rattle.regress_engine_runs.specs.Meets.{reads_character, IsAtPlace, ReadsPlaces}
 use Rattle.regress_engine_runs.proofs.SafeRuns.{SafeRun, SafeRuns, ends, finds, goes, looks}
 
 -- an instruction leads to its successors, whatever other states there are, and refers to no group
 abbrev pub is_unreferring : Instruction → Bool
 is_unreferring code.goal = false
-is_unreferring (code.look negated backward first last continuation) = false
+is_unreferring (code.submatch kind first last continuation) = false
 is_unreferring (code.back k icase) = false
 is_unreferring _ = true
 
 pub unreferring-plain : (i : Instruction) → is_unreferring i ≡ true → is_plain i ≡ true
 unreferring-plain code.goal e = absurd (grind arith)
-unreferring-plain (code.look negated backward first last continuation) e = absurd (grind arith)
+unreferring-plain (code.submatch kind first last continuation) e = absurd (grind arith)
 unreferring-plain _ e = refl
 
 -- so it reads at places where its offset is that of one
@@ -62,10 +63,10 @@ module _ (program : Program) (input : Input) (reading : Reading) where
         subst (λ x. SafeRun program input reading dir (x ∷ (p ++ (ys ++ rest))) (suc k.0) r) first
             (goes here plain places (subst (λ xs. SafeRun program input reading dir xs k.0 r) (append_assoc new p (ys ++ rest)) k.1)),
       )
-  replaced ys zs rest (looks {dir = dir} {negated = negated} {first = low} {last = high} {continuation = continuation} {s = s} {ss = ss} {m = m} {q = q} {r = r} here inner run) f (t ∷ p) e =
+  replaced ys zs rest (looks {dir = dir} {kind = kind} {first = low} {last = high} {continuation = continuation} {s = s} {ss = ss} {m = m} {q = q} {r = r} here inner run) f (t ∷ p) e =
       let first : s ≡ t = cc in
       let others : ss ≡ p ++ (zs ++ rest) = cc in
-      let new : List Whole = after_look negated low high continuation s q in
+      let new : List Whole = after_submatch kind low high continuation s q in
       let k = replaced ys zs rest run f (new ++ p) (ap (λ xs. new ++ xs) others ∙ sym (append_assoc new p (zs ++ rest))) in (
         suc (m + k.0),
         subst (λ x. SafeRun program input reading dir (x ∷ (p ++ (ys ++ rest))) (suc (m + k.0)) r) first
@@ -84,8 +85,8 @@ module _ (program : Program) (input : Input) (reading : Reading) where
   steps i s here plain places rest r (n, h) = (suc n, goes here plain places h)
 
   -- and one at a lookaround to what follows by the answer of its contents
-  pub looks_around : {dir : Direction} (negated backward : Bool) (first last continuation : ℕ) (s : Whole) (q : Option Whole)
-      → Stands program s.at (code.look negated backward first last continuation)
-      → SafeRuns program input reading (direction backward) (onward s ∷ []) q
-      → Expands dir (s ∷ []) (after_look negated first last continuation s q)
-  looks_around negated backward first last continuation s q here (m, inner) rest r (n, h) = (suc (m + n), looks here inner h)
+  pub looks_around : {dir : Direction} (kind : Submatch) (first last continuation : ℕ) (s : Whole) (q : Option Whole)
+      → Stands program s.at (code.submatch kind first last continuation)
+      → SafeRuns program input reading (submatch_direction kind dir) (onward s ∷ []) q
+      → Expands dir (s ∷ []) (after_submatch kind first last continuation s q)
+  looks_around kind first last continuation s q here (m, inner) rest r (n, h) = (suc (m + n), looks here inner h)

@@ -142,7 +142,7 @@ module _ (units : Bool) (table : Table) (unicode : Bool) where
       omega (arith, e, f)
   bounded n (tree.capture k name a) lawful groups =
       let e = bounded n a lawful.1 (λ j some. groups j (omega (arith, some))) in omega (arith, e)
-  bounded n (tree.look negated behind first last a) lawful groups = let e = bounded n a lawful.1 groups in omega (arith, e)
+  bounded n (tree.submatch kind first last a) lawful groups = let e = bounded n a lawful.1 groups in omega (arith, e)
   bounded n (tree.loop a first last least most greedy) lawful groups =
       let e = bounded n a lawful.2 groups in
       let few : last - first ≤ n = inside (cases_lt first last) in

@@ -4,11 +4,11 @@ use Rattle.std.proofs.Common.{◌≡◌, ℕ, ◌+◌, ◌-◌, ◌⊎◌, inl, 
 use Rattle.std.proofs.lemmas.List.{set-set, set-get_or}
 use Rattle.regress_meaning.specs.Meaning.{Direction}
 use Rattle.regress_meaning.specs.Inputs.{Input}
-use Rattle.regress_front_nodes.specs.TreeMeaning.{direction}
+use Rattle.regress_front_nodes.specs.TreeMeaning.{submatch_direction}
 use Rattle.regress_engine_code.specs.Instructions.{Instruction, Program, Stands}
 use Rattle.regress_engine_code.specs.Instructions as code
 use Rattle.regress_engine_runs.specs.States.{Whole, Marks, onward}
-use Rattle.regress_engine_runs.specs.Runs.{against, gap, given_back, one_by_one, advance, Run, successors, is_plain, after_look}
+use Rattle.regress_engine_runs.specs.Runs.{against, gap, given_back, one_by_one, advance, Run, successors, is_plain, after_submatch}
 use Rattle.regress_engine_runs.specs.UndoStack.{MovesOn, give_back, take_on, whole, at_each, Frame, Undo, Work, outermost, inside, old_loop, old_group, first_do, stands_for, Comes, alone, within, steps_left}
 use Rattle.regress_engine_runs.proofs.Computed.{runs-computed}
 use Rattle.regress_engine_runs.proofs.GivingBack.{back_to-end, given_back-more}
@@ -107,40 +107,42 @@ module _ (program : Program) (input : Input) where
 
   -- The stack is popped at a frame: its contents have no answer.
   pub frame_exhausted : {dir : Direction} (f : Frame) (s : Whole) (work : Work) (n : ℕ) (r : Option Whole) → Comes program input dir [] (inside [] f s work) n r
-      → Comes program input f.outside (after_look f.negated f.first f.last f.continuation s None) work n r
+      → Comes program input f.outside (after_submatch f.kind f.first f.last f.continuation s None) work n r
   frame_exhausted f s work n r (within {n = k} {q = q} same run outer) =
       let none = run_none program input run in
       let e : k ≡ n = omega (arith, none.0) in
-      subst (λ j. Comes program input f.outside (after_look f.negated f.first f.last f.continuation s None) work j r) e
-      (subst (λ x. Comes program input f.outside (after_look f.negated f.first f.last f.continuation s x) work k r) none.1 outer)
+      subst (λ j. Comes program input f.outside (after_submatch f.kind f.first f.last f.continuation s None) work j r) e
+      (subst (λ x. Comes program input f.outside (after_submatch f.kind f.first f.last f.continuation s x) work k r) none.1 outer)
 
   -- A state at a goal inside a frame: its contents have this answer.
   pub frame_found : {dir : Direction} (t : Whole) (ts : List Whole) (f : Frame) (s : Whole) (work : Work) (n : ℕ) (r : Option Whole) → Stands program t.at code.goal
       → Comes program input dir (t ∷ []) (inside ts f s work) n r
-      → (m : ℕ) × (m < n) × Comes program input f.outside (after_look f.negated f.first f.last f.continuation s (Some t)) work m r
+      → (m : ℕ) × (m < n) × Comes program input f.outside (after_submatch f.kind f.first f.last f.continuation s (Some t)) work m r
   frame_found t ts f s work n r here (within {n = k} {q = q} same run outer) =
       let found = run_found program input here run in
-      (k, omega (arith, found.0), subst (λ x. Comes program input f.outside (after_look f.negated f.first f.last f.continuation s x) work k r) found.1 outer)
+      (k, omega (arith, found.0), subst (λ x. Comes program input f.outside (after_submatch f.kind f.first f.last f.continuation s x) work k r) found.1 outer)
 
   -- A state at a goal outside of all: it is the answer.
   pub all_found : {dir : Direction} (t : Whole) (ts : List Whole) (n : ℕ) (r : Option Whole) → Stands program t.at code.goal
       → Comes program input dir (t ∷ []) (outermost ts) n r → r ≡ Some t
   all_found t ts n r here (alone run) = (run_found program input here run).1
 
-  -- A lookaround begins: a frame is pushed, and its contents come first.
+  -- A lookaround or an atomic group begins: a frame is pushed, and its contents come first.
   pub frame_pushed : {dir : Direction} (s : Whole) (work : Work) (n : ℕ) (r : Option Whole) (f : Frame) → dir ≡ f.outside
-      → Stands program s.at (code.look f.negated f.backward f.first f.last f.continuation) → Comes program input dir (s ∷ []) work n r
-      → (m : ℕ) × (m < n) × Comes program input (direction f.backward) (onward s ∷ []) (inside [] f s work) m r
+      → Stands program s.at (code.submatch f.kind f.first f.last f.continuation) → Comes program input dir (s ∷ []) work n r
+      → (m : ℕ) × (m < n) × Comes program input (submatch_direction f.kind f.outside) (onward s ∷ []) (inside [] f s work) m r
   frame_pushed s (outermost ts) n r f same here (alone run) =
       let (q, m, k, count, inner, outer) =
-      run_looks program input (code.look f.negated f.backward f.first f.last f.continuation) here refl (λ e. grind arith) run in
-      (m + k, omega (arith, count), within refl inner (subst (λ d. Comes program input d (after_look f.negated f.first f.last f.continuation s q) (outermost ts) k r) same (alone outer)))
+      run_looks program input (code.submatch f.kind f.first f.last f.continuation) here refl (λ e. grind arith) run in
+      let contents = subst (λ d. Run program input (submatch_direction f.kind d) (onward s ∷ []) m q) same inner in
+      (m + k, omega (arith, count), within refl contents (subst (λ d. Comes program input d (after_submatch f.kind f.first f.last f.continuation s q) (outermost ts) k r) same (alone outer)))
   frame_pushed s (inside ts g t rest) n r f same here (within {n = l} {q = p} turned run beyond) =
       let (q, m, k, count, inner, outer) =
-      run_looks program input (code.look f.negated f.backward f.first f.last f.continuation) here refl (λ e. grind arith) run in (
+      run_looks program input (code.submatch f.kind f.first f.last f.continuation) here refl (λ e. grind arith) run in
+      let contents = subst (λ d. Run program input (submatch_direction f.kind d) (onward s ∷ []) m q) same inner in (
         m + (k + l),
         omega (arith, count),
-        within refl inner (subst (λ d. Comes program input d (after_look f.negated f.first f.last f.continuation s q) (inside ts g t rest) (k + l) r) same (within turned outer beyond)),
+        within refl contents (subst (λ d. Comes program input d (after_submatch f.kind f.first f.last f.continuation s q) (inside ts g t rest) (k + l) r) same (within turned outer beyond)),
       )
 
   -- what is computed is the number of steps
@@ -150,5 +152,5 @@ module _ (program : Program) (input : Input) where
   steps-left (alone run) f few = ap (λ (o : Option (ℕ × Option Whole)). unwrap_or (option_map (λ (x : ℕ × Option Whole). x.0) o) 0) (runs-computed program input run f few)
   steps-left (within {f = g} {s = s} {rest = rest} {m = m} {n = k} {q = q} same run outer) f few =
       ap (λ (o : Option (ℕ × Option Whole)). unwrap_or (option_map (λ (x : ℕ × Option Whole). x.0 + steps_left program input f g.outside
-      (after_look g.negated g.first g.last g.continuation s x.1) rest) o) 0) (runs-computed program input run f (omega arith))
+      (after_submatch g.kind g.first g.last g.continuation s x.1) rest) o) 0) (runs-computed program input run f (omega arith))
       ∙ ap (λ j. m + j) (steps-left outer f (omega arith))

@@ -14,7 +14,21 @@ takes_character code.any = true
 takes_character code.any_in_line = true
 takes_character (code.bracket k) = true
 takes_character (code.ascii_bracket cs) = true
-takes_character _ = false
+takes_character code.goal = false
+takes_character (code.line_start multiline) = false
+takes_character (code.line_end multiline) = false
+takes_character (code.boundary inverted folded) = false
+takes_character (code.back k icase) = false
+takes_character (code.enter_loop f) = false
+takes_character (code.loop_again begin) = false
+takes_character (code.single_loop least most greedy) = false
+takes_character (code.jump a) = false
+takes_character (code.alt a) = false
+takes_character (code.begin_group k) = false
+takes_character (code.end_group k) = false
+takes_character (code.reset_group k) = false
+takes_character (code.submatch kind first last continuation) = false
+takes_character code.fail = false
 
 -- An instruction at an address fits its program: bytes stand in a program of bytes, brackets, groups and loops are there, an iteration ends for a repetition
 -- that begins where it says, and what a one-character loop repeats takes one character.
@@ -28,8 +42,20 @@ Fits program at (code.single_loop least most greedy) = (i : Instruction) × Stan
 Fits program at (code.begin_group k) = k < program.groups
 Fits program at (code.end_group k) = k < program.groups
 Fits program at (code.reset_group k) = k < program.groups
-Fits program at (code.look negated backward first last continuation) = (k : ℕ) → first ≤ k → k < last → k < program.groups
-Fits program at _ = Unit {0}
+Fits program at (code.submatch kind first last continuation) = (k : ℕ) → first ≤ k → k < last → k < program.groups
+Fits program at code.goal = Unit {0}
+Fits program at (code.char c) = Unit {0}
+Fits program at (code.char_set cs) = Unit {0}
+Fits program at (code.byte_set bs) = Unit {0}
+Fits program at code.any = Unit {0}
+Fits program at code.any_in_line = Unit {0}
+Fits program at (code.ascii_bracket cs) = Unit {0}
+Fits program at (code.line_start multiline) = Unit {0}
+Fits program at (code.line_end multiline) = Unit {0}
+Fits program at (code.boundary inverted folded) = Unit {0}
+Fits program at (code.jump a) = Unit {0}
+Fits program at (code.alt a) = Unit {0}
+Fits program at code.fail = Unit {0}
 
 -- A program is closed: each of its instructions fits it.
 abbrev pub IsClosed : Program → Type 0

@@ -2,11 +2,11 @@
 use Rattle.std.specs.Prelude.{◌≡◌, ℕ, zero, suc, ◌+◌, ◌<◌, List, [], ◌∷◌, ◌++◌, Option, Some, None, slice_get, option_map, option_and_then}
 use Rattle.regress_meaning.specs.Meaning.{Direction}
 use Rattle.regress_meaning.specs.Inputs.{Input}
-use Rattle.regress_front_nodes.specs.TreeMeaning.{direction}
+use Rattle.regress_front_nodes.specs.TreeMeaning.{submatch_direction}
 use Rattle.regress_engine_code.specs.Instructions.{Instruction, Program}
 use Rattle.regress_engine_code.specs.Instructions as code
 use Rattle.regress_engine_runs.specs.States.{Whole, onward}
-use Rattle.regress_engine_runs.specs.Runs.{after_look, successors}
+use Rattle.regress_engine_runs.specs.Runs.{after_submatch, successors}
 
 module _ (program : Program) (input : Input) where
   -- what a computed run gives: how many steps it takes, and its answer
@@ -21,8 +21,8 @@ module _ (program : Program) (input : Input) where
   abbrev pub run_at : (Direction → List Whole → Counted) → Direction → Whole → List Whole → Option Instruction → Counted
   run_at go dir s ss None = None
   run_at go dir s ss (Some code.goal) = Some (1, Some s)
-  run_at go dir s ss (Some (code.look negated backward first last continuation)) =
-      option_and_then (λ x. more_steps (suc x.0) (go dir (after_look negated first last continuation s x.1 ++ ss))) (go (direction backward) (onward s ∷ []))
+  run_at go dir s ss (Some (code.submatch kind first last continuation)) =
+      option_and_then (λ x. more_steps (suc x.0) (go dir (after_submatch kind first last continuation s x.1 ++ ss))) (go (submatch_direction kind dir) (onward s ∷ []))
   run_at go dir s ss (Some i) = more_steps 1 (go dir (successors program input i dir s ++ ss))
 
   -- A run over states, where it takes fewer steps than the number.

@@ -3,11 +3,12 @@ use Rattle.std.specs.Prelude.{◌≡◌, ℕ, ◌≤◌, Bool, true, false, List
 use Rattle.regress_meaning.specs.Meaning.{Direction, Forward}
 use Rattle.regress_meaning.specs.Offsets.{Reading, offset}
 use Rattle.regress_meaning.specs.Inputs.{Input}
-use Rattle.regress_front_nodes.specs.TreeMeaning.{direction}
+use Rattle.regress_front_nodes.specs.TreeMeaning.{submatch_direction}
+use Rattle.regress_front_nodes.specs.Trees.{Submatch}
 use Rattle.regress_engine_code.specs.Instructions.{Instruction, Program, Stands}
 use Rattle.regress_engine_code.specs.Instructions as code
 use Rattle.regress_engine_runs.specs.States.{Whole, unset, range_of, onward, first_state}
-use Rattle.regress_engine_runs.specs.Runs.{is_plain, successors, after_look, Runs}
+use Rattle.regress_engine_runs.specs.Runs.{is_plain, successors, after_submatch, Runs}
 
 module _ (program : Program) (input : Input) where
   -- A run over states meets a state.
@@ -17,14 +18,14 @@ module _ (program : Program) (input : Input) where
     -- one that is met where its successors have taken its place
     later : {dir : Direction} {i : Instruction} {s t : Whole} {ss : List Whole}
         → Stands program s.at i → is_plain i ≡ true → Meets dir (successors program input i dir s ++ ss) t → Meets dir (s ∷ ss) t
-    -- at a lookaround one that is met inside
-    inside : {dir : Direction} {negated backward : Bool} {first last continuation : ℕ} {s t : Whole} {ss : List Whole}
-        → Stands program s.at (code.look negated backward first last continuation)
-        → Meets (direction backward) (onward s ∷ []) t → Meets dir (s ∷ ss) t
+    -- at a lookaround or an atomic group one that is met inside
+    inside : {dir : Direction} {kind : Submatch} {first last continuation : ℕ} {s t : Whole} {ss : List Whole}
+        → Stands program s.at (code.submatch kind first last continuation)
+        → Meets (submatch_direction kind dir) (onward s ∷ []) t → Meets dir (s ∷ ss) t
     -- or where what follows it has taken its place
-    behind : {dir : Direction} {negated backward : Bool} {first last continuation : ℕ} {s t : Whole} {ss : List Whole} {q : Option Whole}
-        → Stands program s.at (code.look negated backward first last continuation)
-        → Runs program input (direction backward) (onward s ∷ []) q → Meets dir (after_look negated first last continuation s q ++ ss) t
+    behind : {dir : Direction} {kind : Submatch} {first last continuation : ℕ} {s t : Whole} {ss : List Whole} {q : Option Whole}
+        → Stands program s.at (code.submatch kind first last continuation)
+        → Runs program input (submatch_direction kind dir) (onward s ∷ []) q → Meets dir (after_submatch kind first last continuation s q ++ ss) t
         → Meets dir (s ∷ ss) t
 
 -- A program never gets stuck: from each place of the text, at each state that its run meets an instruction stands.
@@ -46,7 +47,17 @@ reads_character (code.line_end multiline) = true
 reads_character (code.boundary inverted folded) = true
 reads_character (code.back k icase) = true
 reads_character (code.single_loop least most greedy) = true
-reads_character _ = false
+reads_character code.goal = false
+reads_character (code.byte_seq bs) = false
+reads_character (code.enter_loop f) = false
+reads_character (code.loop_again begin) = false
+reads_character (code.jump a) = false
+reads_character (code.alt a) = false
+reads_character (code.begin_group k) = false
+reads_character (code.end_group k) = false
+reads_character (code.reset_group k) = false
+reads_character (code.submatch kind first last continuation) = false
+reads_character code.fail = false
 
 -- an offset is that of a place
 abbrev pub IsAtPlace : Reading → ℕ → Type 0

@@ -5,7 +5,8 @@ use Rattle.regress_meaning.specs.Text.{holds}
 use Rattle.regress_meaning.specs.Meaning.{Direction, Forward, Backward, is_line_end}
 use Rattle.regress_meaning.specs.Inputs.{Input}
 use Rattle.regress_meaning.specs.Steps.{passed, only_if, literal, repeated, begins_line, ends_line, at_boundary}
-use Rattle.regress_front_nodes.specs.TreeMeaning.{direction, bracket_has}
+use Rattle.regress_front_nodes.specs.TreeMeaning.{submatch_direction, bracket_has}
+use Rattle.regress_front_nodes.specs.Trees.{Submatch, lookaround, atomic}
 use Rattle.regress_engine_code.specs.Instructions.{LoopFields, Instruction, Program, Stands}
 use Rattle.regress_engine_code.specs.Instructions as code
 use Rattle.regress_engine_runs.specs.States.{Marks, unset, range_of, Whole, onward, begun, ended, mixed}
@@ -18,6 +19,13 @@ after_look true first last continuation s (Some t) = []
 after_look false first last continuation s None = []
 after_look false first last continuation s (Some t) =
     record s { at = continuation; groups = mixed 0 first last t.groups s.groups } ∷ []
+
+-- What follows what is matched by itself. An atomic group goes on where its contents end, with the groups inside.
+abbrev pub after_submatch : Submatch → (first last continuation : ℕ) → Whole → Option Whole → List Whole
+after_submatch (lookaround negated backward) first last continuation s o = after_look negated first last continuation s o
+after_submatch atomic first last continuation s None = []
+after_submatch atomic first last continuation s (Some t) =
+    record s { at = continuation; offset = t.offset; groups = mixed 0 first last t.groups s.groups } ∷ []
 
 -- how many iterations of a loop have begun
 abbrev pub count_of : ℕ → Whole → ℕ
@@ -56,8 +64,28 @@ fields_of _ = None
 -- it leads to its successors, whatever other states there are
 abbrev pub is_plain : Instruction → Bool
 is_plain code.goal = false
-is_plain (code.look negated backward first last continuation) = false
-is_plain _ = true
+is_plain (code.submatch kind first last continuation) = false
+is_plain (code.char c) = true
+is_plain (code.char_set cs) = true
+is_plain (code.byte_set bs) = true
+is_plain (code.byte_seq bs) = true
+is_plain code.any = true
+is_plain code.any_in_line = true
+is_plain (code.bracket k) = true
+is_plain (code.ascii_bracket cs) = true
+is_plain (code.line_start multiline) = true
+is_plain (code.line_end multiline) = true
+is_plain (code.boundary inverted folded) = true
+is_plain (code.back k icase) = true
+is_plain (code.enter_loop f) = true
+is_plain (code.loop_again begin) = true
+is_plain (code.single_loop least most greedy) = true
+is_plain (code.jump a) = true
+is_plain (code.alt a) = true
+is_plain (code.begin_group k) = true
+is_plain (code.end_group k) = true
+is_plain (code.reset_group k) = true
+is_plain code.fail = true
 
 -- the other direction
 abbrev pub against : Direction → Direction
@@ -97,7 +125,17 @@ module _ (program : Program) (input : Input) where
   advance (code.boundary inverted folded) dir groups o =
       let d = at_boundary input folded o in only_if (if inverted then not d else d) o
   advance (code.back k icase) dir groups o = repeated input dir icase (range_of (get_or groups k unset)) o
-  advance _ dir groups o = None
+  advance code.goal dir groups o = None
+  advance (code.enter_loop f) dir groups o = None
+  advance (code.loop_again begin) dir groups o = None
+  advance (code.single_loop least most greedy) dir groups o = None
+  advance (code.jump a) dir groups o = None
+  advance (code.alt a) dir groups o = None
+  advance (code.begin_group k) dir groups o = None
+  advance (code.end_group k) dir groups o = None
+  advance (code.reset_group k) dir groups o = None
+  advance (code.submatch kind first last continuation) dir groups o = None
+  advance code.fail dir groups o = None
 
   -- the offset behind so many iterations of an instruction that takes one character, where there are so many
   unfoldable pub after_times : ℕ → Instruction → Direction → List Marks → ℕ → Option ℕ
@@ -152,10 +190,10 @@ module _ (program : Program) (input : Input) where
     -- else its successors take its place
     goes : {dir : Direction} {i : Instruction} {s : Whole} {ss : List Whole} {n : ℕ} {r : Option Whole}
         → Stands program s.at i → is_plain i ≡ true → Run dir (successors i dir s ++ ss) n r → Run dir (s ∷ ss) (suc n) r
-    -- and at a lookaround what follows it, by the answer of a run of its contents
-    looks : {dir : Direction} {negated backward : Bool} {first last continuation : ℕ} {s : Whole} {ss : List Whole}
-        {m n : ℕ} {q r : Option Whole} → Stands program s.at (code.look negated backward first last continuation)
-        → Run (direction backward) (onward s ∷ []) m q → Run dir (after_look negated first last continuation s q ++ ss) n r
+    -- and at a lookaround or an atomic group what follows it, by the answer of a run of its contents
+    looks : {dir : Direction} {kind : Submatch} {first last continuation : ℕ} {s : Whole} {ss : List Whole}
+        {m n : ℕ} {q r : Option Whole} → Stands program s.at (code.submatch kind first last continuation)
+        → Run (submatch_direction kind dir) (onward s ∷ []) m q → Run dir (after_submatch kind first last continuation s q ++ ss) n r
         → Run dir (s ∷ ss) (suc (m + n)) r
 
   -- a run over states has this answer

@@ -3,18 +3,18 @@ use Rattle.std.specs.Prelude.{◌≡◌, ℕ, ◌+◌, ◌-◌, ◌<◌, Bool, t
 use Rattle.regress_meaning.specs.Meaning.{Direction, Forward, Backward}
 use Rattle.regress_meaning.specs.Offsets.{Reading}
 use Rattle.regress_meaning.specs.Inputs.{Input}
-use Rattle.regress_front_nodes.specs.TreeMeaning.{direction}
+use Rattle.regress_front_nodes.specs.TreeMeaning.{submatch_direction}
+use Rattle.regress_front_nodes.specs.Trees.{Submatch}
 use Rattle.regress_engine_code.specs.Instructions.{Instruction, Program, Stands}
 use Rattle.regress_engine_runs.specs.States.{Marks, Whole}
-use Rattle.regress_engine_runs.specs.Runs.{Run, Runs, after_look, one_more, given_back, one_by_one}
+use Rattle.regress_engine_runs.specs.Runs.{Run, Runs, after_submatch, one_more, given_back, one_by_one}
 use Rattle.regress_engine_runs.specs.Computed.{run}
 use Rattle.regress_engine_runs.specs.Meets.{Meets, reads_character, ReadsPlaces}
 
--- A lookaround whose contents are under way: its instruction, where it stands and at which offset, and which way was read
+-- What is matched by itself and is under way: its instruction, where it stands and at which offset, and which way was read
 -- before it.
 pub record Frame : Type 0 where
-  pub negated : Bool
-  pub backward : Bool
+  pub kind : Submatch
   pub first : ℕ
   pub last : ℕ
   pub continuation : ℕ
@@ -36,11 +36,11 @@ pub data Undo : Type 0 where
   give_back : (at near far : ℕ) → Undo
   -- go on at an address, at an offset and behind each further iteration of the instruction before, at most so many
   take_on : (at offset left : ℕ) → Undo
-  -- there is no other way through the contents of a lookaround
+  -- there is no other way through the contents of a lookaround or an atomic group
   frame : Frame → Undo
 
--- What is still to be done: the states to be tried, and inside a lookaround also the state at it and what is to be done
--- outside.
+-- What is still to be done: the states to be tried, and inside a lookaround or an atomic group also the state at it and what is
+-- to be done outside.
 pub data Work : Type 0 where
   outermost : List Whole → Work
   inside : List Whole → Frame → Whole → Work → Work
@@ -87,27 +87,27 @@ module _ (program : Program) (input : Input) where
       first_do (at_each at loops groups (taken_on dir at left groups offset)) (stands_for dir stack loops groups)
   stands_for dir (frame f ∷ stack) loops groups = inside [] f (whole f.at f.offset loops groups) (stands_for f.outside stack loops groups)
 
-  -- Some states and then the work come to an answer in so many steps: inside a lookaround the states run first, and by their
-  -- answer the work outside goes on.
+  -- Some states and then the work come to an answer in so many steps: inside a lookaround or an atomic group the states run
+  -- first, and by their answer the work outside goes on.
   pub data Comes : Direction → List Whole → Work → ℕ → Option Whole → Type 0 where
     alone : {dir : Direction} {ss ts : List Whole} {n : ℕ} {r : Option Whole} → Run program input dir (ss ++ ts) n r → Comes dir ss (outermost ts) n r
-    within : {dir : Direction} {ss ts : List Whole} {f : Frame} {s : Whole} {rest : Work} {m n : ℕ} {q r : Option Whole} → dir ≡ direction f.backward
-        → Run program input dir (ss ++ ts) m q → Comes f.outside (after_look f.negated f.first f.last f.continuation s q) rest n r
+    within : {dir : Direction} {ss ts : List Whole} {f : Frame} {s : Whole} {rest : Work} {m n : ℕ} {q r : Option Whole} → dir ≡ submatch_direction f.kind f.outside
+        → Run program input dir (ss ++ ts) m q → Comes f.outside (after_submatch f.kind f.first f.last f.continuation s q) rest n r
         → Comes dir ss (inside ts f s rest) (m + n) r
 
   -- The number of those steps, computed, where it is less than the first number: a measure that no code holds.
   unfoldable pub steps_left : ℕ → Direction → List Whole → Work → ℕ
   steps_left f dir ss (outermost ts) = unwrap_or (option_map (λ x. x.0) (run program input f dir (ss ++ ts))) 0
   steps_left f dir ss (inside ts g s rest) = unwrap_or (option_map (λ x. x.0 + steps_left f g.outside
-      (after_look g.negated g.first g.last g.continuation s x.1) rest) (run program input f dir (ss ++ ts))) 0
+      (after_submatch g.kind g.first g.last g.continuation s x.1) rest) (run program input f dir (ss ++ ts))) 0
 
-  -- Some states and then the work come to a state: inside a lookaround, or by its answer outside.
+  -- Some states and then the work come to a state: inside a lookaround or an atomic group, or by its answer outside.
   pub data ComesTo : Direction → List Whole → Work → Whole → Type 0 where
     meets_alone : {dir : Direction} {ss ts : List Whole} {t : Whole} → Meets program input dir (ss ++ ts) t → ComesTo dir ss (outermost ts) t
     meets_within : {dir : Direction} {ss ts : List Whole} {f : Frame} {s : Whole} {rest : Work} {t : Whole} → Meets program input dir (ss ++ ts) t
         → ComesTo dir ss (inside ts f s rest) t
     meets_outside : {dir : Direction} {ss ts : List Whole} {f : Frame} {s : Whole} {rest : Work} {q : Option Whole} {t : Whole}
-        → Runs program input dir (ss ++ ts) q → ComesTo f.outside (after_look f.negated f.first f.last f.continuation s q) rest t
+        → Runs program input dir (ss ++ ts) q → ComesTo f.outside (after_submatch f.kind f.first f.last f.continuation s q) rest t
         → ComesTo dir ss (inside ts f s rest) t
 
   -- wherever they come to an instruction that reads characters, it reads at places

@@ -27,14 +27,14 @@ pub fn layouts_run_as_trees()
 {}
 
 /// A program that is a layout never gets stuck: each address that its run comes to, from each place of a text, inside and
-/// outside of lookarounds, is that of an instruction.
+/// outside of lookarounds and atomic groups, is that of an instruction.
 pub fn layouts_never_get_stuck()
     ensures { (target : Target) → (input : Input) → (reading : Reading) → Tells reading input → (target.program.units ≡ false → TellsBytes reading input) → IsMadeFor target input → (n : ℕ) → (t : Tree) → IsWellFormed n t → IsLayout target n t → NeverStuck target.program input reading }
 {}
 
 /// A program that is a layout reads at places alone: wherever its run comes to an instruction that reads characters, from each
-/// place of a text, inside and outside of lookarounds, the offset is that of a place, and so are the ends of a range that it
-/// refers to.
+/// place of a text, inside and outside of lookarounds and atomic groups, the offset is that of a place, and so are the ends of a
+/// range that it refers to.
 pub fn layouts_read_at_places()
     ensures { (target : Target) → (input : Input) → (reading : Reading) → Tells reading input → (target.program.units ≡ false → TellsBytes reading input) → IsMadeFor target input → (n : ℕ) → (t : Tree) → IsWellFormed n t → IsLayout target n t → ReadsAtPlaces target.program input reading }
 {}

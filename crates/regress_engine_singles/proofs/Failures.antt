@@ -3,15 +3,17 @@ use Rattle.std.proofs.Common.{◌≡◌, ℕ, suc, ◌+◌, ◌≤◌, List, [],
 use Rattle.std.proofs.lemmas.List.Elements.{All-head, All-tail}
 use Rattle.regress_meaning.specs.Meaning.{Direction}
 use Rattle.regress_meaning.specs.Inputs.{Input}
+use Rattle.regress_front_nodes.specs.Trees.{atomic}
 use Rattle.regress_engine_code.specs.Instructions.{Program}
+use Rattle.regress_engine_code.specs.Instructions as code
 use Rattle.regress_engine_runs.specs.States.{Marks, Whole}
-use Rattle.regress_engine_runs.specs.Runs.{Run, Runs, ends, finds, goes, looks, successors, after_look}
+use Rattle.regress_engine_runs.specs.Runs.{Run, Runs, ends, finds, goes, looks, successors, after_submatch}
 use Rattle.regress_engine_runs.specs.Meets.{Meets, now, later, inside, behind}
 use Rattle.regress_engine_runs.specs.UndoStack.{Frame, Work, outermost, first_do, whole, at_each, Comes, alone, within, ComesTo, meets_alone, meets_within, meets_outside}
 use Rattle.regress_engine_runs.specs.UndoStack as stack
-use Rattle.regress_engine_runs.proofs.RunViews.{run_goes}
+use Rattle.regress_engine_runs.proofs.RunViews.{run_goes, run_none, run_looks}
 use Rattle.regress_engine_sought.specs.Tasks.{Leads}
-use Rattle.regress_engine_singles.specs.Failing.{Fail, failed, steps, IsStuck}
+use Rattle.regress_engine_singles.specs.Failing.{Fail, failed, steps, inner, IsStuck}
 
 module _ (program : Program) (input : Input) where
   abbrev Gone : Direction → List Whole → Type 0
@@ -22,6 +24,7 @@ module _ (program : Program) (input : Input) where
   fail-both failed ys second = second
   fail-both {dir = dir} (steps {i = i} {s = s} {ss = ss} here plain rest) ys second =
       steps here plain (subst (Gone dir) (append_assoc (successors program input i dir s) ss ys) (fail-both rest ys second))
+  fail-both (inner here contents others) ys second = inner here contents (fail-both others ys second)
 
   -- ---- at the front
 
@@ -33,6 +36,12 @@ module _ (program : Program) (input : Input) where
       let (m, count, on) = run_goes program input i here plain run in
       let (k, less, last) = front-left more rest m r (subst (λ xs. Run program input dir xs m r) (sym (append_assoc (successors program input i dir s) ss rest)) on) in
       (k, omega (arith, count, less), last)
+  front-left {dir = dir} (inner {first = low} {last = high} {continuation = continuation} {s = s} {ss = ss} here contents others) rest n r run =
+      let (q, m, k, count, ran, on) = run_looks program input (code.submatch atomic low high continuation) here refl (λ e. grind arith) run in
+      let (j, some, at_end) = front-left contents [] m q ran in
+      let none : q ≡ None = (run_none program input at_end).1 in
+      let (l, less, last) = front-left others rest k r (subst (λ x. Run program input dir (after_submatch atomic low high continuation s x ++ (ss ++ rest)) k r) none on) in
+      (l, omega (arith, count, less), last)
 
   -- and one over the others is one over it
   front-put : {dir : Direction} {xs : List Whole} → Gone dir xs → (rest : List Whole) (r : Option Whole) → Runs program input dir rest r → Runs program input dir (xs ++ rest) r
@@ -40,12 +49,17 @@ module _ (program : Program) (input : Input) where
   front-put {dir = dir} (steps {i = i} {s = s} {ss = ss} here plain more) rest r runs =
       let (n, run) = front-put more rest r runs in
       (suc n, goes here plain (subst (λ xs. Run program input dir xs n r) (append_assoc (successors program input i dir s) ss rest) run))
+  front-put (inner here contents others) rest r runs =
+      let (m, ran) = front-put contents [] None (0, ends) in
+      let (n, run) = front-put others rest r runs in
+      (suc (m + n), looks here ran run)
 
   -- and meets what that meets
   front-meets : {dir : Direction} {xs : List Whole} → Gone dir xs → (rest : List Whole) (t : Whole) → Meets program input dir rest t → Meets program input dir (xs ++ rest) t
   front-meets failed rest t met = met
   front-meets {dir = dir} (steps {i = i} {s = s} {ss = ss} here plain more) rest t met =
       later here plain (subst (λ xs. Meets program input dir xs t) (append_assoc (successors program input i dir s) ss rest) (front-meets more rest t met))
+  front-meets (inner here contents others) rest t met = behind here (front-put contents [] None (0, ends)) (front-meets others rest t met)
 
   -- So it has no answer.
   pub fail-none : {dir : Direction} {xs : List Whole} → Gone dir xs → Runs program input dir (xs ++ []) None
@@ -70,15 +84,15 @@ module _ (program : Program) (input : Input) where
         subst (λ x. Run program input dir (x ∷ (p ++ rest)) (suc k) r) first
             (goes here plain (subst (λ ys. Run program input dir ys k r) (append_assoc new p rest) on)),
       )
-  middle-left xs rest (looks {dir = dir} {negated = negated} {first = low} {last = high} {continuation = continuation} {s = s} {ss = ss} {m = m} {q = q} {r = r} here inner run) gone (t ∷ p) e =
+  middle-left xs rest (looks {dir = dir} {kind = kind} {first = low} {last = high} {continuation = continuation} {s = s} {ss = ss} {m = m} {q = q} {r = r} here ran run) gone (t ∷ p) e =
       let first : s ≡ t = cc in
       let others : ss ≡ p ++ (xs ++ rest) = cc in
-      let new : List Whole = after_look negated low high continuation s q in
+      let new : List Whole = after_submatch kind low high continuation s q in
       let (k, less, on) = middle-left xs rest run gone (new ++ p) (ap (λ ys. new ++ ys) others ∙ sym (append_assoc new p (xs ++ rest))) in (
         suc (m + k),
         omega (arith, less),
         subst (λ x. Run program input dir (x ∷ (p ++ rest)) (suc (m + k)) r) first
-            (looks here inner (subst (λ ys. Run program input dir ys k r) (append_assoc new p rest) on)),
+            (looks here ran (subst (λ ys. Run program input dir ys k r) (append_assoc new p rest) on)),
       )
 
   middle-put : (xs rest : List Whole) {dir : Direction} {ss : List Whole} {n : ℕ} {r : Option Whole} → Run program input dir ss n r → Gone dir xs → (p : List Whole) → ss ≡ p ++ rest
@@ -97,14 +111,14 @@ module _ (program : Program) (input : Input) where
         subst (λ x. Run program input dir (x ∷ (p ++ (xs ++ rest))) (suc k) r) first
             (goes here plain (subst (λ ys. Run program input dir ys k r) (append_assoc new p (xs ++ rest)) on)),
       )
-  middle-put xs rest (looks {dir = dir} {negated = negated} {first = low} {last = high} {continuation = continuation} {s = s} {ss = ss} {m = m} {q = q} {r = r} here inner run) gone (t ∷ p) e =
+  middle-put xs rest (looks {dir = dir} {kind = kind} {first = low} {last = high} {continuation = continuation} {s = s} {ss = ss} {m = m} {q = q} {r = r} here ran run) gone (t ∷ p) e =
       let first : s ≡ t = cc in
       let others : ss ≡ p ++ rest = cc in
-      let new : List Whole = after_look negated low high continuation s q in
+      let new : List Whole = after_submatch kind low high continuation s q in
       let (k, on) = middle-put xs rest run gone (new ++ p) (ap (λ ys. new ++ ys) others ∙ sym (append_assoc new p rest)) in (
         suc (m + k),
         subst (λ x. Run program input dir (x ∷ (p ++ (xs ++ rest))) (suc (m + k)) r) first
-            (looks here inner (subst (λ ys. Run program input dir ys k r) (append_assoc new p (xs ++ rest)) on)),
+            (looks here ran (subst (λ ys. Run program input dir ys k r) (append_assoc new p (xs ++ rest)) on)),
       )
 
   middle-meets : (xs rest : List Whole) {dir : Direction} {ss : List Whole} {u : Whole} → Meets program input dir ss u → Gone dir xs → (p : List Whole) → ss ≡ p ++ rest
@@ -121,10 +135,10 @@ module _ (program : Program) (input : Input) where
       (later here plain (subst (λ ys. Meets program input dir ys u) (append_assoc new p (xs ++ rest)) on))
   middle-meets xs rest {u = u} (inside {dir = dir} {s = s} here met) gone (t ∷ p) e =
       let first : s ≡ t = cc in subst (λ x. Meets program input dir (x ∷ (p ++ (xs ++ rest))) u) first (inside here met)
-  middle-meets xs rest {u = u} (behind {dir = dir} {negated = negated} {first = low} {last = high} {continuation = continuation} {s = s} {ss = ss} {q = q} here runs met) gone (t ∷ p) e =
+  middle-meets xs rest {u = u} (behind {dir = dir} {kind = kind} {first = low} {last = high} {continuation = continuation} {s = s} {ss = ss} {q = q} here runs met) gone (t ∷ p) e =
       let first : s ≡ t = cc in
       let others : ss ≡ p ++ rest = cc in
-      let new : List Whole = after_look negated low high continuation s q in
+      let new : List Whole = after_submatch kind low high continuation s q in
       let on = middle-meets xs rest met gone (new ++ p) (ap (λ ys. new ++ ys) others ∙ sym (append_assoc new p rest)) in
       subst (λ x. Meets program input dir (x ∷ (p ++ (xs ++ rest))) u) first
       (behind here runs (subst (λ ys. Meets program input dir ys u) (append_assoc new p (xs ++ rest)) on))

@@ -7,6 +7,7 @@ use Rattle.regress_meaning.specs.Meaning.{Forward}
 use Rattle.regress_meaning.specs.Inputs.{Input}
 use Rattle.regress_meaning.specs.Steps.{passed, only_if, begins_line, ends_line, at_boundary}
 use Rattle.regress_front_nodes.specs.TreeMeaning.{bracket_has}
+use Rattle.regress_front_nodes.specs.Trees.{atomic}
 use Rattle.regress_engine_input.specs.Views.{View, are_bytes, input_of, in_bytes, unit_beside}
 use Rattle.regress_engine_matchers.proofs.ByteLemmas.{in-bytes}
 use Rattle.regress_engine_code.specs.Instructions.{LoopFields, Instruction, Program, Stands}
@@ -21,7 +22,7 @@ use Rattle.regress_engine_code.specs.Ahead.{high_or, behind, begins}
 use Rattle.regress_engine_singles.specs.Failing.{IsStuck, TakesNothing}
 use Rattle.regress_engine_singles.specs.Taking.{is_taking}
 use Rattle.regress_engine_singles.proofs.ApartLemmas.{other-first, unit-next, units-are}
-use Rattle.regress_engine_singles.proofs.StuckLemmas.{simple-stuck, taken-stuck, jump-stuck, alt-stuck, enter-stuck, begin-stuck, end-stuck, reset-stuck, loop-stuck, left-stuck}
+use Rattle.regress_engine_singles.proofs.StuckLemmas.{simple-stuck, taken-stuck, jump-stuck, alt-stuck, enter-stuck, atomic-stuck, begin-stuck, end-stuck, reset-stuck, loop-stuck, left-stuck}
 
 -- a byte that fails is one of ASCII
 high-fails : (test : ℕ → Bool) (b : ℕ) → high_or test b ≡ false → (b < 0x80) × (test b ≡ false)
@@ -101,6 +102,7 @@ module _ (program : Program) (v : View) (are : are_bytes v.kind ≡ true) (may :
         only-stuck at (code.line_end multiline) here refl (ends_line input multiline o) (λ groups. refl) (on at rest e)
     by_instruction at (code.boundary inverted folded) here e rest =
         only-stuck at (code.boundary inverted folded) here refl (let d = at_boundary input folded o in if inverted then not d else d) (λ groups. refl) (on at rest e)
+    by_instruction at (code.submatch atomic first last continuation) here e rest = atomic-stuck program input Forward at o first last continuation here (on at rest e)
     by_instruction at (code.begin_group k) here e rest = begin-stuck program input Forward at o k here (on at rest e)
     by_instruction at (code.end_group k) here e rest = end-stuck program input Forward at o k here (on at rest e)
     by_instruction at (code.reset_group k) here e rest = reset-stuck program input Forward at o k here (on at rest e)

@@ -5,6 +5,7 @@ use Rattle.std.proofs.lemmas.Bool.{leb-true, cases_lt}
 use Rattle.std.proofs.lemmas.List.{get_or_past}
 use Rattle.regress_meaning.specs.Meaning.{Direction, Forward, Backward}
 use Rattle.regress_meaning.specs.Inputs.{Input}
+use Rattle.regress_front_nodes.specs.Trees.{atomic}
 use Rattle.regress_engine_code.specs.Instructions.{LoopFields, Instruction, Program, Stands}
 use Rattle.regress_engine_code.specs.Instructions as code
 use Rattle.regress_engine_runs.specs.States.{Marks, Whole, unset, begun, ended}
@@ -16,7 +17,7 @@ use Rattle.regress_engine_sought.specs.Ready.{is_simple}
 use Rattle.regress_engine_sought.specs.Tasks.{Leads}
 use Rattle.regress_engine_sought.proofs.InsnLemmas.{simple-plain, simple-successors, single-successors}
 use Rattle.regress_engine_sought.proofs.TaskLemmas.{leads-then, leads-later}
-use Rattle.regress_engine_singles.specs.Failing.{Fail, failed, steps, IsStuck, TakesNothing}
+use Rattle.regress_engine_singles.specs.Failing.{Fail, failed, steps, inner, IsStuck, TakesNothing}
 use Rattle.regress_engine_singles.proofs.Failures.{fail-both, leads-without}
 
 -- where a repetition begins no iteration has begun
@@ -98,6 +99,11 @@ module _ (program : Program) (input : Input) where
       either false true false s t first second = first
       either false false true s t first second = second refl
       either false false false s t first second = failed
+
+  -- nor does an atomic group whose contents lead nowhere
+  pub atomic-stuck : (dir : Direction) (at o first last continuation : ℕ) → Stands program at (code.submatch atomic first last continuation) → IsStuck program input dir (at + 1) o
+      → IsStuck program input dir at o
+  atomic-stuck dir at o first last continuation here contents loops groups = inner here (next-stuck dir at o contents loops groups) failed
 
   -- nor does the begin of a group before what leads nowhere
   pub begin-stuck : (dir : Direction) (at o k : ℕ) → Stands program at (code.begin_group k) → IsStuck program input dir (at + 1) o → IsStuck program input dir at o

@@ -42,7 +42,7 @@ stands-as program at j x e here = subst (λ y. Stands program at (instruction y)
 
 pub simple-plain : (i : Instruction) → is_simple i ≡ true → is_plain i ≡ true
 simple-plain code.goal e = absurd (grind arith)
-simple-plain (code.look negated backward first last continuation) e = absurd (grind arith)
+simple-plain (code.submatch kind first last continuation) e = absurd (grind arith)
 simple-plain _ e = refl
 
 module _ (program : Program) (input : Input) where

@@ -2,6 +2,7 @@ pub mod BracketLemmas
 pub mod InsnLemmas
 pub mod FillLemmas
 pub mod TaskLemmas
+pub mod SubmatchLemmas
 pub mod ReadyLemmas
 pub mod PlaceLemmas
 pub mod GivenBack

@@ -2,13 +2,13 @@
 use Rattle.std.proofs.Common.{◌≡◌, ℕ, suc, ◌+◌, ◌<◌, true, List, [], ◌∷◌, ◌++◌, Option, Some, None, refl, subst, arith}
 use Rattle.regress_meaning.specs.Meaning.{Direction, Forward}
 use Rattle.regress_meaning.specs.Inputs.{Input}
-use Rattle.regress_front_nodes.specs.TreeMeaning.{direction}
+use Rattle.regress_front_nodes.specs.TreeMeaning.{submatch_direction}
 use Rattle.regress_engine_input.specs.Views.{View, input_of, reading_of}
 use Rattle.regress_engine_code.specs.Instructions.{Instruction, Program, Stands}
 use Rattle.regress_engine_code.specs.Instructions as code
 use Rattle.regress_engine_runs.specs.States.{Whole, Marks, onward, first_state}
 use Rattle.regress_engine_runs.specs.Computed.{IsComputed}
-use Rattle.regress_engine_runs.specs.Runs.{Run, successors, is_plain, after_look}
+use Rattle.regress_engine_runs.specs.Runs.{Run, successors, is_plain, after_submatch}
 use Rattle.regress_engine_runs.specs.Meets.{reads_character, ReadsPlaces}
 use Rattle.regress_engine_runs.specs.UndoStack.{Frame, Work, outermost, inside, first_do, alone, ReadOn}
 use Rattle.regress_engine_runs.proofs.Computed.{computed-runs}
@@ -60,8 +60,8 @@ module _ (program : Program) (input : Input) where
   }
 
   -- a lookaround begins
-  pub leads-inside : (s : Whole) (work : Work) (f : Frame) → Stands program s.at (code.look f.negated f.backward f.first f.last f.continuation)
-      → Leads program input 1 (record { dir = f.outside; states = s ∷ []; work = work }) (record { dir = direction f.backward; states = onward s ∷ []; work = inside [] f s work })
+  pub leads-inside : (s : Whole) (work : Work) (f : Frame) → Stands program s.at (code.submatch f.kind f.first f.last f.continuation)
+      → Leads program input 1 (record { dir = f.outside; states = s ∷ []; work = work }) (record { dir = submatch_direction f.kind f.outside; states = onward s ∷ []; work = inside [] f s work })
   leads-inside s work f here = record {
     comes = λ n r come. let x = frame_pushed program input s work n r f refl here come in let less = x.1 in (x.0, omega (arith, less), x.2);
     reads = λ reading on. read_inside program input reading s work f here on;
@@ -70,7 +70,7 @@ module _ (program : Program) (input : Input) where
   -- its contents have no answer
   pub leads-exhausted : (dir : Direction) (f : Frame) (s : Whole) (work : Work)
       → Leads program input 0 (record { dir = dir; states = []; work = inside [] f s work })
-      (record { dir = f.outside; states = after_look f.negated f.first f.last f.continuation s None; work = work })
+      (record { dir = f.outside; states = after_submatch f.kind f.first f.last f.continuation s None; work = work })
   leads-exhausted dir f s work = record {
     comes = λ n r come. (n, omega arith, frame_exhausted program input f s work n r come);
     reads = λ reading on. read_exhausted program input reading dir f s work on;
@@ -78,7 +78,7 @@ module _ (program : Program) (input : Input) where
 
   -- what follows a lookaround that is found
   abbrev pub behind_found : Whole → Frame × Whole × Work → Task
-  behind_found t y = record { dir = y.0.outside; states = after_look y.0.negated y.0.first y.0.last y.0.continuation y.1 (Some t); work = y.2 }
+  behind_found t y = record { dir = y.0.outside; states = after_submatch y.0.kind y.0.first y.0.last y.0.continuation y.1 (Some t); work = y.2 }
 
   -- a goal inside a lookaround
   pub leads-found : (dir : Direction) (t : Whole) (w : Work) (y : Frame × Whole × Work) → outside_of w ≡ Some y → Stands program t.at code.goal

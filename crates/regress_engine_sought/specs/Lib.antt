@@ -1,6 +1,7 @@
 pub mod StateViews
 pub mod Ready
 pub mod Tasks
+pub mod Submatches
 pub mod Answering
 pub mod Sought
 pub mod Skipping

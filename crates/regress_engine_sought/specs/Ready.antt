@@ -25,8 +25,20 @@ is_simple (code.reset_group k) = false
 is_simple (code.enter_loop f) = false
 is_simple (code.loop_again begin) = false
 is_simple (code.single_loop least most greedy) = false
-is_simple (code.look negated backward first last continuation) = false
-is_simple _ = true
+is_simple (code.submatch kind first last continuation) = false
+is_simple (code.char c) = true
+is_simple (code.char_set cs) = true
+is_simple (code.byte_set bs) = true
+is_simple (code.byte_seq bs) = true
+is_simple code.any = true
+is_simple code.any_in_line = true
+is_simple (code.bracket k) = true
+is_simple (code.ascii_bracket cs) = true
+is_simple (code.line_start multiline) = true
+is_simple (code.line_end multiline) = true
+is_simple (code.boundary inverted folded) = true
+is_simple (code.back k icase) = true
+is_simple code.fail = true
 
 -- the instruction before an address takes one character, and may be asked at an offset
 abbrev pub IsBody : Program → View → (at offset : ℕ) → Type 0

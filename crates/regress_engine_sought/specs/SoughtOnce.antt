@@ -136,8 +136,20 @@ module _ (program : Program) where
   Fits-prop at (code.begin_group k) = le_prop
   Fits-prop at (code.end_group k) = le_prop
   Fits-prop at (code.reset_group k) = le_prop
-  Fits-prop at (code.look negated backward first last continuation) = Π_prop (λ k. Π_prop (λ low. Π_prop (λ high. le_prop)))
-  Fits-prop at _ = Unit-prop
+  Fits-prop at (code.submatch kind first last continuation) = Π_prop (λ k. Π_prop (λ low. Π_prop (λ high. le_prop)))
+  Fits-prop at code.goal = Unit-prop
+  Fits-prop at (code.char c) = Unit-prop
+  Fits-prop at (code.char_set cs) = Unit-prop
+  Fits-prop at (code.byte_set bs) = Unit-prop
+  Fits-prop at code.any = Unit-prop
+  Fits-prop at code.any_in_line = Unit-prop
+  Fits-prop at (code.ascii_bracket cs) = Unit-prop
+  Fits-prop at (code.line_start multiline) = Unit-prop
+  Fits-prop at (code.line_end multiline) = Unit-prop
+  Fits-prop at (code.boundary inverted folded) = Unit-prop
+  Fits-prop at (code.jump a) = Unit-prop
+  Fits-prop at (code.alt a) = Unit-prop
+  Fits-prop at code.fail = Unit-prop
 
 -- ---- what is sought
 

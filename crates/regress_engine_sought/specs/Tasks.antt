@@ -14,12 +14,12 @@ pub record Task : Type 0 where
   pub states : List Whole
   pub work : Work
 
--- the lookaround inside of which work is to be done, the state at it, and the work outside
+-- the lookaround or atomic group inside of which work is to be done, the state at it, and the work outside
 abbrev pub outside_of : Work → Option (Frame × Whole × Work)
 outside_of (outermost ts) = None
 outside_of (inside ts f s rest) = Some (f, s, rest)
 
--- the groups inside a lookaround are there
+-- the groups inside a lookaround or an atomic group are there
 abbrev pub HasGroups : Program → Frame → Type 0
 HasGroups program f = (k : ℕ) → f.first ≤ k → k < f.last → k < program.groups
 

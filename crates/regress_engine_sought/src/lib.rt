@@ -7,9 +7,11 @@ mod executor;
 mod laws;
 mod shown;
 mod subject;
+mod submatch;
 
 pub use captured::captures;
 pub use executor::{AnyText, AsciiText, Executor, TextKind};
 pub use laws::{executors_list_matches, roads_agree, start_predicates_may_skip};
 pub use shown::{ExecutorInput, Shown};
 pub use subject::Subject;
+pub use submatch::Submatch;

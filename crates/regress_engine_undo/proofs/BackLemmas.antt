@@ -1,12 +1,12 @@
 -- What is undone, and where it is gone on.
 use Rattle.std.specs.Prelude.{get_or, slice_set, ◌^◌}
-use Rattle.std.proofs.Common.{◌≡◌, ℕ, zero, suc, ◌+◌, ◌-◌, ◌<◌, ◌≤◌, Bool, true, false, List, [], ◌∷◌, length, Some, None, ◌⊎◌, refl, sym, ap, ◌∙◌, subst, arith}
+use Rattle.std.proofs.Common.{◌≡◌, ℕ, zero, suc, ◌+◌, ◌-◌, ◌<◌, ◌≤◌, Bool, true, false, List, [], ◌∷◌, length, Some, None, if◌then◌else◌, ◌⊎◌, refl, sym, ap, ◌∙◌, subst, arith}
 use Rattle.std.proofs.lemmas.List.{length-set}
 use Rattle.regress_meaning.specs.Inputs.{Input}
 use Rattle.regress_engine_input.specs.Views.{View, way, reading_of}
 use Rattle.regress_engine_code.specs.Instructions.{Program, Instruction, Stands}
 use Rattle.regress_engine_runs.specs.States.{Whole, Marks}
-use Rattle.regress_engine_runs.specs.Runs.{against, gap, advance, one_more, after_look}
+use Rattle.regress_engine_runs.specs.Runs.{against, gap, advance, one_more}
 use Rattle.regress_engine_runs.specs.Meets.{IsAtPlace}
 use Rattle.regress_engine_runs.specs.UndoStack.{Undo, Frame, Work, old_loop, old_group, resume, iterate, give_back, take_on, frame, whole, first_do, stands_for, at_each, MovesOn}
 use Rattle.regress_engine_runs.proofs.UndoLemmas.{given_back_last, given_back_one, taken_on_last, taken_on_one}
@@ -15,6 +15,8 @@ use Rattle.regress_engine_sought.specs.Tasks.{Task, Leads}
 use Rattle.regress_engine_sought.proofs.TaskLemmas.{leads-then, leads-same, leads-first, leads-exhausted}
 use Rattle.regress_engine_undo.specs.declared.undo.Spot.{Spot}
 use Rattle.regress_engine_undo.specs.Held.{Held, pushed, loop_written}
+use Rattle.regress_engine_sought.specs.Submatches.{is_negated}
+use Rattle.regress_engine_sought.proofs.SubmatchLemmas.{after-none}
 use Rattle.regress_engine_undo.specs.Sound.{IsSound, IsHeld}
 use Rattle.regress_engine_undo.specs.Tasks.{task, state_at}
 use Rattle.regress_engine_undo.proofs.StepLemmas.{iterate-leads}
@@ -55,11 +57,11 @@ module _ (program : Program) (input : Input) where
       (leads-first program input (way p.forward) [] (one_more id begin (whole begin o h.loops h.groups) ∷ []) (stands_for program input (way p.forward) h.stack h.loops h.groups))
       (iterate-leads on h k id count begin counted is program input))
 
-  -- a lookaround whose contents have no answer
-  pub look-back : (p q : Spot) (h : Held) (f : Frame) → f.outside ≡ way q.forward → (f.negated ≡ true → q ≡ record { at = f.continuation; offset = f.offset; forward = q.forward })
-      → Leads program input 0 (task program input false p (pushed (frame f) h)) (task program input f.negated q h)
+  -- a lookaround or an atomic group whose contents have no answer
+  pub submatch-back : (p q : Spot) (h : Held) (f : Frame) → f.outside ≡ way q.forward → (is_negated f.kind ≡ true → q ≡ record { at = f.continuation; offset = f.offset; forward = q.forward })
+      → Leads program input 0 (task program input false p (pushed (frame f) h)) (task program input (is_negated f.kind) q h)
   unfolding stands_for
-  look-back p q h f turned placed = by_way f.negated refl
+  submatch-back p q h f turned placed = by_way (is_negated f.kind) refl
     where
       s : Whole
       s = whole f.at f.offset h.loops h.groups
@@ -68,24 +70,26 @@ module _ (program : Program) (input : Input) where
       rest = stands_for program input f.outside h.stack h.loops h.groups
 
       left : Bool → List Whole
-      left b = after_look b f.first f.last f.continuation s None
+      left b = if b then record s { at = f.continuation } ∷ [] else []
 
       inside_of : Work
       inside_of = stands_for program input (way p.forward) (frame f ∷ h.stack) h.loops h.groups
 
-      exhausted : Leads program input 0 (record { dir = way p.forward; states = []; work = inside_of }) (record { dir = f.outside; states = left f.negated; work = rest })
-      exhausted = leads-exhausted program input (way p.forward) f s rest
-
       from : Task
       from = task program input false p (pushed (frame f) h)
 
+      exhausted : Leads program input 0 (record { dir = way p.forward; states = []; work = inside_of }) (record { dir = f.outside; states = left (is_negated f.kind); work = rest })
+      exhausted =
+          subst (λ (ss : List Whole). Leads program input 0 from (record { dir = f.outside; states = ss; work = rest })) (after-none f.kind f.first f.last f.continuation s)
+          (leads-exhausted program input (way p.forward) f s rest)
+
       -- the direction is that outside
-      turn : (b : Bool) → f.negated ≡ b → Leads program input 0 from (record { dir = way q.forward; states = left b; work = stands_for program input (way q.forward) h.stack h.loops h.groups })
+      turn : (b : Bool) → is_negated f.kind ≡ b → Leads program input 0 from (record { dir = way q.forward; states = left b; work = stands_for program input (way q.forward) h.stack h.loops h.groups })
       turn b e =
           subst (λ d. Leads program input 0 from (record { dir = d; states = left b; work = stands_for program input d h.stack h.loops h.groups })) turned
           (subst (λ c. Leads program input 0 from (record { dir = f.outside; states = left c; work = rest })) e exhausted)
 
-      by_way : (b : Bool) → f.negated ≡ b → Leads program input 0 from (task program input f.negated q h)
+      by_way : (b : Bool) → is_negated f.kind ≡ b → Leads program input 0 from (task program input (is_negated f.kind) q h)
       by_way true e =
           subst (λ c. Leads program input 0 from (task program input c q h)) (sym e)
           (subst (λ (x : Spot). Leads program input 0 from (record { dir = way q.forward; states = state_at x h ∷ []; work = stands_for program input (way q.forward) h.stack h.loops h.groups })) (sym (placed e)) (turn true e))

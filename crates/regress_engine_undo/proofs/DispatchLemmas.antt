@@ -1,28 +1,24 @@
 -- Each instruction's step.
-use Rattle.std.specs.Prelude.{slice_set, slice_get, get_or, is_some, option_map}
-use Rattle.std.proofs.lemmas.Option.{slice_get-map, slice_get-get_or}
-use Rattle.std.proofs.Common.{◌≡◌, ℕ, suc, ◌+◌, ◌<◌, Bool, true, false, not, List, length, map, [], ◌∷◌, Option, Some, None, if◌then◌else◌, refl, sym, ap, ◌∙◌, subst, arith}
+use Rattle.std.specs.Prelude.{slice_set}
+use Rattle.std.proofs.Common.{◌≡◌, ℕ, suc, ◌+◌, Bool, true, false, [], ◌∷◌, Some, None, if◌then◌else◌, refl, sym, ap, ◌∙◌, subst, arith}
 use Rattle.regress_meaning.specs.Inputs.{Input}
 use Rattle.regress_engine_input.specs.Views.{way}
 use Rattle.regress_engine_code.specs.Instructions.{Instruction, Program, Stands, is_byte_seq}
 use Rattle.regress_engine_code.specs.Instructions as code
-use Rattle.regress_engine_code.specs.InsnViews.{instruction}
-use Rattle.regress_engine_code.specs.InsnViews.{instruction}
-use Rattle.regress_engine_code.specs.declared.insn.Insn.{Insn}
 use Rattle.regress_engine_runs.specs.States.{Marks, Whole, onward}
 use Rattle.regress_engine_runs.specs.Runs.{successors, is_plain, moved_to, advance, is_idle, choices}
-use Rattle.regress_engine_runs.specs.Meets.{reads_character}
-use Rattle.regress_engine_runs.specs.Closed.{Fits}
 use Rattle.regress_engine_runs.specs.UndoStack.{Frame, Work, frame, resume, stands_for}
 use Rattle.regress_engine_sought.specs.Ready.{is_simple}
 use Rattle.regress_engine_sought.specs.Tasks.{Task, Leads}
-use Rattle.regress_engine_sought.proofs.InsnLemmas.{way-direction, simple-plain, simple-successors, again-successors}
+use Rattle.regress_engine_sought.proofs.InsnLemmas.{simple-plain, simple-successors, again-successors}
 use Rattle.regress_engine_sought.proofs.TaskLemmas.{leads-then, leads-same, leads-later, leads-plain, leads-inside}
 use Rattle.regress_engine_singles.specs.Failing.{IsStuck}
 use Rattle.regress_engine_singles.proofs.Failures.{leads-without}
 use Rattle.regress_engine_singles.proofs.StuckLemmas.{leads-stuck}
 use Rattle.regress_engine_undo.specs.declared.undo.Spot.{Spot}
 use Rattle.regress_engine_undo.specs.Held.{Held, pushed}
+use Rattle.regress_engine_sought.specs.Submatches.{reads_forward}
+use Rattle.regress_engine_sought.proofs.SubmatchLemmas.{way-submatch}
 use Rattle.regress_engine_undo.specs.Tasks.{task_of, task, state_at, GoesOn}
 use Rattle.regress_engine_undo.proofs.StepLemmas.{fork-leads}
 use Rattle.regress_engine_undo.proofs.BackLemmas.{resume-back}
@@ -47,15 +43,15 @@ module _ (program : Program) (input : Input) where
       (subst (λ ss. Leads program input 0 (task_of program input ss p h) (task program input true q k)) (sym are)
       (subst (λ x. Leads program input 0 (task_of program input (onward (record (state_at p h) { groups = slice_set h.groups group x }) ∷ []) p h) (task program input true q k)) same (on program input)))
 
-  -- a lookaround begins
-  pub look-on : (p q : Spot) (h k : Held) (f : Frame) → f.outside ≡ way p.forward → f.at ≡ p.at → f.offset ≡ p.offset
-      → Stands program p.at (code.look f.negated f.backward f.first f.last f.continuation) → k ≡ pushed (frame f) h → q ≡ record p { at = p.at + 1; forward = not f.backward }
+  -- a lookaround or an atomic group begins
+  pub submatch-on : (p q : Spot) (h k : Held) (f : Frame) → f.outside ≡ way p.forward → f.at ≡ p.at → f.offset ≡ p.offset
+      → Stands program p.at (code.submatch f.kind f.first f.last f.continuation) → k ≡ pushed (frame f) h → q ≡ record p { at = p.at + 1; forward = reads_forward f.kind p.forward }
       → Leads program input 1 (task program input true p h) (task program input true q k)
   unfolding stands_for
-  look-on p q h k f turned at offset here pushes placed =
+  submatch-on p q h k f turned at offset here pushes placed =
       subst (λ x. Leads program input 1 from (task program input true q x)) (sym pushes)
       (subst (λ x. Leads program input 1 from (task program input true x (pushed (frame f) h))) (sym placed)
-      (subst (λ a. Leads program input 1 from (task program input true (record p { at = a; forward = not f.backward }) (pushed (frame f) h))) next begun))
+      (subst (λ a. Leads program input 1 from (task program input true (record p { at = a; forward = reads_forward f.kind p.forward }) (pushed (frame f) h))) next begun))
     where
       from : Task
       from = task program input true p h
@@ -70,13 +66,13 @@ module _ (program : Program) (input : Input) where
       same_frame : frame_here ≡ f
       same_frame = (λ i. record f { at = sym at i; offset = sym offset i; outside = sym turned i })
 
-      begun_here : Leads program input 1 from (task program input true (record p { at = suc p.at; forward = not f.backward }) (pushed (frame frame_here) h))
+      begun_here : Leads program input 1 from (task program input true (record p { at = suc p.at; forward = reads_forward f.kind p.forward }) (pushed (frame frame_here) h))
       begun_here =
-          subst (λ d. Leads program input 1 from (record { dir = d; states = onward (state_at p h) ∷ []; work = stands_for program input d (frame frame_here ∷ h.stack) h.loops h.groups })) (way-direction f.backward)
+          subst (λ d. Leads program input 1 from (record { dir = d; states = onward (state_at p h) ∷ []; work = stands_for program input d (frame frame_here ∷ h.stack) h.loops h.groups })) (way-submatch f.kind p.forward)
           (leads-inside program input (state_at p h) (stands_for program input (way p.forward) h.stack h.loops h.groups) frame_here here)
 
-      begun : Leads program input 1 from (task program input true (record p { at = suc p.at; forward = not f.backward }) (pushed (frame f) h))
-      begun = subst (λ x. Leads program input 1 from (task program input true (record p { at = suc p.at; forward = not f.backward }) (pushed (frame x) h))) same_frame begun_here
+      begun : Leads program input 1 from (task program input true (record p { at = suc p.at; forward = reads_forward f.kind p.forward }) (pushed (frame f) h))
+      begun = subst (λ x. Leads program input 1 from (task program input true (record p { at = suc p.at; forward = reads_forward f.kind p.forward }) (pushed (frame x) h))) same_frame begun_here
 
   -- what changes nothing but the offset
   pub take-none : (i : Instruction) (p : Spot) (h : Held) → Stands program p.at i → is_simple i ≡ true → advance program input i (way p.forward) h.groups p.offset ≡ None
@@ -118,21 +114,6 @@ module _ (program : Program) (input : Input) where
       (subst (λ a. Leads program input 0 (task_of program input (onward s ∷ record s { at = target } ∷ []) p h) (task program input true (record p { at = a }) h)) next
       (leads-then program input 0 0 (leads-later program input (way p.forward) (onward s ∷ []) (record s { at = target } ∷ []) work)
       (leads-without program input (way p.forward) (onward s ∷ []) (record s { at = target } ∷ []) work (stuck h.loops h.groups))))
-
--- an instruction that was read stands there
-pub stands-read : (slice insns : List Insn) (at : ℕ) (d : Insn) → slice ≡ insns → at < length slice → slice_get (map instruction insns) at ≡ Some (instruction (get_or slice at d))
-stands-read slice insns at d same within =
-    subst (λ xs. slice_get (map instruction xs) at ≡ Some (instruction (get_or slice at d))) same
-    (slice_get-map instruction slice at ∙ ap (option_map instruction) (slice_get-get_or slice at d within))
-
--- what takes bytes reads no character
-pub bytes-simple : (program : Program) (at : ℕ) (i : Instruction) → is_byte_seq i ≡ true → Fits program at i → (is_simple i ≡ true) × (reads_character i ≡ false) × Fits program 0 i
-bytes-simple program at (code.byte_seq bs) e fits = (refl, refl, fits)
-bytes-simple program at _ e fits = absurd (grind arith)
-
-pub none-is : (x : Option ℕ) → is_some x ≡ false → None ≡ x
-none-is None e = refl
-none-is (Some o) e = absurd (cc e)
 
 module _ (program : Program) (input : Input) where
   -- an iteration ends

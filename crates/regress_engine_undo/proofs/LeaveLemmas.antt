@@ -1,4 +1,4 @@
--- A lookaround is left.
+-- A lookaround or an atomic group is left.
 use Rattle.std.specs.Prelude.{slice_set, get_or}
 use Rattle.std.proofs.Common.{◌≡◌, ℕ, ◌+◌, ◌<◌, ◌≤◌, true, false, List, [], ◌∷◌, length, Option, Some, None, refl, sym, ap, ap₂, ◌∙◌, subst, arith}
 use Rattle.std.proofs.lemmas.List.{length-set}
@@ -8,13 +8,15 @@ use Rattle.regress_engine_input.specs.Views.{way}
 use Rattle.regress_engine_code.specs.Instructions.{Program, Stands}
 use Rattle.regress_engine_code.specs.Instructions as code
 use Rattle.regress_engine_runs.specs.States.{Whole, Marks, unset, mixed}
-use Rattle.regress_engine_runs.specs.Runs.{after_look, one_more}
+use Rattle.regress_engine_runs.specs.Runs.{one_more}
 use Rattle.regress_engine_runs.specs.UndoStack.{Undo, old_loop, old_group, resume, iterate, give_back, take_on, frame, Frame, Work, whole, stands_for}
 use Rattle.regress_engine_sought.specs.Tasks.{Task, Leads, outside_of}
 use Rattle.regress_engine_sought.proofs.TaskLemmas.{leads-found, ends-outermost, outside-first}
 use Rattle.regress_engine_undo.specs.declared.undo.Spot.{Spot}
 use Rattle.regress_engine_undo.proofs.LeadLemmas.{group-kept}
 use Rattle.regress_engine_undo.specs.Held.{Held, pushed, group_written}
+use Rattle.regress_engine_sought.specs.Submatches.{is_negated, end_offset}
+use Rattle.regress_engine_sought.proofs.SubmatchLemmas.{after-negated, after-some}
 use Rattle.regress_engine_undo.specs.Tasks.{task, state_at}
 use Rattle.regress_engine_undo.specs.Leaving.{told_outside, work_of, Unwinds, EndsAt}
 use Rattle.regress_engine_runs.proofs.MixedGroups.{mixed-more}
@@ -25,26 +27,28 @@ leaves-all p h k unwinds program input here n r come =
     ends-outermost program input (way p.forward) (state_at p h) (work_of program input (way p.forward) h) (unwinds program input (way p.forward)) here n r come
 
 -- a negated lookaround fails
-pub leaves-negated : (p q : Spot) (h k : Held) (f : Frame) → Unwinds h (Some f) k → f.negated ≡ true → way q.forward ≡ f.outside
+pub leaves-negated : (p q : Spot) (h k : Held) (f : Frame) → Unwinds h (Some f) k → is_negated f.kind ≡ true → way q.forward ≡ f.outside
     → (program : Program) (input : Input) → Stands program p.at code.goal → Leads program input 1 (task program input true p h) (task program input false q k)
 leaves-negated p q h k f unwinds negated turned program input here =
     subst (λ d. Leads program input 1 (task program input true p h) (record { dir = d; states = []; work = work_of program input d k })) (sym turned)
-    (subst (λ b. Leads program input 1 (task program input true p h) (record { dir = f.outside; states = after_look b f.first f.last f.continuation (whole f.at f.offset k.loops k.groups) (Some (state_at p h)); work = work_of program input f.outside k })) negated
+    (subst (λ (ss : List Whole). Leads program input 1 (task program input true p h) (record { dir = f.outside; states = ss; work = work_of program input f.outside k }))
+    (after-negated f.kind f.first f.last f.continuation (whole f.at f.offset k.loops k.groups) (state_at p h) negated)
     (leads-found program input (way p.forward) (state_at p h) (work_of program input (way p.forward) h) _ (unwinds program input (way p.forward)) here))
 
--- a positive one takes the groups on
-pub leaves-positive : (p q : Spot) (h k l : Held) (f : Frame) → Unwinds h (Some f) k → f.negated ≡ false → way q.forward ≡ f.outside → q.at ≡ f.continuation → q.offset ≡ f.offset
-    → l.loops ≡ k.loops → l.groups ≡ mixed 0 f.first f.last h.groups k.groups
+-- a positive one and an atomic group take the groups on
+pub leaves-positive : (p q : Spot) (h k l : Held) (f : Frame) → Unwinds h (Some f) k → is_negated f.kind ≡ false → way q.forward ≡ f.outside → q.at ≡ f.continuation
+    → q.offset ≡ end_offset f.kind f.offset p.offset → l.loops ≡ k.loops → l.groups ≡ mixed 0 f.first f.last h.groups k.groups
     → ((program : Program) (input : Input) (dir : Direction) → work_of program input dir l ≡ work_of program input dir k)
     → (program : Program) (input : Input) → Stands program p.at code.goal → Leads program input 1 (task program input true p h) (task program input true q l)
 leaves-positive p q h k l f unwinds positive turned at offset loops groups same program input here =
     let from : Task = task program input true p h in
-    let state : Whole = whole f.continuation f.offset k.loops (mixed 0 f.first f.last h.groups k.groups) in
+    let state : Whole = whole f.continuation (end_offset f.kind f.offset p.offset) k.loops (mixed 0 f.first f.last h.groups k.groups) in
     let told : state ≡ state_at q l = (λ i. whole (sym at i) (sym offset i) (sym loops i) (sym groups i)) in
     subst (λ (s : Whole). Leads program input 1 from (record { dir = way q.forward; states = s ∷ []; work = work_of program input (way q.forward) l })) told
     (subst (λ (w : Work). Leads program input 1 from (record { dir = way q.forward; states = state ∷ []; work = w })) (sym (same program input (way q.forward)))
     (subst (λ d. Leads program input 1 from (record { dir = d; states = state ∷ []; work = work_of program input d k })) (sym turned)
-    (subst (λ b. Leads program input 1 from (record { dir = f.outside; states = after_look b f.first f.last f.continuation (whole f.at f.offset k.loops k.groups) (Some (state_at p h)); work = work_of program input f.outside k })) positive
+    (subst (λ (ss : List Whole). Leads program input 1 from (record { dir = f.outside; states = ss; work = work_of program input f.outside k }))
+    (after-some f.kind f.first f.last f.continuation (whole f.at f.offset k.loops k.groups) (state_at p h) positive)
     (leads-found program input (way p.forward) (state_at p h) (work_of program input (way p.forward) h) _ (unwinds program input (way p.forward)) here))))
 
 -- ---- one record without going on

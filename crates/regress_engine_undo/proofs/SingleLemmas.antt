@@ -1,42 +1,27 @@
 -- One-character loops.
 use Rattle.std.specs.Prelude.{slice_get}
 use Rattle.std.proofs.lemmas.List.Elements.{All-weaker}
-use Rattle.std.proofs.Common.{◌≡◌, ℕ, zero, suc, refl, ◌+◌, ◌-◌, Bool, true, false, List, [], ◌∷◌, Option, Some, None, if◌then◌else◌, sym, ap, ◌∙◌, subst, arith}
+use Rattle.std.proofs.Common.{◌≡◌, ℕ, suc, ◌+◌, ◌-◌, Bool, true, false, List, [], ◌∷◌, Option, Some, None, if◌then◌else◌, sym, ap, ◌∙◌, subst, arith}
 use Rattle.regress_meaning.specs.Meaning.{Direction, Forward}
 use Rattle.regress_meaning.specs.Inputs.{Input}
-use Rattle.regress_engine_input.specs.Views.{View, AreOfKind, way, input_of, reading_of}
+use Rattle.regress_engine_input.specs.Views.{View, AreOfKind, way, input_of}
 use Rattle.regress_engine_code.specs.Instructions.{Instruction, Program, Stands, single_loop}
 use Rattle.regress_engine_runs.specs.States.{Marks, Whole}
-use Rattle.regress_engine_runs.specs.Runs.{advance, after_times, as_far, one_by_one, given_back, counted, successors}
-use Rattle.regress_engine_runs.specs.Meets.{IsAtPlace}
+use Rattle.regress_engine_runs.specs.Runs.{after_times, as_far, one_by_one, given_back, counted, successors}
 use Rattle.regress_engine_runs.specs.UndoStack.{Work, give_back, take_on, whole, at_each, taken_on, first_do, stands_for}
 use Rattle.regress_engine_sought.specs.Tasks.{Leads}
 use Rattle.regress_engine_sought.proofs.InsnLemmas.{single-successors}
 use Rattle.regress_engine_sought.proofs.GivenBack.{given-back}
 use Rattle.regress_engine_sought.proofs.TaskLemmas.{leads-then, leads-same, leads-first, leads-later}
-use Rattle.regress_engine_singles.specs.Apart.{AreApart}
 use Rattle.regress_engine_singles.specs.Failing.{Fail, IsStuck}
 use Rattle.regress_engine_singles.proofs.Chains.{Takes, given-taken}
 use Rattle.regress_engine_singles.proofs.Failures.{leads-without, fail-each}
-use Rattle.regress_engine_undo.specs.Stuck.{IsTakenFirst}
+use Rattle.regress_engine_undo.specs.Stuck.{IsStuckBefore}
 use Rattle.regress_engine_undo.specs.declared.undo.Spot.{Spot}
 use Rattle.regress_engine_undo.specs.Held.{Held, pushed}
 use Rattle.regress_engine_sought.specs.Sought.{Suits}
 use Rattle.regress_engine_sought.specs.Ready.{IsBody}
-use Rattle.regress_engine_sought.proofs.ReadyLemmas.{body-next}
 use Rattle.regress_engine_undo.specs.Tasks.{task_of, task, state_at}
-
--- as far as it goes is at a place
-module _ (program : Program) (v : View) (all : AreOfKind v.kind v.units) (suits : Suits program v) (at : ℕ) (i : Instruction) (here : Stands program (at - 1) i) (dir : Direction) (groups : List Marks) where
-  pub far-place : (n o : ℕ) → IsBody program v at o → IsAtPlace (reading_of v) (as_far program (input_of v) n i dir groups o)
-  unfolding as_far
-  far-place zero o body = body.3
-  far-place (suc n) o body = by_found (advance program (input_of v) i dir groups o) refl (λ q there. far-place n q there)
-    where
-      by_found : (x : Option ℕ) → advance program (input_of v) i dir groups o ≡ x → ((q : ℕ) → IsBody program v at q → IsAtPlace (reading_of v) (as_far program (input_of v) n i dir groups q))
-          → IsAtPlace (reading_of v) (elim x [ None ↦ o | Some q ↦ as_far program (input_of v) n i dir groups q ])
-      by_found None e rest = body.3
-      by_found (Some q) e rest = rest q (body-next v all program suits at o q i dir groups body here e)
 
 -- what is recorded of a loop
 module _ (program : Program) (input : Input) (i : Instruction) (p : Spot) (h : Held) (here : Stands program (p.at + 1) i) (least most : ℕ) where
@@ -104,21 +89,21 @@ module _ (program : Program) (input : Input) (i : Instruction) (p : Spot) (h : H
       (leads-later program input dir [] (behind os) (stands_for program input dir h.stack h.loops h.groups)))))
 
 -- A loop that gives back nothing goes on at its far offset alone.
-module _ (program : Program) (v : View) (all : AreOfKind v.kind v.units) (suits : Suits program v) (at : ℕ) (i j : Instruction) (here : Stands program (at - 1) i) where
+module _ (program : Program) (v : View) (all : AreOfKind v.kind v.units) (suits : Suits program v) (at : ℕ) (i : Instruction) (here : Stands program (at - 1) i) where
   abbrev input : Input
   input = input_of v
 
-  pub atomic : (first : IsTakenFirst program at j) → AreApart program input i j → (n near far : ℕ) (groups : List Marks) → IsBody program v at near → far ≡ as_far program input n i Forward groups near
+  pub atomic : IsStuckBefore program input i at → (n near far : ℕ) (groups : List Marks) → IsBody program v at near → far ≡ as_far program input n i Forward groups near
       → (p : Spot) (h : Held) → p.forward ≡ true
       → Leads program input 0 (task program input false p (pushed (give_back at near far) h)) (task program input true (record p { at = at; offset = far }) h)
   unfolding stands_for
-  atomic first apart n near far groups body is p h forward =
+  atomic stuck_before n near far groups body is p h forward =
       let os : List ℕ = one_by_one program input n i Forward groups near in
       let (before, back, taken) = given-taken program input i Forward groups n near in
       let given : given_back input Forward near far ≡ far ∷ before =
       ap (given_back input Forward near) is ∙ given-back v all program suits Forward groups at i n near body here ∙ back ∙ ap (λ o. o ∷ before) (sym is) in
       let ahead : way p.forward ≡ Forward = ap way forward in
-      let stuck : (o : ℕ) → Takes program input i Forward groups o → IsStuck program input Forward at o = λ o takes. first.stuck input true o (apart groups o takes.0 takes.1) in
+      let stuck : (o : ℕ) → Takes program input i Forward groups o → IsStuck program input Forward at o = λ o takes. stuck_before groups o takes.0 takes.1 in
       let fails : Fail program input Forward (at_each program input at h.loops h.groups before) =
       fail-each program input Forward at h.loops h.groups before (All-weaker (Takes program input i Forward groups) (IsStuck program input Forward at) stuck before taken) in
       let work : Direction → Work = λ d. stands_for program input d h.stack h.loops h.groups in

@@ -5,16 +5,17 @@ use Rattle.regress_engine_runs.specs.States.{Marks, unset}
 use Rattle.regress_engine_runs.specs.UndoStack.{Undo, Frame}
 use Rattle.regress_engine_runs.specs.UndoStack as stack
 use Rattle.regress_engine_sought.specs.StateViews.{loop_of, marks_of}
+use Rattle.regress_engine_sought.specs.Submatches.{submatch_of}
 use Rattle.regress_engine_undo.specs.declared.undo.Undo as code
-use Rattle.regress_engine_undo.specs.declared.undo.Undo.TheVariants.{OldLoop, OldGroup, Resume, Iterate, GiveBack, TakeOn, Look}
-use Rattle.regress_engine_undo.specs.declared.undo.Frame as look
+use Rattle.regress_engine_undo.specs.declared.undo.Undo.TheVariants.{OldLoop, OldGroup, Resume, Iterate, GiveBack, TakeOn}
+use Rattle.regress_engine_undo.specs.declared.undo.Undo.TheVariants as variant
+use Rattle.regress_engine_undo.specs.declared.undo.Frame as inner
 use Rattle.regress_engine_undo.specs.declared.memory.Memory.{Memory}
 
--- a lookaround
-abbrev pub frame_of : look.Frame → Frame
+-- a lookaround or an atomic group
+abbrev pub frame_of : inner.Frame → Frame
 frame_of f = record {
-  negated = f.negated;
-  backward = f.backward;
+  kind = submatch_of f.kind;
   first = f.first;
   last = f.last;
   continuation = f.continuation;
@@ -31,7 +32,7 @@ undo_of (Resume at offset) = stack.resume at offset
 undo_of (Iterate id begin offset) = stack.iterate id begin offset
 undo_of (GiveBack at near far) = stack.give_back at near far
 undo_of (TakeOn at offset left) = stack.take_on at offset left
-undo_of (Look f) = stack.frame (frame_of f)
+undo_of (variant.Submatch f) = stack.frame (frame_of f)
 
 -- The records, the last one first, the loops and the groups.
 pub record Held : Type 0 where

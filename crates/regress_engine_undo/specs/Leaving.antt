@@ -1,4 +1,4 @@
--- How a lookaround is left, and the whole program.
+-- How a lookaround or an atomic group is left, and the whole program.
 use Rattle.std.specs.Prelude.{◌≡◌, Bool, true, Option, Some, None, IfSome}
 use Rattle.regress_meaning.specs.Meaning.{Direction}
 use Rattle.regress_meaning.specs.Inputs.{Input}
@@ -16,7 +16,7 @@ use Rattle.regress_engine_undo.specs.Tasks.{state_at, task}
 abbrev pub work_of : Program → Input → Direction → Held → Work
 work_of program input dir h = stands_for program input dir h.stack h.loops h.groups
 
--- what is outside of a lookaround with these loops and groups, and nothing where there is no lookaround
+-- what is outside of a lookaround or an atomic group with these loops and groups, and nothing where there is none
 abbrev pub told_outside : Option Frame → Held → Program → Input → Option (Frame × Whole × Work)
 told_outside None k program input = None
 told_outside (Some f) k program input = Some (f, whole f.at f.offset k.loops k.groups, work_of program input f.outside k)
@@ -26,11 +26,11 @@ abbrev pub left_outside : Option Frame → Held → Program → Input → Direct
 left_outside None k program input dir = outside_of (work_of program input dir k)
 left_outside (Some f) k program input dir = told_outside (Some f) k program input
 
--- What is held is unwound to the innermost lookaround, if there is one.
+-- What is held is unwound to the innermost lookaround or atomic group, if there is one.
 abbrev pub Unwinds : Held → Option Frame → Held → Type 0
 Unwinds h found k = (program : Program) (input : Input) (dir : Direction) → outside_of (work_of program input dir h) ≡ told_outside found k program input
 
--- what is held stays sound, and the lookaround's groups are there
+-- what is held stays sound, and the groups inside are there
 abbrev pub StaysUnwound : Held → Option Frame → Held → Type 0
 StaysUnwound h found k = (program : Program) (v : View) → IsHeld program v h → IsHeld program v k × IfSome found (HasGroups program)
 
@@ -38,7 +38,7 @@ StaysUnwound h found k = (program : Program) (v : View) → IsHeld program v h �
 abbrev pub EndsAt : Spot → Held → Type 0
 EndsAt p h = (program : Program) (input : Input) → Stands program p.at goal → ComesAs program input (task program input true p h) (state_at p h)
 
--- A goal is left: with no lookaround around it the state there is the answer, else it is gone on behind that, or failed.
+-- A goal is left: where nothing is around it the state there is the answer, else the run continues behind that, or has failed.
 abbrev pub Leaves : Spot → Held → Option Bool → Spot → Held → Type 0
 Leaves p h None q k = (q ≡ p) × (k.groups ≡ h.groups) × EndsAt p h
 Leaves p h (Some going) q k = (program : Program) (input : Input) → Stands program p.at goal → Leads program input 1 (task program input true p h) (task program input going q k)

@@ -2,26 +2,17 @@
 use Rattle.std.specs.Prelude.{◌≡◌, ℕ, ◌+◌, Bool, true, false, Option, Some, None, List}
 use Rattle.regress_meaning.specs.Inputs.{Input}
 use Rattle.regress_meaning.specs.Meaning.{Forward}
-use Rattle.regress_engine_input.specs.Views.{way}
 use Rattle.regress_engine_code.specs.Instructions.{Instruction, LoopFields, Program, Stands}
 use Rattle.regress_engine_code.specs.Instructions as code
-use Rattle.regress_engine_runs.specs.Closed.{Fits}
 use Rattle.regress_engine_runs.specs.Runs.{advance}
 use Rattle.regress_engine_runs.specs.States.{Marks}
 use Rattle.regress_engine_runs.specs.UndoStack.{give_back, take_on}
 use Rattle.regress_engine_sought.specs.Tasks.{Leads}
-use Rattle.regress_engine_singles.specs.Failing.{IsStuck, TakesNothing}
+use Rattle.regress_engine_singles.specs.Failing.{IsStuck}
 use Rattle.regress_engine_singles.specs.Passed.{is_class}
-use Rattle.regress_engine_singles.specs.Taking.{is_taking}
 use Rattle.regress_engine_undo.specs.declared.undo.Spot.{Spot}
 use Rattle.regress_engine_undo.specs.Held.{Held, pushed}
 use Rattle.regress_engine_undo.specs.Tasks.{task}
-
--- From an address on an instruction takes a character or bytes first: where it takes nothing, nothing is led to.
-pub record IsTakenFirst (program : Program) (at : ℕ) (i : Instruction) : Type 0 where
-  pub fits : Fits program 0 i
-  pub takes : is_taking i ≡ true
-  pub stuck : (input : Input) (forward : Bool) (o : ℕ) → TakesNothing program input (way forward) i o → IsStuck program input (way forward) at o
 
 -- what is held, with the record of what is given back from a far offset, if from any
 abbrev pub given_from : (at near : ℕ) → Option ℕ → Held → Held

@@ -1,4 +1,4 @@
-//! How a goal is left: that of what a lookaround holds, or that of the whole program.
+//! How a goal is left: that of a lookaround or an atomic group, or that of the whole program.
 ghost use Rattle.std.specs.Prelude.{◌≡◌, ◌<◌, ◌≤◌, ℕ, map, length, option_map, IfOk, OnOk};
 ghost use Rattle.regress_meaning.specs.Meaning.{Direction};
 ghost use Rattle.regress_meaning.specs.Inputs.{Input};
@@ -18,7 +18,7 @@ use regress_front_core::{CaptureGroupID, GroupData};
 use std::alloc::AllocError;
 
 impl Memory {
-    /// Undoes a record without going on, or answers the lookaround that it is.
+    /// Undoes a record without going on, or answers the frame that it is.
     fn put_back(&mut self, undo: Undo) -> Option<Frame>
         requires { (program : Program) × (v : View) × IsHeld program v (pushed (undo_of undo) (held self.old)) }
         ensures rest { (program : Program) → (input : Input) → (dir : Direction) → outside_of (work_of program input dir (pushed (undo_of undo) (held self.old))) ≡ left_outside (option_map frame_of result) (held self.new) program input dir }
@@ -38,11 +38,12 @@ impl Memory {
             Undo::Iterate { .. } => None,
             Undo::GiveBack { .. } => None,
             Undo::TakeOn { .. } => None,
-            Undo::Look(frame) => Some(frame),
+            Undo::Submatch(frame) => Some(frame),
         }
     }
 
-    /// Undoes records down to the innermost lookaround whose contents are tried, or all of them where there is none.
+    /// Undoes records down to the innermost lookaround or atomic group whose contents are tried, or all of them where there is
+    /// none.
     fn unwind(&mut self) -> Option<Frame>
         requires { (program : Program) × (v : View) × IsHeld program v (held self.old) }
         ensures rest { (program : Program) → (input : Input) → (dir : Direction) → outside_of (work_of program input dir (held self.old)) ≡ told_outside (option_map frame_of result) (held self.new) program input }
@@ -77,8 +78,8 @@ impl Memory {
         Ok(())
     }
 
-    /// Leaves a goal: what a lookaround holds, and answers whether it is gone on behind it, or the whole program, and answers
-    /// `None`. `answer` is room for the groups that are carried out. It errs where memory is refused.
+    /// Leaves a goal: that of a lookaround or an atomic group, and answers whether the run continues behind it, or that of the
+    /// whole program, and answers `None`. `answer` is room for the groups that are carried out. It errs where memory is refused.
     ///
     /// ```rust
     /// let left = memory.leave(&mut answer, &mut spot)?;
@@ -100,12 +101,12 @@ impl Memory {
             return Ok(None);
         };
         spot.forward = frame.spot.forward;
-        if frame.negated {
+        if frame.kind.is_negated() {
             return Ok(Some(false));
         }
         self.carry(frame.first, frame.last, answer)?;
         spot.at = frame.continuation;
-        spot.offset = frame.spot.offset;
+        spot.offset = frame.kind.end_offset(frame.spot.offset, spot.offset);
         Ok(Some(true))
     }
 }

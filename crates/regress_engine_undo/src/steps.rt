@@ -1,6 +1,6 @@
-//! Steps that change what an executor holds: ways out, groups, repetitions, lookarounds.
+//! Steps that change what an executor holds: ways out, groups, repetitions, lookarounds and atomic groups.
 ghost use Rattle.std.specs.Prelude.{◌≡◌, ◌==◌, ◌&&◌, nat_lt, ◌+◌, ◌^◌, ◌<◌, ◌≤◌, ℕ, true, if◌then◌else◌, [], ◌∷◌, length, get_or, slice_set, not, IfOk, OnOk};
-ghost use Rattle.regress_engine_code.specs.Instructions.{Program, Stands, look};
+ghost use Rattle.regress_engine_code.specs.Instructions.{Program, Stands};
 ghost use Rattle.regress_engine_code.specs.InsnViews.{fields};
 ghost use Rattle.regress_engine_input.specs.Views.{View, way};
 ghost use Rattle.regress_meaning.specs.Inputs.{Input};
@@ -11,11 +11,13 @@ ghost use Rattle.regress_engine_sought.specs.StateViews.{marks_of};
 ghost use Rattle.regress_engine_sought.specs.Tasks.{Leads};
 ghost use Rattle.regress_engine_undo.specs.Held.{held, pushed, loop_written};
 ghost use Rattle.regress_engine_undo.specs.Sound.{IsHeld};
+ghost use Rattle.regress_engine_sought.specs.Submatches.{submatch_of, reads_forward};
 ghost use Rattle.regress_engine_undo.specs.Tasks.{state_at, task, GoesOn, GoesOnPast, GoesOnIf, StaysSound};
 
 use crate::memory::Memory;
 use crate::undo::{Frame, Spot, Undo};
 use regress_engine_code::LoopFields;
+use regress_engine_sought::Submatch;
 use regress_front_core::{CaptureGroupID, GroupData, LoopData};
 use std::alloc::AllocError;
 
@@ -278,17 +280,16 @@ impl Memory {
         self.go_on(repetition, begin, stuck, spot)
     }
 
-    /// Begins to try the contents of a lookaround that stands at the spot. It errs where memory is refused. It is apart so that
-    /// no step makes room for it.
+    /// Begins to try the contents of a lookaround or an atomic group that stands at the spot. It errs where memory is refused.
+    /// It is apart so that no step makes room for it.
     ///
     /// ```rust
-    /// memory.look(false, true, 0, 1, 9, &mut spot)?;
+    /// memory.begin_submatch(Submatch::Atomic, 0, 1, 9, &mut spot)?;
     /// ```
     #[inline(never)]
-    pub fn look(
+    pub fn begin_submatch(
         &mut self,
-        negated: bool,
-        backward: bool,
+        kind: Submatch,
         first: CaptureGroupID,
         last: CaptureGroupID,
         continuation: usize,
@@ -296,8 +297,7 @@ impl Memory {
     ) -> Result<(), AllocError>
         requires { spot.old.at + 1 < 2 ^ 64 }
         ensures pushed { OnOk result (held self.new ≡ pushed (frame (record {
-          negated = negated;
-          backward = backward;
+          kind = submatch_of kind;
           first = first;
           last = last;
           continuation = continuation;
@@ -305,18 +305,17 @@ impl Memory {
           offset = spot.old.offset;
           outside = way spot.old.forward;
         })) (held self.old)) }
-        ensures spot { OnOk result (spot.new ≡ record spot.old { at = spot.old.at + 1; forward = not backward }) }
+        ensures spot { OnOk result (spot.new ≡ record spot.old { at = spot.old.at + 1; forward = reads_forward (submatch_of kind) spot.old.forward }) }
     {
-        self.push(Undo::Look(Frame {
-            negated,
-            backward,
+        self.push(Undo::Submatch(Frame {
+            kind,
             first,
             last,
             continuation,
             spot: *spot,
         }))?;
         spot.at += 1;
-        spot.forward = !backward;
+        spot.forward = kind.reads_forward(spot.forward);
         Ok(())
     }
 }

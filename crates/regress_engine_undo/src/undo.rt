@@ -1,4 +1,5 @@
 //! What an executor undoes, and where it goes on.
+use regress_engine_sought::Submatch;
 use regress_front_core::{CaptureGroupID, GroupData, LoopData};
 
 /// Where a program stands: at an instruction, at an offset of the text, reading forward or backward.
@@ -12,20 +13,18 @@ pub struct Spot {
     pub forward: bool,
 }
 
-/// A lookaround whose contents are tried.
+/// A lookaround or an atomic group whose contents are tried.
 #[derive(Debug, Clone, Copy)]
 pub struct Frame {
-    /// Whether it holds where its contents don't.
-    pub negated: bool,
-    /// Whether its contents are read backward.
-    pub backward: bool,
+    /// Which it is.
+    pub kind: Submatch,
     /// The first group inside.
     pub first: CaptureGroupID,
     /// The first group behind.
     pub last: CaptureGroupID,
     /// Where it goes on.
     pub continuation: usize,
-    /// Where the lookaround stands, and at which offset and in which direction it was come to.
+    /// Where it stands, and at which offset and in which direction it was come to.
     pub spot: Spot,
 }
 
@@ -80,6 +79,6 @@ pub enum Undo {
         /// How many iterations may follow.
         left: usize,
     },
-    /// There is no other way through the contents of a lookaround.
-    Look(Frame),
+    /// There is no other way through the contents of a lookaround or an atomic group.
+    Submatch(Frame),
 }

@@ -1,5 +1,5 @@
 //! The evaluator: what a tree matches, on lists of states, as the definitions say it.
-ghost use Rattle.std.specs.Prelude.{◌≡◌, ◌≤◌, if◌then◌else◌, length, map, option_map, chars, IfOk, IfSome};
+ghost use Rattle.std.specs.Prelude.{◌≡◌, ◌≤◌, if◌then◌else◌, length, map, option_map, chars, take, IfOk, IfSome};
 ghost use Rattle.std.specs.Box.{boxed_slice_items};
 ghost use Rattle.std.specs.List.{flat_map};
 ghost use Rattle.regress_meaning.specs.Laws.{IsItemInside};
@@ -82,6 +82,9 @@ impl<'s> Evaluator<'s> {
                 contents,
                 ..
             } => self.outcomes_of_look(*negate, *backwards, contents, state),
+            Node::AtomicGroup { contents, .. } => {
+                self.outcomes_of_atomic(contents, direction, state)
+            }
             Node::Loop {
                 loopee,
                 quant,
@@ -246,6 +249,22 @@ impl<'s> Evaluator<'s> {
             None if negate => state.alone_at(state.place),
             _ => Ok(Vec::new(self.alloc)),
         }
+    }
+
+    /// The first of the states to which the contents of an atomic group lead, or nothing.
+    #[cycle(evaluator)]
+    fn outcomes_of_atomic(
+        &self,
+        contents: &Node,
+        direction: Direction,
+        state: &State,
+    ) -> Result<Vec<State>, AllocError>
+        ensures { IfOk result (λ states. map state_of states.items
+            ≡ take 1 (node_outcomes (context_of self.now) (tree contents.now) (direction_of direction) (state_of state.now))) }
+    {
+        let mut states = self.outcomes(contents, direction, state)?;
+        states.truncate(1);
+        Ok(states)
     }
 
     /// What iterations of a tree lead to, the groups inside cleared before each ("RepeatMatcher").

@@ -22,8 +22,8 @@ pub use regress_front_bytes::{
     equal_range_by, is_utf8_continuation, to_char_sat, utf8_first_byte, utf8_w2, utf8_w3, utf8_w4,
 };
 pub use regress_front_core::{
-    CaptureGroupID, CaptureGroupName, Error, Flags, GroupData, IP, LoopData, LoopID,
-    MAX_CAPTURE_GROUPS, MAX_LOOPS, MAX_NESTING_DEPTH, Quantifier, flags_are_read_back,
+    CaptureGroupID, CaptureGroupName, Error, FlagError, Flags, GroupData, IP, LoopData, LoopID,
+    MAX_CAPTURE_GROUPS, MAX_LOOPS, MAX_NESTING_DEPTH, Quantifier, ScriptFlags, flags_are_read_back,
     limits_are_those_of_the_definitions,
 };
 pub use regress_front_nodes::{

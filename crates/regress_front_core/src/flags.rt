@@ -1,11 +1,13 @@
 //! The flags of a pattern.
-ghost use Rattle.std.specs.Prelude.{◌≡◌, false, chars, Some};
+ghost use Rattle.std.specs.Prelude.{◌≡◌, false, chars, Some, IfOk};
 ghost use Rattle.std.specs.Iterator.{IsFinite};
 ghost use Rattle.std.specs.Iterator.Runs.{WholeRun};
+ghost use Rattle.std.specs.Result.{result_err};
 ghost use Rattle.regress_front_core.specs.declared.flags.Flags.{Flags};
 ghost use Rattle.regress_meaning.specs.Flags.{is_unicode};
-ghost use Rattle.regress_front_core.specs.FlagWords.{options, flags_of, letters_of, letter_if};
+ghost use Rattle.regress_front_core.specs.FlagWords.{options, flags_of, letters_of, letter_if, script_flags_of, word_error};
 
+use crate::script_flags::{FlagError, ScriptFlags};
 use std::fmt;
 
 /// What holds for a whole pattern ("RegExp Records"). All flags are off by default.
@@ -46,6 +48,30 @@ impl Flags {
             }
         }
         flags
+    }
+
+    /// What a word of flags sets, or why it is none ("RegExpInitialize"). Such a word is made of the letters `d`, `g`, `i`, `m`,
+    /// `s`, `u`, `v` and `y`, none of them twice, and `u` and `v` not both. The first letter from the left that is no such
+    /// letter, or that stands a second time, is told; where there is none, that `u` and `v` are both there.
+    ///
+    /// The flags of a word that is accepted are those that `Flags::from` reads from it.
+    ///
+    /// ```rust
+    /// let script = Flags::parse("gi")?; // `script.global` and `script.flags.icase` are set, and nothing else
+    /// let refused = Flags::parse("gig"); // `Err(FlagError::Repeated { letter: 'g' })`
+    /// ```
+    pub fn parse(word: &str) -> Result<ScriptFlags, FlagError>
+        ensures accepted { IfOk result (λ script. script ≡ script_flags_of (chars word.now)) }
+        ensures refused { result_err result ≡ word_error (chars word.now) }
+    {
+        let mut script = ScriptFlags::default();
+        for letter in word.chars() {
+            script.set(letter)?;
+        }
+        if script.flags.unicode && script.flags.unicode_sets {
+            return Err(FlagError::BothUnicodeModes);
+        }
+        Ok(script)
     }
 
     /// Whether they set Unicode mode: `u` or `v` ("RegExp Records"). `Flags::from("iv").is_unicode()` is true.

@@ -5,6 +5,7 @@ mod error;
 mod flags;
 mod limits;
 mod quantifier;
+mod script_flags;
 mod state;
 
 pub use error::Error;
@@ -14,4 +15,5 @@ pub use limits::{
     MAX_LOOPS, MAX_NESTING_DEPTH, limits_are_those_of_the_definitions,
 };
 pub use quantifier::Quantifier;
+pub use script_flags::{FlagError, ScriptFlags};
 pub use state::{GroupData, LoopData};

@@ -11,8 +11,8 @@ use Rattle.regress_front_nodes.specs.Trees.{tree, cat_of, empty, cat}
 use Rattle.regress_front_nodes.specs.Forms.{nesting, shell}
 use Rattle.regress_front_nodes.specs.Walks.{below, backward_below}
 use Rattle.regress_front_nodes.specs.Changes.{ChangingWalks, Changes, no_node, skipped, first_above, first_below}
-use Rattle.regress_front_nodes.proofs.TreeLaws.{tree-Cat, tree-Alt, tree-CaptureGroup, tree-LookaroundAssertion, tree-Loop, tree-Loop1CharBody}
-use Rattle.regress_front_nodes.proofs.WalkLemmas.{below-Cat, backward_below-Cat, below-Alt, backward_below-Alt, below-CaptureGroup, backward_below-CaptureGroup, below-LookaroundAssertion, backward_below-LookaroundAssertion, below-Loop, backward_below-Loop, below-Loop1CharBody, backward_below-Loop1CharBody}
+use Rattle.regress_front_nodes.proofs.TreeLaws.{tree-Cat, tree-Alt, tree-CaptureGroup, tree-LookaroundAssertion, tree-AtomicGroup, tree-Loop, tree-Loop1CharBody}
+use Rattle.regress_front_nodes.proofs.WalkLemmas.{below-Cat, backward_below-Cat, below-Alt, backward_below-Alt, below-CaptureGroup, backward_below-CaptureGroup, below-LookaroundAssertion, backward_below-LookaroundAssertion, below-AtomicGroup, backward_below-AtomicGroup, below-Loop, backward_below-Loop, below-Loop1CharBody, backward_below-Loop1CharBody}
 
 -- ---- a part nests less deep than the whole
 
@@ -63,6 +63,9 @@ pub shell-LookaroundAssertion : (negate backwards : Bool) (start end : ℕ) (a a
     → shell (tree (N.LookaroundAssertion negate backwards start end a')) ≡ shell (tree (N.LookaroundAssertion negate backwards start end a))
 shell-LookaroundAssertion negate backwards start end a a' =
     ap shell (tree-LookaroundAssertion negate backwards start end a') ∙ sym (ap shell (tree-LookaroundAssertion negate backwards start end a))
+
+pub shell-AtomicGroup : (start end : ℕ) (a a' : Box Node Global) → shell (tree (N.AtomicGroup start end a')) ≡ shell (tree (N.AtomicGroup start end a))
+shell-AtomicGroup start end a a' = ap shell (tree-AtomicGroup start end a') ∙ sym (ap shell (tree-AtomicGroup start end a))
 
 pub shell-Loop : (a a' : Box Node Global) (quant : Quantifier) (groups : Range ℕ) → shell (tree (N.Loop a' quant groups)) ≡ shell (tree (N.Loop a quant groups))
 shell-Loop a a' quant groups = ap shell (tree-Loop a' quant groups) ∙ sym (ap shell (tree-Loop a quant groups))
@@ -125,6 +128,11 @@ module _ {F : Type 0} (g : Mut F (MutBor Node × (MutBor Walk × Unit {0})) (Uni
     changes-LookaroundAssertion negate backwards start end a a' =
         below-both _ _ _ _ _ (below-LookaroundAssertion negate backwards start end a)
         (below-LookaroundAssertion negate backwards start end a') (backward_below-LookaroundAssertion negate backwards start end a behind)
+
+    pub changes-AtomicGroup : (start end : ℕ) (a a' : Box Node Global) → Goes behind (a.value ∷ []) (a'.value ∷ [])
+        → GoesBelow (N.AtomicGroup start end a) (N.AtomicGroup start end a')
+    changes-AtomicGroup start end a a' =
+        below-both _ _ _ _ _ (below-AtomicGroup start end a) (below-AtomicGroup start end a') (backward_below-AtomicGroup start end a behind)
 
     pub changes-Loop : (a a' : Box Node Global) (quant : Quantifier) (groups : Range ℕ) → Goes behind (a.value ∷ []) (a'.value ∷ [])
         → GoesBelow (N.Loop a quant groups) (N.Loop a' quant groups)

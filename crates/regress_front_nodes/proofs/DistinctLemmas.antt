@@ -1,5 +1,5 @@
 -- Lists without later repeats: what is made of lists depends, but for later repeats, on their distinct elements alone.
-use Rattle.std.proofs.Common.{◌≡◌, ℕ, zero, suc, Bool, true, false, ◌&&◌, ◌||◌, ◌==◌, not, List, [], ◌∷◌, ◌++◌, Option, Some, None, if◌then◌else◌, filter, map, All, subst, refl, sym, ap, ◌∙◌, arith, eqb-true}
+use Rattle.std.proofs.Common.{◌≡◌, ℕ, zero, suc, Bool, true, false, ◌&&◌, ◌||◌, ◌==◌, not, List, [], ◌∷◌, ◌++◌, Option, Some, None, if◌then◌else◌, filter, map, take, All, subst, refl, sym, ap, ◌∙◌, arith, eqb-true}
 use Rattle.std.specs.List.{flat_map, list_any}
 use lib.Pointwise.{pointwise}
 use Rattle.std.proofs.lemmas.Bool.Decides.{nat_tests}
@@ -8,6 +8,8 @@ use Rattle.std.proofs.lemmas.List.Elements.{filter-append, All-head, All-tail, A
 use Rattle.std.proofs.lemmas.List.Concat.{flat_map_single}
 use Rattle.regress_meaning.specs.Meaning.{State, Outcomes, Context, iterations, looked, moved}
 use Rattle.regress_meaning.specs.Laws.{IsInside}
+use Rattle.regress_front_nodes.specs.Trees.{Submatch, lookaround, atomic}
+use Rattle.regress_front_nodes.specs.TreeMeaning.{submatched}
 use Rattle.regress_front_nodes.specs.Alike.{same_range, same_state, distinct, AreAlike, GoAlike, StayInside, MakeAlike}
 
 eqb-self : (n : ℕ) → (n == n) ≡ true
@@ -237,7 +239,7 @@ filter-alike : (p : State → Bool) (ss ts : List State) → AreAlike ss ts → 
 filter-alike p ss ts k = sym (filter-distinct p ss) ∙ ap (filter p) k ∙ filter-distinct p ts
 
 module _ (w : Context) where
-  pub looked-alike : (negated : Bool) (s : State) (ss ts : List State) → AreAlike ss ts → looked negated s ss ≡ looked negated s ts
+  looked-alike : (negated : Bool) (s : State) (ss ts : List State) → AreAlike ss ts → looked negated s ss ≡ looked negated s ts
   unfolding distinct
   looked-alike negated s [] [] k = refl
   looked-alike negated s [] (t ∷ ts) k = absurd (cc)
@@ -247,6 +249,17 @@ module _ (w : Context) where
       by_sign : (b : Bool) → r ≡ t → looked b s (r ∷ rs) ≡ looked b s (t ∷ ts)
       by_sign true e = refl
       by_sign false e = rw e refl
+
+  first-alike : (ss ts : List State) → AreAlike ss ts → take 1 ss ≡ take 1 ts
+  unfolding distinct
+  first-alike [] [] k = refl
+  first-alike [] (t ∷ ts) k = absurd (cc)
+  first-alike (r ∷ rs) [] k = absurd (cc)
+  first-alike (r ∷ rs) (t ∷ ts) k = let same : r ≡ t = cc in ap (λ s. s ∷ []) same
+
+  pub submatched-alike : (kind : Submatch) (s : State) (ss ts : List State) → AreAlike ss ts → submatched kind s ss ≡ submatched kind s ts
+  submatched-alike (lookaround negated backward) s ss ts k = looked-alike negated s ss ts k
+  submatched-alike atomic s ss ts k = first-alike ss ts k
 
   pub iterated-alike : (f g : Outcomes) (greedy : Bool) (most least : ℕ) → GoAlike w f g → StayInside w g
       → GoAlike w (iterations f greedy most least) (iterations g greedy most least)
@@ -268,6 +281,6 @@ module _ (w : Context) where
     joined = joined-alike;
     followed = followed-alike (IsInside w.text);
     changed = changed-alike;
-    looked = looked-alike;
+    submatched = submatched-alike;
     iterated = iterated-alike;
   }

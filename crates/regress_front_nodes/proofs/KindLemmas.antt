@@ -46,6 +46,7 @@ other_than_empty = by_kind (λ n. (n ≡ N.Empty → ⊥) → is_empty (tree n) 
     kinds (Node-F.Bracket contents) h0 = rw (fold-roll-Node Tree node_tree (Node-F.Bracket contents)) refl
     kinds (Node-F.StringSet alternatives icase) h0 = rw (fold-roll-Node Tree node_tree (Node-F.StringSet alternatives icase)) refl
     kinds (Node-F.LookaroundAssertion negate backwards start end contents) h0 = rw (fold-roll-Node Tree node_tree (Node-F.LookaroundAssertion negate backwards start end contents)) refl
+    kinds (Node-F.AtomicGroup start end contents) h0 = rw (fold-roll-Node Tree node_tree (Node-F.AtomicGroup start end contents)) refl
     kinds (Node-F.Loop loopee quant groups) h0 = rw (fold-roll-Node Tree node_tree (Node-F.Loop loopee quant groups)) refl
     kinds (Node-F.Loop1CharBody loopee quant) h0 = rw (fold-roll-Node Tree node_tree (Node-F.Loop1CharBody loopee quant)) refl
 
@@ -71,6 +72,7 @@ other_than_set = by_kind (λ n. ((bs : Vec ℕ Global) → n ≡ N.ByteSet bs �
     kinds (Node-F.Bracket contents) h0 h1 h2 = absurd (h2 contents (N.rolls-Bracket contents))
     kinds (Node-F.StringSet alternatives icase) h0 h1 h2 = rw (fold-roll-Node Tree node_tree (Node-F.StringSet alternatives icase)) refl
     kinds (Node-F.LookaroundAssertion negate backwards start end contents) h0 h1 h2 = rw (fold-roll-Node Tree node_tree (Node-F.LookaroundAssertion negate backwards start end contents)) refl
+    kinds (Node-F.AtomicGroup start end contents) h0 h1 h2 = rw (fold-roll-Node Tree node_tree (Node-F.AtomicGroup start end contents)) refl
     kinds (Node-F.Loop loopee quant groups) h0 h1 h2 = rw (fold-roll-Node Tree node_tree (Node-F.Loop loopee quant groups)) refl
     kinds (Node-F.Loop1CharBody loopee quant) h0 h1 h2 = rw (fold-roll-Node Tree node_tree (Node-F.Loop1CharBody loopee quant)) refl
 
@@ -96,33 +98,35 @@ other_than_single = by_kind (λ n. ((c : ℕ) → n ≡ N.Char c → ⊥) → ((
     kinds (Node-F.Bracket contents) h0 h1 h2 h3 h4 h5 h6 = absurd (h6 contents (N.rolls-Bracket contents))
     kinds (Node-F.StringSet alternatives icase) h0 h1 h2 h3 h4 h5 h6 = rw (fold-roll-Node Tree node_tree (Node-F.StringSet alternatives icase)) refl
     kinds (Node-F.LookaroundAssertion negate backwards start end contents) h0 h1 h2 h3 h4 h5 h6 = rw (fold-roll-Node Tree node_tree (Node-F.LookaroundAssertion negate backwards start end contents)) refl
+    kinds (Node-F.AtomicGroup start end contents) h0 h1 h2 h3 h4 h5 h6 = rw (fold-roll-Node Tree node_tree (Node-F.AtomicGroup start end contents)) refl
     kinds (Node-F.Loop loopee quant groups) h0 h1 h2 h3 h4 h5 h6 = rw (fold-roll-Node Tree node_tree (Node-F.Loop loopee quant groups)) refl
     kinds (Node-F.Loop1CharBody loopee quant) h0 h1 h2 h3 h4 h5 h6 = rw (fold-roll-Node Tree node_tree (Node-F.Loop1CharBody loopee quant)) refl
 
 -- of no kind that has parts
-pub other_than_inner : (n : Node) → ((parts : Vec Node Global) → n ≡ N.Cat parts → ⊥) → ((a : Box Node Global) (b : Box Node Global) → n ≡ N.Alt a b → ⊥) → ((id : ℕ) (contents : Box Node Global) (name : Option (String Global)) → n ≡ N.CaptureGroup id contents name → ⊥) → ((negate : Bool) (backwards : Bool) (start : ℕ) (end : ℕ) (contents : Box Node Global) → n ≡ N.LookaroundAssertion negate backwards start end contents → ⊥) → ((loopee : Box Node Global) (quant : Quantifier) (groups : Range ℕ) → n ≡ N.Loop loopee quant groups → ⊥) → ((loopee : Box Node Global) (quant : Quantifier) → n ≡ N.Loop1CharBody loopee quant → ⊥) → is_leaf (tree n) ≡ true
-other_than_inner = by_kind (λ n. ((parts : Vec Node Global) → n ≡ N.Cat parts → ⊥) → ((a : Box Node Global) (b : Box Node Global) → n ≡ N.Alt a b → ⊥) → ((id : ℕ) (contents : Box Node Global) (name : Option (String Global)) → n ≡ N.CaptureGroup id contents name → ⊥) → ((negate : Bool) (backwards : Bool) (start : ℕ) (end : ℕ) (contents : Box Node Global) → n ≡ N.LookaroundAssertion negate backwards start end contents → ⊥) → ((loopee : Box Node Global) (quant : Quantifier) (groups : Range ℕ) → n ≡ N.Loop loopee quant groups → ⊥) → ((loopee : Box Node Global) (quant : Quantifier) → n ≡ N.Loop1CharBody loopee quant → ⊥) → is_leaf (tree n) ≡ true) kinds
+pub other_than_inner : (n : Node) → ((parts : Vec Node Global) → n ≡ N.Cat parts → ⊥) → ((a : Box Node Global) (b : Box Node Global) → n ≡ N.Alt a b → ⊥) → ((id : ℕ) (contents : Box Node Global) (name : Option (String Global)) → n ≡ N.CaptureGroup id contents name → ⊥) → ((negate : Bool) (backwards : Bool) (start : ℕ) (end : ℕ) (contents : Box Node Global) → n ≡ N.LookaroundAssertion negate backwards start end contents → ⊥) → ((start : ℕ) (end : ℕ) (contents : Box Node Global) → n ≡ N.AtomicGroup start end contents → ⊥) → ((loopee : Box Node Global) (quant : Quantifier) (groups : Range ℕ) → n ≡ N.Loop loopee quant groups → ⊥) → ((loopee : Box Node Global) (quant : Quantifier) → n ≡ N.Loop1CharBody loopee quant → ⊥) → is_leaf (tree n) ≡ true
+other_than_inner = by_kind (λ n. ((parts : Vec Node Global) → n ≡ N.Cat parts → ⊥) → ((a : Box Node Global) (b : Box Node Global) → n ≡ N.Alt a b → ⊥) → ((id : ℕ) (contents : Box Node Global) (name : Option (String Global)) → n ≡ N.CaptureGroup id contents name → ⊥) → ((negate : Bool) (backwards : Bool) (start : ℕ) (end : ℕ) (contents : Box Node Global) → n ≡ N.LookaroundAssertion negate backwards start end contents → ⊥) → ((start : ℕ) (end : ℕ) (contents : Box Node Global) → n ≡ N.AtomicGroup start end contents → ⊥) → ((loopee : Box Node Global) (quant : Quantifier) (groups : Range ℕ) → n ≡ N.Loop loopee quant groups → ⊥) → ((loopee : Box Node Global) (quant : Quantifier) → n ≡ N.Loop1CharBody loopee quant → ⊥) → is_leaf (tree n) ≡ true) kinds
   where
-    kinds : (m : Node-F Node) → let n = roll-Node m in ((parts : Vec Node Global) → n ≡ N.Cat parts → ⊥) → ((a : Box Node Global) (b : Box Node Global) → n ≡ N.Alt a b → ⊥) → ((id : ℕ) (contents : Box Node Global) (name : Option (String Global)) → n ≡ N.CaptureGroup id contents name → ⊥) → ((negate : Bool) (backwards : Bool) (start : ℕ) (end : ℕ) (contents : Box Node Global) → n ≡ N.LookaroundAssertion negate backwards start end contents → ⊥) → ((loopee : Box Node Global) (quant : Quantifier) (groups : Range ℕ) → n ≡ N.Loop loopee quant groups → ⊥) → ((loopee : Box Node Global) (quant : Quantifier) → n ≡ N.Loop1CharBody loopee quant → ⊥) → is_leaf (tree n) ≡ true
-    kinds Node-F.Empty h0 h1 h2 h3 h4 h5 = rw (fold-roll-Node Tree node_tree Node-F.Empty) refl
-    kinds Node-F.Goal h0 h1 h2 h3 h4 h5 = rw (fold-roll-Node Tree node_tree Node-F.Goal) refl
-    kinds (Node-F.Char c) h0 h1 h2 h3 h4 h5 = rw (fold-roll-Node Tree node_tree (Node-F.Char c)) refl
-    kinds (Node-F.ByteSequence bs) h0 h1 h2 h3 h4 h5 = rw (fold-roll-Node Tree node_tree (Node-F.ByteSequence bs)) refl
-    kinds (Node-F.ByteSet bs) h0 h1 h2 h3 h4 h5 = rw (fold-roll-Node Tree node_tree (Node-F.ByteSet bs)) refl
-    kinds (Node-F.CharSet cs) h0 h1 h2 h3 h4 h5 = rw (fold-roll-Node Tree node_tree (Node-F.CharSet cs)) refl
-    kinds (Node-F.Cat parts) h0 h1 h2 h3 h4 h5 = absurd (h0 parts (N.rolls-Cat parts))
-    kinds (Node-F.Alt a b) h0 h1 h2 h3 h4 h5 = absurd (h1 a b (N.rolls-Alt a b))
-    kinds Node-F.MatchAny h0 h1 h2 h3 h4 h5 = rw (fold-roll-Node Tree node_tree Node-F.MatchAny) refl
-    kinds Node-F.MatchAnyExceptLineTerminator h0 h1 h2 h3 h4 h5 = rw (fold-roll-Node Tree node_tree Node-F.MatchAnyExceptLineTerminator) refl
-    kinds (Node-F.Anchor t multiline) h0 h1 h2 h3 h4 h5 = rw (fold-roll-Node Tree node_tree (Node-F.Anchor t multiline)) (is_leaf-anchor_of t multiline)
-    kinds (Node-F.WordBoundary invert folded) h0 h1 h2 h3 h4 h5 = rw (fold-roll-Node Tree node_tree (Node-F.WordBoundary invert folded)) refl
-    kinds (Node-F.CaptureGroup id contents name) h0 h1 h2 h3 h4 h5 = absurd (h2 id contents name (N.rolls-CaptureGroup id contents name))
-    kinds (Node-F.BackRef group icase) h0 h1 h2 h3 h4 h5 = rw (fold-roll-Node Tree node_tree (Node-F.BackRef group icase)) refl
-    kinds (Node-F.Bracket contents) h0 h1 h2 h3 h4 h5 = rw (fold-roll-Node Tree node_tree (Node-F.Bracket contents)) refl
-    kinds (Node-F.StringSet alternatives icase) h0 h1 h2 h3 h4 h5 = rw (fold-roll-Node Tree node_tree (Node-F.StringSet alternatives icase)) refl
-    kinds (Node-F.LookaroundAssertion negate backwards start end contents) h0 h1 h2 h3 h4 h5 = absurd (h3 negate backwards start end contents (N.rolls-LookaroundAssertion negate backwards start end contents))
-    kinds (Node-F.Loop loopee quant groups) h0 h1 h2 h3 h4 h5 = absurd (h4 loopee quant groups (N.rolls-Loop loopee quant groups))
-    kinds (Node-F.Loop1CharBody loopee quant) h0 h1 h2 h3 h4 h5 = absurd (h5 loopee quant (N.rolls-Loop1CharBody loopee quant))
+    kinds : (m : Node-F Node) → let n = roll-Node m in ((parts : Vec Node Global) → n ≡ N.Cat parts → ⊥) → ((a : Box Node Global) (b : Box Node Global) → n ≡ N.Alt a b → ⊥) → ((id : ℕ) (contents : Box Node Global) (name : Option (String Global)) → n ≡ N.CaptureGroup id contents name → ⊥) → ((negate : Bool) (backwards : Bool) (start : ℕ) (end : ℕ) (contents : Box Node Global) → n ≡ N.LookaroundAssertion negate backwards start end contents → ⊥) → ((start : ℕ) (end : ℕ) (contents : Box Node Global) → n ≡ N.AtomicGroup start end contents → ⊥) → ((loopee : Box Node Global) (quant : Quantifier) (groups : Range ℕ) → n ≡ N.Loop loopee quant groups → ⊥) → ((loopee : Box Node Global) (quant : Quantifier) → n ≡ N.Loop1CharBody loopee quant → ⊥) → is_leaf (tree n) ≡ true
+    kinds Node-F.Empty h0 h1 h2 h3 h4 h5 h6 = rw (fold-roll-Node Tree node_tree Node-F.Empty) refl
+    kinds Node-F.Goal h0 h1 h2 h3 h4 h5 h6 = rw (fold-roll-Node Tree node_tree Node-F.Goal) refl
+    kinds (Node-F.Char c) h0 h1 h2 h3 h4 h5 h6 = rw (fold-roll-Node Tree node_tree (Node-F.Char c)) refl
+    kinds (Node-F.ByteSequence bs) h0 h1 h2 h3 h4 h5 h6 = rw (fold-roll-Node Tree node_tree (Node-F.ByteSequence bs)) refl
+    kinds (Node-F.ByteSet bs) h0 h1 h2 h3 h4 h5 h6 = rw (fold-roll-Node Tree node_tree (Node-F.ByteSet bs)) refl
+    kinds (Node-F.CharSet cs) h0 h1 h2 h3 h4 h5 h6 = rw (fold-roll-Node Tree node_tree (Node-F.CharSet cs)) refl
+    kinds (Node-F.Cat parts) h0 h1 h2 h3 h4 h5 h6 = absurd (h0 parts (N.rolls-Cat parts))
+    kinds (Node-F.Alt a b) h0 h1 h2 h3 h4 h5 h6 = absurd (h1 a b (N.rolls-Alt a b))
+    kinds Node-F.MatchAny h0 h1 h2 h3 h4 h5 h6 = rw (fold-roll-Node Tree node_tree Node-F.MatchAny) refl
+    kinds Node-F.MatchAnyExceptLineTerminator h0 h1 h2 h3 h4 h5 h6 = rw (fold-roll-Node Tree node_tree Node-F.MatchAnyExceptLineTerminator) refl
+    kinds (Node-F.Anchor t multiline) h0 h1 h2 h3 h4 h5 h6 = rw (fold-roll-Node Tree node_tree (Node-F.Anchor t multiline)) (is_leaf-anchor_of t multiline)
+    kinds (Node-F.WordBoundary invert folded) h0 h1 h2 h3 h4 h5 h6 = rw (fold-roll-Node Tree node_tree (Node-F.WordBoundary invert folded)) refl
+    kinds (Node-F.CaptureGroup id contents name) h0 h1 h2 h3 h4 h5 h6 = absurd (h2 id contents name (N.rolls-CaptureGroup id contents name))
+    kinds (Node-F.BackRef group icase) h0 h1 h2 h3 h4 h5 h6 = rw (fold-roll-Node Tree node_tree (Node-F.BackRef group icase)) refl
+    kinds (Node-F.Bracket contents) h0 h1 h2 h3 h4 h5 h6 = rw (fold-roll-Node Tree node_tree (Node-F.Bracket contents)) refl
+    kinds (Node-F.StringSet alternatives icase) h0 h1 h2 h3 h4 h5 h6 = rw (fold-roll-Node Tree node_tree (Node-F.StringSet alternatives icase)) refl
+    kinds (Node-F.LookaroundAssertion negate backwards start end contents) h0 h1 h2 h3 h4 h5 h6 = absurd (h3 negate backwards start end contents (N.rolls-LookaroundAssertion negate backwards start end contents))
+    kinds (Node-F.AtomicGroup start end contents) h0 h1 h2 h3 h4 h5 h6 = absurd (h4 start end contents (N.rolls-AtomicGroup start end contents))
+    kinds (Node-F.Loop loopee quant groups) h0 h1 h2 h3 h4 h5 h6 = absurd (h5 loopee quant groups (N.rolls-Loop loopee quant groups))
+    kinds (Node-F.Loop1CharBody loopee quant) h0 h1 h2 h3 h4 h5 h6 = absurd (h6 loopee quant (N.rolls-Loop1CharBody loopee quant))
 
 -- of no kind that has none
 pub other_than_leaf : (n : Node) → (n ≡ N.Empty → ⊥) → (n ≡ N.Goal → ⊥) → ((c : ℕ) → n ≡ N.Char c → ⊥) → ((bs : Vec ℕ Global) → n ≡ N.ByteSequence bs → ⊥) → ((bs : Vec ℕ Global) → n ≡ N.ByteSet bs → ⊥) → ((cs : Vec ℕ Global) → n ≡ N.CharSet cs → ⊥) → (n ≡ N.MatchAny → ⊥) → (n ≡ N.MatchAnyExceptLineTerminator → ⊥) → ((t : AnchorType) (multiline : Bool) → n ≡ N.Anchor t multiline → ⊥) → ((invert : Bool) (folded : Bool) → n ≡ N.WordBoundary invert folded → ⊥) → ((group : ℕ) (icase : Bool) → n ≡ N.BackRef group icase → ⊥) → ((contents : BracketContents) → n ≡ N.Bracket contents → ⊥) → ((alternatives : Vec (BoxedSlice ℕ Global) Global) (icase : Bool) → n ≡ N.StringSet alternatives icase → ⊥) → is_leaf (tree n) ≡ false
@@ -146,30 +150,32 @@ other_than_leaf = by_kind (λ n. (n ≡ N.Empty → ⊥) → (n ≡ N.Goal → �
     kinds (Node-F.Bracket contents) h0 h1 h2 h3 h4 h5 h6 h7 h8 h9 h10 h11 h12 = absurd (h11 contents (N.rolls-Bracket contents))
     kinds (Node-F.StringSet alternatives icase) h0 h1 h2 h3 h4 h5 h6 h7 h8 h9 h10 h11 h12 = absurd (h12 alternatives icase (N.rolls-StringSet alternatives icase))
     kinds (Node-F.LookaroundAssertion negate backwards start end contents) h0 h1 h2 h3 h4 h5 h6 h7 h8 h9 h10 h11 h12 = rw (fold-roll-Node Tree node_tree (Node-F.LookaroundAssertion negate backwards start end contents)) refl
+    kinds (Node-F.AtomicGroup start end contents) h0 h1 h2 h3 h4 h5 h6 h7 h8 h9 h10 h11 h12 = rw (fold-roll-Node Tree node_tree (Node-F.AtomicGroup start end contents)) refl
     kinds (Node-F.Loop loopee quant groups) h0 h1 h2 h3 h4 h5 h6 h7 h8 h9 h10 h11 h12 = rw (fold-roll-Node Tree node_tree (Node-F.Loop loopee quant groups)) refl
     kinds (Node-F.Loop1CharBody loopee quant) h0 h1 h2 h3 h4 h5 h6 h7 h8 h9 h10 h11 h12 = rw (fold-roll-Node Tree node_tree (Node-F.Loop1CharBody loopee quant)) refl
 
 -- a node with parts, of no kind that is copied: a capture group
-pub other_than_copied : (n : Node) → ((parts : Vec Node Global) → n ≡ N.Cat parts → ⊥) → ((a : Box Node Global) (b : Box Node Global) → n ≡ N.Alt a b → ⊥) → ((negate : Bool) (backwards : Bool) (start : ℕ) (end : ℕ) (contents : Box Node Global) → n ≡ N.LookaroundAssertion negate backwards start end contents → ⊥) → ((loopee : Box Node Global) (quant : Quantifier) (groups : Range ℕ) → n ≡ N.Loop loopee quant groups → ⊥) → ((loopee : Box Node Global) (quant : Quantifier) → n ≡ N.Loop1CharBody loopee quant → ⊥) → is_leaf (tree n) ≡ false → group_ids (tree n) ≡ [] → ⊥
-other_than_copied = by_kind (λ n. ((parts : Vec Node Global) → n ≡ N.Cat parts → ⊥) → ((a : Box Node Global) (b : Box Node Global) → n ≡ N.Alt a b → ⊥) → ((negate : Bool) (backwards : Bool) (start : ℕ) (end : ℕ) (contents : Box Node Global) → n ≡ N.LookaroundAssertion negate backwards start end contents → ⊥) → ((loopee : Box Node Global) (quant : Quantifier) (groups : Range ℕ) → n ≡ N.Loop loopee quant groups → ⊥) → ((loopee : Box Node Global) (quant : Quantifier) → n ≡ N.Loop1CharBody loopee quant → ⊥) → is_leaf (tree n) ≡ false → group_ids (tree n) ≡ [] → ⊥) kinds
+pub other_than_copied : (n : Node) → ((parts : Vec Node Global) → n ≡ N.Cat parts → ⊥) → ((a : Box Node Global) (b : Box Node Global) → n ≡ N.Alt a b → ⊥) → ((negate : Bool) (backwards : Bool) (start : ℕ) (end : ℕ) (contents : Box Node Global) → n ≡ N.LookaroundAssertion negate backwards start end contents → ⊥) → ((start : ℕ) (end : ℕ) (contents : Box Node Global) → n ≡ N.AtomicGroup start end contents → ⊥) → ((loopee : Box Node Global) (quant : Quantifier) (groups : Range ℕ) → n ≡ N.Loop loopee quant groups → ⊥) → ((loopee : Box Node Global) (quant : Quantifier) → n ≡ N.Loop1CharBody loopee quant → ⊥) → is_leaf (tree n) ≡ false → group_ids (tree n) ≡ [] → ⊥
+other_than_copied = by_kind (λ n. ((parts : Vec Node Global) → n ≡ N.Cat parts → ⊥) → ((a : Box Node Global) (b : Box Node Global) → n ≡ N.Alt a b → ⊥) → ((negate : Bool) (backwards : Bool) (start : ℕ) (end : ℕ) (contents : Box Node Global) → n ≡ N.LookaroundAssertion negate backwards start end contents → ⊥) → ((start : ℕ) (end : ℕ) (contents : Box Node Global) → n ≡ N.AtomicGroup start end contents → ⊥) → ((loopee : Box Node Global) (quant : Quantifier) (groups : Range ℕ) → n ≡ N.Loop loopee quant groups → ⊥) → ((loopee : Box Node Global) (quant : Quantifier) → n ≡ N.Loop1CharBody loopee quant → ⊥) → is_leaf (tree n) ≡ false → group_ids (tree n) ≡ [] → ⊥) kinds
   where
-    kinds : (m : Node-F Node) → let n = roll-Node m in ((parts : Vec Node Global) → n ≡ N.Cat parts → ⊥) → ((a : Box Node Global) (b : Box Node Global) → n ≡ N.Alt a b → ⊥) → ((negate : Bool) (backwards : Bool) (start : ℕ) (end : ℕ) (contents : Box Node Global) → n ≡ N.LookaroundAssertion negate backwards start end contents → ⊥) → ((loopee : Box Node Global) (quant : Quantifier) (groups : Range ℕ) → n ≡ N.Loop loopee quant groups → ⊥) → ((loopee : Box Node Global) (quant : Quantifier) → n ≡ N.Loop1CharBody loopee quant → ⊥) → is_leaf (tree n) ≡ false → group_ids (tree n) ≡ [] → ⊥
-    kinds Node-F.Empty h0 h1 h2 h3 h4 leaf none = false≢true (sym (rw (fold-roll-Node Tree node_tree Node-F.Empty) at leaf))
-    kinds Node-F.Goal h0 h1 h2 h3 h4 leaf none = false≢true (sym (rw (fold-roll-Node Tree node_tree Node-F.Goal) at leaf))
-    kinds (Node-F.Char c) h0 h1 h2 h3 h4 leaf none = false≢true (sym (rw (fold-roll-Node Tree node_tree (Node-F.Char c)) at leaf))
-    kinds (Node-F.ByteSequence bs) h0 h1 h2 h3 h4 leaf none = false≢true (sym (rw (fold-roll-Node Tree node_tree (Node-F.ByteSequence bs)) at leaf))
-    kinds (Node-F.ByteSet bs) h0 h1 h2 h3 h4 leaf none = false≢true (sym (rw (fold-roll-Node Tree node_tree (Node-F.ByteSet bs)) at leaf))
-    kinds (Node-F.CharSet cs) h0 h1 h2 h3 h4 leaf none = false≢true (sym (rw (fold-roll-Node Tree node_tree (Node-F.CharSet cs)) at leaf))
-    kinds (Node-F.Cat parts) h0 h1 h2 h3 h4 leaf none = h0 parts (N.rolls-Cat parts)
-    kinds (Node-F.Alt a b) h0 h1 h2 h3 h4 leaf none = h1 a b (N.rolls-Alt a b)
-    kinds Node-F.MatchAny h0 h1 h2 h3 h4 leaf none = false≢true (sym (rw (fold-roll-Node Tree node_tree Node-F.MatchAny) at leaf))
-    kinds Node-F.MatchAnyExceptLineTerminator h0 h1 h2 h3 h4 leaf none = false≢true (sym (rw (fold-roll-Node Tree node_tree Node-F.MatchAnyExceptLineTerminator) at leaf))
-    kinds (Node-F.Anchor t multiline) h0 h1 h2 h3 h4 leaf none = false≢true (sym (rw (fold-roll-Node Tree node_tree (Node-F.Anchor t multiline)) at leaf) ∙ is_leaf-anchor_of t multiline)
-    kinds (Node-F.WordBoundary invert folded) h0 h1 h2 h3 h4 leaf none = false≢true (sym (rw (fold-roll-Node Tree node_tree (Node-F.WordBoundary invert folded)) at leaf))
-    kinds (Node-F.CaptureGroup id contents name) h0 h1 h2 h3 h4 leaf none = let e = ap length (rw (fold-roll-Node Tree node_tree (Node-F.CaptureGroup id contents name)) at none) in omega (arith, e)
-    kinds (Node-F.BackRef group icase) h0 h1 h2 h3 h4 leaf none = false≢true (sym (rw (fold-roll-Node Tree node_tree (Node-F.BackRef group icase)) at leaf))
-    kinds (Node-F.Bracket contents) h0 h1 h2 h3 h4 leaf none = false≢true (sym (rw (fold-roll-Node Tree node_tree (Node-F.Bracket contents)) at leaf))
-    kinds (Node-F.StringSet alternatives icase) h0 h1 h2 h3 h4 leaf none = false≢true (sym (rw (fold-roll-Node Tree node_tree (Node-F.StringSet alternatives icase)) at leaf))
-    kinds (Node-F.LookaroundAssertion negate backwards start end contents) h0 h1 h2 h3 h4 leaf none = h2 negate backwards start end contents (N.rolls-LookaroundAssertion negate backwards start end contents)
-    kinds (Node-F.Loop loopee quant groups) h0 h1 h2 h3 h4 leaf none = h3 loopee quant groups (N.rolls-Loop loopee quant groups)
-    kinds (Node-F.Loop1CharBody loopee quant) h0 h1 h2 h3 h4 leaf none = h4 loopee quant (N.rolls-Loop1CharBody loopee quant)
+    kinds : (m : Node-F Node) → let n = roll-Node m in ((parts : Vec Node Global) → n ≡ N.Cat parts → ⊥) → ((a : Box Node Global) (b : Box Node Global) → n ≡ N.Alt a b → ⊥) → ((negate : Bool) (backwards : Bool) (start : ℕ) (end : ℕ) (contents : Box Node Global) → n ≡ N.LookaroundAssertion negate backwards start end contents → ⊥) → ((start : ℕ) (end : ℕ) (contents : Box Node Global) → n ≡ N.AtomicGroup start end contents → ⊥) → ((loopee : Box Node Global) (quant : Quantifier) (groups : Range ℕ) → n ≡ N.Loop loopee quant groups → ⊥) → ((loopee : Box Node Global) (quant : Quantifier) → n ≡ N.Loop1CharBody loopee quant → ⊥) → is_leaf (tree n) ≡ false → group_ids (tree n) ≡ [] → ⊥
+    kinds Node-F.Empty h0 h1 h2 h3 h4 h5 leaf none = false≢true (sym (rw (fold-roll-Node Tree node_tree Node-F.Empty) at leaf))
+    kinds Node-F.Goal h0 h1 h2 h3 h4 h5 leaf none = false≢true (sym (rw (fold-roll-Node Tree node_tree Node-F.Goal) at leaf))
+    kinds (Node-F.Char c) h0 h1 h2 h3 h4 h5 leaf none = false≢true (sym (rw (fold-roll-Node Tree node_tree (Node-F.Char c)) at leaf))
+    kinds (Node-F.ByteSequence bs) h0 h1 h2 h3 h4 h5 leaf none = false≢true (sym (rw (fold-roll-Node Tree node_tree (Node-F.ByteSequence bs)) at leaf))
+    kinds (Node-F.ByteSet bs) h0 h1 h2 h3 h4 h5 leaf none = false≢true (sym (rw (fold-roll-Node Tree node_tree (Node-F.ByteSet bs)) at leaf))
+    kinds (Node-F.CharSet cs) h0 h1 h2 h3 h4 h5 leaf none = false≢true (sym (rw (fold-roll-Node Tree node_tree (Node-F.CharSet cs)) at leaf))
+    kinds (Node-F.Cat parts) h0 h1 h2 h3 h4 h5 leaf none = h0 parts (N.rolls-Cat parts)
+    kinds (Node-F.Alt a b) h0 h1 h2 h3 h4 h5 leaf none = h1 a b (N.rolls-Alt a b)
+    kinds Node-F.MatchAny h0 h1 h2 h3 h4 h5 leaf none = false≢true (sym (rw (fold-roll-Node Tree node_tree Node-F.MatchAny) at leaf))
+    kinds Node-F.MatchAnyExceptLineTerminator h0 h1 h2 h3 h4 h5 leaf none = false≢true (sym (rw (fold-roll-Node Tree node_tree Node-F.MatchAnyExceptLineTerminator) at leaf))
+    kinds (Node-F.Anchor t multiline) h0 h1 h2 h3 h4 h5 leaf none = false≢true (sym (rw (fold-roll-Node Tree node_tree (Node-F.Anchor t multiline)) at leaf) ∙ is_leaf-anchor_of t multiline)
+    kinds (Node-F.WordBoundary invert folded) h0 h1 h2 h3 h4 h5 leaf none = false≢true (sym (rw (fold-roll-Node Tree node_tree (Node-F.WordBoundary invert folded)) at leaf))
+    kinds (Node-F.CaptureGroup id contents name) h0 h1 h2 h3 h4 h5 leaf none = let e = ap length (rw (fold-roll-Node Tree node_tree (Node-F.CaptureGroup id contents name)) at none) in omega (arith, e)
+    kinds (Node-F.BackRef group icase) h0 h1 h2 h3 h4 h5 leaf none = false≢true (sym (rw (fold-roll-Node Tree node_tree (Node-F.BackRef group icase)) at leaf))
+    kinds (Node-F.Bracket contents) h0 h1 h2 h3 h4 h5 leaf none = false≢true (sym (rw (fold-roll-Node Tree node_tree (Node-F.Bracket contents)) at leaf))
+    kinds (Node-F.StringSet alternatives icase) h0 h1 h2 h3 h4 h5 leaf none = false≢true (sym (rw (fold-roll-Node Tree node_tree (Node-F.StringSet alternatives icase)) at leaf))
+    kinds (Node-F.LookaroundAssertion negate backwards start end contents) h0 h1 h2 h3 h4 h5 leaf none = h2 negate backwards start end contents (N.rolls-LookaroundAssertion negate backwards start end contents)
+    kinds (Node-F.AtomicGroup start end contents) h0 h1 h2 h3 h4 h5 leaf none = h3 start end contents (N.rolls-AtomicGroup start end contents)
+    kinds (Node-F.Loop loopee quant groups) h0 h1 h2 h3 h4 h5 leaf none = h4 loopee quant groups (N.rolls-Loop loopee quant groups)
+    kinds (Node-F.Loop1CharBody loopee quant) h0 h1 h2 h3 h4 h5 leaf none = h5 loopee quant (N.rolls-Loop1CharBody loopee quant)

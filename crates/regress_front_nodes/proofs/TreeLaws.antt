@@ -11,7 +11,7 @@ use Rattle.regress_front_nodes.specs.declared.node.AnchorType.{AnchorType}
 use Rattle.regress_front_nodes.specs.declared.node.BracketContents.{BracketContents}
 use Rattle.regress_front_nodes.specs.declared.node.Node.{Node, Node-F, fold-roll-Node}
 use Rattle.regress_front_nodes.specs.declared.node.Node.TheVariants as N
-use Rattle.regress_front_nodes.specs.Trees.{Tree, tree, node_tree, cat_of, anchor_of, empty, goal, char, bytes, byte_set, char_set, alt, any, any_in_line, boundary, capture, back, bracket, string_set, look, loop, single_loop}
+use Rattle.regress_front_nodes.specs.Trees.{Tree, tree, node_tree, cat_of, anchor_of, empty, goal, char, bytes, byte_set, char_set, alt, any, any_in_line, boundary, capture, back, bracket, string_set, submatch, loop, single_loop, lookaround, atomic}
 
 pub tree-Empty : tree N.Empty ≡ empty
 tree-Empty = ap tree (sym N.rolls-Empty) ∙ fold-roll-Node Tree node_tree Node-F.Empty
@@ -64,10 +64,13 @@ pub tree-StringSet : (alternatives : Vec (BoxedSlice ℕ Global) Global) (icase 
 tree-StringSet alternatives icase = ap tree (sym (N.rolls-StringSet alternatives icase)) ∙ fold-roll-Node Tree node_tree (Node-F.StringSet alternatives icase)
 
 pub tree-LookaroundAssertion : (negate backwards : Bool) (start end : ℕ) (contents : Box Node Global)
-    → tree (N.LookaroundAssertion negate backwards start end contents) ≡ look negate backwards start end (tree contents.value)
+    → tree (N.LookaroundAssertion negate backwards start end contents) ≡ submatch (lookaround negate backwards) start end (tree contents.value)
 tree-LookaroundAssertion negate backwards start end contents =
     ap tree (sym (N.rolls-LookaroundAssertion negate backwards start end contents))
     ∙ fold-roll-Node Tree node_tree (Node-F.LookaroundAssertion negate backwards start end contents)
+
+pub tree-AtomicGroup : (start end : ℕ) (contents : Box Node Global) → tree (N.AtomicGroup start end contents) ≡ submatch atomic start end (tree contents.value)
+tree-AtomicGroup start end contents = ap tree (sym (N.rolls-AtomicGroup start end contents)) ∙ fold-roll-Node Tree node_tree (Node-F.AtomicGroup start end contents)
 
 pub tree-Loop : (loopee : Box Node Global) (quant : Quantifier) (groups : Range ℕ)
     → tree (N.Loop loopee quant groups) ≡ loop (tree loopee.value) groups.start groups.end quant.min (most quant) quant.greedy

@@ -35,6 +35,12 @@ below-LookaroundAssertion negate backwards start end contents = ap below (sym (N
 pub backward_below-LookaroundAssertion : (negate : Bool) (backwards : Bool) (start : ℕ) (end : ℕ) (contents : Box Node Global) (behind : Bool) → backward_below (N.LookaroundAssertion negate backwards start end contents) behind ≡ backwards
 backward_below-LookaroundAssertion negate backwards start end contents behind = ap (λ n. backward_below n behind) (sym (N.rolls-LookaroundAssertion negate backwards start end contents)) ∙ ap (λ m. backward_below_of m behind) (out-roll-Node (Node-F.LookaroundAssertion negate backwards start end contents))
 
+pub below-AtomicGroup : (start : ℕ) (end : ℕ) (contents : Box Node Global) → below (N.AtomicGroup start end contents) ≡ contents.value ∷ []
+below-AtomicGroup start end contents = ap below (sym (N.rolls-AtomicGroup start end contents)) ∙ ap below_of (out-roll-Node (Node-F.AtomicGroup start end contents))
+
+pub backward_below-AtomicGroup : (start : ℕ) (end : ℕ) (contents : Box Node Global) (behind : Bool) → backward_below (N.AtomicGroup start end contents) behind ≡ behind
+backward_below-AtomicGroup start end contents behind = ap (λ n. backward_below n behind) (sym (N.rolls-AtomicGroup start end contents)) ∙ ap (λ m. backward_below_of m behind) (out-roll-Node (Node-F.AtomicGroup start end contents))
+
 pub below-Loop : (loopee : Box Node Global) (quant : Quantifier) (groups : Range ℕ) → below (N.Loop loopee quant groups) ≡ loopee.value ∷ []
 below-Loop loopee quant groups = ap below (sym (N.rolls-Loop loopee quant groups)) ∙ ap below_of (out-roll-Node (Node-F.Loop loopee quant groups))
 
@@ -48,29 +54,30 @@ pub backward_below-Loop1CharBody : (loopee : Box Node Global) (quant : Quantifie
 backward_below-Loop1CharBody loopee quant behind = ap (λ n. backward_below n behind) (sym (N.rolls-Loop1CharBody loopee quant)) ∙ ap (λ m. backward_below_of m behind) (out-roll-Node (Node-F.Loop1CharBody loopee quant))
 
 -- nothing stands below a node of no kind that has parts
-pub nothing_below : (n : Node) → ((parts : Vec Node Global) → n ≡ N.Cat parts → ⊥) → ((a : Box Node Global) (b : Box Node Global) → n ≡ N.Alt a b → ⊥) → ((id : ℕ) (contents : Box Node Global) (name : Option (String Global)) → n ≡ N.CaptureGroup id contents name → ⊥) → ((negate : Bool) (backwards : Bool) (start : ℕ) (end : ℕ) (contents : Box Node Global) → n ≡ N.LookaroundAssertion negate backwards start end contents → ⊥) → ((loopee : Box Node Global) (quant : Quantifier) (groups : Range ℕ) → n ≡ N.Loop loopee quant groups → ⊥) → ((loopee : Box Node Global) (quant : Quantifier) → n ≡ N.Loop1CharBody loopee quant → ⊥) → below n ≡ []
-nothing_below = by_kind (λ n. ((parts : Vec Node Global) → n ≡ N.Cat parts → ⊥) → ((a : Box Node Global) (b : Box Node Global) → n ≡ N.Alt a b → ⊥) → ((id : ℕ) (contents : Box Node Global) (name : Option (String Global)) → n ≡ N.CaptureGroup id contents name → ⊥) → ((negate : Bool) (backwards : Bool) (start : ℕ) (end : ℕ) (contents : Box Node Global) → n ≡ N.LookaroundAssertion negate backwards start end contents → ⊥) → ((loopee : Box Node Global) (quant : Quantifier) (groups : Range ℕ) → n ≡ N.Loop loopee quant groups → ⊥) → ((loopee : Box Node Global) (quant : Quantifier) → n ≡ N.Loop1CharBody loopee quant → ⊥) → below n ≡ []) kinds
+pub nothing_below : (n : Node) → ((parts : Vec Node Global) → n ≡ N.Cat parts → ⊥) → ((a : Box Node Global) (b : Box Node Global) → n ≡ N.Alt a b → ⊥) → ((id : ℕ) (contents : Box Node Global) (name : Option (String Global)) → n ≡ N.CaptureGroup id contents name → ⊥) → ((negate : Bool) (backwards : Bool) (start : ℕ) (end : ℕ) (contents : Box Node Global) → n ≡ N.LookaroundAssertion negate backwards start end contents → ⊥) → ((start : ℕ) (end : ℕ) (contents : Box Node Global) → n ≡ N.AtomicGroup start end contents → ⊥) → ((loopee : Box Node Global) (quant : Quantifier) (groups : Range ℕ) → n ≡ N.Loop loopee quant groups → ⊥) → ((loopee : Box Node Global) (quant : Quantifier) → n ≡ N.Loop1CharBody loopee quant → ⊥) → below n ≡ []
+nothing_below = by_kind (λ n. ((parts : Vec Node Global) → n ≡ N.Cat parts → ⊥) → ((a : Box Node Global) (b : Box Node Global) → n ≡ N.Alt a b → ⊥) → ((id : ℕ) (contents : Box Node Global) (name : Option (String Global)) → n ≡ N.CaptureGroup id contents name → ⊥) → ((negate : Bool) (backwards : Bool) (start : ℕ) (end : ℕ) (contents : Box Node Global) → n ≡ N.LookaroundAssertion negate backwards start end contents → ⊥) → ((start : ℕ) (end : ℕ) (contents : Box Node Global) → n ≡ N.AtomicGroup start end contents → ⊥) → ((loopee : Box Node Global) (quant : Quantifier) (groups : Range ℕ) → n ≡ N.Loop loopee quant groups → ⊥) → ((loopee : Box Node Global) (quant : Quantifier) → n ≡ N.Loop1CharBody loopee quant → ⊥) → below n ≡ []) kinds
   where
-    kinds : (m : Node-F Node) → let n = roll-Node m in ((parts : Vec Node Global) → n ≡ N.Cat parts → ⊥) → ((a : Box Node Global) (b : Box Node Global) → n ≡ N.Alt a b → ⊥) → ((id : ℕ) (contents : Box Node Global) (name : Option (String Global)) → n ≡ N.CaptureGroup id contents name → ⊥) → ((negate : Bool) (backwards : Bool) (start : ℕ) (end : ℕ) (contents : Box Node Global) → n ≡ N.LookaroundAssertion negate backwards start end contents → ⊥) → ((loopee : Box Node Global) (quant : Quantifier) (groups : Range ℕ) → n ≡ N.Loop loopee quant groups → ⊥) → ((loopee : Box Node Global) (quant : Quantifier) → n ≡ N.Loop1CharBody loopee quant → ⊥) → below n ≡ []
-    kinds Node-F.Empty h0 h1 h2 h3 h4 h5 = ap below_of (out-roll-Node Node-F.Empty)
-    kinds Node-F.Goal h0 h1 h2 h3 h4 h5 = ap below_of (out-roll-Node Node-F.Goal)
-    kinds (Node-F.Char c) h0 h1 h2 h3 h4 h5 = ap below_of (out-roll-Node (Node-F.Char c))
-    kinds (Node-F.ByteSequence bs) h0 h1 h2 h3 h4 h5 = ap below_of (out-roll-Node (Node-F.ByteSequence bs))
-    kinds (Node-F.ByteSet bs) h0 h1 h2 h3 h4 h5 = ap below_of (out-roll-Node (Node-F.ByteSet bs))
-    kinds (Node-F.CharSet cs) h0 h1 h2 h3 h4 h5 = ap below_of (out-roll-Node (Node-F.CharSet cs))
-    kinds (Node-F.Cat parts) h0 h1 h2 h3 h4 h5 = absurd (h0 parts (N.rolls-Cat parts))
-    kinds (Node-F.Alt a b) h0 h1 h2 h3 h4 h5 = absurd (h1 a b (N.rolls-Alt a b))
-    kinds Node-F.MatchAny h0 h1 h2 h3 h4 h5 = ap below_of (out-roll-Node Node-F.MatchAny)
-    kinds Node-F.MatchAnyExceptLineTerminator h0 h1 h2 h3 h4 h5 = ap below_of (out-roll-Node Node-F.MatchAnyExceptLineTerminator)
-    kinds (Node-F.Anchor t multiline) h0 h1 h2 h3 h4 h5 = ap below_of (out-roll-Node (Node-F.Anchor t multiline))
-    kinds (Node-F.WordBoundary invert folded) h0 h1 h2 h3 h4 h5 = ap below_of (out-roll-Node (Node-F.WordBoundary invert folded))
-    kinds (Node-F.CaptureGroup id contents name) h0 h1 h2 h3 h4 h5 = absurd (h2 id contents name (N.rolls-CaptureGroup id contents name))
-    kinds (Node-F.BackRef group icase) h0 h1 h2 h3 h4 h5 = ap below_of (out-roll-Node (Node-F.BackRef group icase))
-    kinds (Node-F.Bracket contents) h0 h1 h2 h3 h4 h5 = ap below_of (out-roll-Node (Node-F.Bracket contents))
-    kinds (Node-F.StringSet alternatives icase) h0 h1 h2 h3 h4 h5 = ap below_of (out-roll-Node (Node-F.StringSet alternatives icase))
-    kinds (Node-F.LookaroundAssertion negate backwards start end contents) h0 h1 h2 h3 h4 h5 = absurd (h3 negate backwards start end contents (N.rolls-LookaroundAssertion negate backwards start end contents))
-    kinds (Node-F.Loop loopee quant groups) h0 h1 h2 h3 h4 h5 = absurd (h4 loopee quant groups (N.rolls-Loop loopee quant groups))
-    kinds (Node-F.Loop1CharBody loopee quant) h0 h1 h2 h3 h4 h5 = absurd (h5 loopee quant (N.rolls-Loop1CharBody loopee quant))
+    kinds : (m : Node-F Node) → let n = roll-Node m in ((parts : Vec Node Global) → n ≡ N.Cat parts → ⊥) → ((a : Box Node Global) (b : Box Node Global) → n ≡ N.Alt a b → ⊥) → ((id : ℕ) (contents : Box Node Global) (name : Option (String Global)) → n ≡ N.CaptureGroup id contents name → ⊥) → ((negate : Bool) (backwards : Bool) (start : ℕ) (end : ℕ) (contents : Box Node Global) → n ≡ N.LookaroundAssertion negate backwards start end contents → ⊥) → ((start : ℕ) (end : ℕ) (contents : Box Node Global) → n ≡ N.AtomicGroup start end contents → ⊥) → ((loopee : Box Node Global) (quant : Quantifier) (groups : Range ℕ) → n ≡ N.Loop loopee quant groups → ⊥) → ((loopee : Box Node Global) (quant : Quantifier) → n ≡ N.Loop1CharBody loopee quant → ⊥) → below n ≡ []
+    kinds Node-F.Empty h0 h1 h2 h3 h4 h5 h6 = ap below_of (out-roll-Node Node-F.Empty)
+    kinds Node-F.Goal h0 h1 h2 h3 h4 h5 h6 = ap below_of (out-roll-Node Node-F.Goal)
+    kinds (Node-F.Char c) h0 h1 h2 h3 h4 h5 h6 = ap below_of (out-roll-Node (Node-F.Char c))
+    kinds (Node-F.ByteSequence bs) h0 h1 h2 h3 h4 h5 h6 = ap below_of (out-roll-Node (Node-F.ByteSequence bs))
+    kinds (Node-F.ByteSet bs) h0 h1 h2 h3 h4 h5 h6 = ap below_of (out-roll-Node (Node-F.ByteSet bs))
+    kinds (Node-F.CharSet cs) h0 h1 h2 h3 h4 h5 h6 = ap below_of (out-roll-Node (Node-F.CharSet cs))
+    kinds (Node-F.Cat parts) h0 h1 h2 h3 h4 h5 h6 = absurd (h0 parts (N.rolls-Cat parts))
+    kinds (Node-F.Alt a b) h0 h1 h2 h3 h4 h5 h6 = absurd (h1 a b (N.rolls-Alt a b))
+    kinds Node-F.MatchAny h0 h1 h2 h3 h4 h5 h6 = ap below_of (out-roll-Node Node-F.MatchAny)
+    kinds Node-F.MatchAnyExceptLineTerminator h0 h1 h2 h3 h4 h5 h6 = ap below_of (out-roll-Node Node-F.MatchAnyExceptLineTerminator)
+    kinds (Node-F.Anchor t multiline) h0 h1 h2 h3 h4 h5 h6 = ap below_of (out-roll-Node (Node-F.Anchor t multiline))
+    kinds (Node-F.WordBoundary invert folded) h0 h1 h2 h3 h4 h5 h6 = ap below_of (out-roll-Node (Node-F.WordBoundary invert folded))
+    kinds (Node-F.CaptureGroup id contents name) h0 h1 h2 h3 h4 h5 h6 = absurd (h2 id contents name (N.rolls-CaptureGroup id contents name))
+    kinds (Node-F.BackRef group icase) h0 h1 h2 h3 h4 h5 h6 = ap below_of (out-roll-Node (Node-F.BackRef group icase))
+    kinds (Node-F.Bracket contents) h0 h1 h2 h3 h4 h5 h6 = ap below_of (out-roll-Node (Node-F.Bracket contents))
+    kinds (Node-F.StringSet alternatives icase) h0 h1 h2 h3 h4 h5 h6 = ap below_of (out-roll-Node (Node-F.StringSet alternatives icase))
+    kinds (Node-F.LookaroundAssertion negate backwards start end contents) h0 h1 h2 h3 h4 h5 h6 = absurd (h3 negate backwards start end contents (N.rolls-LookaroundAssertion negate backwards start end contents))
+    kinds (Node-F.AtomicGroup start end contents) h0 h1 h2 h3 h4 h5 h6 = absurd (h4 start end contents (N.rolls-AtomicGroup start end contents))
+    kinds (Node-F.Loop loopee quant groups) h0 h1 h2 h3 h4 h5 h6 = absurd (h5 loopee quant groups (N.rolls-Loop loopee quant groups))
+    kinds (Node-F.Loop1CharBody loopee quant) h0 h1 h2 h3 h4 h5 h6 = absurd (h6 loopee quant (N.rolls-Loop1CharBody loopee quant))
 
 -- what a visit is told, where so many nodes were counted above
 pub told-at : (unicode : Bool) (depth counted : ℕ) (behind : Bool) → counted ≡ min depth greatest

@@ -4,8 +4,10 @@ use Rattle.std.specs.List.{flat_map}
 use lib.Pointwise.{pointwise}
 use Rattle.regress_meaning.specs.Table.{Table}
 use Rattle.regress_meaning.specs.TableParts.{is_code_point}
-use Rattle.regress_meaning.specs.Meaning.{State, Outcomes, Context, iterations, looked}
+use Rattle.regress_meaning.specs.Meaning.{State, Outcomes, Context, iterations}
 use Rattle.regress_meaning.specs.Laws.{IsInside}
+use Rattle.regress_front_nodes.specs.Trees.{Submatch}
+use Rattle.regress_front_nodes.specs.TreeMeaning.{submatched}
 
 -- the same range, or none in either
 abbrev pub same_range : Option (ℕ × ℕ) → Option (ℕ × ℕ) → Bool
@@ -47,6 +49,6 @@ pub record MakeAlike (context : Context) : Type 0 where
   pub followed : (f g : Outcomes) (ss ts : List State) → GoAlike context f g → All (IsInside context.text) ts → AreAlike ss ts
       → AreAlike (flat_map f ss) (flat_map g ts)
   pub changed : (h : State → State) (ss ts : List State) → AreAlike ss ts → AreAlike (map h ss) (map h ts)
-  pub looked : (negated : Bool) (s : State) (ss ts : List State) → AreAlike ss ts → looked negated s ss ≡ looked negated s ts
+  pub submatched : (kind : Submatch) (s : State) (ss ts : List State) → AreAlike ss ts → submatched kind s ss ≡ submatched kind s ts
   pub iterated : (f g : Outcomes) (greedy : Bool) (most least : ℕ) → GoAlike context f g → StayInside context g
       → GoAlike context (iterations f greedy most least) (iterations g greedy most least)

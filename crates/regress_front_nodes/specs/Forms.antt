@@ -1,6 +1,6 @@
 -- What a tree is by its form.
 use Rattle.std.specs.Prelude.{ℕ, ◌+◌, Bool, true, false, List, [], ◌∷◌, if◌then◌else◌, reverse, max}
-use Rattle.regress_front_nodes.specs.Trees.{Tree, empty, cat, cat_of, no_part, alt, capture, look, loop, single_loop}
+use Rattle.regress_front_nodes.specs.Trees.{Tree, empty, cat, cat_of, no_part, alt, capture, submatch, loop, single_loop}
 
 -- it is `Empty`
 abbrev pub is_empty : Tree → Bool
@@ -19,7 +19,7 @@ is_leaf (cat a b) = false
 is_leaf no_part = false
 is_leaf (alt a b) = false
 is_leaf (capture k name a) = false
-is_leaf (look negated backward first last a) = false
+is_leaf (submatch kind first last a) = false
 is_leaf (loop a first last least most greedy) = false
 is_leaf (single_loop a least most greedy) = false
 is_leaf _ = true
@@ -39,7 +39,7 @@ abbrev pub nesting : Tree → ℕ
 nesting (cat a b) = max (nesting a + 1) (nesting b)
 nesting (alt a b) = max (nesting a) (nesting b) + 1
 nesting (capture k name a) = nesting a + 1
-nesting (look negated backward first last a) = nesting a + 1
+nesting (submatch kind first last a) = nesting a + 1
 nesting (loop a first last least most greedy) = nesting a + 1
 nesting (single_loop a least most greedy) = nesting a + 1
 nesting _ = 0
@@ -53,7 +53,7 @@ abbrev pub shell : Tree → Tree
 shell (cat a b) = cat empty (shell b)
 shell (alt a b) = alt empty empty
 shell (capture k name a) = capture k name empty
-shell (look negated backward first last a) = look negated backward first last empty
+shell (submatch kind first last a) = submatch kind first last empty
 shell (loop a first last least most greedy) = loop empty first last least most greedy
 shell (single_loop a least most greedy) = single_loop empty least most greedy
 shell t = t

@@ -12,7 +12,7 @@ use Rattle.regress_front_nodes.specs.declared.node.AnchorType.{AnchorType}
 use Rattle.regress_front_nodes.specs.declared.node.BracketContents.{BracketContents}
 use Rattle.regress_front_nodes.specs.declared.node.Node.{Node}
 use Rattle.regress_front_nodes.specs.declared.node.Node.TheVariants as N
-use Rattle.regress_front_nodes.specs.Trees.{tree, cat_of, anchor_of, empty, goal, char, bytes, byte_set, char_set, alt, any, any_in_line, boundary, capture, back, bracket, string_set, look, loop, single_loop}
+use Rattle.regress_front_nodes.specs.Trees.{tree, cat_of, anchor_of, empty, goal, char, bytes, byte_set, char_set, alt, any, any_in_line, boundary, capture, back, bracket, string_set, submatch, loop, single_loop, lookaround, atomic}
 
 -- Each node stands for the tree of its kind, with the trees of its parts.
 pub record NodesStandForTrees : Type 0 where
@@ -32,6 +32,7 @@ pub record NodesStandForTrees : Type 0 where
   pub of_back_ref : (group : ℕ) (icase : Bool) → tree (N.BackRef group icase) ≡ back group icase
   pub of_bracket : (contents : BracketContents) → tree (N.Bracket contents) ≡ bracket contents.invert (ends_in contents.cps)
   pub of_string_set : (alternatives : Vec (BoxedSlice ℕ Global) Global) (icase : Bool) → tree (N.StringSet alternatives icase) ≡ string_set (map boxed_slice_items alternatives.items) icase
-  pub of_lookaround_assertion : (negate backwards : Bool) (start end : ℕ) (contents : Box Node Global) → tree (N.LookaroundAssertion negate backwards start end contents) ≡ look negate backwards start end (tree contents.value)
+  pub of_lookaround_assertion : (negate backwards : Bool) (start end : ℕ) (contents : Box Node Global) → tree (N.LookaroundAssertion negate backwards start end contents) ≡ submatch (lookaround negate backwards) start end (tree contents.value)
+  pub of_atomic_group : (start end : ℕ) (contents : Box Node Global) → tree (N.AtomicGroup start end contents) ≡ submatch atomic start end (tree contents.value)
   pub of_loop : (loopee : Box Node Global) (quant : Quantifier) (groups : Range ℕ) → tree (N.Loop loopee quant groups) ≡ loop (tree loopee.value) groups.start groups.end quant.min (most quant) quant.greedy
   pub of_loop1_char_body : (loopee : Box Node Global) (quant : Quantifier) → tree (N.Loop1CharBody loopee quant) ≡ single_loop (tree loopee.value) quant.min (most quant) quant.greedy

@@ -1,15 +1,30 @@
 -- What a tree matches: the ordered list of its outcomes from a state, by the words of `regress_meaning`. A tree is taken as
 -- it is stored: its parts in their order in both directions, its sets without a closure.
-use Rattle.std.specs.Prelude.{ℕ, ◌-◌, Bool, true, false, not, ◌&&◌, ◌||◌, ◌==◌, List, [], ◌∷◌, ◌++◌, length, Option, if◌then◌else◌, slice_get, map, nat_eq, chars}
+use Rattle.std.specs.Prelude.{ℕ, ◌-◌, Bool, true, false, not, ◌&&◌, ◌||◌, ◌==◌, List, [], ◌∷◌, ◌++◌, length, take, Option, if◌then◌else◌, slice_get, map, nat_eq, chars}
 use Rattle.std.specs.List.{flat_map, list_all}
 use Rattle.regress_meaning.specs.Text.{holds, same_text}
 use Rattle.regress_meaning.specs.TableParts.{in_intervals}
-use Rattle.regress_meaning.specs.Meaning.{Direction, Forward, Backward, Outcomes, Context, is_some_and, is_line_end, differ, before, after, step, same_all, iterations, cleared, looked, captured, repeat_group, keep_if}
-use Rattle.regress_front_nodes.specs.Trees.{Tree, empty, goal, char, bytes, byte_set, char_set, cat, no_part, alt, any, any_in_line, line_start, line_end, boundary, capture, back, bracket, string_set, look, loop, single_loop}
+use Rattle.regress_meaning.specs.Meaning.{State, Direction, Forward, Backward, Outcomes, Context, is_some_and, is_line_end, differ, before, after, step, same_all, iterations, cleared, looked, captured, repeat_group, keep_if}
+use Rattle.regress_front_nodes.specs.Trees.{Tree, empty, goal, char, bytes, byte_set, char_set, cat, no_part, alt, any, any_in_line, line_start, line_end, boundary, capture, back, bracket, string_set, submatch, loop, single_loop, Submatch, lookaround, atomic}
 
 -- which way a part is read
 abbrev pub direction : Bool → Direction
 direction backward = if backward then Backward else Forward
+
+-- which way what is matched by itself is read, inside what is read in a direction
+abbrev pub submatch_direction : Submatch → Direction → Direction
+submatch_direction (lookaround negated backward) dir = direction backward
+submatch_direction atomic dir = dir
+
+-- whether it is read backward, inside what is or is not
+abbrev pub reads_backward : Submatch → Bool → Bool
+reads_backward (lookaround negated backward) behind = backward
+reads_backward atomic behind = behind
+
+-- what follows it, by the outcomes of its contents: of an atomic group the first alone
+abbrev pub submatched : Submatch → State → List State → List State
+submatched (lookaround negated backward) s ts = looked negated s ts
+submatched atomic s ts = take 1 ts
 
 -- a bracket matches the code point
 abbrev pub bracket_has : Bool → List (ℕ × ℕ) → ℕ → Bool
@@ -51,8 +66,7 @@ module _ (context : Context) where
   node_outcomes (back k icase) dir s = repeat_group context dir icase (slice_get s.groups (k - 1)) s
   node_outcomes (bracket inverted intervals) dir s = one dir (bracket_has inverted intervals) s
   node_outcomes (string_set strings icase) dir s = alternatives dir icase strings s
-  node_outcomes (look negated backward first last a) dir s =
-      looked negated s (node_outcomes a (direction backward) s)
+  node_outcomes (submatch kind first last a) dir s = submatched kind s (node_outcomes a (submatch_direction kind dir) s)
   node_outcomes (loop a first last least most greedy) dir s =
       iterations (λ t. node_outcomes a dir (cleared first last t)) greedy most least s
   node_outcomes (single_loop a least most greedy) dir s = iterations (node_outcomes a dir) greedy most least s

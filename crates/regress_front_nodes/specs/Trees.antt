@@ -10,6 +10,13 @@ use Rattle.regress_front_nodes.specs.declared.node.Node.{Node}
 use Rattle.regress_front_nodes.specs.declared.node.Node.TheOpen.{Node-F}
 use Rattle.regress_front_nodes.specs.declared.node.Node.TheFolds.{fold-Node}
 
+-- What is matched by itself: a lookaround, or an atomic group.
+pub data Submatch : Type 0 where
+  -- `(?=..)`, `(?!..)`, `(?<=..)`, `(?<!..)`
+  lookaround : (negated backward : Bool) → Submatch
+  -- `(?>..)`
+  atomic : Submatch
+
 -- A tree.
 pub data Tree : Type 0 where
   -- the empty text
@@ -48,8 +55,8 @@ pub data Tree : Type 0 where
   bracket : (inverted : Bool) → List (ℕ × ℕ) → Tree
   -- one of some strings
   string_set : List (List ℕ) → (icase : Bool) → Tree
-  -- a lookaround, the numbers of the groups inside, from the first up to before the last, and its contents
-  look : (negated backward : Bool) → (first last : ℕ) → Tree → Tree
+  -- what is matched by itself, the numbers of the groups inside, from the first up to before the last, and its contents
+  submatch : Submatch → (first last : ℕ) → Tree → Tree
   -- what is repeated, the groups inside, at least how often, at most how often, whether more is preferred
   loop : Tree → (first last : ℕ) → (least most : ℕ) → (greedy : Bool) → Tree
   -- the same of what matches exactly one character
@@ -84,7 +91,8 @@ node_tree (Node-F.BackRef group icase) = back group icase
 node_tree (Node-F.Bracket contents) = bracket contents.invert (ends_in contents.cps)
 node_tree (Node-F.StringSet alternatives icase) = string_set (map boxed_slice_items alternatives.items) icase
 node_tree (Node-F.LookaroundAssertion negate backwards start_group end_group contents) =
-    look negate backwards start_group end_group contents.value
+    submatch (lookaround negate backwards) start_group end_group contents.value
+node_tree (Node-F.AtomicGroup start_group end_group contents) = submatch atomic start_group end_group contents.value
 node_tree (Node-F.Loop loopee quant groups) = loop loopee.value groups.start groups.end quant.min (most quant) quant.greedy
 node_tree (Node-F.Loop1CharBody loopee quant) = single_loop loopee.value quant.min (most quant) quant.greedy
 

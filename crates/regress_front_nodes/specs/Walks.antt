@@ -13,6 +13,7 @@ below_of (Node-F.Cat parts) = parts.items
 below_of (Node-F.Alt a b) = a.value ∷ b.value ∷ []
 below_of (Node-F.CaptureGroup id contents name) = contents.value ∷ []
 below_of (Node-F.LookaroundAssertion negate backwards start_group end_group contents) = contents.value ∷ []
+below_of (Node-F.AtomicGroup start_group end_group contents) = contents.value ∷ []
 below_of (Node-F.Loop loopee quant groups) = loopee.value ∷ []
 below_of (Node-F.Loop1CharBody loopee quant) = loopee.value ∷ []
 below_of _ = []

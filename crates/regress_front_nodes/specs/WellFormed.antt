@@ -4,7 +4,7 @@ use Rattle.std.specs.Option.{option_or}
 use Rattle.std.specs.Str.{IsUtf8}
 use Rattle.regress_meaning.specs.TableParts.{IntervalsRise, is_code_point}
 use Rattle.regress_front_core.specs.Limits.{most_members}
-use Rattle.regress_front_nodes.specs.Trees.{Tree, goal, char, bytes, byte_set, char_set, cat, no_part, alt, capture, back, bracket, string_set, look, loop, single_loop}
+use Rattle.regress_front_nodes.specs.Trees.{Tree, goal, char, bytes, byte_set, char_set, cat, no_part, alt, capture, back, bracket, string_set, submatch, loop, single_loop}
 use Rattle.regress_front_nodes.specs.Singles.{takes_one}
 
 -- the numbers of the capture groups
@@ -12,7 +12,7 @@ abbrev pub group_ids : Tree → List ℕ
 group_ids (cat a b) = group_ids a ++ group_ids b
 group_ids (alt a b) = group_ids a ++ group_ids b
 group_ids (capture k name a) = k ∷ group_ids a
-group_ids (look negated backward first last a) = group_ids a
+group_ids (submatch kind first last a) = group_ids a
 group_ids (loop a first last least most greedy) = group_ids a
 group_ids (single_loop a least most greedy) = group_ids a
 group_ids _ = []
@@ -28,7 +28,7 @@ goals goal = 1
 goals (cat a b) = goals a + goals b
 goals (alt a b) = goals a + goals b
 goals (capture k name a) = goals a
-goals (look negated backward first last a) = goals a
+goals (submatch kind first last a) = goals a
 goals (loop a first last least most greedy) = goals a
 goals (single_loop a least most greedy) = goals a
 goals _ = 0
@@ -63,7 +63,7 @@ AreLawful n (capture k name a) = IfSome name (λ text. text ≢ []) × AreLawful
 AreLawful n (back k icase) = (1 ≤ k) × (k ≤ n)
 AreLawful n (bracket inverted intervals) = IntervalsRise intervals
 AreLawful n (string_set strings icase) = All (All is_code_point) strings
-AreLawful n (look negated backward first last a) = AreNumbered first last (group_ids a) × AreLawful n a
+AreLawful n (submatch kind first last a) = AreNumbered first last (group_ids a) × AreLawful n a
 AreLawful n (loop a first last least most greedy) = AreNumbered first last (group_ids a) × (least ≤ most) × AreLawful n a
 AreLawful n (single_loop a least most greedy) = (takes_one a ≡ true) × (least ≤ most) × AreLawful n a
 AreLawful n _ = Unit {0}
@@ -84,7 +84,7 @@ abbrev pub name_by_number : ℕ → Tree → Option (List ℕ)
 name_by_number k (cat a b) = option_or (name_by_number k a) (name_by_number k b)
 name_by_number k (alt a b) = option_or (name_by_number k a) (name_by_number k b)
 name_by_number k (capture j name a) = if j == k then Some (unwrap_or name []) else name_by_number k a
-name_by_number k (look negated backward first last a) = name_by_number k a
+name_by_number k (submatch kind first last a) = name_by_number k a
 name_by_number k (loop a first last least most greedy) = name_by_number k a
 name_by_number k (single_loop a least most greedy) = name_by_number k a
 name_by_number k _ = None
@@ -94,7 +94,7 @@ abbrev pub HoldsNoSingleLoop : Tree → Type 0
 HoldsNoSingleLoop (cat a b) = HoldsNoSingleLoop a × HoldsNoSingleLoop b
 HoldsNoSingleLoop (alt a b) = HoldsNoSingleLoop a × HoldsNoSingleLoop b
 HoldsNoSingleLoop (capture k name a) = HoldsNoSingleLoop a
-HoldsNoSingleLoop (look negated backward first last a) = HoldsNoSingleLoop a
+HoldsNoSingleLoop (submatch kind first last a) = HoldsNoSingleLoop a
 HoldsNoSingleLoop (loop a first last least most greedy) = HoldsNoSingleLoop a
 HoldsNoSingleLoop (single_loop a least most greedy) = ⊥
 HoldsNoSingleLoop _ = Unit {0}

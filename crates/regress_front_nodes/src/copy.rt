@@ -73,6 +73,7 @@ impl Node {
                 | Node::Alt(..)
                 | Node::CaptureGroup { .. }
                 | Node::LookaroundAssertion { .. }
+                | Node::AtomicGroup { .. }
                 | Node::Loop { .. }
                 | Node::Loop1CharBody { .. }
         )
@@ -156,6 +157,15 @@ impl Node {
                     end_group: *end_group,
                     contents,
                 }
+            })),
+            Node::AtomicGroup {
+                start_group,
+                end_group,
+                contents,
+            } => Ok(boxed_copy(contents, alloc, depth + 1)?.map(|contents| Node::AtomicGroup {
+                start_group: *start_group,
+                end_group: *end_group,
+                contents,
             })),
             Node::Loop {
                 loopee,

@@ -54,6 +54,7 @@ fn write_head<W: fmt::Write>(node: &Node, f: &mut fmt::Formatter<W>) -> fmt::Res
             f,
             "LookaroundAssertion {{ negate: {negate}, backwards: {backwards} }}"
         ),
+        Node::AtomicGroup { .. } => f.write_str("AtomicGroup"),
         Node::Loop { quant, .. } => write!(f, "Loop {quant:?}"),
         Node::Loop1CharBody { quant, .. } => write!(f, "Loop1CharBody {quant:?}"),
         leaf => write!(f, "{leaf:?}"),
@@ -74,9 +75,9 @@ fn write_below<W: fmt::Write>(node: &Node, depth: usize, f: &mut fmt::Formatter<
             write_node(first, depth, f)?;
             write_node(second, depth, f)
         }
-        Node::CaptureGroup { contents, .. } | Node::LookaroundAssertion { contents, .. } => {
-            write_node(contents, depth, f)
-        }
+        Node::CaptureGroup { contents, .. }
+        | Node::LookaroundAssertion { contents, .. }
+        | Node::AtomicGroup { contents, .. } => write_node(contents, depth, f),
         Node::Loop { loopee, .. } | Node::Loop1CharBody { loopee, .. } => {
             write_node(loopee, depth, f)
         }

@@ -119,6 +119,13 @@ pub enum Node {
         end_group: CaptureGroupID,
         contents: Box<Node>,
     },
+    /// The contents match, and of the ways in which they do the first alone is taken. The groups inside have the numbers from
+    /// `start_group` up to `end_group`, without it.
+    AtomicGroup {
+        start_group: CaptureGroupID,
+        end_group: CaptureGroupID,
+        contents: Box<Node>,
+    },
     /// A repetition, and the numbers of the groups inside it.
     Loop {
         loopee: Box<Node>,

@@ -90,7 +90,9 @@ where
             contents,
             ..
         } => visit(mode, deeper, *backwards, contents, func),
-        Node::CaptureGroup { contents, .. } => visit(mode, deeper, in_lookbehind, contents, func),
+        Node::CaptureGroup { contents, .. } | Node::AtomicGroup { contents, .. } => {
+            visit(mode, deeper, in_lookbehind, contents, func);
+        }
         Node::Loop { loopee, .. } | Node::Loop1CharBody { loopee, .. } => {
             visit(mode, deeper, in_lookbehind, loopee, func);
         }

@@ -95,6 +95,9 @@ where
         Node::CaptureGroup { contents, .. } => {
             visit_mut(mode, deeper, in_lookbehind, contents, func);
         }
+        Node::AtomicGroup { contents, .. } => {
+            visit_mut(mode, deeper, in_lookbehind, contents, func);
+        }
         Node::Loop { loopee, .. } => visit_mut(mode, deeper, in_lookbehind, loopee, func),
         Node::Loop1CharBody { loopee, .. } => visit_mut(mode, deeper, in_lookbehind, loopee, func),
         _ => {}

@@ -1,16 +1,15 @@
 -- Nodes that are none of a kind, and so don't pass the test of it.
-use Rattle.std.proofs.Common.{List, ◌≡◌, ℕ, Bool, true, false, [], ◌∷◌, map, Vec, Box, Global, refl, sym, ap, ◌∙◌}
+use Rattle.std.proofs.Common.{List, ◌≡◌, ℕ, true, false, [], ◌∷◌, map, Vec, Box, Global, refl, sym}
 use Rattle.std.proofs.lemmas.Bool.{false≢true}
 use Rattle.std.specs.declared.ops.Range.{Range}
 use Rattle.regress_front_core.specs.declared.quantifier.Quantifier.{Quantifier}
-use Rattle.regress_front_nodes.specs.declared.node.AnchorType.{AnchorType}
 use Rattle.regress_front_nodes.specs.declared.node.AnchorType.TheVariants.{StartOfLine, EndOfLine}
 use Rattle.regress_front_nodes.specs.declared.node.Node.{Node, Node-F, fold-roll-Node, roll-Node}
 use Rattle.regress_front_nodes.specs.declared.node.Node.TheVariants as N
 use Rattle.regress_front_nodes.specs.Trees.{Tree, tree, node_tree, cat_of, cat}
 use Rattle.regress_front_nodes.specs.Forms.{is_cat, parts}
 use Rattle.regress_front_nodes.proofs.KindLemmas.{by_kind}
-use Rattle.regress_front_rules.specs.NormalForm.{is_empty_choice, is_loose_char, is_loop_of_one, is_unrollable, is_idle, is_idle_loop, is_literal, has_split_literal}
+use Rattle.regress_front_rules.specs.NormalForm.{is_empty_choice, is_loose_char, is_loop_of_one, is_unrollable, is_idle_loop, is_literal, has_split_literal}
 
 no-choice-cat_of : (ts : List Tree) → is_empty_choice (cat_of ts) ≡ false
 no-choice-cat_of [] = refl
@@ -114,26 +113,3 @@ no-idle-loop = by_kind (λ n. ((loopee : Box Node Global) (quant : Quantifier) (
     kinds (Node-F.Anchor StartOfLine multiline) h = rw (fold-roll-Node Tree node_tree (Node-F.Anchor StartOfLine multiline)) refl
     kinds (Node-F.Anchor EndOfLine multiline) h = rw (fold-roll-Node Tree node_tree (Node-F.Anchor EndOfLine multiline)) refl
     kinds x h = rw (fold-roll-Node Tree node_tree x) refl
-
--- what is none of the kinds that may be idle
-pub no-idle : (n : Node) → (n ≡ N.Empty → ⊥) → ((t : AnchorType) (multiline : Bool) → n ≡ N.Anchor t multiline → ⊥) → ((invert folded : Bool) → n ≡ N.WordBoundary invert folded → ⊥)
-    → ((parts : Vec Node Global) → n ≡ N.Cat parts → ⊥) → ((a b : Box Node Global) → n ≡ N.Alt a b → ⊥)
-    → ((negate backwards : Bool) (start end : ℕ) (contents : Box Node Global) → n ≡ N.LookaroundAssertion negate backwards start end contents → ⊥)
-    → ((loopee : Box Node Global) (quant : Quantifier) (groups : Range ℕ) → n ≡ N.Loop loopee quant groups → ⊥) → is_idle (tree n) ≡ false
-no-idle = by_kind (λ n. (n ≡ N.Empty → ⊥) → ((t : AnchorType) (multiline : Bool) → n ≡ N.Anchor t multiline → ⊥) → ((invert folded : Bool) → n ≡ N.WordBoundary invert folded → ⊥)
-    → ((parts : Vec Node Global) → n ≡ N.Cat parts → ⊥) → ((a b : Box Node Global) → n ≡ N.Alt a b → ⊥)
-    → ((negate backwards : Bool) (start end : ℕ) (contents : Box Node Global) → n ≡ N.LookaroundAssertion negate backwards start end contents → ⊥)
-    → ((loopee : Box Node Global) (quant : Quantifier) (groups : Range ℕ) → n ≡ N.Loop loopee quant groups → ⊥) → is_idle (tree n) ≡ false) kinds
-  where
-    kinds : (m : Node-F Node) → let n = roll-Node m in (n ≡ N.Empty → ⊥) → ((t : AnchorType) (multiline : Bool) → n ≡ N.Anchor t multiline → ⊥) → ((invert folded : Bool) → n ≡ N.WordBoundary invert folded → ⊥)
-        → ((parts : Vec Node Global) → n ≡ N.Cat parts → ⊥) → ((a b : Box Node Global) → n ≡ N.Alt a b → ⊥)
-        → ((negate backwards : Bool) (start end : ℕ) (contents : Box Node Global) → n ≡ N.LookaroundAssertion negate backwards start end contents → ⊥)
-        → ((loopee : Box Node Global) (quant : Quantifier) (groups : Range ℕ) → n ≡ N.Loop loopee quant groups → ⊥) → is_idle (tree n) ≡ false
-    kinds Node-F.Empty h0 h1 h2 h3 h4 h5 h6 = absurd (h0 N.rolls-Empty)
-    kinds (Node-F.Anchor t multiline) h0 h1 h2 h3 h4 h5 h6 = absurd (h1 t multiline (N.rolls-Anchor t multiline))
-    kinds (Node-F.WordBoundary invert folded) h0 h1 h2 h3 h4 h5 h6 = absurd (h2 invert folded (N.rolls-WordBoundary invert folded))
-    kinds (Node-F.Cat parts) h0 h1 h2 h3 h4 h5 h6 = absurd (h3 parts (N.rolls-Cat parts))
-    kinds (Node-F.Alt a b) h0 h1 h2 h3 h4 h5 h6 = absurd (h4 a b (N.rolls-Alt a b))
-    kinds (Node-F.LookaroundAssertion negate backwards start end contents) h0 h1 h2 h3 h4 h5 h6 = absurd (h5 negate backwards start end contents (N.rolls-LookaroundAssertion negate backwards start end contents))
-    kinds (Node-F.Loop loopee quant groups) h0 h1 h2 h3 h4 h5 h6 = absurd (h6 loopee quant groups (N.rolls-Loop loopee quant groups))
-    kinds x h0 h1 h2 h3 h4 h5 h6 = rw (fold-roll-Node Tree node_tree x) refl

@@ -7,11 +7,11 @@ use Rattle.regress_meaning.specs.Meaning.{Direction}
 use Rattle.regress_front_core.specs.declared.error.Error.{Error}
 use Rattle.regress_front_core.specs.declared.error.Error.TheVariants.{OutOfMemory}
 use Rattle.regress_front_nodes.specs.declared.node.Node.{Node}
-use Rattle.regress_front_nodes.specs.Trees.{Tree, tree, cat_of, alt, capture, look, loop, single_loop}
+use Rattle.regress_front_nodes.specs.Trees.{Tree, tree, cat_of, alt, capture, submatch, Submatch, loop, single_loop}
 use Rattle.regress_front_nodes.specs.WellFormed.{AreLawful}
-use Rattle.regress_front_nodes.specs.TreeMeaning.{direction}
+use Rattle.regress_front_nodes.specs.TreeMeaning.{submatch_direction, direction}
 use Rattle.regress_front_rules.specs.NormalForm.{nodes_below, Nowhere}
-use Rattle.regress_front_rules.specs.Rules.{Turns, Rewrites, there, in_part, in_first, in_second, in_capture, in_look, in_loop, in_single_loop, Reaches, stays, and_then}
+use Rattle.regress_front_rules.specs.Rules.{Turns, Rewrites, there, in_part, in_first, in_second, in_capture, in_submatch, in_loop, in_single_loop, Reaches, stays, and_then}
 use Rattle.regress_front_opt.specs.declared.action.PassAction.{PassAction}
 use Rattle.regress_front_opt.specs.Passes.{HasLaws, Advances, IsPassed, IsVisited, IsVisitedHere, IsVisitedBelow, AreVisited}
 use Rattle.regress_front_rules.proofs.KeepLemmas.{reaches-then, reaches-in, reaches-keeps, reaches-weight, rewrites-turned}
@@ -138,12 +138,12 @@ module _ (dir : Direction) (broken : Tree → Bool) where
   below-Cat ts us true h = h
   below-Cat ts us false h = (ap cat_of h.0, nowhere-parts broken ts (subst (All (Nowhere broken)) h.0 h.1))
 
--- the contents of a lookaround have a direction of their own
-pub below-look : (dir : Direction) (broken : Tree → Bool) (negated backward : Bool) (first last : ℕ) (a b : Tree) (r : Result Bool Error) → IsVisited (direction backward) broken a b r
-    → IsVisitedBelow dir broken (look negated backward first last a) (look negated backward first last b) r
-below-look dir broken negated backward first last a b (Ok true) h = advances-in (look negated backward first last) (λ s t r. in_look r) h
-below-look dir broken negated backward first last a b (Ok false) h = (ap (look negated backward first last) h.0, h.1)
-below-look dir broken negated backward first last a b (Err e) h = (reaches-in (look negated backward first last) (λ s t r. in_look r) h.0, h.1)
+-- what is matched by itself is read in a direction of its own
+pub below-submatch : (dir : Direction) (broken : Tree → Bool) (kind : Submatch) (first last : ℕ) (a b : Tree) (r : Result Bool Error) → IsVisited (submatch_direction kind dir) broken a b r
+    → IsVisitedBelow dir broken (submatch kind first last a) (submatch kind first last b) r
+below-submatch dir broken kind first last a b (Ok true) h = advances-in (submatch kind first last) (λ s t r. in_submatch r) h
+below-submatch dir broken kind first last a b (Ok false) h = (ap (submatch kind first last) h.0, h.1)
+below-submatch dir broken kind first last a b (Err e) h = (reaches-in (submatch kind first last) (λ s t r. in_submatch r) h.0, h.1)
 
 -- ---- parts of what is lawful
 

@@ -8,7 +8,7 @@ use Rattle.regress_meaning.specs.Meaning.{Direction}
 use Rattle.regress_front_nodes.specs.declared.node.Node.{Node}
 use Rattle.regress_front_nodes.specs.declared.node.Node.TheVariants as N
 use Rattle.regress_front_nodes.proofs.TreeLaws.{tree-Cat}
-use Rattle.regress_front_nodes.specs.Trees.{Tree, tree, empty, char_set, cat, cat_of, alt, capture, look, loop, single_loop}
+use Rattle.regress_front_nodes.specs.Trees.{Tree, tree, empty, char_set, cat, cat_of, alt, capture, submatch, loop, single_loop}
 use Rattle.regress_front_nodes.specs.Forms.{is_empty, is_cat, parts}
 use Rattle.regress_front_nodes.specs.Singles.{always_fails}
 use Rattle.regress_front_nodes.specs.WellFormed.{group_ids, goals}
@@ -96,7 +96,7 @@ plain-found : (t : Tree) → is_plain t ≡ (found t == 0)
 plain-found (cat a b) = both-found a b (plain-found a) (plain-found b)
 plain-found (alt a b) = both-found a b (plain-found a) (plain-found b)
 plain-found (capture k name a) = sym (none-found (length (group_ids a)) (goals a))
-plain-found (look negated backward first last a) = plain-found a
+plain-found (submatch kind first last a) = plain-found a
 plain-found (loop a first last least most greedy) = plain-found a
 plain-found (single_loop a least most greedy) = plain-found a
 plain-found _ = refl

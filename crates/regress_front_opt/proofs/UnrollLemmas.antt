@@ -7,7 +7,7 @@ use Rattle.std.proofs.lemmas.List.{take_more, map-append}
 use Rattle.std.proofs.lemmas.List.Sums.{sum_by-append}
 use Rattle.regress_meaning.specs.Meaning.{Direction}
 use Rattle.regress_front_nodes.specs.declared.node.Node.{Node}
-use Rattle.regress_front_nodes.specs.Trees.{Tree, tree, cat, cat_of, alt, capture, look, loop, single_loop}
+use Rattle.regress_front_nodes.specs.Trees.{Tree, tree, cat, cat_of, alt, capture, submatch, loop, single_loop}
 use Rattle.regress_front_nodes.specs.Sizes.{size, loops}
 use Rattle.regress_front_nodes.specs.WellFormed.{group_ids}
 use Rattle.regress_front_rules.specs.NormalForm.{is_unrollable, has_no_group}
@@ -42,7 +42,7 @@ flat-found : (t : Tree) → is_flat t ≡ (found t == 0)
 flat-found (cat a b) = both-found a b (flat-found a) (flat-found b)
 flat-found (alt a b) = both-found a b (flat-found a) (flat-found b)
 flat-found (capture k name a) = sym (none-found (length (group_ids a)) (loops a))
-flat-found (look negated backward first last a) = flat-found a
+flat-found (submatch kind first last a) = flat-found a
 flat-found (loop a first last least most greedy) = sym (one-found (length (group_ids a)) (loops a))
 flat-found (single_loop a least most greedy) = flat-found a
 flat-found _ = refl

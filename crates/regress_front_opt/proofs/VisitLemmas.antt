@@ -6,11 +6,11 @@ use Rattle.regress_front_core.specs.declared.error.Error.{Error}
 use Rattle.regress_front_core.specs.declared.quantifier.Quantifier.{Quantifier}
 use Rattle.regress_front_nodes.specs.declared.node.Node.{Node}
 use Rattle.regress_front_nodes.specs.declared.node.Node.TheVariants as N
-use Rattle.regress_front_nodes.specs.Trees.{Tree, tree, cat_of, alt}
+use Rattle.regress_front_nodes.specs.Trees.{Tree, tree, cat_of, alt, lookaround, atomic}
 use Rattle.regress_front_nodes.specs.TreeMeaning.{direction}
-use Rattle.regress_front_nodes.proofs.TreeLaws.{tree-Cat, tree-Alt, tree-CaptureGroup, tree-LookaroundAssertion, tree-Loop, tree-Loop1CharBody}
+use Rattle.regress_front_nodes.proofs.TreeLaws.{tree-Cat, tree-Alt, tree-CaptureGroup, tree-LookaroundAssertion, tree-AtomicGroup, tree-Loop, tree-Loop1CharBody}
 use Rattle.regress_front_opt.specs.Passes.{IsVisited, IsVisitedBelow}
-use Rattle.regress_front_opt.proofs.PassLemmas.{below-capture, below-look, below-loop, below-single_loop}
+use Rattle.regress_front_opt.proofs.PassLemmas.{below-capture, below-submatch, below-loop, below-single_loop}
 
 module _ (dir : Direction) (broken : Tree → Bool) (r : Result Bool Error) where
   abbrev Visited : Node → Node → Type 0
@@ -38,4 +38,7 @@ module _ (dir : Direction) (broken : Tree → Bool) (r : Result Bool Error) wher
       → Below (N.LookaroundAssertion negate backwards start end a) (N.LookaroundAssertion negate backwards start end b)
   visited-LookaroundAssertion negate backwards start end a b h =
       rw (tree-LookaroundAssertion negate backwards start end a, tree-LookaroundAssertion negate backwards start end b)
-      (below-look dir broken negate backwards start end (tree a.value) (tree b.value) r h)
+      (below-submatch dir broken (lookaround negate backwards) start end (tree a.value) (tree b.value) r h)
+
+  pub visited-AtomicGroup : (start end : ℕ) (a b : Box Node Global) → Visited a.value b.value → Below (N.AtomicGroup start end a) (N.AtomicGroup start end b)
+  visited-AtomicGroup start end a b h = rw (tree-AtomicGroup start end a, tree-AtomicGroup start end b) (below-submatch dir broken atomic start end (tree a.value) (tree b.value) r h)

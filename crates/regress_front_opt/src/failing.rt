@@ -38,8 +38,20 @@ pub(crate) fn is_plain_node(node: &Node) -> bool
         Node::Cat(parts) => are_plain(parts),
         Node::Alt(first, second) => is_plain_node(first) && is_plain_node(second),
         Node::LookaroundAssertion { contents, .. } => is_plain_node(contents),
+        Node::AtomicGroup { contents, .. } => is_plain_node(contents),
         Node::Loop { loopee, .. } | Node::Loop1CharBody { loopee, .. } => is_plain_node(loopee),
-        _ => true,
+        Node::Empty
+        | Node::Char { .. }
+        | Node::ByteSequence(_)
+        | Node::ByteSet(_)
+        | Node::CharSet(_)
+        | Node::MatchAny
+        | Node::MatchAnyExceptLineTerminator
+        | Node::Anchor { .. }
+        | Node::WordBoundary { .. }
+        | Node::BackRef { .. }
+        | Node::Bracket(_)
+        | Node::StringSet { .. } => true,
     }
 }
 

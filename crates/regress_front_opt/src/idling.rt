@@ -28,8 +28,20 @@ fn is_idle_node(node: &Node) -> bool
         Node::Cat(parts) => are_idle(parts),
         Node::Alt(first, second) => is_idle_node(first) && is_idle_node(second),
         Node::LookaroundAssertion { contents, .. } => is_plain_node(contents),
+        Node::AtomicGroup { contents, .. } => is_idle_node(contents),
         Node::Loop { loopee, .. } => is_idle_node(loopee),
-        _ => false,
+        Node::Goal
+        | Node::Char { .. }
+        | Node::ByteSequence(_)
+        | Node::ByteSet(_)
+        | Node::CharSet(_)
+        | Node::MatchAny
+        | Node::MatchAnyExceptLineTerminator
+        | Node::CaptureGroup { .. }
+        | Node::BackRef { .. }
+        | Node::Bracket(_)
+        | Node::StringSet { .. }
+        | Node::Loop1CharBody { .. } => false,
     }
 }
 

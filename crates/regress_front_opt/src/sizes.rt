@@ -23,8 +23,21 @@ pub(crate) fn is_flat_node(node: &Node) -> bool
         Node::Cat(parts) => are_flat(parts),
         Node::Alt(first, second) => is_flat_node(first) && is_flat_node(second),
         Node::LookaroundAssertion { contents, .. } => is_flat_node(contents),
+        Node::AtomicGroup { contents, .. } => is_flat_node(contents),
         Node::Loop1CharBody { loopee, .. } => is_flat_node(loopee),
-        _ => true,
+        Node::Empty
+        | Node::Goal
+        | Node::Char { .. }
+        | Node::ByteSequence(_)
+        | Node::ByteSet(_)
+        | Node::CharSet(_)
+        | Node::MatchAny
+        | Node::MatchAnyExceptLineTerminator
+        | Node::Anchor { .. }
+        | Node::WordBoundary { .. }
+        | Node::BackRef { .. }
+        | Node::Bracket(_)
+        | Node::StringSet { .. } => true,
     }
 }
 
@@ -79,13 +92,23 @@ pub(crate) fn node_count(node: &Node) -> usize
         Node::Alt(first, second) => node_count(first)
             .saturating_add(node_count(second))
             .saturating_add(1),
-        Node::LookaroundAssertion { contents, .. } | Node::CaptureGroup { contents, .. } => {
-            node_count(contents).saturating_add(1)
-        }
+        Node::LookaroundAssertion { contents, .. }
+        | Node::CaptureGroup { contents, .. }
+        | Node::AtomicGroup { contents, .. } => node_count(contents).saturating_add(1),
         Node::Loop { loopee, .. } | Node::Loop1CharBody { loopee, .. } => {
             node_count(loopee).saturating_add(1)
         }
-        _ => 1,
+        Node::Empty
+        | Node::Goal
+        | Node::Char { .. }
+        | Node::ByteSet(_)
+        | Node::CharSet(_)
+        | Node::MatchAny
+        | Node::MatchAnyExceptLineTerminator
+        | Node::Anchor { .. }
+        | Node::WordBoundary { .. }
+        | Node::BackRef { .. }
+        | Node::Bracket(_) => 1,
     }
 }
 

@@ -73,9 +73,22 @@ fn visit_below<P: Pass>(
             ..
         } => visit(pass, alloc, *backwards, contents),
         Node::CaptureGroup { contents, .. } => visit(pass, alloc, in_lookbehind, contents),
+        Node::AtomicGroup { contents, .. } => visit(pass, alloc, in_lookbehind, contents),
         Node::Loop { loopee, .. } => visit(pass, alloc, in_lookbehind, loopee),
         Node::Loop1CharBody { loopee, .. } => visit(pass, alloc, in_lookbehind, loopee),
-        _ => Ok(false),
+        Node::Empty
+        | Node::Goal
+        | Node::Char { .. }
+        | Node::ByteSequence(_)
+        | Node::ByteSet(_)
+        | Node::CharSet(_)
+        | Node::MatchAny
+        | Node::MatchAnyExceptLineTerminator
+        | Node::Anchor { .. }
+        | Node::WordBoundary { .. }
+        | Node::BackRef { .. }
+        | Node::Bracket(_)
+        | Node::StringSet { .. } => Ok(false),
     }
 }
 

@@ -5,7 +5,7 @@ use Rattle.std.proofs.lemmas.Bool.{false≢true, and_parts, ltb-true, eqb-true}
 use Rattle.std.proofs.lemmas.List.Elements.{All-head, All-tail}
 use Rattle.regress_meaning.specs.TableParts.{is_surrogate}
 use Rattle.regress_meaning.specs.Meaning.{Direction}
-use Rattle.regress_front_nodes.specs.Trees.{Tree, empty, char, bytes, char_set, cat, no_part, cat_of, alt, capture, look, loop, single_loop}
+use Rattle.regress_front_nodes.specs.Trees.{Tree, empty, char, bytes, char_set, cat, no_part, cat_of, alt, capture, submatch, loop, single_loop}
 use Rattle.regress_front_nodes.specs.Forms.{is_empty, is_cat, parts}
 use Rattle.regress_front_nodes.specs.WellFormed.{goals}
 use Rattle.regress_front_nodes.proofs.NodeLemmas.{parts-cat_of}
@@ -177,7 +177,7 @@ nesting-size n (bytes bs) h = some-chars bs h.0 h.1
 nesting-size n (cat a b) h = omega (arith, nesting-size n a h.0, nesting-size n b h.1)
 nesting-size n (alt a b) h = omega (arith, nesting-size n a h.0, nesting-size n b h.1)
 nesting-size n (capture k name a) h = omega (arith, nesting-size n a h.1)
-nesting-size n (look negated backward first last a) h = omega (arith, nesting-size n a h.1)
+nesting-size n (submatch kind first last a) h = omega (arith, nesting-size n a h.1)
 nesting-size n (loop a first last least most greedy) h = omega (arith, nesting-size n a h.2)
 nesting-size n (single_loop a least most greedy) h = omega (arith, nesting-size n a h.2)
 nesting-size n _ h = omega arith

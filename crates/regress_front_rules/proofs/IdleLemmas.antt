@@ -3,10 +3,10 @@ use Rattle.std.proofs.Common.{◌≡◌, ℕ, zero, suc, ◌-◌, ◌≤◌, Boo
 use Rattle.std.specs.List.{flat_map}
 use Rattle.std.proofs.lemmas.Bool.{false≢true, and_parts, leb-true}
 use Rattle.std.proofs.lemmas.Bool.Decides.{nat_tests}
-use Rattle.std.proofs.lemmas.List.Elements.{All-nil, All-cons, All-head, All-tail, All-append, All-weaker, All-filter}
+use Rattle.std.proofs.lemmas.List.Elements.{All-nil, All-cons, All-take, All-head, All-tail, All-append, All-weaker, All-filter}
 use Rattle.regress_meaning.specs.Meaning.{State, Direction, Outcomes, Context, beside, stepped, step, same_all, repeat_group, moved, iterations, looked, keep_if}
 use Rattle.regress_meaning.proofs.StepLaws.{All-flat_map}
-use Rattle.regress_front_nodes.specs.Trees.{Tree, empty, goal, char, bytes, byte_set, char_set, cat, no_part, alt, any, any_in_line, line_start, line_end, boundary, capture, back, bracket, string_set, look, loop, single_loop}
+use Rattle.regress_front_nodes.specs.Trees.{Tree, empty, goal, char, bytes, byte_set, char_set, cat, no_part, alt, any, any_in_line, line_start, line_end, boundary, capture, back, bracket, string_set, submatch, lookaround, atomic, loop, single_loop}
 use Rattle.regress_front_nodes.specs.TreeMeaning.{direction, alternatives, node_outcomes}
 use Rattle.regress_front_nodes.specs.Alike.{same_state, distinct, AreAlike}
 use Rattle.regress_front_nodes.specs.WellFormed.{group_ids, AreLawful, goals}
@@ -35,7 +35,8 @@ none-joined xs ys h k = rw (h, k) refl
 pub idle-groups : (t : Tree) → is_idle t ≡ true → group_ids t ≡ []
 idle-groups (cat a b) h = let both = and_parts (is_idle a) (is_idle b) h in none-joined (group_ids a) (group_ids b) (idle-groups a both.0) (idle-groups b both.1)
 idle-groups (alt a b) h = let both = and_parts (is_idle a) (is_idle b) h in none-joined (group_ids a) (group_ids b) (idle-groups a both.0) (idle-groups b both.1)
-idle-groups (look negated backward first last a) h = none-of (group_ids a) (and_parts (has_no_group a) (goals a == 0) h).0
+idle-groups (submatch (lookaround negated backward) first last a) h = none-of (group_ids a) (and_parts (has_no_group a) (goals a == 0) h).0
+idle-groups (submatch atomic first last a) h = idle-groups a h
 idle-groups (loop a first last least most greedy) h = idle-groups a h
 idle-groups (capture k name a) h = absurd (false≢true h)
 idle-groups (single_loop a least most greedy) h = absurd (false≢true h)
@@ -131,7 +132,8 @@ module _ (w : Context) where
   groups-kept (back k icase) dir n l h s = repeat-keeps dir icase (slice_get s.groups (k - 1)) s
   groups-kept (bracket inverted intervals) dir n l h s = step-keeps dir 1 _ s
   groups-kept (string_set strings icase) dir n l h s = strings-keep dir icase strings s
-  groups-kept (look negated backward first last a) dir n l h s =
+  groups-kept (submatch atomic first last a) dir n l h s = All-take (SameGroups s) 1 (node_outcomes w a dir s) (groups-kept a dir n l.1 h s)
+  groups-kept (submatch (lookaround negated backward) first last a) dir n l h s =
       All-weaker (SameState s) (SameGroups s) (λ t e i. (e i).groups) (looked negated s (node_outcomes w a (direction backward) s))
       (looked-keeps negated s (node_outcomes w a (direction backward) s) (groups-kept a (direction backward) n l.1 h s))
   groups-kept (loop a first last least most greedy) dir n l h s =
@@ -157,7 +159,8 @@ module _ (w : Context) where
   stays-put (alt a b) dir n l h s =
       let both = and_parts (is_idle a) (is_idle b) h in
       All-append (SameState s) _ _ (stays-put a dir n l.0 both.0 s) (stays-put b dir n l.1 both.1 s)
-  stays-put (look negated backward first last a) dir n l h s =
+  stays-put (submatch atomic first last a) dir n l h s = All-take (SameState s) 1 (node_outcomes w a dir s) (stays-put a dir n l.1 h s)
+  stays-put (submatch (lookaround negated backward) first last a) dir n l h s =
       looked-keeps negated s (node_outcomes w a (direction backward) s) (groups-kept a (direction backward) n l.1 (none-of (group_ids a) (and_parts (has_no_group a) (goals a == 0) h).0) s)
   stays-put (loop a first last least most greedy) dir n l h s =
       subst (All (SameState s)) (sym (loop-plain w a first last least most greedy dir (idle-groups a h) l.0 s))

@@ -7,13 +7,13 @@ use Rattle.std.proofs.lemmas.Bool.{le-leb}
 use Rattle.std.proofs.lemmas.Str.{IsUtf8-append, IsUtf8-encode, chars-append, length-encode, len_utf8_bounds}
 use Rattle.regress_meaning.specs.TableParts.{is_code_point, is_surrogate}
 use Rattle.regress_meaning.specs.Meaning.{Direction, Forward, Backward}
-use Rattle.regress_front_nodes.specs.Trees.{Tree, empty, goal, char, bytes, byte_set, char_set, cat, no_part, cat_of, alt, any, any_in_line, capture, bracket, look, loop, single_loop}
+use Rattle.regress_front_nodes.specs.Trees.{Tree, empty, goal, char, bytes, byte_set, char_set, cat, no_part, cat_of, alt, any, any_in_line, capture, bracket, submatch, Submatch, loop, single_loop}
 use Rattle.regress_front_nodes.specs.Sizes.{size, loops}
 use Rattle.regress_front_nodes.specs.Singles.{takes_one}
 use Rattle.regress_front_nodes.specs.WellFormed.{group_ids, goals, last_part, AreLawful, AreCharacters, name_by_number}
 use Rattle.regress_front_nodes.specs.Characters.{is_character}
 use Rattle.regress_front_nodes.proofs.PieceLemmas.{scalar-from}
-use Rattle.regress_front_rules.specs.Rules.{joined, unrolled, is_bracket, Turns, flattens, drops_empty, is_one_part, is_no_part, joins, spells, lists, is_empty_choice, is_lost, unrolls, loops_one, idles, skips, once, Rewrites, there, in_part, in_first, in_second, in_capture, in_look, in_loop, in_single_loop, Reaches, stays, and_then}
+use Rattle.regress_front_rules.specs.Rules.{joined, unrolled, is_bracket, Turns, flattens, drops_empty, is_one_part, is_no_part, joins, spells, lists, is_empty_choice, is_lost, unrolls, loops_one, idles, skips, once, Rewrites, there, in_part, in_first, in_second, in_capture, in_submatch, in_loop, in_single_loop, Reaches, stays, and_then}
 use Rattle.regress_front_rules.specs.Weight.{pending, bulk, weight}
 use Rattle.regress_front_rules.specs.Kept.{Keeps}
 use Rattle.regress_front_rules.proofs.IdleLemmas.{idle-groups, none-of}
@@ -356,8 +356,8 @@ capture-turned j name a b h =
     name_of : ℕ → Option (List ℕ) → Option (List ℕ)
     name_of i o = if j == i then Some (unwrap_or name []) else o
 
-look-turned : (negated backward : Bool) (first last : ℕ) (a b : Tree) → IsTurned a b → IsTurned (look negated backward first last a) (look negated backward first last b)
-look-turned negated backward first last a b h =
+submatch-turned : (kind : Submatch) (first last : ℕ) (a b : Tree) → IsTurned a b → IsTurned (submatch kind first last a) (submatch kind first last b)
+submatch-turned kind first last a b h =
     let k = h.keeps in
     record {
       keeps = record {
@@ -411,7 +411,7 @@ rewrites-turned (in_part {a = a} {b = b} ts vs h) = behind-turned ts a vs (b ∷
 rewrites-turned (in_first {a = a} {b = b} {c = c} h) = first-turned a b c (rewrites-turned h)
 rewrites-turned (in_second {a = a} {b = b} {c = c} h) = second-turned a b c (rewrites-turned h)
 rewrites-turned (in_capture {k = k} {name = name} {a = a} {b = b} h) = capture-turned k name a b (rewrites-turned h)
-rewrites-turned (in_look {negated = negated} {backward = backward} {first = first} {last = last} {a = a} {b = b} h) = look-turned negated backward first last a b (rewrites-turned h)
+rewrites-turned (in_submatch {kind = kind} {first = first} {last = last} {a = a} {b = b} h) = submatch-turned kind first last a b (rewrites-turned h)
 rewrites-turned (in_loop {first = first} {last = last} {least = least} {most = most} {greedy = greedy} {a = a} {b = b} h) = loop-turned first last least most greedy a b (rewrites-turned h)
 rewrites-turned (in_single_loop {least = least} {most = most} {greedy = greedy} {a = a} {b = b} h) = single_loop-turned least most greedy a b (rewrites-one h) (rewrites-turned h)
 

@@ -2,7 +2,7 @@
 use Rattle.std.proofs.Common.{◌≡◌, ℕ, zero, suc, ◌+◌, ◌<◌, true, List, [], ◌∷◌, map, All, subst, sym, arith}
 use Rattle.std.proofs.lemmas.List.Elements.{All-nil, All-cons, All-head, All-tail, All-weaker}
 use Rattle.regress_front_nodes.specs.declared.node.Node.{Node}
-use Rattle.regress_front_nodes.specs.Trees.{Tree, tree, cat, cat_of, alt, capture, look, loop, single_loop}
+use Rattle.regress_front_nodes.specs.Trees.{Tree, tree, cat, cat_of, alt, capture, submatch, loop, single_loop}
 use Rattle.regress_front_nodes.specs.Forms.{is_cat, parts, nesting}
 use Rattle.regress_front_nodes.specs.Walks.{below}
 use Rattle.regress_front_nodes.proofs.NodeLemmas.{is_cat-cat_of}
@@ -25,7 +25,7 @@ below-shallow (cat a b) = parts-shallow (cat a b)
 below-shallow (alt a b) =
     All-cons (IsShallow (nesting (alt a b))) a (b ∷ []) (omega arith) (All-cons (IsShallow (nesting (alt a b))) b [] (omega arith) (All-nil (IsShallow (nesting (alt a b)))))
 below-shallow (capture k name a) = All-cons (IsShallow (nesting a + 1)) a [] (omega arith) (All-nil (IsShallow (nesting a + 1)))
-below-shallow (look negated backward first last a) = All-cons (IsShallow (nesting a + 1)) a [] (omega arith) (All-nil (IsShallow (nesting a + 1)))
+below-shallow (submatch kind first last a) = All-cons (IsShallow (nesting a + 1)) a [] (omega arith) (All-nil (IsShallow (nesting a + 1)))
 below-shallow (loop a first last least most greedy) = All-cons (IsShallow (nesting a + 1)) a [] (omega arith) (All-nil (IsShallow (nesting a + 1)))
 below-shallow (single_loop a least most greedy) = All-cons (IsShallow (nesting a + 1)) a [] (omega arith) (All-nil (IsShallow (nesting a + 1)))
 below-shallow t = All-nil (IsShallow (nesting t))
@@ -46,7 +46,7 @@ listed-whole : (t : Tree) → listed t ≡ t → All AreListed (right_below t) �
 listed-whole (cat a b) p h = let e : cat_of (parts b) ≡ b = cc in listed-cat a b e h
 listed-whole (alt a b) p h = (All-head AreListed a (b ∷ []) h, All-head AreListed b [] (All-tail AreListed a (b ∷ []) h))
 listed-whole (capture k name a) p h = All-head AreListed a [] h
-listed-whole (look negated backward first last a) p h = All-head AreListed a [] h
+listed-whole (submatch kind first last a) p h = All-head AreListed a [] h
 listed-whole (loop a first last least most greedy) p h = All-head AreListed a [] h
 listed-whole (single_loop a least most greedy) p h = All-head AreListed a [] h
 listed-whole _ p h = tt

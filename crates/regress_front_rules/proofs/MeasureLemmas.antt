@@ -3,7 +3,7 @@ use Rattle.std.proofs.Common.{◌≡◌, ℕ, zero, suc, ◌+◌, ◌*◌, ◌<�
 use Rattle.std.specs.Option.{option_or}
 use Rattle.std.proofs.lemmas.List.{append_assoc}
 use Rattle.std.proofs.lemmas.Str.{chars-encodes}
-use Rattle.regress_front_nodes.specs.Trees.{Tree, bytes, cat, cat_of, alt, capture, look, loop, single_loop}
+use Rattle.regress_front_nodes.specs.Trees.{Tree, bytes, cat, cat_of, alt, capture, submatch, loop, single_loop}
 use Rattle.regress_front_nodes.specs.Sizes.{size, loops}
 use Rattle.regress_front_nodes.specs.WellFormed.{group_ids, goals, AreLawful, name_by_number}
 use Rattle.regress_front_nodes.proofs.CopyLemmas.{no_groups_first}
@@ -55,7 +55,7 @@ pub pending-loops : (t : Tree) → pending t ≤ loops t
 pending-loops (cat a b) = omega (arith, pending-loops a, pending-loops b)
 pending-loops (alt a b) = omega (arith, pending-loops a, pending-loops b)
 pending-loops (capture k name a) = pending-loops a
-pending-loops (look negated backward first last a) = pending-loops a
+pending-loops (submatch kind first last a) = pending-loops a
 pending-loops (loop a first last least most greedy) = at_most_one (nat_le 1 least) (pending-loops a)
   where
     at_most_one : (b : Bool) → pending a ≤ loops a → pending a + (if b then 1 else 0) ≤ loops a + 1
@@ -77,7 +77,7 @@ bulk-size n (bytes bs) h = omega (arith, some-chars bs h.0 h.1)
 bulk-size n (cat a b) h = omega (arith, bulk-size n a h.0, bulk-size n b h.1)
 bulk-size n (alt a b) h = omega (arith, bulk-size n a h.0, bulk-size n b h.1)
 bulk-size n (capture k name a) h = omega (arith, bulk-size n a h.1)
-bulk-size n (look negated backward first last a) h = omega (arith, bulk-size n a h.1)
+bulk-size n (submatch kind first last a) h = omega (arith, bulk-size n a h.1)
 bulk-size n (loop a first last least most greedy) h = omega (arith, bulk-size n a h.2)
 bulk-size n (single_loop a least most greedy) h = omega (arith, bulk-size n a h.2)
 bulk-size n _ h = omega arith
@@ -116,7 +116,7 @@ pub no_names : (k : ℕ) (t : Tree) → group_ids t ≡ [] → name_by_number k 
 no_names k (cat a b) h = rw (no_names k a (no_groups_first a b h), no_names k b (no_groups_second a b h)) refl
 no_names k (alt a b) h = rw (no_names k a (no_groups_first a b h), no_names k b (no_groups_second a b h)) refl
 no_names k (capture j name a) h = absurd (cc)
-no_names k (look negated backward first last a) h = no_names k a h
+no_names k (submatch kind first last a) h = no_names k a h
 no_names k (loop a first last least most greedy) h = no_names k a h
 no_names k (single_loop a least most greedy) h = no_names k a h
 no_names k _ h = refl

@@ -3,15 +3,15 @@ use Rattle.std.proofs.Common.{◌≡◌, ℕ, zero, suc, ◌<◌, ◌⊎◌, Boo
 use Rattle.std.proofs.lemmas.Bool.{false≢true}
 use Rattle.std.proofs.lemmas.List.Elements.{All-nil, All-cons, All-append}
 use Rattle.regress_meaning.specs.Meaning.{Direction}
-use Rattle.regress_front_nodes.specs.Trees.{Tree, empty, bytes, cat, no_part, cat_of, alt, capture, look, loop, single_loop}
-use Rattle.regress_front_nodes.specs.TreeMeaning.{direction}
+use Rattle.regress_front_nodes.specs.Trees.{Tree, empty, bytes, cat, no_part, cat_of, alt, capture, submatch, loop, single_loop}
+use Rattle.regress_front_nodes.specs.TreeMeaning.{submatch_direction, direction}
 use Rattle.regress_front_nodes.specs.Forms.{is_cat, parts}
 use Rattle.regress_front_nodes.specs.WellFormed.{AreLawful}
 use Rattle.regress_front_nodes.specs.Characters.{is_character}
 use Rattle.regress_front_nodes.proofs.NodeLemmas.{is_cat-cat_of}
 use Rattle.regress_front_rules.specs.NormalForm.{nodes_below, Nowhere, is_short_cat, has_loose_part, has_split_literal, is_loose_char, is_unrollable, is_loop_of_one, is_empty_choice, is_lost_cat, IsNormal, is_idle_loop}
 use Rattle.regress_front_rules.specs.Rules as rules
-use Rattle.regress_front_rules.specs.Rules.{joined, copies, Turns, flattens, drops_empty, is_one_part, is_no_part, joins, spells, lists, is_lost, unrolls, loops_one, Rewrites, there, in_part, in_first, in_second, in_capture, in_look, in_loop, in_single_loop, Reaches, stays, and_then, idles, skips}
+use Rattle.regress_front_rules.specs.Rules.{joined, copies, Turns, flattens, drops_empty, is_one_part, is_no_part, joins, spells, lists, is_lost, unrolls, loops_one, Rewrites, there, in_part, in_first, in_second, in_capture, in_submatch, in_loop, in_single_loop, Reaches, stays, and_then, idles, skips}
 use Rattle.regress_front_rules.specs.Weight.{weight}
 use Rattle.regress_front_rules.specs.Laws.{IsListed, AreListed, Turnable, NormalFormsAreReached}
 use Rattle.regress_front_rules.proofs.ClauseLemmas.{short_cat, loose_part, split_literal, loose_char, unrollable_loop, loop_of_one, empty_choice, lost_cat, idle_loop}
@@ -49,7 +49,7 @@ listed-character : (t : Tree) → is_character t ≡ true → AreListed t
 listed-character (cat a b) h = absurd (false≢true h)
 listed-character (alt a b) h = absurd (false≢true h)
 listed-character (capture k name a) h = absurd (false≢true h)
-listed-character (look negated backward first last a) h = absurd (false≢true h)
+listed-character (submatch kind first last a) h = absurd (false≢true h)
 listed-character (loop a first last least most greedy) h = absurd (false≢true h)
 listed-character (single_loop a least most greedy) h = absurd (false≢true h)
 listed-character _ h = tt
@@ -84,7 +84,7 @@ rewrites-listed (in_part {a = a} {b = b} ts vs h) l =
 rewrites-listed (in_first h) l = (rewrites-listed h l.0, l.1)
 rewrites-listed (in_second h) l = (l.0, rewrites-listed h l.1)
 rewrites-listed (in_capture h) l = rewrites-listed h l
-rewrites-listed (in_look h) l = rewrites-listed h l
+rewrites-listed (in_submatch h) l = rewrites-listed h l
 rewrites-listed (in_loop h) l = rewrites-listed h l
 rewrites-listed (in_single_loop h) l = rewrites-listed h l
 
@@ -155,8 +155,8 @@ module _ (test : Tree → Bool) (turn : (dir : Direction) (t : Tree) → AreList
   sought (alt a b) l = of_alt a b l (sought a l.0) (sought b l.1)
   sought (capture k name a) l =
       holding (capture k name a) a l false≢true refl (λ dir. elim ((sought a l).node dir) [ inl all ↦ inl all | inr (u, h) ↦ inr (capture k name u, in_capture h) ])
-  sought (look negated backward first last a) l =
-      holding (look negated backward first last a) a l false≢true refl (λ dir. elim ((sought a l).node (direction backward)) [ inl all ↦ inl all | inr (u, h) ↦ inr (look negated backward first last u, in_look h) ])
+  sought (submatch kind first last a) l =
+      holding (submatch kind first last a) a l false≢true refl (λ dir. elim ((sought a l).node (submatch_direction kind dir)) [ inl all ↦ inl all | inr (u, h) ↦ inr (submatch kind first last u, in_submatch h) ])
   sought (loop a first last least most greedy) l =
       holding (loop a first last least most greedy) a l false≢true refl (λ dir. elim ((sought a l).node dir) [ inl all ↦ inl all | inr (u, h) ↦ inr (loop u first last least most greedy, in_loop h) ])
   sought (single_loop a least most greedy) l =

@@ -3,7 +3,7 @@ use Rattle.std.proofs.Common.{◌≡◌, Bool, false, List, [], ◌∷◌, map, 
 use Rattle.std.proofs.lemmas.List.Elements.{All-nil, All-head, All-tail, All-append}
 use Rattle.regress_front_nodes.specs.declared.node.AnchorType.TheVariants.{StartOfLine, EndOfLine}
 use Rattle.regress_front_nodes.specs.declared.node.Node.{Node, Node-F, roll-Node, out-roll-Node, fold-roll-Node}
-use Rattle.regress_front_nodes.specs.Trees.{Tree, tree, node_tree, cat, cat_of, alt, capture, look, loop, single_loop}
+use Rattle.regress_front_nodes.specs.Trees.{Tree, tree, node_tree, cat, cat_of, alt, capture, submatch, loop, single_loop}
 use Rattle.regress_front_nodes.specs.Forms.{parts}
 use Rattle.regress_front_nodes.specs.Walks.{below, below_of}
 use Rattle.regress_front_nodes.proofs.NodeLemmas.{parts-cat_of}
@@ -16,7 +16,7 @@ abbrev pub right_below : Tree → List Tree
 right_below (cat a b) = a ∷ parts b
 right_below (alt a b) = a ∷ b ∷ []
 right_below (capture k name a) = a ∷ []
-right_below (look negated backward first last a) = a ∷ []
+right_below (submatch kind first last a) = a ∷ []
 right_below (loop a first last least most greedy) = a ∷ []
 right_below (single_loop a least most greedy) = a ∷ []
 right_below _ = []
@@ -63,6 +63,7 @@ stands = by_kind Stands kinds
     kinds (Node-F.Bracket contents) = made _ _ (fold-roll-Node Tree node_tree (Node-F.Bracket contents)) refl refl
     kinds (Node-F.StringSet alternatives icase) = made _ _ (fold-roll-Node Tree node_tree (Node-F.StringSet alternatives icase)) refl refl
     kinds (Node-F.LookaroundAssertion negate backwards start end contents) = made _ _ (fold-roll-Node Tree node_tree (Node-F.LookaroundAssertion negate backwards start end contents)) refl refl
+    kinds (Node-F.AtomicGroup start end contents) = made _ _ (fold-roll-Node Tree node_tree (Node-F.AtomicGroup start end contents)) refl refl
     kinds (Node-F.Loop loopee quant groups) = made _ _ (fold-roll-Node Tree node_tree (Node-F.Loop loopee quant groups)) refl refl
     kinds (Node-F.Loop1CharBody loopee quant) = made _ _ (fold-roll-Node Tree node_tree (Node-F.Loop1CharBody loopee quant)) refl refl
 

@@ -4,12 +4,12 @@ use Rattle.regress_meaning.specs.TableParts.{is_code_point}
 use Rattle.regress_meaning.specs.Meaning.{Direction, Outcomes, Context, captured, cleared}
 use Rattle.regress_meaning.specs.Laws.{IsInside}
 use Rattle.regress_front_nodes.specs.Trees.{Tree, cat_of}
-use Rattle.regress_front_nodes.specs.TreeMeaning.{node_outcomes}
+use Rattle.regress_front_nodes.specs.TreeMeaning.{submatch_direction, node_outcomes}
 use Rattle.regress_front_nodes.specs.Alike.{distinct, GoAlike}
 use Rattle.regress_front_nodes.specs.WellFormed.{AreLawful}
 use Rattle.regress_front_nodes.specs.TreeMeaning.{direction}
-use Rattle.regress_front_nodes.proofs.DistinctLemmas.{joined-alike, followed-alike, changed-alike, looked-alike, iterated-alike}
-use Rattle.regress_front_rules.specs.Rules.{Rewrites, there, in_part, in_first, in_second, in_capture, in_look, in_loop, in_single_loop, Reaches, stays, and_then}
+use Rattle.regress_front_nodes.proofs.DistinctLemmas.{joined-alike, followed-alike, changed-alike, submatched-alike, iterated-alike}
+use Rattle.regress_front_rules.specs.Rules.{Rewrites, there, in_part, in_first, in_second, in_capture, in_submatch, in_loop, in_single_loop, Reaches, stays, and_then}
 use Rattle.regress_front_rules.specs.Laws.{RulesAreRight, WholesAreRight}
 use Rattle.regress_front_rules.proofs.InsideLemmas.{tree-inside, cleared-inside}
 use Rattle.regress_front_rules.proofs.MeasureLemmas.{pending-loops}
@@ -37,9 +37,10 @@ module _ (w : Context) (valid : All is_code_point w.text) where
   rewrites-alike {dir} (in_capture {k = k} {a = a} {b = b} h) n l =
       let here = rewrites-alike h n l.1 in
       λ s inside. changed-alike (captured k s.place) (go dir a s) (go dir b s) (here s inside)
-  rewrites-alike {dir} (in_look {negated = negated} {backward = backward} {a = a} {b = b} h) n l =
+  rewrites-alike {dir} (in_submatch {kind = kind} {a = a} {b = b} h) n l =
       let here = rewrites-alike h n l.1 in
-      λ s inside. ap distinct (looked-alike w negated s (go (direction backward) a s) (go (direction backward) b s) (here s inside))
+      let inner = submatch_direction kind dir in
+      λ s inside. ap distinct (submatched-alike w kind s (go inner a s) (go inner b s) (here s inside))
   rewrites-alike {dir} (in_loop {first = first} {last = last} {least = least} {most = most} {greedy = greedy} {a = a} {b = b} h) n l =
       let here = rewrites-alike h n l.2 in
       iterated-alike w (λ t. go dir a (cleared first last t)) (λ t. go dir b (cleared first last t)) greedy most least

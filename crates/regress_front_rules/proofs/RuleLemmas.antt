@@ -10,7 +10,7 @@ use Rattle.regress_meaning.specs.Text.{same_text}
 use Rattle.regress_meaning.specs.TableParts.{is_code_point, is_surrogate}
 use Rattle.regress_meaning.specs.Meaning.{State, Direction, Forward, Backward, Outcomes, Context}
 use Rattle.regress_meaning.specs.Laws.{IsInside}
-use Rattle.regress_front_nodes.specs.Trees.{Tree, empty, char, bytes, char_set, cat, cat_of, alt, capture, look, loop, single_loop}
+use Rattle.regress_front_nodes.specs.Trees.{Tree, empty, char, bytes, char_set, cat, cat_of, alt, capture, submatch, loop, single_loop}
 use Rattle.regress_front_nodes.specs.Forms.{parts}
 use Rattle.regress_front_nodes.specs.Singles.{always_fails, takes_one}
 use Rattle.regress_front_nodes.specs.Sizes.{size, loops}
@@ -39,7 +39,7 @@ pub takes_one-groups : (t : Tree) → takes_one t ≡ true → group_ids t ≡ [
 takes_one-groups (cat a b) h = absurd (cc)
 takes_one-groups (alt a b) h = absurd (cc)
 takes_one-groups (capture k name a) h = absurd (cc)
-takes_one-groups (look negated backward first last a) h = absurd (cc)
+takes_one-groups (submatch kind first last a) h = absurd (cc)
 takes_one-groups (loop a first last least most greedy) h = absurd (cc)
 takes_one-groups (single_loop a least most greedy) h = absurd (cc)
 takes_one-groups _ h = refl

@@ -3,7 +3,7 @@ use Rattle.std.specs.Prelude.{◌≡◌, ℕ, ◌+◌, ◌*◌, ◌<◌, ◌≤�
 use Rattle.regress_meaning.specs.Table.{Table}
 use Rattle.regress_meaning.specs.Meaning.{Direction, Forward}
 use Rattle.regress_front_nodes.specs.declared.node.Node.{Node}
-use Rattle.regress_front_nodes.specs.Trees.{Tree, tree, cat, cat_of, alt, capture, look, loop, single_loop}
+use Rattle.regress_front_nodes.specs.Trees.{Tree, tree, empty, goal, char, bytes, byte_set, char_set, cat, no_part, cat_of, alt, any, any_in_line, line_start, line_end, boundary, capture, back, bracket, string_set, submatch, loop, single_loop}
 use Rattle.regress_front_nodes.specs.TreeMeaning.{node_outcomes}
 use Rattle.regress_front_nodes.specs.Alike.{IsAlike}
 use Rattle.regress_front_nodes.specs.Forms.{is_cat, parts, nesting}
@@ -62,10 +62,24 @@ abbrev pub AreListed : Tree → Type 0
 AreListed (cat a b) = AreListed a × AreListed b × (is_cat b ≡ true)
 AreListed (alt a b) = AreListed a × AreListed b
 AreListed (capture k name a) = AreListed a
-AreListed (look negated backward first last a) = AreListed a
+AreListed (submatch kind first last a) = AreListed a
 AreListed (loop a first last least most greedy) = AreListed a
 AreListed (single_loop a least most greedy) = AreListed a
-AreListed _ = Unit {0}
+AreListed empty = Unit {0}
+AreListed goal = Unit {0}
+AreListed (char c) = Unit {0}
+AreListed (bytes bs) = Unit {0}
+AreListed (byte_set bs) = Unit {0}
+AreListed (char_set cs) = Unit {0}
+AreListed no_part = Unit {0}
+AreListed any = Unit {0}
+AreListed any_in_line = Unit {0}
+AreListed (line_start multiline) = Unit {0}
+AreListed (line_end multiline) = Unit {0}
+AreListed (boundary inverted folded) = Unit {0}
+AreListed (back k icase) = Unit {0}
+AreListed (bracket inverted intervals) = Unit {0}
+AreListed (string_set strings icase) = Unit {0}
 
 -- some rule makes another tree of it
 abbrev pub Turnable : Direction → Tree → Type 0

@@ -2,7 +2,7 @@
 use Rattle.std.specs.Prelude.{◌≡◌, ℕ, Bool, true, false, not, ◌&&◌, ◌||◌, ◌==◌, List, [], ◌∷◌, ◌++◌, length, nat_le, nat_lt, All}
 use Rattle.std.specs.List.{list_any}
 use Rattle.regress_meaning.specs.TableParts.{is_surrogate}
-use Rattle.regress_front_nodes.specs.Trees.{Tree, empty, char, bytes, cat, no_part, alt, line_start, line_end, boundary, capture, look, loop, single_loop}
+use Rattle.regress_front_nodes.specs.Trees.{Tree, empty, goal, char, bytes, byte_set, char_set, cat, no_part, alt, any, any_in_line, line_start, line_end, boundary, capture, back, bracket, string_set, submatch, lookaround, atomic, loop, single_loop}
 use Rattle.regress_front_nodes.specs.Forms.{is_empty, is_cat, parts}
 use Rattle.regress_front_nodes.specs.Sizes.{size, loops}
 use Rattle.regress_front_nodes.specs.Singles.{always_fails, takes_one}
@@ -13,10 +13,24 @@ abbrev pub nodes_below : Tree → List Tree
 nodes_below (cat a b) = a ∷ nodes_below a ++ nodes_below b
 nodes_below (alt a b) = (a ∷ nodes_below a) ++ b ∷ nodes_below b
 nodes_below (capture k name a) = a ∷ nodes_below a
-nodes_below (look negated backward first last a) = a ∷ nodes_below a
+nodes_below (submatch kind first last a) = a ∷ nodes_below a
 nodes_below (loop a first last least most greedy) = a ∷ nodes_below a
 nodes_below (single_loop a least most greedy) = a ∷ nodes_below a
-nodes_below _ = []
+nodes_below empty = []
+nodes_below goal = []
+nodes_below (char c) = []
+nodes_below (bytes bs) = []
+nodes_below (byte_set bs) = []
+nodes_below (char_set cs) = []
+nodes_below no_part = []
+nodes_below any = []
+nodes_below any_in_line = []
+nodes_below (line_start multiline) = []
+nodes_below (line_end multiline) = []
+nodes_below (boundary inverted folded) = []
+nodes_below (back k icase) = []
+nodes_below (bracket inverted intervals) = []
+nodes_below (string_set strings icase) = []
 
 -- neither the tree nor a node below it passes the test
 abbrev pub Nowhere : (Tree → Bool) → Tree → Type 0
@@ -87,9 +101,21 @@ is_idle (line_end multiline) = true
 is_idle (boundary inverted folded) = true
 is_idle (cat a b) = is_idle a && is_idle b
 is_idle (alt a b) = is_idle a && is_idle b
-is_idle (look negated backward first last a) = has_no_group a && (goals a == 0)
+is_idle (submatch (lookaround negated backward) first last a) = has_no_group a && (goals a == 0)
+is_idle (submatch atomic first last a) = is_idle a
 is_idle (loop a first last least most greedy) = is_idle a
-is_idle _ = false
+is_idle goal = false
+is_idle (char c) = false
+is_idle (bytes bs) = false
+is_idle (byte_set bs) = false
+is_idle (char_set cs) = false
+is_idle any = false
+is_idle any_in_line = false
+is_idle (capture k name a) = false
+is_idle (back k icase) = false
+is_idle (bracket inverted intervals) = false
+is_idle (string_set strings icase) = false
+is_idle (single_loop a least most greedy) = false
 
 -- A `Loop` over what never takes a character, or that is never entered. It holds no capture group and no `Goal`.
 abbrev pub is_idle_loop : Tree → Bool

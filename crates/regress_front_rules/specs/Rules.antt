@@ -2,8 +2,8 @@
 use Rattle.std.specs.Prelude.{◌≡◌, ℕ, zero, suc, ◌-◌, Bool, true, false, List, [], ◌∷◌, ◌++◌, encode_utf8, Option, nat_le, if◌then◌else◌}
 use Rattle.regress_meaning.specs.TableParts.{is_surrogate}
 use Rattle.regress_meaning.specs.Meaning.{Direction, Forward, Backward}
-use Rattle.regress_front_nodes.specs.Trees.{Tree, empty, char, bytes, char_set, cat_of, no_part, alt, capture, bracket, look, loop, single_loop}
-use Rattle.regress_front_nodes.specs.TreeMeaning.{bracket_has, direction}
+use Rattle.regress_front_nodes.specs.Trees.{Tree, empty, char, bytes, char_set, cat_of, no_part, alt, capture, bracket, submatch, Submatch, loop, single_loop}
+use Rattle.regress_front_nodes.specs.TreeMeaning.{submatch_direction, bracket_has, direction}
 use Rattle.regress_front_nodes.specs.Characters.{Takes}
 use Rattle.regress_front_nodes.specs.Singles.{takes_one}
 use Rattle.regress_front_rules.specs.NormalForm.{is_lost_cat, is_unrollable, is_idle, has_no_group}
@@ -76,9 +76,9 @@ pub data Rewrites : Direction → Tree → Tree → Type 0 where
   in_second : {dir : Direction} {a b c : Tree} → Rewrites dir b c → Rewrites dir (alt a b) (alt a c)
   -- the contents of a capture group
   in_capture : {dir : Direction} {k : ℕ} {name : Option (List ℕ)} {a b : Tree} → Rewrites dir a b → Rewrites dir (capture k name a) (capture k name b)
-  -- the contents of a lookaround, which has a direction of its own
-  in_look : {dir : Direction} {negated backward : Bool} {first last : ℕ} {a b : Tree} → Rewrites (direction backward) a b
-      → Rewrites dir (look negated backward first last a) (look negated backward first last b)
+  -- the contents of what is matched by itself, in the direction in which they are read
+  in_submatch : {dir : Direction} {kind : Submatch} {first last : ℕ} {a b : Tree} → Rewrites (submatch_direction kind dir) a b
+      → Rewrites dir (submatch kind first last a) (submatch kind first last b)
   -- what a loop repeats
   in_loop : {dir : Direction} {first last least most : ℕ} {greedy : Bool} {a b : Tree} → Rewrites dir a b
       → Rewrites dir (loop a first last least most greedy) (loop b first last least most greedy)

@@ -4,3 +4,4 @@ pub mod SetLemmas
 pub mod ClassLemmas
 pub mod HalvingLemmas
 pub mod AsciiLemmas
+pub mod ListLemmas

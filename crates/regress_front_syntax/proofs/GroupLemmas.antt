@@ -8,7 +8,7 @@ use Rattle.regress_meaning.specs.Reading as meaning
 use Rattle.regress_front_core.specs.declared.error.Error.{Error}
 use Rattle.regress_front_core.specs.declared.error.Error.TheVariants.{Syntax as SyntaxError, TooDeep, TooManyGroups, TooManyLoops, TooLarge, OutOfMemory}
 use Rattle.regress_front_syntax.specs.declared.group.Opening.{Opening}
-use Rattle.regress_front_syntax.specs.declared.group.Opening.TheVariants.{Capture, Group, Modified, Lookahead, Lookbehind}
+use Rattle.regress_front_syntax.specs.declared.group.Opening.TheVariants.{Capture, Group, Atomic, Modified, Lookahead, Lookbehind}
 use Rattle.regress_front_tokens.specs.Words.{code_points_of}
 use Rattle.regress_front_syntax.specs.Openings.{opening_view, enclosed, is_lookbehind, may_repeat, finish, opened_by, IsOpening}
 use Rattle.regress_front_syntax.specs.Parsing.{Place, Leads, Grows, front_to, IsRefusal, contents_of}
@@ -38,6 +38,7 @@ capture-wraps k (Some name) = record { deep = λ p. refl; names = λ p. omega ar
 enclosed-wraps : (o : Opening) (k : ℕ) → Wraps (enclosed o k) k (opened_by o k)
 enclosed-wraps (Capture name) k = capture-wraps k (option_map code_points_of name)
 enclosed-wraps Group k = record { deep = λ p. refl; names = λ p. refl; loops = λ p. refl }
+enclosed-wraps Atomic k = record { deep = λ p. refl; names = λ p. refl; loops = λ p. refl }
 enclosed-wraps (Modified on off) k = record { deep = λ p. refl; names = λ p. refl; loops = λ p. refl }
 enclosed-wraps (Lookahead negated) k = record { deep = λ p. refl; names = λ p. refl; loops = λ p. refl }
 enclosed-wraps (Lookbehind negated) k = record { deep = λ p. refl; names = λ p. refl; loops = λ p. refl }
@@ -45,6 +46,7 @@ enclosed-wraps (Lookbehind negated) k = record { deep = λ p. refl; names = λ p
 pub opened_by-most : (o : Opening) (k : ℕ) → opened_by o k ≤ suc k
 opened_by-most (Capture name) k = omega arith
 opened_by-most Group k = omega arith
+opened_by-most Atomic k = omega arith
 opened_by-most (Modified on off) k = omega arith
 opened_by-most (Lookahead negated) k = omega arith
 opened_by-most (Lookbehind negated) k = omega arith
@@ -60,6 +62,7 @@ module _ (m : Mode) where
   enclosed-read read k (Capture None) t = quantified-contents true k (capture k None) (read t (suc k))
   enclosed-read read k (Capture (Some name)) t = quantified-contents true k (capture k (Some (code_points_of name))) (read t (suc k))
   enclosed-read read k Group t = quantified-contents true k (enclosed Group k) (read t k)
+  enclosed-read read k Atomic t = quantified-contents true k (enclosed Atomic k) (read t k)
   enclosed-read read k (Modified on off) t = quantified-contents true k (enclosed (Modified on off) k) (read t k)
   enclosed-read read k (Lookahead negated) t = quantified-contents (not m.unicode) k (enclosed (Lookahead negated) k) (read t k)
   enclosed-read read k (Lookbehind negated) t = closed-alone (enclosed (Lookbehind negated) k) (read t k)

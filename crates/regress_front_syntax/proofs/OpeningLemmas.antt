@@ -37,13 +37,18 @@ module _ (m : Mode) (t : List ℕ) where
   unfolding question_opening
   question-colon h k = rw (h, k) refl
 
-  pub question-angle : is_at (λ c. c ∈ "=!") t ≡ false → is_at (λ c. c == 0x3A) t ≡ false → is_at (λ c. c == 0x3C) t ≡ true → question_opening m t ≡ angle_opening m (drop 1 t)
+  pub question-atomic : is_at (λ c. c ∈ "=!") t ≡ false → is_at (λ c. c == 0x3A) t ≡ false → is_at (λ c. c == 0x3E) t ≡ true → question_opening m t ≡ meaning.atomic_group (drop 1 t)
   unfolding question_opening
-  question-angle h k l = rw (h, k, l) refl
+  question-atomic h k a = rw (h, k, a) refl
 
-  pub question-modifiers : is_at (λ c. c ∈ "=!") t ≡ false → is_at (λ c. c == 0x3A) t ≡ false → is_at (λ c. c == 0x3C) t ≡ false → question_opening m t ≡ modifiers_at t
-  unfolding question_opening
-  question-modifiers h k l = rw (h, k, l) refl
+  module _ (h : is_at (λ c. c ∈ "=!") t ≡ false) (k : is_at (λ c. c == 0x3A) t ≡ false) (a : is_at (λ c. c == 0x3E) t ≡ false) where
+    pub question-angle : is_at (λ c. c == 0x3C) t ≡ true → question_opening m t ≡ angle_opening m (drop 1 t)
+    unfolding question_opening
+    question-angle l = rw (h, k, a, l) refl
+
+    pub question-modifiers : is_at (λ c. c == 0x3C) t ≡ false → question_opening m t ≡ modifiers_at t
+    unfolding question_opening
+    question-modifiers l = rw (h, k, a, l) refl
 
   pub parenthesis-question : is_at (λ c. c == 0x3F) t ≡ true → parenthesis_opening m t ≡ question_opening m (drop 1 t)
   unfolding parenthesis_opening

@@ -10,7 +10,7 @@ use Rattle.regress_meaning.specs.Grammar.{tree_of}
 use Rattle.regress_meaning.specs.Laws.{LeavesLess}
 use Rattle.regress_meaning.specs.Limits.{class_depth, depth, quantifiers, opens_nesting, greatest_depth}
 use Rattle.regress_meaning.specs.ReadingClass.{read_class}
-use Rattle.regress_meaning.specs.Reading.{Front, Opening, assertion, single, lookahead, lookbehind, group, named_group, uncaptured, modifiers, no_term, of_class, opening, escape_opening, class_opening, parenthesis_opening, quantified, read_term, disjunction_at, term_at}
+use Rattle.regress_meaning.specs.Reading.{Front, Opening, assertion, single, lookahead, lookbehind, group, named_group, uncaptured, atomic_group, modifiers, no_term, of_class, opening, escape_opening, class_opening, parenthesis_opening, quantified, read_term, disjunction_at, term_at}
 use Rattle.regress_front_core.specs.declared.error.Error.{Error}
 use Rattle.regress_front_core.specs.declared.error.Error.TheVariants.{Syntax as SyntaxError, TooDeep, TooManyGroups, TooManyLoops, TooLarge, OutOfMemory}
 use Rattle.regress_front_tokens.specs.declared.escape.Escape.{Escape as EscapeValue}
@@ -221,6 +221,7 @@ class-refused m n k r t u TooDeep (deep, counted) =
     go f (group r) same only e = absurd only
     go f (named_group name r) same only e = absurd only
     go f (uncaptured r) same only e = absurd only
+    go f (atomic_group r) same only e = absurd only
     go f (modifiers on off r) same only e = absurd only
 class-refused m n k r t u OutOfMemory h = tt
 class-refused m n k r t u TooManyGroups h = absurd h

@@ -58,13 +58,21 @@ fn names_in<'s>(alloc: Global, syntax: &'s Syntax) -> Result<Option<Names<'s>>, 
         } => names_in_named(alloc, name, contents),
         Syntax::Capture { contents, .. }
         | Syntax::Group(contents)
+        | Syntax::Atomic(contents)
         | Syntax::Modified { contents, .. }
         | Syntax::Look { contents, .. }
         | Syntax::Loop {
             loopee: contents,
             ..
         } => names_in(alloc, contents),
-        _ => Ok(Some(Names::new(alloc))),
+        Syntax::Character(_)
+        | Syntax::Any
+        | Syntax::Class { .. }
+        | Syntax::ClassEscape(_)
+        | Syntax::Reference(_)
+        | Syntax::LineStart
+        | Syntax::LineEnd
+        | Syntax::WordBoundary { .. } => Ok(Some(Names::new(alloc))),
     }
 }
 

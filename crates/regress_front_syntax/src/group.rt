@@ -21,6 +21,8 @@ pub(crate) enum Opening<'p> {
     Capture(Option<CaptureGroupName>),
     /// `(?:`
     Group,
+    /// `(?>`
+    Atomic,
     /// `(?ims-ims:`, with the letters before the dash and behind it.
     Modified {
         on: &'p [CodePoint],
@@ -99,7 +101,11 @@ impl Opening<'_> {
     {
         match self {
             Opening::Lookahead { .. } => !unicode,
-            _ => true,
+            Opening::Capture(_)
+            | Opening::Group
+            | Opening::Atomic
+            | Opening::Modified { .. }
+            | Opening::Lookbehind { .. } => true,
         }
     }
 
@@ -117,6 +123,7 @@ impl Opening<'_> {
         match self {
             Opening::Capture(name) => Syntax::Capture { id, name, contents },
             Opening::Group => Syntax::Group(contents),
+            Opening::Atomic => Syntax::Atomic(contents),
             Opening::Modified { on, off } => Syntax::Modified {
                 on: modifiers_of(on),
                 off: modifiers_of(off),
@@ -170,6 +177,9 @@ fn question_opening<'p>(
     }
     if cursor.eat(':') {
         return Ok(Opening::Group);
+    }
+    if cursor.eat('>') {
+        return Ok(Opening::Atomic);
     }
     if cursor.eat('<') {
         return angle_opening(cursor, alloc, mode);

@@ -92,11 +92,13 @@ fn push_character(
             points.push(point)?;
             Term::Text(points)
         }
-        Some(Term::One(Syntax::Character(first))) => Term::Text(vec![in alloc; first, point]?),
-        Some(other) => {
-            terms.push(other)?;
-            Term::One(Syntax::Character(point))
-        }
+        Some(Term::One(before)) => match before {
+            Syntax::Character(first) => Term::Text(vec![in alloc; first, point]?),
+            other => {
+                terms.push(Term::One(other))?;
+                Term::One(Syntax::Character(point))
+            }
+        },
     };
     Ok(terms.push(last)?)
 }

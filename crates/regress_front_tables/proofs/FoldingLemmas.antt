@@ -14,7 +14,7 @@ use Rattle.std.proofs.lemmas.List.Sorted.{IsPermutation-insert, list_any-IsPermu
 use Rattle.std.proofs.lemmas.Bool.Decides.{nat_tests}
 use Rattle.regress_meaning.specs.Text.{holds, between}
 use Rattle.regress_meaning.specs.Table.{count_below, closure, code_points, last_code_point}
-use Rattle.regress_meaning.specs.TableParts.{TableParts, IsLawful, image, PairsRise, is_code_point, in_intervals}
+use Rattle.regress_meaning.specs.TableParts.{image, PairsRise, is_code_point, in_intervals}
 use Rattle.regress_front_sets.specs.declared.interval.Interval.{Interval}
 use Rattle.regress_front_sets.specs.Intervals.{ends, ends_of, in_interval}
 use Rattle.regress_front_tables.specs.Folding.{Lists, IsCaseMap, IsClass, Unites}

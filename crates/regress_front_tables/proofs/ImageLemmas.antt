@@ -8,8 +8,7 @@ use Rattle.std.proofs.lemmas.Bool.{eqb-true, eqb-false, eq-eqb, ne_eqb, cases_lt
 use Rattle.std.proofs.lemmas.Bool.Decides.{nat_tests}
 use Rattle.std.proofs.lemmas.Cmp.{ranked}
 use Rattle.std.proofs.lemmas.List.Elements.{All-nil, All-cons, All-head, All-tail, All-contains}
-use Rattle.regress_meaning.specs.Table.{last_code_point}
-use Rattle.regress_meaning.specs.TableParts.{image, is_code_point, is_surrogate, PairsRise, IsIdempotentAt, AvoidsSurrogates}
+use Rattle.regress_meaning.specs.TableParts.{image, is_surrogate, PairsRise, IsIdempotentAt, AvoidsSurrogates}
 
 -- ---- pairs that rise
 
@@ -133,7 +132,7 @@ firsts-rise pairs rise i j d le l =
     grind (arith, PairsRise-at pairs rise i j d, λ (same : i ≡ j). ap (λ k. (get_or pairs k d).0) same)
 
 -- and neither do their pages
-pages-rise : (pairs : List (ℕ × ℕ)) → PairsRise pairs → (i j : ℕ) (d : ℕ × ℕ) → i ≤ j → j < length pairs
+pub pages-rise : (pairs : List (ℕ × ℕ)) → PairsRise pairs → (i j : ℕ) (d : ℕ × ℕ) → i ≤ j → j < length pairs
     → (get_or pairs i d).0 / 256 ≤ (get_or pairs j d).0 / 256
 pages-rise pairs rise i j d le l = omega (arith, firsts-rise pairs rise i j d le l)
 
@@ -151,17 +150,3 @@ module _ (pairs : List (ℕ × ℕ)) (rise : PairsRise pairs) (c : ℕ) where
       → IsPartitionPoint (λ p. nat_cmp p.0 c ≡ Less) (λ p. nat_cmp p.0 c ≡ Greater) pairs k)
       → image pairs c ≡ c
   image-absent k parted = image-unlisted pairs c (key-absent pairs (λ p. p.0) (firsts-rise pairs rise) c k parted)
-
-  -- where a binary search for its page finds nothing, neither
-  pub image-unpaged : (k n : ℕ) → c / 256 ≡ n
-      → (IsNonDecreasingBy (λ p. ordering_index (nat_cmp (p.0 / 256) n)) pairs
-      → IsPartitionPoint (λ p. nat_cmp (p.0 / 256) n ≡ Less) (λ p. nat_cmp (p.0 / 256) n ≡ Greater) pairs k)
-      → image pairs c ≡ c
-  image-unpaged k n e parted =
-      let absent = key-absent pairs (λ p. p.0 / 256) (pages-rise pairs rise) n k parted in
-      image-unlisted pairs c (λ i d l same. absent i d l (ap (λ x. x / 256) same ∙ e))
-
--- past the code points each number is its own image
-pub image-past : (pairs : List (ℕ × ℕ)) → All (λ p. is_code_point p.0 × is_code_point p.1) pairs → (c : ℕ) → last_code_point < c
-    → image pairs c ≡ c
-image-past pairs range c past = image-unlisted pairs c (λ k d l same. omega (arith, (range k d l).0, same, past))

@@ -3,7 +3,7 @@ pub mod EntryLemmas
 pub mod FoldingLemmas
 pub mod ImageLemmas
 pub mod LawLemmas
-pub mod ListLemmas
+pub mod ListedLemmas
 pub mod OrderLemmas
 pub mod PagesLemmas
 pub mod PlaceLemmas

@@ -10,7 +10,7 @@ use Rattle.regress_front_tables.specs.Parts.{parts_of}
 use Rattle.regress_front_tables.specs.Entries.{entry_of}
 use Rattle.regress_front_tables.specs.Breaking.{IsLeast, least_past, numbers, numbers_of, numbers_in}
 use Rattle.regress_front_tables.specs.Telling.{lesser}
-use Rattle.regress_front_tables.proofs.ListLemmas.{All-parts, All-from_map, All-flat_map, All-from_flat_map, flat_map-map}
+use Rattle.regress_front_sets.proofs.ListLemmas.{All-parts, All-from_map, All-flat_map, All-from_flat_map, flat_map-map}
 
 -- ---- the least of a list
 

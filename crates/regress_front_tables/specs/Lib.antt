@@ -1,8 +1,10 @@
 pub mod Breaking
+pub mod CaseMaps
 pub mod Classes
 pub mod Entries
 pub mod Folding
 pub mod Listed
+pub mod MapViews
 pub mod Pages
 pub mod Parts
 pub mod TableTexts

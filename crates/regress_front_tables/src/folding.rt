@@ -4,6 +4,7 @@ ghost use Rattle.regress_meaning.specs.Text.{holds};
 ghost use Rattle.regress_meaning.specs.Table.{canon, closure};
 ghost use Rattle.regress_meaning.specs.TableParts.{image};
 ghost use Rattle.regress_front_tables.specs.declared.tables.Tables.{Tables};
+ghost use Rattle.regress_front_tables.specs.MapViews.{pairs_of};
 ghost use Rattle.regress_front_tables.specs.TableViews.{table};
 ghost use Rattle.regress_front_sets.specs.Sets.{in_set};
 ghost use Rattle.regress_front_sets.specs.Intervals.{in_interval};
@@ -87,7 +88,7 @@ pub fn fold_is_idempotent()
 
 /// The map by which case is ignored: the fold in Unicode mode, and else the upper case.
 fn map_of(tables: &Tables, unicode: bool) -> &CaseMap
-    ensures { image result.now.pairs.items ≡ canon (table tables.now) unicode }
+    ensures { image (pairs_of result.now) ≡ canon (table tables.now) unicode }
 {
     if unicode { &tables.fold } else { &tables.upper }
 }
@@ -95,7 +96,7 @@ fn map_of(tables: &Tables, unicode: bool) -> &CaseMap
 /// The code points that a map takes to where it takes this one, from low to high.
 fn sharing(alloc: Global, map: &CaseMap, c: CodePoint) -> Result<Vec<CodePoint>, AllocError>
     requires { c ≤ CODE_POINT_MAX }
-    ensures members { IfOk result (λ cs. Lists (λ d. image map.now.pairs.items d == image map.now.pairs.items c) cs.items) }
+    ensures members { IfOk result (λ cs. Lists (λ d. image (pairs_of map.now) d == image (pairs_of map.now) c) cs.items) }
     ensures few { IfOk result (λ cs. (0 < vec_len cs) × (vec_len cs ≤ 4)) }
 {
     Ok(match map.class(map.image(c)) {
@@ -106,7 +107,7 @@ fn sharing(alloc: Global, map: &CaseMap, c: CodePoint) -> Result<Vec<CodePoint>,
 
 /// The code points that a map takes to where it takes a member.
 fn closed_by(set: CodePointSet, map: &CaseMap) -> Result<CodePointSet, AllocError>
-    ensures { IfOk result (λ closed. (c : ℕ) → in_set closed c ≡ closure (image map.now.pairs.items) (in_set set) c) }
+    ensures { IfOk result (λ closed. (c : ℕ) → in_set closed c ≡ closure (image (pairs_of map.now)) (in_set set) c) }
 {
     let mut added = CodePointSet::new(map.allocator());
     for interval in set.intervals() {
@@ -127,7 +128,7 @@ fn add_classes(
     map: &CaseMap,
 ) -> Result<(), AllocError>
     requires { (c : ℕ) → in_interval interval c ≡ true → in_set set.now c ≡ true }
-    ensures { OnOk result (Unites (image map.now.pairs.items) (in_interval interval)
+    ensures { OnOk result (Unites (image (pairs_of map.now)) (in_interval interval)
         (λ c. in_set set.now c || in_set added.old c) (λ c. in_set set.now c || in_set added.new c)) }
 {
     let mut c = interval.first;
@@ -150,7 +151,7 @@ fn add_class(
     map: &CaseMap,
 ) -> Result<(), AllocError>
     requires { in_set set.now c ≡ true }
-    ensures { OnOk result (Unites (image map.now.pairs.items) (λ d. d == c)
+    ensures { OnOk result (Unites (image (pairs_of map.now)) (λ d. d == c)
         (λ d. in_set set.now d || in_set added.old d) (λ d. in_set set.now d || in_set added.new d)) }
 {
     if let Some(members) = map.class(map.image(c)) {

@@ -6,6 +6,7 @@ ghost use Rattle.regress_front_sets.specs.Intervals.{ends_of};
 ghost use Rattle.regress_front_sets.specs.Sets.{ends_in};
 ghost use Rattle.regress_front_tables.specs.Entries.{entry_of};
 ghost use Rattle.regress_front_tables.specs.Listed.{listed};
+ghost use Rattle.regress_front_tables.specs.MapViews.{pairs_of};
 
 pub(crate) mod case_map;
 mod check;
@@ -24,9 +25,10 @@ use law::TableError;
 use parts::TableParts;
 use regress_front_sets::{CodePoint, CodePointSet, Interval};
 use std::alloc::{AllocError, Global};
+use std::fmt;
 
 /// Case and properties of code points, which patterns are compiled by. They keep all laws (`TableLaw`).
-#[derive(Debug, Drop)]
+#[derive(Drop)]
 pub struct Tables {
     pub(crate) fold: CaseMap,
     pub(crate) upper: CaseMap,
@@ -34,7 +36,7 @@ pub struct Tables {
     id_continue: CodePointSet,
     properties: Vec<(String, CodePointSet)>,
     sequences: Vec<(String, Vec<Vec<CodePoint>>)>,
-    pub ghost lawful: { IsLawful (listed fold.pairs.items upper.pairs.items id_start id_continue properties.items sequences.items) } by { IsLawful-prop (listed fold.pairs.items upper.pairs.items id_start id_continue properties.items sequences.items) },
+    pub ghost lawful: { IsLawful (listed (pairs_of fold) (pairs_of upper) id_start id_continue properties.items sequences.items) } by { IsLawful-prop (listed (pairs_of fold) (pairs_of upper) id_start id_continue properties.items sequences.items) },
 }
 
 impl Tables {
@@ -57,8 +59,8 @@ impl Tables {
         check_laws(alloc, &parts)?;
         let properties = property_sets(alloc, parts.properties)?;
         Ok(Tables {
-            fold: CaseMap::new(alloc, parts.fold)?,
-            upper: CaseMap::new(alloc, parts.upper)?,
+            fold: CaseMap::new(alloc, &parts.fold)?,
+            upper: CaseMap::new(alloc, &parts.upper)?,
             id_start: CodePointSet::from_sorted_disjoint_intervals(parts.id_start),
             id_continue: CodePointSet::from_sorted_disjoint_intervals(parts.id_continue),
             properties,
@@ -131,6 +133,21 @@ impl Tables {
         ensures { option_map (λ strings. map (λ s. s.items) strings.now) result ≡ (table self.now).sequences (chars key.now) }
     {
         entry(&self.sequences, key).map(|strings| strings.as_slice())
+    }
+}
+
+/// How much they know, and not what: of each map of case its pages and classes, of each set of identifiers its intervals, and
+/// how many keys there are.
+impl fmt::Debug for Tables {
+    fn fmt<W: fmt::Write>(&self, f: &mut fmt::Formatter<W>) -> fmt::Result {
+        f.debug_struct("Tables")
+            .field("fold", &self.fold)
+            .field("upper", &self.upper)
+            .field("id_start", &self.id_start.intervals().len())
+            .field("id_continue", &self.id_continue.intervals().len())
+            .field("properties", &self.properties.len())
+            .field("sequences", &self.sequences.len())
+            .finish()
     }
 }
 

@@ -2,7 +2,7 @@
 use Rattle.std.proofs.Common.{◌≡◌, ℕ, Bool, List, [], ◌∷◌, ◌++◌, map, Vec, Box, Global, refl, sym, ap, ◌∙◌}
 use Rattle.std.specs.List.{flat_map}
 use Rattle.std.specs.declared.ops.Range.{Range}
-use Rattle.regress_meaning.specs.Pattern.{Pattern, character, any, class, grouped, modified, repeated, line_start, line_end, word_boundary}
+use Rattle.regress_meaning.specs.Pattern.{Pattern, character, any, class, grouped, atomic, modified, repeated, line_start, line_end, word_boundary}
 use Rattle.regress_front_tokens.specs.Trees.{tree, class_view, settings, node_tree, sequence_of, choice_of, term_trees, trees_of}
 use Rattle.regress_front_core.specs.Quantifiers.{most}
 use Rattle.regress_front_tokens.specs.declared.syntax.Class.{Class as ClassValue}
@@ -12,7 +12,7 @@ use Rattle.regress_front_tokens.specs.declared.syntax.Term.{Term}
 use Rattle.regress_front_tokens.specs.declared.syntax.Term.TheVariants.{Text, One}
 use Rattle.regress_front_tokens.specs.declared.syntax.Syntax.{Syntax, Syntax-F, fold-roll-Syntax}
 use Rattle.regress_front_tokens.specs.declared.syntax.Syntax.TheShapes.{former-Syntax-Alternative-0-at-2}
-use Rattle.regress_front_tokens.specs.declared.syntax.Syntax.TheVariants.{Character, Any, Class, Alternative, Disjunction, Group, Modified, Loop, LineStart, LineEnd, WordBoundary, rolls-Character, rolls-Any, rolls-Class, rolls-Alternative, rolls-Disjunction, rolls-Group, rolls-Modified, rolls-Loop, rolls-LineStart, rolls-LineEnd, rolls-WordBoundary}
+use Rattle.regress_front_tokens.specs.declared.syntax.Syntax.TheVariants.{Character, Any, Class, Alternative, Disjunction, Group, Atomic, Modified, Loop, LineStart, LineEnd, WordBoundary, rolls-Character, rolls-Any, rolls-Class, rolls-Alternative, rolls-Disjunction, rolls-Group, rolls-Atomic, rolls-Modified, rolls-Loop, rolls-LineStart, rolls-LineEnd, rolls-WordBoundary}
 
 pub tree-Character : (c : ℕ) → tree (Character c) ≡ character c
 tree-Character c = ap tree (sym (rolls-Character c)) ∙ fold-roll-Syntax Pattern node_tree (Syntax-F.Character c)
@@ -41,6 +41,9 @@ tree-Disjunction arms = ap tree (sym (rolls-Disjunction arms)) ∙ fold-roll-Syn
 
 pub tree-Group : (contents : Box Syntax Global) → tree (Group contents) ≡ grouped (tree contents.value)
 tree-Group contents = ap tree (sym (rolls-Group contents)) ∙ fold-roll-Syntax Pattern node_tree (Syntax-F.Group contents)
+
+pub tree-Atomic : (contents : Box Syntax Global) → tree (Atomic contents) ≡ atomic (tree contents.value)
+tree-Atomic contents = ap tree (sym (rolls-Atomic contents)) ∙ fold-roll-Syntax Pattern node_tree (Syntax-F.Atomic contents)
 
 pub tree-Modified : (on off : Modifiers) (contents : Box Syntax Global) → tree (Modified on off contents) ≡ modified (settings on) (settings off) (tree contents.value)
 tree-Modified on off contents = ap tree (sym (rolls-Modified on off contents)) ∙ fold-roll-Syntax Pattern node_tree (Syntax-F.Modified on off contents)

@@ -3,7 +3,7 @@ use Rattle.std.specs.Prelude.{List, [], ◌∷◌, map, fold, option_map}
 use Rattle.std.specs.List.{flat_map}
 use Rattle.regress_front_core.specs.Quantifiers.{most}
 use Rattle.regress_meaning.specs.Class as meaning
-use Rattle.regress_meaning.specs.Pattern.{Pattern, Settings, nothing, character, any, class, class_escape, sequence, choice, capture, grouped, modified, repeated, look, reference, line_start, line_end, word_boundary}
+use Rattle.regress_meaning.specs.Pattern.{Pattern, Settings, nothing, character, any, class, class_escape, sequence, choice, capture, grouped, atomic, modified, repeated, look, reference, line_start, line_end, word_boundary}
 use Rattle.regress_front_tokens.specs.Words.{code_points_of}
 use Rattle.regress_front_tokens.specs.declared.syntax.Modifiers.{Modifiers}
 use Rattle.regress_front_tokens.specs.declared.syntax.Class.{Class}
@@ -68,6 +68,7 @@ node_tree (Syntax-F.Alternative terms) = sequence_of (flat_map (term_trees (λ p
 node_tree (Syntax-F.Disjunction arms) = choice_of arms.items
 node_tree (Syntax-F.Capture k name contents) = capture k (option_map code_points_of name) contents.value
 node_tree (Syntax-F.Group contents) = grouped contents.value
+node_tree (Syntax-F.Atomic contents) = atomic contents.value
 node_tree (Syntax-F.Modified on off contents) = modified (settings on) (settings off) contents.value
 node_tree (Syntax-F.Loop loopee quant groups) = repeated loopee.value groups.start groups.end quant.min (most quant) quant.greedy
 node_tree (Syntax-F.Look negated backward contents) = look negated backward contents.value

@@ -78,6 +78,8 @@ pub enum Syntax {
     },
     /// `(?:..)`
     Group(Box<Syntax>),
+    /// `(?>..)`
+    Atomic(Box<Syntax>),
     /// `(?i-m:..)`
     Modified {
         on: Modifiers,

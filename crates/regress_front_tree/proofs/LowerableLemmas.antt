@@ -7,7 +7,7 @@ use Rattle.regress_front_tokens.specs.Trees.{tree, term_trees, trees_of, sequenc
 use Rattle.regress_front_tokens.specs.declared.syntax.Term.{Term}
 use Rattle.regress_front_tokens.specs.declared.syntax.Term.TheVariants.{Text, One}
 use Rattle.regress_front_tokens.specs.declared.syntax.Syntax.{Syntax}
-use Rattle.regress_front_tables.proofs.ListLemmas.{All-parts}
+use Rattle.regress_front_sets.proofs.ListLemmas.{All-parts}
 use Rattle.regress_front_tree.specs.Scopes.{IsLowerable}
 
 -- of terms each

@@ -13,13 +13,13 @@ use Rattle.regress_meaning.specs.Pattern.{Pattern, Settings}
 use Rattle.regress_meaning.specs.Laws.{IsInside}
 use Rattle.regress_meaning.specs.Meaning.{State, Direction, Forward, Backward, Context, step, same_all, closed, class_steps, captured, cleared, repeat_group, references, outcomes}
 use Rattle.regress_front_tokens.specs.Trees.{sequence_of}
-use Rattle.regress_front_nodes.specs.Trees.{Tree, back, string_set, cat_of}
+use Rattle.regress_front_nodes.specs.Trees.{Tree, lookaround, atomic, back, string_set, cat_of}
 use Rattle.regress_front_nodes.specs.TreeMeaning.{alternatives, node_outcomes}
 use Rattle.regress_front_nodes.specs.Alike.{distinct, GoAlike}
 use Rattle.regress_front_nodes.specs.TreeMeaning.{direction}
 use Rattle.regress_front_nodes.specs.Forms.{cat_made, in_reading_order}
-use Rattle.regress_front_tree.specs.Lowering.{class_value, LowersClass, Lowers, LowersAll, of_character, of_any, of_class, of_negated_class, of_class_escape, of_terms, of_arms, of_capture, of_group, of_modified, of_repeated, of_look, of_reference, of_line_start, of_line_end, of_word_boundary, no_pattern, and_next, LowersTerms, no_term, next_term, next_text}
-use Rattle.regress_front_nodes.proofs.DistinctLemmas.{changed-alike, looked-alike, iterated-alike}
+use Rattle.regress_front_tree.specs.Lowering.{class_value, LowersClass, Lowers, LowersAll, of_character, of_any, of_class, of_negated_class, of_class_escape, of_terms, of_arms, of_capture, of_group, of_modified, of_repeated, of_look, of_atomic, of_reference, of_line_start, of_line_end, of_word_boundary, no_pattern, and_next, LowersTerms, no_term, next_term, next_text}
+use Rattle.regress_front_nodes.proofs.DistinctLemmas.{changed-alike, submatched-alike, iterated-alike}
 use Rattle.regress_front_nodes.proofs.CharacterLemmas.{takes-steps}
 use Rattle.regress_front_nodes.proofs.SequenceLemmas.{made-outcomes}
 use Rattle.regress_front_tree.proofs.AlikeLemmas.{AllAlike, Stays, term-ahead, term-behind, arms-outcomes, arms-alike}
@@ -134,7 +134,9 @@ module _ (w : Context) (valid : All is_code_point w.text) (stays : Stays w valid
         (λ r in_text. lowered-alike h (cleared first last r) (cleared-inside first last r in_text))
         (λ r in_text. stays p (direction b) e (cleared first last r) (cleared-inside first last r in_text)) s inside
     lowered-alike {b} {e} (of_look {negated = negated} {backward = backward} {p = p} {t = t} h) s inside =
-        ap distinct (looked-alike w negated s (node_outcomes w t (direction backward) s) (outcomes w p (direction backward) e s) (lowered-alike h s inside))
+        ap distinct (submatched-alike w (lookaround negated backward) s (node_outcomes w t (direction backward) s) (outcomes w p (direction backward) e s) (lowered-alike h s inside))
+    lowered-alike {b} {e} (of_atomic {p = p} {t = t} h) s inside =
+        ap distinct (submatched-alike w atomic s (node_outcomes w t (direction b) s) (outcomes w p (direction b) e s) (lowered-alike h s inside))
     lowered-alike {b} {e} (of_reference {ks = ks}) s inside = ap distinct (references-are b e ks s)
     lowered-alike of_line_start s inside = refl
     lowered-alike of_line_end s inside = refl

@@ -15,7 +15,7 @@ use Rattle.regress_front_nodes.specs.Sizes.{size}
 use Rattle.regress_front_tree.specs.Lowered.{IsLowered}
 use Rattle.regress_front_nodes.specs.Characters.{is_character}
 use Rattle.regress_front_nodes.specs.Forms.{cat_made, in_reading_order}
-use Rattle.regress_front_tree.specs.Lowering.{HasArms, one_arm, two_halves, class_arms, class_value, LowersClass, Lowers, of_character, of_any, of_class, of_negated_class, of_class_escape, of_terms, of_arms, of_capture, of_group, of_modified, of_repeated, of_look, of_reference, of_line_start, of_line_end, of_word_boundary, LowersAll, no_pattern, and_next, LowersTerms, no_term, next_term, next_text}
+use Rattle.regress_front_tree.specs.Lowering.{HasArms, one_arm, two_halves, class_arms, class_value, LowersClass, Lowers, of_character, of_any, of_class, of_negated_class, of_class_escape, of_terms, of_arms, of_capture, of_group, of_modified, of_repeated, of_look, of_atomic, of_reference, of_line_start, of_line_end, of_word_boundary, LowersAll, no_pattern, and_next, LowersTerms, no_term, next_term, next_text}
 use Rattle.regress_front_tree.proofs.SameLemmas.{same-push, same-made, same-arms}
 use Rattle.regress_front_tree.proofs.GroupLemmas.{Fits, same-fits, Leaf, leaf, cat-fits, back-fits, takes-leaf, no_part-leaf, class-leaves, All-turned, back-leaves, capture-fits}
 use Rattle.regress_front_tree.proofs.TextLemmas.{text-names, text-plain, text-weight, text-numbered, text-fits, pieces-size}
@@ -112,6 +112,7 @@ module _ (table : Table) (unicode : Bool) where
     counted (of_modified h) few = counted h few
     counted (of_repeated h) few = counted h few
     counted (of_look h) few = counted h few
+    counted (of_atomic h) few = counted h few
     counted of_reference few = omega arith
     counted of_line_start few = omega arith
     counted of_line_end few = omega arith
@@ -193,6 +194,17 @@ module _ (table : Table) (unicode : Bool) where
           none_before = a.none_before;
           plain = a.plain;
         }
+    fits (of_atomic {p = p} {t = t} h) m =
+        let a = fits h (record { in_order = m.in_order; fitting = m.fitting; few = m.few }) in
+        record {
+          ids = a.ids;
+          lawful = (numbered-from (length (names_of p)) a.ids m.in_order (counted h m.few), a.lawful);
+          no_goal = a.no_goal;
+          looped = a.looped;
+          named = a.named;
+          none_before = a.none_before;
+          plain = a.plain;
+        }
     fits {n = n} (of_reference {b = b} {e = e} {ks = ks}) m =
         same-fits (same-made (map (λ j. back (j + 1) e.icase) (in_reading_order b ks)))
         (back-leaves e.icase (in_reading_order b ks) (All-turned (λ j. j < n) b ks m.fitting))
@@ -254,6 +266,7 @@ module _ (table : Table) (unicode : Bool) where
       sized (of_modified h) plain = sized h plain
       sized (of_repeated h) plain = omega (arith, sized h plain)
       sized (of_look h) plain = omega (arith, sized h plain)
+      sized (of_atomic h) plain = omega (arith, sized h plain)
       sized (of_reference {b = b} {e = e} {ks = ks}) plain =
           let js = in_reading_order b ks in
           omega (arith, made-size (map (λ j. back (j + 1) e.icase) js), backs-size e.icase js, turned-length b ks)

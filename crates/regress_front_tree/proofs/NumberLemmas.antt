@@ -57,6 +57,7 @@ numbers-count (meaning.choice p q) =
 numbers-count (meaning.capture k None p) = ap suc (numbers-count p)
 numbers-count (meaning.capture k (Some name) p) = ap suc (numbers-count p)
 numbers-count (meaning.grouped p) = numbers-count p
+numbers-count (meaning.atomic p) = numbers-count p
 numbers-count (meaning.modified on off p) = numbers-count p
 numbers-count (meaning.repeated p first last least most greedy) = numbers-count p
 numbers-count (meaning.look negated backward p) = numbers-count p

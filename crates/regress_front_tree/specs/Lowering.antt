@@ -8,7 +8,7 @@ use Rattle.regress_meaning.specs.Pattern as meaning
 use Rattle.regress_meaning.specs.Pattern.{Pattern, Settings}
 use Rattle.regress_meaning.specs.Meaning.{is_line_end, same, closed, with}
 use Rattle.regress_front_tokens.specs.Trees.{sequence_of, choice_of}
-use Rattle.regress_front_nodes.specs.Trees.{Tree, char, bytes, byte_set, char_set, alt, line_start, line_end, boundary, capture, back, string_set, look, loop}
+use Rattle.regress_front_nodes.specs.Trees.{Tree, char, bytes, byte_set, char_set, alt, line_start, line_end, boundary, capture, back, string_set, submatch, lookaround, atomic, loop}
 use Rattle.regress_front_nodes.specs.Forms.{cat_made, in_reading_order}
 use Rattle.regress_front_nodes.specs.Characters.{Takes}
 use Rattle.regress_front_nodes.specs.Pieces.{pieces_of}
@@ -89,7 +89,8 @@ module _ (table : Table) (unicode : Bool) where
       of_repeated : {b : Bool} {e : Settings} {k l first last least most : ℕ} {greedy : Bool} {p : Pattern} {t : Tree} → Lowers b e k p t l
           → Lowers b e k (meaning.repeated p first last least most greedy) (loop t first last least most greedy) l
       of_look : {b : Bool} {e : Settings} {k l : ℕ} {negated backward : Bool} {p : Pattern} {t : Tree} → Lowers backward e k p t l
-          → Lowers b e k (meaning.look negated backward p) (look negated backward k l t) l
+          → Lowers b e k (meaning.look negated backward p) (submatch (lookaround negated backward) k l t) l
+      of_atomic : {b : Bool} {e : Settings} {k l : ℕ} {p : Pattern} {t : Tree} → Lowers b e k p t l → Lowers b e k (meaning.atomic p) (submatch atomic k l t) l
       of_reference : {b : Bool} {e : Settings} {k : ℕ} {ks : List ℕ}
           → Lowers b e k (meaning.reference ks) (cat_made (map (λ j. back (j + 1) e.icase) (in_reading_order b ks))) k
       of_line_start : {b : Bool} {e : Settings} {k : ℕ} → Lowers b e k meaning.line_start (line_start e.multiline) k

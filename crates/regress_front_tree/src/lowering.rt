@@ -171,12 +171,26 @@ fn look(
     groups: Range<CaptureGroupID>,
     node: &mut Node,
 ) -> Result<(), AllocError>
-    ensures { OnOk result (tree node.new ≡ nodes.look negate backwards groups.start groups.end (tree node.old)) }
+    ensures { OnOk result (tree node.new ≡ nodes.submatch (nodes.lookaround negate backwards) groups.start groups.end (tree node.old)) }
 {
     let contents = Box::new(alloc, replace(node, Node::Empty))?;
     *node = Node::LookaroundAssertion {
         negate,
         backwards,
+        start_group: groups.start,
+        end_group: groups.end,
+        contents,
+    };
+    Ok(())
+}
+
+/// Puts a node into an atomic group over some groups.
+#[inline(never)]
+fn atomic(alloc: Global, groups: Range<CaptureGroupID>, node: &mut Node) -> Result<(), AllocError>
+    ensures { OnOk result (tree node.new ≡ nodes.submatch nodes.atomic groups.start groups.end (tree node.old)) }
+{
+    let contents = Box::new(alloc, replace(node, Node::Empty))?;
+    *node = Node::AtomicGroup {
         start_group: groups.start,
         end_group: groups.end,
         contents,
@@ -235,6 +249,7 @@ impl<'t> Lowering<'t> {
                 self.capture(*id, name, contents, scope, node)
             }
             Syntax::Group(contents) => self.lower(contents, scope, node),
+            Syntax::Atomic(contents) => self.atomic_group(contents, scope, node),
             Syntax::Modified { on, off, contents } => {
                 self.lower(contents, &scope.switched(*on, *off), node)
             }
@@ -421,6 +436,24 @@ impl<'t> Lowering<'t> {
             start_group..self.groups,
             node,
         )
+    }
+
+    /// Lowers an atomic group. The groups inside are those that its contents open.
+    #[cycle(lowering)]
+    #[inline(never)]
+    fn atomic_group(
+        &mut self,
+        contents: &Syntax,
+        scope: &Scope,
+        node: &mut Node,
+    ) -> Result<(), AllocError>
+        requires { IsLowerable (parsed.tree contents.now) }
+        ensures ok { OnOk result (LowersInScope self.old scope.now (meaning.atomic (parsed.tree contents.now)) (tree node.new) self.new) }
+        ensures kept { IsSamePattern self.old self.new }
+    {
+        let start_group = self.groups;
+        self.lower(contents, scope, node)?;
+        atomic(self.alloc, start_group..self.groups, node)
     }
 
     /// Lowers a character.

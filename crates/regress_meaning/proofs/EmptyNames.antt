@@ -7,7 +7,7 @@ use Rattle.regress_meaning.specs.Pattern.{Pattern}
 use Rattle.regress_meaning.specs.Flags.{Options}
 use Rattle.regress_meaning.specs.Named.{HoldsNoEmptyName}
 use Rattle.regress_meaning.specs.Tokens.{Mode, begins_name, name_point, name_rest, name_at, Escape, point, set, groups}
-use Rattle.regress_meaning.specs.Grammar.{tree_of, Disjunction, one, more, Alternative, done, next, Term, start, end, boundary, no_boundary, behind, not_behind, ahead, repeated_ahead, once, quantified, Lookahead, positive, negative, Atom, dot, plain, escape, a_class, a_negated_class, group, named_group, uncaptured, modifiers, modifiers_off, mode_of, Spells}
+use Rattle.regress_meaning.specs.Grammar.{tree_of, Disjunction, one, more, Alternative, done, next, Term, start, end, boundary, no_boundary, behind, not_behind, ahead, repeated_ahead, once, quantified, Lookahead, positive, negative, Atom, dot, plain, escape, a_class, a_negated_class, group, named_group, uncaptured, atomic_group, modifiers, modifiers_off, mode_of, Spells}
 use Rattle.regress_meaning.specs.Pattern.{names_of}
 
 -- a name that is read is not empty
@@ -56,6 +56,7 @@ mutual
   Atom-some m (group n h) = (tt, Disjunction-some m h)
   Atom-some m (named_group {t = t} n e h) = ((name_at-some m.table t).holds e, Disjunction-some m h)
   Atom-some m (uncaptured h) = Disjunction-some m h
+  Atom-some m (atomic_group h) = Disjunction-some m h
   Atom-some m (modifiers e n d h) = Disjunction-some m h
   Atom-some m (modifiers_off e f n d h) = Disjunction-some m h
 

@@ -1,19 +1,20 @@
--- A pattern in `(?:..)`: the text that spells it, and what it matches.
-use Rattle.std.proofs.Common.{◌≡◌, ℕ, ◌+◌, ◌-◌, Bool, true, false, not, ◌&&◌, ◌||◌, ◌==◌, nat_eq, eqb-true, List, [], ◌∷◌, length, append-nil, map-id, Option, codes, refl, sym, ap, ap₂, subst₂, ◌∙◌}
+-- A pattern in `(?:..)` or in `(?>..)`: the text that spells it, and what it matches.
+use Rattle.std.proofs.Common.{◌≡◌, ℕ, ◌+◌, take, ◌-◌, Bool, true, false, not, ◌&&◌, ◌||◌, ◌==◌, nat_eq, eqb-true, List, [], ◌∷◌, length, append-nil, map-id, Option, codes, refl, sym, ap, ap₂, subst₂, ◌∙◌}
 use Rattle.std.proofs.lemmas.List.Concat.{flat_map_single}
+use Rattle.std.specs.List.{flat_map}
 use Rattle.std.proofs.lemmas.Bool.{and_right}
 use Rattle.std.specs.List.{starts_with}
 use Rattle.regress_meaning.specs.Text.{◌∈◌}
 use Rattle.regress_meaning.specs.Table.{Table}
 use Rattle.regress_meaning.specs.Class.{Class}
-use Rattle.regress_meaning.specs.Pattern.{Pattern, Settings, names_of, nothing, sequence, grouped, repeated}
+use Rattle.regress_meaning.specs.Pattern.{Pattern, Settings, names_of, nothing, sequence, grouped, atomic, repeated}
 use Rattle.regress_meaning.specs.Flags.{Options, is_unicode, first_settings}
 use Rattle.regress_meaning.specs.Meaning.{State, Forward, Context, outcomes}
 use Rattle.regress_meaning.specs.Tokens.{Mode, bounds_at, Escape}
-use Rattle.regress_meaning.specs.Grammar.{ends_alternative, ends_disjunction, greedy_at, after_mark, is_flag, reserved_pair, dash_before_member, is_pattern_character, Member, as_itself, escaped, Members, no_member, single, from_to, loose, SetCharacter, bare, backspace, punctuator, of_escape, SetString, no_more, and_then, SetStrings, last_string, more_strings, Operand, one_character, of_class, of_strings, inner, inner_negated, Contents, of_union, of_intersection, of_difference, Union, union_end, union_range, union_operand, Intersection, last_and, more_and, Difference, last_minus, more_minus, ClassBody, of_members, of_contents, Disjunction, one, more, Alternative, done, next, Term, start, end, boundary, no_boundary, behind, not_behind, ahead, repeated_ahead, once, quantified, Lookahead, positive, negative, Atom, dot, plain, escape, a_class, a_negated_class, group, named_group, uncaptured, modifiers, modifiers_off, is_name, share_a_name, opens_name, holds_a_name, mode_of, Spells}
-use Rattle.regress_meaning.specs.Laws.{in_group}
+use Rattle.regress_meaning.specs.Grammar.{ends_alternative, ends_disjunction, greedy_at, after_mark, is_flag, reserved_pair, dash_before_member, is_pattern_character, Member, as_itself, escaped, Members, no_member, single, from_to, loose, SetCharacter, bare, backspace, punctuator, of_escape, SetString, no_more, and_then, SetStrings, last_string, more_strings, Operand, one_character, of_class, of_strings, inner, inner_negated, Contents, of_union, of_intersection, of_difference, Union, union_end, union_range, union_operand, Intersection, last_and, more_and, Difference, last_minus, more_minus, ClassBody, of_members, of_contents, Disjunction, one, more, Alternative, done, next, Term, start, end, boundary, no_boundary, behind, not_behind, ahead, repeated_ahead, once, quantified, Lookahead, positive, negative, Atom, dot, plain, escape, a_class, a_negated_class, group, named_group, uncaptured, atomic_group, modifiers, modifiers_off, is_name, share_a_name, opens_name, holds_a_name, mode_of, Spells}
+use Rattle.regress_meaning.specs.Laws.{in_group, in_atomic_group}
 use Rattle.regress_meaning.proofs.Extension.{cond_apply, closed, closed_rest, at_word, at_none, is_at_more, span_more, bounds_more, is_some_more, name_more, escape_more, class_escape_more}
-use Rattle.regress_meaning.specs.Matches.{Item, attempt, first_match, match_list, first_from, list_from}
+use Rattle.regress_meaning.specs.Matches.{Item, item_at, attempt, first_match, match_list, first_from, list_from}
 
 -- a group that captures nothing opens no group of its own
 pub names-grouped : (p : Pattern) → names_of (sequence (grouped p) nothing) ≡ names_of p
@@ -38,6 +39,28 @@ unfolding match_list first_match
 group-matches table o p text place =
     ap (λ (f : ℕ → Option Item). list_from (λ q. first_from f (length text + 1 - q) q) (length text + 1 - place) place)
     (λ i. λ q. attempt-grouped table o p text q i)
+
+-- an atomic group opens no group of its own
+pub names-atomic : (p : Pattern) → names_of (sequence (atomic p) nothing) ≡ names_of p
+names-atomic p = append-nil (names_of p)
+
+-- the first outcome alone gives the item that all outcomes give
+item-first : (q : ℕ) (ss : List State) → item_at q (flat_map (λ s. s ∷ []) (take 1 ss)) ≡ item_at q ss
+item-first q [] = refl
+item-first q (s ∷ ss) = refl
+
+pub attempt-atomic : (table : Table) (o : Options) (p : Pattern) (text : List ℕ) (q : ℕ) →
+    attempt table o (sequence (atomic p) nothing) text q ≡ attempt table o p text q
+unfolding attempt outcomes
+attempt-atomic table o p text q = rw (names-atomic p) (item-first q _)
+
+-- both patterns have the same match list
+pub atomic-matches : (table : Table) (o : Options) (p : Pattern) (text : List ℕ) (place : ℕ) →
+    match_list table o (sequence (atomic p) nothing) text place ≡ match_list table o p text place
+unfolding match_list first_match
+atomic-matches table o p text place =
+    ap (λ (f : ℕ → Option Item). list_from (λ q. first_from f (length text + 1 - q) q) (length text + 1 - place) place)
+    (λ i. λ q. attempt-atomic table o p text q i)
 
 -- What is asked of the text behind a tree is so, or not, also where `)` follows.
 module _ (w : List ℕ) where
@@ -172,6 +195,7 @@ module _ (w : List ℕ) where
       atom_more (named_group {t = t} h e a) = named_group (is_at_more w (λ c. c ∈ "=!") refl t ∙ h)
           (at_word w (name_more w m.table t) e) (disjunction_more a)
       atom_more (uncaptured a) = uncaptured (disjunction_more a)
+      atom_more (atomic_group a) = atomic_group (disjunction_more a)
       atom_more (modifiers {t = t} e h k a) = modifiers (span_more w is_flag refl t ∙ ap (closed_rest w) e) h k (disjunction_more a)
       atom_more (modifiers_off {t = t} {u = u} e f h k a) =
           modifiers_off (span_more w is_flag refl t ∙ ap (closed_rest w) e)
@@ -226,3 +250,33 @@ pub transparent : (table : Table) (o : Options) (source : List ℕ) (p q : Patte
 transparent table o source p q one_tree s t text place =
     ap (λ r. match_list table o r text place)
     (one_tree q (sequence (grouped p) nothing) t (group-spelled table o source p s)) ∙ group-matches table o p text place
+
+-- `(?>` and `)` open no name
+names-in_atomic_group : (source : List ℕ) → holds_a_name false false (in_atomic_group source) ≡ holds_a_name false false source
+unfolding holds_a_name
+names-in_atomic_group source = holds_a_name_more false false source
+
+-- the mode is that of the source
+mode-atomic : (table : Table) (o : Options) (source : List ℕ) (p : Pattern) →
+    mode_of table o (in_atomic_group source) (names_of (sequence (atomic p) nothing)) ≡ mode_of table o source (names_of p)
+mode-atomic table o source p = rw (names-in_atomic_group source, names-atomic p)
+
+-- a text in `(?>..)` spells the tree that the text spells, in an atomic group
+pub atomic-spelled : (table : Table) (o : Options) (source : List ℕ) (p : Pattern) →
+    Spells table o source p → Spells table o (in_atomic_group source) (sequence (atomic p) nothing)
+unfolding bounds_at
+atomic-spelled table o source p s = record {
+  whole = subst₂ (λ m n. Disjunction m (in_atomic_group source) 0 (sequence (atomic p) nothing) n [])
+      (sym (mode-atomic table o source p)) (sym (ap length (names-atomic p)))
+      (one (next (once (atomic_group (disjunction_more [] (mode_of table o source (names_of p)) s.whole)) refl) (done refl)) refl);
+  apart = rw (s.apart, shares-no_name (names_of p));
+}
+
+-- the match list of a text in `(?>..)` is that of the text, where a text spells at most one tree
+pub transparent-atomic : (table : Table) (o : Options) (source : List ℕ) (p q : Pattern) →
+    (one_tree : (a b : Pattern) → Spells table o (in_atomic_group source) a → Spells table o (in_atomic_group source) b → a ≡ b) →
+    Spells table o source p → Spells table o (in_atomic_group source) q → (text : List ℕ) (place : ℕ) →
+    match_list table o q text place ≡ match_list table o p text place
+transparent-atomic table o source p q one_tree s t text place =
+    ap (λ r. match_list table o r text place)
+    (one_tree q (sequence (atomic p) nothing) t (atomic-spelled table o source p s)) ∙ atomic-matches table o p text place

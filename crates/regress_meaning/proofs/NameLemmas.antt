@@ -8,7 +8,7 @@ use Rattle.regress_meaning.specs.Table.{Table}
 use Rattle.regress_meaning.specs.Pattern.{Pattern, names_of}
 use Rattle.regress_meaning.specs.Flags.{Options}
 use Rattle.regress_meaning.specs.Tokens.{Mode, begins_name, continues_name, name_point, name_rest, name_at, Escape, point, set, groups}
-use Rattle.regress_meaning.specs.Grammar.{tree_of, Disjunction, one, more, Alternative, done, next, Term, start, end, boundary, no_boundary, behind, not_behind, ahead, repeated_ahead, once, quantified, Lookahead, positive, negative, Atom, dot, plain, escape, a_class, a_negated_class, group, named_group, uncaptured, modifiers, modifiers_off, mode_of, Spells}
+use Rattle.regress_meaning.specs.Grammar.{tree_of, Disjunction, one, more, Alternative, done, next, Term, start, end, boundary, no_boundary, behind, not_behind, ahead, repeated_ahead, once, quantified, Lookahead, positive, negative, Atom, dot, plain, escape, a_class, a_negated_class, group, named_group, uncaptured, atomic_group, modifiers, modifiers_off, mode_of, Spells}
 
 -- each code point may stand in a name
 abbrev IsName : Table → List ℕ → Type 0
@@ -94,6 +94,7 @@ mutual
   Atom-names m (named_group {t = t} {name = name} {p = p} n e h) =
       one_more m.table name (names_of p) ((name_at-names m.table t).holds e) (Disjunction-names m h)
   Atom-names m (uncaptured h) = Disjunction-names m h
+  Atom-names m (atomic_group h) = Disjunction-names m h
   Atom-names m (modifiers e n d h) = Disjunction-names m h
   Atom-names m (modifiers_off e f n d h) = Disjunction-names m h
 

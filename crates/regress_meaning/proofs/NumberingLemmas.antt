@@ -8,9 +8,9 @@ use Rattle.regress_meaning.specs.Text.{count_up, ◌∈◌, same_text, is_at, sp
 use Rattle.regress_meaning.specs.Class.{is_digit, is_letter}
 use Rattle.regress_meaning.specs.Flags.{Options, settings_of}
 use Rattle.regress_meaning.specs.Table.{Table}
-use Rattle.regress_meaning.specs.Pattern.{Pattern, names_of, nothing, character, any, class, class_escape, sequence, choice, capture, grouped, modified, repeated, look, reference, line_start, line_end, word_boundary}
+use Rattle.regress_meaning.specs.Pattern.{Pattern, names_of, nothing, character, any, class, class_escape, sequence, choice, capture, grouped, atomic, modified, repeated, look, reference, line_start, line_end, word_boundary}
 use Rattle.regress_meaning.specs.Tokens.{Mode, guard, is_octal, digit_value, number_of, decimal_at, Escape, point, set, groups, class_letter, control, control_letter, as_point, hex_at, octal_at, unicode_escape, name_at, numbers_from, property_at, named_reference, octal_or_digit, decimal_escape, identity, escape_at}
-use Rattle.regress_meaning.specs.Grammar.{greedy_at, tree_of, Disjunction, one, more, Alternative, done, next, Term, start, end, boundary, no_boundary, behind, not_behind, ahead, repeated_ahead, once, quantified, Lookahead, positive, negative, Atom, dot, plain, escape, a_class, a_negated_class, group, named_group, uncaptured, modifiers, modifiers_off, mode_of, Spells}
+use Rattle.regress_meaning.specs.Grammar.{greedy_at, tree_of, Disjunction, one, more, Alternative, done, next, Term, start, end, boundary, no_boundary, behind, not_behind, ahead, repeated_ahead, once, quantified, Lookahead, positive, negative, Atom, dot, plain, escape, a_class, a_negated_class, group, named_group, uncaptured, atomic_group, modifiers, modifiers_off, mode_of, Spells}
 use Rattle.regress_meaning.specs.Numbering.{group_numbers, FitsGroups, IsNumbered}
 
 -- the numbers of a name's groups are below a bound that all groups are below
@@ -205,6 +205,7 @@ mutual
   Atom-numbers m (group n h) = capture-numbers None (Disjunction-numbers m h)
   Atom-numbers m (named_group {name = name} n e h) = capture-numbers (Some name) (Disjunction-numbers m h)
   Atom-numbers m (uncaptured {p = p} h) = wrapped-numbers {p = p} (grouped p) refl refl (λ f. f) (Disjunction-numbers m h)
+  Atom-numbers m (atomic_group {p = p} h) = wrapped-numbers {p = p} (atomic p) refl refl (λ f. f) (Disjunction-numbers m h)
   Atom-numbers m (modifiers {on = on} {p = p} e n d h) =
       wrapped-numbers {p = p} (modified (settings_of on) (settings_of []) p) refl refl (λ f. f) (Disjunction-numbers m h)
   Atom-numbers m (modifiers_off {on = on} {off = off} {p = p} e f n d h) =

@@ -4,12 +4,12 @@ use Rattle.std.proofs.lemmas.Bool.{and_parts, not-true}
 use Rattle.std.proofs.Common.{◌≡◌, ℕ, suc, Bool, true, false, not, ◌&&◌, ◌||◌, ◌==◌, List, [], ◌∷◌, ◌++◌, length, drop, Option, Some, None, refl, sym, eqb-true, ◌⊎◌, inl, inr, ⊎_elim}
 use Rattle.regress_meaning.specs.Text.{◌∈◌, is_at, span}
 use Rattle.regress_meaning.specs.Class.{Class, may_hold_strings}
-use Rattle.regress_meaning.specs.Pattern.{Pattern, word_boundary, capture, grouped, modified, look}
+use Rattle.regress_meaning.specs.Pattern.{Pattern, word_boundary, capture, grouped, atomic, modified, look}
 use Rattle.regress_meaning.specs.Flags.{settings_of}
 use Rattle.regress_meaning.specs.Tokens.{Mode, Escape, escape_at, name_at}
-use Rattle.regress_meaning.specs.Grammar.{Disjunction, Term, Lookahead, Atom, start, end, boundary, no_boundary, behind, not_behind, positive, negative, dot, plain, escape, a_class, a_negated_class, group as a_group, named_group as a_named_group, uncaptured as an_uncaptured, modifiers as some_modifiers, modifiers_off, is_pattern_character, is_flag, all_differ}
+use Rattle.regress_meaning.specs.Grammar.{Disjunction, Term, Lookahead, Atom, start, end, boundary, no_boundary, behind, not_behind, positive, negative, dot, plain, escape, a_class, a_negated_class, group as a_group, named_group as a_named_group, uncaptured as an_uncaptured, atomic_group as an_atomic_group, modifiers as some_modifiers, modifiers_off, is_pattern_character, is_flag, all_differ}
 use Rattle.regress_meaning.specs.ReadingClass.{read_class}
-use Rattle.regress_meaning.specs.Reading.{Opening, assertion, single, lookahead, lookbehind, group, named_group, uncaptured, modifiers, no_term, of_escape, of_class, of_name, of_letters, modifiers_at, escape_opening, class_opening, angle_opening, question_opening, parenthesis_opening, opening}
+use Rattle.regress_meaning.specs.Reading.{Opening, assertion, single, lookahead, lookbehind, group, named_group, uncaptured, atomic_group, modifiers, no_term, of_escape, of_class, of_name, of_letters, modifiers_at, escape_opening, class_opening, angle_opening, question_opening, parenthesis_opening, opening}
 use Rattle.regress_meaning.proofs.Inversion.{is_at-eq}
 use Rattle.regress_meaning.proofs.ReadClass.{read_class-sound}
 
@@ -32,6 +32,7 @@ module _ (m : Mode) where
   Fits t (group u) = (k l : ℕ) (p : Pattern) (r : List ℕ) → Disjunction m u (suc k) p l (0x29 ∷ r) → Atom m t k (capture k None p) l r
   Fits t (named_group name u) = (k l : ℕ) (p : Pattern) (r : List ℕ) → Disjunction m u (suc k) p l (0x29 ∷ r) → Atom m t k (capture k (Some name) p) l r
   Fits t (uncaptured u) = (k l : ℕ) (p : Pattern) (r : List ℕ) → Disjunction m u k p l (0x29 ∷ r) → Atom m t k (grouped p) l r
+  Fits t (atomic_group u) = (k l : ℕ) (p : Pattern) (r : List ℕ) → Disjunction m u k p l (0x29 ∷ r) → Atom m t k (atomic p) l r
   Fits t (modifiers on off u) = (k l : ℕ) (p : Pattern) (r : List ℕ) → Disjunction m u k p l (0x29 ∷ r) → Atom m t k (modified (settings_of on) (settings_of off) p) l r
   Fits t no_term = Unit {0}
 
@@ -112,8 +113,9 @@ module _ (m : Mode) where
   question_opening-fits t =
       if-fits (0x28 ∷ 0x3F ∷ t) (is_at (λ c. c ∈ "=!") t) _ _ (lookahead-fits t)
       (λ h. if-fits (0x28 ∷ 0x3F ∷ t) (is_at (λ c. c == 0x3A) t) _ _ (λ h. let (u, e) = is_at-eq 0x3A t h in rw e (λ k l p r d. an_uncaptured d))
+      (λ h. if-fits (0x28 ∷ 0x3F ∷ t) (is_at (λ c. c == 0x3E) t) _ _ (λ h. let (u, e) = is_at-eq 0x3E t h in rw e (λ k l p r d. an_atomic_group d))
       (λ h. if-fits (0x28 ∷ 0x3F ∷ t) (is_at (λ c. c == 0x3C) t) _ _ (λ h. let (u, e) = is_at-eq 0x3C t h in rw e (angle_opening-fits u))
-      (λ h. modifiers_at-fits t)))
+      (λ h. modifiers_at-fits t))))
 
   parenthesis_opening-fits : (t : List ℕ) → Fits (0x28 ∷ t) (parenthesis_opening m t)
   unfolding parenthesis_opening

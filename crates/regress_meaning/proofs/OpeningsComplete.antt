@@ -6,7 +6,7 @@ use Rattle.regress_meaning.specs.Class.{Class, may_hold_strings}
 use Rattle.regress_meaning.specs.Pattern.{character, class}
 use Rattle.regress_meaning.specs.Tokens.{Mode, Escape, escape_at, name_at}
 use Rattle.regress_meaning.specs.Grammar.{ClassBody, is_pattern_character, tree_of, is_flag, all_differ}
-use Rattle.regress_meaning.specs.Reading.{single, lookahead, lookbehind, group, named_group, uncaptured, modifiers, of_letters, modifiers_at, escape_opening, class_opening, angle_opening, question_opening, parenthesis_opening, opening}
+use Rattle.regress_meaning.specs.Reading.{single, lookahead, lookbehind, group, named_group, uncaptured, atomic_group, modifiers, of_letters, modifiers_at, escape_opening, class_opening, angle_opening, question_opening, parenthesis_opening, opening}
 use Rattle.regress_meaning.proofs.ReadClass.{read_class-complete}
 
 -- a test that fails somewhere fails at what equals it
@@ -85,6 +85,10 @@ module _ (m : Mode) where
   unfolding opening parenthesis_opening question_opening
   uncaptured-opening t = refl
 
+  pub atomic_group-opening : (t : List ℕ) → opening m (0x28 ∷ 0x3F ∷ 0x3E ∷ t) ≡ atomic_group t
+  unfolding opening parenthesis_opening question_opening
+  atomic_group-opening t = refl
+
   pub positive-opening : (t : List ℕ) → opening m (0x28 ∷ 0x3F ∷ 0x3D ∷ t) ≡ lookahead false t
   unfolding opening parenthesis_opening question_opening
   positive-opening t = refl
@@ -115,6 +119,7 @@ module _ (m : Mode) where
       rw (
         no_front (λ c. c ∈ "=!") t on u 0x3A e refl refl refl (λ p. refl),
         no_front (λ c. c == 0x3A) t on u 0x3A e refl refl refl (λ p. let no : true ≡ false = rw p at a in cc),
+        no_front (λ c. c == 0x3E) t on u 0x3A e refl refl refl (λ p. refl),
         no_front (λ c. c == 0x3C) t on u 0x3A e refl refl refl (λ p. refl),
         e,
       ) (letters-opening on on [] u a b)
@@ -126,6 +131,7 @@ module _ (m : Mode) where
       rw (
         no_front (λ c. c ∈ "=!") t on u 0x2D e refl refl refl (λ p. refl),
         no_front (λ c. c == 0x3A) t on u 0x2D e refl refl refl (λ p. refl),
+        no_front (λ c. c == 0x3E) t on u 0x2D e refl refl refl (λ p. refl),
         no_front (λ c. c == 0x3C) t on u 0x2D e refl refl refl (λ p. refl),
         e,
         g,

@@ -1,9 +1,9 @@
 -- Where a pattern leads: its outcomes lie on one side of the place that it starts from, stay inside the text, and have as
 -- many groups.
 use Rattle.std.proofs.Common.{◌≡◌, ℕ, zero, suc, Bool, true, false, List, [], ◌∷◌, length, if◌then◌else◌, slice_get, max, reverse, All}
-use Rattle.std.proofs.lemmas.List.Elements.{All-weaker}
+use Rattle.std.proofs.lemmas.List.Elements.{All-take, All-weaker}
 use Rattle.regress_meaning.specs.Class.{Strings, longest}
-use Rattle.regress_meaning.specs.Pattern.{Pattern, Settings, nothing, character, any, class, class_escape, sequence, choice, capture, grouped, modified, repeated, look, reference, line_start, line_end, word_boundary}
+use Rattle.regress_meaning.specs.Pattern.{Pattern, Settings, nothing, character, any, class, class_escape, sequence, choice, capture, grouped, atomic, modified, repeated, look, reference, line_start, line_end, word_boundary}
 use Rattle.regress_meaning.specs.Meaning.{State, Direction, Forward, Backward, Context, string_steps, class_steps, cleared, references, outcomes}
 use Rattle.regress_meaning.specs.Laws.{IsAhead, IsInside}
 use Rattle.regress_meaning.proofs.StepLaws.{To, Goes, stays, All-after, Goes-both, Goes-in_order, Goes-step, Goes-keep_if, Goes-repeat_group, Goes-cleared, Goes-iterations, Goes-looked, Goes-captured}
@@ -42,6 +42,7 @@ module _ (context : Context) where
       Goes-both context dir (outcomes context a dir e) (outcomes context b dir e) (Goes-outcomes a dir e) (Goes-outcomes b dir e) s
   Goes-outcomes (capture k name a) dir e s = Goes-captured context dir k (outcomes context a dir e) (Goes-outcomes a dir e) s
   Goes-outcomes (grouped a) dir e s = Goes-outcomes a dir e s
+  Goes-outcomes (atomic a) dir e s = All-take (To context dir s) 1 (outcomes context a dir e s) (Goes-outcomes a dir e s)
   Goes-outcomes (modified on off a) dir e s = Goes-outcomes a dir _ s
   Goes-outcomes (repeated a first last least most greedy) dir e s =
       Goes-iterations context dir (λ t. outcomes context a dir e (cleared first last t))

@@ -9,7 +9,7 @@ use Rattle.regress_meaning.specs.Class.{Class}
 use Rattle.regress_meaning.specs.Pattern.{Pattern, names_of}
 use Rattle.regress_meaning.specs.Flags.{Options}
 use Rattle.regress_meaning.specs.Tokens.{Mode, Bounds, bounds_at, Escape, point, set, groups}
-use Rattle.regress_meaning.specs.Grammar.{greedy_at, after_mark, is_flag, member_class, Member, as_itself, escaped, Members, no_member, single, from_to, loose, SetCharacter, bare, backspace, punctuator, of_escape, SetString, no_more, and_then, SetStrings, last_string, more_strings, Operand, one_character, of_class, of_strings, inner, inner_negated, Contents, of_union, of_intersection, of_difference, Union, union_end, union_range, union_operand, Intersection, last_and, more_and, Difference, last_minus, more_minus, ClassBody, of_members, of_contents, Disjunction, one, more, Alternative, done, next, Term, start, end, boundary, no_boundary, behind, not_behind, ahead, repeated_ahead, once, quantified, Lookahead, positive, negative, Atom, dot, plain, escape, a_class, a_negated_class, group, named_group, uncaptured, modifiers, modifiers_off, mode_of, Spells}
+use Rattle.regress_meaning.specs.Grammar.{greedy_at, after_mark, is_flag, member_class, Member, as_itself, escaped, Members, no_member, single, from_to, loose, SetCharacter, bare, backspace, punctuator, of_escape, SetString, no_more, and_then, SetStrings, last_string, more_strings, Operand, one_character, of_class, of_strings, inner, inner_negated, Contents, of_union, of_intersection, of_difference, Union, union_end, union_range, union_operand, Intersection, last_and, more_and, Difference, last_minus, more_minus, ClassBody, of_members, of_contents, Disjunction, one, more, Alternative, done, next, Term, start, end, boundary, no_boundary, behind, not_behind, ahead, repeated_ahead, once, quantified, Lookahead, positive, negative, Atom, dot, plain, escape, a_class, a_negated_class, group, named_group, uncaptured, atomic_group, modifiers, modifiers_off, mode_of, Spells}
 use Rattle.regress_meaning.specs.Points.{ClassIsOfPoints, IsOfPoints}
 use Rattle.regress_meaning.proofs.PointWords.{ArePoints, EscapeIsOfPoints, drop-points, span-points, bounds-points, name-points, escape_at-points, class_escape_at-points}
 
@@ -178,6 +178,7 @@ mutual
       let held = past_one (Disjunction-points m name.1 h) in
       ((name.0, held.0), held.1)
   Atom-points m a (uncaptured h) = past_one (Disjunction-points m a.1.1.1 h)
+  Atom-points m a (atomic_group h) = past_one (Disjunction-points m a.1.1.1 h)
   Atom-points m a (modifiers {t = t} e n d h) = past_one (Disjunction-points m (span-rest is_flag t a.1.1 e).1 h)
   Atom-points m a (modifiers_off {t = t} {u = u} e f n d h) =
       past_one (Disjunction-points m (span-rest is_flag u (span-rest is_flag t a.1.1 e).1 f).1 h)

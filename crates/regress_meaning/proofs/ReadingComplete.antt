@@ -2,13 +2,13 @@
 use Rattle.std.proofs.lemmas.Bool.{le-leb, not_from_false}
 use Rattle.std.proofs.Common.{◌≡◌, ℕ, zero, suc, ◌+◌, ◌*◌, ◌<◌, ◌≤◌, Bool, true, false, not, ◌==◌, List, [], ◌∷◌, length, Option, Some, None, refl, ap, ◌∙◌, eqb-true, ⊎_elim, arith}
 use Rattle.regress_meaning.specs.Text.{◌∈◌, is_at, span}
-use Rattle.regress_meaning.specs.Pattern.{Pattern, capture, grouped, modified, repeated, look}
+use Rattle.regress_meaning.specs.Pattern.{Pattern, capture, grouped, atomic, modified, repeated, look}
 use Rattle.regress_meaning.specs.Flags.{settings_of}
 use Rattle.regress_meaning.specs.Tokens.{Mode, Bounds, bounds_at}
-use Rattle.regress_meaning.specs.Grammar.{Disjunction, Alternative, Term, Lookahead, Atom, one, more, done, next, start, end, boundary, no_boundary, behind, not_behind, ahead, repeated_ahead, once, quantified as with_bounds, positive, negative, dot, plain, escape, a_class, a_negated_class, group, named_group, uncaptured, modifiers, modifiers_off, ends_alternative, ends_disjunction, greedy_at, after_mark, is_flag, is_pattern_character}
+use Rattle.regress_meaning.specs.Grammar.{Disjunction, Alternative, Term, Lookahead, Atom, one, more, done, next, start, end, boundary, no_boundary, behind, not_behind, ahead, repeated_ahead, once, quantified as with_bounds, positive, negative, dot, plain, escape, a_class, a_negated_class, group, named_group, uncaptured, atomic_group, modifiers, modifiers_off, ends_alternative, ends_disjunction, greedy_at, after_mark, is_flag, is_pattern_character}
 use Rattle.regress_meaning.specs.Reading.{opening, escape_opening, Front, bounded, quantified, closed, closed_and_quantified, read_term, alternatives_if, alternatives, terms, read_terms, read_disjunction, read_alternative}
 use Rattle.regress_meaning.proofs.Openings.{either_mark}
-use Rattle.regress_meaning.proofs.OpeningsComplete.{neither, plain-opening, escape-opening, class-opening, negated_class-opening, group-opening, named_group-opening, modifiers-opening, modifiers_off-opening, uncaptured-opening, positive-opening, negative-opening, behind-opening, not_behind-opening}
+use Rattle.regress_meaning.proofs.OpeningsComplete.{neither, plain-opening, escape-opening, class-opening, negated_class-opening, group-opening, named_group-opening, modifiers-opening, modifiers_off-opening, uncaptured-opening, atomic_group-opening, positive-opening, negative-opening, behind-opening, not_behind-opening}
 use Rattle.regress_meaning.proofs.Shorter.{span-shorter, name_at-shorter, Alternative-shorter, Term-shorter}
 
 abbrev pub front : Pattern → ℕ → List ℕ → Front
@@ -54,6 +54,8 @@ module _ (m : Mode) (coherent : m.sets ≡ true → m.unicode ≡ true) (read : 
       rw (named_group-opening m t name u h e) (closed-complete true k (suc k) l (capture k (Some name)) u r p (reads u (suc k) l p (0x29 ∷ r) (omega arith) d))
   atom-complete reads (uncaptured {t} {r} {k} {l} {p} d) =
       rw (uncaptured-opening m t) (closed-complete true k k l grouped t r p (reads t k l p (0x29 ∷ r) (omega arith) d))
+  atom-complete reads (atomic_group {t} {r} {k} {l} {p} d) =
+      rw (atomic_group-opening m t) (closed-complete true k k l atomic t r p (reads t k l p (0x29 ∷ r) (omega arith) d))
   atom-complete reads (modifiers {t} {u} {r} {on} {k} {l} {p} e a b d) =
       let shorter = span-leaves_shorter is_flag t on u 0x3A e in
       rw (modifiers-opening m t on u e a b) (closed-complete true k k l (modified (settings_of on) (settings_of [])) u r p (reads u k l p (0x29 ∷ r) (omega arith) d))
@@ -105,6 +107,7 @@ atom-goes_on (a_negated_class d h) = refl
 atom-goes_on (group h d) = refl
 atom-goes_on (named_group h e d) = refl
 atom-goes_on (uncaptured d) = refl
+atom-goes_on (atomic_group d) = refl
 atom-goes_on (modifiers e a b d) = refl
 atom-goes_on (modifiers_off e g a b d) = refl
 

@@ -6,7 +6,7 @@ use lib.Chars.{codes}
 use Rattle.regress_meaning.specs.Text.{span, span_up_to}
 use Rattle.regress_meaning.specs.TableParts.{image, in_intervals, entry}
 use Rattle.regress_meaning.specs.Flags.{options_of, settings_of}
-use Rattle.regress_meaning.specs.Pattern.{Pattern, nothing, character, any, choice, capture, grouped, modified, repeated, look, reference, line_start, line_end, word_boundary}
+use Rattle.regress_meaning.specs.Pattern.{Pattern, nothing, character, any, choice, capture, grouped, atomic, modified, repeated, look, reference, line_start, line_end, word_boundary}
 use Rattle.regress_meaning.specs.Tokens.{greatest, decimal_at, bounds_at, hex_at, low_half, pair_at, braces_at, unicode_escape, octal_at, name_point, name_rest, name_at, key_at, property_at, named_reference, octal_or_digit, decimal_escape, escape_at, class_escape_at}
 use Rattle.regress_meaning.specs.Class.{Class, no_string, union}
 use Rattle.regress_meaning.specs.Grammar.{class_of, holds_a_name}
@@ -270,6 +270,18 @@ groups_are_numbered_by_their_openings = (refl, refl, refl)
 uncapturing_group : AlwaysReads "(?:a)" (alone (grouped (letters "a")))
 unfolding reading
 uncapturing_group = (refl, refl, refl)
+
+atomic_group : AlwaysReads "(?>a)" (alone (atomic (letters "a")))
+unfolding reading
+atomic_group = (refl, refl, refl)
+
+empty_atomic_group : AlwaysReads "(?>)" (alone (atomic nothing))
+unfolding reading
+empty_atomic_group = (refl, refl, refl)
+
+quantified_atomic_group : AlwaysReads "(?>(a)|b)*" (alone (star (atomic (choice (alone (group 0 (letters "a"))) (letters "b"))) 0 1))
+unfolding reading
+quantified_atomic_group = (refl, refl, refl)
 
 lookahead : AlwaysReads "(?=a)" (alone (look false false (letters "a")))
 unfolding reading

@@ -2,11 +2,11 @@
 use Rattle.std.proofs.Common.{◌≡◌, ℕ, zero, suc, Bool, true, false, not, ◌&&◌, ◌==◌, List, [], ◌∷◌, drop, Option, Some, None, nat_le, option_and_then, refl, sym, subst, ⊎_elim}
 use Rattle.std.proofs.lemmas.Bool.{and_parts, not-true, leb-true}
 use Rattle.regress_meaning.specs.Text.{is_at}
-use Rattle.regress_meaning.specs.Pattern.{Pattern, nothing, sequence, choice, capture, grouped, modified, look}
+use Rattle.regress_meaning.specs.Pattern.{Pattern, nothing, sequence, choice, capture, grouped, atomic, modified, look}
 use Rattle.regress_meaning.specs.Flags.{settings_of}
 use Rattle.regress_meaning.specs.Tokens.{Mode, Bounds, bounds_at}
 use Rattle.regress_meaning.specs.Grammar.{Disjunction, Alternative, Term, Lookahead, Atom, one, more, done, next, ahead, repeated_ahead, once, quantified as with_bounds, ends_alternative, ends_disjunction}
-use Rattle.regress_meaning.specs.Reading.{Opening, assertion, single, lookahead, lookbehind, group, named_group, uncaptured, modifiers, no_term, opening, Front, bounded, quantified, closed, closed_and_quantified, read_term, joined_by, alternatives_if, alternatives, terms, read_terms, read_disjunction, read_alternative}
+use Rattle.regress_meaning.specs.Reading.{Opening, assertion, single, lookahead, lookbehind, group, named_group, uncaptured, atomic_group, modifiers, no_term, opening, Front, bounded, quantified, closed, closed_and_quantified, read_term, joined_by, alternatives_if, alternatives, terms, read_terms, read_disjunction, read_alternative}
 use Rattle.regress_meaning.proofs.Inversion.{guard-some, and_then-some, map-some, is_at-eq, if-cases}
 use Rattle.regress_meaning.proofs.Openings.{either_mark, Fits, opening-fits}
 
@@ -99,6 +99,7 @@ module _ (m : Mode) where
     term-sound t k g (group u) fits e = atom_closed-sound (capture k None) t u (suc k) k (read u (suc k)) g refl (λ l p r. fits k l p r) e
     term-sound t k g (named_group name u) fits e = atom_closed-sound (capture k (Some name)) t u (suc k) k (read u (suc k)) g refl (λ l p r. fits k l p r) e
     term-sound t k g (uncaptured u) fits e = atom_closed-sound grouped t u k k (read u k) g refl (λ l p r. fits k l p r) e
+    term-sound t k g (atomic_group u) fits e = atom_closed-sound atomic t u k k (read u k) g refl (λ l p r. fits k l p r) e
     term-sound t k g (modifiers on off u) fits e = atom_closed-sound (modified (settings_of on) (settings_of off)) t u k k (read u k) g refl (λ l p r. fits k l p r) e
     term-sound t k g no_term fits e = cc
 

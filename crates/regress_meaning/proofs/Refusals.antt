@@ -68,7 +68,7 @@ modifiers_that_are_none : AlwaysRefused ("(?ii:a)" ∷ "(?-:a)" ∷ "(?i)" ∷ "
 unfolding reading
 modifiers_that_are_none = (refl, refl, refl)
 
-openings_that_are_none : AlwaysRefused ("(?>a)" ∷ "(?" ∷ "(?)" ∷ "(?a)" ∷ "(?#a)" ∷ "(?P<n>a)" ∷ "(? :a)" ∷ [])
+openings_that_are_none : AlwaysRefused ("(?>a" ∷ "(?>" ∷ "(?>+)" ∷ "(? >a)" ∷ "(?" ∷ "(?)" ∷ "(?a)" ∷ "(?#a)" ∷ "(?P<n>a)" ∷ "(? :a)" ∷ [])
 unfolding reading
 openings_that_are_none = (refl, refl, refl)
 

@@ -1,6 +1,6 @@
 -- The texts of the trees in Rows.antt whose matches are told there: the reading function reads each as that very tree.
 use Rattle.std.proofs.Common.{◌≡◌, [], ◌∷◌, Some, refl}
-use Rattle.regress_meaning.proofs.Rows.{two_choices, groups_in_a_repetition, any_number, single_letter, nested_repetition, counted_repetitions, lazy_repetition, as_often_as_counts_go, at_most_as_often_as_counts_go, empty_group, reference_in_its_group, reference_ahead_of_its_group, number_without_a_group, one_name_in_two_alternatives, digits_behind, letters_ahead, names_behind, letter_behind, not_ahead, repeated_lookahead, digit_ahead, first_letter_of_a_word, repeated_half, dot, high_half, theta, letter_twice, case_ignored_inside, case_kept_inside, dash_beside_a_set, backslash_and_c, keycaps, a_without_b, vowels}
+use Rattle.regress_meaning.proofs.Rows.{two_choices, groups_in_a_repetition, any_number, single_letter, nested_repetition, counted_repetitions, lazy_repetition, as_often_as_counts_go, at_most_as_often_as_counts_go, empty_group, reference_in_its_group, reference_ahead_of_its_group, number_without_a_group, one_name_in_two_alternatives, digits_behind, letters_ahead, names_behind, letter_behind, not_ahead, repeated_lookahead, digit_ahead, first_letter_of_a_word, shorter_first, longer_first, all_letters, captured_letters, repeated_atomic_group, atomic_group_behind, repeated_half, dot, high_half, theta, letter_twice, case_ignored_inside, case_kept_inside, dash_beside_a_set, backslash_and_c, keycaps, a_without_b, vowels}
 use Rattle.regress_meaning.proofs.ReadingRows.{reading, read, Reads, PlainReads}
 
 reads_two_choices : PlainReads "(a|ab)(c|bcd)(d*)" two_choices
@@ -90,6 +90,30 @@ reads_digit_ahead = refl
 reads_first_letter_of_a_word : PlainReads "\\b(\\w)(\\w+)" first_letter_of_a_word
 unfolding reading
 reads_first_letter_of_a_word = refl
+
+reads_shorter_first : PlainReads "(?>a|ab)c" shorter_first
+unfolding reading
+reads_shorter_first = refl
+
+reads_longer_first : PlainReads "(?>ab|a)c" longer_first
+unfolding reading
+reads_longer_first = refl
+
+reads_all_letters : PlainReads "(?>a*)a" all_letters
+unfolding reading
+reads_all_letters = refl
+
+reads_captured_letters : PlainReads "((?>a+))b" captured_letters
+unfolding reading
+reads_captured_letters = refl
+
+reads_repeated_atomic_group : PlainReads "(?>(a)|b)*" repeated_atomic_group
+unfolding reading
+reads_repeated_atomic_group = refl
+
+reads_atomic_group_behind : PlainReads "(?<=^(?>b|ab))c" atomic_group_behind
+unfolding reading
+reads_atomic_group_behind = refl
 
 reads_repeated_half : PlainReads "\\uD800*a" repeated_half
 unfolding reading

@@ -9,7 +9,7 @@ use Rattle.std.specs.Fmt.{digits as number_digits}
 use Rattle.regress_meaning.specs.Table.{Table, canon}
 use Rattle.regress_meaning.specs.TableParts.{table_of, small_parts, image, in_intervals, entry}
 use Rattle.regress_meaning.specs.Class.{value_of, is_word, no_string, range, digits, words, sequences, union, intersection, difference, nested}
-use Rattle.regress_meaning.specs.Pattern.{Pattern, nothing, character, any, class, class_escape, sequence, choice, capture, grouped, modified, repeated, look, reference, line_start, line_end, word_boundary}
+use Rattle.regress_meaning.specs.Pattern.{Pattern, nothing, character, any, class, class_escape, sequence, choice, capture, grouped, atomic, modified, repeated, look, reference, line_start, line_end, word_boundary}
 use Rattle.regress_meaning.specs.Flags.{Options, options_of, settings_of}
 use Rattle.regress_meaning.specs.Tokens.{greatest}
 use Rattle.regress_meaning.specs.Grammar.{class_of}
@@ -318,6 +318,56 @@ words_begin_at_boundaries : matches first_letter_of_a_word "hello world"
     ≡ item 0 5 (took 0 1 ∷ took 1 5 ∷ []) ∷ item 6 11 (took 6 7 ∷ took 7 11 ∷ []) ∷ []
 unfolding computation
 words_begin_at_boundaries = refl
+
+-- ---- atomic groups
+
+-- (?>a|ab)c on abc
+abbrev pub shorter_first : Pattern
+shorter_first = terms (atomic (choice (letters "a") (letters "ab")) ∷ letter "c" ∷ [])
+
+an_atomic_group_tries_no_other_choice : matches shorter_first "abc" ≡ []
+unfolding computation
+an_atomic_group_tries_no_other_choice = refl
+
+-- (?>ab|a)c on abc
+abbrev pub longer_first : Pattern
+longer_first = terms (atomic (choice (letters "ab") (letters "a")) ∷ letter "c" ∷ [])
+
+an_atomic_group_keeps_its_first_outcome : matches longer_first "abc" ≡ item 0 3 [] ∷ []
+unfolding computation
+an_atomic_group_keeps_its_first_outcome = refl
+
+-- (?>a*)a on aaa
+abbrev pub all_letters : Pattern
+all_letters = terms (atomic (terms (star (letter "a") 0 0 ∷ [])) ∷ letter "a" ∷ [])
+
+an_atomic_group_gives_nothing_back : matches all_letters "aaa" ≡ []
+unfolding computation
+an_atomic_group_gives_nothing_back = refl
+
+-- ((?>a+))b on aab
+abbrev pub captured_letters : Pattern
+captured_letters = terms (group 0 (terms (atomic (terms (plus (letter "a") 1 1 ∷ [])) ∷ [])) ∷ letter "b" ∷ [])
+
+a_group_takes_what_its_atomic_group_takes : matches captured_letters "aab" ≡ item 0 3 (took 0 2 ∷ []) ∷ []
+unfolding computation
+a_group_takes_what_its_atomic_group_takes = refl
+
+-- (?>(a)|b)* on ab
+abbrev pub repeated_atomic_group : Pattern
+repeated_atomic_group = terms (star (atomic (choice (terms (group 0 (letters "a") ∷ [])) (letters "b"))) 0 1 ∷ [])
+
+groups_in_an_atomic_group_are_forgotten_at_each_round : matches repeated_atomic_group "ab" ≡ item 0 2 (None ∷ []) ∷ item 2 2 (None ∷ []) ∷ []
+unfolding computation
+groups_in_an_atomic_group_are_forgotten_at_each_round = refl
+
+-- (?<=^(?>b|ab))c on abc
+abbrev pub atomic_group_behind : Pattern
+atomic_group_behind = terms (look false true (terms (line_start ∷ atomic (choice (letters "b") (letters "ab")) ∷ [])) ∷ letter "c" ∷ [])
+
+an_atomic_group_is_read_backward : matches atomic_group_behind "abc" ≡ []
+unfolding computation
+an_atomic_group_is_read_backward = refl
 
 -- ---- code points and what holds them
 

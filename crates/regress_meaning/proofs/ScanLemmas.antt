@@ -8,7 +8,7 @@ use Rattle.regress_meaning.specs.Class.{Class}
 use Rattle.regress_meaning.specs.Pattern.{Pattern, names_of}
 use Rattle.regress_meaning.specs.Flags.{Options}
 use Rattle.regress_meaning.specs.Tokens.{Mode, Bounds, bounds_at, Escape, point, set, groups}
-use Rattle.regress_meaning.specs.Grammar.{is_flag, opens_name, mode_of, tree_of, after_mark, is_pattern_character, Member, as_itself, escaped, Members, no_member, single, from_to, loose, SetCharacter, bare, backspace, punctuator, of_escape, SetString, no_more, and_then, SetStrings, last_string, more_strings, Operand, one_character, of_class, of_strings, inner, inner_negated, Contents, of_union, of_intersection, of_difference, Union, union_end, union_range, union_operand, Intersection, last_and, more_and, Difference, last_minus, more_minus, ClassBody, of_members, of_contents, Disjunction, one, more, Alternative, done, next, Term, start, end, boundary, no_boundary, behind, not_behind, ahead, repeated_ahead, once, quantified, Lookahead, positive, negative, Atom, dot, plain, escape, a_class, a_negated_class, group, named_group, uncaptured, modifiers, modifiers_off}
+use Rattle.regress_meaning.specs.Grammar.{is_flag, opens_name, mode_of, tree_of, after_mark, is_pattern_character, Member, as_itself, escaped, Members, no_member, single, from_to, loose, SetCharacter, bare, backspace, punctuator, of_escape, SetString, no_more, and_then, SetStrings, last_string, more_strings, Operand, one_character, of_class, of_strings, inner, inner_negated, Contents, of_union, of_intersection, of_difference, Union, union_end, union_range, union_operand, Intersection, last_and, more_and, Difference, last_minus, more_minus, ClassBody, of_members, of_contents, Disjunction, one, more, Alternative, done, next, Term, start, end, boundary, no_boundary, behind, not_behind, ahead, repeated_ahead, once, quantified, Lookahead, positive, negative, Atom, dot, plain, escape, a_class, a_negated_class, group, named_group, uncaptured, atomic_group, modifiers, modifiers_off}
 use Rattle.regress_meaning.proofs.Inversion.{if-both}
 use Rattle.regress_meaning.specs.Scan.{group_names, scanned_names}
 use Rattle.regress_meaning.proofs.ScanWords.{differs, is_neutral, neutral_by, Passed, span-passed, bounds-leads, name-ends}
@@ -238,6 +238,7 @@ module _ (m : Mode) where
             named_group-step m t name u other read ((name-ends m.table t).holds read) ∙ ap (λ names. name ∷ names) (inside (disjunction-found d));
       }
       atom-found (uncaptured {t} d) = record { same = opened 0x3A t refl refl ∙ inside (disjunction-found d) }
+      atom-found (atomic_group {t} d) = record { same = opened 0x3E t refl refl ∙ inside (disjunction-found d) }
       atom-found (modifiers {t} {u} {on} e some apart d) = record {
         same =
             flags-opened t on u 0x3A refl refl e ∙ inside (disjunction-found d);

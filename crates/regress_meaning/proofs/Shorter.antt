@@ -8,7 +8,7 @@ use Rattle.regress_meaning.proofs.Inversion.{Gives, gives-none, gives-some, give
 use Rattle.regress_meaning.specs.Text.{between, ◌∈◌, is_at, span, span_up_to}
 use Rattle.regress_meaning.specs.Tokens.{Mode, guard, is_high, is_low, number_of, begins_name, continues_name, as_point, class_letter, control, property_of, numbers_from, is_octal, is_hex, Bounds, bounds_at, braced_end, decimal_at, hex_at, low_half, pair_at, braces_at, unicode_escape, octal_at, name_point, name_rest, name_at, key_at, Escape, point, set, property_at, named_reference, octal_or_digit, decimal_escape, control_letter, identity, escape_at, class_escape_at}
 use Rattle.regress_meaning.specs.Pattern.{Pattern}
-use Rattle.regress_meaning.specs.Grammar.{greedy_at, after_mark, is_flag, Member, as_itself, escaped, Members, no_member, single, from_to, loose, SetCharacter, bare, backspace, punctuator, of_escape, SetString, no_more, and_then, SetStrings, last_string, more_strings, Operand, one_character, of_class, of_strings, inner, inner_negated, Contents, of_union, of_intersection, of_difference, Union, union_end, union_range, union_operand, Intersection, last_and, more_and, Difference, last_minus, more_minus, ClassBody, of_members, of_contents, Disjunction, one, more, Alternative, done, next, Term, start, end, boundary, no_boundary, behind, not_behind, ahead, repeated_ahead, once, quantified, Lookahead, positive, negative, Atom, dot, plain, escape, a_class, a_negated_class, group, named_group, uncaptured, modifiers, modifiers_off}
+use Rattle.regress_meaning.specs.Grammar.{greedy_at, after_mark, is_flag, Member, as_itself, escaped, Members, no_member, single, from_to, loose, SetCharacter, bare, backspace, punctuator, of_escape, SetString, no_more, and_then, SetStrings, last_string, more_strings, Operand, one_character, of_class, of_strings, inner, inner_negated, Contents, of_union, of_intersection, of_difference, Union, union_end, union_range, union_operand, Intersection, last_and, more_and, Difference, last_minus, more_minus, ClassBody, of_members, of_contents, Disjunction, one, more, Alternative, done, next, Term, start, end, boundary, no_boundary, behind, not_behind, ahead, repeated_ahead, once, quantified, Lookahead, positive, negative, Atom, dot, plain, escape, a_class, a_negated_class, group, named_group, uncaptured, atomic_group, modifiers, modifiers_off}
 use Rattle.regress_meaning.specs.Table.{Table, last_code_point}
 use Rattle.regress_meaning.specs.Class.{Class, is_digit, is_letter, is_ascii_word}
 
@@ -338,6 +338,7 @@ mutual
   Atom-shorter m (group n h) = omega (arith, Disjunction-shorter m h)
   Atom-shorter m (named_group {t = t} n e h) = omega (arith, name_at-shorter m.table t e, Disjunction-shorter m h)
   Atom-shorter m (uncaptured h) = omega (arith, Disjunction-shorter m h)
+  Atom-shorter m (atomic_group h) = omega (arith, Disjunction-shorter m h)
   Atom-shorter m (modifiers {t = t} e n d h) = omega (arith, span-rest is_flag t e, Disjunction-shorter m h)
   Atom-shorter m (modifiers_off {t = t} {u = u} e f n d h) =
       omega (arith, span-rest is_flag t e, span-rest is_flag u f, Disjunction-shorter m h)

@@ -9,7 +9,7 @@ use Rattle.regress_meaning.specs.Class.{Class, no_string, range, digits, spaces,
 use Rattle.regress_meaning.specs.Pattern.{Pattern, names_of}
 use Rattle.regress_meaning.specs.Flags.{Options}
 use Rattle.regress_meaning.specs.Tokens.{Mode, class_letter, key_at, property_of, property_at, Escape, point, set, groups}
-use Rattle.regress_meaning.specs.Grammar.{tree_of, member_class, Member, as_itself, escaped, Members, no_member, single, from_to, loose, ClassBody, of_members, of_contents, Disjunction, one, more, Alternative, done, next, Term, start, end, boundary, no_boundary, behind, not_behind, ahead, repeated_ahead, once, quantified, Lookahead, positive, negative, Atom, dot, plain, escape, a_class, a_negated_class, group, named_group, uncaptured, modifiers, modifiers_off, mode_of, Spells}
+use Rattle.regress_meaning.specs.Grammar.{tree_of, member_class, Member, as_itself, escaped, Members, no_member, single, from_to, loose, ClassBody, of_members, of_contents, Disjunction, one, more, Alternative, done, next, Term, start, end, boundary, no_boundary, behind, not_behind, ahead, repeated_ahead, once, quantified, Lookahead, positive, negative, Atom, dot, plain, escape, a_class, a_negated_class, group, named_group, uncaptured, atomic_group, modifiers, modifiers_off, mode_of, Spells}
 use Rattle.regress_meaning.specs.Points.{ClassHoldsNoStrings, HoldsNoStrings}
 
 -- what an escape stands for has no strings in it
@@ -100,6 +100,7 @@ module _ (m : Mode) (without : m.sets ≡ false) where
     Atom-plain (group n h) = Disjunction-plain h
     Atom-plain (named_group n e h) = Disjunction-plain h
     Atom-plain (uncaptured h) = Disjunction-plain h
+    Atom-plain (atomic_group h) = Disjunction-plain h
     Atom-plain (modifiers e n d h) = Disjunction-plain h
     Atom-plain (modifiers_off e f n d h) = Disjunction-plain h
 

@@ -8,10 +8,10 @@ use Rattle.regress_meaning.proofs.EscapeKinds.{HoldsOfEach, escape_at-each}
 use Rattle.regress_meaning.proofs.Shorter.{bounds_at-shorter, escape_at-shorter, name_at-shorter, span-rest, after_mark-shorter, ClassBody-shorter}
 use Rattle.regress_meaning.specs.Text.{same_text}
 use Rattle.regress_meaning.specs.Table.{Table}
-use Rattle.regress_meaning.specs.Pattern.{Pattern, names_of, character, any, class, class_escape, sequence, choice, capture, grouped, modified, repeated, look, reference, line_start, line_end, word_boundary}
+use Rattle.regress_meaning.specs.Pattern.{Pattern, names_of, character, any, class, class_escape, sequence, choice, capture, grouped, atomic, modified, repeated, look, reference, line_start, line_end, word_boundary}
 use Rattle.regress_meaning.specs.Flags.{Options, settings_of}
 use Rattle.regress_meaning.specs.Tokens.{Mode, numbers_from, class_letter, property_at, Escape, point, set, groups}
-use Rattle.regress_meaning.specs.Grammar.{greedy_at, is_flag, tree_of, Disjunction, one, more, Alternative, done, next, Term, start, end, boundary, no_boundary, behind, not_behind, ahead, repeated_ahead, once, quantified, Lookahead, positive, negative, Atom, dot, plain, escape, a_class, a_negated_class, group, named_group, uncaptured, modifiers, modifiers_off, mode_of, Spells}
+use Rattle.regress_meaning.specs.Grammar.{greedy_at, is_flag, tree_of, Disjunction, one, more, Alternative, done, next, Term, start, end, boundary, no_boundary, behind, not_behind, ahead, repeated_ahead, once, quantified, Lookahead, positive, negative, Atom, dot, plain, escape, a_class, a_negated_class, group, named_group, uncaptured, atomic_group, modifiers, modifiers_off, mode_of, Spells}
 use Rattle.regress_meaning.specs.Limits.{quantifiers}
 use Rattle.regress_meaning.specs.Weights.{weight}
 
@@ -155,6 +155,8 @@ module _ (m : Mode) where
         (omega (arith, name_at-shorter m.table t e)) (Disjunction-fits h)
     Atom-fits (uncaptured {p = p} h) =
         around-fits p (grouped p) two (omega arith) (omega arith) (omega arith) (omega arith) (Disjunction-fits h)
+    Atom-fits (atomic_group {p = p} h) =
+        around-fits p (atomic p) two (omega arith) (omega arith) (omega arith) (omega arith) (Disjunction-fits h)
     Atom-fits (modifiers {t = t} {on = on} {p = p} e n d h) =
         around-fits p (modified (settings_of on) (settings_of []) p) two (omega arith) (omega arith) (omega arith)
         (omega (arith, span-rest is_flag t e)) (Disjunction-fits h)

@@ -7,7 +7,7 @@ use lib.Chars.{codes}
 use Rattle.regress_meaning.specs.Text.{holds, ◌∈◌, is_at, span}
 use Rattle.regress_meaning.specs.Table.{Table}
 use Rattle.regress_meaning.specs.Class.{Class, no_string, range, strings, union, intersection, difference, nested, may_hold_strings, among}
-use Rattle.regress_meaning.specs.Pattern.{Pattern, names_of, nothing, character, any, class, class_escape, sequence, choice, capture, grouped, modified, repeated, look, reference, line_start, line_end, word_boundary}
+use Rattle.regress_meaning.specs.Pattern.{Pattern, names_of, nothing, character, any, class, class_escape, sequence, choice, capture, grouped, atomic, modified, repeated, look, reference, line_start, line_end, word_boundary}
 use Rattle.regress_meaning.specs.Flags.{Options, is_unicode, settings_of}
 use Rattle.regress_meaning.specs.Tokens.{Mode, Bounds, bounds_at, name_at, Escape, point, set, groups, escape_at, class_escape_at}
 
@@ -180,6 +180,7 @@ module _ (m : Mode) where
       group : {t r : List ℕ} {k l : ℕ} {p : Pattern} → is_at (λ c. c == 0x3F) t ≡ false → Disjunction t (suc k) p l (0x29 ∷ r) → Atom (0x28 ∷ t) k (capture k None p) l r
       named_group : {t u r name : List ℕ} {k l : ℕ} {p : Pattern} → is_at (λ c. c ∈ "=!") t ≡ false → name_at m.table t ≡ Some (name, u) → Disjunction u (suc k) p l (0x29 ∷ r) → Atom (0x28 ∷ 0x3F ∷ 0x3C ∷ t) k (capture k (Some name) p) l r
       uncaptured : {t r : List ℕ} {k l : ℕ} {p : Pattern} → Disjunction t k p l (0x29 ∷ r) → Atom (0x28 ∷ 0x3F ∷ 0x3A ∷ t) k (grouped p) l r
+      atomic_group : {t r : List ℕ} {k l : ℕ} {p : Pattern} → Disjunction t k p l (0x29 ∷ r) → Atom (0x28 ∷ 0x3F ∷ 0x3E ∷ t) k (atomic p) l r
       modifiers : {t u r on : List ℕ} {k l : ℕ} {p : Pattern} → span is_flag t ≡ (on, 0x3A ∷ u) → (length on == 0) ≡ false → all_differ on ≡ true → Disjunction u k p l (0x29 ∷ r) → Atom (0x28 ∷ 0x3F ∷ t) k (modified (settings_of on) (settings_of []) p) l r
       modifiers_off : {t u v r on off : List ℕ} {k l : ℕ} {p : Pattern} → span is_flag t ≡ (on, 0x2D ∷ u) → span is_flag u ≡ (off, 0x3A ∷ v) → (length (on ++ off) == 0) ≡ false → all_differ (on ++ off) ≡ true → Disjunction v k p l (0x29 ∷ r) → Atom (0x28 ∷ 0x3F ∷ t) k (modified (settings_of on) (settings_of off) p) l r
 
@@ -198,6 +199,7 @@ names_apart (choice a b) = names_apart a && names_apart b
 names_apart (capture k None a) = names_apart a
 names_apart (capture k (Some name) a) = names_apart a && not (share_a_name (name ∷ []) (names_of a))
 names_apart (grouped a) = names_apart a
+names_apart (atomic a) = names_apart a
 names_apart (modified on off a) = names_apart a
 names_apart (repeated a from to least most greedy) = names_apart a
 names_apart (look negated backward a) = names_apart a

@@ -42,6 +42,10 @@ OffsetsRise r = (p q : ℕ) → p < q → q ≤ length r.points → offset r p <
 abbrev pub in_group : List ℕ → List ℕ
 in_group text = codes "(?:" ++ text ++ codes ")"
 
+-- `(?>` and `)` around a pattern
+abbrev pub in_atomic_group : List ℕ → List ℕ
+in_atomic_group text = codes "(?>" ++ text ++ codes ")"
+
 -- what was read leaves a text of fewer than n code points
 abbrev pub LeavesBelow : {A : Type 0} → ℕ → Option (A × List ℕ) → Type 0
 LeavesBelow {A} n o = (x : A) (r : List ℕ) → o ≡ Some (x, r) → length r < n

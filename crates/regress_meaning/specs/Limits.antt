@@ -2,7 +2,7 @@
 use Rattle.std.specs.Prelude.{ℕ, ◌+◌, ◌<◌, ◌≤◌, Bool, List, length, max, count_by}
 use Rattle.regress_meaning.specs.Table.{Table}
 use Rattle.regress_meaning.specs.Class.{Class, union, intersection, difference, nested}
-use Rattle.regress_meaning.specs.Pattern.{Pattern, names_of, class, sequence, choice, capture, grouped, modified, repeated, look}
+use Rattle.regress_meaning.specs.Pattern.{Pattern, names_of, class, sequence, choice, capture, grouped, atomic, modified, repeated, look}
 use Rattle.regress_meaning.specs.Flags.{Options}
 use Rattle.regress_meaning.specs.Text.{◌∈◌}
 use Rattle.regress_meaning.specs.Grammar.{Spells}
@@ -22,6 +22,7 @@ depth (sequence a b) = max (depth a) (depth b)
 depth (choice a b) = max (depth a) (depth b)
 depth (capture k name a) = depth a + 1
 depth (grouped a) = depth a + 1
+depth (atomic a) = depth a + 1
 depth (modified on off a) = depth a + 1
 depth (repeated a from to least most greedy) = depth a
 depth (look negated backward a) = depth a + 1
@@ -33,6 +34,7 @@ quantifiers (sequence a b) = quantifiers a + quantifiers b
 quantifiers (choice a b) = quantifiers a + quantifiers b
 quantifiers (capture k name a) = quantifiers a
 quantifiers (grouped a) = quantifiers a
+quantifiers (atomic a) = quantifiers a
 quantifiers (modified on off a) = quantifiers a
 quantifiers (repeated a from to least most greedy) = quantifiers a + 1
 quantifiers (look negated backward a) = quantifiers a

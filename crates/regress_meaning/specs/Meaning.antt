@@ -1,12 +1,12 @@
 -- What a pattern matches: the ordered list of its outcomes from a state, the most preferred first. The standard's
 -- matchers take a continuation and answer its first success; the list holds all that a continuation may be tried on, in
 -- that order ("Notation", "CompileSubpattern").
-use Rattle.std.specs.Prelude.{ℕ, zero, suc, ◌+◌, ◌-◌, Bool, true, false, not, ◌&&◌, ◌||◌, ◌==◌, List, [], ◌∷◌, ◌++◌, length, Option, Some, None, if◌then◌else◌, slice_get, slice_set, slice_range, filter, map, reverse, nat_lt, nat_le, min, max}
+use Rattle.std.specs.Prelude.{ℕ, zero, suc, ◌+◌, ◌-◌, Bool, true, false, not, ◌&&◌, ◌||◌, ◌==◌, List, [], ◌∷◌, ◌++◌, length, take, Option, Some, None, if◌then◌else◌, slice_get, slice_set, slice_range, filter, map, reverse, nat_lt, nat_le, min, max}
 use Rattle.std.specs.List.{flat_map, list_any, list_all}
 use lib.Pointwise.{pointwise}
 use Rattle.regress_meaning.specs.Table.{Table, canon, closure}
 use Rattle.regress_meaning.specs.Class.{Strings, value_of, is_word, longest}
-use Rattle.regress_meaning.specs.Pattern.{Pattern, Settings, nothing, character, any, class, class_escape, sequence, choice, capture, grouped, modified, repeated, look, reference, line_start, line_end, word_boundary}
+use Rattle.regress_meaning.specs.Pattern.{Pattern, Settings, nothing, character, any, class, class_escape, sequence, choice, capture, grouped, atomic, modified, repeated, look, reference, line_start, line_end, word_boundary}
 
 -- A place in the text, and of each group the range of places that it took, if any ("Notation").
 pub record State : Type 0 where
@@ -170,6 +170,7 @@ module _ (context : Context) where
   outcomes (choice a b) dir e s = outcomes a dir e s ++ outcomes b dir e s
   outcomes (capture k name a) dir e s = map (captured k s.place) (outcomes a dir e s)
   outcomes (grouped a) dir e s = outcomes a dir e s
+  outcomes (atomic a) dir e s = take 1 (outcomes a dir e s)
   outcomes (modified on off a) dir e s = outcomes a dir (with on off e) s
   outcomes (repeated a first last least most greedy) dir e s =
       iterations (λ t. outcomes a dir e (cleared first last t)) greedy most least s

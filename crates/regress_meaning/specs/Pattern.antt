@@ -24,6 +24,8 @@ pub data Pattern : Type 0 where
   capture : ℕ → Option (List ℕ) → Pattern → Pattern
   -- `(?:..)`
   grouped : Pattern → Pattern
+  -- `(?>..)`: of its contents the first outcome alone
+  atomic : Pattern → Pattern
   -- `(?i-m:..)`: what is switched on, and what off
   modified : (on off : Settings) → Pattern → Pattern
   -- the body, the first group inside, the group behind the last one inside, and the quantifier
@@ -43,6 +45,7 @@ names_of (choice a b) = names_of a ++ names_of b
 names_of (capture k None a) = [] ∷ names_of a
 names_of (capture k (Some name) a) = name ∷ names_of a
 names_of (grouped a) = names_of a
+names_of (atomic a) = names_of a
 names_of (modified on off a) = names_of a
 names_of (repeated a from to least most greedy) = names_of a
 names_of (look negated backward a) = names_of a

@@ -2,7 +2,7 @@
 use Rattle.std.specs.Prelude.{◌≤◌, All, IfSome}
 use Rattle.regress_meaning.specs.TableParts.{is_code_point}
 use Rattle.regress_meaning.specs.Class.{Class, range, property, sequences, strings, union, intersection, difference, complement, nested}
-use Rattle.regress_meaning.specs.Pattern.{Pattern, character, class, class_escape, sequence, choice, capture, grouped, modified, repeated, look}
+use Rattle.regress_meaning.specs.Pattern.{Pattern, character, class, class_escape, sequence, choice, capture, grouped, atomic, modified, repeated, look}
 
 -- Each range has its first no later than its last, and ranges, strings and keys are of code points.
 abbrev pub ClassIsOfPoints : Class → Type 0
@@ -26,6 +26,7 @@ IsOfPoints (sequence a b) = IsOfPoints a × IsOfPoints b
 IsOfPoints (choice a b) = IsOfPoints a × IsOfPoints b
 IsOfPoints (capture k name a) = IfSome name (All is_code_point) × IsOfPoints a
 IsOfPoints (grouped a) = IsOfPoints a
+IsOfPoints (atomic a) = IsOfPoints a
 IsOfPoints (modified on off a) = IsOfPoints a
 IsOfPoints (repeated a first last least most greedy) = IsOfPoints a
 IsOfPoints (look negated backward a) = IsOfPoints a
@@ -50,6 +51,7 @@ HoldsNoStrings (sequence a b) = HoldsNoStrings a × HoldsNoStrings b
 HoldsNoStrings (choice a b) = HoldsNoStrings a × HoldsNoStrings b
 HoldsNoStrings (capture k name a) = HoldsNoStrings a
 HoldsNoStrings (grouped a) = HoldsNoStrings a
+HoldsNoStrings (atomic a) = HoldsNoStrings a
 HoldsNoStrings (modified on off a) = HoldsNoStrings a
 HoldsNoStrings (repeated a first last least most greedy) = HoldsNoStrings a
 HoldsNoStrings (look negated backward a) = HoldsNoStrings a

@@ -4,7 +4,7 @@ use Rattle.std.specs.Prelude.{◌≡◌, ℕ, zero, suc, ◌+◌, ◌*◌, ◌�
 use Rattle.regress_meaning.specs.Text.{◌∈◌, is_at, span}
 use Rattle.regress_meaning.specs.Table.{Table}
 use Rattle.regress_meaning.specs.Class.{Class, may_hold_strings}
-use Rattle.regress_meaning.specs.Pattern.{Pattern, names_of, nothing, character, any, class, sequence, choice, capture, grouped, modified, repeated, look, line_start, line_end, word_boundary}
+use Rattle.regress_meaning.specs.Pattern.{Pattern, names_of, nothing, character, any, class, sequence, choice, capture, grouped, atomic, modified, repeated, look, line_start, line_end, word_boundary}
 use Rattle.regress_meaning.specs.Flags.{Options, settings_of}
 use Rattle.regress_meaning.specs.Tokens.{Mode, Bounds, bounds_at, name_at, guard, Escape, escape_at}
 use Rattle.regress_meaning.specs.Grammar.{ends_alternative, greedy_at, after_mark, tree_of, is_flag, all_differ, is_pattern_character, names_apart, mode_of}
@@ -22,6 +22,7 @@ pub data Opening : Type 0 where
   group : List ℕ → Opening
   named_group : List ℕ → List ℕ → Opening
   uncaptured : List ℕ → Opening
+  atomic_group : List ℕ → Opening
   modifiers : (on off : List ℕ) → List ℕ → Opening
   no_term : Opening
 
@@ -74,6 +75,7 @@ module _ (m : Mode) where
   question_opening t =
       if is_at (λ c. c ∈ "=!") t then lookahead (is_at (λ c. c == 0x21) t) (drop 1 t)
       else if is_at (λ c. c == 0x3A) t then uncaptured (drop 1 t)
+      else if is_at (λ c. c == 0x3E) t then atomic_group (drop 1 t)
       else if is_at (λ c. c == 0x3C) t then angle_opening (drop 1 t)
       else modifiers_at t
 
@@ -129,6 +131,7 @@ read_term m read k (lookbehind negated t) = option_and_then (closed (look negate
 read_term m read k (group t) = closed_and_quantified true k (capture k None) (read t (suc k))
 read_term m read k (named_group name t) = closed_and_quantified true k (capture k (Some name)) (read t (suc k))
 read_term m read k (uncaptured t) = closed_and_quantified true k grouped (read t k)
+read_term m read k (atomic_group t) = closed_and_quantified true k atomic (read t k)
 read_term m read k (modifiers on off t) = closed_and_quantified true k (modified (settings_of on) (settings_of off)) (read t k)
 read_term m read k no_term = None
 

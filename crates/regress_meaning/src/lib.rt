@@ -22,7 +22,7 @@ ghost use Rattle.regress_meaning.specs.Meaning.{State, Direction, Context, outco
 ghost use Rattle.regress_meaning.specs.Matches.{Item, first_match, match_list, next_place};
 ghost use Rattle.regress_meaning.specs.Literal.{escaped_text, literal_pattern, occurrences};
 ghost use Rattle.regress_meaning.specs.Offsets.{of_utf8, of_ascii, of_utf16, of_ucs2};
-ghost use Rattle.regress_meaning.specs.Laws.{IsInside, IsItemInside, IsAhead, ItemsRise, OffsetsRise, in_group, LeavesLess, ContentsBySteps};
+ghost use Rattle.regress_meaning.specs.Laws.{IsInside, IsItemInside, IsAhead, ItemsRise, OffsetsRise, in_group, in_atomic_group, LeavesLess, ContentsBySteps};
 
 /// The closure of a closed set is that set, whatever the canon.
 pub fn closure_is_idempotent()
@@ -136,6 +136,11 @@ pub fn matches_go_on()
 /// A pattern and the same in `(?:..)` have the same matches, groups included.
 pub fn group_without_capture_is_transparent()
     ensures { (table : Table) → (o : Options) → (source : List ℕ) → (p : Pattern) → (q : Pattern) → Spells table o source p → Spells table o (in_group source) q → (text : List ℕ) → (place : ℕ) → match_list table o q text place ≡ match_list table o p text place }
+{}
+
+/// A pattern and the same in `(?>..)` have the same matches, groups included.
+pub fn atomic_group_around_all_is_transparent()
+    ensures { (table : Table) → (o : Options) → (source : List ℕ) → (p : Pattern) → (q : Pattern) → Spells table o source p → Spells table o (in_atomic_group source) q → (text : List ℕ) → (place : ℕ) → match_list table o q text place ≡ match_list table o p text place }
 {}
 
 /// An escaped text spells the tree of its characters one after another, whatever the table, and that passes no limit.

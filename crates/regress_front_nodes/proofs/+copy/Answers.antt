@@ -33,7 +33,7 @@ copy::copies-returns t c =
 pub node::Node::copy_of_parts-returns-in_default : goal.node::Node::copy_of_parts-returns-in_default
 node::Node::copy_of_parts-returns-in_default t c = λ all.
     let i = c.in_default in
-    other_than_copied c.args.self.now i.not-Cat i.not-Alt i.not-LookaroundAssertion i.not-Loop i.not-Loop1CharBody c.requires.inner all.0
+    other_than_copied c.args.self.now i.not-Cat i.not-Alt i.not-LookaroundAssertion i.not-AtomicGroup i.not-Loop i.not-Loop1CharBody c.requires.inner all.0
 
 pub node::Node::copy_of_parts-returns-in_default-2 : goal.node::Node::copy_of_parts-returns-in_default-2
 node::Node::copy_of_parts-returns-in_default-2 t c = λ all.

@@ -13,7 +13,7 @@ use regress_front_sets::{CODE_POINT_MAX, CodePoint};
 use std::alloc::{AllocError, Global};
 
 /// The classes of a map of case: the code points that have one image, where they are more than one.
-#[derive(Debug, Drop)]
+#[derive(Drop)]
 pub(crate) struct Classes {
     /// For the image of a class which of the lists has its members, counted from 1, and 0 for any other code point.
     numbers: Pages,
@@ -50,6 +50,13 @@ impl Classes {
             Some(number) if number > 0 => Some(self.lists[number as usize - 1].as_slice()),
             _ => None,
         }
+    }
+
+    /// How many classes there are.
+    pub(crate) fn count(&self) -> usize
+        ensures { result ≡ vec_len self.now.lists }
+    {
+        self.lists.len()
     }
 
     /// Whether no code point of the page of this one is the image of a class, so that no page is kept for it.

@@ -11,14 +11,14 @@ pub(crate) const PAGE_SIZE: u32 = 256;
 pub(crate) const PAGE_COUNT: u32 = 4352;
 
 /// The numbers of 256 code points, the first of which is a multiple of 256.
-#[derive(Debug, Drop)]
+#[derive(Drop)]
 pub(crate) struct Page {
     pub(crate) numbers: Vec<u32>,
     pub(crate) ghost full: { vec_len numbers ≡ 256 },
 }
 
 /// Numbers of code points. Only pages that are of use are kept.
-#[derive(Debug, Drop)]
+#[derive(Drop)]
 pub(crate) struct Pages {
     /// For each 256 code points which of the pages is theirs, counted from 1, and 0 where they have none.
     root: Vec<u16>,
@@ -56,6 +56,18 @@ impl Pages {
             number = self.pages.len() as u16;
         }
         Ok(self.root.push(number)?)
+    }
+
+    /// Where their memory is from.
+    pub(crate) fn allocator(&self) -> Global {
+        *self.root.allocator()
+    }
+
+    /// How many pages are kept.
+    pub(crate) fn count(&self) -> usize
+        ensures { result ≡ vec_len self.now.pages }
+    {
+        self.pages.len()
     }
 
     /// The number of a code point, if it has a page.

@@ -6,9 +6,9 @@ use Rattle.regress_front_core.specs.Quantifiers.{most}
 use Rattle.regress_front_nodes.specs.Trees.{tree, cat_of}
 use Rattle.regress_front_nodes.specs.Forms.{nesting}
 use Rattle.regress_front_nodes.proofs.ChangeLemmas.{nesting-part}
-use Rattle.regress_front_nodes.proofs.TreeLaws.{tree-LookaroundAssertion, tree-Loop, tree-Loop1CharBody, tree-Cat, tree-Alt, tree-CaptureGroup}
+use Rattle.regress_front_nodes.proofs.TreeLaws.{tree-LookaroundAssertion, tree-AtomicGroup, tree-Loop, tree-Loop1CharBody, tree-Cat, tree-Alt, tree-CaptureGroup}
 use Rattle.regress_engine_prefix.specs.Prefixes.{IsLawful, Foretells}
-use Rattle.regress_engine_prefix.proofs.PrefixLemmas.{Foretells-look, Foretells-loop, Foretells-single_loop, Foretells-alt, Foretells-capture, Foretells-parts, Foretells-still_parts, lawful-parts}
+use Rattle.regress_engine_prefix.proofs.PrefixLemmas.{Foretells-look, Foretells-loop, Foretells-single_loop, Foretells-alt, Foretells-capture, Foretells-atomic, Foretells-parts, Foretells-still_parts, lawful-parts}
 use Rattle.regress_engine_prefix.specs.declared.prefix.Prefix.TheVariants.{Still}
 use Rattle.regress_engine_prefix.proofs.prefix.+prefix.Goals as goal
 
@@ -40,6 +40,12 @@ find-returns-in-CaptureGroup t c =
     rw (c.in-CaptureGroup.is, tree-CaptureGroup, ← c.deref-in-CaptureGroup.ensures)
     (IfOk-weaker c.find.result _ _ (λ _ told. Foretells-capture c.find.new.known _ _ (tree c.deref-in-CaptureGroup.result.now) told)
     c.find.ensures)
+
+pub find-returns-in-AtomicGroup : goal.find-returns-in-AtomicGroup
+find-returns-in-AtomicGroup t c =
+    rw (c.in-AtomicGroup.is, tree-AtomicGroup, ← c.deref-in-AtomicGroup.ensures)
+    (IfOk-weaker c.find-in-AtomicGroup.result _ _ (λ _ told. Foretells-atomic c.find-in-AtomicGroup.new.known _ _ (tree c.deref-in-AtomicGroup.result.now) told)
+    c.find-in-AtomicGroup.ensures)
 
 pub find-returns-in-LookaroundAssertion : goal.find-returns-in-LookaroundAssertion
 find-returns-in-LookaroundAssertion t c =

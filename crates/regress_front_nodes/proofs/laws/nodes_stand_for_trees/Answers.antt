@@ -1,4 +1,4 @@
-use Rattle.regress_front_nodes.proofs.TreeLaws.{tree-Empty, tree-Goal, tree-Char, tree-ByteSequence, tree-ByteSet, tree-CharSet, tree-Cat, tree-Alt, tree-MatchAny, tree-MatchAnyExceptLineTerminator, tree-Anchor, tree-WordBoundary, tree-CaptureGroup, tree-BackRef, tree-Bracket, tree-StringSet, tree-LookaroundAssertion, tree-Loop, tree-Loop1CharBody}
+use Rattle.regress_front_nodes.proofs.TreeLaws.{tree-Empty, tree-Goal, tree-Char, tree-ByteSequence, tree-ByteSet, tree-CharSet, tree-Cat, tree-Alt, tree-MatchAny, tree-MatchAnyExceptLineTerminator, tree-Anchor, tree-WordBoundary, tree-CaptureGroup, tree-BackRef, tree-Bracket, tree-StringSet, tree-LookaroundAssertion, tree-AtomicGroup, tree-Loop, tree-Loop1CharBody}
 use Rattle.regress_front_nodes.proofs.laws.nodes_stand_for_trees.Goals as goal
 
 pub returns : goal.returns
@@ -20,6 +20,7 @@ returns c = record {
   of_bracket = tree-Bracket;
   of_string_set = tree-StringSet;
   of_lookaround_assertion = tree-LookaroundAssertion;
+  of_atomic_group = tree-AtomicGroup;
   of_loop = tree-Loop;
   of_loop1_char_body = tree-Loop1CharBody;
 }

@@ -32,7 +32,7 @@ visit_below-returns-in-Alt-clause-visited g t c = λ d counted.
 pub visit_below-returns-in_default : goal.visit_below-returns-in_default
 visit_below-returns-in_default g t c = record {
   visited = λ d counted. let i = c.in_default in
-      rw (nothing_below c.args.node.now i.not-Cat i.not-Alt i.not-CaptureGroup i.not-LookaroundAssertion i.not-Loop i.not-Loop1CharBody) no_node;
+      rw (nothing_below c.args.node.now i.not-Cat i.not-Alt i.not-CaptureGroup i.not-LookaroundAssertion i.not-AtomicGroup i.not-Loop i.not-Loop1CharBody) no_node;
   callable = c.requires;
 }
 

@@ -10,7 +10,7 @@ use Rattle.regress_front_nodes.specs.Forms.{nesting}
 use Rattle.regress_front_nodes.specs.Changes.{no_node, skipped, first_above, first_below}
 use Rattle.regress_front_nodes.proofs.TreeLaws.{tree-Cat}
 use Rattle.regress_front_nodes.proofs.WalkLemmas.{told-at, counted-more, nothing_below}
-use Rattle.regress_front_nodes.proofs.ChangeLemmas.{Changes-by, nesting-part, nesting-arm, shell-Cat, shell-Alt, shell-CaptureGroup, shell-LookaroundAssertion, shell-Loop, shell-Loop1CharBody, Changing-then, changes-Cat, changes-Alt, changes-CaptureGroup, changes-LookaroundAssertion, changes-Loop, changes-Loop1CharBody}
+use Rattle.regress_front_nodes.proofs.ChangeLemmas.{Changes-by, nesting-part, nesting-arm, shell-Cat, shell-Alt, shell-CaptureGroup, shell-AtomicGroup, shell-LookaroundAssertion, shell-Loop, shell-Loop1CharBody, Changing-then, changes-Cat, changes-Alt, changes-CaptureGroup, changes-AtomicGroup, changes-LookaroundAssertion, changes-Loop, changes-Loop1CharBody}
 use Rattle.regress_front_nodes.proofs.walking_mut.+walk_mut.Goals as goal
 
 pub visit_mut-returns-then-mode-clause-visited : goal.visit_mut-returns-then-mode-clause-visited
@@ -143,6 +143,23 @@ visit_below_mut-returns-in-CaptureGroup-clause-kept g t c =
     let call = c.visit_mut-in-CaptureGroup in
     rw arm.is (shell-CaptureGroup arm.id arm.contents (with_value arm.contents call.new.node) arm.name)
 
+pub visit_below_mut-returns-in-AtomicGroup-clause-visited : goal.visit_below_mut-returns-in-AtomicGroup-clause-visited
+unfolding out-Node out
+visit_below_mut-returns-in-AtomicGroup-clause-visited g t c = λ d counted.
+    let arm = c.in-AtomicGroup in
+    let call = c.visit_mut-in-AtomicGroup in
+    let deeper = c.saturating_add-deeper.ensures ∙ counted-more d c.args.depth counted in
+    let part = rw (rw arm.contents-is at c.deref_mut-in-AtomicGroup.ensures.value) at (call.ensures.visited (suc d) deeper) in
+    rw arm.is (changes-AtomicGroup g.F.FnMut c.args.mode.postorder c.args.mode.unicode (suc d) c.args.in_lookbehind c.args.func.now call.new.func
+    arm.start_group arm.end_group arm.contents (with_value arm.contents call.new.node) part)
+
+pub visit_below_mut-returns-in-AtomicGroup-clause-kept : goal.visit_below_mut-returns-in-AtomicGroup-clause-kept
+unfolding out-Node out
+visit_below_mut-returns-in-AtomicGroup-clause-kept g t c =
+    let arm = c.in-AtomicGroup in
+    let call = c.visit_mut-in-AtomicGroup in
+    rw arm.is (shell-AtomicGroup arm.start_group arm.end_group arm.contents (with_value arm.contents call.new.node))
+
 pub visit_below_mut-returns-in-Loop-clause-visited : goal.visit_below_mut-returns-in-Loop-clause-visited
 unfolding out-Node out
 visit_below_mut-returns-in-Loop-clause-visited g t c = λ d counted.
@@ -180,7 +197,7 @@ visit_below_mut-returns-in-Loop1CharBody-clause-kept g t c =
 pub visit_below_mut-returns-in_default : goal.visit_below_mut-returns-in_default
 visit_below_mut-returns-in_default g t c = record {
   visited = λ d counted. let i = c.in_default in
-      rw (nothing_below c.args.node.now i.not-Cat i.not-Alt i.not-CaptureGroup i.not-LookaroundAssertion i.not-Loop i.not-Loop1CharBody) no_node;
+      rw (nothing_below c.args.node.now i.not-Cat i.not-Alt i.not-CaptureGroup i.not-LookaroundAssertion i.not-AtomicGroup i.not-Loop i.not-Loop1CharBody) no_node;
   kept = refl;
   callable = c.requires.callable;
 }

@@ -2,7 +2,6 @@ use Rattle.std.proofs.Common.{map, sym, ap, ◌∙◌}
 use Rattle.regress_front_nodes.specs.Trees.{tree}
 use Rattle.regress_front_nodes.proofs.TreeLaws.{tree-Cat, tree-LookaroundAssertion}
 use Rattle.regress_front_rules.specs.NormalForm.{is_idle}
-use Rattle.regress_front_opt.proofs.NodeKinds.{no-idle}
 use Rattle.regress_front_opt.proofs.ShapeLemmas.{all-missed, all-more, idle-parts, plain-means}
 use Rattle.regress_front_opt.proofs.idling.+idle.Goals as goal
 
@@ -26,8 +25,3 @@ is_idle_node-returns-in-LookaroundAssertion t c =
     let arm = c.in-LookaroundAssertion in
     let plain = rw c.deref-in-LookaroundAssertion.ensures at c.is_plain_node.ensures in
     rw (arm.is, tree-LookaroundAssertion) (plain ∙ plain-means (tree arm.contents.value))
-
-pub is_idle_node-returns-in_default : goal.is_idle_node-returns-in_default
-is_idle_node-returns-in_default t c =
-    let i = c.in_default in
-    sym (no-idle c.args.node.now i.not-Empty i.not-Anchor i.not-WordBoundary i.not-Cat i.not-Alt i.not-LookaroundAssertion i.not-Loop)

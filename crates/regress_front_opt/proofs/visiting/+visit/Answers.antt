@@ -12,7 +12,7 @@ use Rattle.regress_front_nodes.proofs.ChangeLemmas.{nesting-part, nesting-arm}
 use Rattle.regress_front_rules.specs.Rules.{stays, in_first, in_second}
 use Rattle.regress_front_rules.proofs.KeepLemmas.{reaches-then, reaches-in}
 use Rattle.regress_front_opt.proofs.PassLemmas.{visited-both, below-reaches, visited-reaches, reaches-laws, refused, refused-below, below-Alt, below-Cat, alt-laws, part-reaches, parts-reach-so-far, parts-more, part-laws}
-use Rattle.regress_front_opt.proofs.VisitLemmas.{visited-Cat, visited-Alt, visited-CaptureGroup, visited-Loop, visited-Loop1CharBody, visited-LookaroundAssertion}
+use Rattle.regress_front_opt.proofs.VisitLemmas.{visited-Cat, visited-Alt, visited-CaptureGroup, visited-AtomicGroup, visited-Loop, visited-Loop1CharBody, visited-LookaroundAssertion}
 use Rattle.regress_front_opt.proofs.visiting.+visit.Goals as goal
 
 pub visit-visit_here-requires : goal.visit-visit_here-requires
@@ -78,6 +78,14 @@ visit_below-returns-in-CaptureGroup g t c =
     let call = c.visit-in-CaptureGroup in
     let part = rw (rw arm.contents-is at c.deref_mut-in-CaptureGroup.ensures.value) at call.ensures in
     rw arm.is (visited-CaptureGroup (direction c.args.in_lookbehind) g.P.Pass.broken call.result arm.id arm.contents (with_value arm.contents call.new.node) arm.name part)
+
+pub visit_below-returns-in-AtomicGroup : goal.visit_below-returns-in-AtomicGroup
+unfolding out-Node out
+visit_below-returns-in-AtomicGroup g t c =
+    let arm = c.in-AtomicGroup in
+    let call = c.visit-in-AtomicGroup in
+    let part = rw (rw arm.contents-is at c.deref_mut-in-AtomicGroup.ensures.value) at call.ensures in
+    rw arm.is (visited-AtomicGroup (direction c.args.in_lookbehind) g.P.Pass.broken call.result arm.start_group arm.end_group arm.contents (with_value arm.contents call.new.node) part)
 
 pub visit_below-returns-in-Loop : goal.visit_below-returns-in-Loop
 unfolding out-Node out

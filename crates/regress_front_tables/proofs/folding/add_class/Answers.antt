@@ -5,13 +5,14 @@ use Rattle.regress_meaning.specs.Table.{last_code_point}
 use Rattle.regress_front_sets.specs.Intervals.{ends_of}
 use Rattle.regress_front_sets.specs.Sets.{in_set}
 use Rattle.regress_front_sets.proofs.IntervalLemmas.{in_intervals-bounded}
+use Rattle.regress_front_tables.specs.MapViews.{pairs_of}
 use Rattle.regress_front_tables.proofs.FoldingLemmas.{Lists-told, Lists-bounded, Unites-class, Unites-no_class, member-added, member-there}
 use Rattle.regress_front_tables.proofs.folding.add_class.Goals.{then-not-contains+in-Ok, else-not-contains}
 use Rattle.regress_front_tables.proofs.folding.add_class.Goals as goal
 
 pub add_one-requires : goal.add_one-requires
 add_one-requires c =
-    let pairs = c.args.map.now.pairs.items in
+    let pairs = pairs_of c.args.map.now in
     let told = Lists-told pairs c.args.c c.in-Some.members.now (rw (c.in-Some.is, c.image.ensures) at c.class.ensures) in
     Lists-bounded _ c.in-Some.members.now told c.loop-member.member-index c.loop-member-test.true
 
@@ -31,7 +32,7 @@ loop-member-preserved c =
 pub returns-after-loop-member : goal.returns-after-loop-member
 returns-after-loop-member c =
     let map = c.args.map.now in
-    let pairs = map.pairs.items in
+    let pairs = pairs_of map in
     let set = c.args.set.now in
     let bound : c.args.c ≤ last_code_point = omega (arith, in_intervals-bounded (ends_of set.intervals.items) c.args.c set.canonical c.requires) in
     let members = c.in-Some.members.now in
@@ -40,4 +41,4 @@ returns-after-loop-member c =
     Unites-class pairs map.lawful c.args.c members _ _ bound told (rw all at c.loop-member.invariant)
 
 pub returns-in_default : goal.returns-in_default
-returns-in_default c = Unites-no_class c.args.map.now.pairs.items c.args.c _ (or_left _ _ c.requires) (rw (c.in_default.is, c.image.ensures) at c.class.ensures)
+returns-in_default c = Unites-no_class (pairs_of c.args.map.now) c.args.c _ (or_left _ _ c.requires) (rw (c.in_default.is, c.image.ensures) at c.class.ensures)

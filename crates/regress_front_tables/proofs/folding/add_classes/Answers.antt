@@ -4,12 +4,13 @@ use Rattle.regress_meaning.specs.Text.{between}
 use Rattle.regress_meaning.specs.TableParts.{image}
 use Rattle.regress_front_sets.specs.Intervals.{in_interval}
 use Rattle.regress_front_sets.specs.Sets.{in_set}
+use Rattle.regress_front_tables.specs.MapViews.{pairs_of}
 use Rattle.regress_front_tables.proofs.FoldingLemmas.{Unites-alone, Unites-both, Unites-same, walk-further, walk-on, walk-all}
 use Rattle.regress_front_tables.proofs.folding.add_classes.Goals as goal
 
 pub loop-c-preserved-then-is_alone : goal.loop-c-preserved-then-is_alone
 loop-c-preserved-then-is_alone c =
-    let map_of = image c.args.map.now.pairs.items in
+    let map_of = image (pairs_of c.args.map.now) in
     let interval = c.args.interval in
     let at = c.loop-c.c in
     let next = (at / 256 + 1) * 256 in
@@ -32,7 +33,7 @@ loop-c-preserved c =
     let interval = c.args.interval in
     let at = c.loop-c.c in (
       omega (arith, c.loop-c.invariant.0),
-      Unites-both (image c.args.map.now.pairs.items) (λ d. in_interval interval d && nat_lt d at) (λ d. d == at) (λ d. in_interval interval d && nat_lt d (at + 1)) _ _ _
+      Unites-both (image (pairs_of c.args.map.now)) (λ d. in_interval interval d && nat_lt d at) (λ d. d == at) (λ d. in_interval interval d && nat_lt d (at + 1)) _ _ _
           (λ d. walk-on interval.first interval.last at d c.loop-c.invariant.0 c.loop-c-test.true) c.loop-c.invariant.1
           c.in_ok-add_class.ensures,
     )
@@ -41,5 +42,5 @@ pub returns : goal.returns
 returns c =
     let interval = c.args.interval in
     let at = c.loop-c.c in
-    Unites-same (image c.args.map.now.pairs.items) (λ d. in_interval interval d && nat_lt d at) (in_interval interval) _ _
+    Unites-same (image (pairs_of c.args.map.now)) (λ d. in_interval interval d && nat_lt d at) (in_interval interval) _ _
     (λ d. walk-all interval.first interval.last at d c.loop-c-test.false) c.loop-c.invariant.1

@@ -6,13 +6,14 @@ use Rattle.regress_front_sets.specs.Intervals.{ends_of, in_interval}
 use Rattle.regress_front_sets.specs.Sets.{in_set}
 use Rattle.regress_front_sets.proofs.IntervalLemmas.{in_intervals-nil, in_intervals-bounded}
 use Rattle.regress_front_tables.specs.Folding.{Unites}
+use Rattle.regress_front_tables.specs.MapViews.{pairs_of}
 use Rattle.regress_front_tables.proofs.FoldingLemmas.{Unites-none, Unites-both, closure-united, in_intervals-more, in_intervals-at, or_none}
 use Rattle.regress_front_tables.proofs.folding.closed_by.Goals as goal
 
 pub loop-interval-init : goal.loop-interval-init
 loop-interval-init c =
     let s = in_set c.args.set in
-    Unites-none (image c.args.map.now.pairs.items) _ s _ (λ d. in_intervals-nil d)
+    Unites-none (image (pairs_of c.args.map.now)) _ s _ (λ d. in_intervals-nil d)
     (λ d. ap (λ intervals. s d || in_intervals (ends_of intervals) d) c.new-added.ensures ∙ ap (λ b. s d || b) (in_intervals-nil d) ∙ or_none (s d))
 
 pub add_classes-requires : goal.add_classes-requires
@@ -27,13 +28,13 @@ loop-interval-preserved c =
     let items = c.intervals-interval-items.result.now in
     let item = c.interval-item in
     let k = c.loop-interval.interval-index in
-    Unites-both (image c.args.map.now.pairs.items) (in_intervals (ends_of (take k items))) (in_interval item.result) (in_intervals (ends_of (take (k + 1) items))) _ _ _
+    Unites-both (image (pairs_of c.args.map.now)) (in_intervals (ends_of (take k items))) (in_interval item.result) (in_intervals (ends_of (take (k + 1) items))) _ _ _
     (λ d. in_intervals-more items k item.result d c.loop-interval-test.true ∙ ap (λ i. in_intervals (ends_of (take k items)) d || in_interval i d) (sym item.is))
     c.loop-interval.invariant c.in_ok-add_classes.ensures
 
 pub returns-in-Ok : goal.returns-in-Ok
 returns-in-Ok c d =
-    let map_of = image c.args.map.now.pairs.items in
+    let map_of = image (pairs_of c.args.map.now) in
     let set = c.args.set in
     let items = c.intervals-interval-items.result.now in
     let whole : take c.loop-interval.interval-index items ≡ set.intervals.items =

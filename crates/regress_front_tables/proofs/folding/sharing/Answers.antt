@@ -1,6 +1,7 @@
 use Rattle.std.proofs.Common.{◌==◌, arith}
 use Rattle.regress_meaning.specs.TableParts.{image}
 use Rattle.regress_front_tables.specs.Folding.{Lists}
+use Rattle.regress_front_tables.specs.MapViews.{pairs_of}
 use Rattle.regress_front_tables.proofs.FoldingLemmas.{Lists-told, Lists-alone, Lists-few}
 use Rattle.regress_front_tables.proofs.folding.sharing.Goals.{in-Some+in_ok-from_slice-in-Some, in-None+in_ok-vec-in-None}
 use Rattle.regress_front_tables.proofs.folding.sharing.Goals as goal
@@ -8,7 +9,7 @@ use Rattle.regress_front_tables.proofs.folding.sharing.Goals as goal
 pub returns-clause-few : goal.returns-clause-few
 returns-clause-few c =
     let map = c.args.map.now in
-    let pairs = map.pairs.items in
+    let pairs = pairs_of map in
     let listed : Lists (λ d. image pairs d == image pairs c.args.c) c.match-class.result.items = elim c.match-class.branch [
       | in-Some+in_ok-from_slice-in-Some w ↦
           rw (w.result-is, w.in_ok-from_slice-in-Some.ensures.items)

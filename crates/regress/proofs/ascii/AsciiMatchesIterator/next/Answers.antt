@@ -1,6 +1,6 @@
 use Rattle.std.proofs.Common.{◌≡◌, Some, None, IfSome, rules, refl, sym, ap, ◌∙◌, subst}
 use Rattle.regress_match.specs.Iterating.{UnlessFound, coming_on}
-use Rattle.regress_engine_input.specs.InputViews.{ascii_view}
+use Rattle.regress_engine_inputs.specs.InputViews.{ascii_view}
 use Rattle.regress_engine_code.specs.Standing.{names_of}
 use Rattle.regress_engine_sought.specs.Sought.{Sought, IsPosition, items_from}
 use Rattle.regress.specs.Ascii.{sought_in_ascii}

@@ -3,11 +3,11 @@ use Rattle.std.proofs.lemmas.List.{take_all}
 use Rattle.std.proofs.lemmas.Result.{IfOk-weaker, IfErr-weaker}
 use Rattle.regress_front_core.specs.Quantifiers.{most}
 use Rattle.regress_front_tables.specs.TableViews.{table}
-use Rattle.regress_front_nodes.specs.Trees.{Tree, tree, cat_of}
+use Rattle.regress_front_nodes.specs.Trees.{Tree, tree, cat_of, lookaround, atomic}
 use Rattle.regress_front_nodes.specs.Forms.{nesting}
 use Rattle.regress_front_nodes.proofs.ChangeLemmas.{nesting-part}
 use Rattle.regress_front_nodes.proofs.CopyLemmas.{parts-more}
-use Rattle.regress_front_nodes.proofs.TreeLaws.{tree-CaptureGroup, tree-LookaroundAssertion}
+use Rattle.regress_front_nodes.proofs.TreeLaws.{tree-CaptureGroup, tree-LookaroundAssertion, tree-AtomicGroup}
 use Rattle.regress_engine_code.specs.Counts.{count}
 use Rattle.regress_engine_code.specs.Instructions.{Instruction}
 use Rattle.regress_engine_code.specs.Instructions as code
@@ -15,7 +15,7 @@ use Rattle.regress_engine_code.specs.Layout.{resets}
 use Rattle.regress_engine_code.specs.Written.{Written, written, with, changed}
 use Rattle.regress_engine_code.specs.Emitting.{Emits}
 use Rattle.regress_engine_code.proofs.LayoutLemmas.{resets-length}
-use Rattle.regress_engine_code.proofs.AddLemmas.{Adds-nothing, AddsTree-counted, AddsTree-more, AddsTree-capture, AddsTree-single_loop, AddsTree-look, AddsTree-alt, AddsTree-loop, MayRefuse-more}
+use Rattle.regress_engine_code.proofs.AddLemmas.{Adds-nothing, AddsTree-counted, AddsTree-more, AddsTree-capture, AddsTree-single_loop, AddsTree-submatch, AddsTree-alt, AddsTree-loop, MayRefuse-more}
 use Rattle.regress_engine_code.proofs.EmitLemmas.{err-refused, with-size, parts-within, parts-lawful, single-count, of-capture}
 use Rattle.regress_engine_code.proofs.emitter.Emitter.+emit.Goals as goal
 
@@ -78,6 +78,10 @@ pub node-returns-in-LookaroundAssertion-clause-added : goal.node-returns-in-Look
 node-returns-in-LookaroundAssertion-clause-added t c =
     rw (c.in-LookaroundAssertion.is, tree-LookaroundAssertion, ← c.deref-in-LookaroundAssertion.ensures) (IfOk-weaker c.lookaround.result _ _ (λ _ added. added c.args.backward) c.lookaround.ensures.added)
 
+pub node-returns-in-AtomicGroup-clause-added : goal.node-returns-in-AtomicGroup-clause-added
+node-returns-in-AtomicGroup-clause-added t c =
+    rw (c.in-AtomicGroup.is, tree-AtomicGroup, ← c.deref-in-AtomicGroup.ensures) c.atomic_group.ensures.added
+
 pub node-returns-in-CaptureGroup-clause-refused : goal.node-returns-in-CaptureGroup-clause-refused
 unfolding count
 node-returns-in-CaptureGroup-clause-refused t c = rw (c.in-CaptureGroup.is, tree-CaptureGroup, ← c.deref-in-CaptureGroup.ensures) c.capture.ensures.refused
@@ -111,11 +115,36 @@ lookaround-returns-in_err-continuation-clause-refused t c =
 pub lookaround-returns-clause-added : goal.lookaround-returns-clause-added
 lookaround-returns-clause-added t c = λ backward.
     let w3 = written c.push_goal.new.self in
-    let inside : ℕ → Instruction = λ a. code.look c.args.negate c.args.backwards c.args.groups.start c.args.groups.end a in
-    AddsTree-look c.args.self.now.units (table c.args.self.now.tables.now) c.args.self.now.unicode backward c.args.negate c.args.backwards c.args.groups.start c.args.groups.end (tree c.args.contents.now) code.fail
+    let kind = lookaround c.args.negate c.args.backwards in
+    let inside : ℕ → Instruction = λ a. code.submatch kind c.args.groups.start c.args.groups.end a in
+    AddsTree-submatch c.args.self.now.units (table c.args.self.now.tables.now) c.args.self.now.unicode backward kind c.args.groups.start c.args.groups.end (tree c.args.contents.now) code.fail
     (written c.args.code.now) (written c.reserve.new.self) (written c.node.new.code) w3 (written c.change.new.self)
     c.in_ok-at.ensures.kept c.in_ok-node.ensures.added c.in_ok-push_goal.ensures
     (c.change.ensures ∙ ap (changed w3 c.in_ok-at.at) c.look-insn.ensures
+    ∙ ap₂ (λ (a b : ℕ). changed w3 a (inside b)) c.in_ok-at.ensures.address c.in_ok-continuation.ensures.ok)
+
+pub atomic_group-returns-in_err-node-clause-refused : goal.atomic_group-returns-in_err-node-clause-refused
+unfolding count
+atomic_group-returns-in_err-node-clause-refused t c =
+    let one = with-size (written c.args.code.now) (written c.reserve.new.self) (code.fail ∷ []) c.in_ok-at.ensures.kept in
+    err-refused c.from_residual-in_err-node.result c.in_err-node.field-0.0 _ _ _ _ c.from_residual-in_err-node.ensures.1 c.in_err-node.ensures.refused (omega arith) (omega arith)
+
+pub atomic_group-returns-in_err-continuation-clause-refused : goal.atomic_group-returns-in_err-continuation-clause-refused
+unfolding count
+atomic_group-returns-in_err-continuation-clause-refused t c =
+    let one = with-size (written c.args.code.now) (written c.reserve.new.self) (code.fail ∷ []) c.in_ok-at.ensures.kept in
+    let two = AddsTree-counted c.args.self.now.units (table c.args.self.now.tables.now) c.args.self.now.unicode c.requires.0 c.args.backward (tree c.args.contents.now) (written c.reserve.new.self) (written c.node.new.code) c.requires.1 c.in_ok-node.ensures.added in
+    let three = with-size (written c.node.new.code) (written c.push_goal.new.self) (code.goal ∷ []) c.in_ok-push_goal.ensures in
+    err-refused c.from_residual-in_err-continuation.result c.in_err-continuation.field-0.0 _ _ _ _ c.from_residual-in_err-continuation.ensures.1 c.in_err-continuation.ensures.err (omega arith) (omega arith)
+
+pub atomic_group-returns-clause-added : goal.atomic_group-returns-clause-added
+atomic_group-returns-clause-added t c =
+    let w3 = written c.push_goal.new.self in
+    let inside : ℕ → Instruction = λ a. code.submatch atomic c.args.groups.start c.args.groups.end a in
+    AddsTree-submatch c.args.self.now.units (table c.args.self.now.tables.now) c.args.self.now.unicode c.args.backward atomic c.args.groups.start c.args.groups.end (tree c.args.contents.now) code.fail
+    (written c.args.code.now) (written c.reserve.new.self) (written c.node.new.code) w3 (written c.change.new.self)
+    c.in_ok-at.ensures.kept c.in_ok-node.ensures.added c.in_ok-push_goal.ensures
+    (c.change.ensures
     ∙ ap₂ (λ (a b : ℕ). changed w3 a (inside b)) c.in_ok-at.ensures.address c.in_ok-continuation.ensures.ok)
 
 pub repetition-returns-in_err-node-clause-refused : goal.repetition-returns-in_err-node-clause-refused

@@ -25,6 +25,9 @@ decreases-capture l = 2 * nesting (tree l.contents.now) + 2
 abbrev pub decreases-lookaround : goal.decreases-lookaround
 decreases-lookaround l = 2 * nesting (tree l.contents.now) + 2
 
+abbrev pub decreases-atomic_group : goal.decreases-atomic_group
+decreases-atomic_group l = 2 * nesting (tree l.contents.now) + 2
+
 abbrev pub decreases-repetition : goal.decreases-repetition
 decreases-repetition l = 2 * nesting (tree l.loopee.now) + 2
 

@@ -1,5 +1,5 @@
 use Rattle.std.proofs.Common.{refl, rules}
-use Rattle.regress_engine_input.specs.InputViews.{ascii_view}
+use Rattle.regress_engine_inputs.specs.InputViews.{ascii_view}
 use Rattle.regress_engine_input.specs.Views.{ascii}
 use Rattle.regress_engine_sought.proofs.ExecutorLemmas.{searches}
 use Rattle.regress_engine_copying.proofs.executor.PikeVMExecutorAsciiInputExecutor.new.Goals as goal

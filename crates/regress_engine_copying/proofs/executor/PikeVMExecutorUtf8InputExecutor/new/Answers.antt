@@ -1,5 +1,5 @@
 use Rattle.std.proofs.Common.{refl, rules}
-use Rattle.regress_engine_input.specs.InputViews.{utf8_view}
+use Rattle.regress_engine_inputs.specs.InputViews.{utf8_view}
 use Rattle.regress_engine_input.specs.Views.{utf8}
 use Rattle.regress_engine_sought.proofs.ExecutorLemmas.{searches}
 use Rattle.regress_engine_copying.proofs.executor.PikeVMExecutorUtf8InputExecutor.new.Goals as goal

@@ -67,8 +67,8 @@ returns-in-Some-2-clause-found g c =
     search-found program v all c.args.offset c.in-Some.start c.in-Some-2.found.offset (groups_of (Some c.in-Some-2.found)) there.on
     (subst (λ x. IsAnswer program (input_of v) c.in-Some.start (option_map (λ s. s.offset) x) (groups_of x)) c.in-Some-2.is c.in_ok-found.ensures)
 
-pub passed-requires-clause-place : goal.passed-requires-clause-place
-passed-requires-clause-place g c =
+pub any-requires : goal.any-requires
+any-requires g c =
     let subject = c.args.self.now.subject in
     let program = program_of subject.program.now in
     let v = g.Input.InputIndexer.view subject.input in
@@ -79,8 +79,8 @@ passed-requires-clause-place g c =
     c.args.offset c.places.from c.places.invariant.finds c.places.invariant.place c.next_start.result next c.in-Some.start c.in-Some.is in
     can-read v all c.in-Some.start there.place
 
-pub returns-in_default-passed-clause-found : goal.returns-in_default-passed-clause-found
-returns-in_default-passed-clause-found g c =
+pub returns-in_default-any-clause-found : goal.returns-in_default-any-clause-found
+returns-in_default-any-clause-found g c =
     let subject = c.args.self.now.subject in
     let program = program_of subject.program.now in
     let v = g.Input.InputIndexer.view subject.input in
@@ -90,7 +90,7 @@ returns-in_default-passed-clause-found g c =
     let there = reaches program subject.seeker.start.now (g.Input.Shown.shown subject.input) v (g.met.Input.ExecutorInput.shows subject.input) all subject.sought subject.skips
     c.args.offset c.places.from c.places.invariant.finds c.places.invariant.place c.next_start.result next c.in-Some.start c.in-Some.is in
     search-none program v all c.args.offset c.in-Some.start [] there.on
-    (subst (λ x. IsAnswer program (input_of v) c.in-Some.start (option_map (λ s. s.offset) x) (groups_of x)) c.in_default-2.is c.in_ok-found.ensures) (passed-none _ c.in_default-passed.ensures)
+    (subst (λ x. IsAnswer program (input_of v) c.in-Some.start (option_map (λ s. s.offset) x) (groups_of x)) c.in_default-2.is c.in_ok-found.ensures) (passed-none _ c.in_default-any.ensures)
 
 pub places-smaller : goal.places-smaller
 places-smaller g c =
@@ -102,8 +102,8 @@ places-smaller g c =
     subst (λ u. IsNextHit u.seeker.start.now (g.Input.InputIndexer.view u.input).units c.places.from c.next_start.result) c.places.invariant.kept c.next_start.ensures in
     let there = reaches program subject.seeker.start.now (g.Input.Shown.shown subject.input) v (g.met.Input.ExecutorInput.shows subject.input) all subject.sought subject.skips
     c.args.offset c.places.from c.places.invariant.finds c.places.invariant.place c.next_start.result next c.in-Some.start c.in-Some.is in
-    let (at, next_is) = passed-some _ c.in-Some-passed.behind c.in-Some-passed.ensures in
-    let less = search-less program v all c.in-Some.start at c.in-Some-passed.behind there.place next_is in
+    let (at, next_is) = passed-some _ c.in-Some-any.behind c.in-Some-any.ensures in
+    let less = search-less program v all c.in-Some.start at c.in-Some-any.behind there.place next_is in
     let low = there.low in
     omega (arith, low, less)
 
@@ -117,10 +117,10 @@ places-preserved g c =
     subst (λ u. IsNextHit u.seeker.start.now (g.Input.InputIndexer.view u.input).units c.places.from c.next_start.result) c.places.invariant.kept c.next_start.ensures in
     let there = reaches program subject.seeker.start.now (g.Input.Shown.shown subject.input) v (g.met.Input.ExecutorInput.shows subject.input) all subject.sought subject.skips
     c.args.offset c.places.from c.places.invariant.finds c.places.invariant.place c.next_start.result next c.in-Some.start c.in-Some.is in
-    let (at, next_is) = passed-some _ c.in-Some-passed.behind c.in-Some-passed.ensures in
+    let (at, next_is) = passed-some _ c.in-Some-any.behind c.in-Some-any.ensures in
     record {
-      finds = search-on program v all c.args.offset c.in-Some.start at c.in-Some-passed.behind [] there.on
+      finds = search-on program v all c.args.offset c.in-Some.start at c.in-Some-any.behind [] there.on
           (subst (λ x. IsAnswer program (input_of v) c.in-Some.start (option_map (λ s. s.offset) x) (groups_of x)) c.in_default-2.is c.in_ok-found.ensures) next_is;
-      place = next-place v all Forward c.in-Some.start at c.in-Some-passed.behind there.place next_is;
+      place = next-place v all Forward c.in-Some.start at c.in-Some-any.behind there.place next_is;
       kept = c.places.invariant.kept;
     }

@@ -6,8 +6,9 @@ use Rattle.regress_engine_input.specs.Views.{way, input_of}
 use Rattle.regress_engine_sought.specs.StateViews.{marks_of}
 use Rattle.regress_engine_sought.proofs.InsnLemmas.{way-against, none-ahead, some-ahead}
 use Rattle.regress_engine_sought.proofs.PlaceLemmas.{can-read, moves, next-place}
-use Rattle.regress_engine_undo.proofs.DispatchLemmas.{none-is}
-use Rattle.regress_engine_undo.proofs.StuckLemmas.{taking-any, taking-ready, gives-same, gives-last, gives-none, gives-over, gives-then, nearer}
+use Rattle.regress_engine_advance.proofs.ReadLemmas.{none-is}
+use Rattle.regress_engine_advance.proofs.TakenLemmas.{taking-any, taking-ready}
+use Rattle.regress_engine_undo.proofs.StuckLemmas.{gives-same, gives-last, gives-none, gives-over, gives-then, nearer}
 use Rattle.regress_engine_exec.proofs.attempt.Attempt.far_way.Goals as goal
 
 pub returns-in_default-clause-leads : goal.returns-in_default-clause-leads

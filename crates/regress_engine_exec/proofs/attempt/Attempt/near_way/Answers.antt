@@ -5,8 +5,9 @@ use Rattle.regress_engine_code.specs.Standing.{program_of}
 use Rattle.regress_engine_input.specs.Views.{way, input_of}
 use Rattle.regress_engine_sought.specs.StateViews.{marks_of}
 use Rattle.regress_engine_sought.proofs.ReadyLemmas.{body-asked, body-next}
-use Rattle.regress_engine_undo.proofs.DispatchLemmas.{none-is}
-use Rattle.regress_engine_undo.proofs.StuckLemmas.{taking-any, taking-ready, body-taking, takes-same, takes-last, takes-over, takes-then}
+use Rattle.regress_engine_advance.proofs.ReadLemmas.{none-is}
+use Rattle.regress_engine_advance.proofs.TakenLemmas.{taking-any, taking-ready, body-taking}
+use Rattle.regress_engine_undo.proofs.StuckLemmas.{takes-same, takes-last, takes-over, takes-then}
 use Rattle.regress_engine_exec.proofs.attempt.Attempt.near_way.Goals as goal
 
 pub returns-in_default-clause-leads : goal.returns-in_default-clause-leads

@@ -1,4 +1,4 @@
-use Rattle.std.proofs.Common.{◌≡◌, ◌+◌, ◌-◌, map, sym, ap, ◌∙◌, refl, subst, arith}
+use Rattle.std.proofs.Common.{◌≡◌, true, ◌+◌, ◌-◌, map, sym, ap, ◌∙◌, refl, subst, arith}
 use Rattle.regress_engine_code.specs.Instructions.{Stands}
 use Rattle.regress_engine_runs.specs.Closed.{takes_character}
 use Rattle.regress_engine_runs.proofs.BodyPlaces.{fits-anywhere}
@@ -84,9 +84,9 @@ returns-then-is_atomic-clause-leads g c =
     let here : Stands program (p.at + 2 - 1) i = subst (λ a. Stands program a i) two c.instruction-insn.ensures.stands in
     let goes = c.as_far-far.ensures.far ∙ ap (λ gs. as_far program (input_of v) (c.args.most - c.args.least) i (way p.forward) (map marks_of gs) near) c.deref-then-greedy.ensures.value in
     let ahead = goes ∙ ap (λ b. as_far program (input_of v) (c.args.most - c.args.least) i (way b) groups near) c.if-spot.true in
-    let (j, first, apart) = c.is_atomic.ensures c.if-is_atomic.true in
+    let (j, first, apart) = c.is_atomic.ensures v c.requires.suits.kind c.if-is_atomic.true in
     leads-then program (input_of v) 0 0
     (repeat-greedy program (input_of v) i p h c.instruction-insn.ensures.stands c.args.least c.args.most c.args.greedy (pushed (give_back (p.at + 2) near far) h) near far c.if-greedy.true
     (ap (λ gs. after_times program (input_of v) c.args.least i (way p.forward) (map marks_of gs) p.offset) (sym c.deref.ensures.value) ∙ sym c.in-Some.ensures.behind) goes refl)
-    (atomic program v (g.met.Input.InputIndexer.are_of_kind c.args.self.now.input) c.requires.suits (p.at + 2) i j here first apart (c.args.most - c.args.least) near far groups
+    (atomic program v (g.met.Input.InputIndexer.are_of_kind c.args.self.now.input) c.requires.suits (p.at + 2) i here (λ gs o q e. first.stuck (input_of v) true o (apart gs o q e)) (c.args.most - c.args.least) near far groups
     (body-at program v (p.at + 2) p.offset near c.requires.body c.in-Some.ensures.place) ahead p h c.if-spot.true)

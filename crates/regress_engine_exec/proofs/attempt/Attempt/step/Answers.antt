@@ -8,7 +8,7 @@ use Rattle.regress_engine_sought.specs.StateViews.{marks_of}
 use Rattle.regress_engine_sought.proofs.InsnLemmas.{stands-as}
 use Rattle.regress_engine_undo.specs.Held.{held}
 use Rattle.regress_engine_undo.proofs.BackLemmas.{frame-held}
-use Rattle.regress_engine_undo.proofs.DispatchLemmas.{step-on, jump-on, mark-on, look-on}
+use Rattle.regress_engine_undo.proofs.DispatchLemmas.{step-on, jump-on, mark-on, submatch-on}
 use Rattle.regress_engine_undo.proofs.TurnLemmas.{first-place}
 use Rattle.regress_engine_exec.proofs.attempt.Attempt.step.Goals as goal
 
@@ -181,38 +181,56 @@ returns-in_ok-going-in-Loop1CharBody-clause-leads g c =
     let here = stands-as program p.at _ _ c.in-Loop1CharBody.is c.instruction-insn.ensures.stands in
     step-on program input _ p _ h _ _ here refl c.in_ok-going-in-Loop1CharBody.ensures.leads
 
-pub returns-in_ok-look-in-Lookahead-clause-leads : goal.returns-in_ok-look-in-Lookahead-clause-leads
-returns-in_ok-look-in-Lookahead-clause-leads g c =
+pub returns-in_ok-begin_submatch-in-Lookahead-clause-leads : goal.returns-in_ok-begin_submatch-in-Lookahead-clause-leads
+returns-in_ok-begin_submatch-in-Lookahead-clause-leads g c =
     let program = program_of c.args.self.now.program.now in
     let input = input_of (g.Input.InputIndexer.view c.args.self.now.input) in
     let p = c.args.spot.now in
     let h = held c.args.memory.now in
     let here = stands-as program p.at _ _ c.in-Lookahead.is c.instruction-insn.ensures.stands in
-    look-on program input p _ h _ _ refl refl refl here c.in_ok-look-in-Lookahead.ensures.pushed c.in_ok-look-in-Lookahead.ensures.spot
+    submatch-on program input p _ h _ _ refl refl refl here c.in_ok-begin_submatch-in-Lookahead.ensures.pushed c.in_ok-begin_submatch-in-Lookahead.ensures.spot
 
-pub returns-in_ok-look-in-Lookahead-clause-sound : goal.returns-in_ok-look-in-Lookahead-clause-sound
-returns-in_ok-look-in-Lookahead-clause-sound g c =
+pub returns-in_ok-begin_submatch-in-Lookahead-clause-sound : goal.returns-in_ok-begin_submatch-in-Lookahead-clause-sound
+returns-in_ok-begin_submatch-in-Lookahead-clause-sound g c =
     let program = program_of c.args.self.now.program.now in
     let input = input_of (g.Input.InputIndexer.view c.args.self.now.input) in
     let p = c.args.spot.now in
     let h = held c.args.memory.now in
     let here = stands-as program p.at _ _ c.in-Lookahead.is c.instruction-insn.ensures.stands in
-    frame-held program (g.Input.InputIndexer.view c.args.self.now.input) h _ _ c.in_ok-look-in-Lookahead.ensures.pushed (c.requires.suits.closed p.at _ here) c.requires.sound
+    frame-held program (g.Input.InputIndexer.view c.args.self.now.input) h _ _ c.in_ok-begin_submatch-in-Lookahead.ensures.pushed (c.requires.suits.closed p.at _ here) c.requires.sound
 
-pub returns-in_ok-look-in-Lookbehind-clause-leads : goal.returns-in_ok-look-in-Lookbehind-clause-leads
-returns-in_ok-look-in-Lookbehind-clause-leads g c =
+pub returns-in_ok-begin_submatch-in-Lookbehind-clause-leads : goal.returns-in_ok-begin_submatch-in-Lookbehind-clause-leads
+returns-in_ok-begin_submatch-in-Lookbehind-clause-leads g c =
     let program = program_of c.args.self.now.program.now in
     let input = input_of (g.Input.InputIndexer.view c.args.self.now.input) in
     let p = c.args.spot.now in
     let h = held c.args.memory.now in
     let here = stands-as program p.at _ _ c.in-Lookbehind.is c.instruction-insn.ensures.stands in
-    look-on program input p _ h _ _ refl refl refl here c.in_ok-look-in-Lookbehind.ensures.pushed c.in_ok-look-in-Lookbehind.ensures.spot
+    submatch-on program input p _ h _ _ refl refl refl here c.in_ok-begin_submatch-in-Lookbehind.ensures.pushed c.in_ok-begin_submatch-in-Lookbehind.ensures.spot
 
-pub returns-in_ok-look-in-Lookbehind-clause-sound : goal.returns-in_ok-look-in-Lookbehind-clause-sound
-returns-in_ok-look-in-Lookbehind-clause-sound g c =
+pub returns-in_ok-begin_submatch-in-Lookbehind-clause-sound : goal.returns-in_ok-begin_submatch-in-Lookbehind-clause-sound
+returns-in_ok-begin_submatch-in-Lookbehind-clause-sound g c =
     let program = program_of c.args.self.now.program.now in
     let input = input_of (g.Input.InputIndexer.view c.args.self.now.input) in
     let p = c.args.spot.now in
     let h = held c.args.memory.now in
     let here = stands-as program p.at _ _ c.in-Lookbehind.is c.instruction-insn.ensures.stands in
-    frame-held program (g.Input.InputIndexer.view c.args.self.now.input) h _ _ c.in_ok-look-in-Lookbehind.ensures.pushed (c.requires.suits.closed p.at _ here) c.requires.sound
+    frame-held program (g.Input.InputIndexer.view c.args.self.now.input) h _ _ c.in_ok-begin_submatch-in-Lookbehind.ensures.pushed (c.requires.suits.closed p.at _ here) c.requires.sound
+
+pub returns-in_ok-begin_submatch-in-Atomic-clause-leads : goal.returns-in_ok-begin_submatch-in-Atomic-clause-leads
+returns-in_ok-begin_submatch-in-Atomic-clause-leads g c =
+    let program = program_of c.args.self.now.program.now in
+    let input = input_of (g.Input.InputIndexer.view c.args.self.now.input) in
+    let p = c.args.spot.now in
+    let h = held c.args.memory.now in
+    let here = stands-as program p.at _ _ c.in-Atomic.is c.instruction-insn.ensures.stands in
+    submatch-on program input p _ h _ _ refl refl refl here c.in_ok-begin_submatch-in-Atomic.ensures.pushed c.in_ok-begin_submatch-in-Atomic.ensures.spot
+
+pub returns-in_ok-begin_submatch-in-Atomic-clause-sound : goal.returns-in_ok-begin_submatch-in-Atomic-clause-sound
+returns-in_ok-begin_submatch-in-Atomic-clause-sound g c =
+    let program = program_of c.args.self.now.program.now in
+    let input = input_of (g.Input.InputIndexer.view c.args.self.now.input) in
+    let p = c.args.spot.now in
+    let h = held c.args.memory.now in
+    let here = stands-as program p.at _ _ c.in-Atomic.is c.instruction-insn.ensures.stands in
+    frame-held program (g.Input.InputIndexer.view c.args.self.now.input) h _ _ c.in_ok-begin_submatch-in-Atomic.ensures.pushed (c.requires.suits.closed p.at _ here) c.requires.sound

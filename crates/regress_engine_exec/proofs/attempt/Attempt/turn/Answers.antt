@@ -9,7 +9,7 @@ use Rattle.regress_engine_runs.proofs.RunViews.{one_stands}
 use Rattle.regress_engine_sought.proofs.InsnLemmas.{stands-as}
 use Rattle.regress_engine_singles.specs.Passed.{is_class}
 use Rattle.regress_engine_singles.proofs.LeadingLemmas.{class-fits}
-use Rattle.regress_engine_undo.proofs.DispatchLemmas.{stands-read}
+use Rattle.regress_engine_advance.proofs.ReadLemmas.{stands-read}
 use Rattle.regress_engine_exec.proofs.attempt.Attempt.turn.Goals as goal
 
 -- the class that stands there is the one that was read
@@ -41,8 +41,8 @@ returns g c =
     let within = c.if-at-insns.false in
     let jump = stands-read c.insns-insns.result.now insns (c.args.at + 2) Goal c.insns-insns.ensures (omega (arith, within)) in
     let again = stands-read c.insns-insns.result.now insns c.in-Jump.target Goal c.insns-insns.ensures c.if-again-insns.false in
-    let (j, first, apart) = c.is_atomic.ensures c.if-not-is_atomic.false in
-    let (k, last, away) = c.is_atomic-else-not-is_atomic.ensures c.if-not-is_atomic-2.false in
+    let (j, first, apart) = c.is_atomic.ensures (g.Input.InputIndexer.view c.args.self.now.input) c.requires.suits.kind c.if-not-is_atomic.false in
+    let (k, last, away) = c.is_atomic-else-not-is_atomic.ensures (g.Input.InputIndexer.view c.args.self.now.input) c.requires.suits.kind c.if-not-is_atomic-2.false in
     record {
       class = class-here program input (c.args.at + 1) _ c.requires.class c.instruction-class.ensures.stands;
       first = c.instruction-class.ensures.stands;

@@ -5,7 +5,7 @@ use Rattle.regress_engine_runs.specs.UndoStack.{resume, old_loop, old_group, ite
 use Rattle.regress_engine_sought.specs.StateViews.{loop_of, marks_of}
 use Rattle.regress_engine_sought.specs.Tasks.{Leads}
 use Rattle.regress_engine_undo.specs.Held.{held, pushed, undo_of, frame_of}
-use Rattle.regress_engine_undo.proofs.BackLemmas.{held-as, leads-as, held-resume, held-old_loop, old_loop-there, held-old_group, old_group-there, held-iterate, held-frame, resume-back, old_loop-back, old_group-back, iterate-back, look-back}
+use Rattle.regress_engine_undo.proofs.BackLemmas.{held-as, leads-as, held-resume, held-old_loop, old_loop-there, held-old_group, old_group-there, held-iterate, held-frame, resume-back, old_loop-back, old_group-back, iterate-back, submatch-back}
 use Rattle.regress_engine_undo.specs.Tasks.{task}
 use Rattle.regress_engine_undo.proofs.StepLemmas.{loop-sound}
 use Rattle.regress_engine_exec.proofs.attempt.Attempt.undo.Goals as goal
@@ -70,19 +70,19 @@ returns-in_ok-iterate-in-Iterate-clause-sound g c =
     let was = held-iterate _ _ (held c.args.memory.now) c.in-Iterate.id c.in-Iterate.begin c.in-Iterate.offset (held-as _ _ _ _ _ (ap undo_of c.in-Iterate.is) c.requires.sound) in
     loop-sound (held c.args.memory.now) (held c.iterate.new.self) c.in-Iterate.id _ c.in_ok-iterate-in-Iterate.ensures.written was.0 _ _ was.3
 
-pub returns-in-Look-clause-leads : goal.returns-in-Look-clause-leads
-returns-in-Look-clause-leads g c =
+pub returns-in-Submatch-clause-leads : goal.returns-in-Submatch-clause-leads
+returns-in-Submatch-clause-leads g c =
     let program = program_of c.args.self.now.program.now in
     let input = input_of (g.Input.InputIndexer.view c.args.self.now.input) in
-    let f = frame_of c.in-Look.frame in
+    let f = frame_of c.in-Submatch.frame in
     let p = c.args.spot.now in
     let h = held c.args.memory.now in
     let q = c.exhaust.new.spot in
-    leads-as program input (undo_of c.args.undo) (frame f) p h _ (ap undo_of c.in-Look.is)
+    leads-as program input (undo_of c.args.undo) (frame f) p h _ (ap undo_of c.in-Submatch.is)
     (subst (λ b. Leads program input 0 (task program input false p (pushed (frame f) h)) (task program input b q h)) (sym c.exhaust.ensures.way)
-    (look-back program input p q h f (ap way (sym c.exhaust.ensures.direction))
+    (submatch-back program input p q h f (ap way (sym c.exhaust.ensures.direction))
     (λ e. c.exhaust.ensures.spot e ∙ ap (λ (b : Bool). record { at = f.continuation; offset = f.offset; forward = b }) (sym c.exhaust.ensures.direction))))
 
-pub returns-in-Look-clause-sound : goal.returns-in-Look-clause-sound
-returns-in-Look-clause-sound g c =
-    (held-frame _ _ (held c.args.memory.now) (frame_of c.in-Look.frame) (held-as _ _ _ _ _ (ap undo_of c.in-Look.is) c.requires.sound)).1
+pub returns-in-Submatch-clause-sound : goal.returns-in-Submatch-clause-sound
+returns-in-Submatch-clause-sound g c =
+    (held-frame _ _ (held c.args.memory.now) (frame_of c.in-Submatch.frame) (held-as _ _ _ _ _ (ap undo_of c.in-Submatch.is) c.requires.sound)).1

@@ -10,7 +10,8 @@ use Rattle.regress_engine_sought.proofs.SearchLemmas.{search-found, search-none,
 use Rattle.regress_engine_sought.proofs.SkipLemmas.{place-lies, reaches, reaches-none}
 use Rattle.regress_engine_singles.specs.Passed.{PassesOver}
 use Rattle.regress_engine_undo.specs.Held.{held}
-use Rattle.regress_engine_exec.specs.Beginning.{IsKnown}
+use Rattle.regress_engine_leading.specs.Known.{IsKnown}
+use Rattle.regress_engine_exec.proofs.WayLemmas.{way-comes}
 use Rattle.regress_engine_exec.proofs.search.BacktrackExecutor.search.Goals as goal
 
 pub invariant_of-attempt : goal.invariant_of-attempt
@@ -46,7 +47,8 @@ run-requires-clause-suits g c =
 pub run-requires-clause-begun : goal.run-requires-clause-begun
 run-requires-clause-begun g c =
     let subject = c.args.self.now.subject in
-    subst (IsKnown (program_of subject.program.now) (g.Input.InputIndexer.view subject.input) c.in-Some.start) c.in-At.is c.beginning.ensures
+    way-comes (program_of subject.program.now) (input_of (g.Input.InputIndexer.view subject.input)) c.in-Some.start c.in-At.first
+    (subst (IsKnown (program_of subject.program.now) (g.Input.InputIndexer.view subject.input) c.in-Some.start) c.in-At.is c.known_at.ensures)
 
 pub returns-in_default-clause-found : goal.returns-in_default-clause-found
 returns-in_default-clause-found g c =
@@ -128,8 +130,8 @@ places-preserved g c =
       kept = c.places.invariant.kept;
     }
 
-pub beginning-requires-clause-place : goal.beginning-requires-clause-place
-beginning-requires-clause-place g c =
+pub known_at-requires-clause-place : goal.known_at-requires-clause-place
+known_at-requires-clause-place g c =
     let subject = c.args.self.now.subject in
     let program = program_of subject.program.now in
     let v = g.Input.InputIndexer.view subject.input in
@@ -150,7 +152,7 @@ places-smaller-in-Passed g c =
     subst (λ u. IsNextHit u.seeker.start.now (g.Input.InputIndexer.view u.input).units c.places.from c.next_start.result) c.places.invariant.kept c.next_start.ensures in
     let there = reaches program subject.seeker.start.now (g.Input.Shown.shown subject.input) v (g.met.Input.ExecutorInput.shows subject.input) all subject.sought subject.skips
     c.args.offset c.places.from c.places.invariant.finds c.places.invariant.place c.next_start.result next c.in-Some.start c.in-Some.is in
-    let passes : PassesOver program v c.in-Some.start c.in-Passed.past = subst (IsKnown program v c.in-Some.start) c.in-Passed.is c.beginning.ensures in
+    let passes : PassesOver program v c.in-Some.start c.in-Passed.past = subst (IsKnown program v c.in-Some.start) c.in-Passed.is c.known_at.ensures in
     let low = there.low in
     let further = passes.further in
     let inside = place-lies v all c.in-Passed.past passes.place in
@@ -166,5 +168,5 @@ places-preserved-in-Passed g c =
     subst (λ u. IsNextHit u.seeker.start.now (g.Input.InputIndexer.view u.input).units c.places.from c.next_start.result) c.places.invariant.kept c.next_start.ensures in
     let there = reaches program subject.seeker.start.now (g.Input.Shown.shown subject.input) v (g.met.Input.ExecutorInput.shows subject.input) all subject.sought subject.skips
     c.args.offset c.places.from c.places.invariant.finds c.places.invariant.place c.next_start.result next c.in-Some.start c.in-Some.is in
-    let passes : PassesOver program v c.in-Some.start c.in-Passed.past = subst (IsKnown program v c.in-Some.start) c.in-Passed.is c.beginning.ensures in
+    let passes : PassesOver program v c.in-Some.start c.in-Passed.past = subst (IsKnown program v c.in-Some.start) c.in-Passed.is c.known_at.ensures in
     record { finds = passes.on c.args.offset there.on; place = passes.place; kept = c.places.invariant.kept }

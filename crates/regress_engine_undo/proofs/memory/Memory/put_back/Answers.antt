@@ -55,10 +55,10 @@ returns-in-TakeOn-clause-rest c = λ program input dir.
 pub returns-in-TakeOn-clause-sound : goal.returns-in-TakeOn-clause-sound
 returns-in-TakeOn-clause-sound c = λ program v was. ((held-take_on program v (held c.args.self.now) _ _ _ (held-as program v _ _ _ (ap undo_of c.in-TakeOn.is) was)).1, tt)
 
-pub returns-in-Look-clause-rest : goal.returns-in-Look-clause-rest
-returns-in-Look-clause-rest c = λ program input dir.
-    outside-as program input dir (held c.args.self.now) _ _ _ (ap undo_of c.in-Look.is) (frame-outside program input dir (held c.args.self.now) (frame_of c.in-Look.frame))
+pub returns-in-Submatch-clause-rest : goal.returns-in-Submatch-clause-rest
+returns-in-Submatch-clause-rest c = λ program input dir.
+    outside-as program input dir (held c.args.self.now) _ _ _ (ap undo_of c.in-Submatch.is) (frame-outside program input dir (held c.args.self.now) (frame_of c.in-Submatch.frame))
 
-pub returns-in-Look-clause-sound : goal.returns-in-Look-clause-sound
-returns-in-Look-clause-sound c = λ program v was.
-    let both = held-frame program v (held c.args.self.now) (frame_of c.in-Look.frame) (held-as program v _ _ _ (ap undo_of c.in-Look.is) was) in (both.1, both.0)
+pub returns-in-Submatch-clause-sound : goal.returns-in-Submatch-clause-sound
+returns-in-Submatch-clause-sound c = λ program v was.
+    let both = held-frame program v (held c.args.self.now) (frame_of c.in-Submatch.frame) (held-as program v _ _ _ (ap undo_of c.in-Submatch.is) was) in (both.1, both.0)

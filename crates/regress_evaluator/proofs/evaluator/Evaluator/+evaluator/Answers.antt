@@ -1,6 +1,6 @@
-use Rattle.std.proofs.Common.{◌≡◌, ◌+◌, List, [], ◌∷◌, ◌++◌, ◌⊎◌, inl, inr, IfOk, length, map, drop, refl, sym, ap, ◌∙◌, arith}
+use Rattle.std.proofs.Common.{◌≡◌, ◌+◌, List, [], ◌∷◌, ◌++◌, ◌⊎◌, inl, inr, IfOk, length, map, take, drop, refl, sym, ap, ◌∙◌, arith}
 use Rattle.std.specs.List.{flat_map}
-use Rattle.std.proofs.lemmas.List.{take_all, drop_all, append-nil, map-append, nil_from_length}
+use Rattle.std.proofs.lemmas.List.{take_all, drop_all, append-nil, map-append, take-map, nil_from_length}
 use Rattle.regress_meaning.specs.Meaning.{State, captured}
 use Rattle.regress_front_core.specs.Quantifiers.{most}
 use Rattle.regress_front_nodes.specs.Trees.{cat_of, tree}
@@ -10,7 +10,7 @@ use Rattle.regress_front_nodes.specs.declared.node.Node.TheVariants as node
 use Rattle.regress_evaluator.specs.declared.tasks.Task.{Task}
 use Rattle.regress_evaluator.proofs.EvaluatorLemmas.{flat_map-no_part, parts_more, changed_more, changed_all}
 use Rattle.regress_evaluator.proofs.RepetitionLemmas.{run, single_loop-is_loop, outcomes_of_task, outcomes_of_tasks, outcomes_of_tasks-start, outcomes_of_task-last, outcomes_of_tasks-emit, outcomes_of_tasks-expand, turns_of_task, turns-last, turns_of_tasks-emit, turns_of_tasks-expand}
-use Rattle.regress_front_nodes.proofs.TreeLaws.{tree-Empty, tree-Goal, tree-Char, tree-ByteSequence, tree-ByteSet, tree-CharSet, tree-Cat, tree-Alt, tree-MatchAny, tree-MatchAnyExceptLineTerminator, tree-Anchor, tree-WordBoundary, tree-CaptureGroup, tree-BackRef, tree-Bracket, tree-StringSet, tree-LookaroundAssertion, tree-Loop, tree-Loop1CharBody}
+use Rattle.regress_front_nodes.proofs.TreeLaws.{tree-Empty, tree-Goal, tree-Char, tree-ByteSequence, tree-ByteSet, tree-CharSet, tree-Cat, tree-Alt, tree-MatchAny, tree-MatchAnyExceptLineTerminator, tree-Anchor, tree-WordBoundary, tree-CaptureGroup, tree-BackRef, tree-Bracket, tree-StringSet, tree-LookaroundAssertion, tree-AtomicGroup, tree-Loop, tree-Loop1CharBody}
 use Rattle.regress_evaluator.proofs.evaluator.Evaluator.+evaluator.Goals as goal
 
 pub outcomes-returns-in-Empty : goal.outcomes-returns-in-Empty
@@ -81,6 +81,11 @@ unfolding node_outcomes
 outcomes-returns-in-LookaroundAssertion t c =
     rw (c.in-LookaroundAssertion.is, tree-LookaroundAssertion, ← c.deref-in-LookaroundAssertion.ensures) c.outcomes_of_look.ensures
 
+pub outcomes-returns-in-AtomicGroup : goal.outcomes-returns-in-AtomicGroup
+unfolding node_outcomes
+outcomes-returns-in-AtomicGroup t c =
+    rw (c.in-AtomicGroup.is, tree-AtomicGroup, ← c.deref-in-AtomicGroup.ensures) c.outcomes_of_atomic.ensures
+
 pub outcomes-returns-in-Loop : goal.outcomes-returns-in-Loop
 outcomes-returns-in-Loop t c = rw (c.in-Loop.is, tree-Loop, ← c.deref-in-Loop.ensures) c.outcomes_of_loop.ensures
 
@@ -124,6 +129,10 @@ outcomes_of_capture-returns t c =
     (omega arith) (c.loop-found.auto.found-items ∙ ap length c.deref_mut-found-items.ensures.value) c.in_ok-states.states.ok.0
     (rw c.deref_mut-found-items.ensures.value at c.loop-found.invariant.0)
     ∙ ap (map f) c.in_ok-states.ensures
+
+pub outcomes_of_atomic-returns : goal.outcomes_of_atomic-returns
+outcomes_of_atomic-returns t c =
+    ap (map state_of) c.truncate.ensures.items ∙ sym (take-map state_of 1 c.in_ok-states.states.items) ∙ ap (take 1) c.in_ok-states.ensures
 
 pub outcomes_of_loop-loop-task-init : goal.outcomes_of_loop-loop-task-init
 outcomes_of_loop-loop-task-init t c =

@@ -6,7 +6,7 @@ use Rattle.regress_front_tokens.specs.declared.syntax.Syntax.TheViews.{the_lemma
 use Rattle.regress_front_tokens.specs.Trees as parsed
 use Rattle.regress_front_tokens.specs.Words.{code_points_of}
 use Rattle.regress_front_nodes.specs.Trees.{tree}
-use Rattle.regress_front_tree.specs.Lowering.{no_pattern, no_term, of_terms, of_arms, of_capture, of_group, of_repeated, of_look, of_line_start, of_line_end}
+use Rattle.regress_front_tree.specs.Lowering.{no_pattern, no_term, of_terms, of_arms, of_capture, of_group, of_repeated, of_look, of_atomic, of_line_start, of_line_end}
 use Rattle.regress_front_tree.specs.Scopes.{IsLowerable}
 use Rattle.regress_front_tokens.proofs.TreeLaws as law
 use Rattle.regress_front_tree.proofs.LowerableLemmas.{IsLowerable-terms, IsLowerable-arms, contents-IsLowerable, each_is, term-IsLowerable, text-points}
@@ -130,6 +130,9 @@ repetition-returns-clause-ok t c = IfOk-weaker c.repeat.result _ _ (λ done same
 
 pub lookaround-returns-clause-ok : goal.lookaround-returns-clause-ok
 lookaround-returns-clause-ok t c = IfOk-weaker c.look.result _ _ (λ done same. rw same (of_look c.in_ok-lower.ensures.ok)) c.look.ensures
+
+pub atomic_group-returns-clause-ok : goal.atomic_group-returns-clause-ok
+atomic_group-returns-clause-ok t c = IfOk-weaker c.atomic.result _ _ (λ done same. rw same (of_atomic c.in_ok-lower.ensures.ok)) c.atomic.ensures
 
 pub lower-returns-in-Group-clause-ok : goal.lower-returns-in-Group-clause-ok
 lower-returns-in-Group-clause-ok t c =

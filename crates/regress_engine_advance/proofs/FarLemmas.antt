@@ -1,0 +1,23 @@
+-- As far as an instruction goes.
+use Rattle.std.proofs.Common.{◌≡◌, ℕ, zero, suc, ◌-◌, List, Option, Some, None, refl}
+use Rattle.regress_meaning.specs.Meaning.{Direction}
+use Rattle.regress_engine_input.specs.Views.{View, AreOfKind, input_of, reading_of}
+use Rattle.regress_engine_code.specs.Instructions.{Instruction, Program, Stands}
+use Rattle.regress_engine_runs.specs.States.{Marks}
+use Rattle.regress_engine_runs.specs.Runs.{advance, as_far}
+use Rattle.regress_engine_runs.specs.Meets.{IsAtPlace}
+use Rattle.regress_engine_sought.specs.Sought.{Suits}
+use Rattle.regress_engine_sought.specs.Ready.{IsBody}
+use Rattle.regress_engine_sought.proofs.ReadyLemmas.{body-next}
+
+-- as far as it goes is at a place
+module _ (program : Program) (v : View) (all : AreOfKind v.kind v.units) (suits : Suits program v) (at : ℕ) (i : Instruction) (here : Stands program (at - 1) i) (dir : Direction) (groups : List Marks) where
+  pub far-place : (n o : ℕ) → IsBody program v at o → IsAtPlace (reading_of v) (as_far program (input_of v) n i dir groups o)
+  unfolding as_far
+  far-place zero o body = body.3
+  far-place (suc n) o body = by_found (advance program (input_of v) i dir groups o) refl (λ q there. far-place n q there)
+    where
+      by_found : (x : Option ℕ) → advance program (input_of v) i dir groups o ≡ x → ((q : ℕ) → IsBody program v at q → IsAtPlace (reading_of v) (as_far program (input_of v) n i dir groups q))
+          → IsAtPlace (reading_of v) (elim x [ None ↦ o | Some q ↦ as_far program (input_of v) n i dir groups q ])
+      by_found None e rest = body.3
+      by_found (Some q) e rest = rest q (body-next v all program suits at o q i dir groups body here e)

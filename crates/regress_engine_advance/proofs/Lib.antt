@@ -1,0 +1,4 @@
+pub mod FarLemmas
+pub mod LackedLemmas
+pub mod ReadLemmas
+pub mod TakenLemmas

@@ -1,0 +1,91 @@
+//! Bytes beside an offset.
+ghost use Rattle.std.specs.Prelude.{◌≡◌, ◌<◌, ℕ, true, false, not, None, List, ◌∷◌, length};
+ghost use Rattle.regress_meaning.specs.Meaning.{Forward as ahead};
+ghost use Rattle.regress_meaning.specs.Steps.{literal};
+ghost use Rattle.regress_engine_code.specs.Standing.{program_of};
+ghost use Rattle.regress_engine_code.specs.InsnViews.{instruction};
+ghost use Rattle.regress_engine_input.specs.Views.{way, input_of, are_bytes};
+ghost use Rattle.regress_engine_runs.specs.States.{Marks};
+ghost use Rattle.regress_engine_runs.specs.Meets.{reads_character};
+ghost use Rattle.regress_engine_runs.specs.Runs.{advance};
+ghost use Rattle.regress_engine_runs.specs.Closed.{Fits};
+
+use regress_engine_code::{CompiledRegex, Insn, bytes_of};
+use regress_engine_input::{Backward, Direction, Forward, InputIndexer, PositionType};
+
+/// Whether another byte stands ahead of an offset, or none. The offset may be any.
+///
+/// Asks that the text is one of bytes.
+///
+/// ```rust
+/// let other = other_ahead(&input, 0, b'a');
+/// ```
+#[inline(always)]
+pub fn other_ahead<Input: InputIndexer>(input: &Input, offset: usize, byte: u8) -> bool
+    requires { are_bytes (Input.view input.now).kind ≡ true }
+    ensures { (rest : List ℕ) → result ≡ true → None ≡ literal (input_of (Input.view input.now)) ahead (byte ∷ rest) offset }
+{
+    if offset > input.pos_to_offset(input.right_end()) {
+        return true;
+    }
+    let position = <Input::Position as PositionType>::new(offset);
+    input.peek_byte_right(position) != Some(byte)
+}
+
+/// The offset behind some bytes beside one, where they stand there. The offset may be any.
+///
+/// Asks that the text is one of bytes, and that there is a byte.
+///
+/// ```rust
+/// let behind = bytes_beside(&input, true, 0, b"ab");
+/// ```
+#[inline]
+pub fn bytes_beside<Input: InputIndexer>(
+    input: &Input,
+    forward: bool,
+    offset: usize,
+    bytes: &[u8],
+) -> Option<usize>
+    requires kind { are_bytes (Input.view input.now).kind ≡ true }
+    requires some { 0 < length bytes.now }
+    ensures { result ≡ literal (input_of (Input.view input.now)) (way forward) bytes.now offset }
+{
+    if offset > input.pos_to_offset(input.right_end()) {
+        return None;
+    }
+    let mut position = <Input::Position as PositionType>::new(offset);
+    if forward && input.peek_byte_right(position) != Some(bytes[0]) {
+        return None;
+    }
+    let stand = if forward {
+        input.match_bytes(Forward::new(), &mut position, bytes)
+    } else {
+        input.match_bytes(Backward::new(), &mut position, bytes)
+    };
+    if stand {
+        Some(input.pos_to_offset(position))
+    } else {
+        None
+    }
+}
+
+/// The offset behind the bytes of an instruction, where it has some and they stand beside an offset, which may be any.
+#[inline]
+pub(crate) fn byte_seq<Input: InputIndexer>(
+    program: &CompiledRegex,
+    input: &Input,
+    insn: &Insn,
+    forward: bool,
+    offset: usize,
+) -> Option<usize>
+    requires kind { are_bytes (Input.view input.now).kind ≡ not (program_of program.now).units }
+    requires fits { Fits (program_of program.now) 0 (instruction insn.now) }
+    ensures { (groups : List Marks) → reads_character (instruction insn.now) ≡ false
+        → result ≡ advance (program_of program.now) (input_of (Input.view input.now)) (instruction insn.now) (way forward) groups offset }
+{
+    let bytes = bytes_of(insn);
+    if bytes.is_empty() {
+        return None;
+    }
+    bytes_beside(input, forward, offset, bytes)
+}

@@ -1,0 +1,95 @@
+//! Addresses from which surely nothing is led to, since what is taken there doesn't stand.
+ghost use Rattle.std.specs.Prelude.{◌≡◌, ℕ, true, Some};
+ghost use Rattle.regress_meaning.specs.Meaning.{Forward as ahead, Backward as backward};
+ghost use Rattle.regress_engine_code.specs.Standing.{program_of};
+ghost use Rattle.regress_engine_input.specs.Views.{View, way, input_of, in_bytes, unit_beside};
+ghost use Rattle.regress_engine_sought.specs.Sought.{Suits};
+ghost use Rattle.regress_engine_singles.specs.Failing.{IsStuck};
+
+use crate::literals::bytes_beside;
+use regress_engine_code::{CompiledRegex, bytes_of};
+use regress_engine_input::{InputIndexer, PositionType};
+
+/// The byte ahead of an offset, which may be any; `None` where the text ends, and over units.
+///
+/// ```rust
+/// let byte = next_byte(&input, 0);
+/// ```
+#[inline(always)]
+pub fn next_byte<Input: InputIndexer>(input: &Input, offset: usize) -> Option<u8>
+    ensures { result ≡ in_bytes (Input.view input.now).kind (unit_beside (Input.view input.now).units ahead offset) }
+{
+    if offset > input.pos_to_offset(input.right_end()) {
+        return None;
+    }
+    let position = <Input::Position as PositionType>::new(offset);
+    input.peek_byte_right(position)
+}
+
+/// Whether surely nothing is led to from an address on, read forward, where this byte stands ahead.
+///
+/// ```rust
+/// let stuck = is_stuck_ahead(&program, 0, b'a');
+/// ```
+#[inline(always)]
+pub fn is_stuck_ahead(program: &CompiledRegex, at: usize, byte: u8) -> bool
+    ensures { (v : View) (o : ℕ) → Suits (program_of program.now) v → Some byte ≡ in_bytes v.kind (unit_beside v.units ahead o) → result ≡ true
+        → IsStuck (program_of program.now) (input_of v) ahead at o }
+{
+    program.lacks(at, byte)
+}
+
+/// Whether surely nothing is led to from an address on, read backward: the bytes taken there don't stand before an offset.
+///
+/// Asks that the program suits the text.
+///
+/// ```rust
+/// let stuck = is_stuck_behind(&program, &input, 0, 1);
+/// ```
+#[inline]
+pub fn is_stuck_behind<Input: InputIndexer>(
+    program: &CompiledRegex,
+    input: &Input,
+    at: usize,
+    offset: usize,
+) -> bool
+    requires { Suits (program_of program.now) (Input.view input.now) }
+    ensures { result ≡ true → IsStuck (program_of program.now) (input_of (Input.view input.now)) backward at offset }
+{
+    let insns = program.insns();
+    if at >= insns.len() {
+        return false;
+    }
+    let bytes = bytes_of(&insns[at]);
+    if bytes.is_empty() {
+        return false;
+    }
+    bytes_beside(input, false, offset, bytes).is_none()
+}
+
+/// Whether surely nothing is led to from an address on, by what stands beside an offset, forward or backward.
+///
+/// Asks that the program suits the text.
+///
+/// ```rust
+/// let stuck = is_stuck(&program, &input, 0, true, 1);
+/// ```
+#[inline]
+pub fn is_stuck<Input: InputIndexer>(
+    program: &CompiledRegex,
+    input: &Input,
+    at: usize,
+    forward: bool,
+    offset: usize,
+) -> bool
+    requires { Suits (program_of program.now) (Input.view input.now) }
+    ensures { result ≡ true → IsStuck (program_of program.now) (input_of (Input.view input.now)) (way forward) at offset }
+{
+    if !forward {
+        return is_stuck_behind(program, input, at, offset);
+    }
+    match next_byte(input, offset) {
+        Some(byte) => is_stuck_ahead(program, at, byte),
+        None => false,
+    }
+}

@@ -1,5 +1,0 @@
-use Rattle.regress_engine_exec.proofs.attempt.Attempt.+fails.Given as goal
-
--- how many instructions are still looked at
-abbrev pub decreases-fails : goal.decreases-fails
-decreases-fails g l = l.left

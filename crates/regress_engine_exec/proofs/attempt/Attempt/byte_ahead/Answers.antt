@@ -1,7 +1,0 @@
-use Rattle.regress_engine_singles.proofs.ApartLemmas.{byte-places}
-use Rattle.regress_engine_exec.proofs.attempt.Attempt.byte_ahead.Goals as goal
-
-pub returns-clause-place : goal.returns-clause-place
-returns-clause-place g c =
-    let v = g.Input.InputIndexer.view c.args.self.now.input in
-    byte-places v (g.met.Input.InputIndexer.are_of_kind c.args.self.now.input) c.requires.kind c.args.byte.now c.told-byte c.requires.ascii c.args.offset c.requires.place c.bytes.result c.bytes.ensures

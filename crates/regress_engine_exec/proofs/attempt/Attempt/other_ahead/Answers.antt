@@ -1,7 +1,0 @@
-use Rattle.std.proofs.Common.{◌∷◌, sym, ◌∙◌, arith}
-use Rattle.regress_engine_singles.proofs.ApartLemmas.{not-there}
-use Rattle.regress_engine_exec.proofs.attempt.Attempt.other_ahead.Goals as goal
-
-pub returns : goal.returns
-returns g c = λ rest yes.
-    not-there (g.Input.InputIndexer.view c.args.self.now.input) c.requires (c.args.byte ∷ rest) c.args.offset _ (omega arith) c.new-position.ensures c.peek_byte_right.result c.peek_byte_right.ensures (sym yes ∙ c.ne.ensures)

@@ -1,9 +1,0 @@
-use Rattle.regress_engine_input.specs.Views.{way}
-use Rattle.regress_engine_matchers.proofs.ViewLemmas.{view_reads}
-use Rattle.regress_engine_sought.proofs.PlaceLemmas.{lies-behind}
-use Rattle.regress_engine_exec.proofs.attempt.Attempt.read.Goals as goal
-
-pub pos_to_offset-requires : goal.pos_to_offset-requires
-pos_to_offset-requires g c =
-    let v = g.Input.InputIndexer.view c.args.self.now.input in
-    lies-behind v (view_reads v (g.met.Input.InputIndexer.are_of_kind c.args.self.now.input)) (way g.Dir.Direction.FORWARD) c.args.offset _ c.requires (rw c.new-position.ensures at c.in_ok-character.ensures.position)

@@ -1,0 +1,68 @@
+//! Where it is gone on at once, since one of two ways surely leads nowhere.
+ghost use Rattle.std.specs.Prelude.{◌≡◌, ◌+◌, ◌^◌, ◌<◌, ℕ, true, Some};
+ghost use Rattle.regress_meaning.specs.Meaning.{Forward as ahead};
+ghost use Rattle.regress_engine_code.specs.Instructions.{Stands, alt};
+ghost use Rattle.regress_engine_code.specs.Standing.{program_of};
+ghost use Rattle.regress_engine_input.specs.Views.{input_of, in_bytes, unit_beside};
+ghost use Rattle.regress_engine_sought.specs.Sought.{Suits};
+ghost use Rattle.regress_engine_exec.specs.Trying.{IsWay};
+
+use crate::attempt::Attempt;
+use regress_engine_advance::{is_stuck_ahead, is_stuck_behind, next_byte};
+use regress_engine_code::Insn;
+use regress_engine_matchers::CharInput;
+
+impl<'a, 'r, Input: CharInput> Attempt<'a, 'r, Input> {
+    /// The address at which it is gone on from one, read forward, where this byte stands ahead: as long as one of two ways
+    /// surely leads nowhere, by the other.
+    #[inline(always)]
+    fn way_ahead(&self, start: usize, byte: u8) -> usize
+        requires { Suits (program_of self.now.program.now) (Input.view self.now.input) }
+        ensures { (o : ℕ) → Some byte ≡ in_bytes (Input.view self.now.input).kind (unit_beside (Input.view self.now.input).units ahead o) → IsWay (program_of self.now.program.now) (input_of (Input.view self.now.input)) true o start result }
+    {
+        let insns = self.program.insns();
+        let mut at = start;
+        'ways: while at < insns.len() {
+            let Insn::Alt { secondary } = &insns[at] else {
+                break;
+            };
+            let second = *secondary as usize;
+            if second <= at {
+                break;
+            }
+            if is_stuck_ahead(self.program, at + 1, byte) {
+                at = second;
+                continue;
+            }
+            if !is_stuck_ahead(self.program, second, byte) {
+                break;
+            }
+            at += 1;
+        }
+        at
+    }
+
+    /// The address at which it is gone on from two ways, by what stands beside an offset: that of both where neither surely
+    /// leads nowhere.
+    #[inline(always)]
+    pub(crate) fn way_of_two(&self, at: usize, second: usize, forward: bool, offset: usize) -> usize
+        requires suits { Suits (program_of self.now.program.now) (Input.view self.now.input) }
+        requires stands { Stands (program_of self.now.program.now) at (alt second) }
+        requires room { at + 1 < 2 ^ 64 }
+        ensures { IsWay (program_of self.now.program.now) (input_of (Input.view self.now.input)) forward offset at result }
+    {
+        if forward {
+            return match next_byte(&self.input, offset) {
+                Some(byte) => self.way_ahead(at, byte),
+                None => at,
+            };
+        }
+        if is_stuck_behind(self.program, &self.input, at + 1, offset) {
+            return second;
+        }
+        if is_stuck_behind(self.program, &self.input, second, offset) {
+            return at + 1;
+        }
+        at
+    }
+}

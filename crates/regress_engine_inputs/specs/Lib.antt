@@ -1,0 +1,2 @@
+pub mod InputViews
+pub mod AsciiByTable

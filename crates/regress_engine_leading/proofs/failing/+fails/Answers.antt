@@ -1,0 +1,81 @@
+use Rattle.std.proofs.Common.{true, not, refl, sym, ap, ◌∙◌}
+use Rattle.regress_meaning.specs.Meaning.{Forward}
+use Rattle.regress_engine_code.specs.Standing.{program_of}
+use Rattle.regress_engine_input.specs.Views.{input_of}
+use Rattle.regress_engine_code.specs.declared.insn.Insn.TheVariants.{Goal}
+use Rattle.regress_engine_sought.proofs.InsnLemmas.{stands-as}
+use Rattle.regress_engine_sought.proofs.PlaceLemmas.{can-read}
+use Rattle.regress_engine_singles.proofs.LeadingLemmas.{class-simple, class-fits}
+use Rattle.regress_engine_singles.proofs.StuckLemmas.{simple-stuck, taken-stuck, begin-stuck, end-stuck}
+use Rattle.regress_engine_advance.proofs.ReadLemmas.{none-is, stands-read, edge-simple}
+use Rattle.regress_engine_leading.proofs.failing.+fails.Goals as goal
+
+pub byte_ahead-requires-clause-kind : goal.byte_ahead-requires-clause-kind
+byte_ahead-requires-clause-kind g t c =
+    let program = program_of c.args.program.now in
+    let here = stands-read c.insns-insns.result.now c.args.program.now.insns.items c.args.at Goal c.insns-insns.ensures c.if-at-insns.false in
+    c.requires.suits.kind ∙ ap not (c.requires.suits.closed c.args.at _ (stands-as program c.args.at _ _ c.in-ByteSeq1.is here))
+
+pub class_ahead-requires : goal.class_ahead-requires
+class_ahead-requires g t c =
+    let program = program_of c.args.program.now in
+    let here = stands-read c.insns-insns.result.now c.args.program.now.insns.items c.args.at Goal c.insns-insns.ensures c.if-at-insns.false in
+    let class = sym c.is_class.ensures ∙ c.if-is_class.true in
+    record {
+      class = class;
+      fits = class-fits program c.args.at _ class (c.requires.suits.closed c.args.at _ here);
+      place = can-read (g.Input.InputIndexer.view c.args.input.now) (g.met.Input.InputIndexer.are_of_kind c.args.input.now) c.args.offset c.requires.place;
+    }
+
+pub returns-in-BeginCaptureGroup : goal.returns-in-BeginCaptureGroup
+returns-in-BeginCaptureGroup g t c = λ yes.
+    let program = program_of c.args.program.now in
+    let here = stands-read c.insns-insns.result.now c.args.program.now.insns.items c.args.at Goal c.insns-insns.ensures c.if-at-insns.false in
+    begin-stuck program (input_of (g.Input.InputIndexer.view c.args.input.now)) Forward c.args.at c.args.offset _ (stands-as program c.args.at _ _ c.in-BeginCaptureGroup.is here) (c.fails-in-BeginCaptureGroup.ensures yes)
+
+pub returns-in-EndCaptureGroup : goal.returns-in-EndCaptureGroup
+returns-in-EndCaptureGroup g t c = λ yes.
+    let program = program_of c.args.program.now in
+    let here = stands-read c.insns-insns.result.now c.args.program.now.insns.items c.args.at Goal c.insns-insns.ensures c.if-at-insns.false in
+    end-stuck program (input_of (g.Input.InputIndexer.view c.args.input.now)) Forward c.args.at c.args.offset _ (stands-as program c.args.at _ _ c.in-EndCaptureGroup.is here) (c.fails-in-EndCaptureGroup.ensures yes)
+
+pub returns-in-Some : goal.returns-in-Some
+returns-in-Some g t c = λ yes.
+    let program = program_of c.args.program.now in
+    let here = stands-read c.insns-insns.result.now c.args.program.now.insns.items c.args.at Goal c.insns-insns.ensures c.if-at-insns.false in
+    taken-stuck program (input_of (g.Input.InputIndexer.view c.args.input.now)) Forward c.args.at c.args.offset c.in-Some.behind _ (stands-as program c.args.at _ _ c.in-ByteSeq1.is here) refl
+    (λ groups. sym c.in-Some.is ∙ c.byte_ahead.ensures.stands) (c.fails-in-Some.ensures yes)
+
+pub returns-in-None : goal.returns-in-None
+returns-in-None g t c = λ yes.
+    let program = program_of c.args.program.now in
+    let here = stands-read c.insns-insns.result.now c.args.program.now.insns.items c.args.at Goal c.insns-insns.ensures c.if-at-insns.false in
+    simple-stuck program (input_of (g.Input.InputIndexer.view c.args.input.now)) Forward c.args.at c.args.offset _ (stands-as program c.args.at _ _ c.in-ByteSeq1.is here) refl
+    (λ groups. sym c.in-None.is ∙ c.byte_ahead.ensures.stands)
+
+pub returns-then-is_class : goal.returns-then-is_class
+returns-then-is_class g t c = λ none.
+    let program = program_of c.args.program.now in
+    let here = stands-read c.insns-insns.result.now c.args.program.now.insns.items c.args.at Goal c.insns-insns.ensures c.if-at-insns.false in
+    let class = sym c.is_class.ensures ∙ c.if-is_class.true in
+    simple-stuck program (input_of (g.Input.InputIndexer.view c.args.input.now)) Forward c.args.at c.args.offset _ here (class-simple _ class)
+    (λ groups. none-is _ (c.is_none.ensures ∙ ap not none) ∙ c.class_ahead.ensures groups)
+
+pub holds_at-requires : goal.holds_at-requires
+holds_at-requires g t c = can-read (g.Input.InputIndexer.view c.args.input.now) (g.met.Input.InputIndexer.are_of_kind c.args.input.now) c.args.offset c.requires.place
+
+pub returns-then-not-holds_at : goal.returns-then-not-holds_at
+returns-then-not-holds_at g t c = λ yes.
+    let program = program_of c.args.program.now in
+    let here = stands-read c.insns-insns.result.now c.args.program.now.insns.items c.args.at Goal c.insns-insns.ensures c.if-at-insns.false in
+    let edge = sym c.is_edge.ensures ∙ c.if-is_edge.true in
+    simple-stuck program (input_of (g.Input.InputIndexer.view c.args.input.now)) Forward c.args.at c.args.offset _ here (edge-simple _ edge)
+    (λ groups. c.if-not-holds_at.ensures program true groups edge)
+
+pub returns-then-is_edge : goal.returns-then-is_edge
+returns-then-is_edge g t c = λ yes.
+    let program = program_of c.args.program.now in
+    let here = stands-read c.insns-insns.result.now c.args.program.now.insns.items c.args.at Goal c.insns-insns.ensures c.if-at-insns.false in
+    let edge = sym c.is_edge.ensures ∙ c.if-is_edge.true in
+    taken-stuck program (input_of (g.Input.InputIndexer.view c.args.input.now)) Forward c.args.at c.args.offset c.args.offset _ here (edge-simple _ edge)
+    (λ groups. c.if-not-holds_at.ensures program true groups edge) (c.fails.ensures yes)

@@ -1,0 +1,212 @@
+//! What a program begins with: a class and a run of characters, or what is asked of the place.
+ghost use Rattle.std.specs.Prelude.{◌≡◌, ◌<◌, ℕ, true, false, IfSome};
+ghost use Rattle.regress_engine_code.specs.Instructions.{Program, Stands, boundary, line_start};
+ghost use Rattle.regress_engine_code.specs.Standing.{program_of};
+ghost use Rattle.regress_engine_input.specs.Views.{View, reading_of};
+ghost use Rattle.regress_engine_runs.specs.Meets.{IsAtPlace};
+ghost use Rattle.regress_engine_sought.specs.Sought.{Suits};
+ghost use Rattle.regress_engine_singles.specs.Passed.{PassesOver};
+ghost use Rattle.regress_engine_leading.specs.Known.{BeginsAt, IsKnown};
+
+use crate::failing::{class_ahead, fails};
+use regress_engine_advance::{beside, boundary, is_atomic, is_stuck, is_word, word_beside};
+use regress_engine_code::{CompiledRegex, Insn};
+use regress_engine_matchers::{CharInput, CharProperties};
+use regress_engine_singles::{as_far_ahead, is_class, is_edge, takes_one};
+
+/// So many instructions behind a run are looked at.
+const LOOKED_AT: usize = 8;
+
+/// What is known of a place before a run begins there.
+#[derive(Debug, Clone, Copy)]
+pub enum Beginning {
+    /// From the place on and up to this offset no run has an answer.
+    Passed(usize),
+    /// A run from the place comes to this address, and nothing else has changed then.
+    At(usize),
+}
+
+impl Beginning {
+    /// What is known where no run has an answer up to an offset, or nothing is known.
+    #[inline]
+    fn of(passed: Option<usize>) -> Beginning
+        ensures { (program : Program) (v : View) (start : ℕ) → IfSome passed (PassesOver program v start) → IsKnown program v start result }
+    {
+        match passed {
+            Some(past) => Beginning::Passed(past),
+            None => Beginning::At(0),
+        }
+    }
+}
+
+/// The offset behind the character ahead of the start, where the program takes that at an address and then leads nowhere.
+fn passed_taken<Input: CharInput>(
+    program: &CompiledRegex,
+    input: &Input,
+    start: usize,
+    at: usize,
+) -> Option<usize>
+    requires suits { Suits (program_of program.now) (Input.view input.now) }
+    requires place { IsAtPlace (reading_of (Input.view input.now)) start }
+    requires room { at < 2 }
+    ensures { BeginsAt (program_of program.now) (Input.view input.now) at → IfSome result (PassesOver (program_of program.now) (Input.view input.now) start) }
+{
+    let insns = program.insns();
+    if at >= insns.len() || !takes_one(&insns[at]) {
+        return None;
+    }
+    let (_, behind) = beside(input, true, start)?;
+    if !is_stuck(program, input, at + 1, true, behind) {
+        return None;
+    }
+    Some(behind)
+}
+
+/// How far no run has an answer, where the program has a class at an address and then a loop of a class: up to where that
+/// stops, where nothing is led to from any of its ends; where it has no such loop, what `passed_taken` tells.
+fn passed_from<Input: CharInput>(
+    program: &CompiledRegex,
+    input: &Input,
+    start: usize,
+    at: usize,
+) -> Option<usize>
+    requires suits { Suits (program_of program.now) (Input.view input.now) }
+    requires place { IsAtPlace (reading_of (Input.view input.now)) start }
+    requires room { at < 2 }
+    ensures { BeginsAt (program_of program.now) (Input.view input.now) at → IfSome result (PassesOver (program_of program.now) (Input.view input.now) start) }
+{
+    let insns = program.insns();
+    if at + 2 >= insns.len() {
+        return None;
+    }
+    let Insn::Loop1CharBody {
+        min_iters,
+        max_iters,
+        greedy,
+    } = &insns[at + 1]
+    else {
+        return passed_taken(program, input, start, at);
+    };
+    let first = &insns[at];
+    let body = &insns[at + 2];
+    if *min_iters > 0 || !*greedy || !is_class(first) || !is_class(body) {
+        return None;
+    }
+    if !is_atomic(program, body, at + 3) {
+        return None;
+    }
+    let near = class_ahead(program, input, first, start)?;
+    let far = as_far_ahead(program, input, body, *max_iters, near)?;
+    if class_ahead(program, input, body, far).is_some()
+        || !fails(program, input, LOOKED_AT, at + 3, far)
+    {
+        return None;
+    }
+    Some(far)
+}
+
+/// The offset behind the character ahead of the start, where there is one and nothing is led to from the start.
+fn passed_one<Input: CharInput>(
+    program: &CompiledRegex,
+    input: &Input,
+    start: usize,
+) -> Option<usize>
+    requires suits { Suits (program_of program.now) (Input.view input.now) }
+    requires place { IsAtPlace (reading_of (Input.view input.now)) start }
+    ensures { IfSome result (PassesOver (program_of program.now) (Input.view input.now) start) }
+{
+    if !fails(program, input, LOOKED_AT, 0, start) {
+        return None;
+    }
+    let (_, behind) = beside(input, true, start)?;
+    Some(behind)
+}
+
+/// What is known of the start where the program asks first whether a word begins or ends: where one does, the run is behind
+/// that at once, and else no run has an answer up to where the next one does.
+fn at_word<Input: CharInput>(
+    program: &CompiledRegex,
+    input: &Input,
+    start: usize,
+    folded: bool,
+) -> Beginning
+    requires suits { Suits (program_of program.now) (Input.view input.now) }
+    requires place { IsAtPlace (reading_of (Input.view input.now)) start }
+    requires first { Stands (program_of program.now) 0 (boundary false folded) }
+    ensures { IsKnown (program_of program.now) (Input.view input.now) start result }
+{
+    if boundary(input, folded, start) {
+        return Beginning::At(1);
+    }
+    let was = word_beside(input, folded, false, start);
+    let mut at = start;
+    'places: loop {
+        let Some((c, behind)) = beside(input, true, at) else {
+            break;
+        };
+        if is_word(input, folded, c) != was {
+            break;
+        }
+        at = behind;
+    }
+    Beginning::of((start < at).then_some(at))
+}
+
+/// How far from the start on no line begins, where the program asks for that first; `None` where one begins there, and
+/// something may be led to.
+fn passed_line<Input: CharInput>(
+    program: &CompiledRegex,
+    input: &Input,
+    start: usize,
+) -> Option<usize>
+    requires suits { Suits (program_of program.now) (Input.view input.now) }
+    requires place { IsAtPlace (reading_of (Input.view input.now)) start }
+    requires first { Stands (program_of program.now) 0 (line_start true) }
+    ensures { IfSome result (PassesOver (program_of program.now) (Input.view input.now) start) }
+{
+    if !fails(program, input, LOOKED_AT, 0, start) {
+        return None;
+    }
+    let mut at = start;
+    'places: loop {
+        let Some((c, behind)) = beside(input, true, at) else {
+            return (start < at).then_some(at);
+        };
+        if <Input::CharProps as CharProperties>::is_line_terminator(c) {
+            return Some(behind);
+        }
+        at = behind;
+    }
+}
+
+/// What is known of the start without a run: how far no run has an answer, where nothing is led to from behind the run of
+/// characters or the one character that the program begins with, or from an offset of which it asks something first; or
+/// that a run is behind the `\b` that it begins with.
+///
+/// Asks that the program suits the text, and that the offset is that of a place of the text.
+///
+/// ```rust
+/// let known = known_at(&program, &input, 0);
+/// ```
+pub fn known_at<Input: CharInput>(program: &CompiledRegex, input: &Input, start: usize) -> Beginning
+    requires suits { Suits (program_of program.now) (Input.view input.now) }
+    requires place { IsAtPlace (reading_of (Input.view input.now)) start }
+    ensures { IsKnown (program_of program.now) (Input.view input.now) start result }
+{
+    let insns = program.insns();
+    if insns.is_empty() {
+        return Beginning::At(0);
+    }
+    match &insns[0] {
+        Insn::BeginCaptureGroup(_) => Beginning::of(passed_from(program, input, start, 1)),
+        Insn::WordBoundary { invert: false } => at_word(program, input, start, false),
+        Insn::WordBoundaryUnicodeICase { invert: false } => at_word(program, input, start, true),
+        Insn::StartOfLine { multiline: true } => Beginning::of(passed_line(program, input, start)),
+        insn => {
+            if is_edge(insn) {
+                return Beginning::of(passed_one(program, input, start));
+            }
+            Beginning::of(passed_from(program, input, start, 0))
+        }
+    }
+}

@@ -1,0 +1,7 @@
+//! What is known of a place without a run, by what a program begins with.
+#![tactic(auto)]
+
+mod failing;
+mod leading;
+
+pub use leading::{Beginning, known_at};
