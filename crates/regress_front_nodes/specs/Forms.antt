@@ -1,6 +1,6 @@
 -- What a tree is by its form.
 use Rattle.std.specs.Prelude.{ℕ, ◌+◌, Bool, true, false, List, [], ◌∷◌, if◌then◌else◌, reverse, max}
-use Rattle.regress_front_nodes.specs.Trees.{Tree, empty, cat, cat_of, no_part, alt, capture, submatch, loop, single_loop}
+use Rattle.regress_front_nodes.specs.Trees.{Tree, empty, goal, char, bytes, byte_set, char_set, cat, no_part, alt, any, any_in_line, line_start, line_end, boundary, capture, back, bracket, string_set, submatch, loop, single_loop, cat_of}
 
 -- it is `Empty`
 abbrev pub is_empty : Tree → Bool
@@ -22,7 +22,20 @@ is_leaf (capture k name a) = false
 is_leaf (submatch kind first last a) = false
 is_leaf (loop a first last least most greedy) = false
 is_leaf (single_loop a least most greedy) = false
-is_leaf _ = true
+is_leaf empty = true
+is_leaf goal = true
+is_leaf (char c) = true
+is_leaf (bytes bs) = true
+is_leaf (byte_set bs) = true
+is_leaf (char_set cs) = true
+is_leaf any = true
+is_leaf any_in_line = true
+is_leaf (line_start multiline) = true
+is_leaf (line_end multiline) = true
+is_leaf (boundary inverted folded) = true
+is_leaf (back k icase) = true
+is_leaf (bracket inverted intervals) = true
+is_leaf (string_set strings icase) = true
 
 -- the parts of a `Cat`
 abbrev pub parts : Tree → List Tree
@@ -42,7 +55,21 @@ nesting (capture k name a) = nesting a + 1
 nesting (submatch kind first last a) = nesting a + 1
 nesting (loop a first last least most greedy) = nesting a + 1
 nesting (single_loop a least most greedy) = nesting a + 1
-nesting _ = 0
+nesting empty = 0
+nesting goal = 0
+nesting (char c) = 0
+nesting (bytes bs) = 0
+nesting (byte_set bs) = 0
+nesting (char_set cs) = 0
+nesting no_part = 0
+nesting any = 0
+nesting any_in_line = 0
+nesting (line_start multiline) = 0
+nesting (line_end multiline) = 0
+nesting (boundary inverted folded) = 0
+nesting (back k icase) = 0
+nesting (bracket inverted intervals) = 0
+nesting (string_set strings icase) = 0
 
 -- deeper than this no copy of a node is made
 abbrev pub deepest_copy : ℕ

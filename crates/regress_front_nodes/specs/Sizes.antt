@@ -1,6 +1,6 @@
 -- How large a tree is.
 use Rattle.std.specs.Prelude.{ℕ, ◌+◌, length, chars, sum_by}
-use Rattle.regress_front_nodes.specs.Trees.{Tree, bytes, cat, alt, capture, string_set, submatch, loop, single_loop}
+use Rattle.regress_front_nodes.specs.Trees.{Tree, empty, goal, char, bytes, byte_set, char_set, cat, no_part, alt, any, any_in_line, line_start, line_end, boundary, capture, back, bracket, string_set, submatch, loop, single_loop}
 
 -- How many nodes there are. A literal counts as its characters, and a set of strings also for each string and for each
 -- of their code points. A `Cat` is counted at the end of its parts.
@@ -13,7 +13,19 @@ size (string_set strings icase) = 1 + length strings + sum_by length strings
 size (submatch kind first last a) = size a + 1
 size (loop a first last least most greedy) = size a + 1
 size (single_loop a least most greedy) = size a + 1
-size _ = 1
+size empty = 1
+size goal = 1
+size (char c) = 1
+size (byte_set bs) = 1
+size (char_set cs) = 1
+size no_part = 1
+size any = 1
+size any_in_line = 1
+size (line_start multiline) = 1
+size (line_end multiline) = 1
+size (boundary inverted folded) = 1
+size (back k icase) = 1
+size (bracket inverted intervals) = 1
 
 -- how many `Loop`s there are
 abbrev pub loops : Tree → ℕ
@@ -23,4 +35,18 @@ loops (capture k name a) = loops a
 loops (submatch kind first last a) = loops a
 loops (loop a first last least most greedy) = loops a + 1
 loops (single_loop a least most greedy) = loops a
-loops _ = 0
+loops empty = 0
+loops goal = 0
+loops (char c) = 0
+loops (bytes bs) = 0
+loops (byte_set bs) = 0
+loops (char_set cs) = 0
+loops no_part = 0
+loops any = 0
+loops any_in_line = 0
+loops (line_start multiline) = 0
+loops (line_end multiline) = 0
+loops (boundary inverted folded) = 0
+loops (back k icase) = 0
+loops (bracket inverted intervals) = 0
+loops (string_set strings icase) = 0

@@ -4,7 +4,7 @@ use Rattle.std.specs.Option.{option_or}
 use Rattle.std.specs.Str.{IsUtf8}
 use Rattle.regress_meaning.specs.TableParts.{IntervalsRise, is_code_point}
 use Rattle.regress_front_core.specs.Limits.{most_members}
-use Rattle.regress_front_nodes.specs.Trees.{Tree, goal, char, bytes, byte_set, char_set, cat, no_part, alt, capture, back, bracket, string_set, submatch, loop, single_loop}
+use Rattle.regress_front_nodes.specs.Trees.{Tree, empty, goal, char, bytes, byte_set, char_set, cat, no_part, alt, any, any_in_line, line_start, line_end, boundary, capture, back, bracket, string_set, submatch, loop, single_loop}
 use Rattle.regress_front_nodes.specs.Singles.{takes_one}
 
 -- the numbers of the capture groups
@@ -15,7 +15,21 @@ group_ids (capture k name a) = k ∷ group_ids a
 group_ids (submatch kind first last a) = group_ids a
 group_ids (loop a first last least most greedy) = group_ids a
 group_ids (single_loop a least most greedy) = group_ids a
-group_ids _ = []
+group_ids empty = []
+group_ids goal = []
+group_ids (char c) = []
+group_ids (bytes bs) = []
+group_ids (byte_set bs) = []
+group_ids (char_set cs) = []
+group_ids no_part = []
+group_ids any = []
+group_ids any_in_line = []
+group_ids (line_start multiline) = []
+group_ids (line_end multiline) = []
+group_ids (boundary inverted folded) = []
+group_ids (back k icase) = []
+group_ids (bracket inverted intervals) = []
+group_ids (string_set strings icase) = []
 
 -- The numbers from the first up to before the last stand in the list, each once, and no other does.
 pub record AreNumbered (first last : ℕ) (ids : List ℕ) : Type 0 where
@@ -31,7 +45,20 @@ goals (capture k name a) = goals a
 goals (submatch kind first last a) = goals a
 goals (loop a first last least most greedy) = goals a
 goals (single_loop a least most greedy) = goals a
-goals _ = 0
+goals empty = 0
+goals (char c) = 0
+goals (bytes bs) = 0
+goals (byte_set bs) = 0
+goals (char_set cs) = 0
+goals no_part = 0
+goals any = 0
+goals any_in_line = 0
+goals (line_start multiline) = 0
+goals (line_end multiline) = 0
+goals (boundary inverted folded) = 0
+goals (back k icase) = 0
+goals (bracket inverted intervals) = 0
+goals (string_set strings icase) = 0
 
 -- the part that stands last
 abbrev pub last_part : Tree → Tree
@@ -66,7 +93,14 @@ AreLawful n (string_set strings icase) = All (All is_code_point) strings
 AreLawful n (submatch kind first last a) = AreNumbered first last (group_ids a) × AreLawful n a
 AreLawful n (loop a first last least most greedy) = AreNumbered first last (group_ids a) × (least ≤ most) × AreLawful n a
 AreLawful n (single_loop a least most greedy) = (takes_one a ≡ true) × (least ≤ most) × AreLawful n a
-AreLawful n _ = Unit {0}
+AreLawful n empty = Unit {0}
+AreLawful n goal = Unit {0}
+AreLawful n no_part = Unit {0}
+AreLawful n any = Unit {0}
+AreLawful n any_in_line = Unit {0}
+AreLawful n (line_start multiline) = Unit {0}
+AreLawful n (line_end multiline) = Unit {0}
+AreLawful n (boundary inverted folded) = Unit {0}
 
 -- The tree of n capture groups is well formed.
 pub record IsWellFormed (n : ℕ) (t : Tree) : Type 0 where
@@ -87,7 +121,21 @@ name_by_number k (capture j name a) = if j == k then Some (unwrap_or name []) el
 name_by_number k (submatch kind first last a) = name_by_number k a
 name_by_number k (loop a first last least most greedy) = name_by_number k a
 name_by_number k (single_loop a least most greedy) = name_by_number k a
-name_by_number k _ = None
+name_by_number k empty = None
+name_by_number k goal = None
+name_by_number k (char c) = None
+name_by_number k (bytes bs) = None
+name_by_number k (byte_set bs) = None
+name_by_number k (char_set cs) = None
+name_by_number k no_part = None
+name_by_number k any = None
+name_by_number k any_in_line = None
+name_by_number k (line_start multiline) = None
+name_by_number k (line_end multiline) = None
+name_by_number k (boundary inverted folded) = None
+name_by_number k (back k icase) = None
+name_by_number k (bracket inverted intervals) = None
+name_by_number k (string_set strings icase) = None
 
 -- The tree has no repetition of what matches exactly one character.
 abbrev pub HoldsNoSingleLoop : Tree → Type 0
@@ -97,4 +145,18 @@ HoldsNoSingleLoop (capture k name a) = HoldsNoSingleLoop a
 HoldsNoSingleLoop (submatch kind first last a) = HoldsNoSingleLoop a
 HoldsNoSingleLoop (loop a first last least most greedy) = HoldsNoSingleLoop a
 HoldsNoSingleLoop (single_loop a least most greedy) = ⊥
-HoldsNoSingleLoop _ = Unit {0}
+HoldsNoSingleLoop empty = Unit {0}
+HoldsNoSingleLoop goal = Unit {0}
+HoldsNoSingleLoop (char c) = Unit {0}
+HoldsNoSingleLoop (bytes bs) = Unit {0}
+HoldsNoSingleLoop (byte_set bs) = Unit {0}
+HoldsNoSingleLoop (char_set cs) = Unit {0}
+HoldsNoSingleLoop no_part = Unit {0}
+HoldsNoSingleLoop any = Unit {0}
+HoldsNoSingleLoop any_in_line = Unit {0}
+HoldsNoSingleLoop (line_start multiline) = Unit {0}
+HoldsNoSingleLoop (line_end multiline) = Unit {0}
+HoldsNoSingleLoop (boundary inverted folded) = Unit {0}
+HoldsNoSingleLoop (back k icase) = Unit {0}
+HoldsNoSingleLoop (bracket inverted intervals) = Unit {0}
+HoldsNoSingleLoop (string_set strings icase) = Unit {0}
