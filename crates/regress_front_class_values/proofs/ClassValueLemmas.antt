@@ -1,6 +1,5 @@
 -- What values of classes are made of.
-use Rattle.std.proofs.Common.{◌≡◌, ℕ, zero, suc, ◌+◌, ◌<◌, Bool, true, false, ◌||◌, not, ◌==◌, All, Option, None, Some, unwrap_or, Result, Ok, Err, IfOk, List, [], ◌∷◌, ◌++◌, length, get_or, map, fold, take, refl, sym, ap, subst, ◌∙◌, arith, append-nil}
-use Rattle.std.specs.Result.{IsErrAnd, MatchResult}
+use Rattle.std.proofs.Common.{◌≡◌, ℕ, zero, suc, ◌+◌, ◌<◌, Bool, true, false, ◌||◌, not, ◌==◌, All, Option, None, Some, unwrap_or, List, [], ◌∷◌, ◌++◌, length, get_or, map, fold, take, refl, sym, ap, subst, ◌∙◌, arith, append-nil}
 use Rattle.std.proofs.Math.Path.{fun_ext}
 use Rattle.std.proofs.lemmas.List.Sums.{fold-append}
 use Rattle.std.proofs.lemmas.List.{append_assoc, take_more, map-append}
@@ -120,10 +119,3 @@ value-points tables folded (meaning.difference a b) h =
 value-points tables folded (meaning.complement a) h = All-nil (All is_code_point)
 value-points tables folded (meaning.nested true a) h = All-nil (All is_code_point)
 value-points tables folded (meaning.nested false a) h = value-points tables folded a h
-
--- what holds of a value still holds of it where only the error is turned into another
-pub behind_map_err : {A E D : Type 0} (r : Result A E) (s : Result A D) (P : A → Type 0) (Q : E → D → Type 0)
-    → MatchResult r (λ x. s ≡ Ok x) (λ e. IsErrAnd s (Q e)) → IfOk r P → IfOk s P
-behind_map_err (Ok x) s P Q same h = subst (λ t. IfOk t P) (sym same) h
-behind_map_err (Err e) (Ok y) P Q same h = absurd same
-behind_map_err (Err e) (Err d) P Q same h = tt

@@ -1,5 +1,5 @@
 //! What a class stands for: a set of code points, and strings of other lengths.
-ghost use Rattle.std.specs.Prelude.{◌≡◌, ◌≤◌, ℕ, false, [], ◌∷◌, ◌==◌, ◌&&◌, ◌||◌, not, nat_le, length, map, fold, chars, All, unwrap_or, IfOk, OnOk};
+ghost use Rattle.std.specs.Prelude.{◌≡◌, ◌≤◌, ℕ, false, [], ◌∷◌, ◌==◌, ◌&&◌, ◌||◌, not, length, map, fold, chars, All, unwrap_or, IfOk, OnOk};
 ghost use Rattle.regress_meaning.specs.TableParts.{is_code_point, in_intervals, IntervalsRise};
 ghost use Rattle.regress_meaning.specs.Class as meaning;
 ghost use Rattle.regress_meaning.specs.Class.{Strings, intersection, difference, only, of_list, complement_of, is_digit, is_space, is_word, value_of};
@@ -10,8 +10,7 @@ ghost use Rattle.regress_front_tables.specs.TableViews.{table};
 ghost use Rattle.regress_front_tokens.specs.Trees.{class_view, union_of};
 
 use regress_front_tables::{
-    CODE_POINT_MAX, CodePoint, CodePointSet, Interval, Tables, add_icase_code_points, digits,
-    whitespace, word_chars,
+    CodePoint, CodePointSet, Interval, Tables, digits, try_closure, whitespace, word_chars,
 };
 use regress_front_tokens::Class;
 use std::alloc::{AllocError, Global};
@@ -48,7 +47,7 @@ impl ClassValue {
         let mut value = ClassValue::of_points(alloc, CodePointSet::new(alloc));
         for string in strings {
             if string.len() == 1 {
-                value.singles.add_one(string[0]).map_err(|_| AllocError)?;
+                value.singles.try_add_one(string[0])?;
             } else {
                 value.strings.push(Vec::from_slice(alloc, string)?)?;
             }
@@ -69,7 +68,7 @@ impl ClassValue {
     {
         let mut other = other;
         self.strings.append(&mut other.strings)?;
-        self.singles.add_set(other.singles).map_err(|_| AllocError)
+        self.singles.try_add_set(other.singles)
     }
 
     /// The members that are also members of another value ("ClassIntersection").
@@ -77,7 +76,7 @@ impl ClassValue {
     fn intersection(self, alloc: Global, other: ClassValue) -> Result<ClassValue, AllocError>
         ensures { IfOk result (λ value. strings_of value ≡ intersected (strings_of self) (strings_of other)) }
     {
-        let singles = without(&self.singles, inverted(&other.singles)?)?;
+        let singles = without(&self.singles, other.singles.try_inverted()?)?;
         let others = string_set(alloc, other.strings)?;
         let mut strings = self.strings;
         strings.retain(|string| others.contains(string));
@@ -101,7 +100,8 @@ impl ClassValue {
     fn complement(&self, alloc: Global) -> Result<ClassValue, AllocError>
         ensures { IfOk result (λ value. strings_of value ≡ complement_of (strings_of self.now)) }
     {
-        Ok(ClassValue::of_points(alloc, inverted(&self.singles)?))
+        let outside = self.singles.try_inverted()?;
+        Ok(ClassValue::of_points(alloc, outside))
     }
 }
 
@@ -117,20 +117,13 @@ fn string_set(
     strings.into_iter().collect(alloc)
 }
 
-/// The code points that are no members of a set.
-fn inverted(set: &CodePointSet) -> Result<CodePointSet, AllocError>
-    ensures { IfOk result (λ s. (c : ℕ) → in_set s c ≡ (nat_le c CODE_POINT_MAX && not (in_set set.now c))) }
-{
-    set.inverted().map_err(|_| AllocError)
-}
-
 /// The members of a set that are no members of another.
 fn without(set: &CodePointSet, other: CodePointSet) -> Result<CodePointSet, AllocError>
     ensures { IfOk result (λ s. (c : ℕ) → in_set s c ≡ (in_set set.now c && not (in_set other c))) }
 {
-    let mut outside = inverted(set)?;
-    outside.add_set(other).map_err(|_| AllocError)?;
-    inverted(&outside)
+    let mut outside = set.try_inverted()?;
+    outside.try_add_set(other)?;
+    outside.try_inverted()
 }
 
 /// The set of the code points of intervals.
@@ -149,7 +142,7 @@ fn word_set(alloc: Global, tables: &Tables, folded: bool) -> Result<CodePointSet
     regress_front_tables::fold_is_idempotent();
     let words = set_of(alloc, &word_chars())?;
     if folded {
-        add_icase_code_points(words, tables).map_err(|_| AllocError)
+        try_closure(words, true, tables)
     } else {
         Ok(words)
     }

@@ -49,9 +49,10 @@ impl Node {
         Ok(self.duplicate(alloc, depth)?)
     }
 
-    /// The same, where only memory can fail.
+    /// `try_duplicate`, where the error is the allocator's: `node.duplicate(alloc, depth)?` in what fails with nothing but
+    /// `AllocError`.
     #[cycle(copy)]
-    fn duplicate(&self, alloc: Global, depth: usize) -> Result<Option<Node>, AllocError>
+    pub fn duplicate(&self, alloc: Global, depth: usize) -> Result<Option<Node>, AllocError>
         ensures { IfOk result (IsCopy depth (tree self.now)) }
     {
         if depth > DEEPEST_COPY {

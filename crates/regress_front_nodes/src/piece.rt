@@ -9,7 +9,7 @@ ghost use Rattle.regress_front_nodes.specs.TreeMeaning.{node_outcomes};
 ghost use Rattle.regress_front_nodes.specs.WellFormed.{AreLawful};
 
 use crate::node::{Node, NodeList};
-use regress_front_tables::{CodePoint, Error, Tables, expand_code_point};
+use regress_front_tables::{CodePoint, Error, Tables, try_expand_code_point};
 use std::alloc::{AllocError, Global};
 use std::mem;
 
@@ -164,12 +164,28 @@ pub fn lower_code_point_sequence(
     ensures lawful { IfOk result (λ pieces. All (AreLawful 0) (map piece_tree pieces.items)) }
     ensures refused { IsOkUnless result Error.OutOfMemory }
 {
+    Ok(try_lower_code_point_sequence(alloc, cps, icase, unicode, tables)?)
+}
+
+/// `lower_code_point_sequence`, where the error is the allocator's:
+/// `try_lower_code_point_sequence(alloc, &[0x61, 0x21], true, true, &tables)?` in what fails with nothing but `AllocError`.
+pub fn try_lower_code_point_sequence(
+    alloc: Global,
+    cps: &[CodePoint],
+    icase: bool,
+    unicode: bool,
+    tables: &Tables,
+) -> Result<Vec<Piece>, AllocError>
+    requires { All (λ c. c ≤ 0x10_FFFF) cps.now }
+    ensures pieces { IfOk result (λ pieces. map piece_tree pieces.items ≡ pieces_of (table tables.now) icase unicode cps.now) }
+    ensures lawful { IfOk result (λ pieces. All (AreLawful 0) (map piece_tree pieces.items)) }
+{
     let mut front = OpenPieces {
         pieces: Vec::new(alloc),
         literal: Vec::new(alloc),
     };
     for cp in cps {
-        let members = expand_code_point(alloc, *cp, icase, unicode, tables)?;
+        let members = try_expand_code_point(alloc, *cp, icase, unicode, tables)?;
         front.add(alloc, members)?;
     }
     front.close(alloc)?;

@@ -65,6 +65,14 @@ impl CodePointSet {
         ensures unchanged { OnErr result (intervals_of self.new ≡ intervals_of self.old) }
         ensures refused { IsOkUnless result Error.OutOfMemory }
     {
+        Ok(self.try_add(new_iv)?)
+    }
+
+    /// The same, where the error is the allocator's.
+    fn try_add(&mut self, new_iv: Interval) -> Result<(), AllocError>
+        ensures members { OnOk result ((c : ℕ) → in_set self.new c ≡ (in_set self.old c || in_interval new_iv c)) }
+        ensures unchanged { OnErr result (intervals_of self.new ≡ intervals_of self.old) }
+    {
         let run = self.run(new_iv);
         if run.start == run.end {
             self.intervals.insert(run.start, new_iv)?;
@@ -97,7 +105,16 @@ impl CodePointSet {
         ensures unchanged { OnErr result (intervals_of self.new ≡ intervals_of self.old) }
         ensures refused { IsOkUnless result Error.OutOfMemory }
     {
-        self.add(Interval {
+        Ok(self.try_add_one(cp)?)
+    }
+
+    /// `add_one`, where the error is the allocator's, as `set.try_add_one(0x61)?` in what fails with nothing but `AllocError`.
+    pub fn try_add_one(&mut self, cp: CodePoint) -> Result<(), AllocError>
+        requires { cp ≤ CODE_POINT_MAX }
+        ensures members { OnOk result ((c : ℕ) → in_set self.new c ≡ (in_set self.old c || c == cp)) }
+        ensures unchanged { OnErr result (intervals_of self.new ≡ intervals_of self.old) }
+    {
+        self.try_add(Interval {
             first: cp,
             last: cp,
         })
@@ -109,6 +126,14 @@ impl CodePointSet {
         ensures members { OnOk result ((c : ℕ) → in_set self.new c ≡ (in_set self.old c || in_set rhs c)) }
         ensures unchanged { OnErr result (intervals_of self.new ≡ intervals_of self.old) }
         ensures refused { IsOkUnless result Error.OutOfMemory }
+    {
+        Ok(self.try_add_set(rhs)?)
+    }
+
+    /// `add_set`, where the error is the allocator's, as `set.try_add_set(letters)?` in what fails with nothing but `AllocError`.
+    pub fn try_add_set(&mut self, rhs: CodePointSet) -> Result<(), AllocError>
+        ensures members { OnOk result ((c : ℕ) → in_set self.new c ≡ (in_set self.old c || in_set rhs c)) }
+        ensures unchanged { OnErr result (intervals_of self.new ≡ intervals_of self.old) }
     {
         let union = self.union(&rhs)?;
         *self = union;
@@ -160,6 +185,14 @@ impl CodePointSet {
         ensures members { IfOk result (λ s. (c : ℕ) → in_set s c ≡ (nat_le c CODE_POINT_MAX && not (in_set self.now c))) }
         ensures intervals { IfOk result (λ s. ends_in s ≡ inverse (ends_in self.now)) }
         ensures refused { IsOkUnless result Error.OutOfMemory }
+    {
+        Ok(self.try_inverted()?)
+    }
+
+    /// `inverted`, where the error is the allocator's, as `set.try_inverted()?` in what fails with nothing but `AllocError`.
+    pub fn try_inverted(&self) -> Result<CodePointSet, AllocError>
+        ensures members { IfOk result (λ s. (c : ℕ) → in_set s c ≡ (nat_le c CODE_POINT_MAX && not (in_set self.now c))) }
+        ensures intervals { IfOk result (λ s. ends_in s ≡ inverse (ends_in self.now)) }
     {
         let gaps = self.gaps()?;
         Ok(CodePointSet::from_sorted_disjoint_intervals(gaps))

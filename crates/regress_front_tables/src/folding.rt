@@ -52,7 +52,18 @@ pub fn closure(set: CodePointSet, unicode: bool, tables: &Tables) -> Result<Code
     ensures members { IfOk result (λ all. (c : ℕ) → in_set all c ≡ closure (canon (table tables.now) unicode) (in_set set) c) }
     ensures refused { IsOkUnless result Error.OutOfMemory }
 {
-    Ok(closed_by(set, map_of(tables, unicode))?)
+    Ok(try_closure(set, unicode, tables)?)
+}
+
+/// `closure`, where the error is the allocator's: `try_closure(set, false, &tables)?` in what fails with nothing but `AllocError`.
+pub fn try_closure(
+    set: CodePointSet,
+    unicode: bool,
+    tables: &Tables,
+) -> Result<CodePointSet, AllocError>
+    ensures { IfOk result (λ all. (c : ℕ) → in_set all c ≡ closure (canon (table tables.now) unicode) (in_set set) c) }
+{
+    closed_by(set, map_of(tables, unicode))
 }
 
 /// The code points that a code point of a pattern stands for, from low to high: itself, or where case is ignored all with its
@@ -73,8 +84,26 @@ pub fn expand_code_point(
     ensures few { IfOk result (λ cs. (0 < vec_len cs) × (vec_len cs ≤ 4)) }
     ensures refused { IsOkUnless result Error.OutOfMemory }
 {
+    Ok(try_expand_code_point(alloc, cp, icase, unicode, tables)?)
+}
+
+/// `expand_code_point`, where the error is the allocator's: `try_expand_code_point(alloc, 0x73, true, false, &tables)?` in what
+/// fails with nothing but `AllocError`.
+pub fn try_expand_code_point(
+    alloc: Global,
+    cp: CodePoint,
+    icase: bool,
+    unicode: bool,
+    tables: &Tables,
+) -> Result<Vec<CodePoint>, AllocError>
+    requires { cp ≤ CODE_POINT_MAX }
+    ensures alone { icase ≡ false → IfOk result (λ cs. cs.items ≡ cp ∷ []) }
+    ensures all { icase ≡ true → IfOk result (λ cs. Lists (λ c. canon (table tables.now) unicode c == canon (table tables.now) unicode cp) cs.items) }
+    ensures own { IfOk result (λ cs. holds cs.items cp ≡ true) }
+    ensures few { IfOk result (λ cs. (0 < vec_len cs) × (vec_len cs ≤ 4)) }
+{
     if icase {
-        Ok(sharing(alloc, map_of(tables, unicode), cp)?)
+        sharing(alloc, map_of(tables, unicode), cp)
     } else {
         Ok(vec![in alloc; cp]?)
     }
@@ -114,10 +143,8 @@ fn closed_by(set: CodePointSet, map: &CaseMap) -> Result<CodePointSet, AllocErro
         add_classes(&mut added, &set, *interval, map)?;
     }
     let mut closed = set;
-    match closed.add_set(added) {
-        Ok(()) => Ok(closed),
-        Err(_) => Err(AllocError),
-    }
+    closed.try_add_set(added)?;
+    Ok(closed)
 }
 
 /// Adds what has the image of a code point of an interval, all of which is in a set, unless it is in the set as well.
@@ -157,9 +184,7 @@ fn add_class(
     if let Some(members) = map.class(map.image(c)) {
         for member in members {
             if !set.contains(*member) {
-                let Ok(()) = added.add_one(*member) else {
-                    return Err(AllocError);
-                };
+                added.try_add_one(*member)?;
             }
         }
     }

@@ -5,7 +5,8 @@ mod folding;
 mod tables;
 
 pub use folding::{
-    add_icase_code_points, closure, expand_code_point, fold, fold_is_idempotent, unfold_char,
+    add_icase_code_points, closure, expand_code_point, fold, fold_is_idempotent, try_closure,
+    try_expand_code_point, unfold_char,
 };
 pub use regress_front_sets::{
     AsciiBitmap, ByteArraySet, ByteBitmap, ByteSearcher, ByteSet, CODE_POINT_MAX, CaptureGroupID,

@@ -19,7 +19,6 @@ use Rattle.regress_front_tokens.specs.Trees.{sequence_of}
 use Rattle.regress_front_nodes.specs.Trees.{Tree, char, bytes, byte_set, char_set, cat_of}
 use Rattle.regress_front_nodes.specs.WellFormed.{AreLawful}
 use Rattle.regress_front_nodes.specs.Sizes.{size}
-use Rattle.regress_front_core.specs.declared.error.Error.{Error}
 use Rattle.regress_front_nodes.specs.declared.piece.Piece.{Piece}
 use Rattle.regress_front_nodes.specs.declared.piece.Piece.TheVariants.{Char, ByteSequence, ByteSet, CharSet}
 use Rattle.regress_front_nodes.specs.Pieces.{expansion, bytes_before, before, piece_tree, pieces_of}
@@ -143,7 +142,7 @@ kinds-of (q ∷ qs) = All-cons (λ u. is_piece u ≡ true) (piece_tree q) (map p
     kind (ByteSet bs) = refl
     kind (CharSet cs) = refl
 
-pub made-pieces : (table : Table) (unicode icase : Bool) (cs : List ℕ) (made : Result (Vec Piece Global) Error) → All is_code_point cs
+pub made-pieces : {E : Type 0} (table : Table) (unicode icase : Bool) (cs : List ℕ) (made : Result (Vec Piece Global) E) → All is_code_point cs
     → IfOk made (λ pieces. map piece_tree pieces.items ≡ pieces_of table icase unicode cs) → IfOk made (λ pieces. All (AreLawful 0) (map piece_tree pieces.items))
     → IfOk made (λ pieces. ArePieces table unicode icase cs (map piece_tree pieces.items))
 made-pieces table unicode icase cs (Ok pieces) points are lawful = record { points = points; are = are; kinds = kinds-of pieces.items; lawful = lawful }

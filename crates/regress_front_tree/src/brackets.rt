@@ -19,7 +19,7 @@ use crate::arms::alternatives;
 use regress_front_class_values::class_value;
 use regress_front_nodes::{BracketContents, Node, NodeList};
 use regress_front_syntax::Class;
-use regress_front_tables::{CodePoint, CodePointSet, Tables, closure, expand_code_point};
+use regress_front_tables::{CodePoint, CodePointSet, Tables, try_closure, try_expand_code_point};
 use std::alloc::{AllocError, Global};
 use std::boxed::BoxedSlice;
 
@@ -34,7 +34,7 @@ pub(crate) fn character_node(
     requires { is_code_point c }
     ensures { (e : Settings) → e.icase ≡ icase → IfOk result (λ node. Takes (tree node) (same (table tables.now) unicode e.icase c)) }
 {
-    let points = expand_code_point(alloc, c, icase, unicode, tables).map_err(|_| AllocError)?;
+    let points = try_expand_code_point(alloc, c, icase, unicode, tables)?;
     if points.len() == 1 {
         Ok(Node::Char { c })
     } else {
@@ -52,7 +52,7 @@ fn closed(
     ensures { (e : Settings) → e.icase ≡ icase → IfOk result (λ s. in_set s ≡ closed (table tables.now) unicode e.icase (in_set set)) }
 {
     if icase {
-        closure(set, unicode, tables).map_err(|_| AllocError)
+        try_closure(set, unicode, tables)
     } else {
         Ok(set)
     }

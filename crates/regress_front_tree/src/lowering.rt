@@ -18,7 +18,7 @@ ghost use Rattle.regress_front_tree.specs.Scopes.{settings_of, IsLowerable, Lowe
 
 use crate::arms::alternatives;
 use crate::brackets::{character_node, class_node, negated_class_node};
-use regress_front_nodes::{AnchorType, Node, NodeList, Piece, lower_code_point_sequence};
+use regress_front_nodes::{AnchorType, Node, NodeList, Piece, try_lower_code_point_sequence};
 use regress_front_syntax::{Class, Modifiers, Quantifier, Syntax, Term};
 use regress_front_tables::{CaptureGroupID, CaptureGroupName, CodePoint, Tables};
 use std::alloc::{AllocError, Global};
@@ -98,7 +98,7 @@ fn text_pieces(
     requires { All is_code_point points.now }
     ensures { IfOk result (λ pieces. ArePieces (table tables.now) unicode icase points.now (map piece_tree pieces.items)) }
 {
-    lower_code_point_sequence(alloc, points, icase, unicode, tables).map_err(|_| AllocError)
+    try_lower_code_point_sequence(alloc, points, icase, unicode, tables)
 }
 
 /// Puts nodes one after another in the place of one.

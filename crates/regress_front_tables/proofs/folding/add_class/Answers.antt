@@ -7,11 +7,11 @@ use Rattle.regress_front_sets.specs.Sets.{in_set}
 use Rattle.regress_front_sets.proofs.IntervalLemmas.{in_intervals-bounded}
 use Rattle.regress_front_tables.specs.MapViews.{pairs_of}
 use Rattle.regress_front_tables.proofs.FoldingLemmas.{Lists-told, Lists-bounded, Unites-class, Unites-no_class, member-added, member-there}
-use Rattle.regress_front_tables.proofs.folding.add_class.Goals.{then-not-contains+in-Ok, else-not-contains}
+use Rattle.regress_front_tables.proofs.folding.add_class.Goals.{then-not-contains+in_ok-try_add_one, else-not-contains}
 use Rattle.regress_front_tables.proofs.folding.add_class.Goals as goal
 
-pub add_one-requires : goal.add_one-requires
-add_one-requires c =
+pub try_add_one-requires : goal.try_add_one-requires
+try_add_one-requires c =
     let pairs = pairs_of c.args.map.now in
     let told = Lists-told pairs c.args.c c.in-Some.members.now (rw (c.in-Some.is, c.image.ensures) at c.class.ensures) in
     Lists-bounded _ c.in-Some.members.now told c.loop-member.member-index c.loop-member-test.true
@@ -22,8 +22,8 @@ loop-member-preserved c =
     let members = c.in-Some.members.now in
     let k = c.loop-member.member-index in
     elim c.if-not-contains.branch [
-      | then-not-contains+in-Ok w ↦
-          rw w.added-is (member-added s (in_set c.loop-member.added) (in_set c.args.added.now) members k c.loop-member-test.true c.loop-member.invariant _ (rw w.in-Ok.is at w.add_one.ensures.members))
+      | then-not-contains+in_ok-try_add_one w ↦
+          rw w.added-is (member-added s (in_set c.loop-member.added) (in_set c.args.added.now) members k c.loop-member-test.true c.loop-member.invariant _ w.in_ok-try_add_one.ensures.members)
       | else-not-contains w ↦
           rw w.added-is (member-there s (in_set c.loop-member.added) (in_set c.args.added.now) members k c.loop-member-test.true c.loop-member.invariant
           (sym c.contains.ensures ∙ w.if-not-contains.false))

@@ -32,8 +32,8 @@ loop-interval-preserved c =
     (λ d. in_intervals-more items k item.result d c.loop-interval-test.true ∙ ap (λ i. in_intervals (ends_of (take k items)) d || in_interval i d) (sym item.is))
     c.loop-interval.invariant c.in_ok-add_classes.ensures
 
-pub returns-in-Ok : goal.returns-in-Ok
-returns-in-Ok c d =
+pub returns : goal.returns
+returns c d =
     let map_of = image (pairs_of c.args.map.now) in
     let set = c.args.set in
     let items = c.intervals-interval-items.result.now in
@@ -41,6 +41,6 @@ returns-in-Ok c d =
     take_all c.loop-interval.interval-index items c.loop-interval-test.false ∙ c.intervals-interval-items.ensures in
     let both : ℕ → Bool = λ e. in_set set e || in_set c.loop-interval.added e in
     let UnitesAll : List Interval → Type 0 = λ intervals. Unites map_of (in_intervals (ends_of intervals)) (in_set set) both in
-    (rw c.in-Ok.is at c.add_set.ensures.members) d
+    c.in_ok-try_add_set.ensures.members d
     ∙ closure-united map_of (in_set set) both (λ e m. omega (arith, in_intervals-bounded (ends_of set.intervals.items) e set.canonical m))
     (subst UnitesAll whole c.loop-interval.invariant) d

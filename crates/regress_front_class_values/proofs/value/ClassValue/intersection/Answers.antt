@@ -19,7 +19,7 @@ returns c =
     let test : List ℕ → Bool = λ s. among other s in
     let members : ◌≡◌ {A = ℕ → Bool} (in_set c.in_ok-singles.singles) (λ d. in_set c.args.self.singles d && in_set c.args.other.singles d) = fun_ext (λ (d : ℕ).
     c.in_ok-singles.ensures d
-    ∙ ap (λ (b : Bool). in_set c.args.self.singles d && not b) (c.in_ok-inverted.ensures d)
+    ∙ ap (λ (b : Bool). in_set c.args.self.singles d && not b) (c.in_ok-try_inverted.ensures.members d)
     ∙ intersection-by_complement (in_set c.args.self.singles d) (in_set c.args.other.singles d) (nat_le d last_code_point)
     (λ e. le-leb d last_code_point (in_intervals-bounded (ends_of c.args.self.singles.intervals.items) d c.args.self.singles.canonical e))) in
     let strings = c.args.self.strings.items in

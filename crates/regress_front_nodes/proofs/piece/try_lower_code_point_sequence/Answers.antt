@@ -8,7 +8,7 @@ use Rattle.regress_front_nodes.specs.WellFormed.{AreLawful}
 use Rattle.regress_front_nodes.specs.Pieces.{piece_tree, completed, before, expansion, pieces_of}
 use Rattle.regress_front_nodes.specs.declared.piece.OpenPieces.{OpenPieces}
 use Rattle.regress_front_nodes.proofs.PieceLemmas.{expansion-listed, expansion-points, pieces-step, pieces-end, pieces-lawful}
-use Rattle.regress_front_nodes.proofs.piece.lower_code_point_sequence.Goals as goal
+use Rattle.regress_front_nodes.proofs.piece.try_lower_code_point_sequence.Goals as goal
 
 pub add-requires : goal.add-requires
 add-requires c =
@@ -54,5 +54,4 @@ returns c =
       pieces = same;
       lawful = All-same (AreLawful 0) (map piece_tree c.close.new.self.pieces.items) (pieces_of t c.args.icase c.args.unicode cps) same
           (pieces-lawful t c.args.icase c.args.unicode cps c.requires (All-same Few cps (take c.loop-cp.cp-index cps) (sym whole) c.loop-cp.invariant.1));
-      refused = tt;
     }

@@ -1,7 +1,7 @@
 use Rattle.std.proofs.Common.{ap, ◌∙◌}
 use Rattle.regress_front_sets.specs.Intervals.{ends_of}
 use Rattle.regress_front_sets.proofs.IntervalLemmas.{IntervalsRise-inverse, in_intervals-inverse}
-use Rattle.regress_front_sets.proofs.code_point_set.CodePointSet.inverted.Goals as goal
+use Rattle.regress_front_sets.proofs.code_point_set.CodePointSet.try_inverted.Goals as goal
 
 pub from_sorted_disjoint_intervals-requires : goal.from_sorted_disjoint_intervals-requires
 from_sorted_disjoint_intervals-requires c =
