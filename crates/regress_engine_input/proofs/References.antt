@@ -1,24 +1,16 @@
 -- References between places go code point by code point, and end at a place.
 use Rattle.std.specs.Prelude.{nat_le, slice_range}
-use Rattle.std.proofs.Common.{◌≡◌, ℕ, zero, suc, ◌+◌, ◌-◌, ◌≤◌, Bool, true, false, ◌&&◌, List, length, take, drop, Option, Some, None, if◌then◌else◌, option_map, refl, sym, ap, ◌∙◌, arith}
+use Rattle.std.proofs.Common.{◌≡◌, ℕ, ◌+◌, ◌-◌, ◌≤◌, Bool, true, false, ◌&&◌, List, length, take, drop, Option, Some, None, if◌then◌else◌, option_map, refl, sym, ap, ◌∙◌, arith}
 use lib.Pointwise.{pointwise}
 use Rattle.std.proofs.lemmas.Bool.{leb-true}
 use Rattle.regress_meaning.specs.Meaning.{Direction, Forward, Backward, Context, beside, same_all}
 use Rattle.regress_meaning.specs.Offsets.{Reading, offset}
-use Rattle.regress_meaning.specs.Laws.{OffsetsRise}
 use Rattle.regress_meaning.specs.Steps.{copied, repeated}
 use Rattle.regress_meaning.specs.Inputs.{Input, Tells, context_of}
 use Rattle.regress_front_nodes.specs.ByteInputs.{placed}
+use Rattle.regress_meaning.proofs.OffsetLemmas.{offsets-far}
 use Rattle.regress_meaning.proofs.Copies.{like, part, forward_copied, backward_copied}
 use Rattle.regress_engine_input.specs.References.{placed_by}
-
--- offsets are at least as far apart as places
-pub offsets-far : (reading : Reading) → OffsetsRise reading → (j a : ℕ) → a + j ≤ length reading.points → offset reading a + j ≤ offset reading (a + j)
-offsets-far reading rise zero a room = let e : a + 0 ≡ a = omega arith in let f = ap (offset reading) e in omega (arith, f)
-offsets-far reading rise (suc j) a room =
-    let h = offsets-far reading rise j a (omega (arith, room)) in
-    let k = rise (a + j) (a + suc j) (omega arith) room in
-    omega (arith, h, k)
 
 placed_by-if : (test : List ℕ → Bool) (f : ℕ → ℕ) (b : Bool) (cs : List ℕ) (q : ℕ)
     → option_map f (placed_by test (if b then Some (cs, q) else None)) ≡ (if b && test cs then Some (f q) else None)

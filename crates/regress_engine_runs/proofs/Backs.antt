@@ -1,14 +1,14 @@
 -- Entering a reference to a group.
 use lib.Pointwise.{pointwise}
 use Rattle.std.specs.Prelude.{nat_le, slice_get, slice_range, IfSome, All, unwrap_or}
-use Rattle.std.proofs.Common.{◌≡◌, ◌⊎◌, inl, inr, ℕ, zero, suc, ◌+◌, ◌-◌, ◌<◌, ◌≤◌, ◌&&◌, Bool, true, false, List, [], ◌∷◌, length, take, drop, Option, Some, None, if◌then◌else◌, get_or, option_map, refl, sym, ap, ap₂, ◌∙◌, subst, arith}
+use Rattle.std.proofs.Common.{◌≡◌, ◌⊎◌, inl, inr, ℕ, suc, ◌+◌, ◌-◌, ◌<◌, ◌≤◌, ◌&&◌, Bool, true, false, List, [], ◌∷◌, length, take, drop, Option, Some, None, if◌then◌else◌, get_or, option_map, refl, sym, ap, ap₂, ◌∙◌, subst, arith}
 use Rattle.std.proofs.lemmas.Option.{unwrap_or-slice_get}
 use Rattle.std.proofs.lemmas.List.Elements.{All-get_or}
 use Rattle.std.proofs.lemmas.Bool.{cases_lt, leb-true}
 use Rattle.std.proofs.lemmas.List.{get_or_past}
 use Rattle.regress_meaning.specs.Meaning.{State, Direction, Forward, Backward, Context, beside, step, stepped, same_all, repeat_group}
 use Rattle.regress_meaning.specs.Offsets.{Reading, offset, offset_range}
-use Rattle.regress_meaning.specs.Laws.{IsAhead, LiesIn, OffsetsRise}
+use Rattle.regress_meaning.specs.Laws.{IsAhead, LiesIn}
 use Rattle.regress_meaning.specs.Inputs.{Input, Tells, context_of}
 use Rattle.regress_meaning.specs.Steps.{repeated, copied}
 use Rattle.regress_front_nodes.specs.Trees.{Tree}
@@ -25,15 +25,8 @@ use Rattle.regress_engine_runs.proofs.RunLemmas.{Expands, steps}
 use Rattle.regress_engine_runs.proofs.Leading.{Pairwise, leads_at_once, first_expand}
 use Rattle.regress_engine_runs.proofs.Places.{occurs, Arrives, Keeps-all}
 use Rattle.regress_engine_runs.proofs.Entering.{Enters, standing, stays}
+use Rattle.regress_meaning.proofs.OffsetLemmas.{offsets-far}
 use Rattle.regress_meaning.proofs.Copies.{like, part, forward_copied, backward_copied}
-
--- offsets are at least as far apart as places
-pub offsets-far : (reading : Reading) → OffsetsRise reading → (j a : ℕ) → a + j ≤ length reading.points → offset reading a + j ≤ offset reading (a + j)
-offsets-far reading rise zero a room = let e : a + 0 ≡ a = omega arith in let f = ap (offset reading) e in omega (arith, f)
-offsets-far reading rise (suc j) a room =
-    let h = offsets-far reading rise j a (omega (arith, room)) in
-    let k = rise (a + j) (a + suc j) (omega arith) room in
-    omega (arith, h, k)
 
 module _ (target : Target) (input : Input) (reading : Reading) (tells : Tells reading input) (icase : Bool) where
   abbrev context : Context

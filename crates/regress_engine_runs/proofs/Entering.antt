@@ -3,6 +3,7 @@ use Rattle.std.proofs.Common.{◌≡◌, ℕ, suc, ◌+◌, ◌≤◌, Bool, [],
 use Rattle.regress_meaning.specs.Meaning.{State, Direction, Context}
 use Rattle.regress_meaning.specs.Offsets.{Reading}
 use Rattle.regress_meaning.specs.Inputs.{Input, context_of}
+use Rattle.regress_meaning.proofs.StepLaws.{IsAhead-same, IsAhead-then}
 use Rattle.regress_front_nodes.specs.Trees.{Tree}
 use Rattle.regress_front_nodes.specs.Trees as tree
 use Rattle.regress_front_nodes.specs.TreeMeaning.{node_outcomes, direction}
@@ -13,7 +14,7 @@ use Rattle.regress_engine_runs.specs.States.{Whole, onward}
 use Rattle.regress_engine_runs.specs.Stand.{StandsFor}
 use Rattle.regress_engine_runs.proofs.RunLemmas.{steps}
 use Rattle.regress_engine_runs.proofs.Leading.{Leads, leads_at_once, first_expand, leads_beside, leads_on, leads_same, leads_weaker}
-use Rattle.regress_engine_runs.proofs.Places.{occurs, Arrives, MayEnter, IsAhead-same, IsAhead-then, Keeps-all, Keeps-then, Keeps-less, MayEnter-part, MayEnter-after}
+use Rattle.regress_engine_runs.proofs.Places.{occurs, Arrives, MayEnter, Keeps-all, Keeps-then, Keeps-less, MayEnter-part, MayEnter-after}
 
 module _ (target : Target) (input : Input) (reading : Reading) where
   -- Entering a tree at one spot leads to its outcomes, at another.

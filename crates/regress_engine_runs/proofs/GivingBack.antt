@@ -8,7 +8,7 @@ use Rattle.regress_meaning.specs.Offsets.{Reading, offset}
 use Rattle.regress_meaning.specs.Inputs.{Input, Tells, point_told}
 use Rattle.regress_engine_runs.specs.Runs.{against, gap, back_to, given_back}
 use Rattle.regress_engine_runs.specs.UndoStack.{MovesOn}
-use Rattle.regress_engine_runs.proofs.Backs.{offsets-far}
+use Rattle.regress_meaning.proofs.OffsetLemmas.{offsets-far}
 
 -- what stands behind the first offset on the way back
 abbrev behind_first : (Option (ℕ × ℕ) → List ℕ) → ℕ → Bool → Option (ℕ × ℕ) → List ℕ

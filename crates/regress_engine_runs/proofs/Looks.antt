@@ -4,6 +4,7 @@ use Rattle.std.proofs.Common.{◌≡◌, ℕ, suc, ◌+◌, ◌&&◌, Bool, true
 use Rattle.regress_meaning.specs.Meaning.{State, Direction}
 use Rattle.regress_meaning.specs.Offsets.{Reading}
 use Rattle.regress_meaning.specs.Inputs.{Input, context_of}
+use Rattle.regress_meaning.proofs.StepLaws.{IsAhead-same}
 use Rattle.regress_front_nodes.specs.Trees.{Submatch, lookaround, atomic, Tree}
 use Rattle.regress_front_nodes.specs.Trees as tree
 use Rattle.regress_front_nodes.specs.TreeMeaning.{submatch_direction, submatched, reads_backward, node_outcomes, direction}
@@ -16,7 +17,7 @@ use Rattle.regress_engine_runs.specs.Stand.{StandsFor}
 use Rattle.regress_engine_runs.proofs.SafeRuns.{SafeRuns, ends, finds}
 use Rattle.regress_engine_runs.proofs.RunLemmas.{Expands, looks_around}
 use Rattle.regress_engine_runs.proofs.Leading.{Leads, Pairwise, leads_at_once, first_expand}
-use Rattle.regress_engine_runs.proofs.Places.{occurs, occurs-is, Arrives, IsAhead-same}
+use Rattle.regress_engine_runs.proofs.Places.{occurs, occurs-is, Arrives}
 use Rattle.regress_engine_runs.proofs.Entering.{Enters, standing, stays}
 
 -- the number is one of those from first up to before last

@@ -7,7 +7,7 @@ use Rattle.regress_meaning.specs.Meaning.{State, Direction, Forward, Context, it
 use Rattle.regress_meaning.specs.Offsets.{Reading, offset, offset_range}
 use Rattle.regress_meaning.specs.Laws.{OffsetsRise}
 use Rattle.regress_meaning.specs.Inputs.{Input, context_of}
-use Rattle.regress_meaning.proofs.StepLaws.{Leads-cleared, Leads as Progresses}
+use Rattle.regress_meaning.proofs.StepLaws.{IsAhead-then, Leads-cleared, Leads as Progresses}
 use Rattle.regress_front_nodes.specs.Trees.{Tree}
 use Rattle.regress_front_nodes.specs.Trees as tree
 use Rattle.regress_front_nodes.specs.TreeMeaning.{node_outcomes, direction}
@@ -20,7 +20,7 @@ use Rattle.regress_engine_runs.specs.Runs.{ordered, count_of, one_more, choices,
 use Rattle.regress_engine_runs.specs.Stand.{StandsFor, AreOf}
 use Rattle.regress_engine_runs.proofs.RunLemmas.{Expands, Expands-same, Expands-then, steps}
 use Rattle.regress_engine_runs.proofs.Leading.{Leads, flat_map-filter, leads_at_once, first_expand, leads_beside, leads_on, leads_weaker}
-use Rattle.regress_engine_runs.proofs.Places.{occurs, AreFree, Arrives, Keeps-again, IsAhead-then}
+use Rattle.regress_engine_runs.proofs.Places.{occurs, AreFree, Arrives, Keeps-again}
 use Rattle.regress_engine_runs.proofs.Looks.{is_within, outside_none, inside_one}
 use Rattle.regress_engine_runs.proofs.Entering.{Enters, standing, stays}
 

@@ -1,7 +1,7 @@
 -- What a tree may be entered with, and what a state keeps and reaches behind it.
 use Rattle.std.proofs.Common.{◌≡◌, ◌⊎◌, inl, inr, ℕ, ◌+◌, ◌<◌, ◌≤◌, ◌==◌, Bool, List, [], ◌∷◌, length, if◌then◌else◌, get_or, refl, ap, ◌∙◌, arith}
 use Rattle.std.proofs.lemmas.List.Sums.{sum_by-append}
-use Rattle.regress_meaning.specs.Meaning.{State, Direction, Forward, Backward}
+use Rattle.regress_meaning.specs.Meaning.{State, Direction}
 use Rattle.regress_meaning.specs.Laws.{IsAhead}
 use Rattle.regress_meaning.specs.Offsets.{Reading}
 use Rattle.regress_front_nodes.specs.Trees.{Tree}
@@ -54,14 +54,6 @@ pub record AreFree (gone : ℕ → ℕ) (high : ℕ) (all_loops : List (ℕ × �
 -- a state may enter
 abbrev pub MayEnter : (ℕ → ℕ) → ℕ → Whole → Type 0
 MayEnter gone high w = AreFree gone high w.loops w.groups
-
-pub IsAhead-same : (dir : Direction) (p : ℕ) → IsAhead dir p p
-IsAhead-same Forward p = omega arith
-IsAhead-same Backward p = omega arith
-
-pub IsAhead-then : (dir : Direction) (p q r : ℕ) → IsAhead dir p q → IsAhead dir q r → IsAhead dir p r
-IsAhead-then Forward p q r h k = omega arith
-IsAhead-then Backward p q r h k = omega arith
 
 pub Keeps-all : (gone : ℕ → ℕ) (low high : ℕ) (w v : Whole) → v.loops ≡ w.loops → v.groups ≡ w.groups → Keeps gone low high w v
 Keeps-all gone low high w v e f = record {

@@ -10,6 +10,7 @@ use Rattle.regress_meaning.specs.Offsets.{Reading, offset}
 use Rattle.regress_meaning.specs.Laws.{IsAhead}
 use Rattle.regress_meaning.specs.Inputs.{Input, Tells, neighbour, point_told, context_of}
 use Rattle.regress_meaning.specs.Steps.{passed}
+use Rattle.regress_meaning.proofs.StepLaws.{IsAhead-same, IsAhead-then}
 use Rattle.regress_front_nodes.specs.Trees.{Tree}
 use Rattle.regress_front_nodes.specs.Trees as tree
 use Rattle.regress_front_nodes.specs.TreeMeaning.{node_outcomes, direction}
@@ -22,7 +23,7 @@ use Rattle.regress_engine_runs.specs.Runs.{advance, after_times, as_far, one_by_
 use Rattle.regress_engine_runs.specs.Stand.{StandsFor}
 use Rattle.regress_engine_runs.proofs.RunLemmas.{Expands, steps}
 use Rattle.regress_engine_runs.proofs.Leading.{Leads, Pairwise, Pairwise-append, Pairwise-weaker, leads_at_once, first_expand}
-use Rattle.regress_engine_runs.proofs.Places.{occurs, Arrives, Keeps-all, IsAhead-same, IsAhead-then}
+use Rattle.regress_engine_runs.proofs.Places.{occurs, Arrives, Keeps-all}
 use Rattle.regress_engine_runs.proofs.Entering.{Enters, standing}
 use Rattle.regress_engine_runs.proofs.Neighbours.{Beside, neighbours, all-one}
 use Rattle.regress_engine_runs.proofs.GivingBack.{ahead, HasPlace, offset_ahead, ahead-none, ahead-on, HasPlace-none, HasPlace-here, HasPlace-on, given_back-none, given_back-further}

@@ -8,6 +8,7 @@ pub mod EmptyBrackets
 pub mod KindLemmas
 pub mod MatchLemmas
 pub mod NodeLemmas
+pub mod OptionLemmas
 pub mod OutcomeLemmas
 pub mod PieceLemmas
 pub mod PieceOutcomes

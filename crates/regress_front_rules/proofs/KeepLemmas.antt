@@ -1,5 +1,5 @@
 -- Each rule keeps what has to be kept, and lowers the weight.
-use Rattle.std.proofs.Common.{◌≡◌, ℕ, zero, ◌+◌, ◌-◌, ◌<◌, ◌≤◌, Bool, true, false, ◌==◌, List, [], ◌∷◌, ◌++◌, Option, Some, None, length, chars, encode_utf8, nat_le, if◌then◌else◌, refl, sym, ap, ◌∙◌, arith, length-append}
+use Rattle.std.proofs.Common.{◌≡◌, ℕ, zero, ◌+◌, ◌-◌, ◌<◌, ◌≤◌, Bool, true, false, ◌==◌, List, [], ◌∷◌, ◌++◌, Option, Some, length, chars, encode_utf8, nat_le, if◌then◌else◌, refl, sym, ap, ◌∙◌, arith, length-append}
 use Rattle.std.specs.Option.{option_or, unwrap_or}
 use Rattle.std.proofs.lemmas.List.{append-nil}
 use Rattle.std.proofs.lemmas.List.Elements.{All-nil}
@@ -13,6 +13,7 @@ use Rattle.regress_front_nodes.specs.Singles.{takes_one}
 use Rattle.regress_front_nodes.specs.WellFormed.{group_ids, goals, last_part, AreLawful, AreCharacters, name_by_number}
 use Rattle.regress_front_nodes.specs.Characters.{is_character}
 use Rattle.regress_front_nodes.proofs.PieceLemmas.{scalar-from}
+use Rattle.regress_front_nodes.proofs.OptionLemmas.{option_or-none}
 use Rattle.regress_front_rules.specs.Rules.{joined, unrolled, is_bracket, Turns, flattens, drops_empty, is_one_part, is_no_part, joins, spells, lists, is_empty_choice, is_lost, unrolls, loops_one, idles, skips, once, Rewrites, there, in_part, in_first, in_second, in_capture, in_submatch, in_loop, in_single_loop, Reaches, stays, and_then}
 use Rattle.regress_front_rules.specs.Weight.{pending, bulk, weight}
 use Rattle.regress_front_rules.specs.Kept.{Keeps}
@@ -107,7 +108,7 @@ one_part-turned : (t : Tree) → IsTurned (cat_of (t ∷ [])) t
 one_part-turned t = record {
   keeps = record {
     ids = sym (append-nil (group_ids t));
-    named = λ k. sym (last_name (name_by_number k t));
+    named = λ k. sym (option_or-none (name_by_number k t));
     few_loops = omega arith;
     no_goal = λ e. omega (arith, e);
     goal_last = λ e l. (omega (arith, e), l);
@@ -116,10 +117,6 @@ one_part-turned t = record {
   };
   lighter = λ n l. omega arith;
 }
-  where
-    last_name : (o : Option (List ℕ)) → option_or o None ≡ o
-    last_name None = refl
-    last_name (Some x) = refl
 
 -- two literals as one are a literal, of all their characters
 pub joined-lawful : (dir : Direction) (xs ys : List ℕ) → AreCharacters xs → AreCharacters ys → AreCharacters (joined dir xs ys) × (length (chars (joined dir xs ys)) ≡ length (chars xs) + length (chars ys))

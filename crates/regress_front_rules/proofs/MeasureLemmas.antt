@@ -1,5 +1,5 @@
 -- Measures of parts one after another, and of copies.
-use Rattle.std.proofs.Common.{◌≡◌, ℕ, zero, suc, ◌+◌, ◌*◌, ◌<◌, ◌≤◌, Bool, true, false, List, [], ◌∷◌, ◌++◌, Option, Some, None, length, chars, nat_le, if◌then◌else◌, IsUtf8, refl, sym, ap, ◌∙◌, arith}
+use Rattle.std.proofs.Common.{◌≡◌, ℕ, zero, suc, ◌+◌, ◌*◌, ◌<◌, ◌≤◌, Bool, true, false, List, [], ◌∷◌, ◌++◌, Option, None, length, chars, nat_le, if◌then◌else◌, IsUtf8, refl, sym, ap, ◌∙◌, arith}
 use Rattle.std.specs.Option.{option_or}
 use Rattle.std.proofs.lemmas.List.{append_assoc}
 use Rattle.std.proofs.lemmas.Str.{chars-encodes}
@@ -7,13 +7,10 @@ use Rattle.regress_front_nodes.specs.Trees.{Tree, bytes, cat, cat_of, alt, captu
 use Rattle.regress_front_nodes.specs.Sizes.{size, loops}
 use Rattle.regress_front_nodes.specs.WellFormed.{group_ids, goals, AreLawful, name_by_number}
 use Rattle.regress_front_nodes.proofs.CopyLemmas.{no_groups_first}
+use Rattle.regress_front_nodes.proofs.OptionLemmas.{option_or-again}
 use Rattle.regress_front_rules.specs.NormalForm.{largest_copied}
 use Rattle.regress_front_rules.specs.Rules.{copies}
 use Rattle.regress_front_rules.specs.Weight.{pending, bulk}
-
-option_or-again : {A : Type 0} (o p q : Option A) → option_or o (option_or p q) ≡ option_or (option_or o p) q
-option_or-again None p q = refl
-option_or-again (Some x) p q = refl
 
 -- ---- parts before other parts: each measure is that of both, but for the one end of a `Cat` too many
 

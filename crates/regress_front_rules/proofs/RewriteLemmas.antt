@@ -3,6 +3,7 @@ use Rattle.std.proofs.Common.{ℕ, ◌∷◌, All, refl, ap, ◌∙◌, arith}
 use Rattle.regress_meaning.specs.TableParts.{is_code_point}
 use Rattle.regress_meaning.specs.Meaning.{Direction, Outcomes, Context, captured, cleared}
 use Rattle.regress_meaning.specs.Laws.{IsInside}
+use Rattle.regress_meaning.proofs.StepLaws.{cleared-inside}
 use Rattle.regress_front_nodes.specs.Trees.{Tree, cat_of}
 use Rattle.regress_front_nodes.specs.TreeMeaning.{submatch_direction, node_outcomes}
 use Rattle.regress_front_nodes.specs.Alike.{distinct, GoAlike}
@@ -11,7 +12,7 @@ use Rattle.regress_front_nodes.specs.TreeMeaning.{direction}
 use Rattle.regress_front_nodes.proofs.DistinctLemmas.{joined-alike, followed-alike, changed-alike, submatched-alike, iterated-alike}
 use Rattle.regress_front_rules.specs.Rules.{Rewrites, there, in_part, in_first, in_second, in_capture, in_submatch, in_loop, in_single_loop, Reaches, stays, and_then}
 use Rattle.regress_front_rules.specs.Laws.{RulesAreRight, WholesAreRight}
-use Rattle.regress_front_rules.proofs.InsideLemmas.{tree-inside, cleared-inside}
+use Rattle.regress_front_rules.proofs.InsideLemmas.{tree-inside}
 use Rattle.regress_front_rules.proofs.MeasureLemmas.{pending-loops}
 use Rattle.regress_front_rules.proofs.RuleLemmas.{parts-lawful, behind-alike, turns-alike}
 use Rattle.regress_front_rules.proofs.KeepLemmas.{rewrites-turned, reaches-keeps, reaches-weight}

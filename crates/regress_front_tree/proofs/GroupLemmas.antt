@@ -15,7 +15,8 @@ use Rattle.regress_front_nodes.specs.WellFormed.{name_by_number}
 use Rattle.regress_front_nodes.specs.Characters.{is_character}
 use Rattle.regress_front_nodes.specs.Forms.{in_reading_order}
 use Rattle.regress_front_nodes.proofs.CountLemmas.{times, count-append, count-cons}
-use Rattle.regress_front_tree.proofs.SameLemmas.{Same, option_or-none}
+use Rattle.regress_front_nodes.proofs.OptionLemmas.{option_or-none}
+use Rattle.regress_front_tree.proofs.SameLemmas.{Same}
 
 -- A tree has the groups of these numbers, in some order, and these names, and so many loops; k groups were opened before it.
 pub record Fits (n k : ℕ) (numbers : List ℕ) (names : List (List ℕ)) (count : ℕ) (t : Tree) : Type 0 where

@@ -10,7 +10,6 @@ use Rattle.regress_meaning.specs.TableParts.{is_code_point}
 use Rattle.regress_meaning.specs.Class.{Class, no_string, range, digits, spaces, words, property, sequences, strings, union, intersection, difference, complement, nested, value_of, among}
 use Rattle.regress_meaning.specs.Pattern as meaning
 use Rattle.regress_meaning.specs.Pattern.{Pattern, Settings}
-use Rattle.regress_meaning.specs.Laws.{IsInside}
 use Rattle.regress_meaning.specs.Meaning.{State, Direction, Forward, Backward, Context, step, same_all, closed, class_steps, captured, cleared, repeat_group, references, outcomes}
 use Rattle.regress_front_tokens.specs.Trees.{sequence_of}
 use Rattle.regress_front_nodes.specs.Trees.{Tree, lookaround, atomic, back, string_set, cat_of}
@@ -25,7 +24,7 @@ use Rattle.regress_front_nodes.proofs.SequenceLemmas.{made-outcomes}
 use Rattle.regress_front_tree.proofs.AlikeLemmas.{AllAlike, Stays, term-ahead, term-behind, arms-outcomes, arms-alike}
 use Rattle.regress_front_tree.proofs.TextSteps.{text-ahead, text-behind}
 use Rattle.regress_front_tree.proofs.StringLemmas.{among-All, each-string, like, like-sized, empty-agrees, no_empty-agrees, arms-of-class}
-use Rattle.regress_meaning.proofs.StepLaws.{Leads-cleared}
+use Rattle.regress_meaning.proofs.StepLaws.{cleared-inside}
 
 -- what passes holds of what a filter keeps
 All-kept : (p : List ℕ → Bool) (P : List ℕ → Type 0) → ((r : List ℕ) → p r ≡ true → P r) → (ss : List (List ℕ)) → All P (filter p ss)
@@ -110,10 +109,6 @@ module _ (w : Context) (valid : All is_code_point w.text) (stays : Stays w valid
   references-are false e ks s = made-outcomes w (map (λ j. back (j + 1) e.icase) ks) Forward s ∙ backs ks e Forward s
   references-are true e ks s = made-outcomes w (map (λ j. back (j + 1) e.icase) (reverse ks)) Backward s ∙ backs (reverse ks) e Backward s
 
-  -- clearing groups leaves a state in the text
-  cleared-inside : (first last : ℕ) (s : State) → IsInside w.text s → IsInside w.text (cleared first last s)
-  cleared-inside first last s h = (Leads-cleared w Forward first last s).inside h
-
   mutual
     unfolding node_outcomes outcomes class_steps
 
@@ -131,8 +126,8 @@ module _ (w : Context) (valid : All is_code_point w.text) (stays : Stays w valid
     lowered-alike (of_modified h) s inside = lowered-alike h s inside
     lowered-alike {b} {e} (of_repeated {first = first} {last = last} {least = least} {most = most} {greedy = greedy} {p = p} {t = t} h) s inside =
         iterated-alike w (λ r. node_outcomes w t (direction b) (cleared first last r)) (λ r. outcomes w p (direction b) e (cleared first last r)) greedy most least
-        (λ r in_text. lowered-alike h (cleared first last r) (cleared-inside first last r in_text))
-        (λ r in_text. stays p (direction b) e (cleared first last r) (cleared-inside first last r in_text)) s inside
+        (λ r in_text. lowered-alike h (cleared first last r) (cleared-inside w first last r in_text))
+        (λ r in_text. stays p (direction b) e (cleared first last r) (cleared-inside w first last r in_text)) s inside
     lowered-alike {b} {e} (of_look {negated = negated} {backward = backward} {p = p} {t = t} h) s inside =
         ap distinct (submatched-alike w (lookaround negated backward) s (node_outcomes w t (direction backward) s) (outcomes w p (direction backward) e s) (lowered-alike h s inside))
     lowered-alike {b} {e} (of_atomic {p = p} {t = t} h) s inside =

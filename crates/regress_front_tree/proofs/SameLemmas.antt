@@ -1,5 +1,5 @@
 -- Trees with the same groups, names and loops: parts one after another, put together in several ways, and arms.
-use Rattle.std.proofs.Common.{◌≡◌, ℕ, ◌+◌, List, [], ◌∷◌, ◌++◌, Option, Some, None, refl, sym, ap, ap₂, ◌∙◌, arith}
+use Rattle.std.proofs.Common.{◌≡◌, ℕ, ◌+◌, List, [], ◌∷◌, ◌++◌, Option, refl, sym, ap, ap₂, ◌∙◌, arith}
 use Rattle.std.specs.Option.{option_or}
 use Rattle.std.proofs.lemmas.List.{append_assoc, append-nil}
 use Rattle.regress_front_nodes.specs.Trees.{Tree, cat, no_part, alt, cat_of}
@@ -7,6 +7,7 @@ use Rattle.regress_front_nodes.specs.WellFormed.{HoldsNoSingleLoop, group_ids, g
 use Rattle.regress_front_nodes.specs.Sizes.{loops}
 use Rattle.regress_front_nodes.specs.WellFormed.{name_by_number}
 use Rattle.regress_front_nodes.specs.Forms.{cat_made}
+use Rattle.regress_front_nodes.proofs.OptionLemmas.{option_or-none, option_or-again}
 use Rattle.regress_front_tree.specs.Lowering.{HasArms, one_arm, two_halves}
 
 -- Trees with the same groups, names and loops, both lawful or neither.
@@ -19,14 +20,6 @@ pub record Same (t u : Tree) : Type 0 where
   pub lawful_back : (n : ℕ) → AreLawful n u → AreLawful n t
   pub plain : HoldsNoSingleLoop t → HoldsNoSingleLoop u
   pub plain_back : HoldsNoSingleLoop u → HoldsNoSingleLoop t
-
-pub option_or-none : {A : Type 0} (o : Option A) → option_or o None ≡ o
-option_or-none None = refl
-option_or-none (Some x) = refl
-
-option_or-again : {A : Type 0} (o p q : Option A) → option_or o (option_or p q) ≡ option_or (option_or o p) q
-option_or-again None p q = refl
-option_or-again (Some x) p q = refl
 
 same-refl : (t : Tree) → Same t t
 same-refl t = record {

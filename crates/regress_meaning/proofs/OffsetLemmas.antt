@@ -1,5 +1,5 @@
 -- A text that takes at least one unit for each code point has a greater offset at a later place.
-use Rattle.std.proofs.Common.{◌≡◌, ℕ, zero, suc, ◌<◌, ◌≤◌, ◌⊎◌, length, get_or, inl, inr, add-one, arith}
+use Rattle.std.proofs.Common.{◌≡◌, ℕ, zero, suc, ◌+◌, ◌<◌, ◌≤◌, ◌⊎◌, length, get_or, inl, inr, ap, add-one, arith}
 use Rattle.std.proofs.lemmas.Bool.{cases_lt}
 use Rattle.std.proofs.lemmas.List.Sums.{sum_by_more}
 use Rattle.regress_meaning.specs.Offsets.{Reading, offset}
@@ -20,3 +20,11 @@ rise r wide p (suc q) below inside = go (cases_lt p q) (λ h. rise r wide p q h 
         → offset r p < offset r (suc q)
     go (inl h) before here = omega (arith, before h)
     go (inr h) before here = let e : p ≡ q = omega arith in rw e here
+
+-- offsets are at least as far apart as places
+pub offsets-far : (reading : Reading) → OffsetsRise reading → (j a : ℕ) → a + j ≤ length reading.points → offset reading a + j ≤ offset reading (a + j)
+offsets-far reading rise zero a room = let e : a + 0 ≡ a = omega arith in let f = ap (offset reading) e in omega (arith, f)
+offsets-far reading rise (suc j) a room =
+    let h = offsets-far reading rise j a (omega (arith, room)) in
+    let k = rise (a + j) (a + suc j) (omega arith) room in
+    omega (arith, h, k)

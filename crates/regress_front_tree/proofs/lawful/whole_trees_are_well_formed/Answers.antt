@@ -10,7 +10,7 @@ use Rattle.regress_front_nodes.specs.Trees.{Tree, goal, cat_of}
 use Rattle.regress_front_nodes.specs.WellFormed.{group_ids, AreNumbered}
 use Rattle.regress_front_nodes.specs.WellFormed.{name_by_number}
 use Rattle.regress_front_tree.specs.Lowered.{IsLowered, IsWhole}
-use Rattle.regress_front_tree.proofs.SameLemmas.{option_or-none}
+use Rattle.regress_front_nodes.proofs.OptionLemmas.{option_or-none}
 use Rattle.regress_front_tree.proofs.lawful.whole_trees_are_well_formed.Goals as goals
 
 -- two nodes more than a pattern takes are few for its text
