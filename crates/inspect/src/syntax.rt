@@ -41,7 +41,7 @@ fn push_below(
         }
         Syntax::Capture { contents, .. }
         | Syntax::Group(contents)
-        | Syntax::Atomic(contents)
+        | Syntax::Atomic { contents, .. }
         | Syntax::Modified { contents, .. }
         | Syntax::Look { contents, .. }
         | Syntax::Loop {
@@ -89,7 +89,7 @@ fn push_head(out: &mut String, syntax: &Syntax) -> Result<(), AllocError> {
         Syntax::Disjunction(_) => out.push_str("Disjunction"),
         Syntax::ClassEscape(_) => out.push_str("ClassEscape"),
         Syntax::Group(_) => out.push_str("Group"),
-        Syntax::Atomic(_) => out.push_str("Atomic"),
+        Syntax::Atomic { .. } => out.push_str("Atomic"),
         Syntax::Class { negated, .. } => write!(out, "Class {{ negated: {negated} }}"),
         Syntax::Look {
             negated,

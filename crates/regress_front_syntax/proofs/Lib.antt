@@ -6,5 +6,6 @@ pub mod MarkLemmas
 pub mod OpeningLemmas
 pub mod PatternLemmas
 pub mod QuantifierLemmas
+pub mod RangeSteps
 pub mod StepLemmas
 pub mod TermLemmas

@@ -58,7 +58,7 @@ fn names_in<'s>(alloc: Global, syntax: &'s Syntax) -> Result<Option<Names<'s>>, 
         } => names_in_named(alloc, name, contents),
         Syntax::Capture { contents, .. }
         | Syntax::Group(contents)
-        | Syntax::Atomic(contents)
+        | Syntax::Atomic { contents, .. }
         | Syntax::Modified { contents, .. }
         | Syntax::Look { contents, .. }
         | Syntax::Loop {

@@ -1,5 +1,5 @@
 //! What an opening parenthesis begins.
-ghost use Rattle.std.specs.Prelude.{◌≡◌, ◌≤◌, ◌++◌, length, OnOk};
+ghost use Rattle.std.specs.Prelude.{◌≡◌, ◌≤◌, ◌++◌, length, Some, OnOk};
 ghost use Rattle.std.specs.List.{list_any};
 ghost use Rattle.regress_meaning.specs.Text.{holds};
 ghost use Rattle.regress_meaning.specs.Flags.{settings_of};
@@ -13,6 +13,7 @@ ghost use Rattle.regress_front_syntax.specs.Openings.{switched_off, IsOpening};
 use regress_front_tables::{CaptureGroupID, CaptureGroupName, CodePoint, Error};
 use regress_front_tokens::{Cursor, Mode, Modifiers, Syntax, is_one_of};
 use std::alloc::Global;
+use std::ops::Range;
 
 /// What an opening parenthesis begins, up to the contents.
 #[derive(Debug, Drop)]
@@ -86,7 +87,8 @@ fn modifiers_of(letters: &[CodePoint]) -> Modifiers
 
 impl Opening<'_> {
     ghost use Rattle.regress_front_tokens.specs.Trees.{tree};
-    ghost use Rattle.regress_front_syntax.specs.Openings.{is_capture, may_repeat, is_lookbehind, enclosed};
+    ghost use Rattle.regress_front_tokens.specs.Ranges.{opens};
+    ghost use Rattle.regress_front_syntax.specs.Openings.{is_capture, may_repeat, is_lookbehind, enclosed, opened_by};
 
     /// Whether it opens a capturing group.
     pub(crate) fn is_capture(&self) -> bool
@@ -116,14 +118,28 @@ impl Opening<'_> {
         matches!(self, Opening::Lookbehind { .. })
     }
 
-    /// The tree of contents behind the opening; `id` is the number of the group, if it captures.
-    pub(crate) fn enclose(self, id: CaptureGroupID, contents: Box<Syntax>) -> Syntax
-        ensures { tree result ≡ enclosed self.entry id (tree contents.value) }
+    /// The tree of contents behind the opening, with the numbers of the groups that both open; if it captures, the first is its
+    /// own.
+    pub(crate) fn enclose(
+        self,
+        enclosed_groups: Range<CaptureGroupID>,
+        contents: Box<Syntax>,
+    ) -> Syntax
+        ensures same { tree result ≡ enclosed self.entry enclosed_groups.start (tree contents.value) }
+        ensures ranges { opens contents.value (opened_by self.entry enclosed_groups.start) ≡ Some enclosed_groups.end
+            → opens result enclosed_groups.start ≡ Some enclosed_groups.end }
     {
         match self {
-            Opening::Capture(name) => Syntax::Capture { id, name, contents },
+            Opening::Capture(name) => Syntax::Capture {
+                id: enclosed_groups.start,
+                name,
+                contents,
+            },
             Opening::Group => Syntax::Group(contents),
-            Opening::Atomic => Syntax::Atomic(contents),
+            Opening::Atomic => Syntax::Atomic {
+                contents,
+                enclosed_groups,
+            },
             Opening::Modified { on, off } => Syntax::Modified {
                 on: modifiers_of(on),
                 off: modifiers_of(off),
@@ -133,11 +149,13 @@ impl Opening<'_> {
                 negated,
                 backward: false,
                 contents,
+                enclosed_groups,
             },
             Opening::Lookbehind { negated } => Syntax::Look {
                 negated,
                 backward: true,
                 contents,
+                enclosed_groups,
             },
         }
     }

@@ -1,9 +1,10 @@
 //! The parser: a function for each construct of a pattern, which is read from the left with no way back.
-ghost use Rattle.std.specs.Prelude.{◌≡◌, ◌==◌, ◌+◌, ◌<◌, ◌≤◌, ◌++◌, ◌∷◌, [], ℕ, suc, length, true, false, is_some, OnOk, IfOk, IfErr, if◌then◌else◌};
+ghost use Rattle.std.specs.Prelude.{◌≡◌, ◌==◌, ◌+◌, ◌<◌, ◌≤◌, ◌++◌, ◌∷◌, [], ℕ, suc, length, true, false, Some, is_some, OnOk, IfOk, IfErr, if◌then◌else◌};
 ghost use Rattle.regress_meaning.specs.Text.{◌∈◌, is_at};
 ghost use Rattle.regress_meaning.specs.Tokens.{bounds_at};
 ghost use Rattle.regress_front_tokens.specs.Escapes.{escape_view, mode_view, HasFewGroups};
 ghost use Rattle.regress_front_tokens.specs.Trees.{tree, trees_of};
+ghost use Rattle.regress_front_tokens.specs.Ranges.{opens_none, in_turn, opens, parts_of};
 ghost use Rattle.regress_meaning.specs.Pattern.{character};
 ghost use Rattle.regress_meaning.specs.Grammar.{ends_alternative, tree_of};
 ghost use Rattle.regress_meaning.specs.Reading.{disjunction_at, alternative_at, term_at};
@@ -34,7 +35,8 @@ const UNEXPECTED_CHARACTER: &str = "Unexpected character";
 
 /// The tree of an escape outside a class.
 fn tree_of(escape: Escape) -> Syntax
-    ensures { tree result ≡ tree_of (escape_view escape) }
+    ensures same { tree result ≡ tree_of (escape_view escape) }
+    ensures ranges { opens result ≡ opens_none }
 {
     match escape {
         Escape::Point(point) => Syntax::Character(point),
@@ -84,7 +86,8 @@ fn push_character(
     terms: &mut Vec<Term<Syntax>>,
     point: CodePoint,
 ) -> Result<(), AllocError>
-    ensures { OnOk result (trees_of terms.new.items ≡ trees_of terms.old.items ++ (character point ∷ [])) }
+    ensures trees { OnOk result (trees_of terms.new.items ≡ trees_of terms.old.items ++ (character point ∷ [])) }
+    ensures parts { OnOk result (parts_of terms.new.items ≡ parts_of terms.old.items ++ (opens_none ∷ [])) }
 {
     let last = match terms.pop() {
         None => Term::One(Syntax::Character(point)),
@@ -106,7 +109,8 @@ fn push_character(
 /// Adds a term behind others.
 #[inline(never)]
 fn push(alloc: Global, terms: &mut Vec<Term<Syntax>>, term: Syntax) -> Result<(), AllocError>
-    ensures { OnOk result (trees_of terms.new.items ≡ trees_of terms.old.items ++ (tree term ∷ [])) }
+    ensures trees { OnOk result (trees_of terms.new.items ≡ trees_of terms.old.items ++ (tree term ∷ [])) }
+    ensures parts { OnOk result (parts_of terms.new.items ≡ parts_of terms.old.items ++ (opens term ∷ [])) }
 {
     match term {
         Syntax::Character(point) => push_character(alloc, terms, point),
@@ -143,6 +147,7 @@ pub(crate) struct Parser<'p> {
 
 impl<'p> Parser<'p> {
     ghost use Rattle.regress_front_tokens.specs.Cursors.{unread};
+    ghost use Rattle.regress_front_tokens.specs.Ranges.{HasRanges};
     ghost use Rattle.regress_front_syntax.specs.Openings.{opened_by};
     ghost use Rattle.regress_front_syntax.specs.Parsing.{place, Answers, AnswersBehind, term_by};
     ghost use Rattle.regress_front_syntax.specs.Parsing.{IsCoherent, IsQuantifier, IsRepetition, IsFinished, IsWholeAnswer, unboxed, as_alternative};
@@ -166,7 +171,8 @@ impl<'p> Parser<'p> {
         requires beginning { (self.old.groups ≡ 0) × (self.old.loops ≡ 0) }
         requires coherent { IsCoherent (mode_view mode.now) }
         requires few { HasFewGroups mode.now }
-        ensures { IsWholeAnswer (whole_at (mode_view mode.now) (unread self.old.cursor)) (unread self.old.cursor) result }
+        ensures answer { IsWholeAnswer (whole_at (mode_view mode.now) (unread self.old.cursor)) (unread self.old.cursor) result }
+        ensures ranges { IfOk result HasRanges }
     {
         regress_meaning::reading_goes_by_steps();
         let boxed = self.disjunction(mode, 0)?;
@@ -199,6 +205,7 @@ impl<'p> Parser<'p> {
         requires coherent { IsCoherent (mode_view mode.now) }
         requires few { HasFewGroups mode.now }
         ensures answer { Answers (disjunction_at (mode_view mode.now)) nesting self.old self.new (unboxed result) }
+        ensures ranges { IfOk result (λ s. opens s.value self.old.groups ≡ Some self.new.groups) }
         ensures progress { OnOk result (length (unread self.new.cursor) ≤ length (unread self.old.cursor)) }
     {
         regress_meaning::reading_goes_by_steps();
@@ -228,6 +235,7 @@ impl<'p> Parser<'p> {
         requires coherent { IsCoherent (mode_view mode.now) }
         requires few { HasFewGroups mode.now }
         ensures answer { Answers (alternative_at (mode_view mode.now)) nesting self.old self.new (as_alternative result) }
+        ensures ranges { IfOk result (λ terms. in_turn (parts_of terms.items) self.old.groups ≡ Some self.new.groups) }
         ensures progress { OnOk result (length (unread self.new.cursor) ≤ length (unread self.old.cursor)) }
     {
         regress_meaning::reading_goes_by_steps();
@@ -249,6 +257,7 @@ impl<'p> Parser<'p> {
         requires coherent { IsCoherent (mode_view mode.now) }
         requires few { HasFewGroups mode.now }
         ensures answer { Answers (term_at (mode_view mode.now)) nesting self.old self.new result }
+        ensures ranges { IfOk result (λ s. opens s self.old.groups ≡ Some self.new.groups) }
         ensures progress { OnOk result (length (unread self.new.cursor) < length (unread self.old.cursor)) }
     {
         if self.cursor.eat('(') {
@@ -264,6 +273,7 @@ impl<'p> Parser<'p> {
         requires few { HasFewGroups mode.now }
         requires no_group { is_at (λ c. c == 0x28) (unread self.old.cursor) ≡ false }
         ensures answer { Answers (term_at (mode_view mode.now)) nesting self.old self.new result }
+        ensures ranges { IfOk result (λ s. opens s self.old.groups ≡ Some self.new.groups) }
         ensures progress { OnOk result (length (unread self.new.cursor) < length (unread self.old.cursor)) }
     {
         if self.cursor.eat('^') {
@@ -289,6 +299,7 @@ impl<'p> Parser<'p> {
         requires { HasFewGroups mode.now }
         ensures answer { (nesting : ℕ) → nesting ≤ 256
             → Answers (term_by escape_opening (mode_view mode.now)) nesting self.old self.new result }
+        ensures ranges { IfOk result (λ s. opens s self.old.groups ≡ Some self.new.groups) }
         ensures progress { OnOk result (length (unread self.new.cursor) ≤ length (unread self.old.cursor)) }
     {
         regress_meaning::reading_leaves_less();
@@ -306,6 +317,7 @@ impl<'p> Parser<'p> {
         requires shallow { nesting ≤ 256 }
         requires few { HasFewGroups mode.now }
         ensures answer { AnswersBehind 0x5B (term_by class_opening (mode_view mode.now)) nesting self.old self.new result }
+        ensures ranges { IfOk result (λ s. opens s self.old.groups ≡ Some self.new.groups) }
         ensures progress { OnOk result (length (unread self.new.cursor) ≤ length (unread self.old.cursor)) }
     {
         regress_meaning::reading_leaves_less();
@@ -318,6 +330,7 @@ impl<'p> Parser<'p> {
     fn character(&mut self, mode: &Mode) -> Result<Syntax, Error>
         ensures answer { (nesting : ℕ) → nesting ≤ 256
             → Answers (term_by character_opening (mode_view mode.now)) nesting self.old self.new result }
+        ensures ranges { IfOk result (λ s. opens s self.old.groups ≡ Some self.new.groups) }
         ensures progress { OnOk result (length (unread self.new.cursor) < length (unread self.old.cursor)) }
     {
         if !is_at_pattern_character(&self.cursor, mode.unicode) {
@@ -341,6 +354,7 @@ impl<'p> Parser<'p> {
         requires coherent { IsCoherent (mode_view mode.now) }
         requires few { HasFewGroups mode.now }
         ensures answer { AnswersBehind 0x28 (term_by parenthesis_opening (mode_view mode.now)) nesting self.old self.new result }
+        ensures ranges { IfOk result (λ s. opens s self.old.groups ≡ Some self.new.groups) }
         ensures progress { OnOk result (length (unread self.new.cursor) ≤ length (unread self.old.cursor)) }
     {
         regress_meaning::reading_goes_by_steps();
@@ -362,11 +376,13 @@ impl<'p> Parser<'p> {
         contents: Box<Syntax>,
     ) -> Result<Syntax, Error>
         ensures answer { (nesting : ℕ) → IsFinished unicode opening.entry opened (tree contents.value) (place nesting self.old) (place nesting self.new) result }
+        ensures ranges { IfOk result (λ s. opens contents.value (opened_by opening.entry opened) ≡ Some self.old.groups
+            → opens s opened ≡ Some self.new.groups) }
         ensures progress { OnOk result (length (unread self.new.cursor) ≤ length (unread self.old.cursor)) }
     {
         let is_lookbehind = opening.is_lookbehind();
         let may_repeat = opening.may_repeat(unicode);
-        let group = opening.enclose(opened, contents);
+        let group = opening.enclose(opened..self.groups, contents);
         if is_lookbehind {
             return Ok(group);
         }
@@ -396,6 +412,7 @@ impl<'p> Parser<'p> {
         requires coherent { IsCoherent (mode_view mode.now) }
         requires few { HasFewGroups mode.now }
         ensures answer { Answers (contents_at (mode_view mode.now)) (nesting + 1) self.old self.new (unboxed result) }
+        ensures ranges { IfOk result (λ s. opens s.value self.old.groups ≡ Some self.new.groups) }
         ensures progress { OnOk result (length (unread self.new.cursor) ≤ length (unread self.old.cursor)) }
     {
         if nesting == MAX_NESTING_DEPTH {
@@ -415,6 +432,7 @@ impl<'p> Parser<'p> {
     #[inline(never)]
     fn repeated(&mut self, atom: Syntax, opened: u16, allowed: bool) -> Result<Syntax, Error>
         ensures answer { (nesting : ℕ) → IsRepetition allowed opened (tree atom) (place nesting self.old) (place nesting self.new) result }
+        ensures ranges { IfOk result (λ s. (k : ℕ) → opens atom k ≡ Some self.old.groups → opens s k ≡ Some self.new.groups) }
         ensures progress { OnOk result (length (unread self.new.cursor) ≤ length (unread self.old.cursor)) }
     {
         let Some(quant) = self.quantifier(allowed)? else {

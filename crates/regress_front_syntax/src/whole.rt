@@ -9,6 +9,7 @@ ghost use Rattle.regress_front_core.specs.Refusals.{MayRefuse};
 ghost use Rattle.regress_front_tables.specs.TableViews.{table};
 ghost use Rattle.regress_front_tokens.specs.Escapes.{mode_view, texts, HasFewGroups};
 ghost use Rattle.regress_front_tokens.specs.Trees.{tree};
+ghost use Rattle.regress_front_tokens.specs.Ranges.{HasRanges};
 
 use crate::parser::Parser;
 use regress_front_tables::{CaptureGroupName, CodePoint, Error, Flags, MAX_CAPTURE_GROUPS, Tables};
@@ -63,6 +64,7 @@ pub fn parse_telling_place(
 ) -> Result<Parsed, Refused>
     ensures accepted { IfOk result (λ s. Spells (table tables.now) (options flags) points.now (tree s.syntax) × WithinLimits (tree s.syntax)) }
     ensures named { IfOk result (λ s. texts s.group_names ≡ names_of (tree s.syntax)) }
+    ensures ranges { IfOk result (λ s. HasRanges s.syntax) }
     ensures refused { IfErr result (λ r. MayRefuse (table tables.now) (options flags) points.now r.error) }
     ensures inside { IfErr result (λ r. r.place ≤ length points.now) }
 {
@@ -96,6 +98,7 @@ pub fn parse(
 ) -> Result<Parsed, Error>
     ensures accepted { IfOk result (λ s. Spells (table tables.now) (options flags) points.now (tree s.syntax) × WithinLimits (tree s.syntax)) }
     ensures named { IfOk result (λ s. texts s.group_names ≡ names_of (tree s.syntax)) }
+    ensures ranges { IfOk result (λ s. HasRanges s.syntax) }
     ensures refused { IfErr result (λ e. MayRefuse (table tables.now) (options flags) points.now e) }
 {
     match parse_telling_place(alloc, points, flags, tables) {

@@ -1,6 +1,7 @@
 pub mod ClassViews
 pub mod EscapeLemmas
 pub mod ModeLemmas
+pub mod RangeLemmas
 pub mod NameLemmas
 pub mod NumberLemmas
 pub mod ScanLemmas

@@ -78,8 +78,11 @@ pub enum Syntax {
     },
     /// `(?:..)`
     Group(Box<Syntax>),
-    /// `(?>..)`
-    Atomic(Box<Syntax>),
+    /// `(?>..)`, with the numbers of the groups inside, as a loop has them.
+    Atomic {
+        contents: Box<Syntax>,
+        enclosed_groups: Range<u16>,
+    },
     /// `(?i-m:..)`
     Modified {
         on: Modifiers,
@@ -92,11 +95,12 @@ pub enum Syntax {
         quant: Quantifier,
         enclosed_groups: Range<u16>,
     },
-    /// `(?=..)`, `(?!..)`, `(?<=..)`, `(?<!..)`
+    /// `(?=..)`, `(?!..)`, `(?<=..)`, `(?<!..)`, with the numbers of the groups inside, as a loop has them.
     Look {
         negated: bool,
         backward: bool,
         contents: Box<Syntax>,
+        enclosed_groups: Range<u16>,
     },
     /// To groups by their numbers from 0: one, or those of a name.
     Reference(Vec<u16>),

@@ -164,12 +164,12 @@ module _ (table : Table) (unicode : Bool) where
         let names = subst (λ ns. Fits n k (group_numbers arms) ns (quantifiers terms) (cat_of ts)) (choice-names ps) numbers in
         let loops = subst (λ c. Fits n k (group_numbers arms) (names_of arms) c (cat_of ts)) (choice-quantifiers ps) names in
         same-fits (same-arms a) loops
-    fits {n = n} {k = k} (of_capture {j = j} {name = None} {p = p} {t = t} full h) m =
-        let (first, opened, inner) = capture-numbered j None p m in
-        capture-fits None full first (subst (λ i. FitsPart n i p t) opened (fits h inner))
-    fits {n = n} {k = k} (of_capture {j = j} {name = Some name} {p = p} {t = t} full h) m =
-        let (first, opened, inner) = capture-numbered j (Some name) p m in
-        capture-fits (Some name) full first (subst (λ i. FitsPart n i p t) opened (fits h inner))
+    fits (of_capture {j = j} {name = None} {p = p} full h) m =
+        let (first, inner) = capture-numbered j None p m in
+        capture-fits None full first (fits h inner)
+    fits (of_capture {j = j} {name = Some name} {p = p} full h) m =
+        let (first, inner) = capture-numbered j (Some name) p m in
+        capture-fits (Some name) full first (fits h inner)
     fits (of_group h) m = fits h (record { in_order = m.in_order; fitting = m.fitting; few = m.few })
     fits (of_modified h) m = fits h (record { in_order = m.in_order; fitting = m.fitting; few = m.few })
     fits (of_repeated {first = first} {last = last} {t = t} h) m =

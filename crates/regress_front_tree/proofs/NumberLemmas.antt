@@ -1,6 +1,6 @@
 -- Numbers in order, and the patterns whose groups have them.
 use Rattle.std.specs.Prelude.{if◌then◌else◌, nat_le, nat_lt, cond}
-use Rattle.std.proofs.Common.{◌≡◌, ℕ, zero, suc, ◌+◌, ◌≤◌, ◌&&◌, ◌==◌, List, [], ◌∷◌, ◌++◌, length, Option, Some, None, refl, sym, ap, ap₂, ◌∙◌, subst, arith, length-append}
+use Rattle.std.proofs.Common.{◌≡◌, ℕ, zero, suc, ◌+◌, ◌≤◌, ◌&&◌, ◌==◌, List, [], ◌∷◌, ◌++◌, length, Option, Some, None, refl, sym, ap, ap₂, ◌∙◌, arith, length-append}
 use Rattle.std.proofs.lemmas.Bool.Decides.{nat_tests}
 use Rattle.std.proofs.lemmas.List.{append-nil}
 use Rattle.regress_meaning.specs.Text.{count_up}
@@ -10,7 +10,6 @@ use Rattle.regress_meaning.specs.Numbering.{group_numbers, FitsGroups}
 use Rattle.regress_meaning.specs.Limits.{quantifiers, most_groups}
 use Rattle.regress_front_tokens.specs.Trees.{sequence_of, choice_of}
 use Rattle.regress_front_nodes.specs.WellFormed.{AreNumbered}
-use Rattle.regress_front_tree.specs.Lowering.{one_more}
 use Rattle.regress_front_nodes.proofs.CountLemmas.{times, count-cons}
 
 -- numbers in order
@@ -90,19 +89,18 @@ sequence-numbered {k = k} {p = p} {q = q} h =
 
 -- a group has the next number, and its contents go on behind it
 pub capture-numbered : {n k : ℕ} (j : ℕ) (name : Option (List ℕ)) (p : Pattern) → IsNumberedFrom n k (meaning.capture j name p)
-    → (j ≡ k) × (one_more k ≡ suc k) × IsNumberedFrom n (one_more k) p
+    → (j ≡ k) × IsNumberedFrom n (suc k) p
 capture-numbered {n = n} {k = k} j name p h = by_name name h
   where
     by_parts : j ∷ group_numbers p ≡ k ∷ count_up (suc k) (length (names_of p)) → FitsGroups n p
-        → suc k + length (names_of p) ≤ most_groups → (j ≡ k) × (one_more k ≡ suc k) × IsNumberedFrom n (one_more k) p
+        → suc k + length (names_of p) ≤ most_groups → (j ≡ k) × IsNumberedFrom n (suc k) p
     by_parts e fitting few =
         let first : j ≡ k = cc in
         let rest : group_numbers p ≡ count_up (suc k) (length (names_of p)) = cc in
-        let opened : one_more k ≡ suc k = omega (arith, few) in
-        (first, opened, subst (λ i. IsNumberedFrom n i p) (sym opened) (record { in_order = rest; fitting = fitting; few = few }))
+        (first, record { in_order = rest; fitting = fitting; few = few })
 
     by_name : (o : Option (List ℕ)) → IsNumberedFrom n k (meaning.capture j o p)
-        → (j ≡ k) × (one_more k ≡ suc k) × IsNumberedFrom n (one_more k) p
+        → (j ≡ k) × IsNumberedFrom n (suc k) p
     by_name None h = by_parts h.in_order h.fitting (omega (arith, h.few))
     by_name (Some name) h = by_parts h.in_order h.fitting (omega (arith, h.few))
 

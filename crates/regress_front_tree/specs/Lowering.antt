@@ -1,8 +1,7 @@
 -- How the tree of a pattern is lowered to nodes: case closed by the table, classes as sets, parts in the order of reading.
-use Rattle.std.specs.Prelude.{◌≡◌, ℕ, suc, ◌+◌, ◌≤◌, Bool, true, false, not, ◌&&◌, ◌||◌, ◌==◌, List, [], ◌∷◌, ◌++◌, length, Option, if◌then◌else◌, map, min, All, IfSome, ◌≢◌}
+use Rattle.std.specs.Prelude.{◌≡◌, ℕ, suc, ◌+◌, ◌≤◌, Bool, true, false, not, ◌&&◌, ◌||◌, ◌==◌, List, [], ◌∷◌, ◌++◌, length, Option, if◌then◌else◌, map, All, IfSome, ◌≢◌}
 use Rattle.regress_meaning.specs.Table.{Table}
 use Rattle.regress_meaning.specs.TableParts.{is_code_point}
-use Rattle.regress_meaning.specs.Limits.{most_groups}
 use Rattle.regress_meaning.specs.Class.{Class, Strings, value_of, among}
 use Rattle.regress_meaning.specs.Pattern as meaning
 use Rattle.regress_meaning.specs.Pattern.{Pattern, Settings}
@@ -43,10 +42,6 @@ is_piece (byte_set bs) = true
 is_piece (char_set cs) = true
 is_piece _ = false
 
--- how many groups were opened, with one more
-abbrev pub one_more : ℕ → ℕ
-one_more k = min (suc k) most_groups
-
 module _ (table : Table) (unicode : Bool) where
   -- the strings that a class stands for
   abbrev pub class_value : Settings → Class → Strings
@@ -81,7 +76,7 @@ module _ (table : Table) (unicode : Bool) where
           → Lowers b e k (sequence_of ps) (cat_made (in_reading_order b ts)) l
       of_arms : {b : Bool} {e : Settings} {k l : ℕ} {ps : List Pattern} {ts : List Tree} {t : Tree} → LowersAll b e k ps ts l → HasArms ts t
           → Lowers b e k (choice_of ps) t l
-      of_capture : {b : Bool} {e : Settings} {k l j : ℕ} {name : Option (List ℕ)} {p : Pattern} {t : Tree} → IfSome name (λ text. text ≢ []) → Lowers b e (one_more k) p t l
+      of_capture : {b : Bool} {e : Settings} {k l j : ℕ} {name : Option (List ℕ)} {p : Pattern} {t : Tree} → IfSome name (λ text. text ≢ []) → Lowers b e (suc k) p t l
           → Lowers b e k (meaning.capture j name p) (capture j name t) l
       of_group : {b : Bool} {e : Settings} {k l : ℕ} {p : Pattern} {t : Tree} → Lowers b e k p t l → Lowers b e k (meaning.grouped p) t l
       of_modified : {b : Bool} {e on off : Settings} {k l : ℕ} {p : Pattern} {t : Tree} → Lowers b (with on off e) k p t l

@@ -1,5 +1,5 @@
 -- Where a part of a pattern stands when it is lowered, and what is asked of it.
-use Rattle.std.specs.Prelude.{◌≡◌, ℕ, List, ◌++◌}
+use Rattle.std.specs.Prelude.{◌≡◌, ℕ, List, ◌++◌, Option, Some}
 use Rattle.regress_meaning.specs.Pattern.{Pattern, Settings}
 use Rattle.regress_meaning.specs.Points.{IsOfPoints}
 use Rattle.regress_meaning.specs.Named.{HoldsNoEmptyName}
@@ -18,23 +18,22 @@ pub record IsLowerable (p : Pattern) : Type 0 where
   pub points : IsOfPoints p
   pub names : HoldsNoEmptyName p
 
--- In the scope the pattern is lowered to the tree, and its groups are counted: from the one state to the other.
-abbrev pub LowersInScope : Lowering → Scope → Pattern → Tree → Lowering → Type 0
-LowersInScope old s p t new = Lowers (table old.tables.now) old.unicode s.backward (settings_of s) old.groups p t new.groups
+-- In the scope a part is lowered to the tree, from all groups opened before it up to all opened up to its end, where that is told.
+abbrev pub LowersInScope : Lowering → Scope → (ℕ → Option ℕ) → Pattern → Tree → Type 0
+LowersInScope l s opened p t = (j k : ℕ) → opened j ≡ Some k → Lowers (table l.tables.now) l.unicode s.backward (settings_of s) j p t k
 
--- In the scope each pattern is lowered to a tree, one after another: from the one state to the other.
-abbrev pub LowersAllInScope : Lowering → Scope → List Pattern → List Tree → Lowering → Type 0
-LowersAllInScope old s ps ts new = LowersAll (table old.tables.now) old.unicode s.backward (settings_of s) old.groups ps ts new.groups
+-- In the scope each part is lowered to a tree, one after another.
+abbrev pub LowersAllInScope : Lowering → Scope → (ℕ → Option ℕ) → List Pattern → List Tree → Type 0
+LowersAllInScope l s opened ps ts = (j k : ℕ) → opened j ≡ Some k → LowersAll (table l.tables.now) l.unicode s.backward (settings_of s) j ps ts k
 
--- In the scope patterns are lowered to trees as terms one after another: from the one state to the other.
-abbrev pub LowersTermsInScope : Lowering → Scope → List Pattern → List Tree → Lowering → Type 0
-LowersTermsInScope old s ps ts new = LowersTerms (table old.tables.now) old.unicode s.backward (settings_of s) old.groups ps ts new.groups
+-- In the scope parts are lowered to trees as terms one after another.
+abbrev pub LowersTermsInScope : Lowering → Scope → (ℕ → Option ℕ) → List Pattern → List Tree → Type 0
+LowersTermsInScope l s opened ps ts = (j k : ℕ) → opened j ≡ Some k → LowersTerms (table l.tables.now) l.unicode s.backward (settings_of s) j ps ts k
+
+-- In the scope a part that opens no group is lowered to the tree.
+abbrev pub LowersAlone : Lowering → Scope → Pattern → Tree → Type 0
+LowersAlone l s p t = (k : ℕ) → Lowers (table l.tables.now) l.unicode s.backward (settings_of s) k p t k
 
 -- In the scope the pieces of a text stand behind other trees.
 abbrev pub AddsTextInScope : Lowering → Scope → List ℕ → (old new : List Tree) → Type 0
 AddsTextInScope l s cs old new = (us : List Tree) × ArePieces (table l.tables.now) l.unicode s.icase cs us × (new ≡ old ++ us)
-
--- The tables and the mode stay.
-pub record IsSamePattern (old new : Lowering) : Type 0 where
-  pub tables : new.tables.now ≡ old.tables.now
-  pub unicode : new.unicode ≡ old.unicode

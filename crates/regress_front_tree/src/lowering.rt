@@ -1,11 +1,12 @@
 //! The second pass: from the syntax tree of a pattern to nodes.
-ghost use Rattle.std.specs.Prelude.{◌≡◌, ◌<◌, ◌++◌, ◌∷◌, [], Bool, length, map, option_map, All, IfOk, OnOk};
+ghost use Rattle.std.specs.Prelude.{◌≡◌, ◌<◌, ◌++◌, ◌∷◌, [], suc, Bool, length, map, option_map, All, IfOk, OnOk};
 ghost use Rattle.regress_meaning.specs.TableParts.{is_code_point};
 ghost use Rattle.regress_meaning.specs.Pattern as meaning;
 ghost use Rattle.regress_meaning.specs.Meaning.{with};
 ghost use Rattle.regress_meaning.specs.Points.{ClassIsOfPoints};
 ghost use Rattle.regress_front_tokens.specs.Trees as parsed;
 ghost use Rattle.regress_front_tokens.specs.Trees.{settings, class_view, choice_of};
+ghost use Rattle.regress_front_tokens.specs.Ranges.{in_turn, with_range, opens, parts_of};
 ghost use Rattle.regress_front_tokens.specs.Words.{code_points_of};
 ghost use Rattle.regress_front_core.specs.Quantifiers.{most};
 ghost use Rattle.regress_front_nodes.specs.Trees as nodes;
@@ -14,7 +15,7 @@ ghost use Rattle.regress_front_nodes.specs.Pieces.{piece_tree};
 ghost use Rattle.regress_front_tables.specs.TableViews.{table};
 ghost use Rattle.regress_front_tree.specs.Lowering.{HasArms, ArePieces};
 ghost use Rattle.regress_front_nodes.specs.Forms.{cat_made, in_reading_order};
-ghost use Rattle.regress_front_tree.specs.Scopes.{settings_of, IsLowerable, LowersInScope, LowersAllInScope, LowersTermsInScope, AddsTextInScope, IsSamePattern};
+ghost use Rattle.regress_front_tree.specs.Scopes.{settings_of, IsLowerable, LowersInScope, LowersAllInScope, LowersTermsInScope, LowersAlone, AddsTextInScope};
 
 use crate::arms::alternatives;
 use crate::brackets::{character_node, class_node, negated_class_node};
@@ -168,10 +169,10 @@ fn look(
     alloc: Global,
     negate: bool,
     backwards: bool,
-    groups: Range<CaptureGroupID>,
+    groups: &Range<CaptureGroupID>,
     node: &mut Node,
 ) -> Result<(), AllocError>
-    ensures { OnOk result (tree node.new ≡ nodes.submatch (nodes.lookaround negate backwards) groups.start groups.end (tree node.old)) }
+    ensures { OnOk result (tree node.new ≡ nodes.submatch (nodes.lookaround negate backwards) groups.now.start groups.now.end (tree node.old)) }
 {
     let contents = Box::new(alloc, replace(node, Node::Empty))?;
     *node = Node::LookaroundAssertion {
@@ -186,8 +187,8 @@ fn look(
 
 /// Puts a node into an atomic group over some groups.
 #[inline(never)]
-fn atomic(alloc: Global, groups: Range<CaptureGroupID>, node: &mut Node) -> Result<(), AllocError>
-    ensures { OnOk result (tree node.new ≡ nodes.submatch nodes.atomic groups.start groups.end (tree node.old)) }
+fn atomic(alloc: Global, groups: &Range<CaptureGroupID>, node: &mut Node) -> Result<(), AllocError>
+    ensures { OnOk result (tree node.new ≡ nodes.submatch nodes.atomic groups.now.start groups.now.end (tree node.old)) }
 {
     let contents = Box::new(alloc, replace(node, Node::Empty))?;
     *node = Node::AtomicGroup {
@@ -198,27 +199,24 @@ fn atomic(alloc: Global, groups: Range<CaptureGroupID>, node: &mut Node) -> Resu
     Ok(())
 }
 
-/// What holds for the whole pattern, and how many groups were opened so far.
+/// What holds for the whole pattern.
 #[derive(Drop)]
 pub(crate) struct Lowering<'t> {
     alloc: Global,
     tables: &'t Tables,
     unicode: bool,
-    groups: u16,
 }
 
 impl<'t> Lowering<'t> {
-    /// For a pattern with these tables of case and properties, in Unicode mode or not. No group is opened yet.
+    /// For a pattern with these tables of case and properties, in Unicode mode or not.
     pub(crate) fn new(alloc: Global, tables: &'t Tables, unicode: bool) -> Self
         ensures tables { result.tables.now ≡ tables.now }
         ensures unicode { result.unicode ≡ unicode }
-        ensures groups { result.groups ≡ 0 }
     {
         Lowering {
             alloc,
             tables,
             unicode,
-            groups: 0,
         }
     }
 
@@ -229,14 +227,13 @@ impl<'t> Lowering<'t> {
     #[cycle(lowering)]
     #[inline(never)]
     pub(crate) fn lower(
-        &mut self,
+        &self,
         syntax: &Syntax,
         scope: &Scope,
         node: &mut Node,
     ) -> Result<(), AllocError>
         requires { IsLowerable (parsed.tree syntax.now) }
-        ensures ok { OnOk result (LowersInScope self.old scope.now (parsed.tree syntax.now) (tree node.new) self.new) }
-        ensures kept { IsSamePattern self.old self.new }
+        ensures { OnOk result (LowersInScope self.now scope.now (opens syntax.now) (parsed.tree syntax.now) (tree node.new)) }
     {
         match syntax {
             Syntax::Character(point) => self.character(*point, scope, node),
@@ -249,7 +246,10 @@ impl<'t> Lowering<'t> {
                 self.capture(*id, name, contents, scope, node)
             }
             Syntax::Group(contents) => self.lower(contents, scope, node),
-            Syntax::Atomic(contents) => self.atomic_group(contents, scope, node),
+            Syntax::Atomic {
+                contents,
+                enclosed_groups,
+            } => self.atomic_group(enclosed_groups, contents, scope, node),
             Syntax::Modified { on, off, contents } => {
                 self.lower(contents, &scope.switched(*on, *off), node)
             }
@@ -262,7 +262,8 @@ impl<'t> Lowering<'t> {
                 negated,
                 backward,
                 contents,
-            } => self.lookaround(*negated, *backward, contents, scope, node),
+                enclosed_groups,
+            } => self.lookaround(*negated, *backward, enclosed_groups, contents, scope, node),
             Syntax::Reference(groups) => self.reference(groups, scope, node),
             Syntax::LineStart => self.anchor(AnchorType::StartOfLine, scope, node),
             Syntax::LineEnd => self.anchor(AnchorType::EndOfLine, scope, node),
@@ -273,10 +274,10 @@ impl<'t> Lowering<'t> {
     /// The nodes of parts, one by one in their order.
     #[cycle(lowering)]
     #[inline(never)]
-    fn each(&mut self, parts: &[Syntax], scope: &Scope) -> Result<NodeList, AllocError>
+    fn each(&self, parts: &[Syntax], scope: &Scope) -> Result<NodeList, AllocError>
         requires { All IsLowerable (map parsed.tree parts.now) }
-        ensures ok { IfOk result (λ nodes. LowersAllInScope self.old scope.now (map parsed.tree parts.now) (map tree nodes.items) self.new) }
-        ensures kept { IsSamePattern self.old self.new }
+        ensures lowered { IfOk result (λ nodes. LowersAllInScope self.now scope.now (in_turn (map opens parts.now)) (map parsed.tree parts.now) (map tree nodes.items)) }
+        ensures count { IfOk result (λ nodes. length nodes.items ≡ length parts.now) }
     {
         let mut nodes = Vec::new(self.alloc);
         for part in parts {
@@ -290,10 +291,9 @@ impl<'t> Lowering<'t> {
     /// The nodes of terms one after another, in the order of the text.
     #[cycle(lowering)]
     #[inline(never)]
-    fn terms(&mut self, terms: &[Term<Syntax>], scope: &Scope) -> Result<NodeList, AllocError>
+    fn terms(&self, terms: &[Term<Syntax>], scope: &Scope) -> Result<NodeList, AllocError>
         requires { All IsLowerable (parsed.trees_of terms.now) }
-        ensures ok { IfOk result (λ nodes. LowersTermsInScope self.old scope.now (parsed.trees_of terms.now) (map tree nodes.items) self.new) }
-        ensures kept { IsSamePattern self.old self.new }
+        ensures { IfOk result (λ nodes. LowersTermsInScope self.now scope.now (in_turn (parts_of terms.now)) (parsed.trees_of terms.now) (map tree nodes.items)) }
     {
         let mut nodes = Vec::new(self.alloc);
         for term in terms {
@@ -331,14 +331,13 @@ impl<'t> Lowering<'t> {
     #[cycle(lowering)]
     #[inline(never)]
     fn alternative(
-        &mut self,
+        &self,
         terms: &[Term<Syntax>],
         scope: &Scope,
         node: &mut Node,
     ) -> Result<(), AllocError>
         requires { All IsLowerable (parsed.trees_of terms.now) }
-        ensures ok { OnOk result (LowersInScope self.old scope.now (parsed.sequence_of (parsed.trees_of terms.now)) (tree node.new) self.new) }
-        ensures kept { IsSamePattern self.old self.new }
+        ensures { OnOk result (LowersInScope self.now scope.now (in_turn (parts_of terms.now)) (parsed.sequence_of (parsed.trees_of terms.now)) (tree node.new)) }
     {
         let nodes = self.terms(terms, scope)?;
         line_up(nodes, scope.backward, node);
@@ -348,15 +347,9 @@ impl<'t> Lowering<'t> {
     /// Lowers alternatives ("Disjunction"); of none it is the empty text.
     #[cycle(lowering)]
     #[inline(never)]
-    fn disjunction(
-        &mut self,
-        arms: &[Syntax],
-        scope: &Scope,
-        node: &mut Node,
-    ) -> Result<(), AllocError>
+    fn disjunction(&self, arms: &[Syntax], scope: &Scope, node: &mut Node) -> Result<(), AllocError>
         requires { All IsLowerable (map parsed.tree arms.now) }
-        ensures ok { OnOk result (LowersInScope self.old scope.now (choice_of (map parsed.tree arms.now)) (tree node.new) self.new) }
-        ensures kept { IsSamePattern self.old self.new }
+        ensures { OnOk result (LowersInScope self.now scope.now (in_turn (map opens arms.now)) (choice_of (map parsed.tree arms.now)) (tree node.new)) }
     {
         if arms.is_empty() {
             clear(node);
@@ -366,11 +359,11 @@ impl<'t> Lowering<'t> {
         choose(self.alloc, nodes, node)
     }
 
-    /// Lowers a capturing group, which counts as opened before its contents.
+    /// Lowers a capturing group.
     #[cycle(lowering)]
     #[inline(never)]
     fn capture(
-        &mut self,
+        &self,
         id: CaptureGroupID,
         name: &Option<CaptureGroupName>,
         contents: &Syntax,
@@ -378,10 +371,9 @@ impl<'t> Lowering<'t> {
         node: &mut Node,
     ) -> Result<(), AllocError>
         requires { IsLowerable (meaning.capture id (option_map code_points_of name.now) (parsed.tree contents.now)) }
-        ensures ok { OnOk result (LowersInScope self.old scope.now (meaning.capture id (option_map code_points_of name.now) (parsed.tree contents.now)) (tree node.new) self.new) }
-        ensures kept { IsSamePattern self.old self.new }
+        ensures { OnOk result (LowersInScope self.now scope.now (λ k. opens contents.now (suc k))
+            (meaning.capture id (option_map code_points_of name.now) (parsed.tree contents.now)) (tree node.new)) }
     {
-        self.groups = self.groups.saturating_add(1);
         self.lower(contents, scope, node)?;
         capture(self.alloc, id, name, node)
     }
@@ -390,7 +382,7 @@ impl<'t> Lowering<'t> {
     #[cycle(lowering)]
     #[inline(never)]
     fn repetition(
-        &mut self,
+        &self,
         loopee: &Syntax,
         quant: &Quantifier,
         groups: &Range<CaptureGroupID>,
@@ -398,69 +390,61 @@ impl<'t> Lowering<'t> {
         node: &mut Node,
     ) -> Result<(), AllocError>
         requires { IsLowerable (parsed.tree loopee.now) }
-        ensures ok { OnOk result (LowersInScope self.old scope.now
+        ensures { OnOk result (LowersInScope self.now scope.now (opens loopee.now)
             (meaning.repeated (parsed.tree loopee.now) groups.now.start groups.now.end quant.now.min (most quant.now) quant.now.greedy)
-            (tree node.new) self.new) }
-        ensures kept { IsSamePattern self.old self.new }
+            (tree node.new)) }
     {
         self.lower(loopee, scope, node)?;
         repeat(self.alloc, quant, groups, node)
     }
 
-    /// Lowers a lookaround. The groups inside are those that its contents open.
+    /// Lowers a lookaround.
     #[cycle(lowering)]
     #[inline(never)]
     fn lookaround(
-        &mut self,
+        &self,
         negate: bool,
         backwards: bool,
+        groups: &Range<CaptureGroupID>,
         contents: &Syntax,
         scope: &Scope,
         node: &mut Node,
     ) -> Result<(), AllocError>
         requires { IsLowerable (parsed.tree contents.now) }
-        ensures ok { OnOk result (LowersInScope self.old scope.now
-            (meaning.look negate backwards (parsed.tree contents.now)) (tree node.new) self.new) }
-        ensures kept { IsSamePattern self.old self.new }
+        ensures { OnOk result (LowersInScope self.now scope.now (with_range groups.now.start groups.now.end (opens contents.now))
+            (meaning.look negate backwards (parsed.tree contents.now)) (tree node.new)) }
     {
-        let start_group = self.groups;
         let inside = Scope {
             backward: backwards,
             ..*scope
         };
         self.lower(contents, &inside, node)?;
-        look(
-            self.alloc,
-            negate,
-            backwards,
-            start_group..self.groups,
-            node,
-        )
+        look(self.alloc, negate, backwards, groups, node)
     }
 
-    /// Lowers an atomic group. The groups inside are those that its contents open.
+    /// Lowers an atomic group.
     #[cycle(lowering)]
     #[inline(never)]
     fn atomic_group(
-        &mut self,
+        &self,
+        groups: &Range<CaptureGroupID>,
         contents: &Syntax,
         scope: &Scope,
         node: &mut Node,
     ) -> Result<(), AllocError>
         requires { IsLowerable (parsed.tree contents.now) }
-        ensures ok { OnOk result (LowersInScope self.old scope.now (meaning.atomic (parsed.tree contents.now)) (tree node.new) self.new) }
-        ensures kept { IsSamePattern self.old self.new }
+        ensures { OnOk result (LowersInScope self.now scope.now (with_range groups.now.start groups.now.end (opens contents.now))
+            (meaning.atomic (parsed.tree contents.now)) (tree node.new)) }
     {
-        let start_group = self.groups;
         self.lower(contents, scope, node)?;
-        atomic(self.alloc, start_group..self.groups, node)
+        atomic(self.alloc, groups, node)
     }
 
     /// Lowers a character.
     #[inline(never)]
     fn character(&self, point: CodePoint, scope: &Scope, node: &mut Node) -> Result<(), AllocError>
         requires { is_code_point point }
-        ensures { OnOk result (LowersInScope self.now scope.now (meaning.character point) (tree node.new) self.now) }
+        ensures { OnOk result (LowersAlone self.now scope.now (meaning.character point) (tree node.new)) }
     {
         *node = character_node(self.alloc, self.tables, self.unicode, scope.icase, point)?;
         Ok(())
@@ -469,7 +453,7 @@ impl<'t> Lowering<'t> {
     /// Lowers `.`.
     #[inline(never)]
     fn any(&self, scope: &Scope, node: &mut Node) -> Result<(), AllocError>
-        ensures { OnOk result (LowersInScope self.now scope.now meaning.any (tree node.new) self.now) }
+        ensures { OnOk result (LowersAlone self.now scope.now meaning.any (tree node.new)) }
     {
         if scope.dot_all {
             *node = Node::MatchAny;
@@ -489,7 +473,7 @@ impl<'t> Lowering<'t> {
         node: &mut Node,
     ) -> Result<(), AllocError>
         requires { ClassIsOfPoints (class_view class.now) }
-        ensures { OnOk result (LowersInScope self.now scope.now (meaning.class negated (class_view class.now)) (tree node.new) self.now) }
+        ensures { OnOk result (LowersAlone self.now scope.now (meaning.class negated (class_view class.now)) (tree node.new)) }
     {
         if negated {
             let outside = negated_class_node(
@@ -511,7 +495,7 @@ impl<'t> Lowering<'t> {
     #[inline(never)]
     fn class_escape(&self, class: &Class, scope: &Scope, node: &mut Node) -> Result<(), AllocError>
         requires { ClassIsOfPoints (class_view class.now) }
-        ensures { OnOk result (LowersInScope self.now scope.now (meaning.class_escape (class_view class.now)) (tree node.new) self.now) }
+        ensures { OnOk result (LowersAlone self.now scope.now (meaning.class_escape (class_view class.now)) (tree node.new)) }
     {
         *node = class_node(self.alloc, self.tables, self.unicode, scope.icase, class)?;
         Ok(())
@@ -520,7 +504,7 @@ impl<'t> Lowering<'t> {
     /// Lowers a reference: of each group one, the numbers of the nodes from 1.
     #[inline(never)]
     fn reference(&self, groups: &[u16], scope: &Scope, node: &mut Node) -> Result<(), AllocError>
-        ensures { OnOk result (LowersInScope self.now scope.now (meaning.reference groups.now) (tree node.new) self.now) }
+        ensures { OnOk result (LowersAlone self.now scope.now (meaning.reference groups.now) (tree node.new)) }
     {
         let mut nodes = Vec::new(self.alloc);
         for group in groups {
@@ -553,7 +537,7 @@ impl<'t> Lowering<'t> {
     /// Lowers a boundary of words.
     #[inline(never)]
     fn word_boundary(&self, negated: bool, scope: &Scope, node: &mut Node) -> Result<(), AllocError>
-        ensures { OnOk result (LowersInScope self.now scope.now (meaning.word_boundary negated) (tree node.new) self.now) }
+        ensures { OnOk result (LowersAlone self.now scope.now (meaning.word_boundary negated) (tree node.new)) }
     {
         *node = Node::WordBoundary {
             invert: negated,

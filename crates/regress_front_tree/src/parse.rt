@@ -58,7 +58,7 @@ pub fn try_parse<'u>(
     lowered_trees_are_alike();
     whole_trees_are_well_formed();
     let parsed = parse(alloc, pattern, flags, tables)?;
-    let mut lowering = Lowering::new(alloc, tables, flags.is_unicode());
+    let lowering = Lowering::new(alloc, tables, flags.is_unicode());
     let mut node = Node::Empty;
     lowering.lower(&parsed.syntax, &first_scope(flags), &mut node)?;
     Ok(Regex {

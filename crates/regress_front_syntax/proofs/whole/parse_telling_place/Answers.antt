@@ -12,7 +12,7 @@ returns-in-Ok-pattern-clause-accepted c =
     let o = options c.args.flags in
     let t = c.args.points.now in
     let s = c.in-Ok-pattern.syntax in
-    spelled tb o t (c.reading_decides_the_grammar.ensures tb o t) s (answer-moved _ _ _ t (Ok s) c.new-parser.ensures.text c.in-Ok.ensures.mode c.in-Ok-pattern.ensures)
+    spelled tb o t (c.reading_decides_the_grammar.ensures tb o t) s (answer-moved _ _ _ t (Ok s) c.new-parser.ensures.text c.in-Ok.ensures.mode c.in-Ok-pattern.ensures.answer)
 
 pub returns-in-Ok-pattern-clause-named : goal.returns-in-Ok-pattern-clause-named
 returns-in-Ok-pattern-clause-named c =
@@ -21,10 +21,13 @@ returns-in-Ok-pattern-clause-named c =
     let accepted = returns-in-Ok-pattern-clause-accepted c in
     ap (λ (m : Mode). m.names) c.in-Ok.ensures.mode ∙ c.names_are_found_by_a_scan.ensures tb o c.args.points.now (tree c.in-Ok-pattern.syntax) accepted.0
 
+pub returns-in-Ok-pattern-clause-ranges : goal.returns-in-Ok-pattern-clause-ranges
+returns-in-Ok-pattern-clause-ranges c = c.in-Ok-pattern.ensures.ranges
+
 pub returns-in-Err-pattern-clause-refused : goal.returns-in-Err-pattern-clause-refused
 returns-in-Err-pattern-clause-refused c =
     let tb = table c.args.tables.now in
     let o = options c.args.flags in
     let t = c.args.points.now in
     let e = c.in-Err-pattern.error in
-    refused tb o t (c.reading_decides_the_grammar.ensures tb o t) e (answer-moved _ _ _ t (Err e) c.new-parser.ensures.text c.in-Ok.ensures.mode c.in-Err-pattern.ensures)
+    refused tb o t (c.reading_decides_the_grammar.ensures tb o t) e (answer-moved _ _ _ t (Err e) c.new-parser.ensures.text c.in-Ok.ensures.mode c.in-Err-pattern.ensures.answer)

@@ -34,10 +34,11 @@ returns-clause-accepted c =
     let p = parsed.tree c.in_ok-parsed.parsed.syntax in
     let t = tree c.lower.new.node in
     let (spelled, within) = c.in_ok-parsed.ensures.accepted in
-    let lowered : Lowers (table c.args.tables.now) (is_unicode o) false (first_settings o) 0 p t c.lower.new.self.groups =
-    rw (c.first_scope.ensures.backward, c.first_scope.ensures.settings, c.new-lowering.ensures.groups, c.new-lowering.ensures.tables, c.new-lowering.ensures.unicode, c.is_unicode.ensures) at c.in_ok-lower.ensures.ok in
-    let whole = c.whole_trees_are_well_formed.ensures (table c.args.tables.now) o c.args.pattern.now p t c.lower.new.self.groups spelled within lowered in
-    let alike = c.lowered_trees_are_alike.ensures (table c.args.tables.now) (is_unicode o) false (first_settings o) 0 p t c.lower.new.self.groups lowered in
+    let (last, ranges) = c.in_ok-parsed.ensures.ranges in
+    let lowered : Lowers (table c.args.tables.now) (is_unicode o) false (first_settings o) 0 p t last =
+    rw (c.first_scope.ensures.backward, c.first_scope.ensures.settings, c.new-lowering.ensures.tables, c.new-lowering.ensures.unicode, c.is_unicode.ensures) at c.in_ok-lower.ensures 0 last ranges in
+    let whole = c.whole_trees_are_well_formed.ensures (table c.args.tables.now) o c.args.pattern.now p t last spelled within lowered in
+    let alike = c.lowered_trees_are_alike.ensures (table c.args.tables.now) (is_unicode o) false (first_settings o) 0 p t last lowered in
     let same : tree (Cat c.in_ok-vec.field-0) ≡ cat_of (t ∷ goal ∷ []) =
     tree-Cat c.in_ok-vec.field-0 ∙ ap (λ (ns : List Node). cat_of (map tree ns)) c.in_ok-vec.ensures.items ∙ ap (λ (u : Tree). cat_of (t ∷ u ∷ [])) tree-Goal in (
       p,

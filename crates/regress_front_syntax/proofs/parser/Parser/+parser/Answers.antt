@@ -1,5 +1,5 @@
 use Rattle.std.proofs.lemmas.List.{map-append}
-use Rattle.std.proofs.lemmas.Result.{err_from_is_err_and}
+use Rattle.std.proofs.lemmas.Result.{IfOk-weaker, err_from_is_err_and}
 use Rattle.std.proofs.Common.{◌≡◌, suc, ◌+◌, [], ◌∷◌, length, drop, map, Some, refl, sym, ap, subst, ◌∙◌, length-drop, arith}
 use Rattle.regress_meaning.specs.Pattern.{sequence, choice, nothing}
 use Rattle.regress_meaning.specs.Reading.{disjunction_at, alternative_at, read_term, parenthesis_opening}
@@ -7,9 +7,12 @@ use Rattle.regress_front_tokens.specs.Cursors.{unread}
 use Rattle.regress_front_tokens.specs.Escapes.{mode_view}
 use Rattle.regress_front_tokens.specs.declared.syntax.Syntax.TheVariants.{Alternative}
 use Rattle.regress_front_tokens.specs.Trees.{tree, trees_of, choice_of}
+use Rattle.regress_front_tokens.specs.Ranges.{in_turn, opens, parts_of}
 use Rattle.regress_front_syntax.specs.Openings.{opened_by}
 use Rattle.regress_front_syntax.specs.Parsing.{Place, Grows, IsRefusal, front_to, place, place_behind, contents_of}
 use Rattle.regress_front_tokens.proofs.TreeLaws.{tree-Alternative, tree-Disjunction}
+use Rattle.regress_front_tokens.proofs.RangeLemmas.{in_turn-push, opens-Disjunction}
+use Rattle.regress_front_syntax.proofs.RangeSteps.{arm-opened}
 use Rattle.regress_front_syntax.proofs.AnswerLemmas.{at, answer_same, refused_within, Leads_refl, Leads_drop}
 use Rattle.regress_front_syntax.proofs.LoopLemmas.{sequence_of-before, choice_of-before, sequence_joins, choice_joins, loop_begins, loop-within, loop_goes_on, loop_ends}
 use Rattle.regress_front_syntax.proofs.StepLemmas.{nothing-grows, arm-goes_on, arm-ends, arm-within, term-within, term-goes_on, alternative-ends, contents-closed, contents-open, contents-within, closed-grows}
@@ -48,6 +51,7 @@ pub alternative-loop-self-init : goal.alternative-loop-self-init
 alternative-loop-self-init t c = record {
   progress = omega arith;
   state = rw c.new-terms.ensures.items (loop_begins sequence (alternative_at (mode_view c.args.mode.now)) (place c.args.nesting c.args.self.now));
+  ranges = ap (λ ts. in_turn (parts_of ts) c.args.self.now.groups) c.new-terms.ensures.items;
 }
 
 pub alternative-loop-self-preserved : goal.alternative-loop-self-preserved
@@ -63,7 +67,12 @@ alternative-loop-self-preserved t c =
           let goes_on = sym c.loop-self-test.ensures in
           let state = loop_goes_on sequence sequence_joins (alternative_at m) (tree c.in-Ok.term) c.loop-self.invariant.state grows
           (term-goes_on m (c.reading_goes_by_steps.ensures m c.requires.coherent) now there (tree c.in-Ok.term) goes_on read) refl refl refl (Leads_refl there) in
-          rw c.in_ok-push-in-Ok.ensures state;
+          rw c.in_ok-push-in-Ok.ensures.trees state;
+      ranges =
+          let k = c.args.self.now.groups in
+          ap (λ fs. in_turn fs k) c.in_ok-push-in-Ok.ensures.parts
+          ∙ in_turn-push (parts_of c.loop-self.terms.items) (opens c.in-Ok.term) k c.loop-self.self.groups c.term.new.self.groups
+          c.loop-self.invariant.ranges (rw c.in-Ok.is at c.term.ensures.ranges);
     }
 
 pub alternative-loop-self-smaller : goal.alternative-loop-self-smaller
@@ -87,12 +96,16 @@ alternative-returns-clause-answer t c =
     rw made (loop_ends sequence sequence_joins (alternative_at m) nothing c.loop-self.invariant.state (nothing-grows now c.requires.shallow)
     (alternative-ends m (c.reading_goes_by_steps.ensures m c.requires.coherent) now ends))
 
+pub alternative-returns-clause-ranges : goal.alternative-returns-clause-ranges
+alternative-returns-clause-ranges t c = c.loop-self.invariant.ranges
+
 -- disjunctions
 
 pub disjunction-loop-arms-init : goal.disjunction-loop-arms-init
 disjunction-loop-arms-init t c = record {
   progress = omega arith;
   state = rw c.new-arms.ensures.items (loop_begins choice (disjunction_at (mode_view c.args.mode.now)) (place c.args.nesting c.args.self.now));
+  ranges = ap (λ ss. in_turn (map opens ss) c.args.self.now.groups) c.new-arms.ensures.items;
 }
 
 pub disjunction-loop-arms-preserved : goal.disjunction-loop-arms-preserved
@@ -109,6 +122,8 @@ disjunction-loop-arms-preserved t c = record {
       (arm-goes_on m (c.reading_goes_by_steps.ensures m c.requires.coherent) now there (tree (Alternative c.in_ok-terms.terms)) read bar) refl refl refl
       (Leads_drop c.args.nesting c.alternative.new.self.groups c.alternative.new.self.loops (unread c.alternative.new.self.cursor)) in
       rw (c.if-not-eat.ensures.read, c.in_ok-push_alternative.ensures, map-append) state;
+  ranges = arm-opened c.loop-arms.arms.items c.push_alternative.new.arms.items c.in_ok-terms.terms c.args.self.now.groups c.loop-arms.self.groups c.alternative.new.self.groups
+      c.in_ok-push_alternative.ensures c.loop-arms.invariant.ranges c.in_ok-terms.ensures.ranges;
 }
 
 pub disjunction-returns-in_err-terms-clause-answer : goal.disjunction-returns-in_err-terms-clause-answer
@@ -130,6 +145,13 @@ disjunction-returns-clause-answer t c =
     ∙ choice_of-before (map tree c.loop-arms.arms.items) (tree (Alternative c.in_ok-terms.terms)) in
     rw (c.in_ok-boxed_disjunction.ensures, made, c.if-not-eat.ensures.read) (loop_ends choice choice_joins (disjunction_at m) (tree (Alternative c.in_ok-terms.terms)) c.loop-arms.invariant.state grows
     (arm-ends m (c.reading_goes_by_steps.ensures m c.requires.coherent) now there (tree (Alternative c.in_ok-terms.terms)) read (sym c.if-not-eat.ensures.found)))
+
+pub disjunction-returns-clause-ranges : goal.disjunction-returns-clause-ranges
+disjunction-returns-clause-ranges t c =
+    let k = c.args.self.now.groups in
+    ap (λ s. opens s k) c.in_ok-boxed_disjunction.ensures ∙ ap (λ f. f k) (opens-Disjunction c.push_alternative.new.arms)
+    ∙ arm-opened c.loop-arms.arms.items c.push_alternative.new.arms.items c.in_ok-terms.terms k c.loop-arms.self.groups c.alternative.new.self.groups
+    c.in_ok-push_alternative.ensures c.loop-arms.invariant.ranges c.in_ok-terms.ensures.ranges
 
 -- terms
 
@@ -206,3 +228,8 @@ group-returns-clause-answer t c =
     let grown = group-grows m (parenthesis_opening m (unread c.args.self.now.cursor)) o n k r text u c.in_ok-opening.ensures.read leads end p found grows one in
     answer_same (place_behind 0x28 n c.args.self.now) (place n c.close.new.self) _ _ c.close.result whole
     (c.close.ensures.answer n (place_behind 0x28 n c.args.self.now) grown)
+
+pub group-returns-clause-ranges : goal.group-returns-clause-ranges
+group-returns-clause-ranges t c =
+    let inner = ap (opens c.in_ok-contents.contents.value) (sym c.in_ok-open.ensures.opened) ∙ c.in_ok-contents.ensures.ranges in
+    IfOk-weaker c.close.result _ _ (λ s whole. whole inner) c.close.ensures.ranges

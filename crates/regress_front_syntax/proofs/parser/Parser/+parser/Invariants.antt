@@ -1,9 +1,10 @@
-use Rattle.std.proofs.Common.{◌+◌, ◌-◌, ◌*◌, ◌≤◌, length, map}
+use Rattle.std.proofs.Common.{◌≡◌, ◌+◌, ◌-◌, ◌*◌, ◌≤◌, Some, length, map}
 use Rattle.regress_meaning.specs.Pattern.{sequence, choice}
 use Rattle.regress_meaning.specs.Reading.{disjunction_at, alternative_at}
 use Rattle.regress_front_tokens.specs.Cursors.{unread}
 use Rattle.regress_front_tokens.specs.Escapes.{mode_view}
 use Rattle.regress_front_tokens.specs.Trees.{tree, trees_of}
+use Rattle.regress_front_tokens.specs.Ranges.{in_turn, opens, parts_of}
 use Rattle.regress_front_syntax.specs.Parsing.{place}
 use Rattle.regress_front_syntax.proofs.LoopLemmas.{LoopState}
 use Rattle.regress_front_syntax.proofs.parser.Parser.+parser.Given as goal
@@ -29,6 +30,7 @@ abbrev pub invariant-alternative-loop-self : goal.invariant-alternative-loop-sel
 invariant-alternative-loop-self l = record {
   progress : length (unread l.self.cursor) ≤ length (unread l.fn.self.cursor);
   state : LoopState sequence (alternative_at (mode_view l.mode)) (place l.nesting l.fn.self) (place l.nesting l.self) (trees_of l.terms.items);
+  ranges : in_turn (parts_of l.terms.items) l.fn.self.groups ≡ Some l.self.groups;
 }
 
 abbrev pub decreases-alternative-loop-self : goal.decreases-alternative-loop-self
@@ -39,6 +41,7 @@ abbrev pub invariant-disjunction-loop-arms : goal.invariant-disjunction-loop-arm
 invariant-disjunction-loop-arms l = record {
   progress : length (unread l.self.cursor) ≤ length (unread l.fn.self.cursor);
   state : LoopState choice (disjunction_at (mode_view l.mode)) (place l.nesting l.fn.self) (place l.nesting l.self) (map tree l.arms.items);
+  ranges : in_turn (map opens l.arms.items) l.fn.self.groups ≡ Some l.self.groups;
 }
 
 abbrev pub decreases-disjunction-loop-arms : goal.decreases-disjunction-loop-arms

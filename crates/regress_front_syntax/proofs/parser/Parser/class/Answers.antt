@@ -1,4 +1,4 @@
-use Rattle.std.proofs.Common.{◌∷◌, refl}
+use Rattle.std.proofs.Common.{◌∷◌, refl, ap}
 use Rattle.std.proofs.lemmas.Result.{err_from_is_err_and}
 use Rattle.regress_meaning.specs.Pattern.{class}
 use Rattle.regress_front_tokens.specs.Cursors.{unread}
@@ -6,6 +6,7 @@ use Rattle.regress_front_tokens.specs.Escapes.{mode_view}
 use Rattle.regress_front_tokens.specs.Trees.{class_view}
 use Rattle.regress_front_syntax.specs.Parsing.{place}
 use Rattle.regress_front_tokens.proofs.TreeLaws.{tree-Class}
+use Rattle.regress_front_tokens.proofs.RangeLemmas.{opens-Class}
 use Rattle.regress_front_syntax.proofs.MarkLemmas.{Leads_behind}
 use Rattle.regress_front_syntax.proofs.TermLemmas.{progress-through, single-answer, class-read, class-refused, class-grows, class_opening-less}
 use Rattle.regress_front_syntax.proofs.parser.Parser.class.Goals as goal
@@ -35,3 +36,8 @@ pub returns-clause-progress : goal.returns-clause-progress
 returns-clause-progress c =
     let m = mode_view c.args.mode.now in
     progress-through c.repeated.result _ _ _ (class_opening-less m (unread c.args.self.now.cursor) _ (unread c.bracketed_class.new.cursor) (c.reading_leaves_less.ensures m) c.in_ok-negated.ensures.read.0) c.repeated.ensures.progress
+
+pub returns-clause-ranges : goal.returns-clause-ranges
+returns-clause-ranges c =
+    let k = c.args.self.now.groups in
+    IfOk-weaker c.repeated.result _ _ (λ s more. more k (ap (λ f. f k) (opens-Class c.in_ok-negated.negated c.in_ok-negated.class))) c.repeated.ensures.ranges

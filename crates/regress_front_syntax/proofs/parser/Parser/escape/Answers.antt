@@ -7,6 +7,7 @@ use Rattle.regress_front_tokens.specs.Cursors.{unread}
 use Rattle.regress_front_tokens.specs.Escapes.{mode_view, escape_view}
 use Rattle.regress_front_syntax.specs.Parsing.{place}
 use Rattle.regress_front_tokens.proofs.TreeLaws.{tree-WordBoundary}
+use Rattle.regress_front_tokens.proofs.RangeLemmas.{opens-WordBoundary}
 use Rattle.regress_front_syntax.proofs.MarkLemmas.{Leads_further}
 use Rattle.regress_front_syntax.proofs.TermLemmas.{progress-through, tree_of-leaf, leaf-grows, assertion-answer, single-answer, boundary-read, escape-read, escape-refused}
 use Rattle.regress_front_syntax.proofs.parser.Parser.escape.Goals as goal
@@ -37,10 +38,18 @@ returns-clause-answer c = λ nesting shallow.
     let less = (c.reading_leaves_less.ensures m t).escape e u c.in_ok-escape.ensures.read in
     let leads = Leads_further c.args.self.now.cursor c.escape.new.self c.in_ok-escape.ensures.kept nesting k r (omega arith) in
     single-answer nesting k r t u _ (place nesting c.repeated.new.self) (tree_of e) _ _ c.repeated.result (leaf-grows nesting k r t u (tree_of e) (tree_of-leaf e) shallow leads)
-    (escape-read m k t e u (sym c.if-is_at_any.ensures) c.in_ok-escape.ensures.read) c.tree_of.ensures refl refl refl refl (c.repeated.ensures.answer nesting)
+    (escape-read m k t e u (sym c.if-is_at_any.ensures) c.in_ok-escape.ensures.read) c.tree_of.ensures.same refl refl refl refl (c.repeated.ensures.answer nesting)
 
 pub returns-clause-progress : goal.returns-clause-progress
 returns-clause-progress c =
     let m = mode_view c.args.mode.now in
     let less = (c.reading_leaves_less.ensures m (unread c.args.self.now.cursor)).escape (escape_view c.in_ok-escape.escape) (unread c.escape.new.self) c.in_ok-escape.ensures.read in
     progress-through c.repeated.result _ _ _ (omega arith) c.repeated.ensures.progress
+
+pub returns-then-is_at_any-clause-ranges : goal.returns-then-is_at_any-clause-ranges
+returns-then-is_at_any-clause-ranges c = ap (λ f. f c.args.self.now.groups) (opens-WordBoundary c.is_at-negated.result)
+
+pub returns-clause-ranges : goal.returns-clause-ranges
+returns-clause-ranges c =
+    let k = c.args.self.now.groups in
+    IfOk-weaker c.repeated.result _ _ (λ s more. more k (ap (λ f. f k) c.tree_of.ensures.ranges)) c.repeated.ensures.ranges

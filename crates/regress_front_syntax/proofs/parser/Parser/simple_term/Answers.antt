@@ -6,6 +6,7 @@ use Rattle.regress_front_tokens.specs.Cursors.{unread}
 use Rattle.regress_front_tokens.specs.Escapes.{mode_view}
 use Rattle.regress_front_syntax.specs.Parsing.{place, character_opening}
 use Rattle.regress_front_tokens.proofs.TreeLaws.{tree-Any, tree-LineStart, tree-LineEnd}
+use Rattle.regress_front_tokens.proofs.RangeLemmas.{opens-Any, opens-LineStart, opens-LineEnd}
 use Rattle.regress_front_syntax.proofs.AnswerLemmas.{at, answer_there, answer_same, Leads_drop}
 use Rattle.regress_front_syntax.proofs.TermLemmas.{leaf-grows, assertion-answer, single-answer, answer_behind, mark-stands, start-read, end-read, dot-read, backslash-read, bracket-read, other-read}
 use Rattle.regress_front_syntax.proofs.parser.Parser.simple_term.Goals as goal
@@ -83,3 +84,14 @@ returns-clause-answer c =
     (other-read m k t c.requires.no_group (sym c.if-eat.ensures.found) (ap (is_at (λ x. x == 0x24)) (sym one) ∙ sym c.if-eat-2.ensures.found) (ap (is_at (λ x. x == 0x5C)) (sym two) ∙ sym c.if-eat-3.ensures.found)
     (ap (is_at (λ x. x == 0x2E)) (sym three) ∙ sym c.if-eat-4.ensures.found) (ap (is_at (λ x. x == 0x5B)) (sym four) ∙ sym c.if-eat-5.ensures.found))
     (rw five at c.character.ensures.answer n c.requires.shallow)
+
+pub returns-then-eat-clause-ranges : goal.returns-then-eat-clause-ranges
+returns-then-eat-clause-ranges c = ap (λ f. f c.args.self.now.groups) opens-LineStart
+
+pub returns-then-eat-2-clause-ranges : goal.returns-then-eat-2-clause-ranges
+returns-then-eat-2-clause-ranges c = ap (λ f. f c.args.self.now.groups) opens-LineEnd
+
+pub returns-then-eat-4-clause-ranges : goal.returns-then-eat-4-clause-ranges
+returns-then-eat-4-clause-ranges c =
+    let k = c.args.self.now.groups in
+    IfOk-weaker c.repeated.result _ _ (λ s more. more k (ap (λ f. f k) opens-Any)) c.repeated.ensures.ranges

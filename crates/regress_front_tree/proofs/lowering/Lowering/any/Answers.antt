@@ -4,7 +4,7 @@ use Rattle.regress_front_tree.proofs.LoweringLemmas.{Takes-any, Takes-any_in_lin
 use Rattle.regress_front_tree.proofs.lowering.Lowering.any.Goals as goal
 
 pub returns-then-scope : goal.returns-then-scope
-returns-then-scope c = rw tree-MatchAny (of_any (Takes-any c.args.scope.now.dot_all c.if-scope.true))
+returns-then-scope c = rw tree-MatchAny (λ k. of_any (Takes-any c.args.scope.now.dot_all c.if-scope.true))
 
 pub returns-else-scope : goal.returns-else-scope
-returns-else-scope c = rw tree-MatchAnyExceptLineTerminator (of_any (Takes-any_in_line c.args.scope.now.dot_all c.if-scope.false))
+returns-else-scope c = rw tree-MatchAnyExceptLineTerminator (λ k. of_any (Takes-any_in_line c.args.scope.now.dot_all c.if-scope.false))

@@ -4,4 +4,4 @@ use Rattle.regress_front_tree.specs.Lowering.{of_character}
 use Rattle.regress_front_tree.proofs.lowering.Lowering.character.Goals as goal
 
 pub returns : goal.returns
-returns c = of_character (c.in_ok-node.ensures (settings_of c.args.scope.now) refl)
+returns c = λ k. of_character (c.in_ok-node.ensures (settings_of c.args.scope.now) refl)

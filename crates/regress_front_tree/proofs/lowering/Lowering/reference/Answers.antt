@@ -19,4 +19,4 @@ returns c =
     let groups = c.args.groups.now in
     let node : ℕ → Tree = λ j. back (j + 1) scope.icase in
     let nodes = c.loop-group.invariant ∙ ap (map node) (take_all c.loop-group.group-index groups (omega arith)) in
-    rw (c.sequence.ensures, nodes, ← in_reading_order-map node scope.backward groups) of_reference
+    rw (c.sequence.ensures, nodes, ← in_reading_order-map node scope.backward groups) (λ k. of_reference)
