@@ -8,7 +8,7 @@ use Rattle.regress_engine_code.specs.Instructions.{Instruction, Program, Stands}
 use Rattle.regress_engine_code.specs.Instructions as code
 use Rattle.regress_engine_runs.specs.States.{Whole, onward}
 use Rattle.regress_engine_runs.specs.Runs.{successors, is_plain}
-use Rattle.regress_engine_runs.specs.UndoStack.{Work, outermost, inside, first_do}
+use Rattle.regress_engine_runs.specs.UndoStack.{Work, outermost, inside, trying, first_do}
 use Rattle.regress_engine_sought.specs.Tasks.{Leads}
 use Rattle.regress_engine_sought.specs.Submatches.{submatch_of, is_negated, reads_forward}
 use Rattle.regress_engine_sought.proofs.SubmatchLemmas.{way-submatch, after-none}
@@ -21,10 +21,12 @@ use Rattle.regress_engine_copying.specs.Tasks.{work_of, task_of}
 first_do-one : (s : Whole) (ss : List Whole) (w : Work) → first_do (s ∷ []) (first_do ss w) ≡ first_do (s ∷ ss) w
 first_do-one s ss (outermost ts) = refl
 first_do-one s ss (inside ts f u rest) = refl
+first_do-one s ss (trying ts t rest) = refl
 
 first_do-none : (w : Work) → w ≡ first_do [] w
 first_do-none (outermost ts) = refl
 first_do-none (inside ts f u rest) = refl
+first_do-none (trying ts t rest) = refl
 
 -- states on top are done first
 work-put : (ss : List Whole) (es : List Entry) → work_of (map tried ss ++ es) ≡ first_do ss (work_of es)

@@ -286,6 +286,7 @@ impl<'a, 'r, Input: CharInput> Attempt<'a, 'r, Input> {
                 Ok(going)
             }
             Undo::Submatch(frame) => Ok(exhaust(&frame, spot)),
+            Undo::Tried { .. } => Ok(false),
         }
     }
 

@@ -3,8 +3,11 @@ pub mod RunLemmas
 pub mod RunViews
 pub mod Computed
 pub mod OneAnswer
+pub mod Parts
 pub mod UndoLemmas
 pub mod ReadLemmas
+pub mod TriedLemmas
+pub mod TriedReads
 pub mod Leading
 pub mod Places
 pub mod Entering

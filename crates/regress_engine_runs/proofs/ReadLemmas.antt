@@ -11,13 +11,14 @@ use Rattle.regress_engine_runs.specs.Runs.{Runs, successors, is_plain, after_sub
 use Rattle.regress_engine_runs.specs.Runs as run
 use Rattle.regress_engine_runs.specs.Meets.{Meets, reads_character, ReadsPlaces}
 use Rattle.regress_engine_runs.specs.Meets as meets
-use Rattle.regress_engine_runs.specs.UndoStack.{Frame, Work, outermost, inside, first_do, ComesTo, meets_alone, meets_within, meets_outside, ReadOn}
+use Rattle.regress_engine_runs.specs.UndoStack.{Frame, Work, outermost, inside, trying, first_do, ComesTo, meets_alone, meets_within, meets_outside, meets_left, meets_tried, meets_failed, meets_succeeded, ReadOn}
 
 module _ (program : Program) (input : Input) where
   -- what is done first is come to
   comes_now : (dir : Direction) (s : Whole) (work : Work) → ComesTo program input dir (s ∷ []) work s
   comes_now dir s (outermost ts) = meets_alone meets.now
   comes_now dir s (inside ts f u rest) = meets_within meets.now
+  comes_now dir s (trying ts u rest) = meets_left meets.now
 
   -- what successors come to
   comes_on : (dir : Direction) (s : Whole) (work : Work) (i : Instruction) → Stands program s.at i → is_plain i ≡ true → (t : Whole)
@@ -25,6 +26,10 @@ module _ (program : Program) (input : Input) where
   comes_on dir s (outermost ts) i here plain t (meets_alone met) = meets_alone (meets.later here plain met)
   comes_on dir s (inside ts f u rest) i here plain t (meets_within met) = meets_within (meets.later here plain met)
   comes_on dir s (inside ts f u rest) i here plain t (meets_outside (n, answered) beyond) = meets_outside (suc n, run.goes here plain answered) beyond
+  comes_on dir s (trying ts u rest) i here plain t (meets_left met) = meets_left (meets.later here plain met)
+  comes_on dir s (trying ts u rest) i here plain t (meets_tried met) = meets_tried met
+  comes_on dir s (trying ts u rest) i here plain t (meets_failed (n, answered) beyond) = meets_failed (suc n, run.goes here plain answered) beyond
+  comes_on dir s (trying ts u rest) i here plain t (meets_succeeded (n, answered) beyond) = meets_succeeded (suc n, run.goes here plain answered) beyond
 
   -- states put off, and taken up again
   comes_first : (dir : Direction) (ss ts : List Whole) (work : Work) (t : Whole) → ComesTo program input dir (ss ++ ts) work t
@@ -33,6 +38,12 @@ module _ (program : Program) (input : Input) where
   comes_first dir ss ts (inside us f s rest) t (meets_within met) = meets_within (subst (λ xs. Meets program input dir xs t) (append_assoc ss ts us) met)
   comes_first dir ss ts (inside us f s rest) t (meets_outside {q = q} answered beyond) =
       meets_outside (subst (λ xs. Runs program input dir xs q) (append_assoc ss ts us) answered) beyond
+  comes_first dir ss ts (trying us u rest) t (meets_left met) = meets_left (subst (λ xs. Meets program input dir xs t) (append_assoc ss ts us) met)
+  comes_first dir ss ts (trying us u rest) t (meets_tried met) = meets_tried met
+  comes_first dir ss ts (trying us u rest) t (meets_failed answered beyond) =
+      meets_failed (subst (λ xs. Runs program input dir xs None) (append_assoc ss ts us) answered) beyond
+  comes_first dir ss ts (trying us u rest) t (meets_succeeded {w = w} answered beyond) =
+      meets_succeeded (subst (λ xs. Runs program input dir xs (Some w)) (append_assoc ss ts us) answered) beyond
 
   comes_later : (dir : Direction) (ss ts : List Whole) (work : Work) (t : Whole) → ComesTo program input dir ss (first_do ts work) t
       → ComesTo program input dir (ss ++ ts) work t
@@ -40,6 +51,12 @@ module _ (program : Program) (input : Input) where
   comes_later dir ss ts (inside us f s rest) t (meets_within met) = meets_within (subst (λ xs. Meets program input dir xs t) (sym (append_assoc ss ts us)) met)
   comes_later dir ss ts (inside us f s rest) t (meets_outside {q = q} answered beyond) =
       meets_outside (subst (λ xs. Runs program input dir xs q) (sym (append_assoc ss ts us)) answered) beyond
+  comes_later dir ss ts (trying us u rest) t (meets_left met) = meets_left (subst (λ xs. Meets program input dir xs t) (sym (append_assoc ss ts us)) met)
+  comes_later dir ss ts (trying us u rest) t (meets_tried met) = meets_tried met
+  comes_later dir ss ts (trying us u rest) t (meets_failed answered beyond) =
+      meets_failed (subst (λ xs. Runs program input dir xs None) (sym (append_assoc ss ts us)) answered) beyond
+  comes_later dir ss ts (trying us u rest) t (meets_succeeded {w = w} answered beyond) =
+      meets_succeeded (subst (λ xs. Runs program input dir xs (Some w)) (sym (append_assoc ss ts us)) answered) beyond
 
   -- the contents of a lookaround, and what follows it
   comes_pushed : (s : Whole) (work : Work) (f : Frame) → Stands program s.at (code.submatch f.kind f.first f.last f.continuation) → (t : Whole)
@@ -50,6 +67,13 @@ module _ (program : Program) (input : Input) where
   comes_pushed s (inside ts g u rest) f here t (meets_outside answered (meets_within met)) = meets_within (meets.behind here answered met)
   comes_pushed s (inside ts g u rest) f here t (meets_outside (n, answered) (meets_outside (k, more) beyond)) =
       meets_outside (suc (n + k), run.looks here answered more) beyond
+  comes_pushed s (trying ts u rest) f here t (meets_within met) = meets_left (meets.inside here met)
+  comes_pushed s (trying ts u rest) f here t (meets_outside answered (meets_left met)) = meets_left (meets.behind here answered met)
+  comes_pushed s (trying ts u rest) f here t (meets_outside answered (meets_tried met)) = meets_tried met
+  comes_pushed s (trying ts u rest) f here t (meets_outside (n, answered) (meets_failed (k, more) beyond)) =
+      meets_failed (suc (n + k), run.looks here answered more) beyond
+  comes_pushed s (trying ts u rest) f here t (meets_outside (n, answered) (meets_succeeded (k, more) beyond)) =
+      meets_succeeded (suc (n + k), run.looks here answered more) beyond
 
   module _ (reading : Reading) where
     -- The state that is first reads at a place, if it reads.

@@ -9,11 +9,12 @@ use Rattle.regress_engine_code.specs.Instructions.{Instruction, Program, Stands}
 use Rattle.regress_engine_code.specs.Instructions as code
 use Rattle.regress_engine_runs.specs.States.{Whole, Marks, onward}
 use Rattle.regress_engine_runs.specs.Runs.{against, gap, given_back, one_by_one, advance, Run, successors, is_plain, after_submatch}
-use Rattle.regress_engine_runs.specs.UndoStack.{MovesOn, give_back, take_on, whole, at_each, Frame, Undo, Work, outermost, inside, old_loop, old_group, first_do, stands_for, Comes, alone, within, steps_left}
+use Rattle.regress_engine_runs.specs.UndoStack.{MovesOn, give_back, take_on, whole, at_each, Frame, Undo, Work, outermost, inside, trying, old_loop, old_group, first_do, stands_for, Comes, alone, within, failed, succeeded, steps_left}
 use Rattle.regress_engine_runs.proofs.Computed.{runs-computed}
 use Rattle.regress_engine_runs.proofs.GivingBack.{back_to-end, given_back-more}
 use Rattle.regress_engine_runs.proofs.Stuck.{first_stands}
 use Rattle.regress_engine_runs.proofs.RunViews.{run_goes, run_none, run_found, run_looks}
+use Rattle.regress_engine_runs.proofs.Parts.{steps-answer}
 
 -- what is written is undone
 pub loop_undone : (loops : List (ℕ × ℕ)) (id : ℕ) (x : ℕ × ℕ) → slice_set (slice_set loops id x) id (get_or loops id (0, 0)) ≡ loops
@@ -23,6 +24,7 @@ loop_undone loops id x = set-set loops id x (get_or loops id (0, 0)) ∙ set-get
 first_do-both : (ss ts : List Whole) (work : Work) → first_do (ss ++ ts) work ≡ first_do ss (first_do ts work)
 first_do-both ss ts (outermost us) = ap outermost (append_assoc ss ts us)
 first_do-both ss ts (inside us f s rest) = ap (λ xs. inside xs f s rest) (append_assoc ss ts us)
+first_do-both ss ts (trying us t rest) = ap (λ xs. trying xs t rest) (append_assoc ss ts us)
 
 module _ (program : Program) (input : Input) (dir : Direction) (stack : List Undo) (loops : List (ℕ × ℕ)) (groups : List Marks) where
   -- so a record before a write keeps what the stack stands for
@@ -79,6 +81,8 @@ module _ (program : Program) (input : Input) where
       → (i : Instruction) × Stands program s.at i
   work_stands (alone run) = first_stands program input run
   work_stands (within same run outer) = first_stands program input run
+  work_stands (failed none run behind) = first_stands program input run
+  work_stands (succeeded some run behind) = first_stands program input run
 
   -- A plain step: the successors take the place of the state, and fewer steps are left.
   pub work_goes : {dir : Direction} {s : Whole} {work : Work} {n : ℕ} {r : Option Whole} (i : Instruction) → Stands program s.at i → is_plain i ≡ true
@@ -86,6 +90,10 @@ module _ (program : Program) (input : Input) where
   work_goes i here plain (alone run) = let k = run_goes program input i here plain run in (k.0, omega (arith, k.1), alone k.2)
   work_goes i here plain (within {n = n} same run outer) =
       let k = run_goes program input i here plain run in (k.0 + n, omega (arith, k.1), within same k.2 outer)
+  work_goes i here plain (failed {n = n} none run behind) =
+      let k = run_goes program input i here plain run in (k.0 + n, omega (arith, k.1), failed none k.2 behind)
+  work_goes i here plain (succeeded {n = n} some run behind) =
+      let k = run_goes program input i here plain run in (k.0 + n, omega (arith, k.1), succeeded some k.2 behind)
 
   -- what is to do first is done first
   pub work_first : {dir : Direction} (ss ts : List Whole) (work : Work) (n : ℕ) (r : Option Whole) → Comes program input dir ss (first_do ts work) n r
@@ -93,6 +101,10 @@ module _ (program : Program) (input : Input) where
   work_first {dir = dir} ss ts (outermost us) n r (alone run) = alone (subst (λ xs. Run program input dir xs n r) (sym (append_assoc ss ts us)) run)
   work_first {dir = dir} ss ts (inside us f s rest) n r (within {m = m} {q = q} same run outer) =
       within same (subst (λ xs. Run program input dir xs m q) (sym (append_assoc ss ts us)) run) outer
+  work_first {dir = dir} ss ts (trying us t rest) n r (failed {m = m} none run behind) =
+      failed none (subst (λ xs. Run program input dir xs m None) (sym (append_assoc ss ts us)) run) behind
+  work_first {dir = dir} ss ts (trying us t rest) n r (succeeded {w = w} {m = m} some run behind) =
+      succeeded some (subst (λ xs. Run program input dir xs m (Some w)) (sym (append_assoc ss ts us)) run) behind
 
   -- and states may be put off to be done first of what comes later
   pub work_later : {dir : Direction} (ss ts : List Whole) (work : Work) (n : ℕ) (r : Option Whole) → Comes program input dir (ss ++ ts) work n r
@@ -100,6 +112,10 @@ module _ (program : Program) (input : Input) where
   work_later {dir = dir} ss ts (outermost us) n r (alone run) = alone (subst (λ xs. Run program input dir xs n r) (append_assoc ss ts us) run)
   work_later {dir = dir} ss ts (inside us f s rest) n r (within {m = m} {q = q} same run outer) =
       within same (subst (λ xs. Run program input dir xs m q) (append_assoc ss ts us) run) outer
+  work_later {dir = dir} ss ts (trying us t rest) n r (failed {m = m} none run behind) =
+      failed none (subst (λ xs. Run program input dir xs m None) (append_assoc ss ts us) run) behind
+  work_later {dir = dir} ss ts (trying us t rest) n r (succeeded {w = w} {m = m} some run behind) =
+      succeeded some (subst (λ xs. Run program input dir xs m (Some w)) (append_assoc ss ts us) run) behind
 
   -- With nothing to be done there is no answer.
   pub all_exhausted : {dir : Direction} (n : ℕ) (r : Option Whole) → Comes program input dir [] (outermost []) n r → (n ≡ 0) × (r ≡ None)
@@ -144,6 +160,29 @@ module _ (program : Program) (input : Input) where
         omega (arith, count),
         within refl contents (subst (λ d. Comes program input d (after_submatch f.kind f.first f.last f.continuation s q) (inside ts g t rest) (k + l) r) same (within turned outer beyond)),
       )
+  frame_pushed s (trying ts t rest) n r f same here (failed {n = l} none run beyond) =
+      let (q, m, k, count, inner, outer) =
+      run_looks program input (code.submatch f.kind f.first f.last f.continuation) here refl (λ e. grind arith) run in
+      let contents = subst (λ d. Run program input (submatch_direction f.kind d) (onward s ∷ []) m q) same inner in (
+        m + (k + l),
+        omega (arith, count),
+        within refl contents (subst (λ d. Comes program input d (after_submatch f.kind f.first f.last f.continuation s q) (trying ts t rest) (k + l) r) same (failed none outer beyond)),
+      )
+  frame_pushed s (trying ts t rest) n r f same here (succeeded {n = l} some run beyond) =
+      let (q, m, k, count, inner, outer) =
+      run_looks program input (code.submatch f.kind f.first f.last f.continuation) here refl (λ e. grind arith) run in
+      let contents = subst (λ d. Run program input (submatch_direction f.kind d) (onward s ∷ []) m q) same inner in (
+        m + (k + l),
+        omega (arith, count),
+        within refl contents (subst (λ d. Comes program input d (after_submatch f.kind f.first f.last f.continuation s q) (trying ts t rest) (k + l) r) same (succeeded some outer beyond)),
+      )
+
+  -- those of what is tried, and of what goes on by its answer
+  abbrev steps-tried : ℕ → Direction → Work → ℕ × Option Whole → ℕ
+  steps-tried f dir rest x = x.0 + elim x.1 [
+    | None ↦ steps_left program input f dir [] rest
+    | Some w ↦ steps_left program input f dir (w ∷ []) rest - 1
+  ]
 
   -- what is computed is the number of steps
   pub steps-left : {dir : Direction} {ss : List Whole} {work : Work} {n : ℕ} {r : Option Whole} → Comes program input dir ss work n r → (f : ℕ) → n < f
@@ -154,3 +193,12 @@ module _ (program : Program) (input : Input) where
       ap (λ (o : Option (ℕ × Option Whole)). unwrap_or (option_map (λ (x : ℕ × Option Whole). x.0 + steps_left program input f g.outside
       (after_submatch g.kind g.first g.last g.continuation s x.1) rest) o) 0) (runs-computed program input run f (omega arith))
       ∙ ap (λ j. m + j) (steps-left outer f (omega arith))
+  steps-left {dir = dir} (failed {rest = rest} {m = m} {n = k} none run behind) f few =
+      ap (λ (o : Option (ℕ × Option Whole)). unwrap_or (option_map (steps-tried f dir rest) o) 0) (runs-computed program input run f (omega arith))
+      ∙ ap (λ j. m + j) (steps-left behind f (omega arith))
+  steps-left {dir = dir} (succeeded {w = w} {rest = rest} {m = m} {n = k} some run behind) f few =
+      let step = steps-answer program input run w refl in
+      let left = steps-left behind f (omega (arith, few, step)) in
+      let same : m + (suc k - 1) ≡ m + k = omega arith in
+      ap (λ (o : Option (ℕ × Option Whole)). unwrap_or (option_map (steps-tried f dir rest) o) 0) (runs-computed program input run f (omega arith))
+      ∙ ap (λ j. m + (j - 1)) left ∙ same

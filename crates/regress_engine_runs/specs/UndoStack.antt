@@ -1,5 +1,5 @@
 -- How one state and a stack of records stand for what a run has still to do.
-use Rattle.std.specs.Prelude.{◌≡◌, ℕ, ◌+◌, ◌-◌, ◌<◌, Bool, true, List, [], ◌∷◌, ◌++◌, Option, Some, None, option_map, unwrap_or, slice_get, slice_set, map}
+use Rattle.std.specs.Prelude.{◌≡◌, ℕ, suc, ◌+◌, ◌-◌, ◌<◌, Bool, true, List, [], ◌∷◌, ◌++◌, Option, Some, None, option_map, unwrap_or, slice_get, slice_set, map}
 use Rattle.regress_meaning.specs.Meaning.{Direction, Forward, Backward}
 use Rattle.regress_meaning.specs.Offsets.{Reading}
 use Rattle.regress_meaning.specs.Inputs.{Input}
@@ -38,17 +38,23 @@ pub data Undo : Type 0 where
   take_on : (at offset left : ℕ) → Undo
   -- there is no other way through the contents of a lookaround or an atomic group
   frame : Frame → Undo
+  -- all ways on from an address and an offset have been tried
+  tried : (at offset : ℕ) → Undo
 
--- What is still to be done: the states to be tried, and inside a lookaround or an atomic group also the state at it and what is
--- to be done outside.
+-- What is still to be done: some states, the most preferred first, and what goes on by the answer of their run.
 pub data Work : Type 0 where
+  -- nothing: it is the answer
   outermost : List Whole → Work
+  -- the state at a lookaround or an atomic group whose contents they are, and then what is to be done outside
   inside : List Whole → Frame → Whole → Work → Work
+  -- a state all of whose ways they are, and then what is to be done behind it
+  trying : List Whole → Whole → Work → Work
 
 -- some states, and then the work
 abbrev pub first_do : List Whole → Work → Work
 first_do ss (outermost ts) = outermost (ss ++ ts)
 first_do ss (inside ts f s rest) = inside (ss ++ ts) f s rest
+first_do ss (trying ts t rest) = trying (ss ++ ts) t rest
 
 -- the state with these data
 abbrev pub whole : (at offset : ℕ) → List (ℕ × ℕ) → List Marks → Whole
@@ -73,7 +79,7 @@ module _ (program : Program) (input : Input) where
   taken_on dir at left groups o = elim (slice_get program.instructions (at - 1)) [ None ↦ [] | Some i ↦ one_by_one program input left i dir groups o ]
 
   -- What a stack stands for where the state has these loops and groups and is read in a direction: what is above is undone
-  -- before what is below.
+  -- before what is below. So a record of what was tried stands for the state that was there when it was pushed.
   unfoldable pub stands_for : Direction → List Undo → List (ℕ × ℕ) → List Marks → Work
   stands_for dir [] loops groups = outermost []
   stands_for dir (old_loop id x ∷ stack) loops groups = stands_for dir stack (slice_set loops id x) groups
@@ -86,22 +92,38 @@ module _ (program : Program) (input : Input) where
   stands_for dir (take_on at offset left ∷ stack) loops groups =
       first_do (at_each at loops groups (taken_on dir at left groups offset)) (stands_for dir stack loops groups)
   stands_for dir (frame f ∷ stack) loops groups = inside [] f (whole f.at f.offset loops groups) (stands_for f.outside stack loops groups)
+  stands_for dir (tried at offset ∷ stack) loops groups = trying [] (whole at offset loops groups) (stands_for dir stack loops groups)
 
-  -- Some states and then the work come to an answer in so many steps: inside a lookaround or an atomic group the states run
-  -- first, and by their answer the work outside goes on.
+  -- states have no answer
+  abbrev pub Fails : Direction → List Whole → Type 0
+  Fails dir ss = Runs program input dir ss None
+
+  -- Some states and then the work come to an answer in so many steps: the states run first, and by their answer the work goes
+  -- on. Where a state is tried, the run of what is left of it has the answer of the state's own run: where there is none the
+  -- work behind goes on, else it begins with the answer, whose one step is not counted twice.
   pub data Comes : Direction → List Whole → Work → ℕ → Option Whole → Type 0 where
     alone : {dir : Direction} {ss ts : List Whole} {n : ℕ} {r : Option Whole} → Run program input dir (ss ++ ts) n r → Comes dir ss (outermost ts) n r
-    within : {dir : Direction} {ss ts : List Whole} {f : Frame} {s : Whole} {rest : Work} {m n : ℕ} {q r : Option Whole} → dir ≡ submatch_direction f.kind f.outside
-        → Run program input dir (ss ++ ts) m q → Comes f.outside (after_submatch f.kind f.first f.last f.continuation s q) rest n r
+    within : {dir : Direction} {ss ts : List Whole} {f : Frame} {s : Whole} {rest : Work} {m n : ℕ} {q r : Option Whole}
+        → dir ≡ submatch_direction f.kind f.outside → Run program input dir (ss ++ ts) m q → Comes f.outside (after_submatch f.kind f.first f.last f.continuation s q) rest n r
         → Comes dir ss (inside ts f s rest) (m + n) r
+    failed : {dir : Direction} {ss ts : List Whole} {t : Whole} {rest : Work} {m n : ℕ} {r : Option Whole} → Fails dir (t ∷ [])
+        → Run program input dir (ss ++ ts) m None → Comes dir [] rest n r → Comes dir ss (trying ts t rest) (m + n) r
+    succeeded : {dir : Direction} {ss ts : List Whole} {t w : Whole} {rest : Work} {m n : ℕ} {r : Option Whole}
+        → Runs program input dir (t ∷ []) (Some w) → Run program input dir (ss ++ ts) m (Some w) → Comes dir (w ∷ []) rest (suc n) r
+        → Comes dir ss (trying ts t rest) (m + n) r
 
   -- The number of those steps, computed, where it is less than the first number: a measure that no code holds.
   unfoldable pub steps_left : ℕ → Direction → List Whole → Work → ℕ
   steps_left f dir ss (outermost ts) = unwrap_or (option_map (λ x. x.0) (run program input f dir (ss ++ ts))) 0
   steps_left f dir ss (inside ts g s rest) = unwrap_or (option_map (λ x. x.0 + steps_left f g.outside
       (after_submatch g.kind g.first g.last g.continuation s x.1) rest) (run program input f dir (ss ++ ts))) 0
+  steps_left f dir ss (trying ts t rest) = unwrap_or (option_map (λ x. x.0 + elim x.1 [
+    | None ↦ steps_left f dir [] rest
+    | Some w ↦ steps_left f dir (w ∷ []) rest - 1
+  ]) (run program input f dir (ss ++ ts))) 0
 
-  -- Some states and then the work come to a state: inside a lookaround or an atomic group, or by its answer outside.
+  -- Some states and then the work come to a state: inside a lookaround or an atomic group, or by its answer outside. Where a
+  -- state is tried its own run counts with what it meets, so that what it has read is known where it has failed.
   pub data ComesTo : Direction → List Whole → Work → Whole → Type 0 where
     meets_alone : {dir : Direction} {ss ts : List Whole} {t : Whole} → Meets program input dir (ss ++ ts) t → ComesTo dir ss (outermost ts) t
     meets_within : {dir : Direction} {ss ts : List Whole} {f : Frame} {s : Whole} {rest : Work} {t : Whole} → Meets program input dir (ss ++ ts) t
@@ -109,6 +131,14 @@ module _ (program : Program) (input : Input) where
     meets_outside : {dir : Direction} {ss ts : List Whole} {f : Frame} {s : Whole} {rest : Work} {q : Option Whole} {t : Whole}
         → Runs program input dir (ss ++ ts) q → ComesTo f.outside (after_submatch f.kind f.first f.last f.continuation s q) rest t
         → ComesTo dir ss (inside ts f s rest) t
+    meets_left : {dir : Direction} {ss ts : List Whole} {s : Whole} {rest : Work} {t : Whole} → Meets program input dir (ss ++ ts) t
+        → ComesTo dir ss (trying ts s rest) t
+    meets_tried : {dir : Direction} {ss ts : List Whole} {s : Whole} {rest : Work} {t : Whole} → Meets program input dir (s ∷ []) t
+        → ComesTo dir ss (trying ts s rest) t
+    meets_failed : {dir : Direction} {ss ts : List Whole} {s : Whole} {rest : Work} {t : Whole} → Fails dir (ss ++ ts)
+        → ComesTo dir [] rest t → ComesTo dir ss (trying ts s rest) t
+    meets_succeeded : {dir : Direction} {ss ts : List Whole} {s w : Whole} {rest : Work} {t : Whole} → Runs program input dir (ss ++ ts) (Some w)
+        → ComesTo dir (w ∷ []) rest t → ComesTo dir ss (trying ts s rest) t
 
   -- wherever they come to an instruction that reads characters, it reads at places
   abbrev pub ReadOn : Reading → Direction → List Whole → Work → Type 0

@@ -9,7 +9,7 @@ use Rattle.regress_engine_code.specs.Instructions as code
 use Rattle.regress_engine_runs.specs.States.{Marks, Whole}
 use Rattle.regress_engine_runs.specs.Runs.{Run, Runs, ends, finds, goes, looks, successors, after_submatch}
 use Rattle.regress_engine_runs.specs.Meets.{Meets, now, later, inside, behind}
-use Rattle.regress_engine_runs.specs.UndoStack.{Frame, Work, outermost, first_do, whole, at_each, Comes, alone, within, ComesTo, meets_alone, meets_within, meets_outside}
+use Rattle.regress_engine_runs.specs.UndoStack.{Frame, Work, outermost, first_do, whole, at_each, Comes, alone, within, ComesTo, meets_alone, meets_within, meets_outside, meets_left, meets_tried, meets_failed, meets_succeeded}
 use Rattle.regress_engine_runs.specs.UndoStack as stack
 use Rattle.regress_engine_runs.proofs.RunViews.{run_goes, run_none, run_looks}
 use Rattle.regress_engine_sought.specs.Tasks.{Leads}
@@ -151,11 +151,19 @@ module _ (program : Program) (input : Input) where
       let (m, less, on) = middle-left xs ts run gone ss refl in (m, omega (arith, less), alone on)
   work-left dir ss xs gone (stack.inside ts f s rest) n r (within {m = k} {n = l} turned run outer) =
       let (m, less, on) = middle-left xs ts run gone ss refl in (m + l, omega (arith, less), within turned on outer)
+  work-left dir ss xs gone (stack.trying ts t rest) n r (stack.failed {n = l} none run behind) =
+      let (m, less, on) = middle-left xs ts run gone ss refl in (m + l, omega (arith, less), stack.failed none on behind)
+  work-left dir ss xs gone (stack.trying ts t rest) n r (stack.succeeded {n = l} some run behind) =
+      let (m, less, on) = middle-left xs ts run gone ss refl in (m + l, omega (arith, less), stack.succeeded some on behind)
 
   work-meets : (dir : Direction) (ss xs : List Whole) → Gone dir xs → (work : Work) (t : Whole) → ComesTo program input dir ss work t → ComesTo program input dir ss (first_do xs work) t
   work-meets dir ss xs gone (outermost ts) t (meets_alone met) = meets_alone (middle-meets xs ts met gone ss refl)
   work-meets dir ss xs gone (stack.inside ts f s rest) t (meets_within met) = meets_within (middle-meets xs ts met gone ss refl)
   work-meets dir ss xs gone (stack.inside ts f s rest) t (meets_outside (n, run) outer) = meets_outside (middle-put xs ts run gone ss refl) outer
+  work-meets dir ss xs gone (stack.trying ts s rest) t (meets_left met) = meets_left (middle-meets xs ts met gone ss refl)
+  work-meets dir ss xs gone (stack.trying ts s rest) t (meets_tried met) = meets_tried met
+  work-meets dir ss xs gone (stack.trying ts s rest) t (meets_failed (n, run) outer) = meets_failed (middle-put xs ts run gone ss refl) outer
+  work-meets dir ss xs gone (stack.trying ts s rest) t (meets_succeeded (n, run) outer) = meets_succeeded (middle-put xs ts run gone ss refl) outer
 
   -- What fails may be left out behind what is tried first.
   pub leads-without : (dir : Direction) (ss xs : List Whole) (work : Work) → Gone dir xs

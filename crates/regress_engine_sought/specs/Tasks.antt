@@ -6,7 +6,7 @@ use Rattle.regress_meaning.specs.Inputs.{Input}
 use Rattle.regress_engine_input.specs.Views.{View, input_of, reading_of}
 use Rattle.regress_engine_code.specs.Instructions.{Program}
 use Rattle.regress_engine_runs.specs.States.{Whole}
-use Rattle.regress_engine_runs.specs.UndoStack.{Frame, Work, outermost, inside, Comes, ReadOn, steps_left}
+use Rattle.regress_engine_runs.specs.UndoStack.{Frame, Work, outermost, inside, trying, Comes, ReadOn, steps_left}
 
 -- Some states that are read in a direction, and then the work.
 pub record Task : Type 0 where
@@ -14,10 +14,12 @@ pub record Task : Type 0 where
   pub states : List Whole
   pub work : Work
 
--- the lookaround or atomic group inside of which work is to be done, the state at it, and the work outside
+-- the lookaround or atomic group inside of which work is to be done, the state at it, and the work outside: a state that is
+-- tried on the way there is passed over
 abbrev pub outside_of : Work → Option (Frame × Whole × Work)
 outside_of (outermost ts) = None
 outside_of (inside ts f s rest) = Some (f, s, rest)
+outside_of (trying ts t rest) = outside_of rest
 
 -- the groups inside a lookaround or an atomic group are there
 abbrev pub HasGroups : Program → Frame → Type 0

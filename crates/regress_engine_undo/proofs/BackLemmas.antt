@@ -8,11 +8,11 @@ use Rattle.regress_engine_code.specs.Instructions.{Program, Instruction, Stands}
 use Rattle.regress_engine_runs.specs.States.{Whole, Marks}
 use Rattle.regress_engine_runs.specs.Runs.{against, gap, advance, one_more}
 use Rattle.regress_engine_runs.specs.Meets.{IsAtPlace}
-use Rattle.regress_engine_runs.specs.UndoStack.{Undo, Frame, Work, old_loop, old_group, resume, iterate, give_back, take_on, frame, whole, first_do, stands_for, at_each, MovesOn}
+use Rattle.regress_engine_runs.specs.UndoStack.{Undo, Frame, Work, old_loop, old_group, resume, iterate, give_back, take_on, frame, tried, whole, first_do, stands_for, at_each, MovesOn}
 use Rattle.regress_engine_runs.proofs.UndoLemmas.{given_back_last, given_back_one, taken_on_last, taken_on_one}
 use Rattle.regress_engine_sought.specs.Ready.{IsBody}
 use Rattle.regress_engine_sought.specs.Tasks.{Task, Leads}
-use Rattle.regress_engine_sought.proofs.TaskLemmas.{leads-then, leads-same, leads-first, leads-exhausted}
+use Rattle.regress_engine_sought.proofs.TaskLemmas.{leads-then, leads-same, leads-first, leads-exhausted, leads-tried}
 use Rattle.regress_engine_undo.specs.declared.undo.Spot.{Spot}
 use Rattle.regress_engine_undo.specs.Held.{Held, pushed, loop_written}
 use Rattle.regress_engine_sought.specs.Submatches.{is_negated}
@@ -34,6 +34,12 @@ module _ (program : Program) (input : Input) where
   pub resume-back : (p : Spot) (h : Held) (at o : ℕ) → Leads program input 0 (task program input false p (pushed (resume at o) h)) (task program input true (record p { at = at; offset = o }) h)
   unfolding stands_for
   resume-back p h at o = resumed p h (resume at o) h.stack at o refl
+
+  -- what was tried has failed
+  pub tried-back : (p : Spot) (h : Held) (at o : ℕ) → Leads program input 0 (task program input false p (pushed (tried at o) h)) (task program input false p h)
+  unfolding stands_for
+  tried-back p h at o =
+      leads-tried program input (way p.forward) (whole at o h.loops h.groups) (stands_for program input (way p.forward) h.stack h.loops h.groups)
 
   pub old_loop-back : (p : Spot) (h k : Held) (id : ℕ) (x : ℕ × ℕ) → k ≡ record h { loops = slice_set h.loops id x }
       → Leads program input 0 (task program input false p (pushed (old_loop id x) h)) (task program input false p k)
@@ -136,6 +142,10 @@ module _ (program : Program) (v : View) where
   pub held-resume : (h : Held) (at o : ℕ) → IsHeld program v (pushed (resume at o) h) → IsHeld program v h
   unfolding IsSound
   held-resume h at o held = record { loops = held.loops; groups = held.groups; sound = held.sound }
+
+  pub held-tried : (h : Held) (at o : ℕ) → IsHeld program v (pushed (tried at o) h) → IsHeld program v h
+  unfolding IsSound
+  held-tried h at o held = record { loops = held.loops; groups = held.groups; sound = held.sound }
 
   pub held-give_back : (h : Held) (at near far : ℕ) → IsHeld program v (pushed (give_back at near far) h) → IsAtPlace (reading_of v) far × IsHeld program v h
   unfolding IsSound

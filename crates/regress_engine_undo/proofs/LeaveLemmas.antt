@@ -9,7 +9,7 @@ use Rattle.regress_engine_code.specs.Instructions.{Program, Stands}
 use Rattle.regress_engine_code.specs.Instructions as code
 use Rattle.regress_engine_runs.specs.States.{Whole, Marks, unset, mixed}
 use Rattle.regress_engine_runs.specs.Runs.{one_more}
-use Rattle.regress_engine_runs.specs.UndoStack.{Undo, old_loop, old_group, resume, iterate, give_back, take_on, frame, Frame, Work, whole, stands_for}
+use Rattle.regress_engine_runs.specs.UndoStack.{Undo, old_loop, old_group, resume, iterate, give_back, take_on, frame, tried, Frame, Work, whole, stands_for}
 use Rattle.regress_engine_sought.specs.Tasks.{Task, Leads, outside_of}
 use Rattle.regress_engine_sought.proofs.TaskLemmas.{leads-found, ends-outermost, outside-first}
 use Rattle.regress_engine_undo.specs.declared.undo.Spot.{Spot}
@@ -71,6 +71,10 @@ module _ (program : Program) (input : Input) (dir : Direction) (h : Held) where
   pub iterate-outside : (id begin o : ℕ) → outside_of (work_of program input dir (pushed (iterate id begin o) h)) ≡ outside_of (work_of program input dir h)
   unfolding stands_for
   iterate-outside id begin o = outside-first (one_more id begin (whole begin o h.loops h.groups) ∷ []) (work_of program input dir h)
+
+  pub tried-outside : (at o : ℕ) → outside_of (work_of program input dir (pushed (tried at o) h)) ≡ outside_of (work_of program input dir h)
+  unfolding stands_for
+  tried-outside at o = refl
 
   pub give_back-outside : (at near far : ℕ) → outside_of (work_of program input dir (pushed (give_back at near far) h)) ≡ outside_of (work_of program input dir h)
   unfolding stands_for

@@ -7,7 +7,7 @@ use Rattle.regress_engine_runs.specs.UndoStack as stack
 use Rattle.regress_engine_sought.specs.StateViews.{loop_of, marks_of}
 use Rattle.regress_engine_sought.specs.Submatches.{submatch_of}
 use Rattle.regress_engine_undo.specs.declared.undo.Undo as code
-use Rattle.regress_engine_undo.specs.declared.undo.Undo.TheVariants.{OldLoop, OldGroup, Resume, Iterate, GiveBack, TakeOn}
+use Rattle.regress_engine_undo.specs.declared.undo.Undo.TheVariants.{OldLoop, OldGroup, Resume, Iterate, GiveBack, TakeOn, Tried}
 use Rattle.regress_engine_undo.specs.declared.undo.Undo.TheVariants as variant
 use Rattle.regress_engine_undo.specs.declared.undo.Frame as inner
 use Rattle.regress_engine_undo.specs.declared.memory.Memory.{Memory}
@@ -33,6 +33,7 @@ undo_of (Iterate id begin offset) = stack.iterate id begin offset
 undo_of (GiveBack at near far) = stack.give_back at near far
 undo_of (TakeOn at offset left) = stack.take_on at offset left
 undo_of (variant.Submatch f) = stack.frame (frame_of f)
+undo_of (Tried at offset) = stack.tried at offset
 
 -- The records, the last one first, the loops and the groups.
 pub record Held : Type 0 where

@@ -4,7 +4,7 @@ use Rattle.regress_engine_input.specs.Views.{View, reading_of}
 use Rattle.regress_engine_code.specs.Instructions.{Program}
 use Rattle.regress_engine_runs.specs.States.{Marks}
 use Rattle.regress_engine_runs.specs.Meets.{IsAtPlace}
-use Rattle.regress_engine_runs.specs.UndoStack.{Undo, old_loop, old_group, resume, iterate, give_back, take_on, frame}
+use Rattle.regress_engine_runs.specs.UndoStack.{Undo, old_loop, old_group, resume, iterate, give_back, take_on, frame, tried}
 use Rattle.regress_engine_sought.specs.Ready.{IsBody}
 use Rattle.regress_engine_sought.specs.Tasks.{HasGroups}
 use Rattle.regress_engine_undo.specs.Held.{Held}
@@ -22,6 +22,7 @@ module _ (program : Program) (v : View) where
   IsSound (give_back at near far ∷ stack) loops groups = IsAtPlace (reading_of v) far × IsSound stack loops groups
   IsSound (take_on at offset left ∷ stack) loops groups = IsBody program v at offset × IsSound stack loops groups
   IsSound (frame f ∷ stack) loops groups = HasGroups program f × IsSound stack loops groups
+  IsSound (tried at offset ∷ stack) loops groups = IsSound stack loops groups
 
   -- What is held is the program's, and sound.
   pub record IsHeld (h : Held) : Type 0 where

@@ -39,6 +39,7 @@ impl Memory {
             Undo::GiveBack { .. } => None,
             Undo::TakeOn { .. } => None,
             Undo::Submatch(frame) => Some(frame),
+            Undo::Tried { .. } => None,
         }
     }
 

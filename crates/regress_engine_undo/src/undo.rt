@@ -81,4 +81,12 @@ pub enum Undo {
     },
     /// There is no other way through the contents of a lookaround or an atomic group.
     Submatch(Frame),
+    /// There is no other way on from an address and an offset: all have been tried.
+    // No step pushes it yet: what failed is to be remembered where it is popped.
+    Tried {
+        /// The address.
+        at: usize,
+        /// The offset.
+        offset: usize,
+    },
 }

@@ -5,7 +5,7 @@ use Rattle.regress_engine_runs.specs.UndoStack.{resume, old_loop, old_group, ite
 use Rattle.regress_engine_sought.specs.StateViews.{loop_of, marks_of}
 use Rattle.regress_engine_sought.specs.Tasks.{Leads}
 use Rattle.regress_engine_undo.specs.Held.{held, pushed, undo_of, frame_of}
-use Rattle.regress_engine_undo.proofs.BackLemmas.{held-as, leads-as, held-resume, held-old_loop, old_loop-there, held-old_group, old_group-there, held-iterate, held-frame, resume-back, old_loop-back, old_group-back, iterate-back, submatch-back}
+use Rattle.regress_engine_undo.proofs.BackLemmas.{held-as, leads-as, held-resume, held-old_loop, old_loop-there, held-old_group, old_group-there, held-iterate, held-frame, held-tried, resume-back, old_loop-back, old_group-back, iterate-back, submatch-back, tried-back}
 use Rattle.regress_engine_undo.specs.Tasks.{task}
 use Rattle.regress_engine_undo.proofs.StepLemmas.{loop-sound}
 use Rattle.regress_engine_exec.proofs.attempt.Attempt.undo.Goals as goal
@@ -86,3 +86,12 @@ returns-in-Submatch-clause-leads g c =
 pub returns-in-Submatch-clause-sound : goal.returns-in-Submatch-clause-sound
 returns-in-Submatch-clause-sound g c =
     (held-frame _ _ (held c.args.memory.now) (frame_of c.in-Submatch.frame) (held-as _ _ _ _ _ (ap undo_of c.in-Submatch.is) c.requires.sound)).1
+
+pub returns-in-Tried-clause-leads : goal.returns-in-Tried-clause-leads
+returns-in-Tried-clause-leads g c =
+    leads-as (program_of c.args.self.now.program.now) (input_of (g.Input.InputIndexer.view c.args.self.now.input)) (undo_of c.args.undo) _ c.args.spot.now (held c.args.memory.now) _ (ap undo_of c.in-Tried.is)
+    (tried-back _ _ c.args.spot.now (held c.args.memory.now) _ _)
+
+pub returns-in-Tried-clause-sound : goal.returns-in-Tried-clause-sound
+returns-in-Tried-clause-sound g c =
+    held-tried _ _ (held c.args.memory.now) _ _ (held-as _ _ _ _ _ (ap undo_of c.in-Tried.is) c.requires.sound)

@@ -1,8 +1,8 @@
 use Rattle.std.proofs.Common.{ap}
 use Rattle.regress_engine_sought.specs.StateViews.{loop_of, marks_of}
 use Rattle.regress_engine_undo.specs.Held.{held, undo_of, frame_of}
-use Rattle.regress_engine_undo.proofs.BackLemmas.{held-as, held-old_loop, old_loop-there, held-old_group, old_group-there, held-resume, held-iterate, held-give_back, held-take_on, held-frame}
-use Rattle.regress_engine_undo.proofs.LeaveLemmas.{loop-outside, group-outside, resume-outside, iterate-outside, give_back-outside, take_on-outside, frame-outside, outside-as}
+use Rattle.regress_engine_undo.proofs.BackLemmas.{held-as, held-old_loop, old_loop-there, held-old_group, old_group-there, held-resume, held-iterate, held-give_back, held-take_on, held-frame, held-tried}
+use Rattle.regress_engine_undo.proofs.LeaveLemmas.{loop-outside, group-outside, resume-outside, iterate-outside, give_back-outside, take_on-outside, frame-outside, tried-outside, outside-as}
 use Rattle.regress_engine_undo.proofs.memory.Memory.put_back.Goals as goal
 
 pub restore_loop-requires : goal.restore_loop-requires
@@ -62,3 +62,10 @@ returns-in-Submatch-clause-rest c = λ program input dir.
 pub returns-in-Submatch-clause-sound : goal.returns-in-Submatch-clause-sound
 returns-in-Submatch-clause-sound c = λ program v was.
     let both = held-frame program v (held c.args.self.now) (frame_of c.in-Submatch.frame) (held-as program v _ _ _ (ap undo_of c.in-Submatch.is) was) in (both.1, both.0)
+
+pub returns-in-Tried-clause-rest : goal.returns-in-Tried-clause-rest
+returns-in-Tried-clause-rest c = λ program input dir.
+    outside-as program input dir (held c.args.self.now) _ _ _ (ap undo_of c.in-Tried.is) (tried-outside program input dir (held c.args.self.now) _ _)
+
+pub returns-in-Tried-clause-sound : goal.returns-in-Tried-clause-sound
+returns-in-Tried-clause-sound c = λ program v was. (held-tried program v (held c.args.self.now) _ _ (held-as program v _ _ _ (ap undo_of c.in-Tried.is) was), tt)
