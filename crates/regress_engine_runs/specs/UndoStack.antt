@@ -117,7 +117,7 @@ module _ (program : Program) (input : Input) where
   steps_left f dir ss (outermost ts) = unwrap_or (option_map (λ x. x.0) (run program input f dir (ss ++ ts))) 0
   steps_left f dir ss (inside ts g s rest) = unwrap_or (option_map (λ x. x.0 + steps_left f g.outside
       (after_submatch g.kind g.first g.last g.continuation s x.1) rest) (run program input f dir (ss ++ ts))) 0
-  steps_left f dir ss (trying ts t rest) = unwrap_or (option_map (λ x. x.0 + elim x.1 [
+  steps_left f dir ss (trying ts t rest) = unwrap_or (option_map (λ (x : ℕ × Option Whole). x.0 + elim x.1 [
     | None ↦ steps_left f dir [] rest
     | Some w ↦ steps_left f dir (w ∷ []) rest - 1
   ]) (run program input f dir (ss ++ ts))) 0
