@@ -151,10 +151,10 @@ module _ (program : Program) (input : Input) where
       let (m, less, on) = middle-left xs ts run gone ss refl in (m, omega (arith, less), alone on)
   work-left dir ss xs gone (stack.inside ts f s rest) n r (within {m = k} {n = l} turned run outer) =
       let (m, less, on) = middle-left xs ts run gone ss refl in (m + l, omega (arith, less), within turned on outer)
-  work-left dir ss xs gone (stack.trying ts t rest) n r (stack.failed {n = l} none run behind) =
-      let (m, less, on) = middle-left xs ts run gone ss refl in (m + l, omega (arith, less), stack.failed none on behind)
-  work-left dir ss xs gone (stack.trying ts t rest) n r (stack.succeeded {n = l} some run behind) =
-      let (m, less, on) = middle-left xs ts run gone ss refl in (m + l, omega (arith, less), stack.succeeded some on behind)
+  work-left dir ss xs gone (stack.trying ts t rest) n r (stack.failed {n = l} none run outer) =
+      let (m, less, on) = middle-left xs ts run gone ss refl in (m + l, omega (arith, less), stack.failed none on outer)
+  work-left dir ss xs gone (stack.trying ts t rest) n r (stack.succeeded {n = l} some run outer) =
+      let (m, less, on) = middle-left xs ts run gone ss refl in (m + l, omega (arith, less), stack.succeeded some on outer)
 
   work-meets : (dir : Direction) (ss xs : List Whole) → Gone dir xs → (work : Work) (t : Whole) → ComesTo program input dir ss work t → ComesTo program input dir ss (first_do xs work) t
   work-meets dir ss xs gone (outermost ts) t (meets_alone met) = meets_alone (middle-meets xs ts met gone ss refl)
