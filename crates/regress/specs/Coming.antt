@@ -6,9 +6,9 @@ use Rattle.regress_meaning.specs.Offsets.{of_utf8, Begins}
 use Rattle.regress_front_core.specs.declared.error.Error.{Error}
 use Rattle.regress_match.specs.declared.found.Match.{Match}
 use Rattle.regress_match.specs.Iterating.{coming_on, steps_on}
-use Rattle.regress_engine_inputs.specs.InputViews.{utf8_view}
-use Rattle.regress_engine_code.specs.Standing.{names_of}
-use Rattle.regress_engine_sought.specs.Sought.{Sought, items_from, places_behind}
+use Rattle.regress_engine.specs.InputViews.{utf8_view}
+use Rattle.regress_engine.specs.Standing.{names_of}
+use Rattle.regress_engine.specs.Sought.{Sought, items_from, places_behind}
 use Rattle.regress.specs.declared.matches.Matches.{Matches}
 
 -- what is sought, and in what text

@@ -8,8 +8,8 @@ use Rattle.regress_front_core.specs.declared.error.Error.TheVariants.{Syntax, To
 use Rattle.regress_front.specs.Refusals as reading
 use Rattle.regress_front.specs.Trees.{Tree}
 use Rattle.regress_front.specs.Sizes.{loops}
-use Rattle.regress_engine_code.specs.Counts.{count}
-use Rattle.regress_engine_code.specs.Written.{AreTooMany}
+use Rattle.regress_engine.specs.Counts.{count}
+use Rattle.regress_engine.specs.Written.{AreTooMany}
 use Rattle.regress.specs.Programs.{IsTreeFor}
 
 -- A program of the pattern that the text spells, in bytes or in units, passes its count of instructions or of loops.

@@ -4,7 +4,7 @@ use Rattle.std.specs.Arc.{arc_str_bytes}
 use Rattle.regress_meaning.specs.Table.{Table}
 use Rattle.regress_meaning.specs.Pattern.{Pattern}
 use Rattle.regress_meaning.specs.Flags.{Options}
-use Rattle.regress_engine_code.specs.Standing.{names_of}
+use Rattle.regress_engine.specs.Standing.{names_of}
 use Rattle.regress.specs.declared.api.Regex.{Regex}
 use Rattle.regress.specs.Programs.{IsProgramOf}
 

@@ -3,15 +3,14 @@ ghost use Rattle.std.specs.Prelude.{◌≡◌, ◌↔◌, ℕ, IsTrue};
 ghost use Rattle.std.specs.Iterator.{at_most};
 ghost use Rattle.std.specs.Str.{IsAscii};
 ghost use Rattle.regress_meaning.specs.Offsets.{of_ascii, of_utf8, Begins};
-ghost use Rattle.regress_engine_inputs.specs.InputViews.{ascii_view};
-ghost use Rattle.regress_engine_sought.specs.Sought.{StartsAt};
+ghost use Rattle.regress_engine.specs.InputViews.{ascii_view};
+ghost use Rattle.regress_engine.specs.Sought.{StartsAt};
 ghost use Rattle.regress_match.specs.Iterating.{GivesMatch};
 ghost use Rattle.regress_match.specs.TextRanges.{IsMatchIn};
 ghost use Rattle.regress.specs.Positions.{IsPlaced, IsPlaced-prop};
 
 use crate::api::Regex;
-use regress_engine_exec::BacktrackExecutor;
-use regress_engine_inputs::AsciiInput;
+use regress_engine::{AsciiInput, BacktrackExecutor};
 use regress_front::Error;
 use regress_match::{Match, MatchProducer};
 use std::iter::FusedIterator;

@@ -12,11 +12,10 @@ ghost use Rattle.regress_match.specs.TextRanges.{IsMatchIn};
 ghost use Rattle.regress.specs.Standing.{StandsFor, names_of_regex};
 
 use crate::api::Regex;
-pub use regress_engine_code::{emit, emit_units};
-pub use regress_engine_copying::PikeVMExecutor;
-pub use regress_engine_exec::BacktrackExecutor;
-pub use regress_engine_inputs::{AsciiInput, Utf8Input};
-pub use regress_engine_sought::{AnyText, AsciiText, Executor, TextKind};
+pub use regress_engine::{
+    AnyText, AsciiInput, AsciiText, BacktrackExecutor, Executor, PikeVMExecutor, TextKind,
+    Utf8Input, emit, emit_units,
+};
 pub use regress_front::{optimize, try_parse};
 pub use regress_match::{MatchProducer, Matches};
 use std::alloc::AllocError;

@@ -1,6 +1,6 @@
 //! The programs of a pattern.
 ghost use Rattle.std.specs.Prelude.{◌≡◌, ◌≤◌, ◌≢◌, ℕ, false, true, All, IfOk, IfErr, IsOkUnless, length};
-ghost use Rattle.regress_engine_code.specs.Standing.{IsCopyOf};
+ghost use Rattle.regress_engine.specs.Standing.{IsCopyOf};
 ghost use Rattle.regress_meaning.specs.Pattern.{Pattern};
 ghost use Rattle.regress_meaning.specs.Grammar.{Spells};
 ghost use Rattle.regress_meaning.specs.Limits.{WithinLimits};
@@ -12,7 +12,7 @@ ghost use Rattle.regress_front.specs.WellFormed.{IsWellFormed};
 ghost use Rattle.regress.specs.Programs.{IsProgramOf};
 ghost use Rattle.regress.specs.Refusing.{MayRefuseRegex};
 
-use regress_engine_code::{CompiledRegex, emit, emit_units};
+use regress_engine::{CompiledRegex, emit, emit_units};
 use regress_front::{Error, Flags, Tables, ir, optimize, try_parse};
 use std::alloc::Global;
 

@@ -25,8 +25,7 @@ pub use laws::{
 };
 pub use matches::Matches;
 pub use refusing::{SyntaxError, syntax_error};
-pub use regress_engine_code::CompiledRegex;
-pub use regress_engine_inputs::{is_unit_start, is_well_formed_utf16};
+pub use regress_engine::{CompiledRegex, is_unit_start, is_well_formed_utf16};
 pub use regress_front::{
     CodePoint, Error, FlagError, Flags, Interval, ScriptFlags, TableError, TableLaw, TableParts,
     Tables, are_code_points, flags_are_read_back,

@@ -3,13 +3,13 @@ ghost use Rattle.std.specs.Prelude.{◌≡◌, [], true, false, IfOk, IsOkUnless
 ghost use Rattle.regress_meaning.specs.Table.{Table};
 ghost use Rattle.regress_meaning.specs.Pattern.{Pattern};
 ghost use Rattle.regress_meaning.specs.Flags.{Options};
-ghost use Rattle.regress_engine_code.specs.Standing.{names_of};
+ghost use Rattle.regress_engine.specs.Standing.{names_of};
 ghost use Rattle.regress.specs.Programs.{IsProgramOf};
 ghost use Rattle.regress.specs.Standing.{StandsFor, StandsInUnits, source_of, names_of_regex};
 
 use crate::api::Regex;
 use crate::compiled::Compiled;
-use regress_engine_code::CompiledRegex;
+use regress_engine::CompiledRegex;
 use regress_front::Error;
 use std::alloc::Global;
 use std::sync::ArcStr;

@@ -2,14 +2,13 @@
 ghost use Rattle.std.specs.Prelude.{ℕ};
 ghost use Rattle.std.specs.Iterator.{at_most};
 ghost use Rattle.regress_meaning.specs.Offsets.{of_utf16, of_ucs2, Begins};
-ghost use Rattle.regress_engine_inputs.specs.InputViews.{utf16_view, ucs2_view};
-ghost use Rattle.regress_engine_sought.specs.Sought.{StartsAt, IsMatchOf};
+ghost use Rattle.regress_engine.specs.InputViews.{utf16_view, ucs2_view};
+ghost use Rattle.regress_engine.specs.Sought.{StartsAt, IsMatchOf};
 ghost use Rattle.regress_match.specs.Iterating.{GivesMatch};
 ghost use Rattle.regress.specs.Positions.{IsPlaced, IsPlaced-prop};
 
 use crate::api::Regex;
-use regress_engine_exec::BacktrackExecutor;
-use regress_engine_inputs::{Ucs2Input, Utf16Input};
+use regress_engine::{BacktrackExecutor, Ucs2Input, Utf16Input};
 use regress_front::Error;
 use regress_match::{Match, MatchProducer};
 use std::iter::FusedIterator;

@@ -18,8 +18,9 @@
 
 pub use regress_front_bytes::{
     AsciiBitmap, ByteArraySet, ByteBitmap, ByteSearcher, ByteSet, CodePointRange, EmptyString,
-    FoldRange, MAX_CHAR_SET_LENGTH, SmallArraySet, are_code_points, charset_contains,
-    equal_range_by, is_utf8_continuation, to_char_sat, utf8_first_byte, utf8_w2, utf8_w3, utf8_w4,
+    FoldRange, MAX_CHAR_SET_LENGTH, SmallArraySet, are_code_points, ascii_bitmap_holds_ascii,
+    charset_contains, equal_range_by, is_utf8_continuation, to_char_sat, utf8_first_byte, utf8_w2,
+    utf8_w3, utf8_w4,
 };
 pub use regress_front_core::{
     CaptureGroupID, CaptureGroupName, Error, FlagError, Flags, GroupData, IP, LoopData, LoopID,
@@ -27,13 +28,14 @@ pub use regress_front_core::{
     limits_are_those_of_the_definitions,
 };
 pub use regress_front_nodes::{
-    AnchorType, BracketContents, Node, NodeList, Piece, Walk, alike_parts_make_alike_wholes, ir,
-    lower_code_point_sequence, nodes_stand_for_trees, pieces_match_their_string, walk, walk_mut,
+    AnchorType, BracketContents, Node, NodeList, Piece, Walk, alike_parts_make_alike_wholes,
+    ascii_bytes, ir, lower_code_point_sequence, nodes_stand_for_trees, pieces_match_their_string,
+    walk, walk_mut,
 };
 pub use regress_front_opt::{PassAction, optimize};
 pub use regress_front_rules::{
     broken_nodes_turn, normal_forms_are_reached, rules_are_right, rules_keep_the_rest,
-    wholes_are_right,
+    trees_nest_less_than_their_size, trees_of_nodes_are_listed, wholes_are_right,
 };
 pub use regress_front_sets::{
     CODE_POINT_MAX, CharacterClassType, CodePoint, CodePointSet, CountedIntervals, DIGITS,
@@ -42,7 +44,7 @@ pub use regress_front_sets::{
     is_ascii_word, line_terminator, whitespace, word_chars,
 };
 pub use regress_front_syntax::{
-    Class, Modifiers, Parsed, Refused, Syntax, parse, parse_telling_place,
+    Class, Modifiers, Parsed, Refused, Syntax, Term, parse, parse_telling_place,
 };
 pub use regress_front_tables::{
     TableError, TableLaw, TableParts, Tables, add_icase_code_points, closure, expand_code_point,
