@@ -9,7 +9,7 @@ ghost use Rattle.regress_front_tables.specs.TableViews.{table};
 ghost use Rattle.regress_engine_input.specs.Views.{input_of, reading_of, utf8};
 ghost use Rattle.regress_engine_runs.specs.Items.{Finds};
 ghost use Rattle.regress_engine_runs.specs.Meets.{IsAtPlace};
-ghost use Rattle.regress_engine_sought.specs.Answering.{IsFound};
+ghost use Rattle.regress_engine_sought.specs.Answering.{IsFound, IsOutcome};
 ghost use Rattle.regress_engine_undo.specs.Held.{held};
 ghost use Rattle.regress_engine_sought.specs.Sought.{IsMadeOf, IsItemAtPlaces};
 
@@ -114,6 +114,35 @@ impl<'r, Input: ExecutorInput> BacktrackExecutor<'r, Input> {
         let captures = captures(self.alloc, &self.memory.groups)?;
         let names = self.subject.program.shared_group_names()?;
         Ok(Some(Match::new(start..end, captures, names)))
+    }
+
+    /// The match that begins at an offset: that of the program's run from there, begun at the first instruction with nothing
+    /// set, as a sticky search asks ("RegExpBuiltinExec"). `None` where that run has no answer; no other place is looked at. It
+    /// errs where memory is refused alone, and may then be asked again.
+    ///
+    /// Asks that the offset is that of a place of the text.
+    ///
+    /// ```rust
+    /// let found = executor.match_at(3)?;
+    /// ```
+    pub fn match_at(&mut self, offset: usize) -> Result<Option<Match>, AllocError>
+        requires { IsAtPlace (reading_of (Input.view self.old.subject.input)) offset }
+        ensures outcome { IfOk result (λ found. IsOutcome (program_of self.old.subject.program.now) (input_of (Input.view self.old.subject.input)) offset (option_map item_of found)) }
+        ensures inside { IfOk result (λ found. IfSome found (λ m. IsItemAtPlaces (reading_of (Input.view self.old.subject.input)) (item_of m))) }
+        ensures named { IfOk result (λ found. IfSome found (λ m. names_of_match m ≡ names_of self.old.subject.program.now)) }
+        ensures kept { self.new.subject ≡ self.old.subject }
+    {
+        let attempt = Attempt {
+            program: self.subject.program,
+            input: self.subject.input,
+            start: offset,
+        };
+        let Some(end) = attempt.run(0, &mut self.memory, &mut self.answer)? else {
+            return Ok(None);
+        };
+        let captures = captures(self.alloc, &self.memory.groups)?;
+        let names = self.subject.program.shared_group_names()?;
+        Ok(Some(Match::new(offset..end, captures, names)))
     }
 }
 

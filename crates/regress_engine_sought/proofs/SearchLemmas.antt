@@ -22,7 +22,7 @@ use Rattle.regress_engine_input.specs.Views.{View, AreOfKind, are_bytes, input_o
 use Rattle.regress_engine_input.proofs.KindLemmas.{tells, tells_bytes}
 use Rattle.regress_engine_code.specs.Instructions.{Program}
 use Rattle.regress_engine_code.specs.Layout.{Target, IsLayout}
-use Rattle.regress_engine_runs.specs.States.{Marks, range_of, first_state}
+use Rattle.regress_engine_runs.specs.States.{Marks, Whole, range_of, first_state}
 use Rattle.regress_engine_runs.specs.Computed.{IsComputed}
 use Rattle.regress_engine_runs.specs.Items.{Finds, found, later, nowhere, item_of}
 use Rattle.regress_engine_runs.specs.Meets.{IsAtPlace, AreAtPlaces}
@@ -36,7 +36,7 @@ use Rattle.regress_engine_runs.proofs.SafeRuns.{reads-where_met}
 use Rattle.regress_engine_runs.proofs.WholeTree.{runs_as_tree, runs_safely}
 use Rattle.regress_engine_matchers.proofs.ViewLemmas.{view_reads}
 use Rattle.regress_engine_sought.specs.StateViews.{marks_of}
-use Rattle.regress_engine_sought.specs.Answering.{IsAnswer, IsFound}
+use Rattle.regress_engine_sought.specs.Answering.{IsAnswer, IsFound, IsOutcome}
 use Rattle.regress_engine_sought.specs.Sought.{IsItemAtPlaces, Listed, IsSought}
 use Rattle.regress_engine_sought.specs.SoughtOnce.{IsItemAtPlaces-prop}
 use Rattle.regress_engine_sought.proofs.PlaceLemmas.{can-read, moves, next-place}
@@ -143,11 +143,29 @@ ranges-are : (gs : List (GroupData ℕ)) → map range_of (map marks_of gs) ≡ 
 ranges-are [] = refl
 ranges-are (g ∷ gs) = ap (λ xs. range_of (marks_of g) ∷ xs) (ranges-are gs)
 
+-- the item of an answer is that of the match that is made of it
+item-told : (start end : ℕ) (w : Whole) (m : Match) (gs : List (GroupData ℕ)) → w.offset ≡ end → w.groups ≡ map marks_of gs → m.range.start ≡ start → m.range.end ≡ end
+    → map (option_map ends) m.captures.items ≡ map (λ g. range_of (marks_of g)) gs → item_of start w ≡ match.item_of m
+item-told start end w m gs last held first ended captures =
+    let ranges : map range_of w.groups ≡ map (option_map ends) m.captures.items = ap (map range_of) held ∙ ranges-are gs ∙ sym captures in
+    λ i. record { start = sym first i; end = (last ∙ sym ended) i; groups = ranges i }
+
 -- the match that is made of what was found
 pub found-match : (program : Program) (input : Input) (at start end : ℕ) (groups : List Marks) (m : Match) (gs : List (GroupData ℕ)) → IsFound program input at (Some (start, end)) groups
     → groups ≡ map marks_of gs → m.range.start ≡ start → m.range.end ≡ end → map (option_map ends) m.captures.items ≡ map (λ g. range_of (marks_of g)) gs
     → Finds program input at (Some (match.item_of m))
 found-match program input at start end groups m gs (w, finds, last, same) held first ended captures =
-    let ranges : map range_of w.groups ≡ map (option_map ends) m.captures.items = ap (map range_of) (same ∙ held) ∙ ranges-are gs ∙ sym captures in
-    let told : item_of start w ≡ match.item_of m = (λ i. record { start = sym first i; end = (last ∙ sym ended) i; groups = ranges i }) in
-    subst (λ x. Finds program input at (Some x)) told finds
+    subst (λ x. Finds program input at (Some x)) (item-told start end w m gs last (same ∙ held) first ended captures) finds
+
+-- and of the answer of one run
+pub outcome-match : (program : Program) (input : Input) (start end : ℕ) (groups : List Marks) (m : Match) (gs : List (GroupData ℕ)) → IsAnswer program input start (Some end) groups
+    → groups ≡ map marks_of gs → m.range.start ≡ start → m.range.end ≡ end → map (option_map ends) m.captures.items ≡ map (λ g. range_of (marks_of g)) gs
+    → IsOutcome program input start (Some (match.item_of m))
+outcome-match program input start end groups m gs (w, answers, last, same) held first ended captures =
+    (w, answers, item-told start end w m gs last (same ∙ held) first ended captures)
+
+-- the item of a run from a place is at places
+pub outcome-inside : (program : Program) (v : View) → IsSought program v → (at : ℕ) → IsAtPlace (reading_of v) at → (i : Item) → IsOutcome program (input_of v) at (Some i)
+    → IsItemAtPlaces (reading_of v) i
+outcome-inside program v sought at place i (w, answers, told) =
+    found-inside program v sought at place i (subst (λ x. Finds program (input_of v) at (Some x)) told (found answers))
