@@ -10,7 +10,7 @@ use Rattle.regress_match.specs.declared.found.Match.{Match}
 use Rattle.regress_match.specs.Views.{item_of}
 use Rattle.regress_match.specs.Iterating.{GivesFirst, GivesMatch}
 use Rattle.regress_match.specs.TextRanges.{LiesInText, IsMatchIn}
-use Rattle.regress_match.proofs.TextLemmas.{place_of_boundary}
+use Rattle.regress_front_bytes.proofs.TextLemmas.{place_of_boundary}
 use Rattle.regress.specs.declared.matches.Matches.{Matches}
 use Rattle.regress.specs.Coming.{searched, sought_names, coming, HasEnded, IsStart, BeginsAndEndsAtStarts, HoldsOfEach}
 

@@ -6,7 +6,7 @@ use Rattle.regress_meaning.specs.Laws.{ItemsRise}
 use Rattle.regress_meaning.specs.Matches.{Item}
 use Rattle.regress_meaning.specs.Offsets.{Reading, offset, told}
 use Rattle.regress_meaning.specs.Parts.{parts_from, joined, parts}
-use Rattle.regress_match.proofs.TextLemmas.{offset-le}
+use Rattle.regress_front_bytes.proofs.TextLemmas.{offset-le}
 use Rattle.regress_replacing.specs.Replacing.{number_after, given_behind, expansion, replaced_from, replaced}
 use Rattle.regress.specs.Behind.{LieBehind}
 use Rattle.regress.proofs.RisingLemmas.{behind-front}

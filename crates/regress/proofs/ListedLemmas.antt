@@ -19,7 +19,7 @@ use Rattle.regress_front_nodes.proofs.AlikeMatches.{match_list-same}
 use Rattle.regress_front_nodes.proofs.MatchLemmas.{matches_rise, matches_lie}
 use Rattle.regress_match.specs.declared.found.Match.{Match}
 use Rattle.regress_match.specs.Iterating.{coming_on}
-use Rattle.regress_match.proofs.TextLemmas.{offset-le, chars-code_points}
+use Rattle.regress_front_bytes.proofs.TextLemmas.{offset-le, chars-code_points}
 use Rattle.regress_engine_input.specs.Views.{AreOfKind, input_of, reading_of, reading_of_kind}
 use Rattle.regress_engine_input.proofs.KindLemmas.{tells}
 use Rattle.regress_engine_code.specs.declared.compiled.CompiledRegex.{CompiledRegex}

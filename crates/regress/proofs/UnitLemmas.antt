@@ -7,7 +7,7 @@ use Rattle.regress_meaning.specs.Offsets.{Reading, offset, of_ucs2, Begins}
 use Rattle.regress_front_core.specs.declared.error.Error.{Error}
 use Rattle.regress_match.specs.declared.found.Match.{Match}
 use Rattle.regress_match.specs.Views.{ends, item_of}
-use Rattle.regress_match.proofs.TextLemmas.{offset-le}
+use Rattle.regress_front_bytes.proofs.TextLemmas.{offset-le}
 use Rattle.regress_match.proofs.TakenLemmas.{of_groups}
 use Rattle.regress_engine_input.proofs.UnitTexts.{single_offset}
 use Rattle.regress_engine_runs.specs.Meets.{AreAtPlaces}

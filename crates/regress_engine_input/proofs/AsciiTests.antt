@@ -11,7 +11,7 @@ use Rattle.regress_meaning.specs.Offsets.{offset, of_utf8}
 use Rattle.regress_meaning.specs.Steps.{passed}
 use Rattle.regress_meaning.specs.Inputs.{point_told, byte_at, single_next, utf8_next}
 use Rattle.regress_engine_input.proofs.Utf8Parts.{offset-next}
-use Rattle.regress_match.proofs.TextLemmas.{offset_of_end as utf8_end}
+use Rattle.regress_front_bytes.proofs.TextLemmas.{offset_of_end as utf8_end}
 use Rattle.regress_engine_input.proofs.Utf8Forms.{Form}
 use Rattle.regress_engine_input.proofs.Utf8Texts.{form-here, within, utf8_told, utf8_rise}
 

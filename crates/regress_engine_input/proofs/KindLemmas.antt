@@ -6,7 +6,7 @@ use Rattle.regress_meaning.specs.Offsets.{offset, of_utf16}
 use Rattle.regress_meaning.specs.Inputs.{Tells}
 use Rattle.regress_meaning.specs.Steps.{repeated, same_units}
 use Rattle.regress_front_nodes.specs.ByteInputs.{TellsBytes}
-use Rattle.regress_match.proofs.TextLemmas.{offset_of_end, offset_is_boundary}
+use Rattle.regress_front_bytes.proofs.TextLemmas.{offset_of_end, offset_is_boundary}
 use Rattle.regress_engine_input.specs.Views.{Kind, utf8, ascii, utf16, ucs2, AreOfKind, are_bytes, input_of_kind, reading_of_kind, IsReadable, outside_pairs}
 use Rattle.regress_engine_input.proofs.PlaceLemmas.{place-inside}
 use Rattle.regress_engine_input.proofs.UnitTexts.{single_offset, ascii_tells, ucs2_tells}

@@ -1,8 +1,8 @@
 -- Where no character is a pair, comparing units does what comparing characters does.
 use Rattle.std.specs.Prelude.{slice_range}
-use Rattle.std.proofs.Common.{◌≡◌, ℕ, zero, suc, ◌+◌, ◌-◌, ◌≤◌, Bool, true, false, ◌&&◌, List, [], ◌∷◌, ◌++◌, All, ◌<◌, length, take, drop, Some, option_map, chars, refl, sym, ap, ap₂, ◌∙◌, subst, arith, length-append, length-take, length-drop}
+use Rattle.std.proofs.Common.{◌≡◌, ℕ, ◌+◌, ◌-◌, ◌≤◌, Bool, true, false, List, ◌++◌, All, ◌<◌, length, take, drop, Some, option_map, chars, sym, ap, ap₂, ◌∙◌, subst, arith, length-append, length-take, length-drop}
 use Rattle.std.specs.Str.{IsUtf8, IsAscii}
-use Rattle.std.proofs.Math.Utf8.{encodes, scalar, scalars}
+use Rattle.std.proofs.Math.Utf8.{encodes, scalars}
 use Rattle.std.proofs.Math.Seq.{take-append_seam, take-add}
 use Rattle.std.proofs.lemmas.List.{take-append-drop}
 use Rattle.std.proofs.lemmas.Str.{encodes-append, chars-encodes, scalars-chars}
@@ -12,6 +12,7 @@ use Rattle.regress_meaning.specs.Offsets.{Reading, offset, of_utf8, of_ascii, of
 use Rattle.regress_meaning.specs.Steps.{literal, repeated, same_units}
 use Rattle.regress_front_nodes.specs.ByteInputs.{placed}
 use Rattle.regress_meaning.specs.Inputs.{Input, Tells, context_of, utf8_input, ascii_input, ucs2_input}
+use Rattle.regress_front_bytes.proofs.TextLemmas.{scalars-drop}
 use Rattle.regress_engine_input.proofs.Utf8Parts.{offset-is, bytes-behind}
 use Rattle.regress_engine_input.proofs.Utf8Texts.{utf8_tells}
 use Rattle.regress_engine_input.proofs.UnitTexts.{single_offset, ascii_tells, ucs2_tells}
@@ -43,15 +44,6 @@ module _ (input : Input) (reading : Reading) (tells : Tells reading input) (a b 
       by_direction Backward = told-left input reading us ws p room within same
 
 -- ---- bytes of UTF-8
-
-scalars-drop : (cs : List ℕ) (p : ℕ) → scalars cs ≡ true → scalars (drop p cs) ≡ true
-scalars-drop cs zero h = h
-scalars-drop [] (suc p) h = refl
-scalars-drop (c ∷ cs) (suc p) h = scalars-drop cs p (by_first (scalar c) h)
-  where
-    by_first : (b : Bool) → (b && scalars cs) ≡ true → scalars cs ≡ true
-    by_first true h = h
-    by_first false h = absurd (cc)
 
 module _ (bytes : List ℕ) (utf8 : IsUtf8 bytes) (a b : ℕ) (order : a ≤ b) where
   abbrev at : ℕ → ℕ

@@ -10,7 +10,7 @@ use Rattle.std.proofs.lemmas.Option.{slice_get_within, get_or_from_slice_get}
 use Rattle.std.proofs.lemmas.List.{take-append-drop, drop_more, take_more}
 use Rattle.std.proofs.lemmas.List.Sums.{sum_by_push}
 use Rattle.std.proofs.lemmas.Str.{encodes-append, encodes-chars, scalars-chars}
-use Rattle.regress_match.proofs.TextLemmas.{length-encodes}
+use Rattle.regress_front_bytes.proofs.TextLemmas.{length-encodes}
 use Rattle.regress_meaning.specs.Offsets.{offset, of_utf8}
 
 module _ (bytes : List ℕ) (utf8 : IsUtf8 bytes) where

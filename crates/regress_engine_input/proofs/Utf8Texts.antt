@@ -3,7 +3,7 @@ use Rattle.std.specs.Prelude.{slice_get}
 use Rattle.std.specs.Char.{len_utf8}
 use Rattle.std.proofs.Common.{◌≡◌, ◌⊎◌, inl, inr, ℕ, zero, suc, ◌+◌, ◌-◌, ◌<◌, ◌≤◌, Bool, true, List, ◌++◌, length, drop, Option, Some, None, get_or, option_map, chars, refl, sym, ap, ◌∙◌, arith}
 use Rattle.std.specs.Str.{IsUtf8}
-use Rattle.regress_match.proofs.TextLemmas.{chars-code_points, offset_of_end as utf8_end}
+use Rattle.regress_front_bytes.proofs.TextLemmas.{chars-code_points, offset_of_end as utf8_end}
 use Rattle.std.proofs.Math.Utf8.{encode, encodes, scalar}
 use Rattle.std.proofs.lemmas.Option.{slice_get_past, slice_get_within, slice_get-get_or}
 use Rattle.std.proofs.lemmas.Bool.{cases_lt}

@@ -4,7 +4,7 @@ use Rattle.std.specs.Char.{len_utf8, IsScalar}
 use Rattle.std.specs.Option.{SomeIff}
 use Rattle.std.proofs.Common.{◌≡◌, ◌⊎◌, inl, inr, ℕ, zero, suc, ◌+◌, ◌-◌, ◌<◌, ◌≤◌, true, false, List, length, Option, Some, None, get_or, option_map, chars, refl, sym, ap, ◌∙◌, subst, arith}
 use Rattle.std.specs.Str.{IsUtf8, IsCharBoundary}
-use Rattle.regress_match.proofs.TextLemmas.{place_of_boundary, offset_of_end as utf8_end}
+use Rattle.regress_front_bytes.proofs.TextLemmas.{place_of_boundary, offset_of_end as utf8_end}
 use Rattle.std.proofs.Math.Utf8.{scalar}
 use Rattle.std.proofs.lemmas.Option.{slice_get-get_or}
 use Rattle.std.proofs.lemmas.Bool.{cases_lt}

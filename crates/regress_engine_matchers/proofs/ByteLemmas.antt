@@ -6,7 +6,7 @@ use Rattle.regress_meaning.specs.Meaning.{Direction, Forward, Backward}
 use Rattle.regress_meaning.specs.Offsets.{offset, of_utf8}
 use Rattle.regress_meaning.specs.Inputs.{single_next}
 use Rattle.regress_meaning.specs.Steps.{passed, only_if}
-use Rattle.regress_match.proofs.TextLemmas.{place_of_boundary}
+use Rattle.regress_front_bytes.proofs.TextLemmas.{place_of_boundary}
 use Rattle.regress_engine_input.specs.Views.{View, Kind, utf8, ascii, utf16, ucs2, AreOfKind, IsReadable, CanRead, are_bytes, input_of, input_of_kind, reading_of_kind, in_bytes, unit_beside, past_unit}
 use Rattle.regress_engine_input.proofs.AsciiTests.{sees_bytes}
 use Rattle.regress_engine_input.proofs.UnitTexts.{single_offset}

@@ -9,7 +9,7 @@ use Rattle.regress_meaning.specs.Table.{Table}
 use Rattle.regress_meaning.specs.Steps.{repeated}
 use Rattle.regress_meaning.specs.Tokens.{is_high, is_low}
 use Rattle.regress_meaning.specs.Inputs.{Input, Tells, point_told, utf16_next, pair_right, pair_left, unit_before}
-use Rattle.regress_match.proofs.TextLemmas.{offset-le, place_of_boundary}
+use Rattle.regress_front_bytes.proofs.TextLemmas.{offset-le, place_of_boundary}
 use Rattle.regress_engine_input.specs.Views.{View, Kind, utf8, ascii, utf16, ucs2, AreOfKind, IsReadable, CanRead, input_of, input_of_kind, reading_of, units_repeated}
 use Rattle.regress_engine_input.proofs.KindLemmas.{tells, readable, repeats}
 use Rattle.regress_engine_input.proofs.UnitTexts.{single_offset}

@@ -23,7 +23,7 @@ use Rattle.regress_front_nodes.specs.WellFormed.{AreLawful}
 use Rattle.regress_front_nodes.specs.declared.node.AnchorType.{AnchorType}
 use Rattle.regress_front_nodes.specs.declared.node.AnchorType.TheVariants.{StartOfLine, EndOfLine}
 use Rattle.regress_front_nodes.specs.declared.node.Node.{Node}
-use Rattle.regress_match.proofs.TextLemmas.{chars-code_points}
+use Rattle.regress_front_bytes.proofs.TextLemmas.{chars-code_points}
 use Rattle.regress_engine_prefix.specs.FirstBytes.{AreFirstOf, MayLead, begins_one, AreFirstOfStrings}
 use Rattle.regress_engine_prefix.specs.Prefixes.{IsLawful, first_literal, HasBytes, Holds, HoldsFrom, IsWeaker, LeadsCharacters, Foretells}
 use Rattle.regress_engine_prefix.specs.declared.prefix.Prefix.{Prefix}

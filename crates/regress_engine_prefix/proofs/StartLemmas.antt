@@ -16,7 +16,7 @@ use Rattle.regress_meaning.specs.Meaning.{Context, State, Forward, is_some_and}
 use Rattle.regress_front_bytes.specs.ByteSets.{members, all_bytes}
 use Rattle.regress_front_nodes.specs.Trees.{Tree}
 use Rattle.regress_front_nodes.specs.TreeMeaning.{node_outcomes}
-use Rattle.regress_match.proofs.TextLemmas.{length-encodes, chars-code_points}
+use Rattle.regress_front_bytes.proofs.TextLemmas.{length-encodes, chars-code_points}
 use Rattle.regress_engine_prefix.specs.FirstBytes.{MayLead}
 use Rattle.regress_engine_prefix.specs.Prefixes.{Holds, HoldsFrom, first_literal, HasBytes, Foretells}
 use Rattle.regress_engine_prefix.specs.Starts.{SaysNoMore, IsAnchoredOnlyIf, IsAtStart, HoldsAtStart, IsSequence, KeepsSequence, KeepsLiteral, IsStartOf}

@@ -6,7 +6,7 @@ use Rattle.std.specs.Char.{len_utf8}
 use Rattle.std.specs.Str.{IsAscii, IsCharBoundary}
 use Rattle.regress_meaning.specs.Matches.{Item}
 use Rattle.regress_meaning.specs.Offsets.{Reading, offset, told, Begins, of_ascii, of_utf8}
-use Rattle.regress_match.proofs.TextLemmas.{length-encodes, offset_is_boundary}
+use Rattle.regress_front_bytes.proofs.TextLemmas.{length-encodes, offset_is_boundary}
 use Rattle.regress_engine_input.specs.Views.{Kind, utf8, ascii, utf16, ucs2, are_bytes, AreOfKind, reading_of_kind}
 use Rattle.regress_engine_input.proofs.UnitTexts.{single_offset}
 

@@ -12,7 +12,7 @@ use Rattle.regress_front_core.specs.declared.state.GroupData.{GroupData}
 use Rattle.regress_match.specs.declared.found.Match.{Match}
 use Rattle.regress_match.specs.Views as match
 use Rattle.regress_match.specs.Views.{ends}
-use Rattle.regress_match.proofs.TextLemmas.{offset-le}
+use Rattle.regress_front_bytes.proofs.TextLemmas.{offset-le}
 use Rattle.regress_front_nodes.specs.Trees.{Tree}
 use Rattle.regress_front_nodes.specs.WellFormed.{IsWellFormed}
 use Rattle.regress_front_nodes.specs.NodeMatches.{node_match_list}

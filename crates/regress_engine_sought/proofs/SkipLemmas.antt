@@ -11,7 +11,7 @@ use Rattle.regress_meaning.specs.TableParts.{is_code_point}
 use Rattle.regress_meaning.specs.Meaning.{Context, State, Forward}
 use Rattle.regress_meaning.specs.Inputs.{Tells, point_told, context_of}
 use Rattle.regress_meaning.specs.Offsets.{Reading, offset, of_utf8, of_utf16, of_ucs2}
-use Rattle.regress_match.proofs.TextLemmas.{length-encodes, offset-le, place_of_boundary}
+use Rattle.regress_front_bytes.proofs.TextLemmas.{length-encodes, offset-le, place_of_boundary}
 use Rattle.regress_front_nodes.specs.Trees.{Tree}
 use Rattle.regress_front_nodes.specs.TreeMeaning.{node_outcomes}
 use Rattle.regress_front_nodes.specs.WellFormed.{IsWellFormed}

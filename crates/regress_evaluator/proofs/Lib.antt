@@ -4,3 +4,4 @@ pub mod ToldLemmas
 pub mod EvaluatorLemmas
 pub mod RepetitionLemmas
 pub mod SearchLemmas
+pub mod BetweenLemmas

@@ -7,7 +7,7 @@ use Rattle.std.proofs.lemmas.Str.{encodes-append, length-encode, chars_from_enco
 use Rattle.std.specs.Prelude.{encode_utf8, slice_get}
 use Rattle.std.specs.Char.{len_utf8}
 use Rattle.std.specs.Str.{encode_utf8_all, chars, IsUtf8}
-use Rattle.regress_match.proofs.TextLemmas.{length-encodes}
+use Rattle.regress_front_bytes.proofs.TextLemmas.{length-encodes}
 
 -- an element of a list that grows at its end
 slice_get-append : {X : Type 0} (xs ys : List X) (k : ℕ) (x : X) → slice_get xs k ≡ Some x → slice_get (xs ++ ys) k ≡ Some x

@@ -1,6 +1,7 @@
 -- Where a search begins, and where it goes on.
 use Rattle.std.proofs.Common.{◌≡◌, ℕ, ◌<◌, ◌≤◌, ◌⊎◌, inl, inr, leb, true, false, List, [], length, Option, Some, None, IfSome, refl, sym, ap, subst, ◌∙◌, arith}
 use Rattle.std.proofs.lemmas.Bool.{cases_lt, le-leb, leb-true, false_from_ne_true}
+use Rattle.std.proofs.lemmas.Str.{chars-encodes}
 use Rattle.std.specs.Prelude.{IfNone, ◌≢◌}
 use Rattle.std.specs.Str.{encode_utf8_all, all_scalars}
 use Rattle.regress_meaning.specs.Matches.{Item}
@@ -8,7 +9,7 @@ use Rattle.regress_meaning.specs.Offsets.{offset, of_utf8, Begins}
 use Rattle.regress_meaning.specs.Laws.{OffsetsRise}
 use Rattle.regress_match.specs.TextRanges.{utf8_reading}
 use Rattle.regress_match.specs.Iterating.{coming_on}
-use Rattle.regress_match.proofs.TextLemmas.{read_back, offset-le}
+use Rattle.regress_front_bytes.proofs.TextLemmas.{offset-le}
 use Rattle.regress_evaluator.specs.Searching.{place_within}
 
 -- a test that fails on a greater number
@@ -30,7 +31,7 @@ pub starts_at : (points : List ℕ) → all_scalars points ≡ true → ((bytes 
 starts_at points h rise at n found all there nowhere place begins = go found there nowhere begins
   where
     rises : OffsetsRise (utf8_reading points)
-    rises = let P : List ℕ → Type 0 = λ ps. OffsetsRise (utf8_reading ps) in subst P (sym (read_back points h)) (rise (encode_utf8_all points))
+    rises = let P : List ℕ → Type 0 = λ ps. OffsetsRise (utf8_reading ps) in subst P (chars-encodes points h) (rise (encode_utf8_all points))
 
     same : (p : ℕ) → p ≤ length points → offset (utf8_reading points) p ≡ at → place ≤ length points → offset (utf8_reading points) place ≡ at → p ≡ place
     same p within here within' here' = order (cases_lt p place) (cases_lt place p)

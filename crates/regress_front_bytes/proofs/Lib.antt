@@ -2,3 +2,4 @@ pub mod BitRows
 pub mod Members
 pub mod Utf8Lemmas
 pub mod EqualRangeLemmas
+pub mod TextLemmas

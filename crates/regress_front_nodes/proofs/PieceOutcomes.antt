@@ -23,7 +23,7 @@ flat_map-All : {X : Type 0} (P : X → Type 0) (f : X → List X) → ((x : X) �
 flat_map-All P f h [] k = All-nil P
 flat_map-All P f h (x ∷ xs) k = All-append P (f x) (flat_map f xs) (h x (All-head P x xs k)) (flat_map-All P f h xs (All-tail P x xs k))
 
-flat_map-agree : {X Y : Type 0} (P : X → Type 0) (f g : X → List Y) → ((x : X) → P x → f x ≡ g x) → (xs : List X) → All P xs → flat_map f xs ≡ flat_map g xs
+pub flat_map-agree : {X Y : Type 0} (P : X → Type 0) (f g : X → List Y) → ((x : X) → P x → f x ≡ g x) → (xs : List X) → All P xs → flat_map f xs ≡ flat_map g xs
 flat_map-agree P f g h [] k = refl
 flat_map-agree P f g h (x ∷ xs) k =
     let here = h x (All-head P x xs k) in
@@ -59,7 +59,7 @@ module _ (w : Context) where
       by_test false h = refl
 
   -- a step over several is one over the first and then one over the others
-  step-first : (p : ℕ → Bool) (q t : List ℕ → Bool) → ((d : ℕ) (ds : List ℕ) → t (d ∷ ds) ≡ (p d && q ds)) → (n : ℕ) (s : State)
+  pub step-first : (p : ℕ → Bool) (q t : List ℕ → Bool) → ((d : ℕ) (ds : List ℕ) → t (d ∷ ds) ≡ (p d && q ds)) → (n : ℕ) (s : State)
       → step w Forward (suc n) t s ≡ flat_map (step w Forward n q) (step w Forward 1 (list_all p) s)
   step-first p q t split n s =
       elim (cases_lt s.place (length w.text)) [
@@ -115,7 +115,7 @@ module _ (w : Context) where
   back-out k test s h = let room : nat_le k s.place ≡ false = lt-leb k s.place h in rw room refl
 
   -- a step over several is one over the last of them to come, the first of the text, after one over the others
-  step-last : (p : ℕ → Bool) (q t : List ℕ → Bool) → ((d : ℕ) (ds : List ℕ) → t (d ∷ ds) ≡ (p d && q ds)) → (n : ℕ) (s : State) → s.place ≤ length w.text
+  pub step-last : (p : ℕ → Bool) (q t : List ℕ → Bool) → ((d : ℕ) (ds : List ℕ) → t (d ∷ ds) ≡ (p d && q ds)) → (n : ℕ) (s : State) → s.place ≤ length w.text
       → step w Backward (suc n) t s ≡ flat_map (step w Backward 1 (list_all p)) (step w Backward n q s)
   step-last p q t split n s inside =
       elim (cases_lt s.place (suc n)) [

@@ -9,5 +9,5 @@ pub mod LoweredAlike
 pub mod ArmLemmas
 pub mod LowerableLemmas
 pub mod LoweringLemmas
-pub mod TextLemmas
+pub mod TextTerms
 pub mod TextSteps

@@ -18,7 +18,7 @@ use Rattle.regress_front_nodes.specs.Forms.{cat_made, in_reading_order}
 use Rattle.regress_front_tree.specs.Lowering.{HasArms, one_arm, two_halves, class_arms, class_value, LowersClass, Lowers, of_character, of_any, of_class, of_negated_class, of_class_escape, of_terms, of_arms, of_capture, of_group, of_modified, of_repeated, of_look, of_atomic, of_reference, of_line_start, of_line_end, of_word_boundary, LowersAll, no_pattern, and_next, LowersTerms, no_term, next_term, next_text}
 use Rattle.regress_front_tree.proofs.SameLemmas.{same-push, same-made, same-arms}
 use Rattle.regress_front_tree.proofs.GroupLemmas.{Fits, same-fits, Leaf, leaf, cat-fits, back-fits, takes-leaf, no_part-leaf, class-leaves, All-turned, back-leaves, capture-fits}
-use Rattle.regress_front_tree.proofs.TextLemmas.{text-names, text-plain, text-weight, text-numbered, text-fits, pieces-size}
+use Rattle.regress_front_tree.proofs.TextTerms.{text-names, text-plain, text-weight, text-numbered, text-fits, pieces-size}
 use Rattle.regress_front_tree.proofs.NumberLemmas.{numbered-from, IsNumberedFrom, sequence-numbered, capture-numbered, choice-names, choice-numbers, choice-quantifiers, choice-numbered}
 use Rattle.regress_front_nodes.proofs.NodeLemmas.{same_text-same}
 

@@ -1,6 +1,5 @@
 pub mod GroupLemmas
 pub mod NameLemmas
-pub mod TextLemmas
 pub mod RangeLemmas
 pub mod NamedLemmas
 pub mod TakenLemmas

@@ -1,11 +1,10 @@
 -- An escaped text, character by character, and read back from its bytes.
-use Rattle.std.proofs.Common.{◌≡◌, ℕ, Bool, true, false, ◌&&◌, List, [], ◌∷◌, ◌++◌, if◌then◌else◌, refl, sym, ap}
+use Rattle.std.proofs.Common.{◌≡◌, ℕ, Bool, true, false, ◌&&◌, List, [], ◌∷◌, ◌++◌, if◌then◌else◌, refl, ap}
 use Rattle.std.proofs.lemmas.Bool.{and_parts, and_from}
-use Rattle.std.proofs.lemmas.Str.{scalars-chars}
+use Rattle.std.proofs.lemmas.Str.{scalars-chars, chars-encodes}
 use lib.Utf8.{scalar}
 use Rattle.std.specs.Str.{chars, encode_utf8_all, all_scalars, IsUtf8}
 use Rattle.regress_meaning.specs.Literal.{is_syntax_character, escaped_text}
-use Rattle.regress_match.proofs.TextLemmas.{read_back}
 
 -- the escaped text of two texts, one behind the other
 pub escaped-append : (cs ds : List ℕ) → escaped_text (cs ++ ds) ≡ escaped_text cs ++ escaped_text ds
@@ -34,7 +33,7 @@ scalars-escaped (c ∷ cs) e =
 
 -- the bytes of an escaped text are read as that text
 pub escaped-read_back : (bytes : List ℕ) → IsUtf8 bytes → chars (encode_utf8_all (escaped_text (chars bytes))) ≡ escaped_text (chars bytes)
-escaped-read_back bytes utf8 = sym (read_back (escaped_text (chars bytes)) (scalars-escaped (chars bytes) (scalars-chars bytes utf8)))
+escaped-read_back bytes utf8 = chars-encodes (escaped_text (chars bytes)) (scalars-escaped (chars bytes) (scalars-chars bytes utf8))
 
 -- the escaped text of one character
 pub escaped-syntax : (c : ℕ) → is_syntax_character c ≡ true → escaped_text (c ∷ []) ≡ 0x5C ∷ c ∷ []

@@ -1,5 +1,5 @@
 use Rattle.std.proofs.Common.{◌+◌, length, chars, inl, inr, refl, rules, arith}
-use Rattle.regress_match.proofs.TextLemmas.{offset_of_end, place_of_boundary, boundary_of_place}
+use Rattle.regress_front_bytes.proofs.TextLemmas.{offset_of_end, place_of_boundary, boundary_of_place}
 use Rattle.regress.proofs.api.is_start.Goals as goal
 
 pub returns-then-start-text : goal.returns-then-start-text

@@ -1,5 +1,5 @@
 use Rattle.regress_front_tables.specs.TableViews.{table}
-use Rattle.regress_front_tree.proofs.TextLemmas.{made-pieces}
+use Rattle.regress_front_tree.proofs.TextTerms.{made-pieces}
 use Rattle.regress_front_tree.proofs.lowering.text_pieces.Goals as goal
 
 pub returns : goal.returns

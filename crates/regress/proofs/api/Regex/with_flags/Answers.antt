@@ -1,5 +1,5 @@
 use Rattle.std.proofs.Common.{◌∙◌}
-use Rattle.regress_match.proofs.TextLemmas.{chars-code_points}
+use Rattle.regress_front_bytes.proofs.TextLemmas.{chars-code_points}
 use Rattle.regress.proofs.ShownLemmas.{text-as}
 use Rattle.regress.proofs.api.Regex.with_flags.Goals as goal
 

@@ -10,7 +10,7 @@ use Rattle.regress_front_nodes.specs.Trees.{tree}
 use Rattle.regress_match.specs.GroupNames.{group_count}
 use Rattle.regress_match.specs.TextRanges.{utf8_reading, LiesInText}
 use Rattle.regress_match.specs.Iterating.{coming_on}
-use Rattle.regress_match.proofs.TextLemmas.{told-between}
+use Rattle.regress_evaluator.proofs.BetweenLemmas.{told-between}
 use Rattle.regress_front_nodes.specs.NodeMatches.{node_first_match}
 use Rattle.regress_evaluator.specs.PlaceViews.{item_of}
 use Rattle.regress_evaluator.specs.Searching.{searching, points_of, matches_of, items_from}
