@@ -40,5 +40,5 @@ pub use regress_engine_runs::{
 };
 pub use regress_engine_sought::{
     AnyText, AsciiText, Executor, ExecutorInput, Shown, Subject, TextKind, executors_list_matches,
-    roads_agree, start_predicates_may_skip,
+    executors_match_as_trees, roads_agree, start_predicates_may_skip,
 };

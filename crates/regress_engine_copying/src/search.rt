@@ -6,7 +6,7 @@ ghost use Rattle.regress_engine_code.specs.Standing.{names_of, program_of};
 ghost use Rattle.regress_engine_input.specs.Views.{input_of, reading_of};
 ghost use Rattle.regress_engine_runs.specs.Items.{Finds};
 ghost use Rattle.regress_engine_runs.specs.Meets.{IsAtPlace};
-ghost use Rattle.regress_engine_sought.specs.Answering.{IsFound};
+ghost use Rattle.regress_engine_sought.specs.Answering.{IsFound, IsOutcome};
 ghost use Rattle.regress_engine_sought.specs.Sought.{IsMadeOf, IsItemAtPlaces};
 ghost use Rattle.regress_engine_copying.specs.StateOf.{groups_of};
 
@@ -102,5 +102,34 @@ impl<'r, Input: ExecutorInput> PikeVMExecutor<'r, Input> {
         let captures = captures(self.alloc, &found.groups)?;
         let names = self.subject.program.shared_group_names()?;
         Ok(Some(Match::new(start..found.offset, captures, names)))
+    }
+
+    /// The match that begins at an offset: that of the program's run from there, begun at the first instruction with nothing
+    /// set, as a sticky search asks ("RegExpBuiltinExec"). `None` where that run has no answer; no other place is looked at. It
+    /// errs where memory is refused alone, and may then be asked again.
+    ///
+    /// Asks that the offset is that of a place of the text.
+    ///
+    /// ```rust
+    /// let found = executor.match_at(3)?;
+    /// ```
+    pub fn match_at(&mut self, offset: usize) -> Result<Option<Match>, AllocError>
+        requires { IsAtPlace (reading_of (Input.view self.old.subject.input)) offset }
+        ensures outcome { IfOk result (λ found. IsOutcome (program_of self.old.subject.program.now) (input_of (Input.view self.old.subject.input)) offset (option_map item_of found)) }
+        ensures inside { IfOk result (λ found. IfSome found (λ m. IsItemAtPlaces (reading_of (Input.view self.old.subject.input)) (item_of m))) }
+        ensures named { IfOk result (λ found. IfSome found (λ m. names_of_match m ≡ names_of self.old.subject.program.now)) }
+        ensures kept { self.new.subject ≡ self.old.subject }
+    {
+        let attempt = Attempt {
+            program: self.subject.program,
+            input: self.subject.input,
+            start: offset,
+        };
+        let Some(found) = attempt.run(self.alloc, &mut self.stack, &mut self.ends)? else {
+            return Ok(None);
+        };
+        let captures = captures(self.alloc, &found.groups)?;
+        let names = self.subject.program.shared_group_names()?;
+        Ok(Some(Match::new(offset..found.offset, captures, names)))
     }
 }

@@ -53,12 +53,12 @@ module _ (program : Program) (input : Input) (reading : Reading) (tells : Tells 
   next-none p room e = tells.next Forward p room ∙ ap (λ (o : Option ℕ). option_map (point_told reading) (option_map (λ c. (c, suc p)) o)) e
 
   -- What a place has, in the tree and in the run that begins there.
-  abbrev Agrees : ℕ → Type 0
+  abbrev pub Agrees : ℕ → Type 0
   Agrees p =
       ((node_attempt context n t p ≡ None) × Answers program input (offset reading p) None)
       ⊎ ((i : Item) × (w : Whole) × (node_attempt context n t p ≡ Some i) × Answers program input (offset reading p) (Some w) × (item_of (offset reading p) w ≡ told reading i))
 
-  agrees : (p : ℕ) → p ≤ size → Agrees p
+  pub agrees : (p : ℕ) → p ≤ size → Agrees p
   agrees p room =
       let x = runs p room in
       let s : State = record { place = p; groups = replicate n None } in
@@ -195,7 +195,7 @@ module _ (program : Program) (input : Input) (reading : Reading) (tells : Tells 
 
 -- What a search finds, and what searches list, is determined.
 module _ (program : Program) (input : Input) where
-  one_answer : (at : ℕ) (r q : Option Whole) → Answers program input at r → Answers program input at q → r ≡ q
+  pub one_answer : (at : ℕ) (r q : Option Whole) → Answers program input at r → Answers program input at q → r ≡ q
   one_answer at r q h k = (one_run program input h.1 k.1).1
 
   -- how a search may have come to what it found

@@ -13,7 +13,7 @@ use Rattle.regress_meaning.specs.Matches.{Item}
 use Rattle.regress_meaning.specs.Offsets.{offset, told, Begins}
 use Rattle.regress_front_nodes.specs.Trees.{Tree}
 use Rattle.regress_front_nodes.specs.WellFormed.{IsWellFormed}
-use Rattle.regress_front_nodes.specs.NodeMatches.{node_match_list}
+use Rattle.regress_front_nodes.specs.NodeMatches.{node_attempt, node_match_list}
 use Rattle.regress_match.specs.declared.found.Match.{Match}
 use Rattle.regress_match.specs.Views.{ends, item_of}
 use Rattle.regress_match.specs.TextRanges.{LiesBetween, LiesInText}
@@ -25,11 +25,13 @@ use Rattle.regress_engine_input.proofs.KindLemmas.{tells, tells_bytes, end}
 use Rattle.regress_engine_code.specs.Instructions.{Program}
 use Rattle.regress_engine_code.specs.Standing.{program_of, target_of}
 use Rattle.regress_engine_code.specs.Layout.{IsLayout}
-use Rattle.regress_engine_runs.specs.Items.{Finds, Lists, over, no_item, next_item, goes_on, begins_at}
+use Rattle.regress_engine_runs.specs.States.{Whole}
+use Rattle.regress_engine_runs.specs.Items.{item_of as item_of_answer, Answers, Finds, Lists, over, no_item, next_item, goes_on, begins_at}
 use Rattle.regress_engine_runs.specs.Meets.{IsAtPlace, AreAtPlaces}
 use Rattle.regress_engine_runs.specs.Stand.{RunsAsTree}
-use Rattle.regress_engine_runs.proofs.ItemLemmas.{lists, lists-from_offset}
+use Rattle.regress_engine_runs.proofs.ItemLemmas.{agrees, one_answer, lists, lists-from_offset}
 use Rattle.regress_engine_runs.proofs.WholeTree.{runs_as_tree}
+use Rattle.regress_engine_sought.specs.Answering.{IsOutcome}
 use Rattle.regress_engine_sought.specs.Sought.{IsMadeOf, IsItemAtPlaces, Sought, last_place, place_at, last_place-le, items_from, places_behind, IsPosition}
 use Rattle.regress_engine_sought.specs.SoughtOnce.{rises, same_items}
 use Rattle.regress_engine_sought.proofs.ByteTexts.{place-cut}
@@ -172,6 +174,29 @@ module _ (s : Sought) where
         asked : (o : Option ℕ) → o ≡ begins_at input at → IfSome o (IsPosition s) → ∥ Lists program input (begins_at input at) (coming_on (items_from s) o) ∥₁
         asked None e inside = ∣ subst (λ x. Lists program input x []) e (over) ∣₁
         asked (Some q) e inside = ∥∥₁_map (items-listed q inside) (λ l. subst (λ x. Lists program input x (items_from s q)) e l)
+
+    -- the outcome of the run at a place is the tree's, told in offsets
+    pub outcome-of_tree : (p : ℕ) → p ≤ length (reading_of s.view).points → (i : Option Item) → IsOutcome program input (offset (reading_of s.view) p) i
+        → i ≡ option_map (told (reading_of s.view)) (node_attempt (context_of (reading_of s.view) input) n t p)
+    outcome-of_tree p room i outcome =
+        by_tree (agrees program input (reading_of s.view) (tells s.view.kind s.view.table s.view.unicode s.view.units all) n t runs p room) i outcome
+      where
+        at : ℕ
+        at = offset (reading_of s.view) p
+
+        attempted : Option Item
+        attempted = node_attempt (context_of (reading_of s.view) input) n t p
+
+        by_tree : ((attempted ≡ None) × Answers program input at None)
+            ⊎ ((j : Item) × (w : Whole) × (attempted ≡ Some j) × Answers program input at (Some w) × (item_of_answer at w ≡ told (reading_of s.view) j))
+            → (i : Option Item) → IsOutcome program input at i → i ≡ option_map (told (reading_of s.view)) attempted
+        by_tree (inl (none, run)) None outcome = sym (ap (option_map (told (reading_of s.view))) none)
+        by_tree (inl (none, run)) (Some x) (w, answers, same) = let e = one_answer program input at (Some w) None answers run in absurd (cc)
+        by_tree (inr (j, w, some, run, told_as)) None outcome = let e = one_answer program input at None (Some w) outcome run in absurd (cc)
+        by_tree (inr (j, w, some, run, told_as)) (Some x) (u, answers, same) =
+            let e = one_answer program input at (Some u) (Some w) answers run in
+            let one : u ≡ w = cc in
+            ap (λ (y : Item). Some y) (sym same ∙ ap (item_of_answer at) one ∙ told_as) ∙ sym (ap (option_map (told (reading_of s.view))) some)
 
 -- ---- over bytes
 

@@ -2,13 +2,28 @@
 use mathlib.Core.HLevel.{is_prop→PathP}
 use Rattle.std.specs.Prelude.{Ok}
 use Rattle.std.proofs.Common.{◌≡◌, ℕ, List, ◌∷◌, Option, Some, None, option_map, refl, sym, ap, ◌∙◌, subst}
+use Rattle.regress_meaning.specs.Inputs.{Input}
 use Rattle.regress_meaning.specs.Matches.{Item}
 use Rattle.regress_match.specs.declared.found.Match.{Match}
 use Rattle.regress_match.specs.Iterating.{coming_on}
 use Rattle.regress_match.specs.Views.{item_of}
+use Rattle.regress_engine_code.specs.Instructions.{Program}
 use Rattle.regress_engine_code.specs.Standing.{program_of}
+use Rattle.regress_engine_runs.specs.Items.{item_of as item_of_answer}
+use Rattle.regress_engine_runs.proofs.ItemLemmas.{one_answer}
+use Rattle.regress_engine_sought.specs.Answering.{IsOutcome}
 use Rattle.regress_engine_sought.specs.Sought.{Sought, IsSought, Steps, items_from}
 use Rattle.regress_engine_sought.specs.SoughtOnce.{IsSought-prop}
+
+-- the outcomes of runs from one offset
+pub outcomes-agree : (program : Program) (input : Input) (at : ℕ) (i j : Option Item) → IsOutcome program input at i → IsOutcome program input at j → i ≡ j
+outcomes-agree program input at None None h k = refl
+outcomes-agree program input at None (Some y) h (v, answers, same) = let e = one_answer program input at None (Some v) h answers in absurd (cc)
+outcomes-agree program input at (Some x) None (w, answers, same) k = let e = one_answer program input at (Some w) None answers k in absurd (cc)
+outcomes-agree program input at (Some x) (Some y) (w, first, told) (v, second, same) =
+    let e = one_answer program input at (Some w) (Some v) first second in
+    let one : w ≡ v = cc in
+    ap Some (sym told ∙ ap (item_of_answer at) one ∙ same)
 
 -- what is sought is a program in a text
 same_sought : (s t : Sought) → s.compiled ≡ t.compiled → s.view ≡ t.view → s ≡ t

@@ -11,7 +11,9 @@ mod submatch;
 
 pub use captured::captures;
 pub use executor::{AnyText, AsciiText, Executor, TextKind};
-pub use laws::{executors_list_matches, roads_agree, start_predicates_may_skip};
+pub use laws::{
+    executors_list_matches, executors_match_as_trees, roads_agree, start_predicates_may_skip,
+};
 pub use shown::{ExecutorInput, Shown};
 pub use subject::Subject;
 pub use submatch::Submatch;

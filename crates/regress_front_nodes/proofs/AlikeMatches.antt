@@ -29,7 +29,8 @@ module _ (table : Table) (o : Options) (p : Pattern) (text : List ℕ) (tree : T
   abbrev context : Context
   context = record { text = text; table = table; unicode = is_unicode o }
 
-  attempt-same : (q : ℕ) → q ≤ length text → node_attempt context count tree q ≡ attempt table o p text q
+  -- what is attempted at a place of the text is the same
+  pub attempt-same : (q : ℕ) → q ≤ length text → node_attempt context count tree q ≡ attempt table o p text q
   unfolding node_attempt attempt
   attempt-same q within =
       let lies : Option (ℕ × ℕ) → Type 0 = λ g. IfSome g (LiesIn (length text)) in

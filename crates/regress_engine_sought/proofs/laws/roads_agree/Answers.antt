@@ -1,6 +1,9 @@
 use Rattle.regress_engine_runs.proofs.ItemLemmas.{one_find}
-use Rattle.regress_engine_sought.proofs.RoadLemmas.{roads-step}
+use Rattle.regress_engine_sought.proofs.RoadLemmas.{outcomes-agree, roads-step}
 use Rattle.regress_engine_sought.proofs.laws.roads_agree.Goals as goal
+
+pub returns-clause-outcome : goal.returns-clause-outcome
+returns-clause-outcome c = outcomes-agree
 
 pub returns-clause-found : goal.returns-clause-found
 returns-clause-found c = λ program input at i j h k. one_find program input h k
