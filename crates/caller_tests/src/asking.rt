@@ -8,7 +8,7 @@ use std::alloc::Global;
 use std::test::Fail;
 
 /// Whether there is a match from an offset on, at which a search may begin.
-fn matches_from(regex: &Regex<'_>, text: &str, start: usize) -> Result<bool, Fail> {
+fn matches_from(regex: &Regex, text: &str, start: usize) -> Result<bool, Fail> {
     if !is_start(text, start) {
         return Err("no search may begin there".into());
     }
@@ -16,7 +16,7 @@ fn matches_from(regex: &Regex<'_>, text: &str, start: usize) -> Result<bool, Fai
 }
 
 /// How many groups a match has, and the name of the first that is counted.
-fn groups_of<'r>(regex: &'r Regex<'_>) -> (usize, Option<&'r str>) {
+fn groups_of<'r>(regex: &'r Regex) -> (usize, Option<&'r str>) {
     let name = regex.group_names().first();
     (regex.captures_len(), name.map(|name| name.as_str()))
 }
@@ -55,7 +55,7 @@ fn a_surrogate_is_shown_as_another_character(rt: HostRuntime) -> Result<(), Fail
 }
 
 /// A regex that searches texts for `a` and units for `b`.
-fn of_two_programs(alloc: Global, tables: &Tables) -> Result<Regex<'_>, Error> {
+fn of_two_programs(alloc: Global, tables: &Tables) -> Result<Regex, Error> {
     let flags = Flags::default();
     let of_bytes = backends::emit(alloc, &backends::try_parse(alloc, &[0x61], flags, tables)?)?;
     let of_units = backends::emit_units(
@@ -66,7 +66,7 @@ fn of_two_programs(alloc: Global, tables: &Tables) -> Result<Regex<'_>, Error> {
 }
 
 /// The first match in units that are each one character, from an offset on.
-fn first_in_units(regex: &Regex<'_>, units: &[u16], start: usize) -> Result<Option<Match>, Error> {
+fn first_in_units(regex: &Regex, units: &[u16], start: usize) -> Result<Option<Match>, Error> {
     regex.find_from_ucs2(units, start)?.next().transpose()
 }
 

@@ -23,22 +23,22 @@ fn start_of(alloc: Global, found: &Match) -> Result<String, Error> {
 }
 
 /// A text with its first match replaced by `$0`, as it stands.
-fn first_as_it_stands(alloc: Global, regex: &Regex<'_>, text: &str) -> Result<String, Error> {
+fn first_as_it_stands(alloc: Global, regex: &Regex, text: &str) -> Result<String, Error> {
     regex.replace_with(text, |_| Ok(String::from_str(alloc, "$0")?))
 }
 
 /// A text with each match replaced by its start.
-fn starts(alloc: Global, regex: &Regex<'_>, text: &str) -> Result<String, Error> {
+fn starts(alloc: Global, regex: &Regex, text: &str) -> Result<String, Error> {
     regex.replace_all_with(text, |found| start_of(alloc, found))
 }
 
 /// A text with each match replaced by what `answer` says.
-fn answered(alloc: Global, regex: &Regex<'_>, text: &str) -> Result<String, Error> {
+fn answered(alloc: Global, regex: &Regex, text: &str) -> Result<String, Error> {
     regex.replace_all_with(text, |found| answer(alloc, found))
 }
 
 /// The same, with the first match alone.
-fn first_answered(alloc: Global, regex: &Regex<'_>, text: &str) -> Result<String, Error> {
+fn first_answered(alloc: Global, regex: &Regex, text: &str) -> Result<String, Error> {
     regex.replace_with(text, |found| answer(alloc, found))
 }
 

@@ -7,7 +7,7 @@ use std::alloc::Global;
 use std::test::Fail;
 
 /// The text of each match.
-fn parts<'t>(alloc: Global, regex: &Regex<'_>, text: &'t str) -> Result<Vec<&'t str>, Error> {
+fn parts<'t>(alloc: Global, regex: &Regex, text: &'t str) -> Result<Vec<&'t str>, Error> {
     let mut parts = Vec::new(alloc);
     for found in regex.find_iter(text)? {
         let found = found?;
@@ -19,7 +19,7 @@ fn parts<'t>(alloc: Global, regex: &Regex<'_>, text: &'t str) -> Result<Vec<&'t 
 /// The text that a group took, of each match in which it took part.
 fn parts_of_group<'t>(
     alloc: Global,
-    regex: &Regex<'_>,
+    regex: &Regex,
     text: &'t str,
     group: usize,
 ) -> Result<Vec<&'t str>, Error> {
@@ -35,7 +35,7 @@ fn parts_of_group<'t>(
 }
 
 /// The text of each field of a line, without blanks.
-fn fields<'t>(alloc: Global, regex: &Regex<'_>, line: &'t str) -> Result<Vec<&'t str>, Error> {
+fn fields<'t>(alloc: Global, regex: &Regex, line: &'t str) -> Result<Vec<&'t str>, Error> {
     let mut fields = Vec::new(alloc);
     for field in regex.split(line)? {
         let field = field?;
@@ -45,7 +45,7 @@ fn fields<'t>(alloc: Global, regex: &Regex<'_>, line: &'t str) -> Result<Vec<&'t
 }
 
 /// A key and a value, where a line has both.
-fn pair<'t>(regex: &Regex<'_>, line: &'t str) -> Result<Option<(&'t str, &'t str)>, Error> {
+fn pair<'t>(regex: &Regex, line: &'t str) -> Result<Option<(&'t str, &'t str)>, Error> {
     let mut parts = regex.splitn(line, 2)?;
     let key = parts.next().transpose()?;
     let value = parts.next().transpose()?;
@@ -53,7 +53,7 @@ fn pair<'t>(regex: &Regex<'_>, line: &'t str) -> Result<Option<(&'t str, &'t str
 }
 
 /// The match behind the first, by a search of its own.
-fn second(regex: &Regex<'_>, text: &str) -> Result<Option<Match>, Error> {
+fn second(regex: &Regex, text: &str) -> Result<Option<Match>, Error> {
     let Some(first) = regex.find(text)? else {
         return Ok(None);
     };
@@ -63,7 +63,7 @@ fn second(regex: &Regex<'_>, text: &str) -> Result<Option<Match>, Error> {
 /// Of each match, where the first match behind it begins.
 fn starts_behind(
     alloc: Global,
-    regex: &Regex<'_>,
+    regex: &Regex,
     text: &str,
 ) -> Result<Vec<Option<usize>>, Error> {
     let mut starts = Vec::new(alloc);
@@ -78,7 +78,7 @@ fn starts_behind(
 /// The units that each match takes, in units of UTF-16.
 fn unit_parts<'t>(
     alloc: Global,
-    regex: &Regex<'_>,
+    regex: &Regex,
     units: &'t [u16],
 ) -> Result<Vec<&'t [u16]>, Error> {
     let mut parts = Vec::new(alloc);

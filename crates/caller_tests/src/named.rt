@@ -39,7 +39,7 @@ fn names_are_told_and_counted(rt: HostRuntime) -> Result<(), Fail> {
 
 /// The text of a group of the first match, and that of the group of a name.
 fn texts<'t>(
-    regex: &Regex<'_>,
+    regex: &Regex,
     text: &'t str,
     group: usize,
     name: &str,
@@ -50,7 +50,7 @@ fn texts<'t>(
 
 /// The range of a copy of the first match, and the text of a group in the copy.
 fn copied<'t>(
-    regex: &Regex<'_>,
+    regex: &Regex,
     text: &'t str,
     group: usize,
 ) -> Result<(Range, Option<&'t str>), Fail> {

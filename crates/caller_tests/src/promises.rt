@@ -48,7 +48,7 @@ fn is_ascii(text: &str) -> bool
 }
 
 /// What a text is compiled to.
-fn of_text<'u>(alloc: Global, pattern: &str, tables: &'u Tables) -> Result<Regex<'u>, Error>
+fn of_text<'u>(alloc: Global, pattern: &str, tables: &'u Tables) -> Result<Regex, Error>
     ensures accepted { IfOk result (λ r. (p : Pattern) × Spells (table tables.now) no_flags (chars pattern.now) p
         × WithinLimits p × StandsFor r (table tables.now) no_flags p × StandsInUnits r (table tables.now) no_flags p) }
     ensures refused { IfErr result (MayRefuseRegex (table tables.now) no_flags (chars pattern.now)) }
@@ -62,7 +62,7 @@ fn of_text_under<'u>(
     pattern: &str,
     flags: Flags,
     tables: &'u Tables,
-) -> Result<Regex<'u>, Error>
+) -> Result<Regex, Error>
     ensures accepted { IfOk result (λ r. (p : Pattern) × Spells (table tables.now) (options flags) (chars pattern.now) p
         × WithinLimits p × StandsFor r (table tables.now) (options flags) p × StandsInUnits r (table tables.now) (options flags) p) }
     ensures refused { IfErr result (MayRefuseRegex (table tables.now) (options flags) (chars pattern.now)) }
@@ -76,7 +76,7 @@ fn of_points<'u>(
     points: &[u32],
     flags: Flags,
     tables: &'u Tables,
-) -> Result<Regex<'u>, Error>
+) -> Result<Regex, Error>
     requires { All (λ c. c ≤ 0x10_FFFF) points.now }
     ensures accepted { IfOk result (λ r. (p : Pattern) × Spells (table tables.now) (options flags) points.now p
         × WithinLimits p × StandsFor r (table tables.now) (options flags) p × StandsInUnits r (table tables.now) (options flags) p) }
@@ -86,7 +86,7 @@ fn of_points<'u>(
 }
 
 /// The first match in a text. Nothing is refused but memory.
-fn first_in_text(regex: &Regex<'_>, text: &str) -> Result<Option<Match>, Error>
+fn first_in_text(regex: &Regex, text: &str) -> Result<Option<Match>, Error>
     ensures found { (t : Table) → (o : Options) → (p : Pattern) → StandsFor regex.now t o p →
         IfOk result (λ found. option_map item_of found ≡ option_map (told (of_utf8 text.now)) (slice_get (match_list t o p (chars text.now) 0) 0)) }
     ensures refused { IsOkUnless result Error.OutOfMemory }
@@ -95,7 +95,7 @@ fn first_in_text(regex: &Regex<'_>, text: &str) -> Result<Option<Match>, Error>
 }
 
 /// The matches in a text.
-fn in_text<'r, 't>(regex: &'r Regex<'r>, text: &'t str) -> Result<Matches<'r, 't>, Error>
+fn in_text<'r, 't>(regex: &'r Regex, text: &'t str) -> Result<Matches<'r, 't>, Error>
     ensures { (t : Table) → (o : Options) → (p : Pattern) → StandsFor regex.now t o p →
         IfOk result (λ ms. coming ms ≡ map (told (of_utf8 text.now)) (match_list t o p (chars text.now) 0)) }
 {
@@ -104,7 +104,7 @@ fn in_text<'r, 't>(regex: &'r Regex<'r>, text: &'t str) -> Result<Matches<'r, 't
 
 /// The matches in a text from an offset on.
 fn in_text_from<'r, 't>(
-    regex: &'r Regex<'r>,
+    regex: &'r Regex,
     text: &'t str,
     start: usize,
 ) -> Result<Matches<'r, 't>, Error>
@@ -125,7 +125,7 @@ fn next_in_text(matches: &mut Matches<'_, '_>) -> Option<Result<Match, Error>>
 }
 
 /// The first match in a text of ASCII.
-fn first_in_ascii(regex: &Regex<'_>, text: &str) -> Result<Option<Match>, Error>
+fn first_in_ascii(regex: &Regex, text: &str) -> Result<Option<Match>, Error>
     requires { IsAscii text.now }
     ensures { (t : Table) → (o : Options) → (p : Pattern) → StandsFor regex.now t o p →
         IfOk result (λ found. option_map item_of found ≡ option_map (told (of_utf8 text.now)) (slice_get (match_list t o p (chars text.now) 0) 0)) }
@@ -134,7 +134,7 @@ fn first_in_ascii(regex: &Regex<'_>, text: &str) -> Result<Option<Match>, Error>
 }
 
 /// The matches in a text of ASCII.
-fn in_ascii<'r, 't>(regex: &'r Regex<'r>, text: &'t str) -> Result<AsciiMatches<'r, 't>, Error>
+fn in_ascii<'r, 't>(regex: &'r Regex, text: &'t str) -> Result<AsciiMatches<'r, 't>, Error>
     requires { IsAscii text.now }
     ensures { (t : Table) → (o : Options) → (p : Pattern) → StandsFor regex.now t o p →
         IfOk result (λ ms. coming_in_ascii ms ≡ map (told (of_utf8 text.now)) (match_list t o p (chars text.now) 0)) }
@@ -144,7 +144,7 @@ fn in_ascii<'r, 't>(regex: &'r Regex<'r>, text: &'t str) -> Result<AsciiMatches<
 
 /// The matches in a text of ASCII from an offset on.
 fn in_ascii_from<'r, 't>(
-    regex: &'r Regex<'r>,
+    regex: &'r Regex,
     text: &'t str,
     start: usize,
 ) -> Result<AsciiMatches<'r, 't>, Error>
@@ -158,7 +158,7 @@ fn in_ascii_from<'r, 't>(
 
 /// The matches in units of UTF-16 from an offset on.
 fn in_utf16_from<'r, 't>(
-    regex: &'r Regex<'r>,
+    regex: &'r Regex,
     units: &'t [u16],
     start: usize,
 ) -> Result<Utf16Matches<'r, 't>, Error>
@@ -172,7 +172,7 @@ fn in_utf16_from<'r, 't>(
 
 /// The matches in units that are each one character from an offset on.
 fn in_ucs2_from<'r, 't>(
-    regex: &'r Regex<'r>,
+    regex: &'r Regex,
     units: &'t [u16],
     start: usize,
 ) -> Result<Ucs2Matches<'r, 't>, Error>
@@ -184,7 +184,7 @@ fn in_ucs2_from<'r, 't>(
 }
 
 /// Whether there is a match in a text.
-fn has_match(regex: &Regex<'_>, text: &str) -> Result<bool, Error>
+fn has_match(regex: &Regex, text: &str) -> Result<bool, Error>
     ensures { (t : Table) → (o : Options) → (p : Pattern) → StandsFor regex.now t o p →
         IfOk result (λ found. IsTrue found ↔ (match_list t o p (chars text.now) 0 ≢ [])) }
 {
@@ -192,7 +192,7 @@ fn has_match(regex: &Regex<'_>, text: &str) -> Result<bool, Error>
 }
 
 /// Whether there is a match in a text from an offset on.
-fn has_match_from(regex: &Regex<'_>, text: &str, start: usize) -> Result<bool, Error>
+fn has_match_from(regex: &Regex, text: &str, start: usize) -> Result<bool, Error>
     requires { (place : ℕ) × Begins (of_utf8 text.now) start place }
     ensures { (t : Table) → (o : Options) → (p : Pattern) → StandsFor regex.now t o p →
         (place : ℕ) → Begins (of_utf8 text.now) start place →
@@ -202,14 +202,14 @@ fn has_match_from(regex: &Regex<'_>, text: &str, start: usize) -> Result<bool, E
 }
 
 /// The text of a compiled pattern.
-fn text_of<'r>(regex: &'r Regex<'_>) -> &'r str
+fn text_of<'r>(regex: &'r Regex) -> &'r str
     ensures { result.now ≡ source_of regex.now }
 {
     regex.as_str()
 }
 
 /// The same compiled pattern once more.
-fn copied<'u>(regex: &Regex<'u>) -> Result<Regex<'u>, Error>
+fn copied<'u>(regex: &Regex) -> Result<Regex, Error>
     ensures stands { (t : Table) → (o : Options) → (p : Pattern) → StandsFor regex.now t o p → IfOk result (λ copy. StandsFor copy t o p) }
     ensures stands_in_units { (t : Table) → (o : Options) → (p : Pattern) → StandsInUnits regex.now t o p → IfOk result (λ copy. StandsInUnits copy t o p) }
     ensures named { IfOk result (λ copy. names_of_regex copy ≡ names_of_regex regex.now) }
@@ -219,14 +219,14 @@ fn copied<'u>(regex: &Regex<'u>) -> Result<Regex<'u>, Error>
 }
 
 /// How many groups a match has.
-fn group_count(regex: &Regex<'_>) -> usize
+fn group_count(regex: &Regex) -> usize
     ensures { result ≡ length (names_of_regex regex.now) + 1 }
 {
     regex.captures_len()
 }
 
 /// The names of the groups of a compiled pattern.
-fn names<'r>(regex: &'r Regex<'_>) -> &'r [String]
+fn names<'r>(regex: &'r Regex) -> &'r [String]
     ensures { map string_bytes result.now ≡ names_of_regex regex.now }
 {
     regex.group_names()
@@ -255,7 +255,7 @@ fn escaped(alloc: Global, text: &str) -> Result<String, Error>
 }
 
 /// A text with its first match replaced.
-fn with_first_replaced(regex: &Regex<'_>, text: &str, replacement: &str) -> Result<String, Error>
+fn with_first_replaced(regex: &Regex, text: &str, replacement: &str) -> Result<String, Error>
     ensures { (t : Table) → (o : Options) → (p : Pattern) → StandsFor regex.now t o p →
         let items = take 1 (map (told (of_utf8 text.now)) (match_list t o p (chars text.now) 0)) in
         IfOk result (λ s. string_bytes s ≡ replaced text.now items (map (expansion (names_of_regex regex.now) replacement.now text.now) items)) }
@@ -264,7 +264,7 @@ fn with_first_replaced(regex: &Regex<'_>, text: &str, replacement: &str) -> Resu
 }
 
 /// A text with all matches replaced.
-fn with_all_replaced(regex: &Regex<'_>, text: &str, replacement: &str) -> Result<String, Error>
+fn with_all_replaced(regex: &Regex, text: &str, replacement: &str) -> Result<String, Error>
     ensures { (t : Table) → (o : Options) → (p : Pattern) → StandsFor regex.now t o p →
         let items = map (told (of_utf8 text.now)) (match_list t o p (chars text.now) 0) in
         IfOk result (λ s. string_bytes s ≡ replaced text.now items (map (expansion (names_of_regex regex.now) replacement.now text.now) items)) }
@@ -273,7 +273,7 @@ fn with_all_replaced(regex: &Regex<'_>, text: &str, replacement: &str) -> Result
 }
 
 /// The parts of a text between the matches.
-fn between<'r, 't>(regex: &'r Regex<'r>, text: &'t str) -> Result<Split<'r, 't>, Error>
+fn between<'r, 't>(regex: &'r Regex, text: &'t str) -> Result<Split<'r, 't>, Error>
     ensures { (t : Table) → (o : Options) → (p : Pattern) → StandsFor regex.now t o p →
         IfOk result (λ s. parts_left s ≡ parts text.now (map (told (of_utf8 text.now)) (match_list t o p (chars text.now) 0))) }
 {
@@ -282,7 +282,7 @@ fn between<'r, 't>(regex: &'r Regex<'r>, text: &'t str) -> Result<Split<'r, 't>,
 
 /// At most so many of them.
 fn at_most_between<'r, 't>(
-    regex: &'r Regex<'r>,
+    regex: &'r Regex,
     text: &'t str,
     limit: usize,
 ) -> Result<SplitN<'r, 't>, Error>
@@ -307,7 +307,7 @@ fn next_of_at_most<'t>(split: &mut SplitN<'_, 't>) -> Option<Result<&'t str, Err
 }
 
 /// A text with its first match replaced by what a closure answers.
-fn with_first_answered<E, F>(regex: &Regex<'_>, text: &str, with: F) -> Result<String, E>
+fn with_first_answered<E, F>(regex: &Regex, text: &str, with: F) -> Result<String, E>
 where
     E: From<Error>,
     F: FnOnce(&Match) -> Result<String, E>,
@@ -321,7 +321,7 @@ where
 }
 
 /// A text with all matches replaced by what a closure answers.
-fn with_all_answered<E, F>(regex: &Regex<'_>, text: &str, with: F) -> Result<String, E>
+fn with_all_answered<E, F>(regex: &Regex, text: &str, with: F) -> Result<String, E>
 where
     E: From<Error>,
     F: Fn(&Match) -> Result<String, E>,
@@ -336,7 +336,7 @@ where
 
 /// The matches that an executor finds from an offset on.
 fn found_by<'t, E: Executor<'t>>(
-    regex: &'t Regex<'t>,
+    regex: &'t Regex,
     text: &'t str,
     start: usize,
 ) -> Result<backends::Matches<E>, AllocError>
@@ -351,7 +351,7 @@ fn found_by<'t, E: Executor<'t>>(
 
 /// The same as it goes over ASCII.
 fn found_in_ascii_by<'t, E: Executor<'t>>(
-    regex: &'t Regex<'t>,
+    regex: &'t Regex,
     text: &'t str,
     start: usize,
 ) -> Result<backends::Matches<E::AsAscii>, AllocError>
@@ -369,9 +369,9 @@ where
 /// A compiled pattern of two programs: in texts it is what the one of bytes was made of, in units what the other was.
 fn of_programs<'u>(
     alloc: Global,
-    byte_program: CompiledRegex<'u>,
-    unit_program: CompiledRegex<'u>,
-) -> Result<Regex<'u>, Error>
+    byte_program: CompiledRegex,
+    unit_program: CompiledRegex,
+) -> Result<Regex, Error>
     requires of_bytes { byte_program.units ≡ false }
     requires of_units { unit_program.units ≡ true }
     ensures stands { (t : Table) → (o : Options) → (p : Pattern) → IsProgramOf byte_program.entry t o p → IfOk result (λ r. StandsFor r t o p) }

@@ -10,7 +10,7 @@ pub(crate) fn compiled_under<'t>(
     pattern: &str,
     flags: Flags,
     tables: &'t Tables,
-) -> Result<Regex<'t>, Error> {
+) -> Result<Regex, Error> {
     Regex::with_flags(alloc, pattern, flags, tables)
 }
 
@@ -20,12 +20,12 @@ pub(crate) fn compiled<'t>(
     pattern: &str,
     flags: &str,
     tables: &'t Tables,
-) -> Result<Regex<'t>, Error> {
+) -> Result<Regex, Error> {
     compiled_under(alloc, pattern, Flags::from(flags), tables)
 }
 
 /// The first match in a text.
-pub(crate) fn first(regex: &Regex<'_>, text: &str) -> Result<Option<Match>, Error> {
+pub(crate) fn first(regex: &Regex, text: &str) -> Result<Option<Match>, Error> {
     regex.find(text)
 }
 

@@ -56,7 +56,7 @@ pub(crate) fn compiled<'t>(
     pattern: &str,
     flags: Flags,
     tables: &'t Tables,
-) -> Result<Regex<'t>, Error> {
+) -> Result<Regex, Error> {
     Regex::with_flags(alloc, pattern, flags, tables)
 }
 
@@ -66,7 +66,7 @@ pub(crate) fn compiled_points<'t>(
     points: &[u32],
     flags: Flags,
     tables: &'t Tables,
-) -> Result<Regex<'t>, Error> {
+) -> Result<Regex, Error> {
     if !are_code_points(points) {
         return Err(Error::OutOfMemory);
     }
@@ -79,7 +79,7 @@ pub(crate) fn of_programs<'t>(
     points: &[u32],
     flags: Flags,
     tables: &'t Tables,
-) -> Result<Regex<'t>, Error> {
+) -> Result<Regex, Error> {
     if !are_code_points(points) {
         return Err(Error::OutOfMemory);
     }
@@ -91,7 +91,7 @@ pub(crate) fn of_programs<'t>(
 /// The matches by `find_from`; behind the last nothing may come.
 pub(crate) fn default_matches(
     alloc: Global,
-    regex: &Regex<'_>,
+    regex: &Regex,
     text: &str,
     start: usize,
 ) -> Result<String, AllocError> {
@@ -117,7 +117,7 @@ pub(crate) fn default_matches(
 /// The matches by the executor that undoes.
 pub(crate) fn undoing_matches<'t>(
     alloc: Global,
-    regex: &'t Regex<'t>,
+    regex: &'t Regex,
     text: &'t str,
     start: usize,
 ) -> Result<String, AllocError> {
@@ -133,7 +133,7 @@ pub(crate) fn undoing_matches<'t>(
 /// The matches by the executor that copies.
 pub(crate) fn copying_matches<'t>(
     alloc: Global,
-    regex: &'t Regex<'t>,
+    regex: &'t Regex,
     text: &'t str,
     start: usize,
 ) -> Result<String, AllocError> {
@@ -146,7 +146,7 @@ pub(crate) fn copying_matches<'t>(
 /// The matches by `find_from_ascii`.
 pub(crate) fn ascii_matches(
     alloc: Global,
-    regex: &Regex<'_>,
+    regex: &Regex,
     text: &str,
     start: usize,
 ) -> Result<String, AllocError> {
@@ -162,7 +162,7 @@ pub(crate) fn ascii_matches(
 /// The matches by the executor that copies, over ASCII.
 pub(crate) fn copying_ascii_matches<'t>(
     alloc: Global,
-    regex: &'t Regex<'t>,
+    regex: &'t Regex,
     text: &'t str,
     start: usize,
 ) -> Result<String, AllocError> {
@@ -178,7 +178,7 @@ pub(crate) fn copying_ascii_matches<'t>(
 /// The matches by `find_from_utf16`.
 pub(crate) fn utf16_matches(
     alloc: Global,
-    regex: &Regex<'_>,
+    regex: &Regex,
     units: &[u16],
     start: usize,
 ) -> Result<String, AllocError> {
@@ -194,7 +194,7 @@ pub(crate) fn utf16_matches(
 /// The matches by `find_from_ucs2`.
 pub(crate) fn ucs2_matches(
     alloc: Global,
-    regex: &Regex<'_>,
+    regex: &Regex,
     units: &[u16],
     start: usize,
 ) -> Result<String, AllocError> {
@@ -207,7 +207,7 @@ pub(crate) fn ucs2_matches(
 /// Whether there is a match, by `is_match_from`, and from the beginning on also by `is_match`.
 pub(crate) fn is_match(
     alloc: Global,
-    regex: &Regex<'_>,
+    regex: &Regex,
     text: &str,
     start: usize,
 ) -> Result<String, AllocError> {
@@ -229,7 +229,7 @@ pub(crate) fn units_program<'t>(
     points: &[u32],
     flags: Flags,
     tables: &'t Tables,
-) -> Result<CompiledRegex<'t>, Error> {
+) -> Result<CompiledRegex, Error> {
     if !are_code_points(points) {
         return Err(Error::OutOfMemory);
     }
@@ -240,7 +240,7 @@ pub(crate) fn units_program<'t>(
 /// The matches in units of UTF-16 by the executor that copies.
 pub(crate) fn copying_utf16_matches<'t>(
     alloc: Global,
-    program: &'t CompiledRegex<'t>,
+    program: &'t CompiledRegex,
     units: &'t [u16],
 ) -> Result<String, AllocError> {
     if !program.is_unit_program() {
@@ -256,7 +256,7 @@ pub(crate) fn copying_utf16_matches<'t>(
 /// The matches in units that are each a character, by the executor that copies.
 pub(crate) fn copying_ucs2_matches<'t>(
     alloc: Global,
-    program: &'t CompiledRegex<'t>,
+    program: &'t CompiledRegex,
     units: &'t [u16],
 ) -> Result<String, AllocError> {
     if !program.is_unit_program() {

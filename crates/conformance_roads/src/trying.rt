@@ -25,7 +25,7 @@ fn compiled_pattern<'t>(
     pattern: &Pattern,
     flags: Flags,
     tables: &'t Tables,
-) -> Result<Regex<'t>, Error> {
+) -> Result<Regex, Error> {
     match &pattern.text {
         Some(text) => compiled(alloc, text.as_str(), flags, tables),
         None => compiled_points(alloc, &pattern.points, flags, tables),
@@ -69,7 +69,7 @@ fn try_refused(
 fn try_text(
     report: &mut Report,
     alloc: Global,
-    regex: &Regex<'_>,
+    regex: &Regex,
     text: &str,
     start: usize,
     expected: &str,
@@ -110,7 +110,7 @@ fn try_text(
 fn try_tails(
     report: &mut Report,
     alloc: Global,
-    regex: &Regex<'_>,
+    regex: &Regex,
     text: &str,
     start: usize,
     items: &[Item],
@@ -137,8 +137,8 @@ fn try_tails(
 fn try_copies(
     report: &mut Report,
     alloc: Global,
-    regex: &Regex<'_>,
-    programs: Result<Regex<'_>, Error>,
+    regex: &Regex,
+    programs: Result<Regex, Error>,
     text: &str,
     start: usize,
     expected: &str,
@@ -176,7 +176,7 @@ struct InUnits<'r> {
 fn try_units(
     report: &mut Report,
     alloc: Global,
-    regex: &Regex<'_>,
+    regex: &Regex,
     sought: &InUnits<'_>,
 ) -> Result<(), AllocError> {
     let units = sought.units;
@@ -196,7 +196,7 @@ fn try_units(
 fn try_copying_units(
     report: &mut Report,
     alloc: Global,
-    program: Result<CompiledRegex<'_>, Error>,
+    program: Result<CompiledRegex, Error>,
     sought: &InUnits<'_>,
 ) -> Result<(), AllocError> {
     let program = match program {
@@ -240,7 +240,7 @@ fn ucs2_list(
 fn try_matches(
     report: &mut Report,
     alloc: Global,
-    regex: &Regex<'_>,
+    regex: &Regex,
     row: &Row,
     flags: Flags,
     tables: &Tables,
@@ -283,7 +283,7 @@ fn try_matches(
 fn try_unit_row(
     report: &mut Report,
     alloc: Global,
-    regex: &Regex<'_>,
+    regex: &Regex,
     row: &Row,
     flags: Flags,
     tables: &Tables,
@@ -315,7 +315,7 @@ fn try_unit_row(
 fn try_replaced(
     report: &mut Report,
     alloc: Global,
-    regex: &Regex<'_>,
+    regex: &Regex,
     text: &str,
     new: &str,
     expected: &str,
@@ -333,7 +333,7 @@ fn try_replaced(
 fn try_all_replaced(
     report: &mut Report,
     alloc: Global,
-    regex: &Regex<'_>,
+    regex: &Regex,
     text: &str,
     new: &str,
     expected: &str,
@@ -351,7 +351,7 @@ fn try_all_replaced(
 fn try_parts(
     report: &mut Report,
     alloc: Global,
-    regex: &Regex<'_>,
+    regex: &Regex,
     text: &str,
     expected: &str,
 ) -> Result<(), AllocError> {
@@ -367,7 +367,7 @@ fn try_parts(
 fn try_made(
     report: &mut Report,
     alloc: Global,
-    regex: &Regex<'_>,
+    regex: &Regex,
     work: &Work,
 ) -> Result<(), AllocError> {
     match work {

@@ -15,7 +15,7 @@ fn unless_refused(outcome: Result<String, Error>) -> Result<String, AllocError> 
 /// Why a pattern is refused, as rows tell it.
 pub(crate) fn refusal(
     alloc: Global,
-    outcome: Result<Regex<'_>, Error>,
+    outcome: Result<Regex, Error>,
 ) -> Result<String, AllocError> {
     match outcome {
         Ok(_) => String::from_str(alloc, "accepted"),
@@ -49,7 +49,7 @@ fn push_named(told: &mut String, name: &str, range: Option<Range>) -> Result<(),
 }
 
 /// The named groups of the first match.
-pub(crate) fn names(alloc: Global, regex: &Regex<'_>, text: &str) -> Result<String, AllocError> {
+pub(crate) fn names(alloc: Global, regex: &Regex, text: &str) -> Result<String, AllocError> {
     let mut told = String::new(alloc);
     match regex.find(text) {
         Ok(Some(found)) => {
@@ -65,7 +65,7 @@ pub(crate) fn names(alloc: Global, regex: &Regex<'_>, text: &str) -> Result<Stri
 
 /// A text with its first match replaced.
 pub(crate) fn replaced(
-    regex: &Regex<'_>,
+    regex: &Regex,
     text: &str,
     replacement: &str,
 ) -> Result<String, AllocError> {
@@ -74,7 +74,7 @@ pub(crate) fn replaced(
 
 /// A text with all its matches replaced.
 pub(crate) fn all_replaced(
-    regex: &Regex<'_>,
+    regex: &Regex,
     text: &str,
     replacement: &str,
 ) -> Result<String, AllocError> {
@@ -94,7 +94,7 @@ fn answer(alloc: Global, text: &str, new: &str, found: &Match) -> Result<String,
 /// A text with its first match replaced by what a closure answers.
 pub(crate) fn replaced_with(
     alloc: Global,
-    regex: &Regex<'_>,
+    regex: &Regex,
     text: &str,
     new: &str,
 ) -> Result<String, AllocError> {
@@ -104,7 +104,7 @@ pub(crate) fn replaced_with(
 /// A text with all its matches replaced by what a closure answers.
 pub(crate) fn all_replaced_with(
     alloc: Global,
-    regex: &Regex<'_>,
+    regex: &Regex,
     text: &str,
     new: &str,
 ) -> Result<String, AllocError> {
@@ -112,7 +112,7 @@ pub(crate) fn all_replaced_with(
 }
 
 /// The parts between the matches of a text, each as `<part>`.
-pub(crate) fn parts(alloc: Global, regex: &Regex<'_>, text: &str) -> Result<String, AllocError> {
+pub(crate) fn parts(alloc: Global, regex: &Regex, text: &str) -> Result<String, AllocError> {
     let Ok(parts) = regex.split(text) else {
         return Err(AllocError);
     };
@@ -129,7 +129,7 @@ pub(crate) fn parts(alloc: Global, regex: &Regex<'_>, text: &str) -> Result<Stri
 /// At most so many parts of a text, each as `<part>`.
 pub(crate) fn first_parts(
     alloc: Global,
-    regex: &Regex<'_>,
+    regex: &Regex,
     text: &str,
     limit: usize,
 ) -> Result<String, AllocError> {

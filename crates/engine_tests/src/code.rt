@@ -39,7 +39,7 @@ const AHEAD: &[(&str, &str, &str)] = &[
 ];
 
 /// For each address of a program, behind a bar, the bytes that it does not lack.
-fn told(alloc: Global, program: &CompiledRegex<'_>) -> Result<String, AllocError> {
+fn told(alloc: Global, program: &CompiledRegex) -> Result<String, AllocError> {
     let mut text = String::new(alloc);
     for at in 0..program.insns().len() {
         text.push('|')?;
@@ -59,7 +59,7 @@ fn program<'t>(
     flags: &str,
     units: bool,
     tables: &'t Tables,
-) -> Result<CompiledRegex<'t>, Error> {
+) -> Result<CompiledRegex, Error> {
     let regex = parsed(alloc, pattern, flags, tables)?;
     if units {
         emit_units(alloc, &regex)

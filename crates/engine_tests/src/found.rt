@@ -76,7 +76,7 @@ fn same(alloc: Global, undoing: Option<String>, copying: Option<String>) -> Resu
 /// All matches of a program of bytes in a text of UTF-8, by the executor that undoes.
 fn undoing_over_utf8<'r>(
     alloc: Global,
-    program: &'r CompiledRegex<'r>,
+    program: &'r CompiledRegex,
     text: &'r str,
 ) -> Result<Option<String>, AllocError>
     requires bytes { program.now.units ≡ false }
@@ -88,7 +88,7 @@ fn undoing_over_utf8<'r>(
 /// The same by the executor that copies.
 fn copying_over_utf8<'r>(
     alloc: Global,
-    program: &'r CompiledRegex<'r>,
+    program: &'r CompiledRegex,
     text: &'r str,
 ) -> Result<Option<String>, AllocError>
     requires bytes { program.now.units ≡ false }
@@ -101,7 +101,7 @@ fn copying_over_utf8<'r>(
 /// All matches of a program of units in units of UTF-16, by the executor that undoes.
 fn undoing_over_utf16<'r>(
     alloc: Global,
-    program: &'r CompiledRegex<'r>,
+    program: &'r CompiledRegex,
     units: &'r [u16],
 ) -> Result<Option<String>, AllocError>
     requires units { program.now.units ≡ true }
@@ -114,7 +114,7 @@ fn undoing_over_utf16<'r>(
 /// The same by the executor that copies.
 fn copying_over_utf16<'r>(
     alloc: Global,
-    program: &'r CompiledRegex<'r>,
+    program: &'r CompiledRegex,
     units: &'r [u16],
 ) -> Result<Option<String>, AllocError>
     requires units { program.now.units ≡ true }
@@ -127,7 +127,7 @@ fn copying_over_utf16<'r>(
 /// All matches of a program of units in units of which each is a character, by the executor that undoes.
 fn undoing_over_ucs2<'r>(
     alloc: Global,
-    program: &'r CompiledRegex<'r>,
+    program: &'r CompiledRegex,
     units: &'r [u16],
 ) -> Result<Option<String>, AllocError>
     requires units { program.now.units ≡ true }
@@ -140,7 +140,7 @@ fn undoing_over_ucs2<'r>(
 /// The same by the executor that copies.
 fn copying_over_ucs2<'r>(
     alloc: Global,
-    program: &'r CompiledRegex<'r>,
+    program: &'r CompiledRegex,
     units: &'r [u16],
 ) -> Result<Option<String>, AllocError>
     requires units { program.now.units ≡ true }

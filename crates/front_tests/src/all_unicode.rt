@@ -213,12 +213,12 @@ fn compiled<'t>(
     pattern: &str,
     flags: &str,
     tables: &'t Tables,
-) -> Result<Regex<'t>, Error> {
+) -> Result<Regex, Error> {
     Regex::with_flags(alloc, pattern, Flags::from(flags), tables)
 }
 
 /// The parts of a text that a pattern matches, each in brackets.
-fn parts(alloc: Global, regex: &Regex<'_>, text: &str) -> Result<String, Error> {
+fn parts(alloc: Global, regex: &Regex, text: &str) -> Result<String, Error> {
     let mut told = String::new(alloc);
     for found in regex.find_iter(text)? {
         let found = found?;

@@ -19,9 +19,9 @@ pub(crate) struct Forms<'t> {
     /// The same rewritten, where the flags don't ask that it stays as it is.
     pub(crate) rewritten: Regex<'t>,
     /// The program of bytes of the rewritten tree.
-    pub(crate) program: CompiledRegex<'t>,
+    pub(crate) program: CompiledRegex,
     /// The program of units of the tree.
-    pub(crate) units: CompiledRegex<'t>,
+    pub(crate) units: CompiledRegex,
 }
 
 /// The syntax tree of a pattern. It promises nothing, so what calls it has little to prove.

@@ -10,7 +10,7 @@ use std::alloc::{AllocError, Global};
 pub(crate) fn push_program(
     alloc: Global,
     out: &mut String,
-    program: &CompiledRegex<'_>,
+    program: &CompiledRegex,
 ) -> Result<(), AllocError> {
     for (address, insn) in program.insns().iter().enumerate() {
         write!(out, "    {address:>3} ")?;
@@ -24,7 +24,7 @@ pub(crate) fn push_program(
 fn push_insn(
     alloc: Global,
     out: &mut String,
-    program: &CompiledRegex<'_>,
+    program: &CompiledRegex,
     insn: &Insn,
 ) -> Result<(), AllocError> {
     let bytes = bytes_of(insn);
@@ -40,7 +40,7 @@ fn push_insn(
 fn push_other(
     alloc: Global,
     out: &mut String,
-    program: &CompiledRegex<'_>,
+    program: &CompiledRegex,
     insn: &Insn,
 ) -> Result<(), AllocError> {
     match insn {
@@ -92,7 +92,7 @@ fn push_set(out: &mut String, insn: &Insn) -> Result<(), AllocError> {
 /// A bracket of a program, with its class.
 fn push_class(
     out: &mut String,
-    program: &CompiledRegex<'_>,
+    program: &CompiledRegex,
     index: usize,
 ) -> Result<(), AllocError> {
     write!(out, "Bracket {index} ")?;
@@ -144,7 +144,7 @@ fn push_bytes_of(out: &mut String, kind: &str, bytes: &[u8]) -> Result<(), Alloc
 }
 
 /// The bytes that may stand ahead of an address.
-fn ahead_of(program: &CompiledRegex<'_>, address: usize) -> ByteBitmap {
+fn ahead_of(program: &CompiledRegex, address: usize) -> ByteBitmap {
     let mut ahead = ByteBitmap::default();
     for byte in 0..=u8::MAX {
         if !program.lacks(address, byte) {
@@ -158,7 +158,7 @@ fn ahead_of(program: &CompiledRegex<'_>, address: usize) -> ByteBitmap {
 pub(crate) fn push_ahead(
     alloc: Global,
     out: &mut String,
-    program: &CompiledRegex<'_>,
+    program: &CompiledRegex,
 ) -> Result<(), AllocError> {
     for address in 0..program.insns().len() {
         write!(out, "    {address:>3} ")?;

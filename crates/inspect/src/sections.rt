@@ -102,7 +102,7 @@ fn tree_text(alloc: Global, regex: &Regex<'_>) -> Result<String, AllocError> {
 }
 
 /// A program as it is printed.
-fn program_text(alloc: Global, program: &CompiledRegex<'_>) -> Result<String, AllocError> {
+fn program_text(alloc: Global, program: &CompiledRegex) -> Result<String, AllocError> {
     let mut text = String::new(alloc);
     push_program(alloc, &mut text, program)?;
     Ok(text)
@@ -140,7 +140,7 @@ fn push_units(
 fn push_predicate(
     alloc: Global,
     out: &mut String,
-    program: &CompiledRegex<'_>,
+    program: &CompiledRegex,
 ) -> Result<(), AllocError> {
     out.push_str("    ")?;
     push_start(alloc, out, program.start_pred())?;
@@ -180,7 +180,7 @@ fn push_sizes(alloc: Global, out: &mut String, forms: &Forms<'_>) -> Result<(), 
 fn push_program_sizes(
     out: &mut String,
     kind: &str,
-    program: &CompiledRegex<'_>,
+    program: &CompiledRegex,
 ) -> Result<(), AllocError> {
     let insns = program.insns().len();
     let brackets = program.brackets().len();

@@ -19,7 +19,7 @@ pub(crate) fn compiled<'t>(
     alloc: Global,
     row: &Row,
     tables: &'t Tables,
-) -> Result<Regex<'t>, Error> {
+) -> Result<Regex, Error> {
     Regex::with_flags(alloc, row.pattern.as_str(), row.flags(), tables)
 }
 
@@ -60,7 +60,7 @@ pub(crate) fn parsed<'t>(
 }
 
 /// The regex of a tree's programs.
-fn regex_of<'t>(alloc: Global, regex: &ir::Regex<'t>) -> Result<Regex<'t>, Error>
+fn regex_of<'t>(alloc: Global, regex: &ir::Regex<'t>) -> Result<Regex, Error>
     requires { IsWellFormed (length regex.now.group_names.items) (tree regex.now.node) }
 {
     let byte_program = emit(alloc, regex)?;
@@ -74,7 +74,7 @@ pub(crate) fn program_of<'t>(
     points: &[u32],
     flags: Flags,
     tables: &'t Tables,
-) -> Result<CompiledRegex<'t>, Error> {
+) -> Result<CompiledRegex, Error> {
     let tree = parsed(alloc, points, flags, tables)?;
     emit(alloc, &tree)
 }
@@ -150,7 +150,7 @@ fn tell_rewritten(told: &mut String, work: &Building<'_>) -> Result<(), Refusal>
 }
 
 /// Tells of a regex its text and its groups.
-fn tell_regex(told: &mut String, regex: &Regex<'_>) -> Result<(), Refusal> {
+fn tell_regex(told: &mut String, regex: &Regex) -> Result<(), Refusal> {
     write!(told, "{} {}", regex.as_str(), regex.captures_len())?;
     for name in regex.group_names() {
         write!(told, " {}", name.as_str())?;
@@ -159,7 +159,7 @@ fn tell_regex(told: &mut String, regex: &Regex<'_>) -> Result<(), Refusal> {
 }
 
 /// A regex of code points.
-fn of_points<'t>(work: &Building<'t>) -> Result<Regex<'t>, Refusal> {
+fn of_points<'t>(work: &Building<'t>) -> Result<Regex, Refusal> {
     if !are_code_points(&work.points) {
         return Err(Refusal::Other);
     }

@@ -13,9 +13,9 @@ use std::alloc::Global;
 /// What is copied.
 #[derive(Drop)]
 enum Original<'t> {
-    Regex(&'t Regex<'t>),
+    Regex(&'t Regex),
     Match(&'t Match),
-    Program(&'t CompiledRegex<'t>),
+    Program(&'t CompiledRegex),
     Tree(&'t ir::Regex<'t>),
 }
 
@@ -36,7 +36,7 @@ fn copy_of(alloc: Global, node: &Node) -> Result<Option<Node>, Error> {
 fn tell_program(
     told: &mut String,
     alloc: Global,
-    program: &CompiledRegex<'_>,
+    program: &CompiledRegex,
 ) -> Result<(), Refusal> {
     let copy = program.try_clone(alloc)?;
     write!(told, "{:?} {:?}", copy.insns(), copy.start_pred())?;

@@ -13,22 +13,22 @@ fn start_of(alloc: Global, found: &Match) -> Result<String, Error> {
 }
 
 /// A text with its first match replaced by where that starts.
-fn replaced_with(alloc: Global, regex: &Regex<'_>, text: &str) -> Result<String, Error> {
+fn replaced_with(alloc: Global, regex: &Regex, text: &str) -> Result<String, Error> {
     regex.replace_with(text, |found| start_of(alloc, found))
 }
 
 /// A text with each match replaced by where it starts.
-fn all_replaced_with(alloc: Global, regex: &Regex<'_>, text: &str) -> Result<String, Error> {
+fn all_replaced_with(alloc: Global, regex: &Regex, text: &str) -> Result<String, Error> {
     regex.replace_all_with(text, |found| start_of(alloc, found))
 }
 
 /// A text with its first match replaced.
-fn replaced(regex: &Regex<'_>, text: &str, replacement: &str) -> Result<String, Error> {
+fn replaced(regex: &Regex, text: &str, replacement: &str) -> Result<String, Error> {
     regex.replace(text, replacement)
 }
 
 /// A text with all its matches replaced.
-fn all_replaced(regex: &Regex<'_>, text: &str, replacement: &str) -> Result<String, Error> {
+fn all_replaced(regex: &Regex, text: &str, replacement: &str) -> Result<String, Error> {
     regex.replace_all(text, replacement)
 }
 
@@ -47,7 +47,7 @@ fn tell_part(told: &mut String, part: Result<&str, Error>) -> Result<(), AllocEr
 }
 
 /// Tells the parts of a text; past an error nothing may come.
-fn tell_parts(told: &mut String, regex: &Regex<'_>, text: &str) -> Result<(), Refusal> {
+fn tell_parts(told: &mut String, regex: &Regex, text: &str) -> Result<(), Refusal> {
     for part in regex.split(text)? {
         tell_part(told, part)?;
     }
@@ -55,7 +55,7 @@ fn tell_parts(told: &mut String, regex: &Regex<'_>, text: &str) -> Result<(), Re
 }
 
 /// Tells at most two parts of a text.
-fn tell_two_parts(told: &mut String, regex: &Regex<'_>, text: &str) -> Result<(), Refusal> {
+fn tell_two_parts(told: &mut String, regex: &Regex, text: &str) -> Result<(), Refusal> {
     for part in regex.splitn(text, 2)? {
         tell_part(told, part)?;
     }
@@ -93,7 +93,7 @@ fn change_by(name: &str) -> Option<Change> {
 struct Changing<'t> {
     alloc: Global,
     change: Change,
-    regex: &'t Regex<'t>,
+    regex: &'t Regex,
     text: &'t str,
     replacement: &'t str,
 }

@@ -33,7 +33,7 @@ fn tell_start<P: MatchProducer>(told: &mut String, matches: Matches<P>) -> Resul
 }
 
 /// Tells all matches by the library's calls.
-pub(crate) fn tell_all(told: &mut String, regex: &Regex<'_>, text: &str) -> Result<(), Refusal> {
+pub(crate) fn tell_all(told: &mut String, regex: &Regex, text: &str) -> Result<(), Refusal> {
     for item in regex.find_iter(text)? {
         tell_item(told, item)?;
     }
@@ -41,7 +41,7 @@ pub(crate) fn tell_all(told: &mut String, regex: &Regex<'_>, text: &str) -> Resu
 }
 
 /// Tells all matches by the calls for ASCII.
-fn tell_ascii(told: &mut String, regex: &Regex<'_>, text: &str) -> Result<(), Refusal> {
+fn tell_ascii(told: &mut String, regex: &Regex, text: &str) -> Result<(), Refusal> {
     if !is_ascii_text(text) {
         return Err(Refusal::Other);
     }
@@ -52,7 +52,7 @@ fn tell_ascii(told: &mut String, regex: &Regex<'_>, text: &str) -> Result<(), Re
 }
 
 /// Tells all matches in units of UTF-16.
-fn tell_utf16(told: &mut String, regex: &Regex<'_>, units: &[u16]) -> Result<(), Refusal> {
+fn tell_utf16(told: &mut String, regex: &Regex, units: &[u16]) -> Result<(), Refusal> {
     if !is_unit_start(units, 0) {
         return Err(Refusal::Other);
     }
@@ -63,7 +63,7 @@ fn tell_utf16(told: &mut String, regex: &Regex<'_>, units: &[u16]) -> Result<(),
 }
 
 /// Tells all matches in units of which each is a character.
-fn tell_ucs2(told: &mut String, regex: &Regex<'_>, units: &[u16]) -> Result<(), Refusal> {
+fn tell_ucs2(told: &mut String, regex: &Regex, units: &[u16]) -> Result<(), Refusal> {
     for item in regex.find_from_ucs2(units, 0)? {
         tell_item(told, item)?;
     }
@@ -73,7 +73,7 @@ fn tell_ucs2(told: &mut String, regex: &Regex<'_>, units: &[u16]) -> Result<(), 
 /// Tells all matches by the executor that undoes.
 fn tell_undoing<'t>(
     told: &mut String,
-    regex: &'t Regex<'t>,
+    regex: &'t Regex,
     text: &'t str,
 ) -> Result<(), AllocError> {
     tell_search(told, backends::find::<DefaultExecutor<'t>>(regex, text, 0)?)
@@ -82,7 +82,7 @@ fn tell_undoing<'t>(
 /// Tells all matches by the executor that copies.
 fn tell_copying<'t>(
     told: &mut String,
-    regex: &'t Regex<'t>,
+    regex: &'t Regex,
     text: &'t str,
 ) -> Result<(), AllocError> {
     tell_search(told, backends::find::<Copying<'t>>(regex, text, 0)?)
@@ -91,7 +91,7 @@ fn tell_copying<'t>(
 /// Tells the first match by the executor that undoes.
 fn tell_undoing_start<'t>(
     told: &mut String,
-    regex: &'t Regex<'t>,
+    regex: &'t Regex,
     text: &'t str,
 ) -> Result<(), AllocError> {
     tell_start(told, backends::find::<DefaultExecutor<'t>>(regex, text, 0)?)
@@ -100,14 +100,14 @@ fn tell_undoing_start<'t>(
 /// Tells the first match by the executor that copies.
 fn tell_copying_start<'t>(
     told: &mut String,
-    regex: &'t Regex<'t>,
+    regex: &'t Regex,
     text: &'t str,
 ) -> Result<(), AllocError> {
     tell_start(told, backends::find::<Copying<'t>>(regex, text, 0)?)
 }
 
 /// Tells whether there is a match.
-fn tell_whether(told: &mut String, regex: &Regex<'_>, text: &str) -> Result<(), Refusal> {
+fn tell_whether(told: &mut String, regex: &Regex, text: &str) -> Result<(), Refusal> {
     let is_match = regex.is_match(text)?;
     write!(told, "{is_match}")?;
     Ok(())
@@ -147,7 +147,7 @@ fn road_by(name: &str) -> Option<Road> {
 #[derive(Drop)]
 struct Searching<'t> {
     road: Road,
-    regex: &'t Regex<'t>,
+    regex: &'t Regex,
     text: &'t str,
     units: &'t [u16],
 }

@@ -16,7 +16,7 @@ use Rattle.regress_front.specs.RewritingLaws.{IsRewritten}
 use Rattle.regress_front.specs.Rules.{stays}
 use Rattle.regress_front.specs.Refusals as reading
 use Rattle.regress_front.specs.Sizes.{loops}
-use Rattle.regress_front.specs.TableViews.{table}
+use Rattle.regress_front.specs.TableViews.{table, table_known}
 use Rattle.regress_front.specs.Trees.{Tree, tree}
 use Rattle.regress_front.specs.WellFormed.{IsWellFormed}
 use Rattle.regress_front_nodes.specs.declared.ir.Regex as ir
@@ -150,12 +150,12 @@ pub refused-fits : (t : Table) (o : Options) (text : List ℕ) (e : Error) → M
 refused-fits t o text e refused plain short large = short-passes-none t o text plain short (subst (MayRefuseRegex t o text) large refused)
 
 copied-target : (compiled copy : CompiledRegex) → code.IsCopyOf compiled copy → target_of copy ≡ target_of compiled
-copied-target compiled copy same = λ i. record { program = same.program i; table = table (same.tables i); unicode = is_unicode (options (same.flags i)) }
+copied-target compiled copy same = λ i. record { program = same.program i; table = table_known (same.tables i); unicode = is_unicode (options (same.flags i)) }
 
 -- a copy of a program is one of the same pattern
 pub copied-program : (compiled copy : CompiledRegex) → code.IsCopyOf compiled copy → (t : Table) (o : Options) (p : Pattern) → IsProgramOf compiled t o p → IsProgramOf copy t o p
 copied-program compiled copy same t o p stands = record {
-  table = ap table same.tables ∙ stands.table;
+  table = ap table_known same.tables ∙ stands.table;
   flags = ap options same.flags ∙ stands.flags;
   names = ap (map chars) same.names ∙ stands.names;
   node = stands.node;

@@ -26,7 +26,7 @@ pub record IsTreeFor (table : Table) (o : Options) (text : List ℕ) (p : Patter
 -- The program is one of a pattern, under this table and these options: it is the layout of a well-formed tree that is alike
 -- the pattern, and its groups have the pattern's names.
 pub record IsProgramOf (compiled : CompiledRegex) (t : Table) (o : Options) (p : Pattern) : Type 0 where
-  pub table : table compiled.tables.now ≡ t
+  pub table : table compiled.tables ≡ t
   pub flags : options compiled.flags ≡ o
   pub names : map chars (code.names_of compiled) ≡ names_of p
   pub node : Tree

@@ -36,13 +36,13 @@ pub fn is_start(text: &str, start: usize) -> bool
 
 /// A compiled pattern. It borrows the tables that it was compiled with.
 #[derive(Debug, Drop)]
-pub struct Regex<'u> {
+pub struct Regex {
     pub(crate) alloc: Global,
     pub(crate) source: ArcStr,
-    pub(crate) compiled: Compiled<'u>,
+    pub(crate) compiled: Compiled,
 }
 
-impl<'u> Regex<'u> {
+impl Regex {
     ghost use Rattle.regress.specs.Standing.{StandsFor, StandsInUnits, source_of, names_of_regex};
     ghost use Rattle.regress.specs.Coming.{searched, sought_names, coming, BeginsAndEndsAtStarts, HoldsOfEach};
     ghost use Rattle.regress_match.specs.GroupViews.{names_of_match};
@@ -55,7 +55,7 @@ impl<'u> Regex<'u> {
     /// ```rust
     /// let regex = Regex::new(alloc, "a+b", &tables)?;
     /// ```
-    pub fn new(alloc: Global, pattern: &str, tables: &'u Tables) -> Result<Regex<'u>, Error>
+    pub fn new(alloc: Global, pattern: &str, tables: &Tables) -> Result<Regex, Error>
         ensures accepted { IfOk result (λ r. (p : Pattern) × Spells (table tables.now) no_flags (chars pattern.now) p × WithinLimits p × StandsFor r (table tables.now) no_flags p × StandsInUnits r (table tables.now) no_flags p) }
         ensures text { IfOk result (λ r. source_of r ≡ pattern.now) }
         ensures refused { IfErr result (MayRefuseRegex (table tables.now) no_flags (chars pattern.now)) }
@@ -77,8 +77,8 @@ impl<'u> Regex<'u> {
         alloc: Global,
         pattern: &str,
         flags: Flags,
-        tables: &'u Tables,
-    ) -> Result<Regex<'u>, Error>
+        tables: &Tables,
+    ) -> Result<Regex, Error>
         ensures accepted { IfOk result (λ r. (p : Pattern) × Spells (table tables.now) (options flags) (chars pattern.now) p × WithinLimits p × StandsFor r (table tables.now) (options flags) p × StandsInUnits r (table tables.now) (options flags) p) }
         ensures text { IfOk result (λ r. source_of r ≡ pattern.now) }
         ensures refused { IfErr result (MayRefuseRegex (table tables.now) (options flags) (chars pattern.now)) }
@@ -100,8 +100,8 @@ impl<'u> Regex<'u> {
         alloc: Global,
         points: &[u32],
         flags: Flags,
-        tables: &'u Tables,
-    ) -> Result<Regex<'u>, Error>
+        tables: &Tables,
+    ) -> Result<Regex, Error>
         requires { All (λ c. c ≤ 0x10_FFFF) points.now }
         ensures accepted { IfOk result (λ r. (p : Pattern) × Spells (table tables.now) (options flags) points.now p × WithinLimits p × StandsFor r (table tables.now) (options flags) p × StandsInUnits r (table tables.now) (options flags) p) }
         ensures text { IfOk result (λ r. source_of r ≡ shown_text points.now) }

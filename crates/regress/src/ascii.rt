@@ -40,7 +40,7 @@ impl<'r, 't> AsciiMatches<'r, 't> {
     ghost use Rattle.regress.specs.Ascii.{sought_in_ascii};
 
     /// The matches of a pattern in a text of ASCII, from an offset on.
-    fn new(regex: &'r Regex<'r>, text: &'t str, start: usize) -> Self
+    fn new(regex: &'r Regex, text: &'t str, start: usize) -> Self
         requires ascii { IsAscii text.now }
         requires start { (place : ℕ) × Begins (of_ascii text.now) start place }
         ensures over { Seeks regex.now.compiled.byte_program text.now (sought_in_ascii result) }
@@ -81,7 +81,7 @@ impl<'r, 't> Iterator for AsciiMatches<'r, 't> {
 
 impl<'r, 't> FusedIterator for AsciiMatches<'r, 't> {}
 
-impl<'u> Regex<'u> {
+impl Regex {
     ghost use Rattle.std.specs.Iterator.{HoldsAfterAnyCalls};
     ghost use Rattle.std.specs.Prelude.{All, IfOk, IfSome, IsOkUnless, IsCharBoundary, ◌≤◌, chars, map, option_map, slice_get};
     ghost use Rattle.regress_meaning.specs.Table.{Table};

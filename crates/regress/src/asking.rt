@@ -12,7 +12,7 @@ use regress_front::{CaptureGroupName, Error};
 use std::fmt;
 use std::sync::ArcStr;
 
-impl<'u> Regex<'u> {
+impl Regex {
     /// Whether there is a match in a text ("RegExp.prototype.test"). Errs with `OutOfMemory` alone.
     ///
     /// ```rust
@@ -72,7 +72,7 @@ impl<'u> Regex<'u> {
     /// ```rust
     /// let copy = regex.try_clone()?;
     /// ```
-    pub fn try_clone(&self) -> Result<Regex<'u>, Error>
+    pub fn try_clone(&self) -> Result<Regex, Error>
         ensures stands { (t : Table) → (o : Options) → (p : Pattern) → StandsFor self.now t o p → IfOk result (λ r. StandsFor r t o p) }
         ensures stands_in_units { (t : Table) → (o : Options) → (p : Pattern) → StandsInUnits self.now t o p → IfOk result (λ r. StandsInUnits r t o p) }
         ensures named { IfOk result (λ r. names_of_regex r ≡ names_of_regex self.now) }
@@ -101,7 +101,7 @@ impl<'u> Regex<'u> {
 }
 
 /// The pattern's text, as `as_str` answers it.
-impl<'u> fmt::Display for Regex<'u> {
+impl fmt::Display for Regex {
     ghost output = { λ r. Some (source_of r) };
 
     fn fmt<W: fmt::Write>(&self, f: &mut fmt::Formatter<W>) -> fmt::Result {

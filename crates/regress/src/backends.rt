@@ -37,7 +37,7 @@ pub type DefaultAsciiExecutor<'t> = BacktrackExecutor<'t, AsciiInput<'t, 't>>;
 /// let first = backends::find::<DefaultExecutor>(&regex, "xaab", 0)?.next(); // for `a+b` the match at 1..4
 /// ```
 pub fn find<'t, E: Executor<'t>>(
-    regex: &'t Regex<'t>,
+    regex: &'t Regex,
     text: &'t str,
     start: usize,
 ) -> Result<Matches<E>, AllocError>
@@ -59,7 +59,7 @@ pub fn find<'t, E: Executor<'t>>(
 /// let first = backends::find_ascii::<DefaultExecutor>(&regex, "xaab", 0)?.next(); // for `a+b` the match at 1..4
 /// ```
 pub fn find_ascii<'t, E: Executor<'t>>(
-    regex: &'t Regex<'t>,
+    regex: &'t Regex,
     text: &'t str,
     start: usize,
 ) -> Result<Matches<E::AsAscii>, AllocError>

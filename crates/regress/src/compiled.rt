@@ -18,9 +18,9 @@ use std::alloc::Global;
 
 /// The programs of a pattern: of bytes, and of units.
 #[derive(Debug, Drop)]
-pub(crate) struct Compiled<'u> {
-    pub(crate) byte_program: CompiledRegex<'u>,
-    pub(crate) unit_program: CompiledRegex<'u>,
+pub(crate) struct Compiled {
+    pub(crate) byte_program: CompiledRegex,
+    pub(crate) unit_program: CompiledRegex,
     ghost of_bytes: { byte_program.units ≡ false },
     ghost of_units: { unit_program.units ≡ true },
 }
@@ -38,15 +38,15 @@ fn rewrite(alloc: Global, regex: &mut ir::Regex<'_>) -> Result<(), Error>
     optimize(alloc, regex)
 }
 
-impl<'u> Compiled<'u> {
+impl Compiled {
     /// Compiles a pattern that is given as code points: its tree becomes the program of units as it is read, and the program of
     /// bytes once it is rewritten, unless the flags ask that it is not.
     pub(crate) fn new(
         alloc: Global,
         points: &[u32],
         flags: Flags,
-        tables: &'u Tables,
-    ) -> Result<Compiled<'u>, Error>
+        tables: &Tables,
+    ) -> Result<Compiled, Error>
         requires { All (λ c. c ≤ 0x10_FFFF) points.now }
         ensures accepted { IfOk result (λ c. (p : Pattern) × Spells (table tables.now) (options flags) points.now p × WithinLimits p
             × IsProgramOf c.byte_program (table tables.now) (options flags) p × IsProgramOf c.unit_program (table tables.now) (options flags) p) }
@@ -64,7 +64,7 @@ impl<'u> Compiled<'u> {
     }
 
     /// The same programs once more. Errs where memory is refused.
-    pub(crate) fn try_clone(&self, alloc: Global) -> Result<Compiled<'u>, Error>
+    pub(crate) fn try_clone(&self, alloc: Global) -> Result<Compiled, Error>
         ensures bytes { IfOk result (λ c. IsCopyOf self.now.byte_program c.byte_program) }
         ensures units { IfOk result (λ c. IsCopyOf self.now.unit_program c.unit_program) }
         ensures refused { IsOkUnless result Error.OutOfMemory }

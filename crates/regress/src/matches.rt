@@ -29,7 +29,7 @@ impl<'r, 't> Matches<'r, 't> {
     ghost use Rattle.regress.specs.Coming.{sought_by, next_from};
 
     /// The matches of a pattern in a text, from an offset in bytes on.
-    pub(crate) fn new(regex: &'r Regex<'r>, source: &'t str, start: usize) -> Self
+    pub(crate) fn new(regex: &'r Regex, source: &'t str, start: usize) -> Self
         requires { (place : ℕ) × Begins (of_utf8 source.now) start place }
         ensures over { Seeks regex.now.compiled.byte_program source.now (sought_by result) }
         ensures begins { StartsAt (sought_by result) start (next_from result) }

@@ -14,7 +14,7 @@ use regress_front::Error;
 use std::alloc::Global;
 use std::sync::ArcStr;
 
-impl<'u> Regex<'u> {
+impl Regex {
     /// A regex of two programs, which may be those of two patterns: searches in texts go by the program of bytes, searches in
     /// 16-bit units by that of units. Its groups are those of the program of bytes, and its text is empty.
     ///
@@ -25,9 +25,9 @@ impl<'u> Regex<'u> {
     /// ```
     pub fn from_programs(
         alloc: Global,
-        byte_program: CompiledRegex<'u>,
-        unit_program: CompiledRegex<'u>,
-    ) -> Result<Regex<'u>, Error>
+        byte_program: CompiledRegex,
+        unit_program: CompiledRegex,
+    ) -> Result<Regex, Error>
         requires of_bytes { byte_program.units ≡ false }
         requires of_units { unit_program.units ≡ true }
         ensures stands { (t : Table) → (o : Options) → (p : Pattern) → IsProgramOf byte_program.entry t o p → IfOk result (λ r. StandsFor r t o p) }

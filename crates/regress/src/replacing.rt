@@ -25,7 +25,7 @@ fn append(written: &mut String, kept: &str, new: &str) -> Result<(), Error>
     Ok(())
 }
 
-impl<'u> Regex<'u> {
+impl Regex {
     /// A text with its first match replaced by a replacement text ("RegExp.prototype [ @@replace ]").
     ///
     /// In the replacement `$$` stands for `$`, `$` and digits for the text of the group with that number, where 0 is the whole

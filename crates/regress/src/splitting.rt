@@ -32,7 +32,7 @@ impl<'r, 't> Split<'r, 't> {
     ghost use Rattle.regress.specs.Splitting.{parts_left, parts_on};
 
     /// The parts of a text between the matches of a pattern.
-    fn new(regex: &'r Regex<'r>, source: &'t str) -> Result<Self, Error>
+    fn new(regex: &'r Regex, source: &'t str) -> Result<Self, Error>
         ensures begins { IfOk result (λ s. (s.source.now ≡ source.now) × (s.behind ≡ Some 0)) }
         ensures matches { (t : Table) → (o : Options) → (p : Pattern) → StandsFor regex.now t o p →
             IfOk result (λ s. coming s.matches ≡ map (told (of_utf8 source.now)) (match_list t o p (chars source.now) 0)) }
@@ -129,7 +129,7 @@ impl<'r, 't> Iterator for SplitN<'r, 't> {
 
 impl<'r, 't> FusedIterator for SplitN<'r, 't> {}
 
-impl<'u> Regex<'u> {
+impl Regex {
     ghost use Rattle.regress.specs.Splitting.{parts_left, first_parts_left};
 
     /// The parts of a text between the matches of the pattern, one after another, with those before the first and behind the

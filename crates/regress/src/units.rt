@@ -35,7 +35,7 @@ impl<'r, 't> Utf16Matches<'r, 't> {
     ghost use Rattle.regress.specs.Units.{sought_in_utf16};
 
     /// The matches of a pattern in units, from an offset on.
-    fn new(regex: &'r Regex<'r>, units: &'t [u16], start: usize) -> Self
+    fn new(regex: &'r Regex, units: &'t [u16], start: usize) -> Self
         requires { (place : ℕ) × Begins (of_utf16 units.now) start place }
         ensures over { Seeks regex.now.compiled.unit_program units.now (sought_in_utf16 result) }
         ensures begins { StartsAt (sought_in_utf16 result) start result.position }
@@ -53,7 +53,7 @@ impl<'r, 't> Ucs2Matches<'r, 't> {
     ghost use Rattle.regress.specs.Units.{sought_in_ucs2};
 
     /// The matches of a pattern in units, from an offset on.
-    fn new(regex: &'r Regex<'r>, units: &'t [u16], start: usize) -> Self
+    fn new(regex: &'r Regex, units: &'t [u16], start: usize) -> Self
         requires { (place : ℕ) × Begins (of_ucs2 units.now) start place }
         ensures over { Seeks regex.now.compiled.unit_program units.now (sought_in_ucs2 result) }
         ensures begins { StartsAt (sought_in_ucs2 result) start result.position }
@@ -120,7 +120,7 @@ impl<'r, 't> Iterator for Ucs2Matches<'r, 't> {
 
 impl<'r, 't> FusedIterator for Ucs2Matches<'r, 't> {}
 
-impl<'u> Regex<'u> {
+impl Regex {
     ghost use Rattle.std.specs.Prelude.{◌≡◌, IfOk, IsOkUnless, map};
     ghost use Rattle.regress_meaning.specs.Table.{Table};
     ghost use Rattle.regress_meaning.specs.Pattern.{Pattern};

@@ -14,7 +14,7 @@ use regress_engine_singles::{are_apart, first_byte, is_apart, takes_some};
 /// What is taken at an address: the instruction there, or what a one-character loop there does at least once; `None` where
 /// neither takes anything.
 #[inline]
-fn taken_at<'p>(program: &'p CompiledRegex<'_>, at: usize) -> Option<&'p Insn>
+fn taken_at<'p>(program: &'p CompiledRegex, at: usize) -> Option<&'p Insn>
     requires { IsClosed (program_of program.now) }
     ensures { IfSome result (λ insn. IsTakenFirst (program_of program.now) at (instruction insn.now)) }
 {
@@ -44,7 +44,7 @@ fn taken_at<'p>(program: &'p CompiledRegex<'_>, at: usize) -> Option<&'p Insn>
 /// let taken = taken_first(&program, 0);
 /// ```
 #[inline]
-pub fn taken_first<'p>(program: &'p CompiledRegex<'_>, at: usize) -> Option<&'p Insn>
+pub fn taken_first<'p>(program: &'p CompiledRegex, at: usize) -> Option<&'p Insn>
     requires { IsClosed (program_of program.now) }
     ensures { IfSome result (λ insn. IsTakenFirst (program_of program.now) at (instruction insn.now)) }
 {

@@ -4,7 +4,7 @@ use Rattle.std.specs.Arc.{arc_slice_items}
 use Rattle.std.specs.String.{string_bytes}
 use Rattle.regress_meaning.specs.Flags.{is_unicode}
 use Rattle.regress_front_core.specs.FlagWords.{options}
-use Rattle.regress_front_tables.specs.TableViews.{table}
+use Rattle.regress_front_tables.specs.TableViews.{known_by, table}
 use Rattle.regress_front_nodes.specs.Trees.{tree}
 use Rattle.regress_front_nodes.specs.Sizes.{loops}
 use Rattle.regress_front_nodes.specs.declared.ir.Regex.{Regex}
@@ -22,7 +22,7 @@ program_of compiled = program_from compiled.insns.items compiled.brackets.items 
 
 -- the program with what it is made for
 abbrev pub target_of : CompiledRegex → Target
-target_of compiled = target_from (program_of compiled) compiled.tables.now compiled.flags
+target_of compiled = target_from (program_of compiled) compiled.tables compiled.flags
 
 -- the names of its groups by their numbers, as bytes of UTF-8
 abbrev pub names_of : CompiledRegex → List (List ℕ)
@@ -40,7 +40,7 @@ length_for units regex = count units (table regex.tables.now) (is_unicode (optio
 -- with a group for each name, as many repetitions begin in it as it has loops, and its start predicate serves the tree.
 pub record StandsFor (regex : Regex) (compiled : CompiledRegex) : Type 0 where
   pub flags : compiled.flags ≡ regex.flags
-  pub table : table compiled.tables.now ≡ table regex.tables.now
+  pub table : table compiled.tables ≡ table regex.tables.now
   pub names : names_of compiled ≡ map string_bytes regex.group_names.items
   pub layout : IsLayout (target_of compiled) (length regex.group_names.items) (tree regex.node)
   pub counted : length compiled.insns.items ≡ length_for compiled.units regex
@@ -55,5 +55,5 @@ pub record IsCopyOf (compiled copy : CompiledRegex) : Type 0 where
   pub names : names_of copy ≡ names_of compiled
   pub start : IsSameStart compiled.start_pred copy.start_pred
   pub flags : copy.flags ≡ compiled.flags
-  pub tables : copy.tables.now ≡ compiled.tables.now
+  pub tables : known_by copy.tables ≡ known_by compiled.tables
   pub lacks : (at b : ℕ) → lacks copy at b ≡ lacks compiled at b

@@ -15,9 +15,9 @@ use std::alloc::{AllocError, Global};
 use std::fmt;
 use std::sync::ArcSlice;
 
-/// A program, as `emit` or `emit_units` makes it of a tree. It borrows the tables that the tree was made with.
+/// A program, as `emit` or `emit_units` makes it of a tree. It shares the tables that the tree was made with, so it borrows nothing.
 #[derive(Drop)]
-pub struct CompiledRegex<'u> {
+pub struct CompiledRegex {
     pub(crate) insns: Vec<Insn>,
     pub(crate) brackets: Vec<BracketContents>,
     pub(crate) start_pred: StartPredicate,
@@ -25,15 +25,15 @@ pub struct CompiledRegex<'u> {
     pub(crate) groups: u32,
     pub(crate) group_names: ArcSlice<CaptureGroupName>,
     pub(crate) flags: Flags,
-    pub(crate) tables: &'u Tables,
+    pub(crate) tables: Tables,
     pub(crate) units: bool,
     /// Of a program of bytes, for each address the bytes that may stand ahead; of units nothing.
     pub(crate) ahead: Vec<ByteBitmap>,
-    pub(crate) ghost laid: { ∥ IsLaid (target_from (program_from insns.items brackets.items loops groups units) tables.now flags) start_pred ∥₁ },
+    pub(crate) ghost laid: { ∥ IsLaid (target_from (program_from insns.items brackets.items loops groups units) tables flags) start_pred ∥₁ },
     pub(crate) ghost told: { AreAhead (program_from insns.items brackets.items loops groups units) ahead.items },
 }
 
-impl<'u> CompiledRegex<'u> {
+impl CompiledRegex {
     ghost use Rattle.regress_engine_code.specs.Standing.{IsCopyOf, lacks};
 
     /// The instructions. An address is an index into them, and the program begins at 0: `program.insns()[0]` is done first.
@@ -95,10 +95,10 @@ impl<'u> CompiledRegex<'u> {
     }
 
     /// The tables of case and properties, as an input takes them: `Utf8Input::new(text, unicode, program.tables())`.
-    pub fn tables(&self) -> &'u Tables
-        ensures { result ≡ self.now.tables }
+    pub fn tables(&self) -> &Tables
+        ensures { result.now ≡ self.now.tables }
     {
-        self.tables
+        &self.tables
     }
 
     /// Whether it reads 16-bit units, or else bytes: what `emit_units` makes does, and what `emit` makes does not.
@@ -127,7 +127,7 @@ impl<'u> CompiledRegex<'u> {
     /// ```rust
     /// let copy = program.try_clone(alloc)?;
     /// ```
-    pub fn try_clone(&self, alloc: Global) -> Result<CompiledRegex<'u>, Error>
+    pub fn try_clone(&self, alloc: Global) -> Result<CompiledRegex, Error>
         ensures copied { IfOk result (IsCopyOf self.now) }
         ensures refused { IfErr result (λ e. e ≡ Error.OutOfMemory) }
     {
@@ -139,7 +139,7 @@ impl<'u> CompiledRegex<'u> {
             groups: self.groups,
             group_names: self.group_names.clone()?,
             flags: self.flags,
-            tables: self.tables,
+            tables: self.tables.try_clone()?,
             units: self.units,
             ahead: self.ahead.to_vec(alloc)?,
         })
@@ -147,7 +147,7 @@ impl<'u> CompiledRegex<'u> {
 }
 
 /// Its flags, whether it reads units, and how large it is, but not its instructions nor its tables.
-impl fmt::Debug for CompiledRegex<'_> {
+impl fmt::Debug for CompiledRegex {
     fn fmt<W: fmt::Write>(&self, f: &mut fmt::Formatter<W>) -> fmt::Result {
         f.debug_struct("CompiledRegex")
             .field("flags", &self.flags)

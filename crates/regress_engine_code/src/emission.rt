@@ -26,7 +26,7 @@ use std::sync::ArcSlice;
 /// ```rust
 /// let program = emit(alloc, &regex)?;
 /// ```
-pub fn emit<'u>(alloc: Global, regex: &Regex<'u>) -> Result<CompiledRegex<'u>, Error>
+pub fn emit(alloc: Global, regex: &Regex<'_>) -> Result<CompiledRegex, Error>
     requires { IsWellFormed (length regex.now.group_names.items) (tree regex.now.node) }
     ensures emitted { IfOk result (StandsFor regex.now) }
     ensures of_bytes { IfOk result (λ compiled. compiled.units ≡ false) }
@@ -42,7 +42,7 @@ pub fn emit<'u>(alloc: Global, regex: &Regex<'u>) -> Result<CompiledRegex<'u>, E
 /// ```rust
 /// let program = emit_units(alloc, &regex)?;
 /// ```
-pub fn emit_units<'u>(alloc: Global, regex: &Regex<'u>) -> Result<CompiledRegex<'u>, Error>
+pub fn emit_units(alloc: Global, regex: &Regex<'_>) -> Result<CompiledRegex, Error>
     requires { IsWellFormed (length regex.now.group_names.items) (tree regex.now.node) }
     ensures emitted { IfOk result (StandsFor regex.now) }
     ensures of_units { IfOk result (λ compiled. compiled.units ≡ true) }
@@ -77,11 +77,11 @@ fn start_of(alloc: Global, regex: &Regex, units: bool) -> Result<StartPredicate,
 }
 
 /// The program of a tree, of units or else of bytes.
-fn whole_program<'u>(
+fn whole_program(
     alloc: Global,
-    regex: &Regex<'u>,
+    regex: &Regex<'_>,
     units: bool,
-) -> Result<CompiledRegex<'u>, Error>
+) -> Result<CompiledRegex, Error>
     requires { IsWellFormed (length regex.now.group_names.items) (tree regex.now.node) }
     ensures emitted { IfOk result (StandsFor regex.now) }
     ensures told { IfOk result (λ compiled. compiled.units ≡ units) }
@@ -100,6 +100,7 @@ fn whole_program<'u>(
     let groups = group_count(&regex.group_names)?;
     let group_names = ArcSlice::from_clones(alloc, &regex.group_names)?;
     let start_pred = start_of(alloc, regex, units)?;
+    let tables = regex.tables.try_clone()?;
     let ahead = bytes_ahead(alloc, &code.insns, &code.brackets, units)?;
     Ok(CompiledRegex {
         insns: code.insns,
@@ -109,7 +110,7 @@ fn whole_program<'u>(
         groups,
         group_names,
         flags: regex.flags,
-        tables: regex.tables,
+        tables,
         units,
         ahead,
     })

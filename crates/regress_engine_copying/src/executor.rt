@@ -12,7 +12,7 @@ impl<'t> Executor<'t> for PikeVMExecutor<'t, Utf8Input<'t, 't>> {
 
     fn new(
         alloc: Global,
-        program: &'t CompiledRegex<'t>,
+        program: &'t CompiledRegex,
         text: &'t str,
     ) -> Result<Self, AllocError> {
         let input = Utf8Input::new(text, program.flags().is_unicode(), program.tables());
@@ -27,7 +27,7 @@ impl<'t> Executor<'t> for PikeVMExecutor<'t, AsciiInput<'t, 't>> {
 
     fn new(
         alloc: Global,
-        program: &'t CompiledRegex<'t>,
+        program: &'t CompiledRegex,
         text: &'t str,
     ) -> Result<Self, AllocError> {
         let input = AsciiInput::new(text, program.flags().is_unicode(), program.tables());

@@ -96,7 +96,7 @@ impl Stack {
     }
 }
 
-impl<'a, 'r, Input: CharInput> Attempt<'a, 'r, Input> {
+impl<'a, Input: CharInput> Attempt<'a, Input> {
     /// Does an instruction that changes nothing but the offset.
     fn take(&self, insn: &Insn, mut state: State, stack: &mut Stack) -> Result<(), AllocError>
         requires suits { Suits (program_of self.now.program.now) (Input.view self.now.input) }

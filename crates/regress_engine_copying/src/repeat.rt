@@ -22,7 +22,7 @@ use regress_engine_matchers::CharInput;
 use regress_front_core::GroupData;
 use std::alloc::AllocError;
 
-impl<'a, 'r, Input: CharInput> Attempt<'a, 'r, Input> {
+impl<'a, Input: CharInput> Attempt<'a, Input> {
     /// Collects the offsets behind none, one, two and more iterations of an instruction that takes one character, at most so many.
     fn collect(
         &self,

@@ -38,7 +38,7 @@ impl<'r, Input: ExecutorInput> PikeVMExecutor<'r, Input> {
     /// ```rust
     /// let mut executor = PikeVMExecutor::with_input(alloc, &program, input);
     /// ```
-    pub fn with_input(alloc: Global, program: &'r CompiledRegex<'r>, input: Input) -> Self
+    pub fn with_input(alloc: Global, program: &'r CompiledRegex, input: Input) -> Self
         requires made { IsMadeOf program.now (Input.view input) }
         ensures program { (⟦<PikeVMExecutor<'r, Input> as MatchProducer>⟧.sought result).compiled ≡ program.entry.now }
         ensures text { (⟦<PikeVMExecutor<'r, Input> as MatchProducer>⟧.sought result).view ≡ Input.view input }

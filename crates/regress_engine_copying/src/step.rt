@@ -18,7 +18,7 @@ use regress_engine_matchers::CharInput;
 use regress_engine_sought::Submatch;
 use std::alloc::AllocError;
 
-impl<'a, 'r, Input: CharInput> Attempt<'a, 'r, Input> {
+impl<'a, Input: CharInput> Attempt<'a, Input> {
     /// Does the instruction at a state: what follows it is put on the stack. It answers the state where that is the end of the
     /// run.
     pub(crate) fn step(

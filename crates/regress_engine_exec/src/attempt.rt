@@ -22,14 +22,14 @@ use std::alloc::AllocError;
 
 /// A program, a text, and an offset of it at which a run begins that ends.
 #[derive(Debug, Drop)]
-pub(crate) struct Attempt<'a, 'r, Input: CharInput> {
-    pub(crate) program: &'a CompiledRegex<'r>,
+pub(crate) struct Attempt<'a, Input: CharInput> {
+    pub(crate) program: &'a CompiledRegex,
     pub(crate) input: Input,
     pub(crate) start: usize,
     pub(crate) ghost ends: { IsComputed (program_of program.now) (input_of (Input.view input)) forward (first_state (program_of program.now) start ∷ []) } by { IsComputed-prop (program_of program.now) (input_of (Input.view input)) forward (first_state (program_of program.now) start ∷ []) },
 }
 
-impl<'a, 'r, Input: CharInput> Attempt<'a, 'r, Input> {
+impl<'a, Input: CharInput> Attempt<'a, Input> {
     /// The instruction at an address.
     #[inline]
     pub(crate) fn instruction(&self, at: usize) -> &Insn

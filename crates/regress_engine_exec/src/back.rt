@@ -53,7 +53,7 @@ fn exhaust(frame: &Frame, spot: &mut Spot) -> bool
     is_negated
 }
 
-impl<'a, 'r, Input: CharInput> Attempt<'a, 'r, Input> {
+impl<'a, Input: CharInput> Attempt<'a, Input> {
     /// The far one of some offsets, from a far one back to a near one, at which it may be gone on at an address, where what is
     /// taken first from there on stands; `None` where it stands at none of them.
     fn far_way(

@@ -43,7 +43,7 @@ impl<'r, Input: ExecutorInput> BacktrackExecutor<'r, Input> {
     /// ```rust
     /// let mut executor = BacktrackExecutor::with_input(alloc, &program, input);
     /// ```
-    pub fn with_input(alloc: Global, program: &'r CompiledRegex<'r>, input: Input) -> Self
+    pub fn with_input(alloc: Global, program: &'r CompiledRegex, input: Input) -> Self
         requires made { IsMadeOf program.now (Input.view input) }
         ensures program { (⟦<BacktrackExecutor<'r, Input> as MatchProducer>⟧.sought result).compiled ≡ program.entry.now }
         ensures text { (⟦<BacktrackExecutor<'r, Input> as MatchProducer>⟧.sought result).view ≡ Input.view input }
@@ -154,10 +154,10 @@ impl<'r, 't> BacktrackExecutor<'r, Utf8Input<'r, 't>> {
     /// ```rust
     /// let mut executor = BacktrackExecutor::new(alloc, &program, "aab");
     /// ```
-    pub fn new(alloc: Global, program: &'r CompiledRegex<'r>, text: &'t str) -> Self
+    pub fn new(alloc: Global, program: &'r CompiledRegex, text: &'t str) -> Self
         requires bytes { program.now.units ≡ false }
         ensures program { (⟦<BacktrackExecutor<'r, Utf8Input<'r, 't>> as MatchProducer>⟧.sought result).compiled ≡ program.entry.now }
-        ensures text { (⟦<BacktrackExecutor<'r, Utf8Input<'r, 't>> as MatchProducer>⟧.sought result).view ≡ record { kind = utf8; units = text.now; table = table program.entry.now.tables.now; unicode = is_unicode (options program.entry.now.flags) } }
+        ensures text { (⟦<BacktrackExecutor<'r, Utf8Input<'r, 't>> as MatchProducer>⟧.sought result).view ≡ record { kind = utf8; units = text.now; table = table program.entry.now.tables; unicode = is_unicode (options program.entry.now.flags) } }
     {
         let unicode = program.flags().is_unicode();
         let input = Utf8Input::new(text, unicode, program.tables());

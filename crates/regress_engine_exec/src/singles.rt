@@ -17,7 +17,7 @@ use regress_engine_matchers::CharInput;
 use regress_engine_undo::{Memory, Spot};
 use std::alloc::AllocError;
 
-impl<'a, 'r, Input: CharInput> Attempt<'a, 'r, Input> {
+impl<'a, Input: CharInput> Attempt<'a, Input> {
     /// Does a one-character loop: goes on at one of its ways, and later at the others. It answers whether there is any.
     pub(crate) fn repeat(
         &self,

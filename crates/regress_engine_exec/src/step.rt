@@ -23,7 +23,7 @@ use regress_engine_undo::{Memory, Spot, begun, ended};
 use regress_front_core::GroupData;
 use std::alloc::AllocError;
 
-impl<'a, 'r, Input: CharInput> Attempt<'a, 'r, Input> {
+impl<'a, Input: CharInput> Attempt<'a, Input> {
     /// Does an instruction that changes nothing but the offset, and answers whether it leads anywhere.
     #[inline]
     fn take(&self, insn: &Insn, memory: &Memory, spot: &mut Spot) -> bool

@@ -69,7 +69,7 @@ fn begin_more(
     Ok(())
 }
 
-impl<'a, 'r, Input: CharInput> Attempt<'a, 'r, Input> {
+impl<'a, Input: CharInput> Attempt<'a, Input> {
     /// Whether a class stands at an address.
     #[inline]
     pub(crate) fn is_class_at(&self, at: usize) -> bool

@@ -12,7 +12,7 @@ use regress_engine_advance::{is_stuck_ahead, is_stuck_behind, next_byte};
 use regress_engine_code::Insn;
 use regress_engine_matchers::CharInput;
 
-impl<'a, 'r, Input: CharInput> Attempt<'a, 'r, Input> {
+impl<'a, Input: CharInput> Attempt<'a, Input> {
     /// The address at which it is gone on from one, read forward, where this byte stands ahead: as long as one of two ways
     /// surely leads nowhere, by the other.
     #[inline(always)]

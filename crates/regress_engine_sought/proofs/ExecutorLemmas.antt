@@ -17,7 +17,7 @@ use Rattle.regress_engine_sought.proofs.ProducerLemmas.{items-asked, match-in_by
 
 -- what is shown of a text of bytes, with a program's tables and mode
 abbrev pub shown_of : Kind → CompiledRegex → List ℕ → View
-shown_of kind compiled bytes = record { kind = kind; units = bytes; table = table compiled.tables.now; unicode = is_unicode (options compiled.flags) }
+shown_of kind compiled bytes = record { kind = kind; units = bytes; table = table compiled.tables; unicode = is_unicode (options compiled.flags) }
 
 -- a program of bytes is made for it
 pub made-of_bytes : (kind : Kind) (compiled : CompiledRegex) (bytes : List ℕ) → are_bytes kind ≡ true → compiled.units ≡ false → IsMadeOf compiled (shown_of kind compiled bytes)

@@ -18,7 +18,7 @@ use Rattle.regress_engine_code.specs.Standing.{names_of, target_of}
 
 -- the characters of a text, with the table and the mode of a program
 abbrev pub context_in : CompiledRegex → List ℕ → Context
-context_in compiled bytes = record { text = chars bytes; table = table compiled.tables.now; unicode = is_unicode (options compiled.flags) }
+context_in compiled bytes = record { text = chars bytes; table = table compiled.tables; unicode = is_unicode (options compiled.flags) }
 
 -- A search may start wherever a place of the text is, or past its end; from there on the items are the matches of each tree
 -- that the program is a layout of, told in bytes; and each match lies in the text, between characters.

@@ -52,7 +52,7 @@ pub trait Executor<'t>: MatchProducer {
     /// ```rust
     /// let executor = <E as Executor>::new(alloc, &program, "aab")?;
     /// ```
-    fn new(alloc: Global, program: &'t CompiledRegex<'t>, text: &'t str) -> Result<Self, AllocError>
+    fn new(alloc: Global, program: &'t CompiledRegex, text: &'t str) -> Result<Self, AllocError>
         requires bytes { program.now.units ≡ false }
         requires ascii { IsTrue Self.Text.ASCII_ONLY → IsAscii text.now }
         ensures { IfOk result (λ e. Searches program.entry.now text.now (Self.is_start (Self.sought e)) (Self.starts_at (Self.sought e)) (Self.items_from (Self.sought e)) (Self.is_of_search (Self.sought e))) };

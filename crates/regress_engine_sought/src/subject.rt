@@ -20,7 +20,7 @@ use regress_match::Match;
 /// A program, and a text in which it may be sought.
 #[derive(Debug, Drop)]
 pub struct Subject<'r, Input: Shown> {
-    pub program: &'r CompiledRegex<'r>,
+    pub program: &'r CompiledRegex,
     pub input: Input,
     pub seeker: Seeker<'r>,
     pub ghost sought: { IsSought (program_of program.now) (Input.shown input) } by { IsSought-prop (program_of program.now) (Input.shown input) },
@@ -36,7 +36,7 @@ impl<'r, Input: ExecutorInput> Subject<'r, Input> {
     /// ```rust
     /// let subject = Subject::new(&program, input);
     /// ```
-    pub fn new(program: &'r CompiledRegex<'r>, input: Input) -> Self
+    pub fn new(program: &'r CompiledRegex, input: Input) -> Self
         requires { IsMadeOf program.now (Input.view input) }
         ensures program { result.program ≡ program.entry }
         ensures input { result.input ≡ input }

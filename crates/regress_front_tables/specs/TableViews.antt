@@ -1,14 +1,28 @@
--- The parts that a value of tables holds, and the table that it stands for.
+-- What tables know: the parts that they hold, and the table that they stand for.
+use Rattle.std.specs.Arc.{arc_value}
 use Rattle.regress_meaning.specs.Table.{Table}
 use Rattle.regress_meaning.specs.TableParts.{TableParts, table_of}
+use Rattle.regress_front_tables.specs.declared.tables.Known.{Known}
 use Rattle.regress_front_tables.specs.declared.tables.Tables.{Tables}
 use Rattle.regress_front_tables.specs.Listed.{listed}
 use Rattle.regress_front_tables.specs.MapViews.{pairs_of}
 
--- the parts of tables, as plain lists
+-- what is kept once for all that share tables
+abbrev pub known_by : Tables → Known
+known_by t = arc_value t.known
+
+-- the parts of it, as plain lists
+abbrev pub parts_known : Known → TableParts
+parts_known k = listed (pairs_of k.fold) (pairs_of k.upper) k.id_start k.id_continue k.properties.items k.sequences.items
+
+-- what it tells of code points
+abbrev pub table_known : Known → Table
+table_known k = table_of (parts_known k)
+
+-- the parts of tables
 abbrev pub parts : Tables → TableParts
-parts t = listed (pairs_of t.fold) (pairs_of t.upper) t.id_start t.id_continue t.properties.items t.sequences.items
+parts t = parts_known (known_by t)
 
 -- what tables tell of code points
 abbrev pub table : Tables → Table
-table tables = table_of (parts tables)
+table t = table_known (known_by t)

@@ -119,7 +119,11 @@ pub fn fold_is_idempotent()
 fn map_of(tables: &Tables, unicode: bool) -> &CaseMap
     ensures { image (pairs_of result.now) ≡ canon (table tables.now) unicode }
 {
-    if unicode { &tables.fold } else { &tables.upper }
+    if unicode {
+        &tables.known.fold
+    } else {
+        &tables.known.upper
+    }
 }
 
 /// The code points that a map takes to where it takes this one, from low to high.

@@ -26,10 +26,11 @@ use parts::TableParts;
 use regress_front_sets::{CodePoint, CodePointSet, Interval};
 use std::alloc::{AllocError, Global};
 use std::fmt;
+use std::sync::Arc;
 
-/// Case and properties of code points, which patterns are compiled by. They keep all laws (`TableLaw`).
+/// What tables know.
 #[derive(Drop)]
-pub struct Tables {
+pub(crate) struct Known {
     pub(crate) fold: CaseMap,
     pub(crate) upper: CaseMap,
     id_start: CodePointSet,
@@ -39,6 +40,13 @@ pub struct Tables {
     pub ghost lawful: { IsLawful (listed (pairs_of fold) (pairs_of upper) id_start id_continue properties.items sequences.items) } by { IsLawful-prop (listed (pairs_of fold) (pairs_of upper) id_start id_continue properties.items sequences.items) },
 }
 
+/// Case and properties of code points, which patterns are compiled by. They keep all laws (`TableLaw`). What they know is kept
+/// once for all that share it, so tables, and what was compiled with them, may have one owner.
+#[derive(Drop)]
+pub struct Tables {
+    pub(crate) known: Arc<Known>,
+}
+
 impl Tables {
     ghost use Rattle.std.specs.Prelude.{IfErr, OnOk, IsOkUnless};
     ghost use Rattle.regress_meaning.specs.Table.{canon};
@@ -46,7 +54,7 @@ impl Tables {
     ghost use Rattle.regress_front_tables.specs.Parts.{parts_of};
     ghost use Rattle.regress_front_sets.specs.Sets.{in_set};
     ghost use Rattle.regress_front_tables.specs.Breaking.{TellsBroken};
-    ghost use Rattle.regress_front_tables.specs.TableViews.{table, parts as parts_in};
+    ghost use Rattle.regress_front_tables.specs.TableViews.{known_by, table, parts as parts_in};
 
     /// The tables with these parts, if the parts keep all laws. Otherwise `Broken` tells the first law that they break, in
     /// the order of `TableLaw`. Where a request for memory is refused, the error is `OutOfMemory`.
@@ -58,13 +66,16 @@ impl Tables {
     {
         check_laws(alloc, &parts)?;
         let properties = property_sets(alloc, parts.properties)?;
-        Ok(Tables {
+        let known = Known {
             fold: CaseMap::new(alloc, &parts.fold)?,
             upper: CaseMap::new(alloc, &parts.upper)?,
             id_start: CodePointSet::from_sorted_disjoint_intervals(parts.id_start),
             id_continue: CodePointSet::from_sorted_disjoint_intervals(parts.id_continue),
             properties,
             sequences: parts.sequences,
+        };
+        Ok(Tables {
+            known: Arc::new(alloc, known)?,
         })
     }
 
@@ -78,12 +89,22 @@ impl Tables {
         Tables::new(alloc, TableParts::small(alloc)?)
     }
 
+    /// The same tables, for one more owner: nothing of what they know is copied. It errs only where so many share it that they
+    /// can't be counted: `let shared = tables.try_clone()?`.
+    pub fn try_clone(&self) -> Result<Tables, AllocError>
+        ensures { IfOk result (λ shared. known_by shared ≡ known_by self.now) }
+    {
+        Ok(Tables {
+            known: Arc::try_clone(&self.known)?,
+        })
+    }
+
     /// The simple case folding of a code point, which is itself where it has no other ("Canonicalize"): `tables.fold(0x4B)` is
     /// `0x6B`.
     pub fn fold(&self, c: CodePoint) -> CodePoint
         ensures { result ≡ (table self.now).fold c }
     {
-        self.fold.image(c)
+        self.known.fold.image(c)
     }
 
     /// The simple upper case of a code point, which is itself where it has no other ("Canonicalize"): `tables.upper(0x6B)` is
@@ -91,7 +112,7 @@ impl Tables {
     pub fn upper(&self, c: CodePoint) -> CodePoint
         ensures { result ≡ (table self.now).upper c }
     {
-        self.upper.image(c)
+        self.known.upper.image(c)
     }
 
     /// What two code points have alike where case is ignored: the fold in Unicode mode, and else the upper case
@@ -107,7 +128,7 @@ impl Tables {
     pub fn id_start(&self, c: CodePoint) -> bool
         ensures { result ≡ (table self.now).is_id_start c }
     {
-        self.id_start.contains(c)
+        self.known.id_start.contains(c)
     }
 
     /// Whether an identifier may go on with the code point ("IdentifierPartChar", without `$`): `tables.id_continue(0x30)` is
@@ -115,7 +136,7 @@ impl Tables {
     pub fn id_continue(&self, c: CodePoint) -> bool
         ensures { result ≡ (table self.now).is_id_continue c }
     {
-        self.id_continue.contains(c)
+        self.known.id_continue.contains(c)
     }
 
     /// The code points with a property ("UnicodeMatchProperty"). The key is the text between the braces of `\p{..}`. The
@@ -123,7 +144,7 @@ impl Tables {
     pub fn property(&self, key: &str) -> Option<&CodePointSet>
         ensures { option_map (λ set. in_set set.now) result ≡ (table self.now).property (chars key.now) }
     {
-        entry(&self.properties, key)
+        entry(&self.known.properties, key)
     }
 
     /// The strings with a property of strings ("UnicodeMatchProperty"), each as its code points. The key is the text between
@@ -132,7 +153,7 @@ impl Tables {
     pub fn sequences(&self, key: &str) -> Option<&[Vec<CodePoint>]>
         ensures { option_map (λ strings. map (λ s. s.items) strings.now) result ≡ (table self.now).sequences (chars key.now) }
     {
-        entry(&self.sequences, key).map(|strings| strings.as_slice())
+        entry(&self.known.sequences, key).map(|strings| strings.as_slice())
     }
 }
 
@@ -141,12 +162,12 @@ impl Tables {
 impl fmt::Debug for Tables {
     fn fmt<W: fmt::Write>(&self, f: &mut fmt::Formatter<W>) -> fmt::Result {
         f.debug_struct("Tables")
-            .field("fold", &self.fold)
-            .field("upper", &self.upper)
-            .field("id_start", &self.id_start.intervals().len())
-            .field("id_continue", &self.id_continue.intervals().len())
-            .field("properties", &self.properties.len())
-            .field("sequences", &self.sequences.len())
+            .field("fold", &self.known.fold)
+            .field("upper", &self.known.upper)
+            .field("id_start", &self.known.id_start.intervals().len())
+            .field("id_continue", &self.known.id_continue.intervals().len())
+            .field("properties", &self.known.properties.len())
+            .field("sequences", &self.known.sequences.len())
             .finish()
     }
 }

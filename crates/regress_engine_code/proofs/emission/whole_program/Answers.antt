@@ -3,14 +3,15 @@ use Rattle.std.specs.String.{string_bytes}
 use Rattle.std.specs.Arc.{arc_slice_items}
 use Rattle.std.proofs.lemmas.List.{length-map}
 use Rattle.regress_meaning.specs.Flags.{is_unicode}
+use Rattle.regress_meaning.specs.Table.{Table}
 use Rattle.regress_front_core.specs.FlagWords.{options}
-use Rattle.regress_front_tables.specs.TableViews.{table}
+use Rattle.regress_front_tables.specs.TableViews.{table, table_known}
 use Rattle.regress_front_nodes.specs.Trees.{tree}
 use Rattle.regress_front_nodes.proofs.CopyLemmas.{map-AllZip}
 use Rattle.regress_engine_code.specs.InsnViews.{instruction}
 use Rattle.regress_engine_code.specs.Ahead.{AreAhead}
 use Rattle.regress_engine_code.specs.Laid.{program_from}
-use Rattle.regress_engine_code.specs.Layout.{Target}
+use Rattle.regress_engine_code.specs.Layout.{Target, IsLayout}
 use Rattle.regress_engine_code.specs.Written.{written, AddsTree}
 use Rattle.regress_engine_code.proofs.BeginLemmas.{all-begin}
 use Rattle.regress_engine_code.proofs.EmitLemmas.{err-refused}
@@ -32,14 +33,15 @@ returns-clause-emitted c =
       table = table regex.tables.now;
       unicode = unicode;
     } in
+    let shared : table c.in_ok-tables.tables ≡ table regex.tables.now = ap table_known c.in_ok-tables.ensures in
     let layout = told-layout c.args.units (table regex.tables.now) unicode _ n t start w c.from.result c.in_ok-groups.groups
     c.new-code.ensures c.is_unicode.ensures c.in_ok-node.ensures.added c.from.ensures (c.in_ok-groups.ensures.ok ∙ ap length c.deref.ensures.value) in
     record {
       flags = refl;
-      table = refl;
+      table = shared;
       names = map-AllZip (λ x y. string_bytes y ≡ string_bytes x) string_bytes (λ x y e. e) c.deref-2.result.now
           (arc_slice_items c.in_ok-group_names.group_names) c.in_ok-group_names.ensures.ok ∙ ap (map string_bytes) c.deref-2.ensures.value;
-      layout = layout;
+      layout = subst (λ (x : Table). IsLayout (record target { table = x }) n t) (sym shared) layout;
       counted = sym (length-map c.node.new.code.insns.items instruction) ∙ counted.0;
       loops = c.from.ensures ∙ counted.1;
       begun = all-begin target n t layout;
@@ -51,14 +53,22 @@ invariant_of-result c =
     let regex = c.args.regex.now in
     let n = length regex.group_names.items in
     let t = tree regex.node in
+    let w = written c.node.new.code in
+    let target : Table → Target = λ x. record {
+      program = record { instructions = w.instructions; brackets = w.brackets; loops = c.from.result; groups = c.in_ok-groups.groups; units = c.args.units };
+      table = x;
+      unicode = is_unicode (options regex.flags);
+    } in
+    let shared : table c.in_ok-tables.tables ≡ table regex.tables.now = ap table_known c.in_ok-tables.ensures in
     record {
       laid = ∣ (
         n,
         t,
         c.requires,
-        told-layout c.args.units (table regex.tables.now) (is_unicode (options regex.flags)) _ n t (written c.new-code.result) (written c.node.new.code)
+        subst (λ (x : Table). IsLayout (target x) n t) (sym shared)
+            (told-layout c.args.units (table regex.tables.now) (is_unicode (options regex.flags)) _ n t (written c.new-code.result) w
             c.from.result c.in_ok-groups.groups c.new-code.ensures c.is_unicode.ensures c.in_ok-node.ensures.added c.from.ensures
-            (c.in_ok-groups.ensures.ok ∙ ap length c.deref.ensures.value),
+            (c.in_ok-groups.ensures.ok ∙ ap length c.deref.ensures.value)),
         c.in_ok-start_pred.ensures.serves,
       ) ∣₁;
       told = subst (λ brackets. AreAhead (program_from c.node.new.code.insns.items brackets c.from.result c.in_ok-groups.groups c.args.units) c.in_ok-ahead.ahead.items) c.deref-4.ensures.value

@@ -4,8 +4,8 @@ use Rattle.regress_front_tables.proofs.folding.map_of.Goals as goal
 
 pub returns-then-unicode : goal.returns-then-unicode
 unfolding canon
-returns-then-unicode c = rw c.if-unicode.true refl
+returns-then-unicode c = rw (c.if-unicode.true, c.deref.ensures) refl
 
 pub returns-else-unicode : goal.returns-else-unicode
 unfolding canon
-returns-else-unicode c = rw c.if-unicode.false refl
+returns-else-unicode c = rw (c.if-unicode.false, c.deref-else-unicode.ensures) refl

@@ -16,7 +16,7 @@ returns-clause-over c =
       made = record {
         kind = sym (ap not (ap (λ (compiled : CompiledRegex). compiled.units) program ∙ c.args.regex.now.compiled.of_bytes));
         made = record {
-          table = ap (λ (compiled : CompiledRegex). table compiled.tables.now) program ∙ sym (ap (λ (v : View). v.table) text);
+          table = ap (λ (compiled : CompiledRegex). table compiled.tables) program ∙ sym (ap (λ (v : View). v.table) text);
           unicode = ap (λ (compiled : CompiledRegex). is_unicode (options compiled.flags)) program ∙ sym (ap (λ (v : View). v.unicode) text);
         };
       };
