@@ -48,7 +48,7 @@ fn is_ascii(text: &str) -> bool
 }
 
 /// What a text is compiled to.
-fn of_text<'u>(alloc: Global, pattern: &str, tables: &'u Tables) -> Result<Regex, Error>
+fn of_text(alloc: Global, pattern: &str, tables: &Tables) -> Result<Regex, Error>
     ensures accepted { IfOk result (λ r. (p : Pattern) × Spells (table tables.now) no_flags (chars pattern.now) p
         × WithinLimits p × StandsFor r (table tables.now) no_flags p × StandsInUnits r (table tables.now) no_flags p) }
     ensures refused { IfErr result (MayRefuseRegex (table tables.now) no_flags (chars pattern.now)) }
@@ -57,11 +57,11 @@ fn of_text<'u>(alloc: Global, pattern: &str, tables: &'u Tables) -> Result<Regex
 }
 
 /// The same under flags.
-fn of_text_under<'u>(
+fn of_text_under(
     alloc: Global,
     pattern: &str,
     flags: Flags,
-    tables: &'u Tables,
+    tables: &Tables,
 ) -> Result<Regex, Error>
     ensures accepted { IfOk result (λ r. (p : Pattern) × Spells (table tables.now) (options flags) (chars pattern.now) p
         × WithinLimits p × StandsFor r (table tables.now) (options flags) p × StandsInUnits r (table tables.now) (options flags) p) }
@@ -71,11 +71,11 @@ fn of_text_under<'u>(
 }
 
 /// The same of code points.
-fn of_points<'u>(
+fn of_points(
     alloc: Global,
     points: &[u32],
     flags: Flags,
-    tables: &'u Tables,
+    tables: &Tables,
 ) -> Result<Regex, Error>
     requires { All (λ c. c ≤ 0x10_FFFF) points.now }
     ensures accepted { IfOk result (λ r. (p : Pattern) × Spells (table tables.now) (options flags) points.now p
@@ -209,7 +209,7 @@ fn text_of<'r>(regex: &'r Regex) -> &'r str
 }
 
 /// The same compiled pattern once more.
-fn copied<'u>(regex: &Regex) -> Result<Regex, Error>
+fn copied(regex: &Regex) -> Result<Regex, Error>
     ensures stands { (t : Table) → (o : Options) → (p : Pattern) → StandsFor regex.now t o p → IfOk result (λ copy. StandsFor copy t o p) }
     ensures stands_in_units { (t : Table) → (o : Options) → (p : Pattern) → StandsInUnits regex.now t o p → IfOk result (λ copy. StandsInUnits copy t o p) }
     ensures named { IfOk result (λ copy. names_of_regex copy ≡ names_of_regex regex.now) }
@@ -367,7 +367,7 @@ where
 }
 
 /// A compiled pattern of two programs: in texts it is what the one of bytes was made of, in units what the other was.
-fn of_programs<'u>(
+fn of_programs(
     alloc: Global,
     byte_program: CompiledRegex,
     unit_program: CompiledRegex,

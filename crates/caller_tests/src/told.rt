@@ -5,21 +5,21 @@ use std::alloc::Global;
 use std::test::Fail;
 
 /// A pattern under flags.
-pub(crate) fn compiled_under<'t>(
+pub(crate) fn compiled_under(
     alloc: Global,
     pattern: &str,
     flags: Flags,
-    tables: &'t Tables,
+    tables: &Tables,
 ) -> Result<Regex, Error> {
     Regex::with_flags(alloc, pattern, flags, tables)
 }
 
 /// The same, of the letters of the flags.
-pub(crate) fn compiled<'t>(
+pub(crate) fn compiled(
     alloc: Global,
     pattern: &str,
     flags: &str,
-    tables: &'t Tables,
+    tables: &Tables,
 ) -> Result<Regex, Error> {
     compiled_under(alloc, pattern, Flags::from(flags), tables)
 }

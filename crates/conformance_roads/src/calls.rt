@@ -51,21 +51,21 @@ fn listed<I: Iterator<Item = Result<Match, Error>>>(
 }
 
 /// A pattern that is given as a text.
-pub(crate) fn compiled<'t>(
+pub(crate) fn compiled(
     alloc: Global,
     pattern: &str,
     flags: Flags,
-    tables: &'t Tables,
+    tables: &Tables,
 ) -> Result<Regex, Error> {
     Regex::with_flags(alloc, pattern, flags, tables)
 }
 
 /// A pattern that is given as code points.
-pub(crate) fn compiled_points<'t>(
+pub(crate) fn compiled_points(
     alloc: Global,
     points: &[u32],
     flags: Flags,
-    tables: &'t Tables,
+    tables: &Tables,
 ) -> Result<Regex, Error> {
     if !are_code_points(points) {
         return Err(Error::OutOfMemory);
@@ -74,11 +74,11 @@ pub(crate) fn compiled_points<'t>(
 }
 
 /// The regex of the programs that a pattern's tree becomes as it is read.
-pub(crate) fn of_programs<'t>(
+pub(crate) fn of_programs(
     alloc: Global,
     points: &[u32],
     flags: Flags,
-    tables: &'t Tables,
+    tables: &Tables,
 ) -> Result<Regex, Error> {
     if !are_code_points(points) {
         return Err(Error::OutOfMemory);
@@ -224,11 +224,11 @@ pub(crate) fn is_match(
 }
 
 /// The program of units that a pattern's tree becomes as it is read.
-pub(crate) fn units_program<'t>(
+pub(crate) fn units_program(
     alloc: Global,
     points: &[u32],
     flags: Flags,
-    tables: &'t Tables,
+    tables: &Tables,
 ) -> Result<CompiledRegex, Error> {
     if !are_code_points(points) {
         return Err(Error::OutOfMemory);

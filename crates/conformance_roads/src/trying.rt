@@ -20,11 +20,11 @@ use std::alloc::{AllocError, Global};
 const SHORT: usize = 12;
 
 /// Compiles the pattern of a row: as a text, where it is one.
-fn compiled_pattern<'t>(
+fn compiled_pattern(
     alloc: Global,
     pattern: &Pattern,
     flags: Flags,
-    tables: &'t Tables,
+    tables: &Tables,
 ) -> Result<Regex, Error> {
     match &pattern.text {
         Some(text) => compiled(alloc, text.as_str(), flags, tables),

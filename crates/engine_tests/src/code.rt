@@ -53,12 +53,12 @@ fn told(alloc: Global, program: &CompiledRegex) -> Result<String, AllocError> {
 }
 
 /// The program of a pattern, of units or else of bytes. It promises nothing, so what reads it has little to prove.
-fn program<'t>(
+fn program(
     alloc: Global,
     pattern: &str,
     flags: &str,
     units: bool,
-    tables: &'t Tables,
+    tables: &Tables,
 ) -> Result<CompiledRegex, Error> {
     let regex = parsed(alloc, pattern, flags, tables)?;
     if units {

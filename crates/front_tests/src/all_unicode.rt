@@ -208,11 +208,11 @@ const ROWS: &[(&str, &str, &str, &str)] = &[
 ];
 
 /// A pattern under flags. It promises nothing, so what calls it has little to prove.
-fn compiled<'t>(
+fn compiled(
     alloc: Global,
     pattern: &str,
     flags: &str,
-    tables: &'t Tables,
+    tables: &Tables,
 ) -> Result<Regex, Error> {
     Regex::with_flags(alloc, pattern, Flags::from(flags), tables)
 }

@@ -40,14 +40,14 @@ pub(crate) fn rewritten<'t>(
 }
 
 /// The program of bytes of a tree. It promises nothing, so what calls it has little to prove.
-pub(crate) fn byte_program<'t>(alloc: Global, regex: &Regex<'t>) -> Result<CompiledRegex, Error>
+pub(crate) fn byte_program(alloc: Global, regex: &Regex<'_>) -> Result<CompiledRegex, Error>
     requires { IsWellFormed (length regex.now.group_names.items) (tree regex.now.node) }
 {
     emit(alloc, regex)
 }
 
 /// The program of units of a tree. Nor does it.
-pub(crate) fn unit_program<'t>(alloc: Global, regex: &Regex<'t>) -> Result<CompiledRegex, Error>
+pub(crate) fn unit_program(alloc: Global, regex: &Regex<'_>) -> Result<CompiledRegex, Error>
     requires { IsWellFormed (length regex.now.group_names.items) (tree regex.now.node) }
 {
     emit_units(alloc, regex)

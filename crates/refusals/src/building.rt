@@ -15,10 +15,10 @@ use regress_front::{ir, optimize, try_parse};
 use std::alloc::Global;
 
 /// A pattern under flags.
-pub(crate) fn compiled<'t>(
+pub(crate) fn compiled(
     alloc: Global,
     row: &Row,
-    tables: &'t Tables,
+    tables: &Tables,
 ) -> Result<Regex, Error> {
     Regex::with_flags(alloc, row.pattern.as_str(), row.flags(), tables)
 }
@@ -60,7 +60,7 @@ pub(crate) fn parsed<'t>(
 }
 
 /// The regex of a tree's programs.
-fn regex_of<'t>(alloc: Global, regex: &ir::Regex<'t>) -> Result<Regex, Error>
+fn regex_of(alloc: Global, regex: &ir::Regex<'_>) -> Result<Regex, Error>
     requires { IsWellFormed (length regex.now.group_names.items) (tree regex.now.node) }
 {
     let byte_program = emit(alloc, regex)?;
@@ -69,11 +69,11 @@ fn regex_of<'t>(alloc: Global, regex: &ir::Regex<'t>) -> Result<Regex, Error>
 }
 
 /// A program of bytes.
-pub(crate) fn program_of<'t>(
+pub(crate) fn program_of(
     alloc: Global,
     points: &[u32],
     flags: Flags,
-    tables: &'t Tables,
+    tables: &Tables,
 ) -> Result<CompiledRegex, Error> {
     let tree = parsed(alloc, points, flags, tables)?;
     emit(alloc, &tree)
@@ -159,7 +159,7 @@ fn tell_regex(told: &mut String, regex: &Regex) -> Result<(), Refusal> {
 }
 
 /// A regex of code points.
-fn of_points<'t>(work: &Building<'t>) -> Result<Regex, Refusal> {
+fn of_points(work: &Building<'_>) -> Result<Regex, Refusal> {
     if !are_code_points(&work.points) {
         return Err(Refusal::Other);
     }

@@ -34,7 +34,7 @@ pub fn is_start(text: &str, start: usize) -> bool
     start > text.len() || text.is_char_boundary(start)
 }
 
-/// A compiled pattern. It borrows the tables that it was compiled with.
+/// A compiled pattern. It shares the tables that it was compiled with and borrows nothing, so a struct may own it beside them.
 #[derive(Debug, Drop)]
 pub struct Regex {
     pub(crate) alloc: Global,
