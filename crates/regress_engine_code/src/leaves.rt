@@ -12,7 +12,7 @@ use regress_front_core::MAX_CHAR_SET_LENGTH;
 use regress_front_tables::CodePoint;
 use std::alloc::{AllocError, Global};
 
-/// One of at most four code points.
+/// One of at most four code points: the last fills up the places that are left.
 pub(crate) fn char_set(chars: &[CodePoint]) -> Insn
     requires { length chars.now ≤ 4 }
     ensures { instruction result ≡ char_set_code chars.now }
