@@ -1,5 +1,6 @@
 -- What holds of each kind of input.
-use Rattle.std.proofs.Common.{◌≡◌, ℕ, ◌≤◌, Bool, true, false, List, length, Some, arith}
+use Rattle.std.specs.Prelude.{slice_range}
+use Rattle.std.proofs.Common.{◌≡◌, ℕ, ◌≤◌, Bool, true, false, List, length, Some, ap₂, arith}
 use Rattle.regress_meaning.specs.Table.{Table}
 use Rattle.regress_meaning.specs.Meaning.{Direction}
 use Rattle.regress_meaning.specs.Offsets.{offset, of_utf16}
@@ -13,8 +14,8 @@ use Rattle.regress_engine_input.proofs.UnitTexts.{single_offset, ascii_tells, uc
 use Rattle.regress_engine_input.proofs.Utf16Texts.{utf16_tells, utf16_end}
 use Rattle.regress_engine_input.proofs.Utf8Texts.{utf8_tells}
 use Rattle.regress_engine_input.proofs.ByteLiterals.{utf8_tells_bytes, ascii_tells_bytes}
-use Rattle.regress_engine_input.proofs.UnitReferences.{utf8_repeated, ascii_repeated, ucs2_repeated}
-use Rattle.regress_engine_input.proofs.Utf16References.{utf16_repeated}
+use Rattle.regress_engine_input.proofs.UnitReferences.{piece-read, utf8_repeated, ascii_repeated, ucs2_repeated}
+use Rattle.regress_engine_input.proofs.Utf16References.{part-read, utf16_repeated}
 
 -- each tells its text
 pub tells : (kind : Kind) (table : Table) (unicode : Bool) (units : List ℕ) → AreOfKind kind units → Tells (reading_of_kind kind units) (input_of_kind kind table unicode units)
@@ -54,3 +55,12 @@ repeats utf8 table unicode units all dir a b p order inside room = utf8_repeated
 repeats ascii table unicode units all dir a b p order inside room = ascii_repeated units a b p order inside room all table unicode dir
 repeats utf16 table unicode units all dir a b p order inside room = utf16_repeated units all table unicode dir a b p order inside room
 repeats ucs2 table unicode units all dir a b p order inside room = ucs2_repeated units a b p order inside room all table unicode dir
+
+-- what stands between two places, read as a text of its own, has the code points between them
+pub part_points : (kind : Kind) (units : List ℕ) → AreOfKind kind units → (a b : ℕ) → a ≤ b → b ≤ length (reading_of_kind kind units).points
+    → (reading_of_kind kind (slice_range units (offset (reading_of_kind kind units) a) (offset (reading_of_kind kind units) b))).points
+    ≡ slice_range (reading_of_kind kind units).points a b
+part_points utf8 units all a b order room = piece-read units all a b order
+part_points ascii units all a b order room = ap₂ (slice_range units) (single_offset units a (omega (arith, order, room))) (single_offset units b room)
+part_points utf16 units all a b order room = part-read units all a b order
+part_points ucs2 units all a b order room = ap₂ (slice_range units) (single_offset units a (omega (arith, order, room))) (single_offset units b room)

@@ -75,7 +75,7 @@ module _ (bytes : List ℕ) (utf8 : IsUtf8 bytes) (a b : ℕ) (order : a ≤ b) 
   piece-utf8 : IsUtf8 piece
   piece-utf8 = (word, (word-scalars, sym piece-is))
 
-  piece-read : chars piece ≡ word
+  pub piece-read : chars piece ≡ word
   piece-read = ap chars piece-is ∙ chars-encodes word word-scalars
 
   pub utf8_repeated : (table : Table) (unicode : Bool) (dir : Direction) (p : ℕ) → b ≤ length (chars bytes) → p ≤ length (chars bytes)

@@ -69,6 +69,10 @@ module _ (units : List ℕ) (short : All IsShort units) where
       let cut = (characters-cut (drop (at a) units) (All-drop IsShort (at a) units short) (b - a)).0 in
       subst (λ cs. characters (spells (take (b - a) cs)) ≡ take (b - a) cs) own cut
 
+  -- between two places the units are read as the characters there
+  pub part-read : (a b : ℕ) → a ≤ b → characters (slice_range units (at a) (at b)) ≡ word a b
+  part-read a b order = ap characters (word-units a b order) ∙ word-read a b
+
   -- characters that are those of their units, and a place
   module _ (ws : List ℕ) (own : characters (spells ws) ≡ ws) (p : ℕ) (room : p ≤ length points) where
     abbrev o : ℕ

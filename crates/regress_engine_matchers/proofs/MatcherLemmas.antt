@@ -1,62 +1,17 @@
--- Two characters that are read side by side, and what is left of a range.
-use Rattle.std.proofs.Common.{◌≡◌, ℕ, zero, suc, ◌<◌, ◌≤◌, ◌==◌, Bool, true, false, Option, Some, None, if◌then◌else◌, length, option_map, option_and_then, refl, sym, ap, ap₂, ◌∙◌, ◌≢◌, arith}
-use Rattle.std.proofs.lemmas.Bool.{eq-eqb, ne_eqb}
-use Rattle.regress_meaning.specs.Table.{canon}
+-- What reads keep, and the code points of a part, one after another beside an offset.
+use Rattle.std.specs.Prelude.{slice_get, slice_range}
+use Rattle.std.proofs.Common.{◌≡◌, ◌≢◌, ◌⊎◌, inl, inr, ℕ, zero, suc, ◌+◌, ◌-◌, ◌<◌, ◌≤◌, Bool, true, false, ◌==◌, List, [], ◌∷◌, ◌++◌, length, take, drop, reverse, get_or, Option, Some, None, if◌then◌else◌, option_map, option_and_then, refl, sym, ap, ◌∙◌, subst, arith, length-take, length-drop}
+use Rattle.std.proofs.Math.Seq.{take-append_seam, take-add}
+use Rattle.std.proofs.lemmas.Bool.{cases_lt, eq-eqb, ne_eqb}
+use Rattle.std.proofs.lemmas.List.{drop_all, drop_more, take_more, take_all, reverse-append, length-reverse}
+use Rattle.std.proofs.lemmas.Option.{slice_get-get_or, slice_get_past}
 use Rattle.regress_meaning.specs.Meaning.{Direction, Forward, Backward, same}
-use Rattle.regress_meaning.specs.Inputs.{Input}
-use Rattle.regress_meaning.specs.Steps.{copied, only_if}
-use Rattle.regress_engine_input.specs.Views.{View, input_of, CanRead, behind}
-use Rattle.regress_engine_matchers.specs.References.{IsPlace, units_left, next_alike, both_if}
-
--- ---- two reads
-
-module _ (f g : ℕ → ℕ) where
-  -- the offsets behind two characters, where these are alike
-  abbrev pub alike_of : Option (ℕ × ℕ) → Option (ℕ × ℕ) → Option (ℕ × ℕ)
-  alike_of x y = option_and_then (λ (c : ℕ × ℕ). option_and_then (λ (d : ℕ × ℕ). if g c.0 == g d.0 then Some (c.1, d.1) else None) y) x
-
-  pub alike-both : (x y : Option (ℕ × ℕ)) (c d a o a' o' : ℕ) → option_map (λ (z : ℕ × ℕ). z.0) x ≡ Some c → option_map (λ (z : ℕ × ℕ). z.0) y ≡ Some d
-      → a' ≡ behind a x → o' ≡ behind o y → f c ≡ g c → f d ≡ g d → both_if (f c == f d) a' o' ≡ alike_of x y
-  alike-both None y c d a o a' o' e h i j k l = cc
-  alike-both (Some x) None c d a o a' o' e h i j k l = cc
-  alike-both (Some (c', x')) (Some (d', y')) c d a o a' o' e h i j k l =
-      let cs : c' ≡ c = cc in
-      let ds : d' ≡ d = cc in
-      let left : f c ≡ g c' = k ∙ ap g (sym cs) in
-      let right : f d ≡ g d' = l ∙ ap g (sym ds) in
-      ap₂ (λ u v. both_if (u == v) a' o') left right ∙ ap₂ (λ u v. both_if (g c' == g d') u v) i j
-
--- ---- what is copied, a character at a time
-
-module _ (input : Input) (dir : Direction) where
-  abbrev alike_canon : ℕ → ℕ
-  alike_canon = canon input.table input.unicode
-
-  pub copied-here : (n to o : ℕ) → copied input n dir true to to o ≡ Some o
-  unfolding copied
-  copied-here zero to o = ap (λ b. only_if b o) (eq-eqb to to refl)
-  copied-here (suc n) to o = ap (λ b. if b then Some o else option_and_then (λ x. option_and_then (λ y. if same input.table input.unicode true x.0 y.0 then copied input n dir true x.1 to y.1 else None)
-      (input.next dir o)) (input.next dir to)) (eq-eqb to to refl)
-
-  pub copied-more : (n from to o : ℕ) → from ≢ to
-      → copied input (suc n) dir true from to o ≡ option_and_then (λ z. copied input n dir true z.0 to z.1) (next_alike input dir from o)
-  unfolding copied
-  copied-more n from to o apart =
-      ap (λ b. if b then Some o else option_and_then (λ x. option_and_then (λ y. if same input.table input.unicode true x.0 y.0 then copied input n dir true x.1 to y.1 else None)
-      (input.next dir o)) (input.next dir from)) (ne_eqb from to apart)
-      ∙ joined (input.next dir from) (input.next dir o)
-    where
-      by_test : (b : Bool) (p q : ℕ) → (if b then copied input n dir true p to q else None) ≡ option_and_then (λ (z : ℕ × ℕ). copied input n dir true z.0 to z.1) (if b then Some (p, q) else None)
-      by_test true p q = refl
-      by_test false p q = refl
-
-      joined : (x y : Option (ℕ × ℕ)) → option_and_then (λ (x : ℕ × ℕ). option_and_then (λ (y : ℕ × ℕ). if same input.table input.unicode true x.0 y.0 then copied input n dir true x.1 to y.1 else None) y) x
-          ≡ option_and_then (λ (z : ℕ × ℕ). copied input n dir true z.0 to z.1) (alike_of alike_canon alike_canon x y)
-      joined None y = refl
-      joined (Some x) None = refl
-      joined (Some x) (Some y) = by_test (alike_canon x.0 == alike_canon y.0) x.1 y.1
-
--- ---- what a loop over a range keeps
+use Rattle.regress_meaning.specs.Offsets.{Reading, offset}
+use Rattle.regress_meaning.specs.Inputs.{Input, Tells, neighbour, point_told}
+use Rattle.regress_meaning.specs.Steps.{copied, repeated, passed, point, only_if}
+use Rattle.regress_meaning.proofs.OffsetLemmas.{offsets-far}
+use Rattle.regress_engine_input.specs.Views.{View, input_of, reading_of, CanRead, behind}
+use Rattle.regress_engine_matchers.specs.References.{IsPlace, units_left, alike, all_alike, in_turn, begin_in}
 
 -- All that is asked of what an input shows: a read stays where one may read, and goes on.
 pub record Reads (v : View) : Type 0 where
@@ -66,111 +21,276 @@ pub record Reads (v : View) : Type 0 where
   pub places : (dir : Direction) (a to : ℕ) (x : ℕ × ℕ) → IsPlace v a → IsPlace v to → 0 < units_left dir a to → (input_of v).next dir a ≡ Some x
       → IsPlace v x.1 × (units_left dir to x.1 ≡ 0)
 
--- Between places, what is still to be copied has the answer of the whole.
-pub record IsRest (v : View) (dir : Direction) (from to start at pos : ℕ) : Type 0 where
-  pub place : IsPlace v at
-  pub ahead : units_left dir to at ≡ 0
-  pub same : (n : ℕ) × (units_left dir at to ≤ n)
-      × (copied (input_of v) (units_left dir from to) dir true from to start ≡ copied (input_of v) n dir true at to pos)
+-- ---- what is left of code points
 
--- A loop that copies from `from` to `to` beside `start` has come to `at` and `pos`.
-pub record IsCopying (v : View) (dir : Direction) (from to start at pos : ℕ) : Type 0 where
-  pub can_at : CanRead v at
-  pub can_pos : CanRead v pos
-  pub rest : IsPlace v from → IsPlace v to → IsRest v dir from to start at pos
+-- what is left from a place on, as it is read in a direction
+abbrev pub left_in : Direction → List ℕ → ℕ → List ℕ
+left_in Forward cs p = drop p cs
+left_in Backward cs p = reverse (take p cs)
 
-pub IsCopying-start : (v : View) (dir : Direction) (from to start : ℕ) → units_left dir to from ≡ 0 → CanRead v from → CanRead v start → IsCopying v dir from to start from start
-IsCopying-start v dir from to start order can_from can_start = record {
-  can_at = can_from;
-  can_pos = can_start;
-  rest = λ from_place to_place. record { place = from_place; ahead = order; same = (units_left dir from to, omega arith, refl) };
+-- what is read at a place is the first that is left, and at the end nothing is
+abbrev IsFirst : Direction → List ℕ → ℕ → Option (ℕ × ℕ) → Type 0
+IsFirst dir cs p None = left_in dir cs p ≡ []
+IsFirst dir cs p (Some x) = (left_in dir cs p ≡ x.0 ∷ left_in dir cs x.1) × (x.1 ≤ length cs)
+
+first-left : (dir : Direction) (cs : List ℕ) (p : ℕ) → p ≤ length cs → IsFirst dir cs p (neighbour cs dir p)
+first-left Forward cs p room = by_room (cases_lt p (length cs))
+  where
+    by_room : (p < length cs) ⊎ (length cs ≤ p) → IsFirst Forward cs p (option_map (λ c. (c, suc p)) (slice_get cs p))
+    by_room (inl less) =
+        let next : p + 1 ≡ suc p = omega arith in
+        let rest : drop p cs ≡ get_or cs p 0 ∷ drop (suc p) cs = drop_more cs p 0 less ∙ ap (λ n. get_or cs p 0 ∷ drop n cs) next in
+        subst (λ o. IsFirst Forward cs p (option_map (λ c. (c, suc p)) o)) (sym (slice_get-get_or cs p 0 less)) (rest, omega arith)
+    by_room (inr past) =
+        subst (λ o. IsFirst Forward cs p (option_map (λ c. (c, suc p)) o)) (sym (slice_get_past cs p past)) (drop_all p cs past)
+first-left Backward cs zero room = refl
+first-left Backward cs (suc p) room =
+    let less : p < length cs = omega (arith, room) in
+    let next : suc p ≡ p + 1 = omega arith in
+    let rest : reverse (take (suc p) cs) ≡ get_or cs p 0 ∷ reverse (take p cs) =
+    ap (λ n. reverse (take n cs)) next ∙ ap reverse (take_more cs p 0 less) ∙ reverse-append (take p cs) (get_or cs p 0 ∷ []) in
+    subst (λ o. IsFirst Backward cs (suc p) (option_map (λ c. (c, p)) o)) (sym (slice_get-get_or cs p 0 less)) (rest, omega (arith, room))
+
+-- ---- what is copied between places
+
+module _ (input : Input) (dir : Direction) where
+  copied-here : (n to o : ℕ) → copied input n dir true to to o ≡ Some o
+  unfolding copied
+  copied-here zero to o = ap (λ b. only_if b o) (eq-eqb to to refl)
+  copied-here (suc n) to o = ap (λ b. if b then Some o else option_and_then (λ x. option_and_then (λ y. if same input.table input.unicode true x.0 y.0 then copied input n dir true x.1 to y.1 else None)
+      (input.next dir o)) (input.next dir to)) (eq-eqb to to refl)
+
+  -- one code point, and then others
+  copied-more : (n from to o c q : ℕ) (cs : List ℕ) → from ≢ to → input.next dir from ≡ Some (c, q)
+      → ((r : ℕ) → copied input n dir true q to r ≡ all_alike input dir cs r) → copied input (suc n) dir true from to o ≡ all_alike input dir (c ∷ cs) o
+  unfolding copied all_alike
+  copied-more n from to o c q cs apart read rest =
+      ap (λ b. if b then Some o else option_and_then (λ x. option_and_then (λ y. if same input.table input.unicode true x.0 y.0 then copied input n dir true x.1 to y.1 else None)
+      (input.next dir o)) (input.next dir from)) (ne_eqb from to apart)
+      ∙ ap (option_and_then (λ x. option_and_then (λ y. if same input.table input.unicode true x.0 y.0 then copied input n dir true x.1 to y.1 else None) (input.next dir o))) read
+      ∙ by_next (input.next dir o)
+    where
+      by_test : (b : Bool) (r : ℕ) → (if b then copied input n dir true q to r else None) ≡ option_and_then (all_alike input dir cs) (if b then Some r else None)
+      by_test true r = rest r
+      by_test false r = refl
+
+      by_next : (y : Option (ℕ × ℕ)) → option_and_then (λ (y : ℕ × ℕ). if same input.table input.unicode true c y.0 then copied input n dir true q to y.1 else None) y
+          ≡ option_and_then (all_alike input dir cs) (passed (same input.table input.unicode true c) y)
+      by_next None = refl
+      by_next (Some y) = by_test (same input.table input.unicode true c y.0) y.1
+
+module _ (input : Input) (reading : Reading) (told : Tells reading input) where
+  -- the place so many code points on
+  abbrev onward : Direction → ℕ → ℕ → ℕ
+  onward Forward p k = p + k
+  onward Backward p k = p - k
+
+  -- there are so many from a place on
+  abbrev HasRoom : Direction → ℕ → ℕ → Type 0
+  HasRoom Forward p k = p + k ≤ length reading.points
+  HasRoom Backward p k = (k ≤ p) × (p ≤ length reading.points)
+
+  -- the first of those from a place on, and the place behind it
+  record First (dir : Direction) (p k : ℕ) : Type 0 where
+    pub c : ℕ
+    pub q : ℕ
+    pub read : input.next dir (offset reading p) ≡ Some (c, offset reading q)
+    pub left : left_in dir reading.points p ≡ c ∷ left_in dir reading.points q
+    pub room : HasRoom dir q k
+    pub end : onward dir q k ≡ onward dir p (suc k)
+    pub apart : offset reading p ≢ offset reading (onward dir p (suc k))
+
+  first : (dir : Direction) (p k : ℕ) → HasRoom dir p (suc k) → First dir p k
+  first Forward p k room =
+      let here : slice_get reading.points p ≡ Some (get_or reading.points p 0) = slice_get-get_or reading.points p 0 (omega (arith, room)) in
+      let rest = subst (λ o. IsFirst Forward reading.points p (option_map (λ c. (c, suc p)) o)) here (first-left Forward reading.points p (omega (arith, room))) in
+      record {
+        c = get_or reading.points p 0;
+        q = suc p;
+        read = told.next Forward p (omega (arith, room)) ∙ ap (λ o. option_map (point_told reading) (option_map (λ c. (c, suc p)) o)) here;
+        left = rest.0;
+        room = omega (arith, room);
+        end = omega arith;
+        apart = λ e. let h = told.rise p (p + suc k) (omega arith) room in omega (arith, e, h);
+      }
+  first Backward zero k room = absurd (omega (arith, room.0))
+  first Backward (suc p) k room =
+      let here : slice_get reading.points p ≡ Some (get_or reading.points p 0) = slice_get-get_or reading.points p 0 (omega (arith, room.1)) in
+      let rest = subst (λ o. IsFirst Backward reading.points (suc p) (option_map (λ c. (c, p)) o)) here (first-left Backward reading.points (suc p) room.1) in
+      record {
+        c = get_or reading.points p 0;
+        q = p;
+        read = told.next Backward (suc p) room.1 ∙ ap (λ o. option_map (point_told reading) (option_map (λ c. (c, p)) o)) here;
+        left = rest.0;
+        room = (omega (arith, room.0), omega (arith, room.1));
+        end = omega arith;
+        apart = λ e. let h = told.rise (suc p - suc k) (suc p) (omega (arith, room.0)) room.1 in omega (arith, e, h);
+      }
+
+  stays : (dir : Direction) (p : ℕ) → onward dir p 0 ≡ p
+  stays Forward p = omega arith
+  stays Backward p = omega arith
+
+  -- so many code points from a place on are copied where they stand beside an offset by equal canons
+  copied-points : (dir : Direction) (k n p o : ℕ) → HasRoom dir p k → k ≤ n
+      → copied input n dir true (offset reading p) (offset reading (onward dir p k)) o ≡ all_alike input dir (take k (left_in dir reading.points p)) o
+  unfolding all_alike
+  copied-points dir zero n p o room few =
+      ap (λ q. copied input n dir true (offset reading p) (offset reading q) o) (stays dir p) ∙ copied-here input dir n (offset reading p) o
+  copied-points dir (suc k) zero p o room few = absurd (omega (arith, few))
+  copied-points dir (suc k) (suc m) p o room few =
+      let f = first dir p k room in
+      copied-more input dir m (offset reading p) (offset reading (onward dir p (suc k))) o f.c (offset reading f.q) (take k (left_in dir reading.points f.q)) f.apart f.read
+      (λ r. ap (λ q. copied input m dir true (offset reading f.q) (offset reading q) r) (sym f.end) ∙ copied-points dir k m f.q r f.room (omega (arith, few)))
+      ∙ ap (λ cs. all_alike input dir (take (suc k) cs) o) (sym f.left)
+
+  module _ (a b : ℕ) (order : a ≤ b) (inside : b ≤ length reading.points) where
+    abbrev word : List ℕ
+    word = slice_range reading.points a b
+
+    turned : take (b - a) (reverse (take b reading.points)) ≡ reverse word
+    turned =
+        let e : b ≡ a + (b - a) = omega (arith, order) in
+        let front : take b reading.points ≡ take a reading.points ++ word = ap (λ n. take n reading.points) e ∙ take-add a (b - a) reading.points in
+        let x = length-take (b - a) (drop a reading.points) in
+        let y = length-drop a reading.points in
+        let z = length-reverse word in
+        let size : b - a ≡ length (reverse word) = omega (arith, x, y, z, inside) in
+        ap (λ cs. take (b - a) (reverse cs)) front ∙ ap (take (b - a)) (reverse-append (take a reading.points) word)
+        ∙ ap (λ n. take n (reverse word ++ reverse (take a reading.points))) size ∙ take-append_seam (reverse word) (reverse (take a reading.points))
+
+    far : b - a ≤ offset reading b - offset reading a
+    far =
+        let e : a + (b - a) ≡ b = omega (arith, order) in
+        let f = ap (offset reading) e in
+        let h = offsets-far reading told.rise (b - a) a (omega (arith, e, inside)) in
+        omega (arith, f, h)
+
+    -- what stands between two places is copied where its code points stand beside an offset by equal canons
+    pub repeated-points : (dir : Direction) (o : ℕ) → repeated input dir true (Some (offset reading a, offset reading b)) o ≡ all_alike input dir (in_turn dir word) o
+    repeated-points Forward o =
+        let e : b ≡ a + (b - a) = omega (arith, order) in
+        ap (λ q. copied input (offset reading b - offset reading a) Forward true (offset reading a) (offset reading q) o) e
+        ∙ copied-points Forward (b - a) (offset reading b - offset reading a) a o (omega (arith, order, inside)) far
+    repeated-points Backward o =
+        let e : a ≡ b - (b - a) = omega (arith, order) in
+        ap (λ q. copied input (offset reading b - offset reading a) Backward true (offset reading b) (offset reading q) o) e
+        ∙ copied-points Backward (b - a) (offset reading b - offset reading a) b o (omega arith, inside) far
+        ∙ ap (λ cs. all_alike input Backward cs o) turned
+
+-- ---- a loop over a part
+
+-- how many units a text still has from an offset on, as it is read in a direction
+abbrev pub unread : Direction → ℕ → ℕ → ℕ
+unread Forward n at = n - at
+unread Backward n at = at
+
+-- where a code point passed, it was read
+passed-read : (test : ℕ → Bool) (x : Option (ℕ × ℕ)) (q : ℕ) → Some q ≡ passed test x → (d : ℕ) × (x ≡ Some (d, q))
+passed-read test None q h = cc
+passed-read test (Some (d, o)) q h = by_test (test d) h
+  where
+    by_test : (b : Bool) → Some q ≡ (if b then Some o else None) → (e : ℕ) × (◌≡◌ {A = Option (ℕ × ℕ)} (Some (d, o)) (Some (e, q)))
+    by_test true h = let same : o ≡ q = cc in (d, ap (λ (n : ℕ). Some (d, n)) same)
+    by_test false h = cc
+
+-- A loop that reads a part from its one end has come to a place of the part, and to an offset beside which the rest is to stand.
+pub record IsCompared (v part : View) (dir : Direction) (start at pos : ℕ) : Type 0 where
+  pub place : ℕ
+  pub inside : place ≤ length (reading_of part).points
+  pub here : offset (reading_of part) place ≡ at
+  pub can : CanRead v pos
+  pub same : all_alike (input_of v) dir (in_turn dir (reading_of part).points) start ≡ all_alike (input_of v) dir (left_in dir (reading_of part).points place) pos
+
+pub IsCompared-start : (v part : View) (dir : Direction) (start at : ℕ) → offset (reading_of part) (length (reading_of part).points) ≡ length part.units
+    → at ≡ begin_in dir (length part.units) → CanRead v start → IsCompared v part dir start at start
+IsCompared-start v part Forward start at end begins can = record { place = 0; inside = omega arith; here = sym begins; can = can; same = refl }
+IsCompared-start v part Backward start at end begins can = record {
+  place = length (reading_of part).points;
+  inside = omega arith;
+  here = end ∙ sym begins;
+  can = can;
+  same = ap (λ cs. all_alike (input_of v) Backward (reverse cs) start) (sym (take_all (length (reading_of part).points) (reading_of part).points (omega arith)));
 }
 
-apart-left : (dir : Direction) (at to : ℕ) → 0 < units_left dir at to → at ≢ to
-apart-left Forward at to h e = omega (arith, e)
-apart-left Backward at to h e = omega (arith, e)
+module _ (v part : View) (told : Tells (reading_of part) (input_of part)) (dir : Direction) (start at pos : ℕ) (h : IsCompared v part dir start at pos) where
+  abbrev points : List ℕ
+  points = (reading_of part).points
 
-equal-left : (dir : Direction) (at to : ℕ) → units_left dir at to ≡ 0 → units_left dir to at ≡ 0 → at ≡ to
-equal-left Forward at to h k = omega arith
-equal-left Backward at to h k = omega arith
+  abbrev all : List ℕ → ℕ → Option ℕ
+  all cs o = all_alike (input_of v) dir cs o
 
-less-left : (dir : Direction) (at next to : ℕ) → 0 < units_left dir at next → units_left dir to next ≡ 0 → units_left dir next to < units_left dir at to
-less-left Forward at next to h k = omega arith
-less-left Backward at next to h k = omega arith
+  -- what is read there
+  read-here : (input_of part).next dir at ≡ option_map (point_told (reading_of part)) (neighbour points dir h.place)
+  read-here = ap ((input_of part).next dir) (sym h.here) ∙ told.next dir h.place h.inside
 
--- two characters that are alike were read
-alike-read : (f : ℕ → ℕ) (x y : Option (ℕ × ℕ)) (p q : ℕ) → Some (p, q) ≡ alike_of f f x y
-    → (c : ℕ) × (d : ℕ) × (x ≡ Some (c, p)) × (y ≡ Some (d, q))
-alike-read f None y p q h = cc
-alike-read f (Some x) None p q h = cc
-alike-read f (Some (c, x)) (Some (d, y)) p q h = by_test (f c == f d) h
-  where
-    by_test : (b : Bool) → ◌≡◌ {A = Option (ℕ × ℕ)} (Some (p, q)) (if b then Some (x, y) else None) → (c' : ℕ) × (d' : ℕ) × (◌≡◌ {A = Option (ℕ × ℕ)} (Some (c, x)) (Some (c', p))) × (◌≡◌ {A = Option (ℕ × ℕ)} (Some (d, y)) (Some (d', q)))
-    by_test true e =
-        let found : ℕ × ℕ = (p, q) in
-        let read : ℕ × ℕ = (x, y) in
-        let pairs : found ≡ read = cc in
-        let left : p ≡ x = ap (λ z. z.0) pairs in
-        let right : q ≡ y = ap (λ z. z.1) pairs in
-        (c, d, ap (λ z. Some (c, z)) (sym left), ap (λ z. Some (d, z)) (sym right))
-    by_test false e = cc
+  -- can be read at is a place of the part
+  pub reads-at : (on : (p : ℕ) → p ≤ length points → CanRead part (offset (reading_of part) p)) → CanRead part at
+  reads-at on = subst (CanRead part) h.here (on h.place h.inside)
 
-module _ (v : View) (reads : Reads v) (dir : Direction) (from to start at pos : ℕ) (h : IsCopying v dir from to start at pos) where
-  -- a pair of characters that are alike: the loop goes on behind them
-  pub IsCopying-on : (next behind : ℕ) → 0 < units_left dir at to → Some (next, behind) ≡ next_alike (input_of v) dir at pos
-      → IsCopying v dir from to start next behind
-  IsCopying-on next behind left read =
-      let both = alike-read (alike_canon (input_of v) dir) ((input_of v).next dir at) ((input_of v).next dir pos) next behind read in
-      record {
-        can_at = (reads.on dir at (both.0, next) h.can_at both.2).0;
-        can_pos = (reads.on dir pos (both.1, behind) h.can_pos both.3).0;
-        rest = λ from_place to_place.
-            let old = h.rest from_place to_place in
-            let there = reads.places dir at to (both.0, next) old.place to_place left both.2 in
-            let less = less-left dir at next to (reads.on dir at (both.0, next) h.can_at both.2).1 there.1 in
-            record { place = there.0; ahead = there.1; same = shrunk old.same.0 old.same.1 old.same.2 less };
-      }
+  -- nothing is left
+  pub IsCompared-end : point (input_of part) dir at ≡ None → all (in_turn dir points) start ≡ Some pos
+  unfolding all_alike
+  IsCompared-end none = by_point (neighbour points dir h.place) (first-left dir points h.place h.inside) read-here
     where
-      shrunk : (n : ℕ) → units_left dir at to ≤ n → copied (input_of v) (units_left dir from to) dir true from to start ≡ copied (input_of v) n dir true at to pos
-          → units_left dir next to < units_left dir at to
-          → (m : ℕ) × (units_left dir next to ≤ m) × (copied (input_of v) (units_left dir from to) dir true from to start ≡ copied (input_of v) m dir true next to behind)
-      shrunk zero room same less = absurd (omega arith)
-      shrunk (suc m) room same less = (
-        m,
-        omega arith,
-        same ∙ copied-more (input_of v) dir m at to pos (apart-left dir at to left)
-            ∙ ap (option_and_then (λ (z : ℕ × ℕ). copied (input_of v) m dir true z.0 to z.1)) (sym read),
-      )
+      by_point : (x : Option (ℕ × ℕ)) → IsFirst dir points h.place x → (input_of part).next dir at ≡ option_map (point_told (reading_of part)) x → all (in_turn dir points) start ≡ Some pos
+      by_point None first read = h.same ∙ ap (λ cs. all cs pos) first
+      by_point (Some x) first read = absurd (cc (ap (option_map (λ (z : ℕ × ℕ). z.0)) read, none))
 
-  -- what is left grows less
-  pub left-less : (next behind : ℕ) → 0 < units_left dir at to → Some (next, behind) ≡ next_alike (input_of v) dir at pos → units_left dir next to < units_left dir at to
-  left-less next behind left read =
-      let both = alike-read (alike_canon (input_of v) dir) ((input_of v).next dir at) ((input_of v).next dir pos) next behind read in
-      let on = (reads.on dir at (both.0, next) h.can_at both.2).1 in
-      by_way dir on left
-    where
-      by_way : (d : Direction) → 0 < units_left d at next → 0 < units_left d at to → units_left d next to < units_left d at to
-      by_way Forward on left = omega arith
-      by_way Backward on left = omega arith
+  module _ (c next : ℕ) (here : Some c ≡ point (input_of part) dir at) (moved : next ≡ behind at ((input_of part).next dir at)) where
+    -- the first that is left was read
+    record Goes : Type 0 where
+      pub q : ℕ
+      pub inside : q ≤ length points
+      pub here : offset (reading_of part) q ≡ next
+      pub left : left_in dir points h.place ≡ c ∷ left_in dir points q
 
-  -- no such pair: nothing is copied
-  pub copied-none : IsPlace v from → IsPlace v to → 0 < units_left dir at to → None ≡ next_alike (input_of v) dir at pos
-      → copied (input_of v) (units_left dir from to) dir true from to start ≡ None
-  copied-none from_place to_place left read = by_fuel old.same.0 old.same.1 old.same.2
-    where
-      old : IsRest v dir from to start at pos
-      old = h.rest from_place to_place
+    goes : Goes
+    goes = by_point (neighbour points dir h.place) (first-left dir points h.place h.inside) read-here
+      where
+        by_point : (x : Option (ℕ × ℕ)) → IsFirst dir points h.place x → (input_of part).next dir at ≡ option_map (point_told (reading_of part)) x → Goes
+        by_point None first read = absurd (cc (ap (option_map (λ (z : ℕ × ℕ). z.0)) read, here))
+        by_point (Some (d, q)) first read =
+            let found : Some c ≡ Some d = here ∙ ap (option_map (λ (z : ℕ × ℕ). z.0)) read in
+            let same : d ≡ c = cc in
+            record {
+              q = q;
+              inside = first.1;
+              here = sym (moved ∙ ap (behind at) read);
+              left = first.0 ∙ ap (λ n. n ∷ left_in dir points q) same;
+            }
 
-      by_fuel : (n : ℕ) → units_left dir at to ≤ n → copied (input_of v) (units_left dir from to) dir true from to start ≡ copied (input_of v) n dir true at to pos
-          → copied (input_of v) (units_left dir from to) dir true from to start ≡ None
-      by_fuel zero room same = absurd (omega arith)
-      by_fuel (suc m) room same =
-          same ∙ copied-more (input_of v) dir m at to pos (apart-left dir at to left)
-          ∙ ap (option_and_then (λ (z : ℕ × ℕ). copied (input_of v) m dir true z.0 to z.1)) (sym read)
+    rest-first : all (in_turn dir points) start ≡ option_and_then (all (left_in dir points goes.q)) (alike (input_of v) dir c pos)
+    unfolding all_alike
+    rest-first = h.same ∙ ap (λ cs. all cs pos) goes.left
 
-  -- nothing is left: it is copied
-  pub copied-all : IsPlace v from → IsPlace v to → units_left dir at to ≡ 0 → copied (input_of v) (units_left dir from to) dir true from to start ≡ Some pos
-  copied-all from_place to_place left =
-      let old = h.rest from_place to_place in
-      let end = equal-left dir at to left old.ahead in
-      old.same.2 ∙ ap (λ o. copied (input_of v) old.same.0 dir true o to pos) end ∙ copied-here (input_of v) dir old.same.0 to pos
+    -- it stands there: the loop goes on behind it
+    pub IsCompared-on : Reads v → (pos' : ℕ) → Some pos' ≡ alike (input_of v) dir c pos → IsCompared v part dir start next pos'
+    IsCompared-on reads pos' stands =
+        let read = passed-read (same (input_of v).table (input_of v).unicode true c) ((input_of v).next dir pos) pos' stands in
+        record {
+          place = goes.q;
+          inside = goes.inside;
+          here = goes.here;
+          can = (reads.on dir pos (read.0, pos') h.can read.1).0;
+          same = rest-first ∙ ap (option_and_then (all (left_in dir points goes.q))) (sym stands);
+        }
+
+    -- it doesn't: nothing is repeated
+    pub IsCompared-none : None ≡ alike (input_of v) dir c pos → all (in_turn dir points) start ≡ None
+    IsCompared-none none = rest-first ∙ ap (option_and_then (all (left_in dir points goes.q))) (sym none)
+
+    -- and less is left to be read
+    pub unread-less : Reads part → CanRead part at → unread dir (length part.units) next < unread dir (length part.units) at
+    unread-less reads can = by_read ((input_of part).next dir at) refl here moved
+      where
+        by_way : (d : Direction) (x : ℕ) → at ≤ length part.units → x ≤ length part.units → 0 < units_left d at x → unread d (length part.units) x < unread d (length part.units) at
+        by_way Forward x from room on = omega arith
+        by_way Backward x from room on = omega arith
+
+        by_read : (x : Option (ℕ × ℕ)) → (input_of part).next dir at ≡ x → Some c ≡ option_map (λ (z : ℕ × ℕ). z.0) x → next ≡ behind at x
+            → unread dir (length part.units) next < unread dir (length part.units) at
+        by_read None e some m = absurd (cc some)
+        by_read (Some x) e some m =
+            let on = reads.on dir at x can e in
+            subst (λ n. unread dir (length part.units) n < unread dir (length part.units) at) (sym m) (by_way dir x.1 (reads.inside at can) (reads.inside x.1 on.0) on.1)

@@ -11,10 +11,10 @@ use Rattle.regress_meaning.specs.Tokens.{is_high, is_low}
 use Rattle.regress_meaning.specs.Inputs.{Input, Tells, point_told, utf16_next, pair_right, pair_left, unit_before}
 use Rattle.regress_front_bytes.proofs.TextLemmas.{offset-le, place_of_boundary}
 use Rattle.regress_engine_input.specs.Views.{View, Kind, utf8, ascii, utf16, ucs2, AreOfKind, IsReadable, CanRead, input_of, input_of_kind, reading_of, units_repeated}
-use Rattle.regress_engine_input.proofs.KindLemmas.{tells, readable, repeats}
+use Rattle.regress_engine_input.proofs.KindLemmas.{tells, readable, repeats, part_points}
 use Rattle.regress_engine_input.proofs.UnitTexts.{single_offset}
-use Rattle.regress_engine_matchers.specs.References.{IsPlace, units_left}
-use Rattle.regress_engine_matchers.proofs.MatcherLemmas.{Reads}
+use Rattle.regress_engine_matchers.specs.References.{IsPlace, units_left, all_alike, in_turn, part_repeated}
+use Rattle.regress_engine_matchers.proofs.MatcherLemmas.{Reads, repeated-points}
 
 -- ---- from place to place
 
@@ -150,16 +150,29 @@ on ucs2 table unicode units all dir o x can e =
 pub view_reads : (v : View) → AreOfKind v.kind v.units → Reads v
 view_reads v all = record { inside = λ o h. inside v.kind v.units o h; on = λ dir o x can e. on v.kind v.table v.unicode v.units all dir o x can e; places = between_places v all }
 
--- ---- references by units
+-- ---- references between places
 
--- a reference between places goes by its units
+-- two places are ordered as their offsets are
+ordered : (v : View) → AreOfKind v.kind v.units → (p q : ℕ) → offset (reading_of v) p ≤ offset (reading_of v) q → p ≤ length (reading_of v).points → p ≤ q
+ordered v all p q order low = by_order (cases_lt q p)
+  where
+    by_order : (q < p) ⊎ (p ≤ q) → p ≤ q
+    by_order (inl less) = let h = (told_view v all).rise q p less low in absurd (omega (arith, h, order))
+    by_order (inr m) = m
+
+-- one goes by its units
 pub view_repeats : (v : View) → AreOfKind v.kind v.units → (dir : Direction) (a b o : ℕ) → a ≤ b → IsPlace v a → IsPlace v b → IsPlace v o
     → units_repeated v dir a b o ≡ repeated (input_of v) dir false (Some (a, b)) o
 view_repeats v all dir a b o order (p, low, here) (q, high, there) (r, room, place) =
-    let ordered : p ≤ q = by_order (cases_lt q p) in
-    let law = repeats v.kind v.table v.unicode v.units all dir p q r ordered high room in
+    let law = repeats v.kind v.table v.unicode v.units all dir p q r (ordered v all p q (rw (here, there) order) low) high room in
     rw (here, there, place) at (sym law)
-  where
-    by_order : (q < p) ⊎ (p ≤ q) → p ≤ q
-    by_order (inl less) = let h = (told_view v all).rise q p less low in absurd (omega (arith, h, here, there))
-    by_order (inr m) = m
+
+-- and where case is ignored by the code points of its part
+pub view_part_repeats : (v : View) → AreOfKind v.kind v.units → (dir : Direction) (a b o : ℕ) → a ≤ b → IsPlace v a → IsPlace v b
+    → part_repeated v dir a b o ≡ repeated (input_of v) dir true (Some (a, b)) o
+view_part_repeats v all dir a b o order (p, low, here) (q, high, there) =
+    let inside : p ≤ q = ordered v all p q (rw (here, there) order) low in
+    let law : part_repeated v dir (offset (reading_of v) p) (offset (reading_of v) q) o ≡ repeated (input_of v) dir true (Some (offset (reading_of v) p, offset (reading_of v) q)) o =
+    ap (λ cs. all_alike (input_of v) dir (in_turn dir cs) o) (part_points v.kind v.units all p q inside high)
+    ∙ sym (repeated-points (input_of v) (reading_of v) (told_view v all) p q inside high dir o) in
+    rw (here, there) at law

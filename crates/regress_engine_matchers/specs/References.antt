@@ -1,10 +1,10 @@
 -- What a group took, over what an input shows.
-use Rattle.std.specs.Prelude.{◌≡◌, ℕ, ◌-◌, ◌≤◌, ◌==◌, Bool, length, Option, Some, None, if◌then◌else◌, option_and_then}
-use Rattle.regress_meaning.specs.Table.{canon}
-use Rattle.regress_meaning.specs.Meaning.{Direction, Forward, Backward}
+use Rattle.std.specs.Prelude.{◌≡◌, ℕ, ◌-◌, ◌≤◌, true, List, [], ◌∷◌, length, reverse, Option, Some, slice_range, option_and_then}
+use Rattle.regress_meaning.specs.Meaning.{Direction, Forward, Backward, same}
 use Rattle.regress_meaning.specs.Offsets.{offset}
 use Rattle.regress_meaning.specs.Inputs.{Input}
-use Rattle.regress_engine_input.specs.Views.{View, reading_of}
+use Rattle.regress_meaning.specs.Steps.{passed}
+use Rattle.regress_engine_input.specs.Views.{View, input_of, reading_of, reading_of_kind}
 
 -- a place of the text has this offset
 abbrev pub IsPlace : View → ℕ → Type 0
@@ -15,12 +15,26 @@ abbrev pub units_left : Direction → ℕ → ℕ → ℕ
 units_left Forward at end = end - at
 units_left Backward at end = at - end
 
--- the offsets behind the characters beside two offsets, where these have equal canons
-abbrev pub next_alike : Input → Direction → ℕ → ℕ → Option (ℕ × ℕ)
-next_alike input dir at o =
-    option_and_then (λ x. option_and_then (λ y. if canon input.table input.unicode x.0 == canon input.table input.unicode y.0 then Some (x.1, y.1) else None)
-    (input.next dir o)) (input.next dir at)
+-- the offset at which a text of so many units begins, as it is read in a direction
+abbrev pub begin_in : Direction → ℕ → ℕ
+begin_in Forward n = 0
+begin_in Backward n = n
 
--- two values, where the test passes
-abbrev pub both_if : Bool → ℕ → ℕ → Option (ℕ × ℕ)
-both_if b x y = if b then Some (x, y) else None
+-- the offset behind the code point beside one, where that has the same canon as this one
+abbrev pub alike : Input → Direction → ℕ → ℕ → Option ℕ
+alike input dir c o = passed (same input.table input.unicode true c) (input.next dir o)
+
+-- code points one after another stand beside an offset, each by an equal canon: the offset behind the last
+unfoldable pub all_alike : Input → Direction → List ℕ → ℕ → Option ℕ
+all_alike input dir [] o = Some o
+all_alike input dir (c ∷ cs) o = option_and_then (all_alike input dir cs) (alike input dir c o)
+
+-- code points as they are read in a direction
+abbrev pub in_turn : Direction → List ℕ → List ℕ
+in_turn Forward cs = cs
+in_turn Backward cs = reverse cs
+
+-- What stands from one offset on up to another, read as a text of its own, stands beside a third by equal canons: the offset
+-- behind it.
+abbrev pub part_repeated : View → Direction → ℕ → ℕ → ℕ → Option ℕ
+part_repeated v dir a b o = all_alike (input_of v) dir (in_turn dir (reading_of_kind v.kind (slice_range v.units a b)).points) o

@@ -1,18 +1,19 @@
 //! What a group took, beside a position once more.
-ghost use Rattle.std.specs.Prelude.{◌≡◌, ◌≤◌, ℕ, Some, false, true};
-ghost use Rattle.regress_meaning.specs.Steps.{only_if, repeated, copied};
-ghost use Rattle.regress_engine_input.specs.Views.{way, input_of, CanRead, LiesIn};
-ghost use Rattle.regress_engine_matchers.specs.References.{IsPlace, units_left, next_alike, both_if};
+ghost use Rattle.std.specs.Prelude.{◌≡◌, ◌≤◌, Some, false, true, length};
+ghost use Rattle.regress_meaning.specs.Table.{canon};
+ghost use Rattle.regress_meaning.specs.Steps.{only_if, repeated};
+ghost use Rattle.regress_engine_input.specs.Views.{way, input_of, CanRead, LiesIn, units_repeated};
+ghost use Rattle.regress_engine_matchers.specs.References.{IsPlace, begin_in, alike, part_repeated};
 
 use crate::properties::CharInput;
 use regress_engine_input::cursor::next;
-use regress_engine_input::{Direction, InputIndexer};
+use regress_engine_input::{Direction, ElementType, InputIndexer};
 use std::ops::Range;
 
-/// Whether the text of a range stands beside the position once more, to its right or to its left by the direction
-/// ("BackreferenceMatcher"). Where it does the position moves past it, else it may be any. What is said of the answer is said
-/// of ranges and positions between characters: over UTF-16 an end inside a pair is none. In `abab`, with the range of the first
-/// `ab` and a position at its end, `backref(&input, Forward::new(), range, &mut pos)` is true.
+/// Whether the bytes or units of a range stand beside the position once more, to its right or to its left by the direction,
+/// and over UTF-16 end outside a pair ("BackreferenceMatcher"). Between characters this is so where the characters of the range
+/// stand there. Where it is so the position moves past them, else it may be any. In `abab`, with the range of the first `ab`
+/// and a position at its end, `backref(&input, Forward::new(), range, &mut pos)` is true.
 #[inline]
 pub fn backref<Input: InputIndexer, Dir: Direction>(
     input: &Input,
@@ -21,20 +22,22 @@ pub fn backref<Input: InputIndexer, Dir: Direction>(
     pos: &mut Input::Position,
 ) -> bool
     requires order { Input.Position.offset range.start ≤ Input.Position.offset range.end }
-    requires start { CanRead (Input.view input.now) (Input.Position.offset range.start) }
-    requires end { CanRead (Input.view input.now) (Input.Position.offset range.end) }
-    requires position { CanRead (Input.view input.now) (Input.Position.offset pos.old) }
-    ensures { IsPlace (Input.view input.now) (Input.Position.offset range.start) → IsPlace (Input.view input.now) (Input.Position.offset range.end)
+    requires end { LiesIn (Input.view input.now) (Input.Position.offset range.end) }
+    requires position { LiesIn (Input.view input.now) (Input.Position.offset pos.old) }
+    ensures units { only_if result (Input.Position.offset pos.new)
+        ≡ units_repeated (Input.view input.now) (way Dir.FORWARD) (Input.Position.offset range.start) (Input.Position.offset range.end) (Input.Position.offset pos.old) }
+    ensures between { IsPlace (Input.view input.now) (Input.Position.offset range.start) → IsPlace (Input.view input.now) (Input.Position.offset range.end)
         → IsPlace (Input.view input.now) (Input.Position.offset pos.old) → only_if result (Input.Position.offset pos.new)
         ≡ repeated (input_of (Input.view input.now)) (way Dir.FORWARD) false (Some (Input.Position.offset range.start, Input.Position.offset range.end)) (Input.Position.offset pos.old) }
 {
     input.subrange_eq(dir, pos, range)
 }
 
-/// Whether the text of a range stands beside the position once more, each character with the same fold or upper case by the
-/// mode, to its right or to its left by the direction ("BackreferenceMatcher", where case is ignored). Where it does the
-/// position moves past it, else it may be any. What is said of the answer is said of ranges between characters. In `abAB`, with
-/// the range of `ab` and a position at its end, `backref_icase(&input, Forward::new(), range, &mut pos)` is true.
+/// Whether the text of a range, read as one of its own, stands beside the position once more, each character with the same
+/// fold or upper case by the mode, to its right or to its left by the direction ("BackreferenceMatcher", where case is
+/// ignored). Between characters the range is read as the text is; over UTF-16 a half of a pair that is cut stands alone. Where
+/// it is so the position moves past it, else it may be any. In `abAB`, with the range of `ab` and a position at its end,
+/// `backref_icase(&input, Forward::new(), range, &mut pos)` is true.
 #[inline]
 pub fn backref_icase<Input: CharInput, Dir: Direction>(
     input: &Input,
@@ -46,74 +49,51 @@ pub fn backref_icase<Input: CharInput, Dir: Direction>(
     requires start { CanRead (Input.view input.now) (Input.Position.offset range.start) }
     requires end { CanRead (Input.view input.now) (Input.Position.offset range.end) }
     requires position { CanRead (Input.view input.now) (Input.Position.offset pos.old) }
-    ensures { IsPlace (Input.view input.now) (Input.Position.offset range.start) → IsPlace (Input.view input.now) (Input.Position.offset range.end)
+    ensures part { only_if result (Input.Position.offset pos.new)
+        ≡ part_repeated (Input.view input.now) (way Dir.FORWARD) (Input.Position.offset range.start) (Input.Position.offset range.end) (Input.Position.offset pos.old) }
+    ensures between { IsPlace (Input.view input.now) (Input.Position.offset range.start) → IsPlace (Input.view input.now) (Input.Position.offset range.end)
         → only_if result (Input.Position.offset pos.new)
         ≡ repeated (input_of (Input.view input.now)) (way Dir.FORWARD) true (Some (Input.Position.offset range.start, Input.Position.offset range.end)) (Input.Position.offset pos.old) }
 {
-    if Dir::FORWARD {
-        copied(input, dir, range.start, range.end, pos)
-    } else {
-        copied(input, dir, range.end, range.start, pos)
-    }
-}
-
-/// Whether what stands in the direction from one position on up to another stands beside a third once more, each character
-/// with the same canon. Where it does the third moves past it, else it may be any.
-fn copied<Input: CharInput, Dir: Direction>(
-    input: &Input,
-    dir: Dir,
-    from: Input::Position,
-    to: Input::Position,
-    pos: &mut Input::Position,
-) -> bool
-    requires order { units_left (way Dir.FORWARD) (Input.Position.offset to) (Input.Position.offset from) ≡ 0 }
-    requires from { CanRead (Input.view input.now) (Input.Position.offset from) }
-    requires to { CanRead (Input.view input.now) (Input.Position.offset to) }
-    requires position { CanRead (Input.view input.now) (Input.Position.offset pos.old) }
-    ensures { IsPlace (Input.view input.now) (Input.Position.offset from) → IsPlace (Input.view input.now) (Input.Position.offset to) → only_if result (Input.Position.offset pos.new)
-        ≡ copied (input_of (Input.view input.now)) (units_left (way Dir.FORWARD) (Input.Position.offset from) (Input.Position.offset to)) (way Dir.FORWARD) true (Input.Position.offset from) (Input.Position.offset to) (Input.Position.offset pos.old) }
-{
-    let end = input.pos_to_offset(to);
-    let mut at = from;
-    while units_left(dir, input.pos_to_offset(at), end) > 0 {
-        if !next_alike(input, dir, &mut at, pos) {
+    let part = input.subinput(range);
+    let mut at = begin(&part, dir);
+    while let Some(c) = next(&part, dir, &mut at) {
+        if !next_alike(input, dir, c, pos) {
             return false;
         }
     }
     true
 }
 
-/// How many units are left in a direction from one offset on to another, and 0 where that lies behind.
+/// The position at which a text begins, as it is read in a direction.
 #[inline]
-fn units_left<Dir: Direction>(_dir: Dir, at: usize, end: usize) -> usize
-    ensures { result ≡ units_left (way Dir.FORWARD) at end }
+fn begin<Input: InputIndexer, Dir: Direction>(input: &Input, _dir: Dir) -> Input::Position
+    ensures { Input.Position.offset result ≡ begin_in (way Dir.FORWARD) (length (Input.view input.now).units) }
 {
     if Dir::FORWARD {
-        end.saturating_sub(at)
+        input.left_end()
     } else {
-        at.saturating_sub(end)
+        input.right_end()
     }
 }
 
-/// Whether there are characters beside both positions that have the same canon. Where there are, both positions move past
-/// them, else they may be any.
+/// Whether the character beside a position has the same canon as this one. Where it has, the position moves past it, else it
+/// may be any.
 #[inline]
 fn next_alike<Input: CharInput, Dir: Direction>(
     input: &Input,
     dir: Dir,
-    at: &mut Input::Position,
+    c: Input::Element,
     pos: &mut Input::Position,
 ) -> bool
-    requires at { CanRead (Input.view input.now) (Input.Position.offset at.old) }
+    requires canon { Input.CharProps.canon (Input.view input.now).table (Input.view input.now).unicode (Input.Element.code c)
+        ≡ canon (Input.view input.now).table (Input.view input.now).unicode (Input.Element.code c) }
     requires position { CanRead (Input.view input.now) (Input.Position.offset pos.old) }
-    ensures { both_if result (Input.Position.offset at.new) (Input.Position.offset pos.new)
-        ≡ next_alike (input_of (Input.view input.now)) (way Dir.FORWARD) (Input.Position.offset at.old) (Input.Position.offset pos.old) }
+    ensures { only_if result (Input.Position.offset pos.new)
+        ≡ alike (input_of (Input.view input.now)) (way Dir.FORWARD) (Input.Element.code c) (Input.Position.offset pos.old) }
 {
-    let Some(c) = next(input, dir, at) else {
-        return false;
-    };
-    let Some(d) = next(input, dir, pos) else {
-        return false;
-    };
-    input.fold_equals(c, d)
+    match next(input, dir, pos) {
+        Some(d) => input.fold_equals(c, d),
+        None => false,
+    }
 }
