@@ -4,12 +4,10 @@
 use crate::found::{in_utf8, listed, whole};
 use crate::parsed::{parsed, rewritten};
 use regress_evaluator::{CompiledPattern, Search};
-use regress_front_core::CaptureGroupName;
 use regress_front_nodes::ir::Regex;
 use regress_front_tables::{Error, Tables};
 use regress_match::Matches;
-use std::alloc::{AllocError, Global};
-use std::sync::ArcSlice;
+use std::alloc::Global;
 use std::test::Fail;
 
 /// Patterns and their flags.
@@ -49,26 +47,12 @@ const TEXTS: &[&str] = &[
     "cats catcaca cabxd",
 ];
 
-/// The names of a pattern's groups, shared.
-fn shared(
-    alloc: Global,
-    names: &[CaptureGroupName],
-) -> Result<ArcSlice<CaptureGroupName>, AllocError> {
-    let mut copies = Vec::new(alloc);
-    for name in names {
-        copies.push(name.clone()?)?;
-    }
-    Ok(ArcSlice::from_vec(copies)?)
-}
-
 /// All matches of a tree in a text, as the evaluator finds them.
 fn evaluated(alloc: Global, regex: &Regex<'_>, text: &str) -> Result<String, Error> {
-    let names = shared(alloc, &regex.group_names)?;
     let pattern = CompiledPattern {
         node: &regex.node,
         tables: regex.tables,
         unicode: regex.flags.is_unicode(),
-        group_names: &names,
     };
     let search = Search::new(alloc, pattern, text)?;
     whole(listed(alloc, Matches::new(search, 0))?)

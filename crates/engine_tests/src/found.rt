@@ -1,5 +1,5 @@
 //! What the executors find over texts and over units, as text.
-ghost use Rattle.std.specs.Prelude.{◌≡◌, true, false, length, IfSome};
+ghost use Rattle.std.specs.Prelude.{◌≡◌, ℕ, true, false, IfSome};
 ghost use Rattle.regress_front_nodes.specs.Trees.{tree};
 ghost use Rattle.regress_front_nodes.specs.WellFormed.{IsWellFormed};
 ghost use Rattle.regress_match.specs.Iterating.{producer_of, position_of};
@@ -152,7 +152,7 @@ fn copying_over_ucs2<'r>(
 
 /// All matches of a tree in a text of UTF-8, which both executors find.
 pub(crate) fn in_utf8(alloc: Global, regex: &Regex<'_>, text: &str) -> Result<String, Fail>
-    requires { IsWellFormed (length regex.now.group_names.items) (tree regex.now.node) }
+    requires { (n : ℕ) × IsWellFormed n (tree regex.now.node) }
 {
     let program = emit(alloc, regex)?;
     let undoing = undoing_over_utf8(alloc, &program, text)?;
@@ -166,7 +166,7 @@ pub(crate) fn in_units(
     regex: &Regex<'_>,
     units: &[u16],
 ) -> Result<(String, String), Fail>
-    requires { IsWellFormed (length regex.now.group_names.items) (tree regex.now.node) }
+    requires { (n : ℕ) × IsWellFormed n (tree regex.now.node) }
 {
     let program = emit_units(alloc, regex)?;
     let undoing = undoing_over_utf16(alloc, &program, units)?;

@@ -1,5 +1,5 @@
 //! Trees of patterns, as they are parsed and rewritten.
-ghost use Rattle.std.specs.Prelude.{length, IfOk};
+ghost use Rattle.std.specs.Prelude.{ℕ, IfOk};
 ghost use Rattle.regress_front_nodes.specs.Trees.{tree};
 ghost use Rattle.regress_front_nodes.specs.WellFormed.{IsWellFormed};
 
@@ -17,7 +17,7 @@ pub(crate) fn parsed<'t>(
     flags: &str,
     tables: &'t Tables,
 ) -> Result<Regex<'t>, Error>
-    ensures { IfOk result (λ re. IsWellFormed (length re.group_names.items) (tree re.node)) }
+    ensures { IfOk result (λ re. (n : ℕ) × IsWellFormed n (tree re.node)) }
 {
     let points: Vec<CodePoint> = pattern.chars().map(CodePoint::from).collect(alloc)?;
     if !are_code_points(&points) {
@@ -35,7 +35,7 @@ pub(crate) fn rewritten<'t>(
     flags: &str,
     tables: &'t Tables,
 ) -> Result<Regex<'t>, Error>
-    ensures { IfOk result (λ re. IsWellFormed (length re.group_names.items) (tree re.node)) }
+    ensures { IfOk result (λ re. (n : ℕ) × IsWellFormed n (tree re.node)) }
 {
     let mut regex = parsed(alloc, pattern, flags, tables)?;
     optimize(alloc, &mut regex)?;

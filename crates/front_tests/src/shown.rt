@@ -106,7 +106,6 @@ fn printed(alloc: Global, node: Node) -> Result<String, Error> {
     let regex = Regex {
         node,
         flags: Flags::default(),
-        group_names: Vec::new(alloc),
         tables: &tables,
     };
     Ok(regex.to_string(alloc)?)

@@ -1,5 +1,5 @@
 //! The trees and programs of a pattern.
-ghost use Rattle.std.specs.Prelude.{◌≤◌, All, length, IfOk};
+ghost use Rattle.std.specs.Prelude.{◌≤◌, ℕ, All, IfOk};
 ghost use Rattle.regress_front_nodes.specs.Trees.{tree};
 ghost use Rattle.regress_front_nodes.specs.WellFormed.{IsWellFormed};
 
@@ -16,7 +16,7 @@ pub(crate) fn parsed<'t>(
     tables: &'t Tables,
 ) -> Result<Regex<'t>, Error>
     requires { All (λ c. c ≤ 0x10_FFFF) points.now }
-    ensures { IfOk result (λ re. IsWellFormed (length re.group_names.items) (tree re.node)) }
+    ensures { IfOk result (λ re. (n : ℕ) × IsWellFormed n (tree re.node)) }
 {
     try_parse(alloc, points, flags, tables)
 }
@@ -29,7 +29,7 @@ pub(crate) fn rewritten<'t>(
     tables: &'t Tables,
 ) -> Result<Regex<'t>, Error>
     requires { All (λ c. c ≤ 0x10_FFFF) points.now }
-    ensures { IfOk result (λ re. IsWellFormed (length re.group_names.items) (tree re.node)) }
+    ensures { IfOk result (λ re. (n : ℕ) × IsWellFormed n (tree re.node)) }
 {
     let mut regex = parsed(alloc, points, flags, tables)?;
     if flags.no_opt {
@@ -41,14 +41,14 @@ pub(crate) fn rewritten<'t>(
 
 /// The program of bytes of a tree. It promises nothing, so what calls it has little to prove.
 pub(crate) fn byte_program(alloc: Global, regex: &Regex<'_>) -> Result<CompiledRegex, Error>
-    requires { IsWellFormed (length regex.now.group_names.items) (tree regex.now.node) }
+    requires { (n : ℕ) × IsWellFormed n (tree regex.now.node) }
 {
     emit(alloc, regex)
 }
 
 /// The program of units of a tree. Nor does it.
 pub(crate) fn unit_program(alloc: Global, regex: &Regex<'_>) -> Result<CompiledRegex, Error>
-    requires { IsWellFormed (length regex.now.group_names.items) (tree regex.now.node) }
+    requires { (n : ℕ) × IsWellFormed n (tree regex.now.node) }
 {
     emit_units(alloc, regex)
 }

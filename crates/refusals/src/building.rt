@@ -1,5 +1,5 @@
 //! Tables, trees and programs.
-ghost use Rattle.std.specs.Prelude.{◌≤◌, All, length, IfOk};
+ghost use Rattle.std.specs.Prelude.{◌≤◌, ℕ, All, IfOk};
 ghost use Rattle.regress_front_nodes.specs.Trees.{tree};
 ghost use Rattle.regress_front_nodes.specs.WellFormed.{IsWellFormed};
 
@@ -31,15 +31,15 @@ fn tree_of<'t>(
     tables: &'t Tables,
 ) -> Result<ir::Regex<'t>, Error>
     requires { All (λ c. c ≤ 0x10_FFFF) points.now }
-    ensures { IfOk result (λ re. IsWellFormed (length re.group_names.items) (tree re.node)) }
+    ensures { IfOk result (λ re. (n : ℕ) × IsWellFormed n (tree re.node)) }
 {
     try_parse(alloc, points, flags, tables)
 }
 
 /// Rewrites a tree.
 fn rewrite(alloc: Global, regex: &mut ir::Regex<'_>) -> Result<(), Error>
-    requires { IsWellFormed (length regex.old.group_names.items) (tree regex.old.node) }
-    ensures { IsWellFormed (length regex.new.group_names.items) (tree regex.new.node) }
+    requires { (n : ℕ) × IsWellFormed n (tree regex.old.node) }
+    ensures { (n : ℕ) × IsWellFormed n (tree regex.new.node) }
 {
     optimize(alloc, regex)
 }
@@ -51,7 +51,7 @@ pub(crate) fn parsed<'t>(
     flags: Flags,
     tables: &'t Tables,
 ) -> Result<ir::Regex<'t>, Error>
-    ensures { IfOk result (λ re. IsWellFormed (length re.group_names.items) (tree re.node)) }
+    ensures { IfOk result (λ re. (n : ℕ) × IsWellFormed n (tree re.node)) }
 {
     if !are_code_points(points) {
         return Err(Error::TooLarge);
@@ -61,7 +61,7 @@ pub(crate) fn parsed<'t>(
 
 /// The regex of a tree's programs.
 fn regex_of(alloc: Global, regex: &ir::Regex<'_>) -> Result<Regex, Error>
-    requires { IsWellFormed (length regex.now.group_names.items) (tree regex.now.node) }
+    requires { (n : ℕ) × IsWellFormed n (tree regex.now.node) }
 {
     let byte_program = emit(alloc, regex)?;
     let unit_program = emit_units(alloc, regex)?;

@@ -1,25 +1,23 @@
 -- The programs of a pattern that was read, and when they pass no count.
 use Rattle.std.proofs.Common.{◌≡◌, ◌≢◌, ℕ, ◌+◌, ◌*◌, ◌≤◌, Bool, false, List, length, map, chars, inl, inr, sym, ap, subst, ◌∙◌, arith}
 use Rattle.std.proofs.Math.Nat.{mul-le-mul}
-use Rattle.std.proofs.lemmas.List.{length-map}
-use Rattle.std.proofs.lemmas.Simd.{map-map}
-use Rattle.std.specs.String.{string_bytes}
 use Rattle.regress_meaning.specs.Table.{Table}
 use Rattle.regress_meaning.specs.Pattern.{Pattern, names_of}
 use Rattle.regress_meaning.specs.Flags.{Options, is_unicode}
 use Rattle.regress_front_core.specs.declared.error.Error.{Error}
 use Rattle.regress_front_core.specs.declared.error.Error.TheVariants.{Syntax, TooDeep, TooManyGroups, TooManyLoops, TooLarge, OutOfMemory}
-use Rattle.regress_front.specs.Escapes.{texts}
 use Rattle.regress_front.specs.FlagWords.{options}
 use Rattle.regress_front.specs.Parsed.{IsTreeOf}
 use Rattle.regress_front.specs.RewritingLaws.{IsRewritten}
 use Rattle.regress_front.specs.Rules.{stays}
 use Rattle.regress_front.specs.Refusals as reading
+use Rattle.regress_front.specs.Names.{names_in}
 use Rattle.regress_front.specs.Sizes.{loops}
 use Rattle.regress_front.specs.TableViews.{table, table_known}
 use Rattle.regress_front.specs.Trees.{Tree, tree}
 use Rattle.regress_front.specs.WellFormed.{IsWellFormed}
 use Rattle.regress_front_nodes.specs.declared.ir.Regex as ir
+use Rattle.regress_front_nodes.proofs.NameLemmas.{names-are}
 use Rattle.regress_front_rules.proofs.RewriteLemmas.{wholes-right}
 use Rattle.regress_engine_code.specs.declared.compiled.CompiledRegex.{CompiledRegex}
 use Rattle.regress_engine_code.specs.Counts.{count}
@@ -32,61 +30,60 @@ use Rattle.regress_engine_runs.proofs.SizeLemmas.{count-bounded}
 use Rattle.regress.specs.Programs.{IsTreeFor, IsProgramOf}
 use Rattle.regress.specs.Refusing.{PassesCount, MayRefuseRegex}
 
--- A tree was read from a text under a table and flags, and rewritten or not: it is a tree of a pattern that the text spells,
--- with its names.
+-- A tree was read from a text under a table and flags, and rewritten or not: it is a tree of a pattern that the text spells.
 pub record IsReadAs (t : Table) (o : Options) (text : List ℕ) (p : Pattern) (regex : ir.Regex) : Type 0 where
   pub of_text : IsTreeFor t o text p (tree regex.node)
-  pub named : texts regex.group_names ≡ names_of p
   pub flags : options regex.flags ≡ o
   pub table : table regex.tables.now ≡ t
 
 -- so it is as it is parsed
 pub as-parsed : (t : Table) (o : Options) (text : List ℕ) (p : Pattern) (regex : ir.Regex) → IsTreeOf t o text p (tree regex.node)
-    → texts regex.group_names ≡ names_of p → options regex.flags ≡ o → table regex.tables.now ≡ t → IsReadAs t o text p regex
-as-parsed t o text p regex of_text named flags of_table = record {
+    → options regex.flags ≡ o → table regex.tables.now ≡ t → IsReadAs t o text p regex
+as-parsed t o text p regex of_text flags of_table = record {
   of_text = record {
     parsed = tree regex.node;
     of_text = of_text;
     rewritten = wholes-right (length (names_of p)) (tree regex.node) (tree regex.node) stays of_text.whole.well_formed;
   };
-  named = named;
   flags = flags;
   table = of_table;
 }
 
 -- and as it is rewritten then
 pub as-rewritten : (t : Table) (o : Options) (text : List ℕ) (p : Pattern) (parsed regex : ir.Regex) → IsTreeOf t o text p (tree parsed.node)
-    → texts parsed.group_names ≡ names_of p → options parsed.flags ≡ o → table parsed.tables.now ≡ t
+    → options parsed.flags ≡ o → table parsed.tables.now ≡ t
     → ((n : ℕ) → IsWellFormed n (tree parsed.node) → IsRewritten n (tree parsed.node) (tree regex.node))
-    → regex.flags ≡ parsed.flags → regex.group_names ≡ parsed.group_names → regex.tables ≡ parsed.tables → IsReadAs t o text p regex
-as-rewritten t o text p parsed regex of_text named flags of_table rewritten same_flags same_names same_tables = record {
+    → regex.flags ≡ parsed.flags → regex.tables ≡ parsed.tables → IsReadAs t o text p regex
+as-rewritten t o text p parsed regex of_text flags of_table rewritten same_flags same_tables = record {
   of_text = record {
     parsed = tree parsed.node;
     of_text = of_text;
     rewritten = rewritten (length (names_of p)) of_text.whole.well_formed;
   };
-  named = ap texts same_names ∙ named;
   flags = ap options same_flags ∙ flags;
   table = ap (λ tables. table tables.now) same_tables ∙ of_table;
 }
 
 module _ (t : Table) (o : Options) (text : List ℕ) (p : Pattern) (regex : ir.Regex) (read : IsReadAs t o text p regex) where
-  counted : length regex.group_names.items ≡ length (names_of p)
-  counted = sym (length-map regex.group_names.items (λ name. chars (string_bytes name))) ∙ ap length read.named
+  -- the names of its groups are those of the pattern
+  named : names_in (tree regex.node) ≡ names_of p
+  named =
+      names-are (length (names_of p)) (tree regex.node) (names_of p) read.of_text.rewritten.well_formed.numbered
+      (λ k. read.of_text.rewritten.named k ∙ read.of_text.of_text.whole.named k)
 
   -- it is well formed, so that programs are made of it
-  pub read-formed : IsWellFormed (length regex.group_names.items) (tree regex.node)
-  read-formed = subst (λ n. IsWellFormed n (tree regex.node)) (sym counted) read.of_text.rewritten.well_formed
+  pub read-formed : (n : ℕ) × IsWellFormed n (tree regex.node)
+  read-formed = (length (names_of p), read.of_text.rewritten.well_formed)
 
   -- a program that stands for it is one of the pattern
   pub read-program : (compiled : CompiledRegex) → code.StandsFor regex compiled → IsProgramOf compiled t o p
   read-program compiled stands = record {
     table = stands.table ∙ read.table;
     flags = ap options stands.flags ∙ read.flags;
-    names = ap (map chars) stands.names ∙ map-map chars string_bytes regex.group_names.items ∙ read.named;
+    names = stands.names ∙ named;
     node = tree regex.node;
     well_formed = read.of_text.rewritten.well_formed;
-    layout = subst (λ n. IsLayout (target_of compiled) n (tree regex.node)) counted stands.layout;
+    layout = subst (λ n. IsLayout (target_of compiled) n (tree regex.node)) (ap length named) stands.layout;
     alike = λ searched points s inside.
         sym (read.of_text.rewritten.alike t (is_unicode o) searched points s inside) ∙ read.of_text.of_text.alike searched points s inside;
   }

@@ -29,7 +29,7 @@ pub(crate) struct Compiled {
 fn rewrite(alloc: Global, regex: &mut ir::Regex<'_>) -> Result<(), Error>
     requires { (n : ℕ) × IsWellFormed n (tree regex.old.node) }
     ensures rewritten { (n : ℕ) → IsWellFormed n (tree regex.old.node) → IsRewritten n (tree regex.old.node) (tree regex.new.node) }
-    ensures kept { (regex.new.flags ≡ regex.old.flags) × (regex.new.group_names ≡ regex.old.group_names) × (regex.new.tables ≡ regex.old.tables) }
+    ensures kept { (regex.new.flags ≡ regex.old.flags) × (regex.new.tables ≡ regex.old.tables) }
     ensures refused { IfErr result (λ e. e ≡ Error.OutOfMemory) }
 {
     if regex.flags.no_opt {

@@ -1,11 +1,12 @@
 -- What an emitted program stands for.
-use Rattle.std.specs.Prelude.{◌≡◌, ℕ, Bool, not, List, length, map, count_by}
+use Rattle.std.specs.Prelude.{◌≡◌, ℕ, Bool, not, List, length, map, chars, count_by}
 use Rattle.std.specs.Arc.{arc_slice_items}
 use Rattle.std.specs.String.{string_bytes}
 use Rattle.regress_meaning.specs.Flags.{is_unicode}
 use Rattle.regress_front_core.specs.FlagWords.{options}
 use Rattle.regress_front_tables.specs.TableViews.{known_by, table}
 use Rattle.regress_front_nodes.specs.Trees.{tree}
+use Rattle.regress_front_nodes.specs.Names.{names_in}
 use Rattle.regress_front_nodes.specs.Sizes.{loops}
 use Rattle.regress_front_nodes.specs.declared.ir.Regex.{Regex}
 use Rattle.regress_engine_code.specs.declared.compiled.CompiledRegex.{CompiledRegex}
@@ -36,13 +37,14 @@ lacks compiled at b = not (may_stand compiled.ahead.items at b)
 abbrev pub length_for : (units : Bool) → Regex → ℕ
 length_for units regex = count units (table regex.tables.now) (is_unicode (options regex.flags)) (tree regex.node)
 
--- The program stands for a tree: its flags, its table and the names of its groups are the tree's, it is the tree's layout,
--- with a group for each name, as many repetitions begin in it as it has loops, and its start predicate serves the tree.
+-- The program stands for a tree: its flags and its table are the tree's, the names of its groups are those of the tree's nodes,
+-- by their numbers, it is the tree's layout, with a group for each name, as many repetitions begin in it as it has loops, and
+-- its start predicate serves the tree.
 pub record StandsFor (regex : Regex) (compiled : CompiledRegex) : Type 0 where
   pub flags : compiled.flags ≡ regex.flags
   pub table : table compiled.tables ≡ table regex.tables.now
-  pub names : names_of compiled ≡ map string_bytes regex.group_names.items
-  pub layout : IsLayout (target_of compiled) (length regex.group_names.items) (tree regex.node)
+  pub names : map chars (names_of compiled) ≡ names_in (tree regex.node)
+  pub layout : IsLayout (target_of compiled) (length (names_in (tree regex.node))) (tree regex.node)
   pub counted : length compiled.insns.items ≡ length_for compiled.units regex
   pub loops : compiled.loops ≡ loops (tree regex.node)
   pub begun : count_by begins_loop (program_of compiled).instructions ≡ compiled.loops

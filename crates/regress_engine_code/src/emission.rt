@@ -1,5 +1,5 @@
 //! How a tree becomes a program.
-ghost use Rattle.std.specs.Prelude.{◌≡◌, true, false, length, IfOk, IfErr};
+ghost use Rattle.std.specs.Prelude.{◌≡◌, ℕ, true, false, length, IfOk, IfErr};
 ghost use Rattle.regress_front_nodes.specs.Trees.{tree};
 ghost use Rattle.regress_front_nodes.specs.Sizes.{loops};
 ghost use Rattle.regress_front_nodes.specs.WellFormed.{IsWellFormed};
@@ -19,15 +19,15 @@ use std::sync::ArcSlice;
 
 /// The program of bytes of a tree.
 ///
-/// It is the tree's layout, for the tree's flags, names and tables, and holds the tree's start predicate. Asks for a well-formed
-/// tree with a name for each group, as `try_parse` makes it. It errs with `TooLarge` only where the instructions pass `u32::MAX`
-/// or the loops pass 65535, and with `OutOfMemory`.
+/// It is the tree's layout, for the tree's flags and tables, with the names of the tree's groups, and holds the tree's start
+/// predicate. Asks for a well-formed tree, as `try_parse` makes it. It errs with `TooLarge` only where the instructions pass
+/// `u32::MAX` or the loops pass 65535, and with `OutOfMemory`.
 ///
 /// ```rust
 /// let program = emit(alloc, &regex)?;
 /// ```
 pub fn emit(alloc: Global, regex: &Regex<'_>) -> Result<CompiledRegex, Error>
-    requires { IsWellFormed (length regex.now.group_names.items) (tree regex.now.node) }
+    requires { (n : ℕ) × IsWellFormed n (tree regex.now.node) }
     ensures emitted { IfOk result (StandsFor regex.now) }
     ensures of_bytes { IfOk result (λ compiled. compiled.units ≡ false) }
     ensures literal { IfOk result (λ compiled. KeepsLiteral (tree regex.now.node) compiled.start_pred) }
@@ -43,7 +43,7 @@ pub fn emit(alloc: Global, regex: &Regex<'_>) -> Result<CompiledRegex, Error>
 /// let program = emit_units(alloc, &regex)?;
 /// ```
 pub fn emit_units(alloc: Global, regex: &Regex<'_>) -> Result<CompiledRegex, Error>
-    requires { IsWellFormed (length regex.now.group_names.items) (tree regex.now.node) }
+    requires { (n : ℕ) × IsWellFormed n (tree regex.now.node) }
     ensures emitted { IfOk result (StandsFor regex.now) }
     ensures of_units { IfOk result (λ compiled. compiled.units ≡ true) }
     ensures anchored { IfOk result (λ compiled. IsAnchoredOnlyIf (regex.now.flags.multiline ≡ false) compiled.start_pred) }
@@ -63,7 +63,7 @@ fn group_count(names: &[CaptureGroupName]) -> Result<u32, Error>
 
 /// Where a match of a tree may begin; over units at the start of the text, or anywhere. It errs with `OutOfMemory` alone.
 fn start_of(alloc: Global, regex: &Regex, units: bool) -> Result<StartPredicate, Error>
-    requires { IsWellFormed (length regex.now.group_names.items) (tree regex.now.node) }
+    requires { (n : ℕ) × IsWellFormed n (tree regex.now.node) }
     ensures serves { IfOk result (Serves units (tree regex.now.node)) }
     ensures literal { IfOk result (λ start. units ≡ false → KeepsLiteral (tree regex.now.node) start) }
     ensures anchored { IfOk result (IsAnchoredOnlyIf (regex.now.flags.multiline ≡ false)) }
@@ -82,7 +82,7 @@ fn whole_program(
     regex: &Regex<'_>,
     units: bool,
 ) -> Result<CompiledRegex, Error>
-    requires { IsWellFormed (length regex.now.group_names.items) (tree regex.now.node) }
+    requires { (n : ℕ) × IsWellFormed n (tree regex.now.node) }
     ensures emitted { IfOk result (StandsFor regex.now) }
     ensures told { IfOk result (λ compiled. compiled.units ≡ units) }
     ensures literal { IfOk result (λ compiled. units ≡ false → KeepsLiteral (tree regex.now.node) compiled.start_pred) }
@@ -97,8 +97,9 @@ fn whole_program(
     };
     let mut code = Code::new(alloc);
     emitter.node(&mut code, &regex.node, false)?;
-    let groups = group_count(&regex.group_names)?;
-    let group_names = ArcSlice::from_clones(alloc, &regex.group_names)?;
+    let names = regex.node.group_names(alloc)?;
+    let groups = group_count(&names)?;
+    let group_names = ArcSlice::from_vec(names)?;
     let start_pred = start_of(alloc, regex, units)?;
     let tables = regex.tables.try_clone()?;
     let ahead = bytes_ahead(alloc, &code.insns, &code.brackets, units)?;

@@ -1,5 +1,5 @@
 //! Where a search may begin, told by bytes.
-ghost use Rattle.std.specs.Prelude.{◌≡◌, false, length, IfOk, IfErr};
+ghost use Rattle.std.specs.Prelude.{◌≡◌, ℕ, false, IfOk, IfErr};
 ghost use Rattle.regress_front_nodes.specs.Trees.{tree};
 ghost use Rattle.regress_front_nodes.specs.WellFormed.{IsWellFormed};
 ghost use Rattle.regress_engine_prefix.specs.Prefixes.{LeadsCharacters};
@@ -100,7 +100,7 @@ fn of_prefix(prefix: Prefix, multiline: bool) -> StartPredicate
 /// let start = predicate_for_re(alloc, &regex)?; // of `abc` the `ByteSeq` of `abc`, of `a|b` a `ByteSet2`, of `a*` `Arbitrary`
 /// ```
 pub fn predicate_for_re(alloc: Global, regex: &Regex) -> Result<StartPredicate, Error>
-    requires { IsWellFormed (length regex.now.group_names.items) (tree regex.now.node) }
+    requires { (n : ℕ) × IsWellFormed n (tree regex.now.node) }
     ensures begins { IfOk result (λ start. IsStartOf start (tree regex.now.node)) }
     ensures boundary { IfOk result HitsBoundaries }
     ensures literal { IfOk result (KeepsLiteral (tree regex.now.node)) }

@@ -5,8 +5,9 @@ use Rattle.regress_meaning.specs.Matches.{Item}
 use Rattle.regress_meaning.specs.Offsets.{told, Begins}
 use Rattle.regress_front_tables.specs.TableViews.{table}
 use Rattle.regress_front_nodes.specs.Trees.{tree}
+use Rattle.regress_front_nodes.specs.Names.{names_in}
 use Rattle.regress_match.specs.declared.found.Match.{Match}
-use Rattle.regress_match.specs.GroupNames.{group_count, shared_names}
+use Rattle.regress_match.specs.GroupNames.{shared_names}
 use Rattle.regress_match.specs.TextRanges.{utf8_reading, IsMatchIn}
 use Rattle.regress_evaluator.specs.declared.search.CompiledPattern.{CompiledPattern}
 use Rattle.regress_evaluator.specs.declared.search.Search.{Search}
@@ -24,13 +25,17 @@ pattern_of s = s.pattern
 abbrev pub points_of : Search → List ℕ
 points_of s = s.text.points.items
 
+-- the names of the pattern's groups by their numbers, as bytes of UTF-8
+abbrev pub names_of : Search → List (List ℕ)
+names_of s = shared_names s.group_names
+
 -- what a compiled pattern is searched for in a text by
 abbrev pub searching : CompiledPattern → List ℕ → Context
 searching pattern text = record { text = text; table = table pattern.tables.now; unicode = pattern.unicode }
 
 -- the items of a compiled pattern in a text from a place on, told in places
 abbrev pub matches_of : CompiledPattern → List ℕ → ℕ → List Item
-matches_of pattern text = node_match_list (searching pattern text) (group_count pattern.group_names.now) (tree pattern.node.now)
+matches_of pattern text = node_match_list (searching pattern text) (length (names_in (tree pattern.node.now))) (tree pattern.node.now)
 
 -- the items from a place on, told in bytes
 abbrev pub items_from : Search → ℕ → List Item
@@ -47,4 +52,4 @@ StartsAt s at position =
 
 -- a match lies in the text that is searched, and its groups have the pattern's names
 abbrev pub IsMatchOf : Search → Match → Type 0
-IsMatchOf s m = IsMatchIn (encode_utf8_all (points_of s)) (shared_names (pattern_of s).group_names.now) m
+IsMatchOf s m = IsMatchIn (encode_utf8_all (points_of s)) (names_of s) m

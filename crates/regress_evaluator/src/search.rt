@@ -1,6 +1,9 @@
 //! The search for a compiled pattern in a text, by the evaluator.
-ghost use Rattle.std.specs.Prelude.{◌≡◌, ◌<◌, ⊤, None, true, chars, encode_utf8_all, IfOk, IfSome, OnErr, IsOkUnless};
+ghost use Rattle.std.specs.Prelude.{◌≡◌, ◌<◌, ⊤, None, true, map, length, chars, encode_utf8_all, IfOk, IfSome, OnErr, IsOkUnless};
 ghost use Rattle.std.specs.Str.{all_scalars};
+ghost use Rattle.regress_front_nodes.specs.Trees.{tree};
+ghost use Rattle.regress_front_nodes.specs.Names.{names_in};
+ghost use Rattle.regress_match.specs.GroupNames.{shared_names};
 
 use crate::evaluator::Evaluator;
 use crate::text::Text;
@@ -19,8 +22,6 @@ pub struct CompiledPattern<'r> {
     pub tables: &'r Tables,
     /// Whether case is ignored as in Unicode mode.
     pub unicode: bool,
-    /// The name of each capturing group in order of its number, the empty one where a group has none.
-    pub group_names: &'r ArcSlice<CaptureGroupName>,
 }
 
 /// Finds the matches of a compiled pattern in a text by the evaluator. A position is a place, counted in code points.
@@ -28,17 +29,18 @@ pub struct CompiledPattern<'r> {
 pub struct Search<'r> {
     alloc: Global,
     pattern: CompiledPattern<'r>,
+    group_names: ArcSlice<CaptureGroupName>,
     text: Text,
     ghost characters: { all_scalars text.points.items ≡ true },
+    ghost named: { map chars (shared_names group_names) ≡ names_in (tree pattern.node.now) },
 }
 
 impl<'r> Search<'r> {
     ghost use Rattle.regress_evaluator.specs.StateViews.{context_of};
-    ghost use Rattle.regress_evaluator.specs.Searching.{pattern_of, points_of, searching, items_from, places_behind, IsMatchOf};
-    ghost use Rattle.regress_match.specs.GroupNames.{group_count};
+    ghost use Rattle.regress_evaluator.specs.Searching.{pattern_of, points_of, names_of, searching, items_from, places_behind, IsMatchOf};
     ghost use Rattle.regress_match.specs.Iterating.{Finds};
 
-    /// The search for a pattern in a text. Errs with `OutOfMemory` alone.
+    /// The search for a pattern in a text. Its matches have the names of the groups of the tree. Errs with `OutOfMemory` alone.
     ///
     /// ```rust
     /// let search = Search::new(alloc, pattern, "aab")?;
@@ -49,12 +51,15 @@ impl<'r> Search<'r> {
         source: &str,
     ) -> Result<Search<'r>, Error>
         ensures over { IfOk result (λ s. (pattern_of s ≡ pattern.entry) × (points_of s ≡ chars source.now)) }
+        ensures named { IfOk result (λ s. map chars (names_of s) ≡ names_in (tree pattern.entry.node.now)) }
         ensures refused { IsOkUnless result Error.OutOfMemory }
     {
+        let group_names = ArcSlice::from_vec(pattern.node.group_names(alloc)?)?;
         let text = Text::new(alloc, source)?;
         Ok(Search {
             alloc,
             pattern,
+            group_names,
             text,
         })
     }
@@ -63,14 +68,14 @@ impl<'r> Search<'r> {
     fn evaluator(&self) -> Evaluator<'_>
         ensures context { context_of result ≡ searching (pattern_of self.now) (points_of self.now) }
         ensures text { result.points.now ≡ points_of self.now }
-        ensures groups { result.group_count ≡ group_count self.now.pattern.group_names.now }
+        ensures groups { result.group_count ≡ length (names_in (tree self.now.pattern.node.now)) }
     {
         Evaluator {
             alloc: self.alloc,
             points: self.text.points(),
             tables: self.pattern.tables,
             unicode: self.pattern.unicode,
-            group_count: self.pattern.group_names.len(),
+            group_count: self.group_names.len(),
         }
     }
 
@@ -85,7 +90,7 @@ impl<'r> Search<'r> {
         let Some(found) = self.evaluator().first_match(self.pattern.node, position)? else {
             return Ok(None);
         };
-        let told = self.text.told(&found, self.pattern.group_names.clone()?)?;
+        let told = self.text.told(&found, self.group_names.clone()?)?;
         *next = found.place_after(self.text.points().len());
         Ok(Some(told))
     }

@@ -13,6 +13,7 @@ pub use Rattle.regress_front_nodes.specs.Characters
 pub use Rattle.regress_front_nodes.specs.Copies
 pub use Rattle.regress_front_nodes.specs.Forms
 pub use Rattle.regress_front_nodes.specs.Laws
+pub use Rattle.regress_front_nodes.specs.Names
 pub use Rattle.regress_front_nodes.specs.NodeMatches
 pub use Rattle.regress_front_nodes.specs.Pieces
 pub use Rattle.regress_front_nodes.specs.Singles

@@ -7,6 +7,7 @@ pub mod DistinctLemmas
 pub mod EmptyBrackets
 pub mod KindLemmas
 pub mod MatchLemmas
+pub mod NameLemmas
 pub mod NodeLemmas
 pub mod OptionLemmas
 pub mod OutcomeLemmas

@@ -5,6 +5,7 @@ pub mod Characters
 pub mod Copies
 pub mod Forms
 pub mod Laws
+pub mod Names
 pub mod NodeMatches
 pub mod Pieces
 pub mod Singles

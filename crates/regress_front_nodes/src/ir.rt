@@ -1,11 +1,10 @@
 //! A tree with what it is read by.
 
 use crate::node::Node;
-use regress_front_tables::{CaptureGroupName, Flags, Tables};
+use regress_front_tables::{Flags, Tables};
 use std::fmt;
 
-/// A pattern's tree, with its flags, the names of its groups and the tables of case and properties, as `try_parse` of
-/// `regress_front_tree` makes it.
+/// A pattern's tree, with its flags and the tables of case and properties, as `try_parse` of `regress_front_tree` makes it.
 ///
 /// ```rust
 /// println!(rt; "{regex}"); // the nodes of the tree, each on a line of its own
@@ -16,8 +15,6 @@ pub struct Regex<'u> {
     pub node: Node,
     /// The flags.
     pub flags: Flags,
-    /// The name of each capturing group by its number, empty where it has none.
-    pub group_names: Vec<CaptureGroupName>,
     /// The tables.
     pub tables: &'u Tables,
 }

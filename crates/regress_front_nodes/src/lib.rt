@@ -5,6 +5,7 @@ mod alike;
 mod copy;
 pub mod ir;
 mod laws;
+mod names;
 mod node;
 mod piece;
 mod visit;

@@ -50,7 +50,7 @@ pub fn optimize(alloc: Global, regex: &mut Regex) -> Result<(), Error>
     requires { (n : ℕ) × IsWellFormed n (tree regex.old.node) }
     ensures rewritten { (n : ℕ) → IsWellFormed n (tree regex.old.node) → IsRewritten n (tree regex.old.node) (tree regex.new.node) }
     ensures normal { OnOk result (IsNormal (tree regex.new.node)) }
-    ensures kept { (regex.new.flags ≡ regex.old.flags) × (regex.new.group_names ≡ regex.old.group_names) × (regex.new.tables ≡ regex.old.tables) }
+    ensures kept { (regex.new.flags ≡ regex.old.flags) × (regex.new.tables ≡ regex.old.tables) }
     ensures refused { IfErr result (λ e. e ≡ Error.OutOfMemory) }
 {
     while round(alloc, &mut regex.node)? {}

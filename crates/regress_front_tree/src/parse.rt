@@ -1,11 +1,10 @@
 //! From a pattern's text to its tree.
 ghost use Rattle.std.specs.Prelude.{◌≡◌, ◌≤◌, false, All, IfOk, IfErr};
-ghost use Rattle.regress_meaning.specs.Pattern.{Pattern, names_of};
+ghost use Rattle.regress_meaning.specs.Pattern.{Pattern};
 ghost use Rattle.regress_meaning.specs.Flags.{first_settings};
 ghost use Rattle.regress_front_tables.specs.TableViews.{table};
 ghost use Rattle.regress_front_core.specs.FlagWords.{options};
 ghost use Rattle.regress_front_core.specs.Refusals.{MayRefuse};
-ghost use Rattle.regress_front_tokens.specs.Escapes.{texts};
 ghost use Rattle.regress_front_nodes.specs.Trees.{tree};
 ghost use Rattle.regress_front_tree.specs.Scopes.{settings_of};
 ghost use Rattle.regress_front_tree.specs.Parsed.{IsTreeOf};
@@ -49,7 +48,7 @@ pub fn try_parse<'u>(
     tables: &'u Tables,
 ) -> Result<Regex<'u>, Error>
     requires { All (λ c. c ≤ 0x10_FFFF) pattern.now }
-    ensures accepted { IfOk result (λ re. (p : Pattern) × IsTreeOf (table tables.now) (options flags) pattern.now p (tree re.node) × (texts re.group_names ≡ names_of p)) }
+    ensures accepted { IfOk result (λ re. (p : Pattern) × IsTreeOf (table tables.now) (options flags) pattern.now p (tree re.node)) }
     ensures kept { IfOk result (λ re. (re.flags ≡ flags) × (re.tables.now ≡ tables.now)) }
     ensures refused { IfErr result (MayRefuse (table tables.now) (options flags) pattern.now) }
 {
@@ -64,7 +63,6 @@ pub fn try_parse<'u>(
     Ok(Regex {
         node: Node::Cat(vec![in alloc; node, Node::Goal]?),
         flags,
-        group_names: parsed.group_names,
         tables,
     })
 }

@@ -1,10 +1,4 @@
-use Rattle.std.proofs.Common.{length, subst, sym}
-use Rattle.regress_front_nodes.specs.Trees.{tree}
-use Rattle.regress_front_nodes.specs.WellFormed.{IsWellFormed}
 use Rattle.engine_tests.proofs.parsed.rewritten.Goals as goal
 
 pub returns : goal.returns
-returns c =
-    let names = c.optimize.ensures.kept.1 in
-    subst (λ g. IsWellFormed (length g.items) (tree c.optimize.new.regex.node)) (sym names)
-    (c.optimize.ensures.rewritten _ c.in_ok-regex.ensures).well_formed
+returns c = let (n, formed) = c.in_ok-regex.ensures in (n, (c.optimize.ensures.rewritten n formed).well_formed)

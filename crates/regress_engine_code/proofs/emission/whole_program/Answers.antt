@@ -1,13 +1,16 @@
-use Rattle.std.proofs.Common.{◌≡◌, Bool, false, length, map, refl, sym, ap, ◌∙◌, subst, arith}
+use Rattle.std.proofs.Common.{◌≡◌, ℕ, Bool, false, List, length, map, chars, String, Vec, Global, refl, sym, ap, ◌∙◌, subst, arith}
 use Rattle.std.specs.String.{string_bytes}
 use Rattle.std.specs.Arc.{arc_slice_items}
 use Rattle.std.proofs.lemmas.List.{length-map}
+use Rattle.std.proofs.lemmas.Simd.{map-map}
 use Rattle.regress_meaning.specs.Flags.{is_unicode}
 use Rattle.regress_meaning.specs.Table.{Table}
 use Rattle.regress_front_core.specs.FlagWords.{options}
 use Rattle.regress_front_tables.specs.TableViews.{table, table_known}
-use Rattle.regress_front_nodes.specs.Trees.{tree}
-use Rattle.regress_front_nodes.proofs.CopyLemmas.{map-AllZip}
+use Rattle.regress_front_nodes.specs.Trees.{Tree, tree}
+use Rattle.regress_front_nodes.specs.Names.{names_in, name_texts}
+use Rattle.regress_front_nodes.specs.WellFormed.{IsWellFormed}
+use Rattle.regress_front_nodes.proofs.NameLemmas.{names-counted}
 use Rattle.regress_engine_code.specs.InsnViews.{instruction}
 use Rattle.regress_engine_code.specs.Ahead.{AreAhead}
 use Rattle.regress_engine_code.specs.Laid.{program_from}
@@ -18,16 +21,21 @@ use Rattle.regress_engine_code.proofs.EmitLemmas.{err-refused}
 use Rattle.regress_engine_code.proofs.StandingLemmas.{groups-few, told-layout, whole-counted}
 use Rattle.regress_engine_code.proofs.emission.whole_program.Goals as goal
 
+-- the names of a well-formed tree are as many as its groups
+group-for-name : (n : ℕ) (t : Tree) (names : Vec (String Global)) → IsWellFormed n t → name_texts names ≡ names_in t → length names.items ≡ n
+group-for-name n t names formed named =
+    sym (length-map names.items (λ name. chars (string_bytes name))) ∙ ap length named ∙ names-counted n t formed.numbered
+
 pub returns-clause-emitted : goal.returns-clause-emitted
 returns-clause-emitted c =
     let regex = c.args.regex.now in
-    let n = length regex.group_names.items in
+    let (n, formed) = c.requires in
     let t = tree regex.node in
     let unicode = is_unicode (options regex.flags) in
     let start = written c.new-code.result in
     let w = written c.node.new.code in
     let adds = subst (λ (u : Bool). AddsTree c.args.units (table regex.tables.now) u false t start w) c.is_unicode.ensures c.in_ok-node.ensures.added in
-    let counted = whole-counted c.args.units (table regex.tables.now) unicode n t start w c.new-code.ensures c.requires.lawful adds in
+    let counted = whole-counted c.args.units (table regex.tables.now) unicode n t start w c.new-code.ensures formed.lawful adds in
     let target : Target = record {
       program = record { instructions = w.instructions; brackets = w.brackets; loops = c.from.result; groups = c.in_ok-groups.groups; units = c.args.units };
       table = table regex.tables.now;
@@ -35,13 +43,14 @@ returns-clause-emitted c =
     } in
     let shared : table c.in_ok-tables.tables ≡ table regex.tables.now = ap table_known c.in_ok-tables.ensures in
     let layout = told-layout c.args.units (table regex.tables.now) unicode _ n t start w c.from.result c.in_ok-groups.groups
-    c.new-code.ensures c.is_unicode.ensures c.in_ok-node.ensures.added c.from.ensures (c.in_ok-groups.ensures.ok ∙ ap length c.deref.ensures.value) in
+    c.new-code.ensures c.is_unicode.ensures c.in_ok-node.ensures.added c.from.ensures (c.in_ok-groups.ensures.ok ∙ ap length c.deref.ensures.value ∙ group-for-name n t c.in_ok-names.names formed c.in_ok-names.ensures) in
     record {
       flags = refl;
       table = shared;
-      names = map-AllZip (λ x y. string_bytes y ≡ string_bytes x) string_bytes (λ x y e. e) c.deref-2.result.now
-          (arc_slice_items c.in_ok-group_names.group_names) c.in_ok-group_names.ensures.ok ∙ ap (map string_bytes) c.deref-2.ensures.value;
-      layout = subst (λ (x : Table). IsLayout (record target { table = x }) n t) (sym shared) layout;
+      names = map-map chars string_bytes (arc_slice_items c.in_ok-group_names.group_names)
+          ∙ ap (map (λ (name : String Global). chars (string_bytes name))) c.in_ok-group_names.ensures ∙ c.in_ok-names.ensures;
+      layout = subst (λ (x : Table). IsLayout (record target { table = x }) (length (names_in t)) t) (sym shared)
+          (subst (λ (m : ℕ). IsLayout target m t) (sym (names-counted n t formed.numbered)) layout);
       counted = sym (length-map c.node.new.code.insns.items instruction) ∙ counted.0;
       loops = c.from.ensures ∙ counted.1;
       begun = all-begin target n t layout;
@@ -51,7 +60,7 @@ returns-clause-emitted c =
 pub invariant_of-result : goal.invariant_of-result
 invariant_of-result c =
     let regex = c.args.regex.now in
-    let n = length regex.group_names.items in
+    let (n, formed) = c.requires in
     let t = tree regex.node in
     let w = written c.node.new.code in
     let target : Table → Target = λ x. record {
@@ -64,21 +73,22 @@ invariant_of-result c =
       laid = ∣ (
         n,
         t,
-        c.requires,
+        formed,
         subst (λ (x : Table). IsLayout (target x) n t) (sym shared)
             (told-layout c.args.units (table regex.tables.now) (is_unicode (options regex.flags)) _ n t (written c.new-code.result) w
             c.from.result c.in_ok-groups.groups c.new-code.ensures c.is_unicode.ensures c.in_ok-node.ensures.added c.from.ensures
-            (c.in_ok-groups.ensures.ok ∙ ap length c.deref.ensures.value)),
+            (c.in_ok-groups.ensures.ok ∙ ap length c.deref.ensures.value ∙ group-for-name n t c.in_ok-names.names formed c.in_ok-names.ensures)),
         c.in_ok-start_pred.ensures.serves,
       ) ∣₁;
-      told = subst (λ brackets. AreAhead (program_from c.node.new.code.insns.items brackets c.from.result c.in_ok-groups.groups c.args.units) c.in_ok-ahead.ahead.items) c.deref-4.ensures.value
-          (subst (λ insns. AreAhead (program_from insns c.deref-4.result.now c.from.result c.in_ok-groups.groups c.args.units) c.in_ok-ahead.ahead.items) c.deref-3.ensures.value
+      told = subst (λ brackets. AreAhead (program_from c.node.new.code.insns.items brackets c.from.result c.in_ok-groups.groups c.args.units) c.in_ok-ahead.ahead.items) c.deref-3.ensures.value
+          (subst (λ insns. AreAhead (program_from insns c.deref-3.result.now c.from.result c.in_ok-groups.groups c.args.units) c.in_ok-ahead.ahead.items) c.deref-2.ensures.value
           (c.in_ok-ahead.ensures c.from.result c.in_ok-groups.groups));
     }
 
 pub returns-in_err-groups-clause-refused : goal.returns-in_err-groups-clause-refused
 returns-in_err-groups-clause-refused c =
     let regex = c.args.regex.now in
-    let few = groups-few c.args.units (table regex.tables.now) (is_unicode (options regex.flags)) (length regex.group_names.items) (tree regex.node) c.requires in
-    let same = ap length c.deref.ensures.value in
+    let (n, formed) = c.requires in
+    let few = groups-few c.args.units (table regex.tables.now) (is_unicode (options regex.flags)) n (tree regex.node) formed in
+    let same = ap length c.deref.ensures.value ∙ group-for-name n (tree regex.node) c.in_ok-names.names formed c.in_ok-names.ensures in
     err-refused c.from_residual-in_err-groups.result c.in_err-groups.field-0.0 _ _ _ _ c.from_residual-in_err-groups.ensures.1 c.in_err-groups.ensures.err (omega (arith, few, same)) (omega arith)

@@ -9,7 +9,7 @@ use Rattle.regress_front_opt.proofs.RoundLemmas.{round-changed, round-reaches}
 use Rattle.regress_front_opt.proofs.rounds.optimize.Goals as goal
 
 pub loop-init : goal.loop-init
-loop-init c = (stays, refl, refl, refl)
+loop-init c = (stays, refl, refl)
 
 pub round-requires : goal.round-requires
 round-requires c = reaches-laws c.loop.invariant.0 (c.requires.0, c.requires.1.lawful)
@@ -26,7 +26,7 @@ loop-smaller c =
 pub loop-preserved : goal.loop-preserved
 loop-preserved c =
     let i = c.loop.invariant in
-    (reaches-then i.0 (round-reaches (tree c.loop.regex.node) (tree c.round.new.node) c.in_ok-round.field-0 c.in_ok-round.ensures), i.1, i.2, i.3)
+    (reaches-then i.0 (round-reaches (tree c.loop.regex.node) (tree c.round.new.node) c.in_ok-round.field-0 c.in_ok-round.ensures), i.1, i.2)
 
 pub returns-clause-rewritten : goal.returns-clause-rewritten
 returns-clause-rewritten c = λ n whole.

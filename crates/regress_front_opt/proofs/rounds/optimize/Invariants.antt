@@ -9,7 +9,7 @@ use Rattle.regress_front_opt.proofs.rounds.optimize.Given as goal
 abbrev pub invariant-loop : goal.invariant-loop
 invariant-loop l =
     Reaches Forward (tree l.initial.regex.node) (tree l.regex.node)
-    × (l.regex.flags ≡ l.initial.regex.flags) × (l.regex.group_names ≡ l.initial.regex.group_names) × (l.regex.tables ≡ l.initial.regex.tables)
+    × (l.regex.flags ≡ l.initial.regex.flags) × (l.regex.tables ≡ l.initial.regex.tables)
 
 abbrev pub decreases-loop : goal.decreases-loop
 decreases-loop l = weight (tree l.regex.node)

@@ -48,5 +48,4 @@ returns-clause-accepted c =
         alike = λ text valid s inside. ap distinct (ended (record { text = text; table = table c.args.tables.now; unicode = is_unicode o }) t s) ∙ alike text valid s inside;
         whole = whole;
       }),
-      c.in_ok-parsed.ensures.named,
     )
