@@ -1,8 +1,9 @@
 //! What is known never to stand at one place, and how far a class goes: what tells nothing is proved too, and only slower.
 
 use crate::parsed::parsed;
-use regress_engine_code::{Insn, emit};
+use regress_engine_code::emit;
 use regress_engine_inputs::Utf8Input;
+use regress_engine_insn::Insn;
 use regress_engine_singles::{are_apart, as_far_ahead, is_apart};
 use regress_front_bytes::AsciiBitmap;
 use regress_front_tables::Tables;

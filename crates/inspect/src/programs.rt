@@ -2,7 +2,8 @@
 
 use crate::classes::{push_ascii, push_bitmap, push_bracket, push_quantifier};
 use crate::texts::{push_bytes, push_literal, push_point, push_points};
-use regress_engine_code::{CompiledRegex, Insn, LoopFields, StartPredicate, bytes_of};
+use regress_engine_code::{CompiledRegex, StartPredicate};
+use regress_engine_insn::{Insn, LoopFields, bytes_of};
 use regress_front::{ByteBitmap, Quantifier};
 use std::alloc::{AllocError, Global};
 
@@ -90,11 +91,7 @@ fn push_set(out: &mut String, insn: &Insn) -> Result<(), AllocError> {
 }
 
 /// A bracket of a program, with its class.
-fn push_class(
-    out: &mut String,
-    program: &CompiledRegex,
-    index: usize,
-) -> Result<(), AllocError> {
+fn push_class(out: &mut String, program: &CompiledRegex, index: usize) -> Result<(), AllocError> {
     write!(out, "Bracket {index} ")?;
     match program.brackets().get(index) {
         Some(contents) => push_bracket(out, contents),

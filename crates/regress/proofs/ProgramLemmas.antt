@@ -20,8 +20,8 @@ use Rattle.regress_front_nodes.specs.declared.ir.Regex as ir
 use Rattle.regress_front_nodes.proofs.NameLemmas.{names-are}
 use Rattle.regress_front_rules.proofs.RewriteLemmas.{wholes-right}
 use Rattle.regress_engine_code.specs.declared.compiled.CompiledRegex.{CompiledRegex}
-use Rattle.regress_engine_code.specs.Counts.{count}
-use Rattle.regress_engine_code.specs.Layout.{IsLayout}
+use Rattle.regress_engine_insn.specs.Counts.{count}
+use Rattle.regress_engine_insn.specs.Layout.{IsLayout}
 use Rattle.regress_engine_code.specs.Standing as code
 use Rattle.regress_engine_code.specs.Standing.{target_of}
 use Rattle.regress_engine_code.specs.Written as code_refusals

@@ -13,10 +13,7 @@
 //! ```
 #![tactic(auto)]
 
-pub use regress_engine_code::{
-    CompiledRegex, Insn, LoopFields, MAX_BYTE_SEQ_LENGTH, bytes_of, emit, emit_units,
-    layouts_are_counted,
-};
+pub use regress_engine_code::{CompiledRegex, emit, emit_units};
 pub use regress_engine_copying::PikeVMExecutor;
 pub use regress_engine_exec::BacktrackExecutor;
 pub use regress_engine_input::{
@@ -27,6 +24,9 @@ pub use regress_engine_input::{
 pub use regress_engine_inputs::{
     AsciiInput, DefPosition, IndexPosition, Ucs2Input, Utf8Input, Utf16Input, is_unit_start,
     is_well_formed_utf16,
+};
+pub use regress_engine_insn::{
+    Insn, LoopFields, MAX_BYTE_SEQ_LENGTH, bytes_of, layouts_are_counted,
 };
 pub use regress_engine_matchers::{
     ASCIICharProperties, CharInput, CharProperties, UTF8CharProperties, Utf16CharProperties,

@@ -2,7 +2,7 @@
 use Rattle.std.proofs.Common.{◌≡◌, ℕ, zero, suc, ◌-◌, List, Option, Some, None, refl}
 use Rattle.regress_meaning.specs.Meaning.{Direction}
 use Rattle.regress_engine_input.specs.Views.{View, AreOfKind, input_of, reading_of}
-use Rattle.regress_engine_code.specs.Instructions.{Instruction, Program, Stands}
+use Rattle.regress_engine_insn.specs.Instructions.{Instruction, Program, Stands}
 use Rattle.regress_engine_runs.specs.States.{Marks}
 use Rattle.regress_engine_runs.specs.Runs.{advance, as_far}
 use Rattle.regress_engine_runs.specs.Meets.{IsAtPlace}

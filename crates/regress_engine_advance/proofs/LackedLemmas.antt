@@ -6,7 +6,7 @@ use Rattle.regress_meaning.specs.Meaning.{Forward}
 use Rattle.regress_front_bytes.specs.declared.bitmaps.ByteBitmap.{ByteBitmap}
 use Rattle.regress_front_bytes.specs.Bitmaps.{byte_bitmap_contains}
 use Rattle.regress_engine_input.specs.Views.{View, are_bytes, input_of, in_bytes, unit_beside}
-use Rattle.regress_engine_code.specs.Instructions.{Instruction, Stands}
+use Rattle.regress_engine_insn.specs.Instructions.{Instruction, Stands}
 use Rattle.regress_engine_code.specs.Ahead.{begins, may_stand}
 use Rattle.regress_engine_code.specs.Standing.{program_of, lacks}
 use Rattle.regress_engine_code.specs.declared.compiled.CompiledRegex.{CompiledRegex}

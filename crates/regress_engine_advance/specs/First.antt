@@ -2,7 +2,7 @@
 use Rattle.std.specs.Prelude.{◌≡◌, ℕ, Bool, true}
 use Rattle.regress_meaning.specs.Inputs.{Input}
 use Rattle.regress_engine_input.specs.Views.{way}
-use Rattle.regress_engine_code.specs.Instructions.{Instruction, Program}
+use Rattle.regress_engine_insn.specs.Instructions.{Instruction, Program}
 use Rattle.regress_engine_runs.specs.Closed.{Fits}
 use Rattle.regress_engine_singles.specs.Failing.{IsStuck, TakesNothing}
 use Rattle.regress_engine_singles.specs.Taking.{is_taking}

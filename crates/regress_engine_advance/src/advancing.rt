@@ -1,7 +1,7 @@
 //! The offset to which an instruction leads that changes nothing but the offset.
 ghost use Rattle.std.specs.Prelude.{◌≡◌, map};
 ghost use Rattle.regress_engine_code.specs.Standing.{program_of};
-ghost use Rattle.regress_engine_code.specs.InsnViews.{instruction};
+ghost use Rattle.regress_engine_insn.specs.InsnViews.{instruction};
 ghost use Rattle.regress_engine_input.specs.Views.{way, input_of};
 ghost use Rattle.regress_engine_runs.specs.Runs.{advance};
 ghost use Rattle.regress_engine_sought.specs.Sought.{Suits};
@@ -12,7 +12,8 @@ use crate::characters::{any, any_in_line, ascii_bracket, bracket, byte_set, char
 use crate::edges::{boundary, line_edge};
 use crate::literals::byte_seq;
 use crate::references::back_reference;
-use regress_engine_code::{CompiledRegex, Insn};
+use regress_engine_code::CompiledRegex;
+use regress_engine_insn::Insn;
 use regress_engine_matchers::CharInput;
 use regress_front_core::GroupData;
 

@@ -91,7 +91,7 @@ pub(crate) fn byte_set<Input: InputIndexer>(
 /// let behind = ascii_bracket(&input, true, 0, &bitmap);
 /// ```
 #[inline]
-#[tactic(auto, using(regress_engine_code::proofs::BitmapLemmas::member_byte, regress_engine_code::proofs::BitmapLemmas::member_beyond))]
+#[tactic(auto, using(regress_engine_insn::proofs::BitmapLemmas::member_byte, regress_engine_insn::proofs::BitmapLemmas::member_beyond))]
 pub fn ascii_bracket<Input: InputIndexer>(
     input: &Input,
     forward: bool,

@@ -3,16 +3,16 @@ ghost use Rattle.std.specs.Prelude.{◌≡◌, ◌&&◌, ◌||◌, Bool, true, n
 ghost use Rattle.regress_meaning.specs.Class.{is_word};
 ghost use Rattle.regress_meaning.specs.Meaning.{is_line_end, is_some_and, word_at};
 ghost use Rattle.regress_meaning.specs.Steps.{point, at_boundary, only_if};
-ghost use Rattle.regress_engine_code.specs.Instructions.{Program};
-ghost use Rattle.regress_engine_code.specs.InsnViews.{instruction};
+ghost use Rattle.regress_engine_insn.specs.Instructions.{Program};
+ghost use Rattle.regress_engine_insn.specs.InsnViews.{instruction};
 ghost use Rattle.regress_engine_input.specs.Views.{way, input_of, CanRead};
 ghost use Rattle.regress_engine_runs.specs.States.{Marks};
 ghost use Rattle.regress_engine_runs.specs.Runs.{advance};
 ghost use Rattle.regress_engine_singles.specs.Taking.{is_edge};
 
 use crate::reading::beside;
-use regress_engine_code::Insn;
 use regress_engine_input::InputIndexer;
+use regress_engine_insn::Insn;
 use regress_engine_matchers::{CharInput, CharProperties};
 
 /// Whether the text ends beside an offset, or in `multiline` a line: backward that is `^`, and forward `$`.

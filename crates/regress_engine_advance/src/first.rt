@@ -1,14 +1,15 @@
 //! What is taken first from an address on.
 ghost use Rattle.std.specs.Prelude.{◌≡◌, true, not, IfSome};
-ghost use Rattle.regress_engine_code.specs.Instructions.{Instruction};
-ghost use Rattle.regress_engine_code.specs.InsnViews.{instruction};
+ghost use Rattle.regress_engine_insn.specs.Instructions.{Instruction};
+ghost use Rattle.regress_engine_insn.specs.InsnViews.{instruction};
 ghost use Rattle.regress_engine_code.specs.Standing.{program_of};
 ghost use Rattle.regress_engine_input.specs.Views.{View, are_bytes, input_of};
 ghost use Rattle.regress_engine_runs.specs.Closed.{Fits, IsClosed};
 ghost use Rattle.regress_engine_singles.specs.Apart.{AreApart};
 ghost use Rattle.regress_engine_advance.specs.First.{IsTakenFirst};
 
-use regress_engine_code::{CompiledRegex, Insn};
+use regress_engine_code::CompiledRegex;
+use regress_engine_insn::Insn;
 use regress_engine_singles::{are_apart, first_byte, is_apart, takes_some};
 
 /// What is taken at an address: the instruction there, or what a one-character loop there does at least once; `None` where

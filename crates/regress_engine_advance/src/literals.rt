@@ -3,15 +3,16 @@ ghost use Rattle.std.specs.Prelude.{◌≡◌, ◌<◌, ℕ, true, false, not, N
 ghost use Rattle.regress_meaning.specs.Meaning.{Forward as ahead};
 ghost use Rattle.regress_meaning.specs.Steps.{literal};
 ghost use Rattle.regress_engine_code.specs.Standing.{program_of};
-ghost use Rattle.regress_engine_code.specs.InsnViews.{instruction};
+ghost use Rattle.regress_engine_insn.specs.InsnViews.{instruction};
 ghost use Rattle.regress_engine_input.specs.Views.{way, input_of, are_bytes};
 ghost use Rattle.regress_engine_runs.specs.States.{Marks};
 ghost use Rattle.regress_engine_runs.specs.Meets.{reads_character};
 ghost use Rattle.regress_engine_runs.specs.Runs.{advance};
 ghost use Rattle.regress_engine_runs.specs.Closed.{Fits};
 
-use regress_engine_code::{CompiledRegex, Insn, bytes_of};
+use regress_engine_code::CompiledRegex;
 use regress_engine_input::{Backward, Direction, Forward, InputIndexer, PositionType};
+use regress_engine_insn::{Insn, bytes_of};
 
 /// Whether another byte stands ahead of an offset, or none. The offset may be any.
 ///

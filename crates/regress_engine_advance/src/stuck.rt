@@ -7,8 +7,9 @@ ghost use Rattle.regress_engine_sought.specs.Sought.{Suits};
 ghost use Rattle.regress_engine_singles.specs.Failing.{IsStuck};
 
 use crate::literals::bytes_beside;
-use regress_engine_code::{CompiledRegex, bytes_of};
+use regress_engine_code::CompiledRegex;
 use regress_engine_input::{InputIndexer, PositionType};
+use regress_engine_insn::bytes_of;
 
 /// The byte ahead of an offset, which may be any; `None` where the text ends, and over units.
 ///

@@ -1,7 +1,7 @@
 //! An instruction that takes one character, again and again.
 ghost use Rattle.std.specs.Prelude.{◌≡◌, ◌-◌, ◌<◌, ℕ, IfSome, map, length};
-ghost use Rattle.regress_engine_code.specs.Instructions.{Stands};
-ghost use Rattle.regress_engine_code.specs.InsnViews.{instruction};
+ghost use Rattle.regress_engine_insn.specs.Instructions.{Stands};
+ghost use Rattle.regress_engine_insn.specs.InsnViews.{instruction};
 ghost use Rattle.regress_engine_code.specs.Standing.{program_of};
 ghost use Rattle.regress_engine_input.specs.Views.{way, input_of, reading_of};
 ghost use Rattle.regress_engine_runs.specs.Runs.{after_times, as_far};
@@ -11,7 +11,8 @@ ghost use Rattle.regress_engine_sought.specs.Ready.{IsBody};
 ghost use Rattle.regress_engine_sought.specs.Sought.{Suits};
 
 use crate::advancing::advance;
-use regress_engine_code::{CompiledRegex, Insn};
+use regress_engine_code::CompiledRegex;
+use regress_engine_insn::Insn;
 use regress_engine_matchers::CharInput;
 use regress_engine_singles::as_far_ahead;
 use regress_front_core::GroupData;

@@ -8,13 +8,13 @@ use Rattle.regress_front_nodes.specs.TreeMeaning.{reads_backward}
 use Rattle.regress_front_nodes.specs.Trees as tree
 use Rattle.regress_front_nodes.specs.Sizes.{loops}
 use Rattle.regress_front_nodes.specs.WellFormed.{AreLawful}
-use Rattle.regress_engine_code.specs.Counts.{count}
-use Rattle.regress_engine_code.specs.Instructions.{Instruction, Program, Stands, StandFrom}
-use Rattle.regress_engine_code.specs.Instructions as code
-use Rattle.regress_engine_code.specs.Layout.{Spot, next, later, Target, resets, Lies}
+use Rattle.regress_engine_insn.specs.Counts.{count}
+use Rattle.regress_engine_insn.specs.Instructions.{Instruction, Program, Stands, StandFrom}
+use Rattle.regress_engine_insn.specs.Instructions as code
+use Rattle.regress_engine_insn.specs.Layout.{Spot, next, later, Target, resets, Lies}
 use Rattle.regress_engine_code.specs.Written.{Written, end, with, changed, Keeps, Adds, AddsTree, MayRefuse}
-use Rattle.regress_engine_code.proofs.LayoutLemmas.{resets-length}
-use Rattle.regress_engine_code.proofs.CountLemmas.{counted}
+use Rattle.regress_engine_insn.proofs.LayoutLemmas.{resets-length}
+use Rattle.regress_engine_insn.proofs.CountLemmas.{counted}
 use Rattle.regress_engine_code.proofs.WrittenLemmas.{Keeps-same, Keeps-chain, Keeps-with, Keeps-changed, Has-earlier, Has-later, Has-behind, Stands-changed, StandFrom-with, end-with}
 
 -- what may lie between two spots of a program

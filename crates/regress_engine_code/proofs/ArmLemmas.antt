@@ -9,9 +9,9 @@ use Rattle.std.proofs.lemmas.List.Sums.{sum_by-cons}
 use Rattle.regress_front_tables.specs.TableViews.{table}
 use Rattle.regress_front_nodes.specs.Trees.{string_set}
 use Rattle.regress_engine_code.specs.declared.emitter.Emitter.{Emitter}
-use Rattle.regress_engine_code.specs.Counts.{string_count, strings_count, count}
-use Rattle.regress_engine_code.specs.Instructions.{Instruction, Program, alt, jump, fail, Stands, StandFrom}
-use Rattle.regress_engine_code.specs.Layout.{Spot, next, later, string_code, AreArms}
+use Rattle.regress_engine_insn.specs.Counts.{string_count, strings_count, count}
+use Rattle.regress_engine_insn.specs.Instructions.{Instruction, Program, alt, jump, fail, Stands, StandFrom}
+use Rattle.regress_engine_insn.specs.Layout.{Spot, next, later, string_code, AreArms}
 use Rattle.regress_engine_code.specs.Written.{Written, end, with, changed, closed, MayRefuse}
 use Rattle.regress_engine_code.specs.Emitting.{target, AddsArms, OpensArms, RefusesArms, Refuses}
 use Rattle.regress_engine_code.proofs.JumpLemmas.{closed-more}

@@ -3,11 +3,11 @@ use Rattle.std.specs.Prelude.{min}
 use Rattle.std.proofs.Common.{◌≡◌, ℕ, zero, suc, ◌<◌, ◌≤◌, ◌⊎◌, inl, inr, List, [], ◌∷◌, ◌++◌, length, map, take, drop, refl, sym, ap, ap₂, ◌∙◌, arith, length-drop, append_assoc}
 use Rattle.std.proofs.lemmas.Bool.{cases_lt}
 use Rattle.std.proofs.lemmas.List.{map-append, take_all, drop_all}
-use Rattle.regress_engine_code.specs.declared.insn.Insn.{Insn}
-use Rattle.regress_engine_code.specs.declared.insn.Insn.TheVariants as insn
-use Rattle.regress_engine_code.specs.Instructions.{Instruction, char, byte_seq}
-use Rattle.regress_engine_code.specs.InsnViews.{instruction}
-use Rattle.regress_engine_code.specs.Layout.{most_bytes, chunks}
+use Rattle.regress_engine_insn.specs.declared.insn.Insn.{Insn}
+use Rattle.regress_engine_insn.specs.declared.insn.Insn.TheVariants as insn
+use Rattle.regress_engine_insn.specs.Instructions.{Instruction, char, byte_seq}
+use Rattle.regress_engine_insn.specs.InsnViews.{instruction}
+use Rattle.regress_engine_insn.specs.Layout.{most_bytes, chunks}
 
 -- a larger bound changes nothing
 chunks-enough : (n m : ℕ) (bs : List ℕ) → length bs ≤ n → length bs ≤ m → chunks n bs ≡ chunks m bs

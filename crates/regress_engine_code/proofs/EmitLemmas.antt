@@ -19,14 +19,14 @@ use Rattle.regress_front_nodes.specs.Singles.{takes_one}
 use Rattle.regress_front_nodes.specs.Sizes.{loops}
 use Rattle.regress_front_nodes.specs.WellFormed.{AreLawful}
 use Rattle.regress_front_nodes.specs.TreeMeaning.{bracket_has}
-use Rattle.regress_engine_code.specs.Counts.{count}
-use Rattle.regress_engine_code.specs.Instructions.{Instruction, Program, Stands, StandFrom}
-use Rattle.regress_engine_code.specs.Instructions as code
-use Rattle.regress_engine_code.specs.Layout.{Spot, next, later, chunks, byte_set_code}
+use Rattle.regress_engine_insn.specs.Counts.{count}
+use Rattle.regress_engine_insn.specs.Instructions.{Instruction, Program, Stands, StandFrom}
+use Rattle.regress_engine_insn.specs.Instructions as code
+use Rattle.regress_engine_insn.specs.Layout.{Spot, next, later, chunks, byte_set_code}
 use Rattle.regress_engine_code.specs.Written.{Written, end, with, Has, Keeps, AddsTree, MayRefuse}
 use Rattle.regress_engine_code.specs.Emitting.{anchor_code}
-use Rattle.regress_engine_code.proofs.LiteralLemmas.{one-character, literal-alone}
-use Rattle.regress_engine_code.proofs.CountLemmas.{literal-length}
+use Rattle.regress_engine_insn.proofs.LiteralLemmas.{one-character, literal-alone}
+use Rattle.regress_engine_insn.proofs.CountLemmas.{literal-length}
 use Rattle.regress_engine_code.proofs.AddLemmas.{MayRefuse-more, Adds-turned, Adds-all, Adds-one, tree_lies}
 use Rattle.regress_engine_code.proofs.WrittenLemmas.{get-front, get-back, Keeps-chain}
 

@@ -1,7 +1,7 @@
 -- Jumps that are written when the end is known.
 use Rattle.std.proofs.Common.{◌≡◌, ℕ, List, [], ◌∷◌, ◌++◌, All, refl, ap}
 use Rattle.std.proofs.lemmas.List.Elements.{All-nil, All-cons, All-head, All-tail}
-use Rattle.regress_engine_code.specs.Instructions.{jump}
+use Rattle.regress_engine_insn.specs.Instructions.{jump}
 use Rattle.regress_engine_code.specs.Written.{Written, changed, closed}
 
 -- the last jump is written first

@@ -1,7 +1,3 @@
-pub mod LayoutLemmas
-pub mod LiteralLemmas
-pub mod StringLemmas
-pub mod CountLemmas
 pub mod WrittenLemmas
 pub mod ChunkLemmas
 pub mod AddLemmas
@@ -9,8 +5,5 @@ pub mod EmitLemmas
 pub mod PieceLemmas
 pub mod JumpLemmas
 pub mod ArmLemmas
-pub mod BitmapLemmas
 pub mod AheadLemmas
 pub mod StandingLemmas
-pub mod TakingLemmas
-pub mod BeginLemmas

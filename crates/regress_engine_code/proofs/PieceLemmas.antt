@@ -4,8 +4,8 @@ use Rattle.std.proofs.lemmas.List.{append-nil}
 use Rattle.std.proofs.lemmas.List.Elements.{All-head, All-tail}
 use Rattle.regress_front_nodes.specs.declared.piece.Piece.{Piece}
 use Rattle.regress_front_nodes.specs.Pieces.{piece_tree}
-use Rattle.regress_engine_code.specs.Instructions.{Instruction, Program}
-use Rattle.regress_engine_code.specs.Layout.{piece_code, pieces_code}
+use Rattle.regress_engine_insn.specs.Instructions.{Instruction, Program}
+use Rattle.regress_engine_insn.specs.Layout.{piece_code, pieces_code}
 
 -- what holds of all items holds of one
 pub among : {A B : Type 0} (f : A → B) (P : B → Type 0) (xs : List A) (k : ℕ) (x : A) → k < length xs → x ≡ get_or xs k x → All P (map f xs) → P (f x)

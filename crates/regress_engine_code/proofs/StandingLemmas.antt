@@ -8,9 +8,9 @@ use Rattle.regress_front_nodes.specs.Trees.{Tree, cat, alt, capture, submatch, l
 use Rattle.regress_front_nodes.specs.Singles.{takes_one}
 use Rattle.regress_front_nodes.specs.WellFormed.{AreLawful, IsWellFormed, group_ids}
 use Rattle.regress_front_nodes.specs.Sizes.{loops}
-use Rattle.regress_engine_code.specs.Counts.{count}
-use Rattle.regress_engine_code.specs.Instructions.{Instruction, Program}
-use Rattle.regress_engine_code.specs.Layout.{Spot, Lies, IsLayout}
+use Rattle.regress_engine_insn.specs.Counts.{count}
+use Rattle.regress_engine_insn.specs.Instructions.{Instruction, Program}
+use Rattle.regress_engine_insn.specs.Layout.{Spot, Lies, IsLayout}
 use Rattle.regress_engine_code.specs.Written.{Written, AddsTree}
 use Rattle.regress_engine_code.proofs.AddLemmas.{AddsTree-counted}
 

@@ -3,8 +3,8 @@ use Rattle.std.specs.Prelude.{slice_get, slice_set}
 use Rattle.std.proofs.Common.{sym, ◌≡◌, ℕ, zero, suc, ◌+◌, ◌-◌, ◌<◌, ◌≤◌, ◌≢◌, List, [], ◌∷◌, ◌++◌, length, Some, refl, ap, ◌∙◌, subst, arith, length-append, append_assoc}
 use Rattle.std.proofs.lemmas.List.{append-nil, length-set}
 use Rattle.std.proofs.lemmas.Option.{slice_get_within}
-use Rattle.regress_engine_code.specs.Instructions.{Instruction, reset_group, Program, Stands, StandFrom}
-use Rattle.regress_engine_code.specs.Layout.{Spot, later, resets}
+use Rattle.regress_engine_insn.specs.Instructions.{Instruction, reset_group, Program, Stands, StandFrom}
+use Rattle.regress_engine_insn.specs.Layout.{Spot, later, resets}
 use Rattle.regress_engine_code.specs.Written.{Written, end, with, changed, Has, Keeps}
 
 -- ---- lists

@@ -6,10 +6,10 @@ use Rattle.regress_front_nodes.specs.Trees.{Tree}
 use Rattle.regress_front_nodes.specs.Sizes.{loops}
 use Rattle.regress_front_nodes.specs.declared.node.AnchorType.{AnchorType}
 use Rattle.regress_front_nodes.specs.declared.node.AnchorType.TheVariants.{StartOfLine, EndOfLine}
-use Rattle.regress_engine_code.specs.Instructions.{Instruction, Program, line_start, line_end}
+use Rattle.regress_engine_insn.specs.Instructions.{Instruction, Program, line_start, line_end}
 use Rattle.regress_engine_code.specs.declared.emitter.Emitter.{Emitter}
-use Rattle.regress_engine_code.specs.Counts.{strings_count, count}
-use Rattle.regress_engine_code.specs.Layout.{Target, AreArms}
+use Rattle.regress_engine_insn.specs.Counts.{strings_count, count}
+use Rattle.regress_engine_insn.specs.Layout.{Target, AreArms}
 use Rattle.regress_engine_code.specs.Written.{Written, closed, Adds, AddsTree, MayRefuse}
 
 -- the instruction of an anchor

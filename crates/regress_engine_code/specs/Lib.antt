@@ -1,8 +1,4 @@
-pub mod Instructions
-pub mod Layout
 pub mod Ahead
-pub mod Counts
-pub mod InsnViews
 pub mod Written
 pub mod Laid
 pub mod Emitting

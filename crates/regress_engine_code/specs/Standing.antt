@@ -10,11 +10,11 @@ use Rattle.regress_front_nodes.specs.Names.{names_in}
 use Rattle.regress_front_nodes.specs.Sizes.{loops}
 use Rattle.regress_front_nodes.specs.declared.ir.Regex.{Regex}
 use Rattle.regress_engine_code.specs.declared.compiled.CompiledRegex.{CompiledRegex}
-use Rattle.regress_engine_code.specs.Instructions.{Program, begins_loop}
+use Rattle.regress_engine_insn.specs.Instructions.{Program, begins_loop}
 use Rattle.regress_engine_code.specs.Ahead.{may_stand}
-use Rattle.regress_engine_code.specs.Counts.{count}
-use Rattle.regress_engine_code.specs.Layout.{Target, IsLayout}
-use Rattle.regress_engine_code.specs.Laid.{program_from, target_from}
+use Rattle.regress_engine_insn.specs.Counts.{count}
+use Rattle.regress_engine_insn.specs.Layout.{Target, IsLayout}
+use Rattle.regress_engine_insn.specs.ProgramViews.{program_from, target_from}
 use Rattle.regress_engine_prefix.specs.Starts.{IsSameStart, Serves}
 
 -- what a program is to definitions

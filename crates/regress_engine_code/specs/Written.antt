@@ -1,25 +1,19 @@
 -- What is written of a program, while it is made.
 use Rattle.std.specs.Prelude.{◌≡◌, ℕ, ◌<◌, ◌≤◌, ◌⊎◌, Bool, List, [], ◌∷◌, ◌++◌, length, Some, slice_get, slice_set, map}
 use Rattle.regress_meaning.specs.Table.{Table}
-use Rattle.regress_front_sets.specs.Intervals.{ends_of}
 use Rattle.regress_front_core.specs.declared.error.Error.{Error}
 use Rattle.regress_front_core.specs.declared.error.Error.TheVariants.{OutOfMemory, TooLarge}
 use Rattle.regress_front_nodes.specs.Trees.{Tree}
-use Rattle.regress_front_nodes.specs.declared.node.BracketContents.{BracketContents}
 use Rattle.regress_engine_code.specs.declared.code.Code.{Code}
-use Rattle.regress_engine_code.specs.Instructions.{Instruction, jump, Program, Stands}
-use Rattle.regress_engine_code.specs.InsnViews.{instruction}
-use Rattle.regress_engine_code.specs.Layout.{Spot, Lies}
+use Rattle.regress_engine_insn.specs.Instructions.{Instruction, jump, Program, Stands}
+use Rattle.regress_engine_insn.specs.InsnViews.{instruction}
+use Rattle.regress_engine_insn.specs.Layout.{Spot, Lies}
 
 -- The instructions and brackets so far, and how many loops begin in them.
 pub record Written : Type 0 where
   pub instructions : List Instruction
   pub brackets : List (Bool × List (ℕ × ℕ))
   pub loops : ℕ
-
--- a bracket as intervals that may be inverted
-abbrev pub bracket_ends : BracketContents → Bool × List (ℕ × ℕ)
-bracket_ends contents = (contents.invert, ends_of contents.cps.intervals.items)
 
 -- what a code holds
 abbrev pub written : Code → Written

@@ -3,13 +3,12 @@ ghost use Rattle.std.specs.Prelude.{◌≡◌, ◌+◌, ◌^◌, ℕ, ◌<◌, �
 ghost use Rattle.regress_front_bytes.specs.Bitmaps.{byte_bitmap_contains};
 ghost use Rattle.regress_front_sets.specs.Intervals.{ends_of};
 ghost use Rattle.regress_front_nodes.specs.TreeMeaning.{bracket_has};
-ghost use Rattle.regress_engine_code.specs.Instructions.{Program};
-ghost use Rattle.regress_engine_code.specs.InsnViews.{instruction};
-ghost use Rattle.regress_engine_code.specs.Laid.{program_from};
-ghost use Rattle.regress_engine_code.specs.Written.{bracket_ends};
+ghost use Rattle.regress_engine_insn.specs.Instructions.{Program};
+ghost use Rattle.regress_engine_insn.specs.InsnViews.{instruction};
+ghost use Rattle.regress_engine_insn.specs.ProgramViews.{program_from, bracket_ends};
 ghost use Rattle.regress_engine_code.specs.Ahead.{AreAhead, begins, behind, high_or, may_stand, starts};
 
-use crate::insn::{Insn, bytes_of};
+use regress_engine_insn::{Insn, bytes_of};
 use regress_front_bytes::{ByteBitmap, ByteSet};
 use regress_front_nodes::BracketContents;
 use std::alloc::{AllocError, Global};

@@ -6,12 +6,13 @@ ghost use Rattle.regress_front_bytes.specs.Bitmaps.{ascii_bitmap_contains};
 ghost use Rattle.regress_front_sets.specs.Intervals.{ends_of};
 ghost use Rattle.regress_front_nodes.specs.Trees.{bracket};
 ghost use Rattle.regress_front_nodes.specs.TreeMeaning.{bracket_has};
-ghost use Rattle.regress_engine_code.specs.Written.{written, bracket_ends, MayRefuse};
+ghost use Rattle.regress_engine_insn.specs.ProgramViews.{bracket_ends};
+ghost use Rattle.regress_engine_code.specs.Written.{written, MayRefuse};
 ghost use Rattle.regress_engine_code.specs.Emitting.{Emits};
 
 use crate::code::Code;
 use crate::emitter::Emitter;
-use crate::insn::Insn;
+use regress_engine_insn::Insn;
 use regress_front_bytes::AsciiBitmap;
 use regress_front_core::Error;
 use regress_front_nodes::BracketContents;

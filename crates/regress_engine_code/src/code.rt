@@ -1,12 +1,13 @@
 //! A program while it is written.
 ghost use Rattle.std.specs.Prelude.{◌≡◌, ◌+◌, ◌-◌, ◌<◌, [], ◌∷◌, ◌++◌, length, map, All, IfOk, IfErr, OnOk};
 ghost use Rattle.regress_front_core.specs.Quantifiers.{most};
-ghost use Rattle.regress_engine_code.specs.Instructions.{fail, goal, begin_group, end_group, loop_again, single_loop, enter_loop};
-ghost use Rattle.regress_engine_code.specs.InsnViews.{instruction};
-ghost use Rattle.regress_engine_code.specs.Layout.{resets};
-ghost use Rattle.regress_engine_code.specs.Written.{written, with, changed, closed, bracket_ends, MayRefuse};
+ghost use Rattle.regress_engine_insn.specs.Instructions.{fail, goal, begin_group, end_group, loop_again, single_loop, enter_loop};
+ghost use Rattle.regress_engine_insn.specs.InsnViews.{instruction};
+ghost use Rattle.regress_engine_insn.specs.Layout.{resets};
+ghost use Rattle.regress_engine_insn.specs.ProgramViews.{bracket_ends};
+ghost use Rattle.regress_engine_code.specs.Written.{written, with, changed, closed, MayRefuse};
 
-use crate::insn::{Insn, LoopFields};
+use regress_engine_insn::{Insn, LoopFields};
 use regress_front_core::{CaptureGroupID, Error, LoopID};
 use regress_front_nodes::{BracketContents, Quantifier};
 use std::alloc::{AllocError, Global};

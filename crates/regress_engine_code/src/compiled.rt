@@ -2,10 +2,11 @@
 ghost use Rattle.std.specs.Prelude.{◌≡◌, IfOk, IfErr};
 ghost use Rattle.std.specs.Arc.{arc_slice_items};
 ghost use Rattle.regress_engine_code.specs.Ahead.{AreAhead};
-ghost use Rattle.regress_engine_code.specs.Laid.{program_from, target_from, IsLaid};
+ghost use Rattle.regress_engine_insn.specs.ProgramViews.{program_from, target_from};
+ghost use Rattle.regress_engine_code.specs.Laid.{IsLaid};
 
 use crate::brackets::copies_of;
-use crate::insn::Insn;
+use regress_engine_insn::Insn;
 use regress_engine_prefix::StartPredicate;
 use regress_front_bytes::ByteBitmap;
 use regress_front_core::{CaptureGroupName, Error, Flags};

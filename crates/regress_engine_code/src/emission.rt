@@ -77,11 +77,7 @@ fn start_of(alloc: Global, regex: &Regex, units: bool) -> Result<StartPredicate,
 }
 
 /// The program of a tree, of units or else of bytes.
-fn whole_program(
-    alloc: Global,
-    regex: &Regex<'_>,
-    units: bool,
-) -> Result<CompiledRegex, Error>
+fn whole_program(alloc: Global, regex: &Regex<'_>, units: bool) -> Result<CompiledRegex, Error>
     requires { (n : ℕ) × IsWellFormed n (tree regex.now.node) }
     ensures emitted { IfOk result (StandsFor regex.now) }
     ensures told { IfOk result (λ compiled. compiled.units ≡ units) }

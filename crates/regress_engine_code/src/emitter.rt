@@ -5,14 +5,14 @@ ghost use Rattle.regress_front_nodes.specs.Trees.{tree, cat_of, alt, capture, lo
 ghost use Rattle.regress_front_nodes.specs.Trees as node;
 ghost use Rattle.regress_front_nodes.specs.Forms.{is_leaf};
 ghost use Rattle.regress_engine_prefix.specs.Prefixes.{IsLawful};
-ghost use Rattle.regress_engine_code.specs.Instructions as code;
-ghost use Rattle.regress_engine_code.specs.InsnViews.{instruction};
+ghost use Rattle.regress_engine_insn.specs.Instructions as code;
+ghost use Rattle.regress_engine_insn.specs.InsnViews.{instruction};
 ghost use Rattle.regress_engine_code.specs.Written.{written};
 ghost use Rattle.regress_engine_code.specs.Emitting.{anchor_code, Emits, Refuses};
 
 use crate::code::Code;
-use crate::insn::Insn;
 use crate::leaves::{byte_set, char_set};
+use regress_engine_insn::Insn;
 use regress_front_core::{CaptureGroupID, Error};
 use regress_front_nodes::{AnchorType, Node, Quantifier};
 use regress_front_tables::Tables;

@@ -2,11 +2,11 @@
 ghost use Rattle.std.specs.Prelude.{◌≡◌, ◌<◌, ◌≤◌, [], length, map, chars, All, IfOk, if◌then◌else◌};
 ghost use Rattle.std.specs.Str.{IsUtf8};
 ghost use Rattle.regress_front_nodes.specs.Forms.{in_reading_order};
-ghost use Rattle.regress_engine_code.specs.Instructions.{char, byte_seq};
-ghost use Rattle.regress_engine_code.specs.InsnViews.{instruction};
-ghost use Rattle.regress_engine_code.specs.Layout.{most_bytes, chunks, char_set_code, ascii_set_code, byte_set_code};
+ghost use Rattle.regress_engine_insn.specs.Instructions.{char, byte_seq};
+ghost use Rattle.regress_engine_insn.specs.InsnViews.{instruction};
+ghost use Rattle.regress_engine_insn.specs.Layout.{most_bytes, chunks, char_set_code, ascii_set_code, byte_set_code};
 
-use crate::insn::{Insn, MAX_BYTE_SEQ_LENGTH};
+use regress_engine_insn::{Insn, MAX_BYTE_SEQ_LENGTH};
 use regress_front_bytes::ByteArraySet;
 use regress_front_core::MAX_CHAR_SET_LENGTH;
 use regress_front_tables::CodePoint;

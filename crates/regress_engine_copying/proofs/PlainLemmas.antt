@@ -2,10 +2,10 @@
 use Rattle.std.proofs.Common.{◌≡◌, ℕ, ◌+◌, Bool, true, [], ◌∷◌, Some, None, refl, sym, ap, ◌∙◌}
 use Rattle.regress_meaning.specs.Meaning.{Direction}
 use Rattle.regress_meaning.specs.Inputs.{Input}
-use Rattle.regress_engine_code.specs.Instructions.{Instruction, Program}
-use Rattle.regress_engine_code.specs.InsnViews.{instruction}
-use Rattle.regress_engine_code.specs.declared.insn.Insn.{Insn}
-use Rattle.regress_engine_code.specs.declared.insn.Insn.TheVariants.{Goal, Lookahead, Lookbehind, Atomic}
+use Rattle.regress_engine_insn.specs.Instructions.{Instruction, Program}
+use Rattle.regress_engine_insn.specs.InsnViews.{instruction}
+use Rattle.regress_engine_insn.specs.declared.insn.Insn.{Insn}
+use Rattle.regress_engine_insn.specs.declared.insn.Insn.TheVariants.{Goal, Lookahead, Lookbehind, Atomic}
 use Rattle.regress_engine_runs.specs.States.{Whole}
 use Rattle.regress_engine_runs.specs.Runs.{advance, is_plain, moved_to, successors}
 use Rattle.regress_engine_sought.specs.Ready.{is_simple}

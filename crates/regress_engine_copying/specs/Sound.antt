@@ -1,6 +1,6 @@
 -- When what waits is the program's.
 use Rattle.std.specs.Prelude.{◌≡◌, List, [], ◌∷◌, length, Option, IfSome}
-use Rattle.regress_engine_code.specs.Instructions.{Program}
+use Rattle.regress_engine_insn.specs.Instructions.{Program}
 use Rattle.regress_engine_runs.specs.States.{Whole}
 use Rattle.regress_engine_sought.specs.Tasks.{HasGroups}
 use Rattle.regress_engine_copying.specs.Held.{Entry, tried, submatched, Held}

@@ -1,7 +1,7 @@
 -- What a step comes to.
 use Rattle.std.specs.Prelude.{◌≡◌, [], ◌∷◌, Option, Some, None}
 use Rattle.regress_meaning.specs.Inputs.{Input}
-use Rattle.regress_engine_code.specs.Instructions.{Program, Stands, goal}
+use Rattle.regress_engine_insn.specs.Instructions.{Program, Stands, goal}
 use Rattle.regress_engine_runs.specs.States.{Whole}
 use Rattle.regress_engine_runs.specs.UndoStack.{Frame}
 use Rattle.regress_engine_sought.specs.Tasks.{Leads, ComesAs, outside_of}

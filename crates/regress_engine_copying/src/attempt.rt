@@ -1,8 +1,8 @@
 //! A run of a program from one offset of a text.
 ghost use Rattle.std.specs.Prelude.{◌+◌, ◌^◌, ◌<◌, [], ◌∷◌, option_map, IfOk};
 ghost use Rattle.regress_meaning.specs.Meaning.{Forward as forward};
-ghost use Rattle.regress_engine_code.specs.Instructions.{Instruction, Stands};
-ghost use Rattle.regress_engine_code.specs.InsnViews.{instruction};
+ghost use Rattle.regress_engine_insn.specs.Instructions.{Instruction, Stands};
+ghost use Rattle.regress_engine_insn.specs.InsnViews.{instruction};
 ghost use Rattle.regress_engine_code.specs.Standing.{program_of};
 ghost use Rattle.regress_engine_input.specs.Views.{input_of, reading_of};
 ghost use Rattle.regress_engine_runs.specs.States.{first_state};
@@ -15,7 +15,8 @@ ghost use Rattle.regress_engine_copying.specs.StateOf.{groups_of};
 
 use crate::stack::Stack;
 use crate::state::State;
-use regress_engine_code::{CompiledRegex, Insn};
+use regress_engine_code::CompiledRegex;
+use regress_engine_insn::Insn;
 use regress_engine_matchers::CharInput;
 use std::alloc::{AllocError, Global};
 

@@ -10,11 +10,7 @@ impl<'t> Executor<'t> for PikeVMExecutor<'t, Utf8Input<'t, 't>> {
 
     type Text = AnyText;
 
-    fn new(
-        alloc: Global,
-        program: &'t CompiledRegex,
-        text: &'t str,
-    ) -> Result<Self, AllocError> {
+    fn new(alloc: Global, program: &'t CompiledRegex, text: &'t str) -> Result<Self, AllocError> {
         let input = Utf8Input::new(text, program.flags().is_unicode(), program.tables());
         Ok(PikeVMExecutor::with_input(alloc, program, input))
     }
@@ -25,11 +21,7 @@ impl<'t> Executor<'t> for PikeVMExecutor<'t, AsciiInput<'t, 't>> {
 
     type Text = AsciiText;
 
-    fn new(
-        alloc: Global,
-        program: &'t CompiledRegex,
-        text: &'t str,
-    ) -> Result<Self, AllocError> {
+    fn new(alloc: Global, program: &'t CompiledRegex, text: &'t str) -> Result<Self, AllocError> {
         let input = AsciiInput::new(text, program.flags().is_unicode(), program.tables());
         Ok(PikeVMExecutor::with_input(alloc, program, input))
     }

@@ -1,6 +1,6 @@
 //! How a goal is left: that of a lookaround or an atomic group, or that of the whole program.
 ghost use Rattle.std.specs.Prelude.{◌≡◌, [], option_map, IfOk, IfSome};
-ghost use Rattle.regress_engine_code.specs.Instructions.{Program};
+ghost use Rattle.regress_engine_insn.specs.Instructions.{Program};
 ghost use Rattle.regress_engine_sought.specs.Tasks.{HasGroups};
 ghost use Rattle.regress_engine_copying.specs.StateOf.{state_of};
 ghost use Rattle.regress_engine_copying.specs.Held.{held, frame_of};

@@ -1,7 +1,7 @@
 //! Instructions that lead to their successors, whatever else waits.
 ghost use Rattle.std.specs.Prelude.{◌≡◌, ◌+◌, ◌^◌, ◌<◌, true, if◌then◌else◌, [], ◌∷◌, length, slice_set, OnOk};
-ghost use Rattle.regress_engine_code.specs.Instructions.{Stands, loop_again};
-ghost use Rattle.regress_engine_code.specs.InsnViews.{fields, instruction};
+ghost use Rattle.regress_engine_insn.specs.Instructions.{Stands, loop_again};
+ghost use Rattle.regress_engine_insn.specs.InsnViews.{fields, instruction};
 ghost use Rattle.regress_engine_code.specs.Standing.{program_of};
 ghost use Rattle.regress_engine_input.specs.Views.{way, input_of, reading_of};
 ghost use Rattle.regress_engine_runs.specs.States.{onward};
@@ -17,7 +17,7 @@ use crate::attempt::Attempt;
 use crate::stack::Stack;
 use crate::state::State;
 use regress_engine_advance::advance;
-use regress_engine_code::{Insn, LoopFields};
+use regress_engine_insn::{Insn, LoopFields};
 use regress_engine_matchers::CharInput;
 use std::alloc::AllocError;
 

@@ -1,7 +1,7 @@
 //! One-character loops.
 ghost use Rattle.std.specs.Prelude.{◌≡◌, ◌+◌, ◌-◌, ◌≤◌, ◌<◌, ◌^◌, ℕ, true, IfSome, map, length, OnOk};
-ghost use Rattle.regress_engine_code.specs.Instructions.{Stands, single_loop};
-ghost use Rattle.regress_engine_code.specs.InsnViews.{instruction};
+ghost use Rattle.regress_engine_insn.specs.Instructions.{Stands, single_loop};
+ghost use Rattle.regress_engine_insn.specs.InsnViews.{instruction};
 ghost use Rattle.regress_engine_code.specs.Standing.{program_of};
 ghost use Rattle.regress_engine_input.specs.Views.{way, input_of, reading_of};
 ghost use Rattle.regress_engine_runs.specs.Runs.{after_times, one_by_one, successors};
@@ -17,7 +17,7 @@ use crate::attempt::Attempt;
 use crate::stack::Stack;
 use crate::state::State;
 use regress_engine_advance::{advance, after_times};
-use regress_engine_code::Insn;
+use regress_engine_insn::Insn;
 use regress_engine_matchers::CharInput;
 use regress_front_core::GroupData;
 use std::alloc::AllocError;

@@ -1,7 +1,7 @@
 //! What waits to be tried.
 ghost use Rattle.std.specs.Prelude.{◌≡◌, ◌+◌, ◌^◌, ◌<◌, ◌∷◌, [], None, true, map, option_map, option_to_list, reverse, IfOk, MatchOption, OnOk};
 ghost use Rattle.regress_meaning.specs.Inputs.{Input};
-ghost use Rattle.regress_engine_code.specs.Instructions.{Program};
+ghost use Rattle.regress_engine_insn.specs.Instructions.{Program};
 ghost use Rattle.regress_engine_runs.specs.States.{onward};
 ghost use Rattle.regress_engine_sought.specs.Submatches.{submatch_of, reads_forward};
 ghost use Rattle.regress_engine_sought.specs.Tasks.{Leads};

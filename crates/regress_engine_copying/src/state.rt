@@ -1,13 +1,13 @@
 //! The states of a run.
 ghost use Rattle.std.specs.Prelude.{◌≡◌, ◌+◌, ◌^◌, ◌<◌, ◌≤◌, ℕ, length, get_or, slice_set, replicate, IfOk};
-ghost use Rattle.regress_engine_code.specs.InsnViews.{fields};
+ghost use Rattle.regress_engine_insn.specs.InsnViews.{fields};
 ghost use Rattle.regress_engine_input.specs.Views.{way};
 ghost use Rattle.regress_engine_runs.specs.States.{unset, onward, begun, mixed};
 ghost use Rattle.regress_engine_runs.specs.Runs.{count_of, one_more, is_idle};
 ghost use Rattle.regress_engine_sought.specs.StateViews.{loop_of, marks_of};
 ghost use Rattle.regress_engine_copying.specs.StateOf.{state_of};
 
-use regress_engine_code::LoopFields;
+use regress_engine_insn::LoopFields;
 use regress_front_core::{CaptureGroupID, GroupData, LoopData};
 use std::alloc::{AllocError, Global};
 

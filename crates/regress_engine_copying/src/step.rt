@@ -1,6 +1,6 @@
 //! One step of a run.
 ghost use Rattle.std.specs.Prelude.{◌≡◌, true, option_map, IfOk};
-ghost use Rattle.regress_engine_code.specs.Instructions.{Instruction, Stands};
+ghost use Rattle.regress_engine_insn.specs.Instructions.{Instruction, Stands};
 ghost use Rattle.regress_engine_code.specs.Standing.{program_of};
 ghost use Rattle.regress_engine_input.specs.Views.{input_of, reading_of};
 ghost use Rattle.regress_engine_runs.specs.Meets.{reads_character, ReadsPlaces};
@@ -13,7 +13,7 @@ ghost use Rattle.regress_engine_copying.specs.Stepping.{Steps};
 use crate::attempt::Attempt;
 use crate::stack::{Frame, Stack};
 use crate::state::State;
-use regress_engine_code::Insn;
+use regress_engine_insn::Insn;
 use regress_engine_matchers::CharInput;
 use regress_engine_sought::Submatch;
 use std::alloc::AllocError;

@@ -2,8 +2,8 @@
 use Rattle.std.proofs.Common.{◌≡◌, ℕ, ◌+◌, Bool, true, ◌⊎◌, inl, inr, refl, sym, subst, arith}
 use Rattle.regress_meaning.specs.Inputs.{Input}
 use Rattle.regress_engine_input.specs.Views.{way}
-use Rattle.regress_engine_code.specs.Instructions.{Program, Stands}
-use Rattle.regress_engine_code.specs.Instructions as code
+use Rattle.regress_engine_insn.specs.Instructions.{Program, Stands}
+use Rattle.regress_engine_insn.specs.Instructions as code
 use Rattle.regress_engine_sought.specs.Tasks.{Task, Leads}
 use Rattle.regress_engine_sought.proofs.TaskLemmas.{leads-then}
 use Rattle.regress_engine_singles.specs.Failing.{IsStuck}

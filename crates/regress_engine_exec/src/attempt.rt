@@ -1,8 +1,8 @@
 //! A run of a program from one offset of a text.
 ghost use Rattle.std.specs.Prelude.{◌+◌, ◌^◌, ◌<◌, [], ◌∷◌, true, IfOk};
 ghost use Rattle.regress_meaning.specs.Meaning.{Forward as forward};
-ghost use Rattle.regress_engine_code.specs.Instructions.{Instruction, Stands};
-ghost use Rattle.regress_engine_code.specs.InsnViews.{instruction};
+ghost use Rattle.regress_engine_insn.specs.Instructions.{Instruction, Stands};
+ghost use Rattle.regress_engine_insn.specs.InsnViews.{instruction};
 ghost use Rattle.regress_engine_code.specs.Standing.{program_of};
 ghost use Rattle.regress_engine_input.specs.Views.{input_of, reading_of};
 ghost use Rattle.regress_engine_runs.specs.States.{first_state};
@@ -14,7 +14,8 @@ ghost use Rattle.regress_engine_sought.specs.Sought.{Suits};
 ghost use Rattle.regress_engine_exec.specs.Trying.{IsWay};
 ghost use Rattle.regress_engine_runs.proofs.OneAnswer.{IsComputed-prop};
 
-use regress_engine_code::{CompiledRegex, Insn};
+use regress_engine_code::CompiledRegex;
+use regress_engine_insn::Insn;
 use regress_engine_matchers::CharInput;
 use regress_engine_undo::{Memory, Spot};
 use regress_front_core::GroupData;

@@ -1,7 +1,7 @@
 //! Going back to a state that is still to be tried.
 ghost use Rattle.std.specs.Prelude.{◌≡◌, ◌<◌, ℕ, true, false, List, [], ◌∷◌, length, map, nat_lt, is_some, IfOk, IfSome, OnOk};
-ghost use Rattle.regress_engine_code.specs.InsnViews.{instruction};
-ghost use Rattle.regress_engine_code.specs.Instructions.{byte_seq};
+ghost use Rattle.regress_engine_insn.specs.InsnViews.{instruction};
+ghost use Rattle.regress_engine_insn.specs.Instructions.{byte_seq};
 ghost use Rattle.regress_engine_code.specs.Standing.{program_of};
 ghost use Rattle.regress_engine_input.specs.Views.{way, input_of, reading_of};
 ghost use Rattle.regress_engine_runs.specs.Runs.{advance, gap};
@@ -21,7 +21,7 @@ use crate::attempt::Attempt;
 use regress_engine_advance::{
     advance, any_in_line, ascii_bracket, beside, other_ahead, taken_first,
 };
-use regress_engine_code::Insn;
+use regress_engine_insn::Insn;
 use regress_engine_matchers::CharInput;
 use regress_engine_singles::first_byte;
 use regress_engine_undo::{Frame, Memory, Spot, Undo};

@@ -1,6 +1,6 @@
 //! One-character loops.
 ghost use Rattle.std.specs.Prelude.{◌≡◌, ◌+◌, ◌≤◌, true, IfOk, OnOk};
-ghost use Rattle.regress_engine_code.specs.Instructions.{single_loop};
+ghost use Rattle.regress_engine_insn.specs.Instructions.{single_loop};
 ghost use Rattle.regress_engine_code.specs.Standing.{program_of};
 ghost use Rattle.regress_engine_input.specs.Views.{way, input_of};
 ghost use Rattle.regress_engine_runs.specs.Runs.{successors};

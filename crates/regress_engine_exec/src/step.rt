@@ -1,7 +1,7 @@
 //! One step of a run.
 ghost use Rattle.std.specs.Prelude.{◌≡◌, ◌+◌, ◌^◌, ◌<◌, true, [], ◌∷◌, IfOk, IfSome, OnOk};
-ghost use Rattle.regress_engine_code.specs.Instructions.{Instruction, Stands, loop_again, enter_loop, LoopFields};
-ghost use Rattle.regress_engine_code.specs.InsnViews.{instruction};
+ghost use Rattle.regress_engine_insn.specs.Instructions.{Instruction, Stands, loop_again, enter_loop, LoopFields};
+ghost use Rattle.regress_engine_insn.specs.InsnViews.{instruction};
 ghost use Rattle.regress_engine_code.specs.Standing.{program_of};
 ghost use Rattle.regress_engine_input.specs.Views.{way, input_of, reading_of};
 ghost use Rattle.regress_engine_runs.specs.Meets.{reads_character, ReadsPlaces};
@@ -16,7 +16,7 @@ ghost use Rattle.regress_engine_exec.specs.Trying.{Steps};
 
 use crate::attempt::Attempt;
 use regress_engine_advance::{advance, is_stuck};
-use regress_engine_code::Insn;
+use regress_engine_insn::Insn;
 use regress_engine_matchers::CharInput;
 use regress_engine_sought::Submatch;
 use regress_engine_undo::{Memory, Spot, begun, ended};

@@ -1,8 +1,8 @@
 //! Iterations that are one character of a class each.
 ghost use Rattle.std.specs.Prelude.{◌≡◌, ◌⊎◌, ◌+◌, ◌-◌, ◌^◌, ◌<◌, ◌≤◌, ℕ, true, get_or, length, IfSome, OnOk};
 ghost use Rattle.regress_meaning.specs.Meaning.{Forward as ahead};
-ghost use Rattle.regress_engine_code.specs.Instructions.{Instruction, Stands, alt};
-ghost use Rattle.regress_engine_code.specs.InsnViews.{instruction, fields};
+ghost use Rattle.regress_engine_insn.specs.Instructions.{Instruction, Stands, alt};
+ghost use Rattle.regress_engine_insn.specs.InsnViews.{instruction, fields};
 ghost use Rattle.regress_engine_code.specs.Standing.{program_of};
 ghost use Rattle.regress_engine_input.specs.Views.{input_of, reading_of};
 ghost use Rattle.regress_engine_runs.specs.Meets.{IsAtPlace};
@@ -17,7 +17,7 @@ ghost use Rattle.regress_engine_undo.specs.Stuck.{IsTurn};
 
 use crate::attempt::Attempt;
 use regress_engine_advance::{is_atomic, is_stuck};
-use regress_engine_code::{Insn, LoopFields};
+use regress_engine_insn::{Insn, LoopFields};
 use regress_engine_matchers::CharInput;
 use regress_engine_singles::{Taken, is_class, taken_ahead};
 use regress_engine_undo::{Memory, Spot};

@@ -1,7 +1,7 @@
 //! Where it is gone on at once, since one of two ways surely leads nowhere.
 ghost use Rattle.std.specs.Prelude.{◌≡◌, ◌+◌, ◌^◌, ◌<◌, ℕ, true, Some};
 ghost use Rattle.regress_meaning.specs.Meaning.{Forward as ahead};
-ghost use Rattle.regress_engine_code.specs.Instructions.{Stands, alt};
+ghost use Rattle.regress_engine_insn.specs.Instructions.{Stands, alt};
 ghost use Rattle.regress_engine_code.specs.Standing.{program_of};
 ghost use Rattle.regress_engine_input.specs.Views.{input_of, in_bytes, unit_beside};
 ghost use Rattle.regress_engine_sought.specs.Sought.{Suits};
@@ -9,7 +9,7 @@ ghost use Rattle.regress_engine_exec.specs.Trying.{IsWay};
 
 use crate::attempt::Attempt;
 use regress_engine_advance::{is_stuck_ahead, is_stuck_behind, next_byte};
-use regress_engine_code::Insn;
+use regress_engine_insn::Insn;
 use regress_engine_matchers::CharInput;
 
 impl<'a, Input: CharInput> Attempt<'a, Input> {

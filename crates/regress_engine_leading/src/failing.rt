@@ -2,7 +2,7 @@
 ghost use Rattle.std.specs.Prelude.{◌≡◌, ◌<◌, true, List, get_or, IfSome};
 ghost use Rattle.regress_meaning.specs.Meaning.{Forward as ahead};
 ghost use Rattle.regress_meaning.specs.Steps.{literal};
-ghost use Rattle.regress_engine_code.specs.InsnViews.{instruction};
+ghost use Rattle.regress_engine_insn.specs.InsnViews.{instruction};
 ghost use Rattle.regress_engine_code.specs.Standing.{program_of};
 ghost use Rattle.regress_engine_input.specs.Views.{are_bytes, input_of, reading_of, CanRead};
 ghost use Rattle.regress_engine_runs.specs.States.{Marks};
@@ -14,7 +14,8 @@ ghost use Rattle.regress_engine_singles.specs.Failing.{IsStuck};
 ghost use Rattle.regress_engine_singles.specs.Passed.{is_class};
 
 use regress_engine_advance::{ascii_bracket, bracket, bytes_beside, holds_at};
-use regress_engine_code::{CompiledRegex, Insn};
+use regress_engine_code::CompiledRegex;
+use regress_engine_insn::Insn;
 use regress_engine_matchers::CharInput;
 use regress_engine_singles::{is_class, is_edge};
 

@@ -1,6 +1,6 @@
 //! What a program begins with: a class and a run of characters, or what is asked of the place.
 ghost use Rattle.std.specs.Prelude.{◌≡◌, ◌<◌, ℕ, true, false, IfSome};
-ghost use Rattle.regress_engine_code.specs.Instructions.{Program, Stands, boundary, line_start};
+ghost use Rattle.regress_engine_insn.specs.Instructions.{Program, Stands, boundary, line_start};
 ghost use Rattle.regress_engine_code.specs.Standing.{program_of};
 ghost use Rattle.regress_engine_input.specs.Views.{View, reading_of};
 ghost use Rattle.regress_engine_runs.specs.Meets.{IsAtPlace};
@@ -10,7 +10,8 @@ ghost use Rattle.regress_engine_leading.specs.Known.{BeginsAt, IsKnown};
 
 use crate::failing::{class_ahead, fails};
 use regress_engine_advance::{beside, boundary, is_atomic, is_stuck, is_word, word_beside};
-use regress_engine_code::{CompiledRegex, Insn};
+use regress_engine_code::CompiledRegex;
+use regress_engine_insn::Insn;
 use regress_engine_matchers::{CharInput, CharProperties};
 use regress_engine_singles::{as_far_ahead, is_class, is_edge, takes_one};
 

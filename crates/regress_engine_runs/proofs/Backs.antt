@@ -14,9 +14,9 @@ use Rattle.regress_meaning.specs.Steps.{repeated, copied}
 use Rattle.regress_front_nodes.specs.Trees.{Tree}
 use Rattle.regress_front_nodes.specs.Trees as tree
 use Rattle.regress_front_nodes.specs.TreeMeaning.{node_outcomes, direction}
-use Rattle.regress_engine_code.specs.Instructions.{Program, Instruction, Stands}
-use Rattle.regress_engine_code.specs.Instructions as code
-use Rattle.regress_engine_code.specs.Layout.{Spot, next, Target}
+use Rattle.regress_engine_insn.specs.Instructions.{Program, Instruction, Stands}
+use Rattle.regress_engine_insn.specs.Instructions as code
+use Rattle.regress_engine_insn.specs.Layout.{Spot, next, Target}
 use Rattle.regress_engine_runs.specs.States.{Whole, unset, range_of, onward}
 use Rattle.regress_engine_runs.specs.Runs.{moved_to, successors}
 use Rattle.regress_engine_runs.specs.Meets.{AreAtPlaces}

@@ -15,9 +15,9 @@ use Rattle.regress_front_nodes.specs.Singles.{is_one_character}
 use Rattle.regress_front_nodes.specs.WellFormed.{AreCharacters}
 use Rattle.regress_front_nodes.specs.ByteInputs.{TellsBytes, placed}
 use Rattle.regress_front_nodes.specs.TreeMeaning.{bracket_has}
-use Rattle.regress_engine_code.specs.Instructions.{Instruction, Program}
-use Rattle.regress_engine_code.specs.Instructions as code
-use Rattle.regress_engine_code.proofs.LiteralLemmas.{one-character}
+use Rattle.regress_engine_insn.specs.Instructions.{Instruction, Program}
+use Rattle.regress_engine_insn.specs.Instructions as code
+use Rattle.regress_engine_insn.proofs.LiteralLemmas.{one-character}
 use Rattle.regress_engine_runs.specs.States.{Marks}
 use Rattle.regress_engine_runs.specs.Runs.{advance}
 use Rattle.regress_engine_runs.specs.Meets.{IsAtPlace}

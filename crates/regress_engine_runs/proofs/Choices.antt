@@ -1,7 +1,7 @@
 -- What a repetition may choose.
 use Rattle.std.specs.Prelude.{nat_lt, nat_le}
 use Rattle.std.proofs.Common.{◌≡◌, ℕ, [], ◌∷◌, Bool, true, false, refl}
-use Rattle.regress_engine_code.specs.Instructions.{LoopFields}
+use Rattle.regress_engine_insn.specs.Instructions.{LoopFields}
 use Rattle.regress_engine_runs.specs.States.{Whole}
 use Rattle.regress_engine_runs.specs.Runs.{count_of, one_more, ordered, choices}
 

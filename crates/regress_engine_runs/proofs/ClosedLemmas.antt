@@ -11,12 +11,12 @@ use Rattle.regress_front_nodes.specs.Pieces.{pieces_of}
 use Rattle.regress_front_nodes.specs.Singles.{takes_one}
 use Rattle.regress_front_nodes.specs.WellFormed.{AreLawful, AreNumbered, IsWellFormed, group_ids}
 use Rattle.regress_front_nodes.specs.TreeMeaning.{reads_backward}
-use Rattle.regress_engine_code.specs.Instructions.{Instruction, Program, Stands, StandFrom}
-use Rattle.regress_engine_code.specs.Instructions as code
-use Rattle.regress_engine_code.specs.Layout.{char_set_code, byte_set_code, Spot, next, later, Target, literal_code, pieces_code, string_code, resets, IsBracket, IsOne, AreAll, AreArms, Lies, IsLayout}
-use Rattle.regress_engine_code.proofs.LayoutLemmas.{at-same}
-use Rattle.regress_engine_code.proofs.LiteralLemmas.{one-character, literal-alone}
-use Rattle.regress_engine_code.proofs.TakingLemmas.{OfTaking, char_set-taking, byte_set-taking, literal-taking, pieces-taking}
+use Rattle.regress_engine_insn.specs.Instructions.{Instruction, Program, Stands, StandFrom}
+use Rattle.regress_engine_insn.specs.Instructions as code
+use Rattle.regress_engine_insn.specs.Layout.{char_set_code, byte_set_code, Spot, next, later, Target, literal_code, pieces_code, string_code, resets, IsBracket, IsOne, AreAll, AreArms, Lies, IsLayout}
+use Rattle.regress_engine_insn.proofs.LayoutLemmas.{at-same}
+use Rattle.regress_engine_insn.proofs.LiteralLemmas.{one-character, literal-alone}
+use Rattle.regress_engine_insn.proofs.TakingLemmas.{OfTaking, char_set-taking, byte_set-taking, literal-taking, pieces-taking}
 use Rattle.regress_engine_runs.specs.Closed.{takes_character, Fits, IsClosed}
 use Rattle.regress_engine_runs.proofs.Places.{occurs, Lies-rises}
 use Rattle.regress_engine_runs.proofs.Looks.{inside_one, outside_none}

@@ -4,9 +4,9 @@ use Rattle.regress_front_nodes.specs.Trees.{Tree}
 use Rattle.regress_front_nodes.specs.Trees as tree
 use Rattle.regress_front_nodes.specs.Sizes.{loops}
 use Rattle.regress_front_nodes.specs.TreeMeaning.{reads_backward}
-use Rattle.regress_engine_code.specs.Instructions.{Instruction}
-use Rattle.regress_engine_code.specs.Instructions as code
-use Rattle.regress_engine_code.specs.Layout.{char_set_code, byte_set_code, Target, resets, literal_code, string_code}
+use Rattle.regress_engine_insn.specs.Instructions.{Instruction}
+use Rattle.regress_engine_insn.specs.Instructions as code
+use Rattle.regress_engine_insn.specs.Layout.{char_set_code, byte_set_code, Target, resets, literal_code, string_code}
 
 -- whether two lists of intervals are the same
 unfoldable pub are_same : List (ℕ × ℕ) → List (ℕ × ℕ) → Bool

@@ -13,10 +13,10 @@ use Rattle.regress_front_nodes.specs.TreeMeaning.{reads_backward, node_outcomes,
 use Rattle.regress_front_nodes.specs.WellFormed.{AreLawful, goals}
 use Rattle.regress_front_nodes.specs.ByteInputs.{TellsBytes, placed}
 use Rattle.regress_front_nodes.specs.Singles.{takes_one}
-use Rattle.regress_engine_code.specs.Instructions.{LoopFields, Program, Instruction, Stands, StandFrom}
-use Rattle.regress_engine_code.specs.Instructions as code
-use Rattle.regress_engine_code.specs.Layout.{Spot, next, Target, Lies, IsBracket, literal_code, char_set_code, byte_set_code}
-use Rattle.regress_engine_code.proofs.LiteralLemmas.{one-character, literal-alone}
+use Rattle.regress_engine_insn.specs.Instructions.{LoopFields, Program, Instruction, Stands, StandFrom}
+use Rattle.regress_engine_insn.specs.Instructions as code
+use Rattle.regress_engine_insn.specs.Layout.{Spot, next, Target, Lies, IsBracket, literal_code, char_set_code, byte_set_code}
+use Rattle.regress_engine_insn.proofs.LiteralLemmas.{one-character, literal-alone}
 use Rattle.regress_engine_runs.specs.States.{Whole}
 use Rattle.regress_engine_runs.specs.Runs.{moved_to}
 use Rattle.regress_engine_runs.specs.Stand.{StandsFor, IsMadeFor}

@@ -6,7 +6,7 @@ use Rattle.std.proofs.lemmas.List.Elements.{All-head}
 use Rattle.regress_meaning.specs.Meaning.{Forward}
 use Rattle.regress_meaning.specs.Inputs.{Input}
 use Rattle.regress_meaning.specs.Matches.{Item}
-use Rattle.regress_engine_code.specs.Instructions.{Program}
+use Rattle.regress_engine_insn.specs.Instructions.{Program}
 use Rattle.regress_engine_runs.specs.Items.{Finds, Lists, found, later, nowhere, over, no_item, next_item, goes_on}
 use Rattle.regress_engine_runs.specs.UndoStack.{MovesOn}
 use Rattle.regress_engine_runs.proofs.ItemLemmas.{one_find}

@@ -11,9 +11,9 @@ use Rattle.regress_meaning.specs.Inputs.{Input, context_of}
 use Rattle.regress_front_nodes.specs.Trees.{Tree}
 use Rattle.regress_front_nodes.specs.Trees as tree
 use Rattle.regress_front_nodes.specs.TreeMeaning.{node_outcomes, direction}
-use Rattle.regress_engine_code.specs.Instructions.{Program, Instruction, Stands}
-use Rattle.regress_engine_code.specs.Instructions as code
-use Rattle.regress_engine_code.specs.Layout.{Spot, next, Target}
+use Rattle.regress_engine_insn.specs.Instructions.{Program, Instruction, Stands}
+use Rattle.regress_engine_insn.specs.Instructions as code
+use Rattle.regress_engine_insn.specs.Layout.{Spot, next, Target}
 use Rattle.regress_engine_runs.specs.States.{Whole, Marks, unset, range_of, begun, ended, onward}
 use Rattle.regress_engine_runs.specs.Stand.{StandsFor}
 use Rattle.regress_engine_runs.proofs.RunLemmas.{steps}

@@ -12,7 +12,7 @@ use Rattle.regress_front_nodes.specs.Trees.{Tree}
 use Rattle.regress_front_nodes.specs.TreeMeaning.{node_outcomes}
 use Rattle.regress_front_nodes.specs.NodeMatches.{node_attempt, node_first_match, node_match_list}
 use Rattle.regress_front_nodes.proofs.MatchLemmas.{first_match-found, first_match-more, first_match_past, matches_go, matches_end, attempt-is, first_match-from, first_match-inside}
-use Rattle.regress_engine_code.specs.Instructions.{Program}
+use Rattle.regress_engine_insn.specs.Instructions.{Program}
 use Rattle.regress_engine_runs.specs.States.{Marks, unset, range_of, Whole}
 use Rattle.regress_engine_runs.specs.Stand.{StandsFor, IsFirst, RunsAsTree}
 use Rattle.regress_engine_runs.specs.Items.{item_of, Answers, Finds, found, later, nowhere, goes_on, begins_at, Lists, over, no_item, next_item}

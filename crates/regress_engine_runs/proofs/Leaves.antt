@@ -9,8 +9,8 @@ use Rattle.regress_meaning.specs.Steps.{passed, only_if}
 use Rattle.regress_front_nodes.specs.Trees.{Tree}
 use Rattle.regress_front_nodes.specs.Trees as tree
 use Rattle.regress_front_nodes.specs.TreeMeaning.{node_outcomes, direction}
-use Rattle.regress_engine_code.specs.Instructions.{Instruction, Stands}
-use Rattle.regress_engine_code.specs.Layout.{Spot, next, Target, char_set_code, byte_set_code}
+use Rattle.regress_engine_insn.specs.Instructions.{Instruction, Stands}
+use Rattle.regress_engine_insn.specs.Layout.{Spot, next, Target, char_set_code, byte_set_code}
 use Rattle.regress_engine_runs.specs.States.{Whole, Marks, onward}
 use Rattle.regress_engine_runs.specs.Runs.{moved_to, successors}
 use Rattle.regress_engine_runs.specs.Stand.{StandsFor, AreOf}

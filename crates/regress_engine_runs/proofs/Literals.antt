@@ -16,9 +16,9 @@ use Rattle.regress_front_nodes.specs.WellFormed.{AreCharacters}
 use Rattle.regress_front_nodes.specs.Forms.{in_reading_order}
 use Rattle.regress_front_nodes.specs.ByteInputs.{TellsBytes, placed}
 use Rattle.regress_front_nodes.proofs.SequenceLemmas.{in_reading_order-map}
-use Rattle.regress_engine_code.specs.Instructions.{Program, Instruction, Stands, StandFrom}
-use Rattle.regress_engine_code.specs.Instructions as code
-use Rattle.regress_engine_code.specs.Layout.{Spot, Target, AreAll, chunks, most_bytes, literal_code}
+use Rattle.regress_engine_insn.specs.Instructions.{Program, Instruction, Stands, StandFrom}
+use Rattle.regress_engine_insn.specs.Instructions as code
+use Rattle.regress_engine_insn.specs.Layout.{Spot, Target, AreAll, chunks, most_bytes, literal_code}
 use Rattle.regress_engine_runs.specs.States.{Whole}
 use Rattle.regress_engine_runs.specs.Runs.{moved_to, successors}
 use Rattle.regress_engine_runs.specs.Meets.{reads_character, IsAtPlace}

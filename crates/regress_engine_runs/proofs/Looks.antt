@@ -9,9 +9,9 @@ use Rattle.regress_front_nodes.specs.Trees.{Submatch, lookaround, atomic, Tree}
 use Rattle.regress_front_nodes.specs.Trees as tree
 use Rattle.regress_front_nodes.specs.TreeMeaning.{submatch_direction, submatched, reads_backward, node_outcomes, direction}
 use Rattle.regress_front_nodes.specs.WellFormed.{group_ids, AreNumbered}
-use Rattle.regress_engine_code.specs.Instructions.{Program, Stands}
-use Rattle.regress_engine_code.specs.Instructions as code
-use Rattle.regress_engine_code.specs.Layout.{Spot, next, Target}
+use Rattle.regress_engine_insn.specs.Instructions.{Program, Stands}
+use Rattle.regress_engine_insn.specs.Instructions as code
+use Rattle.regress_engine_insn.specs.Layout.{Spot, next, Target}
 use Rattle.regress_engine_runs.specs.States.{Whole, Marks, unset, mixed, onward}
 use Rattle.regress_engine_runs.specs.Stand.{StandsFor}
 use Rattle.regress_engine_runs.proofs.SafeRuns.{SafeRuns, ends, finds}

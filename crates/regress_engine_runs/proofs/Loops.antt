@@ -12,9 +12,9 @@ use Rattle.regress_front_nodes.specs.Trees.{Tree}
 use Rattle.regress_front_nodes.specs.Trees as tree
 use Rattle.regress_front_nodes.specs.TreeMeaning.{node_outcomes, direction}
 use Rattle.regress_front_nodes.specs.WellFormed.{group_ids, AreNumbered}
-use Rattle.regress_engine_code.specs.Instructions.{LoopFields, Program, Instruction, Stands, StandFrom}
-use Rattle.regress_engine_code.specs.Instructions as code
-use Rattle.regress_engine_code.specs.Layout.{Spot, next, Target, resets}
+use Rattle.regress_engine_insn.specs.Instructions.{LoopFields, Program, Instruction, Stands, StandFrom}
+use Rattle.regress_engine_insn.specs.Instructions as code
+use Rattle.regress_engine_insn.specs.Layout.{Spot, next, Target, resets}
 use Rattle.regress_engine_runs.specs.States.{Whole, Marks, unset, range_of, onward}
 use Rattle.regress_engine_runs.specs.Runs.{ordered, count_of, one_more, choices, is_idle, fields_of, successors}
 use Rattle.regress_engine_runs.specs.Stand.{StandsFor, AreOf}

@@ -9,7 +9,7 @@ use Rattle.regress_front_nodes.specs.Trees as tree
 use Rattle.regress_front_nodes.specs.TreeMeaning.{reads_backward}
 use Rattle.regress_front_nodes.specs.WellFormed.{group_ids}
 use Rattle.regress_front_nodes.proofs.CountLemmas.{times, count-cons}
-use Rattle.regress_engine_code.specs.Layout.{Spot, next, Target, AreArms, Lies}
+use Rattle.regress_engine_insn.specs.Layout.{Spot, next, Target, AreArms, Lies}
 use Rattle.regress_engine_runs.specs.States.{Whole, Marks, unset}
 use Rattle.regress_engine_runs.specs.Stand.{StandsFor}
 

@@ -20,9 +20,9 @@ use Rattle.regress_meaning.specs.Steps.{copied}
 use Rattle.regress_front_nodes.specs.Trees.{Tree, cat_of, empty, any_in_line, char, cat, no_part, alt, capture, back, submatch, lookaround, atomic, loop, goal, line_start, line_end, bytes, char_set, string_set, single_loop, bracket, boundary}
 use Rattle.regress_front_nodes.specs.WellFormed.{IsWellFormed}
 use Rattle.regress_front_nodes.specs.Pieces.{pieces_of, expansion}
-use Rattle.regress_engine_code.specs.Instructions.{Program}
-use Rattle.regress_engine_code.specs.Layout.{Spot, Target, IsLayout}
-use Rattle.regress_engine_code.specs.Counts.{count}
+use Rattle.regress_engine_insn.specs.Instructions.{Program}
+use Rattle.regress_engine_insn.specs.Layout.{Spot, Target, IsLayout}
+use Rattle.regress_engine_insn.specs.Counts.{count}
 use Rattle.regress_engine_runs.specs.States.{Whole, range_of, first_state}
 use Rattle.regress_engine_runs.specs.Runs.{after_times, as_far, one_by_one, back_to}
 use Rattle.regress_engine_runs.specs.Computed.{run}

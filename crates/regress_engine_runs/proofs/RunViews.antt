@@ -3,8 +3,8 @@ use Rattle.std.proofs.Common.{◌≡◌, ℕ, suc, ◌+◌, true, false, List, [
 use Rattle.regress_meaning.specs.Meaning.{Direction}
 use Rattle.regress_meaning.specs.Inputs.{Input}
 use Rattle.regress_front_nodes.specs.TreeMeaning.{submatch_direction}
-use Rattle.regress_engine_code.specs.Instructions.{Instruction, Program, Stands}
-use Rattle.regress_engine_code.specs.Instructions as code
+use Rattle.regress_engine_insn.specs.Instructions.{Instruction, Program, Stands}
+use Rattle.regress_engine_insn.specs.Instructions as code
 use Rattle.regress_engine_runs.specs.States.{Whole, onward}
 use Rattle.regress_engine_runs.specs.Runs.{Run, ends, finds, goes, looks, successors, is_plain, after_submatch}
 

@@ -5,8 +5,8 @@ use Rattle.regress_meaning.specs.Offsets.{Reading}
 use Rattle.regress_meaning.specs.Inputs.{Input}
 use Rattle.regress_front_nodes.specs.TreeMeaning.{submatch_direction}
 use Rattle.regress_front_nodes.specs.Trees.{Submatch}
-use Rattle.regress_engine_code.specs.Instructions.{Instruction, Program, Stands}
-use Rattle.regress_engine_code.specs.Instructions as code
+use Rattle.regress_engine_insn.specs.Instructions.{Instruction, Program, Stands}
+use Rattle.regress_engine_insn.specs.Instructions as code
 use Rattle.regress_engine_runs.specs.States.{Whole, onward}
 use Rattle.regress_engine_runs.specs.Runs.{Run, successors, is_plain, after_submatch}
 use Rattle.regress_engine_runs.specs.Runs as run

@@ -4,8 +4,8 @@ use Rattle.regress_meaning.specs.Text.{holds}
 use Rattle.regress_meaning.specs.Meaning.{Direction}
 use Rattle.regress_meaning.specs.Inputs.{Input}
 use Rattle.regress_meaning.specs.Steps.{passed}
-use Rattle.regress_engine_code.specs.Instructions.{Instruction, Program}
-use Rattle.regress_engine_code.specs.Layout.{char_set_code, ascii_set_code, byte_set_code}
+use Rattle.regress_engine_insn.specs.Instructions.{Instruction, Program}
+use Rattle.regress_engine_insn.specs.Layout.{char_set_code, ascii_set_code, byte_set_code}
 use Rattle.regress_engine_runs.specs.States.{Whole, Marks}
 use Rattle.regress_engine_runs.specs.Runs.{moved_to, advance, successors}
 use Rattle.regress_engine_runs.proofs.RunLemmas.{is_unreferring}

@@ -19,8 +19,8 @@ use Rattle.regress_front_nodes.specs.Sizes.{size, loops}
 use Rattle.regress_front_nodes.specs.Pieces.{expansion, bytes_before, before, pieces_of}
 use Rattle.regress_front_nodes.specs.WellFormed.{AreCharacters, AreLawful, IsWellFormed}
 use Rattle.regress_front_nodes.proofs.PieceLemmas.{expansion-points, scalar-from}
-use Rattle.regress_engine_code.specs.Counts.{literal_count, piece_count, string_count, count}
-use Rattle.regress_engine_code.proofs.StringLemmas.{IsPiece, all-pieces}
+use Rattle.regress_engine_insn.specs.Counts.{literal_count, piece_count, string_count, count}
+use Rattle.regress_engine_insn.proofs.StringLemmas.{IsPiece, all-pieces}
 use Rattle.regress_engine_runs.proofs.Places.{occurs}
 use Rattle.regress_engine_runs.proofs.Looks.{inside_one, outside_none}
 use Rattle.regress_engine_runs.proofs.Loops.{within-true, within-false}

@@ -13,11 +13,11 @@ use Rattle.regress_front_nodes.specs.Forms.{in_reading_order}
 use Rattle.regress_front_nodes.specs.Pieces.{pieces_of}
 use Rattle.regress_front_nodes.specs.ByteInputs.{TellsBytes}
 use Rattle.regress_front_nodes.proofs.PieceOutcomes.{pieces-outcomes, back-outcomes}
-use Rattle.regress_engine_code.specs.Instructions.{Program, Instruction, Stands, StandFrom}
-use Rattle.regress_engine_code.specs.Instructions as code
-use Rattle.regress_engine_code.specs.Layout.{Spot, next, later, Target, AreAll, AreArms, piece_code, pieces_code}
-use Rattle.regress_engine_code.proofs.StringLemmas.{IsPiece, all-pieces, ordered-pieces}
-use Rattle.regress_engine_code.proofs.LayoutLemmas.{stand-parts}
+use Rattle.regress_engine_insn.specs.Instructions.{Program, Instruction, Stands, StandFrom}
+use Rattle.regress_engine_insn.specs.Instructions as code
+use Rattle.regress_engine_insn.specs.Layout.{Spot, next, later, Target, AreAll, AreArms, piece_code, pieces_code}
+use Rattle.regress_engine_insn.proofs.StringLemmas.{IsPiece, all-pieces, ordered-pieces}
+use Rattle.regress_engine_insn.proofs.LayoutLemmas.{stand-parts}
 use Rattle.regress_engine_runs.specs.States.{Whole}
 use Rattle.regress_engine_runs.specs.Stand.{IsMadeFor}
 use Rattle.regress_engine_runs.proofs.RunLemmas.{steps}

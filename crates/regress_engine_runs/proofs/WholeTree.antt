@@ -14,9 +14,9 @@ use Rattle.regress_front_nodes.specs.TreeMeaning.{node_outcomes, direction}
 use Rattle.regress_front_nodes.specs.WellFormed.{AreLawful, AreNumbered, IsWellFormed, goals, last_part, group_ids}
 use Rattle.regress_front_nodes.specs.ByteInputs.{TellsBytes}
 use Rattle.regress_front_nodes.proofs.StepLemmas.{flat_map-self}
-use Rattle.regress_engine_code.specs.Instructions.{Program, Stands}
-use Rattle.regress_engine_code.specs.Instructions as code
-use Rattle.regress_engine_code.specs.Layout.{Spot, Target, Lies, IsLayout}
+use Rattle.regress_engine_insn.specs.Instructions.{Program, Stands}
+use Rattle.regress_engine_insn.specs.Instructions as code
+use Rattle.regress_engine_insn.specs.Layout.{Spot, Target, Lies, IsLayout}
 use Rattle.regress_engine_runs.specs.States.{Whole, unset, range_of, first_state}
 use Rattle.regress_engine_runs.specs.Stand.{StandsFor, IsMadeFor, IsFirst, RunsAsTree}
 use Rattle.regress_engine_runs.proofs.SafeRuns.{SafeRuns, safe-run, ends, finds}

@@ -1,8 +1,8 @@
 -- Programs in which is what their instructions name.
 use Rattle.std.specs.Prelude.{◌≡◌, ℕ, suc, ◌<◌, ◌≤◌, Bool, true, false, length}
 use Rattle.regress_front_nodes.specs.Singles.{is_one_character}
-use Rattle.regress_engine_code.specs.Instructions.{LoopFields, Instruction, Program, Stands}
-use Rattle.regress_engine_code.specs.Instructions as code
+use Rattle.regress_engine_insn.specs.Instructions.{LoopFields, Instruction, Program, Stands}
+use Rattle.regress_engine_insn.specs.Instructions as code
 
 -- by itself an instruction takes one character
 abbrev pub takes_character : Instruction → Bool

@@ -5,8 +5,8 @@ use Rattle.regress_meaning.specs.Offsets.{Reading, offset}
 use Rattle.regress_meaning.specs.Inputs.{Input}
 use Rattle.regress_front_nodes.specs.TreeMeaning.{submatch_direction}
 use Rattle.regress_front_nodes.specs.Trees.{Submatch}
-use Rattle.regress_engine_code.specs.Instructions.{Instruction, Program, Stands}
-use Rattle.regress_engine_code.specs.Instructions as code
+use Rattle.regress_engine_insn.specs.Instructions.{Instruction, Program, Stands}
+use Rattle.regress_engine_insn.specs.Instructions as code
 use Rattle.regress_engine_runs.specs.States.{Whole, unset, range_of, onward, first_state}
 use Rattle.regress_engine_runs.specs.Runs.{is_plain, successors, after_submatch, Runs}
 

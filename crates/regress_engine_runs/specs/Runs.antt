@@ -7,8 +7,8 @@ use Rattle.regress_meaning.specs.Inputs.{Input}
 use Rattle.regress_meaning.specs.Steps.{passed, only_if, literal, repeated, begins_line, ends_line, at_boundary}
 use Rattle.regress_front_nodes.specs.TreeMeaning.{submatch_direction, bracket_has}
 use Rattle.regress_front_nodes.specs.Trees.{Submatch, lookaround, atomic}
-use Rattle.regress_engine_code.specs.Instructions.{LoopFields, Instruction, Program, Stands}
-use Rattle.regress_engine_code.specs.Instructions as code
+use Rattle.regress_engine_insn.specs.Instructions.{LoopFields, Instruction, Program, Stands}
+use Rattle.regress_engine_insn.specs.Instructions as code
 use Rattle.regress_engine_runs.specs.States.{Marks, unset, range_of, Whole, onward, begun, ended, mixed}
 
 -- What follows a lookaround in a state, by the answer of its contents: negated, the state goes on where there is none; else

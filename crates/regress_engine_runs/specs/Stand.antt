@@ -6,8 +6,8 @@ use Rattle.regress_meaning.specs.Laws.{IsInside}
 use Rattle.regress_meaning.specs.Inputs.{Input, context_of}
 use Rattle.regress_front_nodes.specs.Trees.{Tree}
 use Rattle.regress_front_nodes.specs.TreeMeaning.{node_outcomes}
-use Rattle.regress_engine_code.specs.Instructions.{Program}
-use Rattle.regress_engine_code.specs.Layout.{Target}
+use Rattle.regress_engine_insn.specs.Instructions.{Program}
+use Rattle.regress_engine_insn.specs.Layout.{Target}
 use Rattle.regress_engine_runs.specs.States.{Marks, unset, range_of, Whole, first_state}
 use Rattle.regress_engine_runs.specs.Runs.{Runs}
 

@@ -1,7 +1,7 @@
 -- The states that a program goes through.
 use Rattle.std.specs.Prelude.{ℕ, suc, ◌+◌, ◌&&◌, List, [], ◌∷◌, Option, Some, None, if◌then◌else◌, replicate, nat_lt, nat_le}
 use Rattle.regress_meaning.specs.Meaning.{Direction, Forward, Backward}
-use Rattle.regress_engine_code.specs.Instructions.{Program}
+use Rattle.regress_engine_insn.specs.Instructions.{Program}
 
 -- the marks of a group: where its range begins and where it ends, as far as either is known
 abbrev pub Marks : Type 0

@@ -9,7 +9,7 @@ use Rattle.std.proofs.lemmas.Option.{slice_get-get_or}
 use Rattle.regress_meaning.specs.Text.{same_text, holds, between}
 use Rattle.regress_front_sets.proofs.IntervalLemmas.{between_cases}
 use Rattle.regress_front_bytes.specs.ByteSets.{members}
-use Rattle.regress_engine_code.proofs.BitmapLemmas.{holds-members}
+use Rattle.regress_engine_insn.proofs.BitmapLemmas.{holds-members}
 use Rattle.regress_meaning.specs.Meaning.{Forward}
 use Rattle.regress_meaning.specs.Table.{Table}
 use Rattle.regress_meaning.specs.Inputs.{Input, onto_right, bytes_right, byte_at}
@@ -17,8 +17,8 @@ use Rattle.regress_meaning.specs.Steps.{passed, literal}
 use Rattle.regress_engine_input.specs.Views.{View, Kind, utf8, ascii, utf16, ucs2, AreOfKind, are_bytes, input_of, input_of_kind, reading_of, in_bytes, unit_beside}
 use Rattle.regress_engine_input.proofs.Standing.{right-split}
 use Rattle.regress_engine_matchers.proofs.ByteLemmas.{in-bytes}
-use Rattle.regress_engine_code.specs.Instructions.{Instruction, Program}
-use Rattle.regress_engine_code.specs.Instructions as code
+use Rattle.regress_engine_insn.specs.Instructions.{Instruction, Program}
+use Rattle.regress_engine_insn.specs.Instructions as code
 use Rattle.regress_engine_runs.specs.States.{Marks}
 use Rattle.regress_engine_runs.specs.Runs.{advance}
 use Rattle.regress_engine_runs.specs.Meets.{IsAtPlace}

@@ -9,8 +9,8 @@ use Rattle.regress_meaning.specs.Inputs.{Tells, point_told}
 use Rattle.regress_meaning.specs.Steps.{point, at_boundary}
 use Rattle.regress_engine_input.specs.Views.{View, Kind, utf8, ascii, utf16, ucs2, AreOfKind, input_of, input_of_kind, reading_of}
 use Rattle.regress_engine_input.proofs.KindLemmas.{tells}
-use Rattle.regress_engine_code.specs.Instructions.{Program, Stands}
-use Rattle.regress_engine_code.specs.Instructions as code
+use Rattle.regress_engine_insn.specs.Instructions.{Program, Stands}
+use Rattle.regress_engine_insn.specs.Instructions as code
 use Rattle.regress_engine_runs.specs.Meets.{IsAtPlace}
 use Rattle.regress_engine_sought.proofs.PlaceLemmas.{moves, next-place}
 use Rattle.regress_engine_singles.specs.Failing.{IsStuck}

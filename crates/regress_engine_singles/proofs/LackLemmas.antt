@@ -10,8 +10,8 @@ use Rattle.regress_front_nodes.specs.TreeMeaning.{bracket_has}
 use Rattle.regress_front_nodes.specs.Trees.{atomic}
 use Rattle.regress_engine_input.specs.Views.{View, are_bytes, input_of, in_bytes, unit_beside}
 use Rattle.regress_engine_matchers.proofs.ByteLemmas.{in-bytes}
-use Rattle.regress_engine_code.specs.Instructions.{LoopFields, Instruction, Program, Stands}
-use Rattle.regress_engine_code.specs.Instructions as code
+use Rattle.regress_engine_insn.specs.Instructions.{LoopFields, Instruction, Program, Stands}
+use Rattle.regress_engine_insn.specs.Instructions as code
 use Rattle.regress_engine_runs.specs.States.{Marks}
 use Rattle.regress_engine_runs.specs.Runs.{advance}
 use Rattle.regress_engine_runs.specs.Closed.{takes_character}

@@ -7,8 +7,8 @@ use Rattle.regress_meaning.specs.Inputs.{Input}
 use Rattle.regress_meaning.specs.Steps.{passed}
 use Rattle.regress_front_nodes.specs.TreeMeaning.{bracket_has}
 use Rattle.regress_engine_input.specs.Views.{View, AreOfKind, input_of, reading_of}
-use Rattle.regress_engine_code.specs.Instructions.{Instruction, Program, Stands}
-use Rattle.regress_engine_code.specs.Instructions as code
+use Rattle.regress_engine_insn.specs.Instructions.{Instruction, Program, Stands}
+use Rattle.regress_engine_insn.specs.Instructions as code
 use Rattle.regress_engine_runs.specs.States.{Marks, Whole, first_state}
 use Rattle.regress_engine_runs.specs.Runs.{moved_to, advance, after_times, as_far, given_back}
 use Rattle.regress_engine_runs.specs.Meets.{IsAtPlace}

@@ -4,8 +4,8 @@ use Rattle.std.proofs.Common.{◌≡◌, ℕ, Bool, true, false, not, Option, So
 use Rattle.regress_meaning.specs.Meaning.{Forward, Backward, is_line_end, is_some_and}
 use Rattle.regress_meaning.specs.Steps.{point, begins_line}
 use Rattle.regress_engine_input.specs.Views.{View, AreOfKind, input_of, reading_of}
-use Rattle.regress_engine_code.specs.Instructions.{Program, Stands}
-use Rattle.regress_engine_code.specs.Instructions as code
+use Rattle.regress_engine_insn.specs.Instructions.{Program, Stands}
+use Rattle.regress_engine_insn.specs.Instructions as code
 use Rattle.regress_engine_runs.specs.Meets.{IsAtPlace}
 use Rattle.regress_engine_sought.proofs.PlaceLemmas.{moves, next-place}
 use Rattle.regress_engine_singles.specs.Failing.{IsStuck}

@@ -9,8 +9,8 @@ use Rattle.regress_engine_matchers.proofs.ViewLemmas.{view_reads}
 use Rattle.std.proofs.lemmas.Bool.{cases_lt}
 use Rattle.regress_meaning.specs.Text.{holds}
 use Rattle.regress_front_bytes.specs.ByteSets.{members}
-use Rattle.regress_engine_code.specs.Instructions.{Instruction, Program}
-use Rattle.regress_engine_code.proofs.BitmapLemmas.{holds-members}
+use Rattle.regress_engine_insn.specs.Instructions.{Instruction, Program}
+use Rattle.regress_engine_insn.proofs.BitmapLemmas.{holds-members}
 use Rattle.regress_engine_runs.specs.States.{Marks}
 use Rattle.regress_engine_runs.specs.Runs.{advance, after_times, as_far as taken_far}
 use Rattle.regress_engine_singles.specs.declared.taken.Taken.{Taken}

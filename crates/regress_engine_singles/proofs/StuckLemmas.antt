@@ -6,8 +6,8 @@ use Rattle.std.proofs.lemmas.List.{get_or_past}
 use Rattle.regress_meaning.specs.Meaning.{Direction, Forward, Backward}
 use Rattle.regress_meaning.specs.Inputs.{Input}
 use Rattle.regress_front_nodes.specs.Trees.{atomic}
-use Rattle.regress_engine_code.specs.Instructions.{LoopFields, Instruction, Program, Stands}
-use Rattle.regress_engine_code.specs.Instructions as code
+use Rattle.regress_engine_insn.specs.Instructions.{LoopFields, Instruction, Program, Stands}
+use Rattle.regress_engine_insn.specs.Instructions as code
 use Rattle.regress_engine_runs.specs.States.{Marks, Whole, unset, begun, ended}
 use Rattle.regress_engine_runs.specs.Runs.{successors, moved_to, ordered, one_more, count_of, gap, advance, as_far, one_by_one, given_back, counted}
 use Rattle.regress_engine_runs.specs.UndoStack.{Work, whole, at_each}

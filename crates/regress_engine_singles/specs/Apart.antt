@@ -2,7 +2,7 @@
 use Rattle.std.specs.Prelude.{◌≡◌, ℕ, List, Some}
 use Rattle.regress_meaning.specs.Meaning.{Forward}
 use Rattle.regress_meaning.specs.Inputs.{Input}
-use Rattle.regress_engine_code.specs.Instructions.{Instruction, Program}
+use Rattle.regress_engine_insn.specs.Instructions.{Instruction, Program}
 use Rattle.regress_engine_runs.specs.States.{Marks}
 use Rattle.regress_engine_runs.specs.Runs.{advance}
 use Rattle.regress_engine_singles.specs.Failing.{TakesNothing}

@@ -3,8 +3,8 @@ use Rattle.std.specs.Prelude.{◌≡◌, ℕ, ◌<◌, ◌≤◌, Bool, true, fa
 use Rattle.regress_meaning.specs.Meaning.{Forward, Backward, word_at}
 use Rattle.regress_meaning.specs.Steps.{point}
 use Rattle.regress_engine_input.specs.Views.{View, input_of, reading_of}
-use Rattle.regress_engine_code.specs.Instructions.{Instruction, Program}
-use Rattle.regress_engine_code.specs.Instructions as code
+use Rattle.regress_engine_insn.specs.Instructions.{Instruction, Program}
+use Rattle.regress_engine_insn.specs.Instructions as code
 use Rattle.regress_engine_runs.specs.Meets.{IsAtPlace}
 use Rattle.regress_engine_sought.proofs.SearchLemmas.{FindsOn}
 use Rattle.regress_engine_singles.specs.Failing.{IsStuck}

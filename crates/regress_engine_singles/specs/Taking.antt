@@ -1,7 +1,7 @@
 -- What an instruction takes: bytes, a character, or nothing.
 use Rattle.std.specs.Prelude.{Bool, true, false}
-use Rattle.regress_engine_code.specs.Instructions.{Instruction}
-use Rattle.regress_engine_code.specs.Instructions as code
+use Rattle.regress_engine_insn.specs.Instructions.{Instruction}
+use Rattle.regress_engine_insn.specs.Instructions as code
 use Rattle.regress_engine_runs.specs.Closed.{takes_character}
 use Rattle.regress_engine_singles.specs.Passed.{is_class}
 

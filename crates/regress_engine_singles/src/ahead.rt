@@ -2,7 +2,7 @@
 ghost use Rattle.std.specs.Prelude.{◌≡◌, ℕ, List, IfSome};
 ghost use Rattle.regress_meaning.specs.Meaning.{Forward as ahead};
 ghost use Rattle.regress_engine_input.specs.Views.{input_of, CanRead};
-ghost use Rattle.regress_engine_code.specs.InsnViews.{instruction};
+ghost use Rattle.regress_engine_insn.specs.InsnViews.{instruction};
 ghost use Rattle.regress_engine_code.specs.Standing.{program_of};
 ghost use Rattle.regress_engine_runs.specs.States.{Marks};
 ghost use Rattle.regress_engine_runs.specs.Runs.{after_times, as_far};
@@ -11,8 +11,9 @@ ghost use Rattle.regress_engine_runs.specs.Closed.{Fits};
 use crate::class::ScannedBracket;
 use crate::far::as_far;
 use crate::stops::as_far_searched;
-use regress_engine_code::{CompiledRegex, Insn};
+use regress_engine_code::CompiledRegex;
 use regress_engine_input::{Direction, Forward};
+use regress_engine_insn::Insn;
 use regress_engine_matchers::{CharInput, MatchAny, MatchAnyExceptLineTerminator, MatchByteSet};
 use regress_front_bytes::ascii_bitmap_holds_ascii;
 

@@ -7,14 +7,15 @@ ghost use Rattle.regress_front_bytes.specs.Bitmaps.{ascii_bitmap_contains};
 ghost use Rattle.regress_front_sets.specs.Intervals.{ends_of, in_interval};
 ghost use Rattle.regress_front_nodes.specs.TreeMeaning.{bracket_has};
 ghost use Rattle.regress_engine_input.specs.Views.{View, are_bytes, input_of};
-ghost use Rattle.regress_engine_code.specs.Instructions.{byte_seq};
-ghost use Rattle.regress_engine_code.specs.InsnViews.{instruction};
+ghost use Rattle.regress_engine_insn.specs.Instructions.{byte_seq};
+ghost use Rattle.regress_engine_insn.specs.InsnViews.{instruction};
 ghost use Rattle.regress_engine_code.specs.Standing.{program_of};
 ghost use Rattle.regress_engine_runs.specs.Closed.{Fits};
 ghost use Rattle.regress_engine_singles.specs.Apart.{AreApart};
 
 use crate::class::ScannedBracket;
-use regress_engine_code::{CompiledRegex, Insn};
+use regress_engine_code::CompiledRegex;
+use regress_engine_insn::Insn;
 use regress_front_bytes::{AsciiBitmap, ByteSet, ascii_bitmap_holds_ascii};
 use regress_front_nodes::BracketContents;
 use regress_front_sets::Interval;

@@ -3,7 +3,7 @@ ghost use Rattle.std.specs.Prelude.{◌≡◌, ℕ, true, List, None, MatchOptio
 ghost use Rattle.regress_meaning.specs.Meaning.{Forward as ahead};
 ghost use Rattle.regress_meaning.specs.Steps.{passed};
 ghost use Rattle.regress_engine_input.specs.Views.{input_of, CanRead};
-ghost use Rattle.regress_engine_code.specs.InsnViews.{instruction};
+ghost use Rattle.regress_engine_insn.specs.InsnViews.{instruction};
 ghost use Rattle.regress_engine_code.specs.Standing.{program_of};
 ghost use Rattle.regress_engine_runs.specs.States.{Marks};
 ghost use Rattle.regress_engine_runs.specs.Runs.{advance, after_times};
@@ -14,8 +14,9 @@ ghost use Rattle.regress_engine_singles.specs.Passing.{after, IsBegun, IsTaken};
 use crate::ascii::{AllBut, ByteMatcher, ascii_end, passed_ahead};
 use crate::class::ScannedBracket;
 use crate::stops::all_but;
-use regress_engine_code::{CompiledRegex, Insn};
+use regress_engine_code::CompiledRegex;
 use regress_engine_input::InputIndexer;
+use regress_engine_insn::Insn;
 use regress_engine_matchers::{CharInput, MatchByteSet};
 use regress_front_bytes::ascii_bitmap_holds_ascii;
 

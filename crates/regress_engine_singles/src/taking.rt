@@ -1,11 +1,11 @@
 //! What an instruction takes.
 ghost use Rattle.std.specs.Prelude.{◌≡◌, ℕ, true, List, ◌∷◌, slice_get, IfSome};
-ghost use Rattle.regress_engine_code.specs.Instructions.{byte_seq, bytes_in};
-ghost use Rattle.regress_engine_code.specs.InsnViews.{instruction};
+ghost use Rattle.regress_engine_insn.specs.Instructions.{byte_seq, bytes_in};
+ghost use Rattle.regress_engine_insn.specs.InsnViews.{instruction};
 ghost use Rattle.regress_engine_singles.specs.Passed.{is_class};
 ghost use Rattle.regress_engine_singles.specs.Taking.{is_edge, is_taking, takes_one, takes_some};
 
-use regress_engine_code::{Insn, bytes_of};
+use regress_engine_insn::{Insn, bytes_of};
 
 /// The first of some bytes, where there is one.
 #[inline]

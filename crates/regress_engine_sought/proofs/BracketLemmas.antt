@@ -6,7 +6,7 @@ use Rattle.std.proofs.lemmas.List.{length-map}
 use Rattle.regress_meaning.specs.Steps.{passed}
 use Rattle.regress_front_nodes.specs.declared.node.BracketContents.{BracketContents}
 use Rattle.regress_front_nodes.specs.TreeMeaning.{bracket_has}
-use Rattle.regress_engine_code.specs.Written.{bracket_ends}
+use Rattle.regress_engine_insn.specs.ProgramViews.{bracket_ends}
 
 -- what a bracket of a program takes
 pub bracket_takes : (found : Option (ℕ × ℕ)) (contents : List BracketContents) (k : ℕ) (b : BracketContents) → k < length (map bracket_ends contents) → b ≡ get_or contents k b

@@ -13,9 +13,9 @@ use Rattle.regress_engine_input.specs.Views.{View, AreOfKind, are_bytes, input_o
 use Rattle.regress_engine_input.proofs.KindLemmas.{tells}
 use Rattle.regress_engine_matchers.proofs.ByteLemmas.{in-bytes}
 use Rattle.regress_engine_matchers.proofs.SequenceLemmas.{sees_sequence}
-use Rattle.regress_engine_code.specs.Instructions.{Instruction, Program, Stands}
-use Rattle.regress_engine_code.specs.Instructions as code
-use Rattle.regress_engine_code.proofs.LiteralLemmas.{one-character}
+use Rattle.regress_engine_insn.specs.Instructions.{Instruction, Program, Stands}
+use Rattle.regress_engine_insn.specs.Instructions as code
+use Rattle.regress_engine_insn.proofs.LiteralLemmas.{one-character}
 use Rattle.regress_engine_runs.specs.States.{Marks}
 use Rattle.regress_engine_runs.specs.Runs.{advance, as_far, one_by_one, given_back}
 use Rattle.regress_engine_runs.specs.Closed.{Fits, takes_character}

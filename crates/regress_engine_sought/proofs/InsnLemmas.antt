@@ -6,12 +6,12 @@ use Rattle.regress_meaning.specs.Meaning.{Direction}
 use Rattle.regress_meaning.specs.Inputs.{Input}
 use Rattle.regress_front_nodes.specs.TreeMeaning.{direction}
 use Rattle.regress_engine_input.specs.Views.{way}
-use Rattle.regress_engine_code.specs.Instructions.{Instruction, Program, Stands}
-use Rattle.regress_engine_code.specs.Instructions as code
-use Rattle.regress_engine_code.specs.InsnViews.{instruction}
-use Rattle.regress_engine_code.specs.declared.insn.Insn.{Insn}
-use Rattle.regress_engine_code.specs.declared.insn.Insn.TheVariants.{EnterLoop}
-use Rattle.regress_engine_code.specs.declared.insn.LoopFields as insn
+use Rattle.regress_engine_insn.specs.Instructions.{Instruction, Program, Stands}
+use Rattle.regress_engine_insn.specs.Instructions as code
+use Rattle.regress_engine_insn.specs.InsnViews.{instruction}
+use Rattle.regress_engine_insn.specs.declared.insn.Insn.{Insn}
+use Rattle.regress_engine_insn.specs.declared.insn.Insn.TheVariants.{EnterLoop}
+use Rattle.regress_engine_insn.specs.declared.insn.LoopFields as insn
 use Rattle.regress_engine_runs.specs.States.{Whole}
 use Rattle.regress_engine_runs.specs.Runs.{successors, is_plain, moved_to, advance, is_idle, choices, fields_of, against, counted}
 use Rattle.regress_engine_runs.specs.UndoStack.{at_each}

@@ -22,9 +22,9 @@ use Rattle.regress_front_bytes.proofs.TextLemmas.{offset-le}
 use Rattle.regress_match.proofs.TakenLemmas.{of_groups}
 use Rattle.regress_engine_input.specs.Views.{View, Kind, utf8, ascii, utf16, ucs2, are_bytes, input_of_kind, AreOfKind, input_of, reading_of, reading_of_kind}
 use Rattle.regress_engine_input.proofs.KindLemmas.{tells, tells_bytes, end}
-use Rattle.regress_engine_code.specs.Instructions.{Program}
+use Rattle.regress_engine_insn.specs.Instructions.{Program}
 use Rattle.regress_engine_code.specs.Standing.{program_of, target_of}
-use Rattle.regress_engine_code.specs.Layout.{IsLayout}
+use Rattle.regress_engine_insn.specs.Layout.{IsLayout}
 use Rattle.regress_engine_runs.specs.States.{Whole}
 use Rattle.regress_engine_runs.specs.Items.{item_of as item_of_answer, Answers, Finds, Lists, over, no_item, next_item, goes_on, begins_at}
 use Rattle.regress_engine_runs.specs.Meets.{IsAtPlace, AreAtPlaces}

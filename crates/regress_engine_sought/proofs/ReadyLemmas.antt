@@ -4,8 +4,8 @@ use Rattle.regress_meaning.specs.Meaning.{Direction, Forward, Backward, same}
 use Rattle.regress_meaning.specs.Steps.{copied, repeated, only_if}
 use Rattle.regress_engine_input.specs.Views.{View, AreOfKind, CanRead, LiesIn, input_of, reading_of}
 use Rattle.regress_engine_input.proofs.KindLemmas.{tells, tells_bytes}
-use Rattle.regress_engine_code.specs.Instructions.{Instruction, Program, Stands}
-use Rattle.regress_engine_code.specs.Instructions as code
+use Rattle.regress_engine_insn.specs.Instructions.{Instruction, Program, Stands}
+use Rattle.regress_engine_insn.specs.Instructions as code
 use Rattle.regress_engine_runs.specs.States.{Marks, Whole}
 use Rattle.regress_engine_runs.specs.Runs.{advance}
 use Rattle.regress_engine_runs.specs.Meets.{IsAtPlace, reads_character, ReadsPlaces}

@@ -7,7 +7,7 @@ use Rattle.regress_meaning.specs.Matches.{Item}
 use Rattle.regress_match.specs.declared.found.Match.{Match}
 use Rattle.regress_match.specs.Iterating.{coming_on}
 use Rattle.regress_match.specs.Views.{item_of}
-use Rattle.regress_engine_code.specs.Instructions.{Program}
+use Rattle.regress_engine_insn.specs.Instructions.{Program}
 use Rattle.regress_engine_code.specs.Standing.{program_of}
 use Rattle.regress_engine_runs.specs.Items.{item_of as item_of_answer}
 use Rattle.regress_engine_runs.proofs.ItemLemmas.{one_answer}

@@ -20,8 +20,8 @@ use Rattle.regress_front_nodes.specs.ByteInputs.{TellsBytes}
 use Rattle.regress_front_nodes.proofs.MatchLemmas.{matches_lie}
 use Rattle.regress_engine_input.specs.Views.{View, AreOfKind, are_bytes, input_of, reading_of}
 use Rattle.regress_engine_input.proofs.KindLemmas.{tells, tells_bytes}
-use Rattle.regress_engine_code.specs.Instructions.{Program}
-use Rattle.regress_engine_code.specs.Layout.{Target, IsLayout}
+use Rattle.regress_engine_insn.specs.Instructions.{Program}
+use Rattle.regress_engine_insn.specs.Layout.{Target, IsLayout}
 use Rattle.regress_engine_runs.specs.States.{Marks, Whole, range_of, first_state}
 use Rattle.regress_engine_runs.specs.Computed.{IsComputed}
 use Rattle.regress_engine_runs.specs.Items.{Finds, found, later, nowhere, item_of}

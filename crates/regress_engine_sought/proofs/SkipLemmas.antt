@@ -22,8 +22,8 @@ use Rattle.regress_engine_input.proofs.UnitTexts.{single_offset}
 use Rattle.regress_engine_prefix.specs.Starts.{BeginsAs, is_arbitrary, tells_bytes, HoldsAtStart, HitsBoundaries, Serves}
 use Rattle.regress_engine_prefix.specs.declared.start.StartPredicate.{StartPredicate}
 use Rattle.regress_engine_prefix.specs.declared.start.StartPredicate.TheVariants.{Arbitrary, ByteSet1, ByteSet2, ByteSet3, ByteSeq, ByteBracket, StartAnchored}
-use Rattle.regress_engine_code.specs.Instructions.{Program}
-use Rattle.regress_engine_code.specs.Layout.{Target, IsLayout}
+use Rattle.regress_engine_insn.specs.Instructions.{Program}
+use Rattle.regress_engine_insn.specs.Layout.{Target, IsLayout}
 use Rattle.regress_engine_runs.specs.States.{Whole, first_state}
 use Rattle.regress_engine_runs.specs.Stand.{IsMadeFor, IsFirst}
 use Rattle.regress_engine_runs.specs.Items.{Answers, Finds, nowhere}

@@ -4,8 +4,8 @@ use Rattle.regress_meaning.specs.Meaning.{Direction, Forward}
 use Rattle.regress_meaning.specs.Inputs.{Input}
 use Rattle.regress_front_nodes.specs.TreeMeaning.{submatch_direction}
 use Rattle.regress_engine_input.specs.Views.{View, input_of, reading_of}
-use Rattle.regress_engine_code.specs.Instructions.{Instruction, Program, Stands}
-use Rattle.regress_engine_code.specs.Instructions as code
+use Rattle.regress_engine_insn.specs.Instructions.{Instruction, Program, Stands}
+use Rattle.regress_engine_insn.specs.Instructions as code
 use Rattle.regress_engine_runs.specs.States.{Whole, Marks, onward, first_state}
 use Rattle.regress_engine_runs.specs.Computed.{IsComputed}
 use Rattle.regress_engine_runs.specs.Runs.{Run, successors, is_plain, after_submatch}

@@ -1,8 +1,8 @@
 -- When what an instruction reads is there.
 use Rattle.std.specs.Prelude.{◌≡◌, ℕ, ◌-◌, ◌<◌, Bool, true, false, List, [], length}
 use Rattle.regress_engine_input.specs.Views.{View, reading_of}
-use Rattle.regress_engine_code.specs.Instructions.{Instruction, Program, Stands}
-use Rattle.regress_engine_code.specs.Instructions as code
+use Rattle.regress_engine_insn.specs.Instructions.{Instruction, Program, Stands}
+use Rattle.regress_engine_insn.specs.Instructions as code
 use Rattle.regress_engine_runs.specs.States.{Marks}
 use Rattle.regress_engine_runs.specs.Meets.{reads_character, IsAtPlace, ReadsPlaces}
 use Rattle.regress_engine_runs.specs.Closed.{Fits, takes_character}

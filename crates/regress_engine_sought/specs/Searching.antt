@@ -13,7 +13,7 @@ use Rattle.regress_match.specs.declared.found.Match.{Match}
 use Rattle.regress_match.specs.Iterating.{coming_on}
 use Rattle.regress_match.specs.TextRanges.{IsMatchIn}
 use Rattle.regress_engine_code.specs.declared.compiled.CompiledRegex.{CompiledRegex}
-use Rattle.regress_engine_code.specs.Layout.{IsLayout}
+use Rattle.regress_engine_insn.specs.Layout.{IsLayout}
 use Rattle.regress_engine_code.specs.Standing.{names_of, target_of}
 
 -- the characters of a text, with the table and the mode of a program

@@ -3,7 +3,7 @@ use Rattle.std.specs.Prelude.{◌≡◌, ℕ, true, false, Some}
 use Rattle.regress_engine_input.specs.Views.{View, are_bytes, input_of, reading_of}
 use Rattle.regress_engine_prefix.specs.Starts.{BeginsAs, is_arbitrary, tells_bytes}
 use Rattle.regress_engine_prefix.specs.declared.start.StartPredicate.{StartPredicate}
-use Rattle.regress_engine_code.specs.Instructions.{Program}
+use Rattle.regress_engine_insn.specs.Instructions.{Program}
 use Rattle.regress_engine_runs.specs.States.{Whole}
 use Rattle.regress_engine_runs.specs.Items.{Answers}
 use Rattle.regress_engine_runs.specs.Meets.{IsAtPlace}

@@ -10,7 +10,7 @@ use Rattle.regress_match.specs.GroupViews.{names_of_match}
 use Rattle.regress_match.specs.Iterating.{coming_on}
 use Rattle.regress_match.specs.Views as match
 use Rattle.regress_engine_input.specs.Views.{View, are_bytes, input_of, reading_of}
-use Rattle.regress_engine_code.specs.Instructions.{Program}
+use Rattle.regress_engine_insn.specs.Instructions.{Program}
 use Rattle.regress_engine_code.specs.Standing.{names_of, program_of, target_of}
 use Rattle.regress_engine_code.specs.declared.compiled.CompiledRegex.{CompiledRegex}
 use Rattle.regress_engine_runs.specs.States.{first_state}

@@ -13,8 +13,8 @@ use Rattle.regress_meaning.specs.Matches.{Item}
 use Rattle.regress_meaning.specs.Offsets.{offset, of_utf8, of_ascii, of_utf16, of_ucs2}
 use Rattle.regress_meaning.proofs.OffsetLemmas.{rise}
 use Rattle.regress_engine_input.specs.Views.{View, Kind, utf8, ascii, utf16, ucs2, are_bytes, input_of, reading_of, reading_of_kind}
-use Rattle.regress_engine_code.specs.Instructions.{LoopFields, Instruction, Program, Stands}
-use Rattle.regress_engine_code.specs.Instructions as code
+use Rattle.regress_engine_insn.specs.Instructions.{LoopFields, Instruction, Program, Stands}
+use Rattle.regress_engine_insn.specs.Instructions as code
 use Rattle.regress_engine_runs.specs.States.{Whole, unset, range_of, first_state}
 use Rattle.regress_engine_runs.specs.Closed.{Fits, IsClosed, takes_character}
 use Rattle.regress_engine_runs.specs.Items.{Lists}

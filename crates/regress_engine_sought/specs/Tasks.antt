@@ -4,7 +4,7 @@ use Rattle.regress_meaning.specs.Meaning.{Direction}
 use Rattle.regress_meaning.specs.Offsets.{Reading}
 use Rattle.regress_meaning.specs.Inputs.{Input}
 use Rattle.regress_engine_input.specs.Views.{View, input_of, reading_of}
-use Rattle.regress_engine_code.specs.Instructions.{Program}
+use Rattle.regress_engine_insn.specs.Instructions.{Program}
 use Rattle.regress_engine_runs.specs.States.{Whole}
 use Rattle.regress_engine_runs.specs.UndoStack.{Frame, Work, outermost, inside, trying, Comes, ReadOn, steps_left}
 

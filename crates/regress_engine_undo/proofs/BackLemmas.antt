@@ -4,7 +4,7 @@ use Rattle.std.proofs.Common.{◌≡◌, ℕ, zero, suc, ◌+◌, ◌-◌, ◌<�
 use Rattle.std.proofs.lemmas.List.{length-set}
 use Rattle.regress_meaning.specs.Inputs.{Input}
 use Rattle.regress_engine_input.specs.Views.{View, way, reading_of}
-use Rattle.regress_engine_code.specs.Instructions.{Program, Instruction, Stands}
+use Rattle.regress_engine_insn.specs.Instructions.{Program, Instruction, Stands}
 use Rattle.regress_engine_runs.specs.States.{Whole, Marks}
 use Rattle.regress_engine_runs.specs.Runs.{against, gap, advance, one_more}
 use Rattle.regress_engine_runs.specs.Meets.{IsAtPlace}

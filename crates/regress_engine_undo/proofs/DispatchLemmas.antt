@@ -3,8 +3,8 @@ use Rattle.std.specs.Prelude.{slice_set}
 use Rattle.std.proofs.Common.{◌≡◌, ℕ, suc, ◌+◌, Bool, true, false, [], ◌∷◌, Some, None, if◌then◌else◌, refl, sym, ap, ◌∙◌, subst, arith}
 use Rattle.regress_meaning.specs.Inputs.{Input}
 use Rattle.regress_engine_input.specs.Views.{way}
-use Rattle.regress_engine_code.specs.Instructions.{Instruction, Program, Stands, is_byte_seq}
-use Rattle.regress_engine_code.specs.Instructions as code
+use Rattle.regress_engine_insn.specs.Instructions.{Instruction, Program, Stands, is_byte_seq}
+use Rattle.regress_engine_insn.specs.Instructions as code
 use Rattle.regress_engine_runs.specs.States.{Marks, Whole, onward}
 use Rattle.regress_engine_runs.specs.Runs.{successors, is_plain, moved_to, advance, is_idle, choices}
 use Rattle.regress_engine_runs.specs.UndoStack.{Frame, Work, frame, resume, stands_for}

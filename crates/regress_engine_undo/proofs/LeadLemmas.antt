@@ -4,7 +4,7 @@ use Rattle.std.proofs.Common.{◌≡◌, ℕ, List, [], ◌∷◌, refl, sym, ap
 use Rattle.regress_meaning.specs.Meaning.{Direction}
 use Rattle.regress_meaning.specs.Inputs.{Input}
 use Rattle.regress_engine_input.specs.Views.{way}
-use Rattle.regress_engine_code.specs.Instructions.{Program}
+use Rattle.regress_engine_insn.specs.Instructions.{Program}
 use Rattle.regress_engine_runs.specs.States.{Whole, Marks, unset}
 use Rattle.regress_engine_runs.specs.UndoStack.{Undo, Work, old_loop, old_group, stands_for}
 use Rattle.regress_engine_runs.proofs.UndoLemmas.{loop_recorded, group_recorded}

@@ -5,7 +5,7 @@ use Rattle.std.proofs.Common.{◌≡◌, ℕ, suc, ◌+◌, ◌-◌, Bool, true,
 use Rattle.regress_meaning.specs.Meaning.{Direction, Forward}
 use Rattle.regress_meaning.specs.Inputs.{Input}
 use Rattle.regress_engine_input.specs.Views.{View, AreOfKind, way, input_of}
-use Rattle.regress_engine_code.specs.Instructions.{Instruction, Program, Stands, single_loop}
+use Rattle.regress_engine_insn.specs.Instructions.{Instruction, Program, Stands, single_loop}
 use Rattle.regress_engine_runs.specs.States.{Marks, Whole}
 use Rattle.regress_engine_runs.specs.Runs.{after_times, as_far, one_by_one, given_back, counted, successors}
 use Rattle.regress_engine_runs.specs.UndoStack.{Work, give_back, take_on, whole, at_each, taken_on, first_do, stands_for}

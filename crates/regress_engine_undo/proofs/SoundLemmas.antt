@@ -3,7 +3,7 @@ use Rattle.std.specs.Prelude.{get_or, slice_set}
 use Rattle.std.proofs.Common.{ℕ, ◌<◌, List, [], ◌∷◌, sym, ◌∙◌, subst}
 use Rattle.std.proofs.lemmas.List.{set-set, set-get_or, length-set}
 use Rattle.regress_engine_input.specs.Views.{View}
-use Rattle.regress_engine_code.specs.Instructions.{Program}
+use Rattle.regress_engine_insn.specs.Instructions.{Program}
 use Rattle.regress_engine_runs.specs.States.{Marks, unset}
 use Rattle.regress_engine_runs.specs.UndoStack.{Undo, old_loop, old_group}
 use Rattle.regress_engine_runs.proofs.UndoLemmas.{loop_undone}

@@ -4,7 +4,7 @@ use Rattle.std.proofs.Common.{◌≡◌, ℕ, suc, ◌+◌, ◌<◌, ◌≤◌, 
 use Rattle.std.proofs.lemmas.Bool.Decides.{nat_tests}
 use Rattle.regress_engine_input.specs.Views.{way}
 use Rattle.regress_meaning.specs.Inputs.{Input}
-use Rattle.regress_engine_code.specs.Instructions.{LoopFields, Program}
+use Rattle.regress_engine_insn.specs.Instructions.{LoopFields, Program}
 use Rattle.regress_engine_runs.specs.States.{Whole, Marks, onward}
 use Rattle.regress_engine_runs.specs.Runs.{count_of, one_more, ordered, choices, is_idle}
 use Rattle.regress_engine_runs.specs.UndoStack.{Work, first_do, stands_for, resume, iterate}

@@ -3,7 +3,7 @@ use Rattle.std.proofs.Common.{◌≡◌, ℕ, ◌-◌, ◌<◌, Bool, true, fals
 use Rattle.regress_meaning.specs.Meaning.{Forward, Backward}
 use Rattle.regress_meaning.specs.Inputs.{Input}
 use Rattle.regress_engine_input.specs.Views.{way}
-use Rattle.regress_engine_code.specs.Instructions.{Instruction, Program, Stands}
+use Rattle.regress_engine_insn.specs.Instructions.{Instruction, Program, Stands}
 use Rattle.regress_engine_runs.specs.States.{Marks}
 use Rattle.regress_engine_runs.specs.Runs.{advance, against, gap}
 use Rattle.regress_engine_runs.specs.UndoStack.{give_back, take_on, stands_for, MovesOn}

@@ -3,7 +3,7 @@ use Rattle.std.specs.Prelude.{◌≡◌, Bool, true, Option, Some, None, IfSome}
 use Rattle.regress_meaning.specs.Meaning.{Direction}
 use Rattle.regress_meaning.specs.Inputs.{Input}
 use Rattle.regress_engine_input.specs.Views.{View}
-use Rattle.regress_engine_code.specs.Instructions.{Program, Stands, goal}
+use Rattle.regress_engine_insn.specs.Instructions.{Program, Stands, goal}
 use Rattle.regress_engine_runs.specs.States.{Whole}
 use Rattle.regress_engine_runs.specs.UndoStack.{Frame, Work, whole, stands_for}
 use Rattle.regress_engine_sought.specs.Tasks.{Leads, ComesAs, outside_of, HasGroups}

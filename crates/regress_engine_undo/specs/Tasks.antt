@@ -1,7 +1,7 @@
 -- What the executor has still to do.
 use Rattle.std.specs.Prelude.{◌≡◌, ℕ, Bool, true, List, [], ◌∷◌, if◌then◌else◌}
 use Rattle.regress_meaning.specs.Inputs.{Input}
-use Rattle.regress_engine_code.specs.Instructions.{Program}
+use Rattle.regress_engine_insn.specs.Instructions.{Program}
 use Rattle.regress_engine_runs.specs.States.{Whole}
 use Rattle.regress_engine_runs.specs.UndoStack.{whole, stands_for}
 use Rattle.regress_engine_input.specs.Views.{View, way}

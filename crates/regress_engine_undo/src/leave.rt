@@ -2,7 +2,7 @@
 ghost use Rattle.std.specs.Prelude.{◌≡◌, ◌<◌, ◌≤◌, ℕ, map, length, option_map, IfOk, OnOk};
 ghost use Rattle.regress_meaning.specs.Meaning.{Direction};
 ghost use Rattle.regress_meaning.specs.Inputs.{Input};
-ghost use Rattle.regress_engine_code.specs.Instructions.{Program};
+ghost use Rattle.regress_engine_insn.specs.Instructions.{Program};
 ghost use Rattle.regress_engine_input.specs.Views.{View};
 ghost use Rattle.regress_engine_runs.specs.States.{mixed};
 ghost use Rattle.regress_engine_sought.specs.StateViews.{marks_of};

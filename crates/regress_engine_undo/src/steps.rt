@@ -1,7 +1,7 @@
 //! Steps that change what an executor holds: ways out, groups, repetitions, lookarounds and atomic groups.
 ghost use Rattle.std.specs.Prelude.{◌≡◌, ◌==◌, ◌&&◌, nat_lt, ◌+◌, ◌^◌, ◌<◌, ◌≤◌, ℕ, true, if◌then◌else◌, [], ◌∷◌, length, get_or, slice_set, not, IfOk, OnOk};
-ghost use Rattle.regress_engine_code.specs.Instructions.{Program, Stands};
-ghost use Rattle.regress_engine_code.specs.InsnViews.{fields};
+ghost use Rattle.regress_engine_insn.specs.Instructions.{Program, Stands};
+ghost use Rattle.regress_engine_insn.specs.InsnViews.{fields};
 ghost use Rattle.regress_engine_input.specs.Views.{View, way};
 ghost use Rattle.regress_meaning.specs.Inputs.{Input};
 ghost use Rattle.regress_engine_runs.specs.States.{unset, onward, begun, ended};
@@ -16,7 +16,7 @@ ghost use Rattle.regress_engine_undo.specs.Tasks.{state_at, task, GoesOn, GoesOn
 
 use crate::memory::Memory;
 use crate::undo::{Frame, Spot, Undo};
-use regress_engine_code::LoopFields;
+use regress_engine_insn::LoopFields;
 use regress_engine_sought::Submatch;
 use regress_front_core::{CaptureGroupID, GroupData, LoopData};
 use std::alloc::AllocError;

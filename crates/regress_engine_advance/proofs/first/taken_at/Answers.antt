@@ -1,7 +1,7 @@
 use Rattle.std.proofs.Common.{◌≡◌, suc, ◌+◌, ap, ◌∙◌, sym, subst, arith}
-use Rattle.regress_engine_code.specs.Instructions.{Stands}
+use Rattle.regress_engine_insn.specs.Instructions.{Stands}
 use Rattle.regress_engine_code.specs.Standing.{program_of}
-use Rattle.regress_engine_code.specs.declared.insn.Insn.TheVariants.{Goal}
+use Rattle.regress_engine_insn.specs.declared.insn.Insn.TheVariants.{Goal}
 use Rattle.regress_engine_runs.specs.Closed.{takes_character}
 use Rattle.regress_engine_sought.proofs.InsnLemmas.{stands-as}
 use Rattle.regress_engine_singles.proofs.LackLemmas.{takes-taking}

@@ -3,10 +3,10 @@ use Rattle.regress_meaning.specs.Meaning.{Backward}
 use Rattle.regress_meaning.specs.Steps.{literal}
 use Rattle.regress_engine_code.specs.Standing.{program_of}
 use Rattle.regress_engine_input.specs.Views.{input_of}
-use Rattle.regress_engine_code.specs.declared.insn.Insn.TheVariants.{Goal}
+use Rattle.regress_engine_insn.specs.declared.insn.Insn.TheVariants.{Goal}
 use Rattle.regress_engine_singles.proofs.StuckLemmas.{simple-stuck}
 use Rattle.regress_engine_advance.proofs.ReadLemmas.{bytes-simple, none-is, stands-read, bytes-taken, bytes-units, some-there, more-than}
-use Rattle.regress_engine_code.specs.Instructions.{is_byte_seq}
+use Rattle.regress_engine_insn.specs.Instructions.{is_byte_seq}
 use Rattle.regress_engine_advance.proofs.stuck.is_stuck_behind.Goals as goal
 
 pub bytes_beside-requires-clause-kind : goal.bytes_beside-requires-clause-kind

@@ -1,6 +1,6 @@
 use Rattle.std.proofs.Common.{ℕ, Bool, map, sym, ap, ◌∙◌, subst}
 use Rattle.std.proofs.lemmas.List.{length-map}
-use Rattle.regress_engine_code.specs.InsnViews.{instruction}
+use Rattle.regress_engine_insn.specs.InsnViews.{instruction}
 use Rattle.regress_engine_code.specs.Standing.{program_of}
 use Rattle.regress_meaning.specs.Meaning.{Forward as ahead}
 use Rattle.regress_engine_input.specs.Views.{way, input_of, reading_of}

@@ -3,10 +3,10 @@ use Rattle.std.specs.Prelude.{slice_get, get_or, option_map}
 use Rattle.std.proofs.lemmas.Option.{slice_get-map, slice_get-get_or}
 use Rattle.regress_front_bytes.specs.Bitmaps.{ascii_bitmap_contains}
 use Rattle.regress_front_nodes.specs.TreeMeaning.{bracket_has}
-use Rattle.regress_engine_code.specs.InsnViews.{instruction}
-use Rattle.regress_engine_code.specs.Written.{bracket_ends}
+use Rattle.regress_engine_insn.specs.InsnViews.{instruction}
+use Rattle.regress_engine_insn.specs.ProgramViews.{bracket_ends}
 use Rattle.regress_engine_code.specs.Ahead.{begins, high_or, may_stand}
-use Rattle.regress_engine_code.proofs.BitmapLemmas.{member_byte}
+use Rattle.regress_engine_insn.proofs.BitmapLemmas.{member_byte}
 use Rattle.regress_engine_code.proofs.ahead.ahead_of.Goals as goal
 
 pub returns-in-AsciiBracket : goal.returns-in-AsciiBracket

@@ -2,10 +2,10 @@ use Rattle.std.specs.Prelude.{get_or, option_map}
 use Rattle.std.proofs.Common.{◌<◌, ◌-◌, true, length, Option, Some, None, refl, sym, ap, ◌∙◌, arith}
 use Rattle.std.proofs.lemmas.List.{length-set}
 use Rattle.std.proofs.lemmas.Option.{slice_get-map, slice_get-get_or}
-use Rattle.regress_engine_code.specs.Instructions.{Instruction, Program}
-use Rattle.regress_engine_code.specs.InsnViews.{instruction}
-use Rattle.regress_engine_code.specs.declared.insn.Insn.TheVariants.{Goal}
-use Rattle.regress_engine_code.specs.Laid.{program_from}
+use Rattle.regress_engine_insn.specs.Instructions.{Instruction, Program}
+use Rattle.regress_engine_insn.specs.InsnViews.{instruction}
+use Rattle.regress_engine_insn.specs.declared.insn.Insn.TheVariants.{Goal}
+use Rattle.regress_engine_insn.specs.ProgramViews.{program_from}
 use Rattle.regress_engine_code.specs.Ahead.{begins, may_stand}
 use Rattle.regress_engine_code.proofs.AheadLemmas.{told-more}
 use Rattle.regress_engine_code.proofs.ahead.bytes_ahead.Goals as goal

@@ -1,5 +1,5 @@
 use Rattle.std.proofs.Common.{◌≡◌, ℕ, ◌<◌, ◌≤◌, length}
-use Rattle.regress_engine_code.specs.Laid.{program_from}
+use Rattle.regress_engine_insn.specs.ProgramViews.{program_from}
 use Rattle.regress_engine_code.specs.Ahead.{begins_at, may_stand}
 use Rattle.regress_engine_code.proofs.ahead.bytes_ahead.Given as goal
 

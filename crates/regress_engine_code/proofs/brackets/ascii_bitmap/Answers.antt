@@ -1,6 +1,6 @@
 use Rattle.regress_front_bytes.specs.Bitmaps.{ascii_bitmap_contains}
 use Rattle.regress_front_sets.specs.Sets.{in_set}
-use Rattle.regress_engine_code.proofs.BitmapLemmas.{ascii-members}
+use Rattle.regress_engine_insn.proofs.BitmapLemmas.{ascii-members}
 use Rattle.regress_engine_code.proofs.brackets.ascii_bitmap.Goals as goal
 
 pub returns : goal.returns

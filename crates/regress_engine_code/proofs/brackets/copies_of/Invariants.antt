@@ -1,5 +1,5 @@
 use Rattle.std.proofs.Common.{◌≡◌, map, take}
-use Rattle.regress_engine_code.specs.Written.{bracket_ends}
+use Rattle.regress_engine_insn.specs.ProgramViews.{bracket_ends}
 use Rattle.regress_engine_code.proofs.brackets.copies_of.Given as goal
 
 -- the brackets so far are copied

@@ -11,12 +11,12 @@ use Rattle.regress_front_nodes.specs.Trees.{Tree, tree}
 use Rattle.regress_front_nodes.specs.Names.{names_in, name_texts}
 use Rattle.regress_front_nodes.specs.WellFormed.{IsWellFormed}
 use Rattle.regress_front_nodes.proofs.NameLemmas.{names-counted}
-use Rattle.regress_engine_code.specs.InsnViews.{instruction}
+use Rattle.regress_engine_insn.specs.InsnViews.{instruction}
 use Rattle.regress_engine_code.specs.Ahead.{AreAhead}
-use Rattle.regress_engine_code.specs.Laid.{program_from}
-use Rattle.regress_engine_code.specs.Layout.{Target, IsLayout}
+use Rattle.regress_engine_insn.specs.ProgramViews.{program_from}
+use Rattle.regress_engine_insn.specs.Layout.{Target, IsLayout}
 use Rattle.regress_engine_code.specs.Written.{written, AddsTree}
-use Rattle.regress_engine_code.proofs.BeginLemmas.{all-begin}
+use Rattle.regress_engine_insn.proofs.BeginLemmas.{all-begin}
 use Rattle.regress_engine_code.proofs.EmitLemmas.{err-refused}
 use Rattle.regress_engine_code.proofs.StandingLemmas.{groups-few, told-layout, whole-counted}
 use Rattle.regress_engine_code.proofs.emission.whole_program.Goals as goal

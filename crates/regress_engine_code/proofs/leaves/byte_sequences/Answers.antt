@@ -1,5 +1,5 @@
 use Rattle.std.proofs.Common.{ap, ◌∙◌, arith}
-use Rattle.regress_engine_code.specs.Instructions.{byte_seq}
+use Rattle.regress_engine_insn.specs.Instructions.{byte_seq}
 use Rattle.regress_engine_code.proofs.ChunkLemmas.{chunks-told}
 use Rattle.regress_engine_code.proofs.leaves.byte_sequences.Goals as goal
 

@@ -1,7 +1,7 @@
 use Rattle.std.proofs.Common.{◌≡◌, ◌++◌, length, map}
-use Rattle.regress_engine_code.specs.Instructions.{byte_seq}
-use Rattle.regress_engine_code.specs.InsnViews.{instruction}
-use Rattle.regress_engine_code.specs.Layout.{chunks}
+use Rattle.regress_engine_insn.specs.Instructions.{byte_seq}
+use Rattle.regress_engine_insn.specs.InsnViews.{instruction}
+use Rattle.regress_engine_insn.specs.Layout.{chunks}
 use Rattle.regress_engine_code.proofs.leaves.byte_sequences.Given as goal
 
 -- the instructions so far, and those of the rest, are all

@@ -1,6 +1,6 @@
 use Rattle.std.proofs.Common.{◌≡◌, ℕ, List, [], ◌∷◌, ◌++◌, length, sym, ap, ap₂, ◌∙◌, arith}
 use Rattle.std.proofs.lemmas.List.{length-set, take_more, take_more_set, take_all}
-use Rattle.regress_engine_code.specs.Layout.{char_set_code}
+use Rattle.regress_engine_insn.specs.Layout.{char_set_code}
 use Rattle.regress_engine_code.proofs.leaves.byte_set.Goals as goal
 
 pub loop-i-preserved : goal.loop-i-preserved

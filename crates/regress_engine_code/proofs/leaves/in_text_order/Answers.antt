@@ -1,7 +1,7 @@
 use Rattle.std.proofs.Common.{ℕ, List, map, chars, ap, ◌∙◌}
 use Rattle.std.proofs.lemmas.Result.{IfOk-weaker}
-use Rattle.regress_engine_code.specs.Instructions.{char}
-use Rattle.regress_engine_code.specs.InsnViews.{instruction}
+use Rattle.regress_engine_insn.specs.Instructions.{char}
+use Rattle.regress_engine_insn.specs.InsnViews.{instruction}
 use Rattle.regress_engine_code.proofs.ChunkLemmas.{characters-told}
 use Rattle.regress_engine_code.proofs.leaves.in_text_order.Goals as goal
 

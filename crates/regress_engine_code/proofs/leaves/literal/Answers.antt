@@ -1,6 +1,6 @@
 use Rattle.std.proofs.Common.{map, reverse, ap, ◌∙◌}
 use Rattle.regress_front_nodes.proofs.NodeLemmas.{map-reverse}
-use Rattle.regress_engine_code.specs.InsnViews.{instruction}
+use Rattle.regress_engine_insn.specs.InsnViews.{instruction}
 use Rattle.regress_engine_code.proofs.leaves.literal.Goals.{then-backward, else-backward}
 use Rattle.regress_engine_code.proofs.leaves.literal.Goals as goal
 

@@ -1,11 +1,11 @@
 use Rattle.std.proofs.Common.{◌≡◌, ℕ, ◌+◌, ◌-◌, Bool, true, [], sym, ◌∙◌, subst, arith}
 use Rattle.regress_meaning.specs.Meaning.{Forward}
-use Rattle.regress_engine_code.specs.Instructions.{Instruction, Program, Stands}
-use Rattle.regress_engine_code.specs.Instructions as code
+use Rattle.regress_engine_insn.specs.Instructions.{Instruction, Program, Stands}
+use Rattle.regress_engine_insn.specs.Instructions as code
 use Rattle.regress_engine_code.specs.Standing.{program_of}
 use Rattle.regress_engine_input.specs.Views.{input_of, reading_of}
 use Rattle.regress_engine_runs.specs.Meets.{IsAtPlace}
-use Rattle.regress_engine_code.specs.declared.insn.Insn.TheVariants.{Goal}
+use Rattle.regress_engine_insn.specs.declared.insn.Insn.TheVariants.{Goal}
 use Rattle.regress_engine_sought.proofs.InsnLemmas.{stands-as}
 use Rattle.regress_engine_sought.proofs.PlaceLemmas.{can-read}
 use Rattle.regress_engine_singles.proofs.LeadingLemmas.{class-fits, class-place, class-takes, passes-over}

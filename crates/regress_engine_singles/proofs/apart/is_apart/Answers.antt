@@ -6,9 +6,9 @@ use Rattle.regress_front_sets.specs.Intervals.{ends_of}
 use Rattle.regress_front_nodes.specs.TreeMeaning.{bracket_has}
 use Rattle.regress_meaning.specs.Meaning.{Forward}
 use Rattle.regress_engine_input.specs.Views.{input_of}
-use Rattle.regress_engine_code.specs.Instructions as code
+use Rattle.regress_engine_insn.specs.Instructions as code
 use Rattle.regress_engine_code.specs.Standing.{program_of}
-use Rattle.regress_engine_code.proofs.BitmapLemmas.{member_byte}
+use Rattle.regress_engine_insn.proofs.BitmapLemmas.{member_byte}
 use Rattle.regress_engine_sought.proofs.BracketLemmas.{bracket_takes}
 use Rattle.regress_engine_singles.proofs.ApartLemmas.{apart-by-test}
 use Rattle.regress_engine_singles.proofs.apart.is_apart.Goals as goal

@@ -6,7 +6,7 @@ use Rattle.regress_front_bytes.specs.ByteSets.{members}
 use Rattle.regress_front_sets.specs.Intervals.{ends_of}
 use Rattle.regress_front_nodes.specs.TreeMeaning.{bracket_has}
 use Rattle.regress_engine_input.specs.Views.{input_of}
-use Rattle.regress_engine_code.specs.Instructions as code
+use Rattle.regress_engine_insn.specs.Instructions as code
 use Rattle.regress_engine_code.specs.Standing.{program_of}
 use Rattle.regress_engine_sought.proofs.BracketLemmas.{bracket_takes}
 use Rattle.regress_engine_singles.proofs.PassingLemmas.{by-members, passed-alike, option-taken}

@@ -1,7 +1,7 @@
 use Rattle.std.proofs.Common.{ap}
 use Rattle.std.proofs.lemmas.List.{map-set}
-use Rattle.regress_engine_code.specs.Instructions.{Instruction}
-use Rattle.regress_engine_code.specs.InsnViews.{instruction}
+use Rattle.regress_engine_insn.specs.Instructions.{Instruction}
+use Rattle.regress_engine_insn.specs.InsnViews.{instruction}
 use Rattle.regress_engine_code.specs.Written.{Written, written}
 use Rattle.std.specs.Prelude.{List}
 use Rattle.regress_engine_code.proofs.code.Code.change.Goals as goal

@@ -1,6 +1,6 @@
 use Rattle.std.proofs.Common.{◌≡◌, ℕ, ◌<◌, ◌∷◌, [], List, All, length, sym, ap, ◌∙◌, subst, arith}
 use Rattle.std.proofs.lemmas.List.{length-set, nil_from_length}
-use Rattle.regress_engine_code.specs.Instructions.{jump}
+use Rattle.regress_engine_insn.specs.Instructions.{jump}
 use Rattle.regress_engine_code.specs.Written.{Written, written, closed}
 use Rattle.regress_engine_code.proofs.JumpLemmas.{closed-more, all-front}
 use Rattle.regress_engine_code.proofs.code.Code.close.Goals as goal

@@ -1,5 +1,5 @@
 use Rattle.std.proofs.Common.{◌≡◌, ◌-◌}
-use Rattle.regress_engine_code.specs.Layout.{resets}
+use Rattle.regress_engine_insn.specs.Layout.{resets}
 use Rattle.regress_engine_code.specs.Written.{written, with}
 use Rattle.regress_engine_code.proofs.code.Code.push_resets.Given as goal
 

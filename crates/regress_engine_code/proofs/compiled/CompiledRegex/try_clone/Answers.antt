@@ -5,9 +5,10 @@ use Rattle.regress_meaning.specs.Table.{Table}
 use Rattle.regress_front_core.specs.FlagWords.{options}
 use Rattle.regress_front_tables.specs.TableViews.{table, table_known}
 use Rattle.regress_engine_prefix.proofs.ServingLemmas.{copy-serves}
-use Rattle.regress_engine_code.specs.Instructions.{Program}
+use Rattle.regress_engine_insn.specs.Instructions.{Program}
 use Rattle.regress_engine_code.specs.Ahead.{AreAhead}
-use Rattle.regress_engine_code.specs.Laid.{program_from, target_from, IsLaid}
+use Rattle.regress_engine_insn.specs.ProgramViews.{program_from, target_from}
+use Rattle.regress_engine_code.specs.Laid.{IsLaid}
 use Rattle.regress_engine_code.specs.Standing.{program_of}
 use Rattle.regress_engine_code.proofs.compiled.CompiledRegex.try_clone.Goals as goal
 

@@ -8,13 +8,13 @@ use Rattle.regress_front_nodes.specs.Forms.{nesting}
 use Rattle.regress_front_nodes.proofs.ChangeLemmas.{nesting-part}
 use Rattle.regress_front_nodes.proofs.CopyLemmas.{parts-more}
 use Rattle.regress_front_nodes.proofs.TreeLaws.{tree-CaptureGroup, tree-LookaroundAssertion, tree-AtomicGroup}
-use Rattle.regress_engine_code.specs.Counts.{count}
-use Rattle.regress_engine_code.specs.Instructions.{Instruction}
-use Rattle.regress_engine_code.specs.Instructions as code
-use Rattle.regress_engine_code.specs.Layout.{resets}
+use Rattle.regress_engine_insn.specs.Counts.{count}
+use Rattle.regress_engine_insn.specs.Instructions.{Instruction}
+use Rattle.regress_engine_insn.specs.Instructions as code
+use Rattle.regress_engine_insn.specs.Layout.{resets}
 use Rattle.regress_engine_code.specs.Written.{Written, written, with, changed}
 use Rattle.regress_engine_code.specs.Emitting.{Emits}
-use Rattle.regress_engine_code.proofs.LayoutLemmas.{resets-length}
+use Rattle.regress_engine_insn.proofs.LayoutLemmas.{resets-length}
 use Rattle.regress_engine_code.proofs.AddLemmas.{Adds-nothing, AddsTree-counted, AddsTree-more, AddsTree-capture, AddsTree-single_loop, AddsTree-submatch, AddsTree-alt, AddsTree-loop, MayRefuse-more}
 use Rattle.regress_engine_code.proofs.EmitLemmas.{err-refused, with-size, parts-within, parts-lawful, single-count, of-capture}
 use Rattle.regress_engine_code.proofs.emitter.Emitter.+emit.Goals as goal

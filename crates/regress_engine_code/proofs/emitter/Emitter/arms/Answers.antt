@@ -1,16 +1,16 @@
 use Rattle.regress_front_tables.specs.TableViews.{table}
-use Rattle.regress_engine_code.specs.Counts.{string_count}
+use Rattle.regress_engine_insn.specs.Counts.{string_count}
 use Rattle.std.proofs.Common.{suc, ◌≡◌, ◌+◌, [], length, map, take, drop, All, refl, ap, ◌∙◌, arith}
 use Rattle.std.proofs.lemmas.List.{length-map, take_all}
 use Rattle.std.specs.Box.{boxed_slice_items}
 use Rattle.regress_meaning.specs.TableParts.{is_code_point}
-use Rattle.regress_engine_code.specs.Instructions.{Program}
-use Rattle.regress_engine_code.specs.InsnViews.{instruction}
-use Rattle.regress_engine_code.specs.Layout.{string_code}
+use Rattle.regress_engine_insn.specs.Instructions.{Program}
+use Rattle.regress_engine_insn.specs.InsnViews.{instruction}
+use Rattle.regress_engine_insn.specs.Layout.{string_code}
 use Rattle.regress_engine_code.specs.Written.{written}
 use Rattle.regress_engine_code.specs.Emitting.{target, RefusesArms}
 use Rattle.regress_engine_code.proofs.AddLemmas.{MayRefuse-more}
-use Rattle.regress_engine_code.proofs.CountLemmas.{string-length}
+use Rattle.regress_engine_insn.proofs.CountLemmas.{string-length}
 use Rattle.regress_engine_code.proofs.PieceLemmas.{among}
 use Rattle.regress_engine_code.proofs.ArmLemmas.{OpensArms-nothing, OpensArms-more, arms-room, parts-around, parts-up_to, err-handed}
 use Rattle.regress_engine_code.proofs.emitter.Emitter.arms.Goals as goal

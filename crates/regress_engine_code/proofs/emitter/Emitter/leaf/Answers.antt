@@ -4,10 +4,10 @@ use Rattle.std.proofs.lemmas.Result.{IfOk-weaker}
 use Rattle.regress_front_tables.specs.TableViews.{table}
 use Rattle.regress_front_nodes.proofs.KindLemmas.{other_than_leaf}
 use Rattle.regress_front_nodes.proofs.TreeLaws.{tree-Goal, tree-Char, tree-ByteSet, tree-CharSet, tree-MatchAny, tree-MatchAnyExceptLineTerminator, tree-Anchor, tree-WordBoundary, tree-BackRef, tree-Bracket}
-use Rattle.regress_engine_code.specs.Instructions.{Instruction}
-use Rattle.regress_engine_code.specs.Instructions as code
-use Rattle.regress_engine_code.specs.InsnViews.{instruction}
-use Rattle.regress_engine_code.specs.Layout.{char_set_code, byte_set_code}
+use Rattle.regress_engine_insn.specs.Instructions.{Instruction}
+use Rattle.regress_engine_insn.specs.Instructions as code
+use Rattle.regress_engine_insn.specs.InsnViews.{instruction}
+use Rattle.regress_engine_insn.specs.Layout.{char_set_code, byte_set_code}
 use Rattle.regress_engine_code.specs.Written.{written, with}
 use Rattle.regress_engine_code.proofs.AddLemmas.{Adds-one}
 use Rattle.regress_engine_code.proofs.EmitLemmas.{AddsTree-byte_set, AddsTree-anchor}

@@ -1,7 +1,7 @@
 use Rattle.std.proofs.Common.{map}
 use Rattle.std.proofs.lemmas.Result.{IfOk-weaker}
 use Rattle.regress_front_tables.specs.TableViews.{table}
-use Rattle.regress_engine_code.specs.InsnViews.{instruction}
+use Rattle.regress_engine_insn.specs.InsnViews.{instruction}
 use Rattle.regress_engine_code.specs.Written.{written}
 use Rattle.regress_engine_code.proofs.EmitLemmas.{AddsTree-bytes}
 use Rattle.regress_engine_code.proofs.emitter.Emitter.literal.Goals as goal

@@ -3,7 +3,7 @@ use Rattle.regress_front_nodes.specs.Trees.{Tree}
 use Rattle.regress_front_nodes.specs.Pieces.{piece_tree}
 use Rattle.regress_front_nodes.specs.WellFormed.{AreLawful}
 use Rattle.regress_front_nodes.proofs.NodeLemmas.{map-reverse}
-use Rattle.regress_engine_code.proofs.StringLemmas.{All-reverse}
+use Rattle.regress_engine_insn.proofs.StringLemmas.{All-reverse}
 use Rattle.regress_engine_code.proofs.emitter.Emitter.pieces.Goals.{then-backward, else-backward}
 use Rattle.regress_engine_code.proofs.emitter.Emitter.pieces.Goals as goal
 

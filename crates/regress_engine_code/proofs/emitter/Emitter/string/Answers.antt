@@ -2,9 +2,9 @@ use Rattle.std.proofs.Common.{List, ◌++◌, map, ap, ap₂, ◌∙◌, arith}
 use Rattle.std.proofs.lemmas.List.{map-append, take_all}
 use Rattle.regress_front_nodes.specs.Pieces.{piece_tree}
 use Rattle.regress_front_nodes.specs.WellFormed.{AreLawful}
-use Rattle.regress_engine_code.specs.Instructions.{Instruction}
-use Rattle.regress_engine_code.specs.InsnViews.{instruction}
-use Rattle.regress_engine_code.specs.Layout.{pieces_code}
+use Rattle.regress_engine_insn.specs.Instructions.{Instruction}
+use Rattle.regress_engine_insn.specs.InsnViews.{instruction}
+use Rattle.regress_engine_insn.specs.Layout.{pieces_code}
 use Rattle.regress_engine_code.proofs.PieceLemmas.{among, pieces_code-told}
 use Rattle.regress_engine_code.proofs.emitter.Emitter.string.Goals as goal
 

@@ -1,8 +1,8 @@
 use Rattle.std.proofs.Common.{◌≡◌, map, take}
 use Rattle.regress_front_nodes.specs.Pieces.{piece_tree}
-use Rattle.regress_engine_code.specs.Instructions.{Program}
-use Rattle.regress_engine_code.specs.InsnViews.{instruction}
-use Rattle.regress_engine_code.specs.Layout.{pieces_code}
+use Rattle.regress_engine_insn.specs.Instructions.{Program}
+use Rattle.regress_engine_insn.specs.InsnViews.{instruction}
+use Rattle.regress_engine_insn.specs.Layout.{pieces_code}
 use Rattle.regress_engine_code.proofs.emitter.Emitter.string.Given as goal
 
 -- the instructions of the pieces so far

@@ -5,14 +5,14 @@ use Rattle.std.proofs.lemmas.Result.{IfOk-weaker, IfErr-weaker}
 use Rattle.regress_meaning.specs.TableParts.{is_code_point}
 use Rattle.regress_front_tables.specs.TableViews.{table}
 use Rattle.regress_front_nodes.specs.Trees.{string_set}
-use Rattle.regress_engine_code.specs.Counts.{string_count}
-use Rattle.regress_engine_code.specs.Instructions.{Program, fail}
-use Rattle.regress_engine_code.specs.InsnViews.{instruction}
-use Rattle.regress_engine_code.specs.Layout.{string_code}
+use Rattle.regress_engine_insn.specs.Counts.{string_count}
+use Rattle.regress_engine_insn.specs.Instructions.{Program, fail}
+use Rattle.regress_engine_insn.specs.InsnViews.{instruction}
+use Rattle.regress_engine_insn.specs.Layout.{string_code}
 use Rattle.regress_engine_code.specs.Written.{Written, written}
 use Rattle.regress_engine_code.specs.Emitting.{target, AddsArms, Refuses}
 use Rattle.regress_engine_code.proofs.AddLemmas.{Adds-one}
-use Rattle.regress_engine_code.proofs.CountLemmas.{string-length}
+use Rattle.regress_engine_insn.proofs.CountLemmas.{string-length}
 use Rattle.regress_engine_code.proofs.JumpLemmas.{all-front}
 use Rattle.regress_engine_code.proofs.ArmLemmas.{AddsArms-last, all-last, arms-refuse, end-refuse, err-handed}
 use Rattle.regress_engine_code.proofs.emitter.Emitter.strings.Goals as goal

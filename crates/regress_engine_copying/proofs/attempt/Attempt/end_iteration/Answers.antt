@@ -1,7 +1,7 @@
 use Rattle.std.proofs.Common.{sym, ap, ◌∙◌, arith}
 use Rattle.std.proofs.lemmas.Result.{on_ok_weaker}
-use Rattle.regress_engine_code.specs.Instructions.{enter_loop, loop_again}
-use Rattle.regress_engine_code.specs.InsnViews.{fields}
+use Rattle.regress_engine_insn.specs.Instructions.{enter_loop, loop_again}
+use Rattle.regress_engine_insn.specs.InsnViews.{fields}
 use Rattle.regress_engine_code.specs.Standing.{program_of}
 use Rattle.regress_engine_input.specs.Views.{way, input_of}
 use Rattle.regress_engine_sought.proofs.InsnLemmas.{stands-as, again-successors, no-repetition}

@@ -1,5 +1,5 @@
 use Rattle.std.proofs.Common.{◌≡◌, ◌+◌, ◌-◌, suc, subst, refl, arith}
-use Rattle.regress_engine_code.specs.Instructions.{Stands}
+use Rattle.regress_engine_insn.specs.Instructions.{Stands}
 use Rattle.regress_engine_code.specs.Standing.{program_of}
 use Rattle.regress_engine_sought.proofs.InsnLemmas.{stands-as}
 use Rattle.regress_engine_copying.proofs.attempt.Attempt.go.Goals as goal

@@ -1,5 +1,5 @@
 use Rattle.std.proofs.Common.{◌≡◌, length}
-use Rattle.regress_engine_code.specs.Instructions.{Program}
+use Rattle.regress_engine_insn.specs.Instructions.{Program}
 use Rattle.regress_engine_sought.specs.Tasks.{outside_of}
 use Rattle.regress_engine_copying.specs.Held.{held}
 use Rattle.regress_engine_copying.specs.Sound.{AreSound}

@@ -1,6 +1,6 @@
 use Rattle.std.proofs.Common.{arith}
-use Rattle.regress_engine_code.specs.Instructions.{enter_loop, loop_again}
-use Rattle.regress_engine_code.specs.InsnViews.{fields}
+use Rattle.regress_engine_insn.specs.Instructions.{enter_loop, loop_again}
+use Rattle.regress_engine_insn.specs.InsnViews.{fields}
 use Rattle.regress_engine_code.specs.Standing.{program_of}
 use Rattle.regress_engine_input.specs.Views.{input_of}
 use Rattle.regress_engine_sought.proofs.InsnLemmas.{stands-as, no-repetition}

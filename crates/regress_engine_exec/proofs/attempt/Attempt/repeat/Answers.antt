@@ -1,9 +1,9 @@
 use Rattle.std.proofs.Common.{◌≡◌, true, ◌+◌, ◌-◌, map, sym, ap, ◌∙◌, refl, subst, arith}
-use Rattle.regress_engine_code.specs.Instructions.{Stands}
+use Rattle.regress_engine_insn.specs.Instructions.{Stands}
 use Rattle.regress_engine_runs.specs.Closed.{takes_character}
 use Rattle.regress_engine_runs.proofs.BodyPlaces.{fits-anywhere}
 use Rattle.regress_engine_runs.proofs.RunViews.{one_stands}
-use Rattle.regress_engine_code.specs.InsnViews.{instruction}
+use Rattle.regress_engine_insn.specs.InsnViews.{instruction}
 use Rattle.regress_engine_code.specs.Standing.{program_of}
 use Rattle.regress_engine_input.specs.Views.{way, input_of}
 use Rattle.regress_engine_runs.specs.Runs.{after_times, as_far}

@@ -1,8 +1,8 @@
 use Rattle.std.specs.Prelude.{is_some, IfSome}
 use Rattle.std.proofs.Common.{◌≡◌, ℕ, List, ◌∷◌, not, map, sym, ap, ◌∙◌, subst}
 use Rattle.regress_meaning.specs.Meaning.{Forward}
-use Rattle.regress_engine_code.specs.Instructions.{byte_seq}
-use Rattle.regress_engine_code.specs.InsnViews.{instruction}
+use Rattle.regress_engine_insn.specs.Instructions.{byte_seq}
+use Rattle.regress_engine_insn.specs.InsnViews.{instruction}
 use Rattle.regress_engine_code.specs.Standing.{program_of}
 use Rattle.regress_engine_input.specs.Views.{way, input_of}
 use Rattle.regress_engine_runs.specs.Runs.{advance}

@@ -1,6 +1,6 @@
 use Rattle.std.proofs.Common.{◌≡◌, ◌+◌, ◌-◌, suc, true, inl, inr, ap, ◌∙◌, subst, refl, arith}
-use Rattle.regress_engine_code.specs.Instructions.{Stands}
-use Rattle.regress_engine_code.specs.Instructions as code
+use Rattle.regress_engine_insn.specs.Instructions.{Stands}
+use Rattle.regress_engine_insn.specs.Instructions as code
 use Rattle.regress_engine_code.specs.Standing.{program_of}
 use Rattle.regress_engine_input.specs.Views.{way, input_of}
 use Rattle.regress_engine_runs.specs.States.{begun, ended}

@@ -1,6 +1,6 @@
 use Rattle.std.proofs.Common.{inl, inr, refl, sym, ap, ◌∙◌, subst, map, arith}
 use Rattle.regress_engine_code.specs.Standing.{program_of}
-use Rattle.regress_engine_code.specs.InsnViews.{instruction}
+use Rattle.regress_engine_insn.specs.InsnViews.{instruction}
 use Rattle.regress_engine_input.specs.Views.{input_of, way}
 use Rattle.regress_engine_runs.specs.Runs.{advance}
 use Rattle.regress_engine_sought.specs.StateViews.{marks_of}

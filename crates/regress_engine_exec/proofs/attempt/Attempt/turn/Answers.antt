@@ -1,9 +1,9 @@
 use Rattle.std.proofs.Common.{◌≡◌, ℕ, ◌+◌, true, ap, ◌∙◌, arith}
 use Rattle.regress_meaning.specs.Inputs.{Input}
-use Rattle.regress_engine_code.specs.Instructions.{Instruction, Program, Stands}
-use Rattle.regress_engine_code.specs.Instructions as code
+use Rattle.regress_engine_insn.specs.Instructions.{Instruction, Program, Stands}
+use Rattle.regress_engine_insn.specs.Instructions as code
 use Rattle.regress_engine_code.specs.Standing.{program_of}
-use Rattle.regress_engine_code.specs.declared.insn.Insn.TheVariants.{Goal}
+use Rattle.regress_engine_insn.specs.declared.insn.Insn.TheVariants.{Goal}
 use Rattle.regress_engine_input.specs.Views.{input_of}
 use Rattle.regress_engine_runs.proofs.RunViews.{one_stands}
 use Rattle.regress_engine_sought.proofs.InsnLemmas.{stands-as}

@@ -1,5 +1,5 @@
 use Rattle.std.proofs.Common.{◌+◌, ◌<◌, ◌≤◌, map, ◌∙◌, arith}
-use Rattle.regress_engine_code.specs.InsnViews.{fields}
+use Rattle.regress_engine_insn.specs.InsnViews.{fields}
 use Rattle.regress_engine_code.specs.Standing.{program_of}
 use Rattle.regress_engine_input.specs.Views.{input_of}
 use Rattle.regress_engine_sought.proofs.PlaceLemmas.{can-read}

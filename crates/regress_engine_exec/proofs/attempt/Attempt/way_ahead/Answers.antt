@@ -1,8 +1,8 @@
 use Rattle.std.proofs.Common.{true}
-use Rattle.regress_engine_code.specs.Instructions.{Stands, alt}
+use Rattle.regress_engine_insn.specs.Instructions.{Stands, alt}
 use Rattle.regress_engine_code.specs.Standing.{program_of}
 use Rattle.regress_engine_input.specs.Views.{input_of}
-use Rattle.regress_engine_code.specs.declared.insn.Insn.TheVariants.{Goal}
+use Rattle.regress_engine_insn.specs.declared.insn.Insn.TheVariants.{Goal}
 use Rattle.regress_engine_sought.proofs.InsnLemmas.{stands-as}
 use Rattle.regress_engine_advance.proofs.ReadLemmas.{stands-read}
 use Rattle.regress_engine_exec.proofs.WayLemmas.{way-first, way-second}

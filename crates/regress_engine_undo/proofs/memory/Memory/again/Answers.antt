@@ -1,6 +1,6 @@
 use Rattle.std.proofs.Common.{◌&&◌, ◌==◌, ℕ, sym, ap, ◌∙◌}
 use Rattle.std.specs.Prelude.{nat_lt}
-use Rattle.regress_engine_code.specs.InsnViews.{fields}
+use Rattle.regress_engine_insn.specs.InsnViews.{fields}
 use Rattle.regress_engine_undo.specs.Held.{held}
 use Rattle.regress_engine_undo.proofs.MemoryLemmas.{ok-then}
 use Rattle.regress_engine_undo.proofs.StepLemmas.{again-idle, again-on}

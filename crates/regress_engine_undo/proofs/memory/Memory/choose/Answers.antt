@@ -1,6 +1,6 @@
 use Rattle.std.proofs.Common.{true, ◌+◌, ◌^◌, ◌<◌, ℕ, ap, length, get_or, arith}
-use Rattle.regress_engine_code.specs.Instructions.{LoopFields}
-use Rattle.regress_engine_code.specs.InsnViews.{fields}
+use Rattle.regress_engine_insn.specs.Instructions.{LoopFields}
+use Rattle.regress_engine_insn.specs.InsnViews.{fields}
 use Rattle.regress_engine_undo.specs.Held.{Held, held}
 use Rattle.regress_engine_undo.proofs.StepLemmas.{choose-none, choose-out, choose-more, choose-greedy, choose-lazy, at_spot, loop-sound, resume-sound, iterate-sound, sound-then}
 use Rattle.regress_engine_undo.proofs.memory.Memory.choose.Goals as goal

@@ -1,5 +1,5 @@
 use Rattle.std.proofs.Common.{true, ap}
-use Rattle.regress_engine_code.specs.InsnViews.{fields}
+use Rattle.regress_engine_insn.specs.InsnViews.{fields}
 use Rattle.regress_engine_undo.specs.Held.{held}
 use Rattle.regress_engine_undo.proofs.StepLemmas.{past_spot, stay-none, stay-more, loop-sound}
 use Rattle.regress_engine_undo.proofs.memory.Memory.stay.Goals as goal

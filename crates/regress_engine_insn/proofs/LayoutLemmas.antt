@@ -1,12 +1,12 @@
--- What an emitter needs of layouts: a layout rests on its own instructions alone, and ends where the counts say.
+-- A layout goes forward, and rests on its own instructions and on the program's brackets alone.
 use Rattle.std.specs.Prelude.{slice_get}
 use Rattle.std.proofs.Common.{◌≡◌, ℕ, zero, suc, ◌+◌, ◌-◌, ◌<◌, ◌≤◌, Bool, List, [], ◌∷◌, ◌++◌, length, Some, refl, ap, subst, arith}
 use Rattle.regress_front_nodes.specs.Trees.{Tree}
 use Rattle.regress_front_nodes.specs.TreeMeaning.{reads_backward}
 use Rattle.regress_front_nodes.specs.Trees as tree
-use Rattle.regress_engine_code.specs.Instructions.{Instruction, Program, Stands, StandFrom}
-use Rattle.regress_engine_code.specs.Instructions as code
-use Rattle.regress_engine_code.specs.Layout.{Spot, next, later, Target, resets, string_code, IsBracket, AreArms, Lies}
+use Rattle.regress_engine_insn.specs.Instructions.{Instruction, Program, Stands, StandFrom}
+use Rattle.regress_engine_insn.specs.Instructions as code
+use Rattle.regress_engine_insn.specs.Layout.{Spot, next, later, Target, resets, string_code, IsBracket, AreArms, Lies}
 
 -- instructions that stand one after another are some and then the others
 pub stand-parts : (program : Program) (xs ys : List Instruction) (address : ℕ) → StandFrom program address (xs ++ ys)

@@ -3,8 +3,8 @@ ghost use Rattle.std.specs.Prelude.{◌≡◌, ◌+◌, ℕ, Bool};
 ghost use Rattle.regress_front_nodes.specs.Trees.{Tree};
 ghost use Rattle.regress_front_nodes.specs.WellFormed.{AreLawful};
 ghost use Rattle.regress_front_nodes.specs.Sizes.{loops};
-ghost use Rattle.regress_engine_code.specs.Counts.{count};
-ghost use Rattle.regress_engine_code.specs.Layout.{Spot, Target, Lies};
+ghost use Rattle.regress_engine_insn.specs.Counts.{count};
+ghost use Rattle.regress_engine_insn.specs.Layout.{Spot, Target, Lies};
 
 /// Between its spots a tree has as many instructions and loops as are written of it.
 pub fn layouts_are_counted()

@@ -8,9 +8,9 @@ use Rattle.std.proofs.lemmas.Str.{encodes-chars, length-encode, len_utf8_bounds}
 use Rattle.regress_front_nodes.specs.Forms.{in_reading_order}
 use Rattle.regress_front_nodes.specs.Singles.{is_one_character}
 use Rattle.regress_front_nodes.specs.WellFormed.{AreCharacters}
-use Rattle.regress_engine_code.specs.Instructions.{Instruction, Program}
-use Rattle.regress_engine_code.specs.Instructions as code
-use Rattle.regress_engine_code.specs.Layout.{most_bytes, chunks, literal_code}
+use Rattle.regress_engine_insn.specs.Instructions.{Instruction, Program}
+use Rattle.regress_engine_insn.specs.Instructions as code
+use Rattle.regress_engine_insn.specs.Layout.{most_bytes, chunks, literal_code}
 
 chunks-none : (n : ℕ) → chunks n [] ≡ []
 chunks-none zero = refl

@@ -1,7 +1,7 @@
 //! The instructions of a program.
 ghost use Rattle.std.specs.Prelude.{◌≡◌, nat_lt, length};
-ghost use Rattle.regress_engine_code.specs.Instructions.{bytes_in, is_byte_seq};
-ghost use Rattle.regress_engine_code.specs.InsnViews.{instruction};
+ghost use Rattle.regress_engine_insn.specs.Instructions.{bytes_in, is_byte_seq};
+ghost use Rattle.regress_engine_insn.specs.InsnViews.{instruction};
 
 use regress_front_bytes::{AsciiBitmap, ByteArraySet};
 use regress_front_core::{CaptureGroupID, LoopID, MAX_CHAR_SET_LENGTH};

@@ -5,7 +5,7 @@ use Rattle.regress_meaning.specs.Table.{Table}
 use Rattle.regress_front_nodes.specs.Trees.{Tree}
 use Rattle.regress_front_nodes.specs.Trees as tree
 use Rattle.regress_front_nodes.specs.Pieces.{pieces_of}
-use Rattle.regress_engine_code.specs.Layout.{most_bytes}
+use Rattle.regress_engine_insn.specs.Layout.{most_bytes}
 
 -- of a literal: in units one for each character, in bytes one for each 16 bytes and one for what is left
 abbrev pub literal_count : Bool → List ℕ → ℕ

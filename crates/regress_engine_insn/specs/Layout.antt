@@ -7,8 +7,8 @@ use Rattle.regress_front_nodes.specs.Trees as tree
 use Rattle.regress_front_nodes.specs.TreeMeaning.{reads_backward, bracket_has}
 use Rattle.regress_front_nodes.specs.Forms.{in_reading_order}
 use Rattle.regress_front_nodes.specs.Pieces.{pieces_of}
-use Rattle.regress_engine_code.specs.Instructions.{LoopFields, Instruction, Program, Stands, StandFrom}
-use Rattle.regress_engine_code.specs.Instructions as code
+use Rattle.regress_engine_insn.specs.Instructions.{LoopFields, Instruction, Program, Stands, StandFrom}
+use Rattle.regress_engine_insn.specs.Instructions as code
 
 -- A spot in a program: an address, and how many loops begin before it.
 pub record Spot : Type 0 where

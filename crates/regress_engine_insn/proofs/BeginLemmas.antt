@@ -9,11 +9,11 @@ use Rattle.regress_front_nodes.specs.TreeMeaning.{reads_backward}
 use Rattle.regress_front_nodes.specs.Trees as tree
 use Rattle.regress_front_nodes.specs.Forms.{in_reading_order}
 use Rattle.regress_front_nodes.specs.Pieces.{pieces_of}
-use Rattle.regress_engine_code.specs.Instructions.{Instruction, Program, Stands, StandFrom, begins_loop}
-use Rattle.regress_engine_code.specs.Instructions as code
-use Rattle.regress_engine_code.specs.Layout.{Spot, next, Target, byte_set_code, char_set_code, literal_code, string_code, resets, IsBracket, IsOne, AreAll, AreArms, Lies, IsLayout}
-use Rattle.regress_engine_code.proofs.LayoutLemmas.{resets-length}
-use Rattle.regress_engine_code.proofs.TakingLemmas.{OfTaking, char_set-taking, byte_set-taking, literal-taking, pieces-taking}
+use Rattle.regress_engine_insn.specs.Instructions.{Instruction, Program, Stands, StandFrom, begins_loop}
+use Rattle.regress_engine_insn.specs.Instructions as code
+use Rattle.regress_engine_insn.specs.Layout.{Spot, next, Target, byte_set_code, char_set_code, literal_code, string_code, resets, IsBracket, IsOne, AreAll, AreArms, Lies, IsLayout}
+use Rattle.regress_engine_insn.proofs.LayoutLemmas.{resets-length}
+use Rattle.regress_engine_insn.proofs.TakingLemmas.{OfTaking, char_set-taking, byte_set-taking, literal-taking, pieces-taking}
 
 -- it begins no repetition
 abbrev IsPlain : Instruction → Type 0

@@ -3,11 +3,11 @@ use Rattle.std.specs.Prelude.{true, false}
 use Rattle.regress_front_bytes.specs.ByteSets.{members}
 use Rattle.regress_front_bytes.specs.Bitmaps.{ascii_bitmap_contains}
 use Rattle.regress_front_nodes.specs.Trees.{lookaround, atomic}
-use Rattle.regress_engine_code.specs.declared.insn.LoopFields.{LoopFields}
-use Rattle.regress_engine_code.specs.declared.insn.Insn.{Insn}
-use Rattle.regress_engine_code.specs.declared.insn.Insn.TheVariants as insn
-use Rattle.regress_engine_code.specs.Instructions.{Instruction}
-use Rattle.regress_engine_code.specs.Instructions as code
+use Rattle.regress_engine_insn.specs.declared.insn.LoopFields.{LoopFields}
+use Rattle.regress_engine_insn.specs.declared.insn.Insn.{Insn}
+use Rattle.regress_engine_insn.specs.declared.insn.Insn.TheVariants as insn
+use Rattle.regress_engine_insn.specs.Instructions.{Instruction}
+use Rattle.regress_engine_insn.specs.Instructions as code
 
 -- a repetition
 abbrev pub fields : LoopFields → code.LoopFields

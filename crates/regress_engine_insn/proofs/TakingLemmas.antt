@@ -6,9 +6,9 @@ use Rattle.regress_front_nodes.specs.Trees.{Tree}
 use Rattle.regress_front_nodes.specs.Trees as tree
 use Rattle.regress_front_nodes.specs.Forms.{in_reading_order}
 use Rattle.regress_front_nodes.proofs.SequenceLemmas.{in_reading_order-map}
-use Rattle.regress_engine_code.specs.Instructions.{Instruction, Program}
-use Rattle.regress_engine_code.specs.Instructions as code
-use Rattle.regress_engine_code.specs.Layout.{char_set_code, byte_set_code, chunks, literal_code, piece_code, pieces_code}
+use Rattle.regress_engine_insn.specs.Instructions.{Instruction, Program}
+use Rattle.regress_engine_insn.specs.Instructions as code
+use Rattle.regress_engine_insn.specs.Layout.{char_set_code, byte_set_code, chunks, literal_code, piece_code, pieces_code}
 
 -- It holds of each instruction of a program that takes characters, whichever they are, and of the one that fails. Bytes stand
 -- in programs of bytes.

@@ -14,13 +14,13 @@ use Rattle.regress_front_nodes.specs.Forms.{in_reading_order}
 use Rattle.regress_front_nodes.specs.Singles.{takes_one}
 use Rattle.regress_front_nodes.specs.Sizes.{loops}
 use Rattle.regress_front_nodes.specs.WellFormed.{AreLawful}
-use Rattle.regress_engine_code.specs.Instructions.{Instruction, Program}
-use Rattle.regress_engine_code.specs.Instructions as code
-use Rattle.regress_engine_code.specs.Layout.{Spot, next, later, Target, most_bytes, chunks, literal_code, piece_code, pieces_code, string_code, AreArms, Lies, IsLayout}
-use Rattle.regress_engine_code.specs.Counts.{literal_count, piece_count, string_count, strings_count, count}
-use Rattle.regress_engine_code.proofs.LayoutLemmas.{at-same}
-use Rattle.regress_engine_code.proofs.LiteralLemmas.{one-character, literal-alone}
-use Rattle.regress_engine_code.proofs.StringLemmas.{IsPiece, all-pieces, ordered-pieces}
+use Rattle.regress_engine_insn.specs.Instructions.{Instruction, Program}
+use Rattle.regress_engine_insn.specs.Instructions as code
+use Rattle.regress_engine_insn.specs.Layout.{Spot, next, later, Target, most_bytes, chunks, literal_code, piece_code, pieces_code, string_code, AreArms, Lies, IsLayout}
+use Rattle.regress_engine_insn.specs.Counts.{literal_count, piece_count, string_count, strings_count, count}
+use Rattle.regress_engine_insn.proofs.LayoutLemmas.{at-same}
+use Rattle.regress_engine_insn.proofs.LiteralLemmas.{one-character, literal-alone}
+use Rattle.regress_engine_insn.proofs.StringLemmas.{IsPiece, all-pieces, ordered-pieces}
 
 -- the chunks are as many as their bytes need
 chunks-bounds : (n : ℕ) (bs : List ℕ) → length bs ≤ n → (length bs ≤ 16 * length (chunks n bs)) × (16 * length (chunks n bs) < length bs + 16)

@@ -1,5 +1,0 @@
-use Rattle.regress_engine_code.proofs.CountLemmas.{counted}
-use Rattle.regress_engine_code.proofs.laws.layouts_are_counted.Goals as goal
-
-pub returns : goal.returns
-returns c target n t lawful b p q lies = counted target n t b p q lies lawful
