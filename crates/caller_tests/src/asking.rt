@@ -62,7 +62,7 @@ fn of_two_programs(alloc: Global, tables: &Tables) -> Result<Regex, Error> {
         alloc,
         &backends::try_parse(alloc, &[0x62], flags, tables)?,
     )?;
-    Regex::from_programs(alloc, of_bytes, of_units)
+    Ok(Regex::from_programs(alloc, of_bytes, of_units))
 }
 
 /// The first match in units that are each one character, from an offset on.

@@ -12,18 +12,20 @@ ghost use Rattle.regress_meaning.specs.Matches.{match_list};
 ghost use Rattle.regress_meaning.specs.Offsets.{of_utf8, of_utf16, of_ucs2, characters, told, Begins};
 ghost use Rattle.regress_meaning.specs.Parts.{parts, first_parts};
 ghost use Rattle.regress_front.specs.TableViews.{table};
+ghost use Rattle.regress_front.specs.Trees.{Tree};
 ghost use Rattle.regress_front.specs.FlagWords.{options};
 ghost use Rattle.regress_match.specs.Iterating.{GivesMatch, coming_on, position_of, producer_of};
 ghost use Rattle.regress_match.specs.TextRanges.{IsMatchIn};
 ghost use Rattle.regress_match.specs.Views.{item_of};
 ghost use Rattle.regress_replacing.specs.Replacing.{expansion, replaced};
+ghost use Rattle.regress_engine.specs.Standing.{target_of};
 ghost use Rattle.regress.specs.Ascii.{coming_in_ascii};
 ghost use Rattle.regress.specs.Answering.{AnswersEach};
 ghost use Rattle.regress.specs.Coming.{HasEnded, coming, searched, sought_names};
 ghost use Rattle.regress.specs.Programs.{IsProgramOf};
 ghost use Rattle.regress.specs.Refusing.{MayRefuseRegex};
 ghost use Rattle.regress.specs.Splitting.{parts_left, first_parts_left, GivesPart, GivesSplit};
-ghost use Rattle.regress.specs.Standing.{StandsFor, StandsInUnits, names_of_regex, source_of};
+ghost use Rattle.regress.specs.Standing.{StandsFor, StandsInUnits, HasTree, HasTreeInUnits, byte_target, unit_target, tree_list, tree_list_in_units, names_of_regex, source_of};
 ghost use Rattle.regress.specs.Units.{coming_in_utf16, coming_in_ucs2};
 
 use regress::backends::{self, Executor};
@@ -89,6 +91,8 @@ fn of_points(
 fn first_in_text(regex: &Regex, text: &str) -> Result<Option<Match>, Error>
     ensures found { (t : Table) → (o : Options) → (p : Pattern) → StandsFor regex.now t o p →
         IfOk result (λ found. option_map item_of found ≡ option_map (told (of_utf8 text.now)) (slice_get (match_list t o p (chars text.now) 0) 0)) }
+    ensures found_of_tree { (n : ℕ) → (t : Tree) → HasTree regex.now n t →
+        IfOk result (λ found. option_map item_of found ≡ option_map (told (of_utf8 text.now)) (slice_get (tree_list regex.now n t (chars text.now) 0) 0)) }
     ensures refused { IsOkUnless result Error.OutOfMemory }
 {
     regex.find(text)
@@ -96,8 +100,10 @@ fn first_in_text(regex: &Regex, text: &str) -> Result<Option<Match>, Error>
 
 /// The matches in a text.
 fn in_text<'r, 't>(regex: &'r Regex, text: &'t str) -> Result<Matches<'r, 't>, Error>
-    ensures { (t : Table) → (o : Options) → (p : Pattern) → StandsFor regex.now t o p →
+    ensures of_pattern { (t : Table) → (o : Options) → (p : Pattern) → StandsFor regex.now t o p →
         IfOk result (λ ms. coming ms ≡ map (told (of_utf8 text.now)) (match_list t o p (chars text.now) 0)) }
+    ensures of_tree { (n : ℕ) → (t : Tree) → HasTree regex.now n t →
+        IfOk result (λ ms. coming ms ≡ map (told (of_utf8 text.now)) (tree_list regex.now n t (chars text.now) 0)) }
 {
     regex.find_iter(text)
 }
@@ -109,9 +115,12 @@ fn in_text_from<'r, 't>(
     start: usize,
 ) -> Result<Matches<'r, 't>, Error>
     requires { (place : ℕ) × Begins (of_utf8 text.now) start place }
-    ensures { (t : Table) → (o : Options) → (p : Pattern) → StandsFor regex.now t o p →
+    ensures of_pattern { (t : Table) → (o : Options) → (p : Pattern) → StandsFor regex.now t o p →
         (place : ℕ) → Begins (of_utf8 text.now) start place →
         IfOk result (λ ms. coming ms ≡ map (told (of_utf8 text.now)) (match_list t o p (chars text.now) place)) }
+    ensures of_tree { (n : ℕ) → (t : Tree) → HasTree regex.now n t →
+        (place : ℕ) → Begins (of_utf8 text.now) start place →
+        IfOk result (λ ms. coming ms ≡ map (told (of_utf8 text.now)) (tree_list regex.now n t (chars text.now) place)) }
 {
     regex.find_from(text, start)
 }
@@ -127,8 +136,10 @@ fn next_in_text(matches: &mut Matches<'_, '_>) -> Option<Result<Match, Error>>
 /// The first match in a text of ASCII.
 fn first_in_ascii(regex: &Regex, text: &str) -> Result<Option<Match>, Error>
     requires { IsAscii text.now }
-    ensures { (t : Table) → (o : Options) → (p : Pattern) → StandsFor regex.now t o p →
+    ensures of_pattern { (t : Table) → (o : Options) → (p : Pattern) → StandsFor regex.now t o p →
         IfOk result (λ found. option_map item_of found ≡ option_map (told (of_utf8 text.now)) (slice_get (match_list t o p (chars text.now) 0) 0)) }
+    ensures of_tree { (n : ℕ) → (t : Tree) → HasTree regex.now n t →
+        IfOk result (λ found. option_map item_of found ≡ option_map (told (of_utf8 text.now)) (slice_get (tree_list regex.now n t (chars text.now) 0) 0)) }
 {
     regex.find_ascii(text)
 }
@@ -136,8 +147,10 @@ fn first_in_ascii(regex: &Regex, text: &str) -> Result<Option<Match>, Error>
 /// The matches in a text of ASCII.
 fn in_ascii<'r, 't>(regex: &'r Regex, text: &'t str) -> Result<AsciiMatches<'r, 't>, Error>
     requires { IsAscii text.now }
-    ensures { (t : Table) → (o : Options) → (p : Pattern) → StandsFor regex.now t o p →
+    ensures of_pattern { (t : Table) → (o : Options) → (p : Pattern) → StandsFor regex.now t o p →
         IfOk result (λ ms. coming_in_ascii ms ≡ map (told (of_utf8 text.now)) (match_list t o p (chars text.now) 0)) }
+    ensures of_tree { (n : ℕ) → (t : Tree) → HasTree regex.now n t →
+        IfOk result (λ ms. coming_in_ascii ms ≡ map (told (of_utf8 text.now)) (tree_list regex.now n t (chars text.now) 0)) }
 {
     regex.find_iter_ascii(text)
 }
@@ -149,9 +162,12 @@ fn in_ascii_from<'r, 't>(
     start: usize,
 ) -> Result<AsciiMatches<'r, 't>, Error>
     requires { IsAscii text.now }
-    ensures { (t : Table) → (o : Options) → (p : Pattern) → StandsFor regex.now t o p →
+    ensures of_pattern { (t : Table) → (o : Options) → (p : Pattern) → StandsFor regex.now t o p →
         (place : ℕ) → Begins (of_utf8 text.now) start place →
         IfOk result (λ ms. coming_in_ascii ms ≡ map (told (of_utf8 text.now)) (match_list t o p (chars text.now) place)) }
+    ensures of_tree { (n : ℕ) → (t : Tree) → HasTree regex.now n t →
+        (place : ℕ) → Begins (of_utf8 text.now) start place →
+        IfOk result (λ ms. coming_in_ascii ms ≡ map (told (of_utf8 text.now)) (tree_list regex.now n t (chars text.now) place)) }
 {
     regex.find_from_ascii(text, start)
 }
@@ -163,9 +179,12 @@ fn in_utf16_from<'r, 't>(
     start: usize,
 ) -> Result<Utf16Matches<'r, 't>, Error>
     requires { (place : ℕ) × Begins (of_utf16 units.now) start place }
-    ensures { (t : Table) → (o : Options) → (p : Pattern) → StandsInUnits regex.now t o p →
+    ensures of_pattern { (t : Table) → (o : Options) → (p : Pattern) → StandsInUnits regex.now t o p →
         (place : ℕ) → Begins (of_utf16 units.now) start place →
         IfOk result (λ ms. coming_in_utf16 ms ≡ map (told (of_utf16 units.now)) (match_list t o p (characters units.now) place)) }
+    ensures of_tree { (n : ℕ) → (t : Tree) → HasTreeInUnits regex.now n t →
+        (place : ℕ) → Begins (of_utf16 units.now) start place →
+        IfOk result (λ ms. coming_in_utf16 ms ≡ map (told (of_utf16 units.now)) (tree_list_in_units regex.now n t (characters units.now) place)) }
 {
     regex.find_from_utf16(units, start)
 }
@@ -176,17 +195,22 @@ fn in_ucs2_from<'r, 't>(
     units: &'t [u16],
     start: usize,
 ) -> Result<Ucs2Matches<'r, 't>, Error>
-    ensures { (t : Table) → (o : Options) → (p : Pattern) → StandsInUnits regex.now t o p →
+    ensures of_pattern { (t : Table) → (o : Options) → (p : Pattern) → StandsInUnits regex.now t o p →
         (place : ℕ) → Begins (of_ucs2 units.now) start place →
         IfOk result (λ ms. coming_in_ucs2 ms ≡ map (told (of_ucs2 units.now)) (match_list t o p units.now place)) }
+    ensures of_tree { (n : ℕ) → (t : Tree) → HasTreeInUnits regex.now n t →
+        (place : ℕ) → Begins (of_ucs2 units.now) start place →
+        IfOk result (λ ms. coming_in_ucs2 ms ≡ map (told (of_ucs2 units.now)) (tree_list_in_units regex.now n t units.now place)) }
 {
     regex.find_from_ucs2(units, start)
 }
 
 /// Whether there is a match in a text.
 fn has_match(regex: &Regex, text: &str) -> Result<bool, Error>
-    ensures { (t : Table) → (o : Options) → (p : Pattern) → StandsFor regex.now t o p →
+    ensures of_pattern { (t : Table) → (o : Options) → (p : Pattern) → StandsFor regex.now t o p →
         IfOk result (λ found. IsTrue found ↔ (match_list t o p (chars text.now) 0 ≢ [])) }
+    ensures of_tree { (n : ℕ) → (t : Tree) → HasTree regex.now n t →
+        IfOk result (λ found. IsTrue found ↔ (tree_list regex.now n t (chars text.now) 0 ≢ [])) }
 {
     regex.is_match(text)
 }
@@ -194,9 +218,12 @@ fn has_match(regex: &Regex, text: &str) -> Result<bool, Error>
 /// Whether there is a match in a text from an offset on.
 fn has_match_from(regex: &Regex, text: &str, start: usize) -> Result<bool, Error>
     requires { (place : ℕ) × Begins (of_utf8 text.now) start place }
-    ensures { (t : Table) → (o : Options) → (p : Pattern) → StandsFor regex.now t o p →
+    ensures of_pattern { (t : Table) → (o : Options) → (p : Pattern) → StandsFor regex.now t o p →
         (place : ℕ) → Begins (of_utf8 text.now) start place →
         IfOk result (λ found. IsTrue found ↔ (match_list t o p (chars text.now) place ≢ [])) }
+    ensures of_tree { (n : ℕ) → (t : Tree) → HasTree regex.now n t →
+        (place : ℕ) → Begins (of_utf8 text.now) start place →
+        IfOk result (λ found. IsTrue found ↔ (tree_list regex.now n t (chars text.now) place ≢ [])) }
 {
     regex.is_match_from(text, start)
 }
@@ -256,8 +283,11 @@ fn escaped(alloc: Global, text: &str) -> Result<String, Error>
 
 /// A text with its first match replaced.
 fn with_first_replaced(regex: &Regex, text: &str, replacement: &str) -> Result<String, Error>
-    ensures { (t : Table) → (o : Options) → (p : Pattern) → StandsFor regex.now t o p →
+    ensures of_pattern { (t : Table) → (o : Options) → (p : Pattern) → StandsFor regex.now t o p →
         let items = take 1 (map (told (of_utf8 text.now)) (match_list t o p (chars text.now) 0)) in
+        IfOk result (λ s. string_bytes s ≡ replaced text.now items (map (expansion (names_of_regex regex.now) replacement.now text.now) items)) }
+    ensures of_tree { (n : ℕ) → (t : Tree) → HasTree regex.now n t →
+        let items = take 1 (map (told (of_utf8 text.now)) (tree_list regex.now n t (chars text.now) 0)) in
         IfOk result (λ s. string_bytes s ≡ replaced text.now items (map (expansion (names_of_regex regex.now) replacement.now text.now) items)) }
 {
     regex.replace(text, replacement)
@@ -265,8 +295,11 @@ fn with_first_replaced(regex: &Regex, text: &str, replacement: &str) -> Result<S
 
 /// A text with all matches replaced.
 fn with_all_replaced(regex: &Regex, text: &str, replacement: &str) -> Result<String, Error>
-    ensures { (t : Table) → (o : Options) → (p : Pattern) → StandsFor regex.now t o p →
+    ensures of_pattern { (t : Table) → (o : Options) → (p : Pattern) → StandsFor regex.now t o p →
         let items = map (told (of_utf8 text.now)) (match_list t o p (chars text.now) 0) in
+        IfOk result (λ s. string_bytes s ≡ replaced text.now items (map (expansion (names_of_regex regex.now) replacement.now text.now) items)) }
+    ensures of_tree { (n : ℕ) → (t : Tree) → HasTree regex.now n t →
+        let items = map (told (of_utf8 text.now)) (tree_list regex.now n t (chars text.now) 0) in
         IfOk result (λ s. string_bytes s ≡ replaced text.now items (map (expansion (names_of_regex regex.now) replacement.now text.now) items)) }
 {
     regex.replace_all(text, replacement)
@@ -274,8 +307,10 @@ fn with_all_replaced(regex: &Regex, text: &str, replacement: &str) -> Result<Str
 
 /// The parts of a text between the matches.
 fn between<'r, 't>(regex: &'r Regex, text: &'t str) -> Result<Split<'r, 't>, Error>
-    ensures { (t : Table) → (o : Options) → (p : Pattern) → StandsFor regex.now t o p →
+    ensures of_pattern { (t : Table) → (o : Options) → (p : Pattern) → StandsFor regex.now t o p →
         IfOk result (λ s. parts_left s ≡ parts text.now (map (told (of_utf8 text.now)) (match_list t o p (chars text.now) 0))) }
+    ensures of_tree { (n : ℕ) → (t : Tree) → HasTree regex.now n t →
+        IfOk result (λ s. parts_left s ≡ parts text.now (map (told (of_utf8 text.now)) (tree_list regex.now n t (chars text.now) 0))) }
 {
     regex.split(text)
 }
@@ -286,8 +321,10 @@ fn at_most_between<'r, 't>(
     text: &'t str,
     limit: usize,
 ) -> Result<SplitN<'r, 't>, Error>
-    ensures { (t : Table) → (o : Options) → (p : Pattern) → StandsFor regex.now t o p →
+    ensures of_pattern { (t : Table) → (o : Options) → (p : Pattern) → StandsFor regex.now t o p →
         IfOk result (λ s. first_parts_left s ≡ first_parts limit text.now (map (told (of_utf8 text.now)) (match_list t o p (chars text.now) 0))) }
+    ensures of_tree { (n : ℕ) → (t : Tree) → HasTree regex.now n t →
+        IfOk result (λ s. first_parts_left s ≡ first_parts limit text.now (map (told (of_utf8 text.now)) (tree_list regex.now n t (chars text.now) 0))) }
 {
     regex.splitn(text, limit)
 }
@@ -312,8 +349,12 @@ where
     E: From<Error>,
     F: FnOnce(&Match) -> Result<String, E>,
     requires { F.IsAlwaysCallable with }
-    ensures { (t : Table) → (o : Options) → (p : Pattern) → StandsFor regex.now t o p →
+    ensures of_pattern { (t : Table) → (o : Options) → (p : Pattern) → StandsFor regex.now t o p →
         let items = take 1 (map (told (of_utf8 text.now)) (match_list t o p (chars text.now) 0)) in
+        IfOk result (λ s. (news : List (List ℕ)) × AnswersEach (FnOnceReturnsAt F.FnOnce with) (names_of_regex regex.now) items news
+        × (string_bytes s ≡ replaced text.now items news)) }
+    ensures of_tree { (n : ℕ) → (t : Tree) → HasTree regex.now n t →
+        let items = take 1 (map (told (of_utf8 text.now)) (tree_list regex.now n t (chars text.now) 0)) in
         IfOk result (λ s. (news : List (List ℕ)) × AnswersEach (FnOnceReturnsAt F.FnOnce with) (names_of_regex regex.now) items news
         × (string_bytes s ≡ replaced text.now items news)) }
 {
@@ -326,8 +367,12 @@ where
     E: From<Error>,
     F: Fn(&Match) -> Result<String, E>,
     requires { F.IsAlwaysCallable with }
-    ensures { (t : Table) → (o : Options) → (p : Pattern) → StandsFor regex.now t o p →
+    ensures of_pattern { (t : Table) → (o : Options) → (p : Pattern) → StandsFor regex.now t o p →
         let items = map (told (of_utf8 text.now)) (match_list t o p (chars text.now) 0) in
+        IfOk result (λ s. (news : List (List ℕ)) × AnswersEach (FnReturnsAt F.Fn with) (names_of_regex regex.now) items news
+        × (string_bytes s ≡ replaced text.now items news)) }
+    ensures of_tree { (n : ℕ) → (t : Tree) → HasTree regex.now n t →
+        let items = map (told (of_utf8 text.now)) (tree_list regex.now n t (chars text.now) 0) in
         IfOk result (λ s. (news : List (List ℕ)) × AnswersEach (FnReturnsAt F.Fn with) (names_of_regex regex.now) items news
         × (string_bytes s ≡ replaced text.now items news)) }
 {
@@ -342,9 +387,12 @@ fn found_by<'t, E: Executor<'t>>(
 ) -> Result<backends::Matches<E>, AllocError>
     requires start { (place : ℕ) × Begins (of_utf8 text.now) start place }
     requires ascii { IsTrue E.Text.ASCII_ONLY → IsAscii text.now }
-    ensures { (t : Table) → (o : Options) → (p : Pattern) → StandsFor regex.now t o p →
+    ensures of_pattern { (t : Table) → (o : Options) → (p : Pattern) → StandsFor regex.now t o p →
         (place : ℕ) → Begins (of_utf8 text.now) start place →
         IfOk result (λ ms. coming_on (E.items_from (E.sought (producer_of ms))) (position_of ms) ≡ map (told (of_utf8 text.now)) (match_list t o p (chars text.now) place)) }
+    ensures of_tree { (n : ℕ) → (t : Tree) → HasTree regex.now n t →
+        (place : ℕ) → Begins (of_utf8 text.now) start place →
+        IfOk result (λ ms. coming_on (E.items_from (E.sought (producer_of ms))) (position_of ms) ≡ map (told (of_utf8 text.now)) (tree_list regex.now n t (chars text.now) place)) }
 {
     backends::find::<E>(regex, text, start)
 }
@@ -359,23 +407,23 @@ where
     E::AsAscii: Executor<'t>,
     requires start { (place : ℕ) × Begins (of_utf8 text.now) start place }
     requires ascii { IsTrue E.AsAscii.Text.ASCII_ONLY → IsAscii text.now }
-    ensures { (t : Table) → (o : Options) → (p : Pattern) → StandsFor regex.now t o p →
+    ensures of_pattern { (t : Table) → (o : Options) → (p : Pattern) → StandsFor regex.now t o p →
         (place : ℕ) → Begins (of_utf8 text.now) start place →
         IfOk result (λ ms. coming_on (E.AsAscii.items_from (E.AsAscii.sought (producer_of ms))) (position_of ms) ≡ map (told (of_utf8 text.now)) (match_list t o p (chars text.now) place)) }
+    ensures of_tree { (n : ℕ) → (t : Tree) → HasTree regex.now n t →
+        (place : ℕ) → Begins (of_utf8 text.now) start place →
+        IfOk result (λ ms. coming_on (E.AsAscii.items_from (E.AsAscii.sought (producer_of ms))) (position_of ms) ≡ map (told (of_utf8 text.now)) (tree_list regex.now n t (chars text.now) place)) }
 {
     backends::find_ascii::<E>(regex, text, start)
 }
 
 /// A compiled pattern of two programs: in texts it is what the one of bytes was made of, in units what the other was.
-fn of_programs(
-    alloc: Global,
-    byte_program: CompiledRegex,
-    unit_program: CompiledRegex,
-) -> Result<Regex, Error>
+fn of_programs(alloc: Global, byte_program: CompiledRegex, unit_program: CompiledRegex) -> Regex
     requires of_bytes { byte_program.units ≡ false }
     requires of_units { unit_program.units ≡ true }
-    ensures stands { (t : Table) → (o : Options) → (p : Pattern) → IsProgramOf byte_program.entry t o p → IfOk result (λ r. StandsFor r t o p) }
-    ensures stands_in_units { (t : Table) → (o : Options) → (p : Pattern) → IsProgramOf unit_program.entry t o p → IfOk result (λ r. StandsInUnits r t o p) }
+    ensures stands { (t : Table) → (o : Options) → (p : Pattern) → IsProgramOf byte_program.entry t o p → StandsFor result t o p }
+    ensures stands_in_units { (t : Table) → (o : Options) → (p : Pattern) → IsProgramOf unit_program.entry t o p → StandsInUnits result t o p }
+    ensures programs { (byte_target result ≡ target_of byte_program.entry) × (unit_target result ≡ target_of unit_program.entry) }
 {
     Regex::from_programs(alloc, byte_program, unit_program)
 }

@@ -85,7 +85,8 @@ pub(crate) fn of_programs(
     }
     let tree = backends::try_parse(alloc, points, flags, tables)?;
     let of_bytes = backends::emit(alloc, &tree)?;
-    Regex::from_programs(alloc, of_bytes, backends::emit_units(alloc, &tree)?)
+    let of_units = backends::emit_units(alloc, &tree)?;
+    Ok(Regex::from_programs(alloc, of_bytes, of_units))
 }
 
 /// The matches by `find_from`; behind the last nothing may come.

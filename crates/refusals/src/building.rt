@@ -65,7 +65,7 @@ fn regex_of(alloc: Global, regex: &ir::Regex<'_>) -> Result<Regex, Error>
 {
     let byte_program = emit(alloc, regex)?;
     let unit_program = emit_units(alloc, regex)?;
-    Regex::from_programs(alloc, byte_program, unit_program)
+    Ok(Regex::from_programs(alloc, byte_program, unit_program))
 }
 
 /// A program of bytes.

@@ -7,6 +7,7 @@ use Rattle.std.specs.Str.{IsUtf8}
 use mathlib.Core.HLevel.{Unit-prop}
 use denote.Struct.Props as logic
 use Rattle.regress_meaning.specs.Table.{Table}
+use Rattle.regress_meaning.specs.TableParts.{is_code_point}
 use Rattle.regress_meaning.specs.Pattern.{Pattern, names_of}
 use Rattle.regress_meaning.specs.Flags.{Options, is_unicode}
 use Rattle.regress_meaning.specs.Meaning.{Context}
@@ -15,6 +16,7 @@ use Rattle.regress_meaning.specs.Laws.{IsItemInside, ItemsRise, OffsetsRise}
 use Rattle.regress_meaning.specs.Matches.{Item, match_list}
 use Rattle.regress_meaning.specs.Offsets.{Reading, of_utf8, told, Begins}
 use Rattle.regress_front.specs.NodeMatches.{node_match_list}
+use Rattle.regress_front.specs.Trees.{Tree}
 use Rattle.regress_front_nodes.proofs.AlikeMatches.{match_list-same}
 use Rattle.regress_front_nodes.proofs.MatchLemmas.{matches_rise, matches_lie}
 use Rattle.regress_match.specs.declared.found.Match.{Match}
@@ -29,7 +31,7 @@ use Rattle.regress_engine_sought.specs.Searching.{Searches}
 use Rattle.regress_engine_sought.specs.Sought.{Sought, IsMadeOf, StartsAt, items_from}
 use Rattle.regress_engine_sought.specs.SoughtOnce.{rises}
 use Rattle.regress_engine_sought.proofs.ProducerLemmas.{items-asked}
-use Rattle.regress.specs.Programs.{IsProgramOf}
+use Rattle.regress.specs.Programs.{IsProgramOf, IsLaidOutFrom, items_of_tree}
 use Rattle.regress.specs.Seeking.{Seeks}
 
 -- items that rise do so told in offsets, where each lies in the text
@@ -52,22 +54,38 @@ ItemsRise-prop [] = Unit-prop
 ItemsRise-prop (i ∷ []) = le_prop
 ItemsRise-prop (i ∷ j ∷ items) = let rest = ItemsRise-prop (j ∷ items) in Prim.hlevel (rest, logic.props)
 
+-- the tree of a pattern's program has the pattern's matches
+pub pattern-listed : (compiled : CompiledRegex) (t : Table) (o : Options) (p : Pattern) (stands : IsProgramOf compiled t o p) (text : List ℕ) → All is_code_point text → (place : ℕ)
+    → match_list t o p text place ≡ items_of_tree (target_of compiled) (length (names_of p)) stands.node text place
+pattern-listed compiled t o p stands text points place =
+    sym (ap (λ (context : Context). node_match_list context (length (names_of p)) stands.node place)
+    (λ i. record { text = text; table = stands.table i; unicode = is_unicode (stands.flags i) })
+    ∙ match_list-same t o p text stands.node (length (names_of p)) refl stands.alike points place)
+
+-- and in a text of UTF-8
+pub pattern-in_text : (compiled : CompiledRegex) (t : Table) (o : Options) (p : Pattern) (stands : IsProgramOf compiled t o p) (bytes : List ℕ) → IsUtf8 bytes → (place : ℕ)
+    → match_list t o p (chars bytes) place ≡ items_of_tree (target_of compiled) (length (names_of p)) stands.node (chars bytes) place
+pattern-in_text compiled t o p stands bytes utf8 place = pattern-listed compiled t o p stands (chars bytes) (chars-code_points bytes utf8) place
+
 module _ (s : Sought) (all : AreOfKind s.view.kind s.view.units) (made : IsMadeOf s.compiled s.view)
     (at place : ℕ) (begins : Begins (reading_of s.view) at place) (position : Option ℕ) (starts : StartsAt s at position) where
   abbrev reading : Reading
   reading = reading_of s.view
 
-  -- an executor of a pattern's program has the pattern's matches still to find
+  -- an executor has the matches of each tree of its program still to find
+  pub tree-coming : (n : ℕ) (t : Tree) → IsLaidOutFrom (target_of s.compiled) n t
+      → coming_on (items_from s) position ≡ map (told reading) (items_of_tree (target_of s.compiled) n t reading.points place)
+  tree-coming n t laid =
+      items-asked s all made n t laid.0 laid.1 at place begins position starts
+      ∙ ap (λ (context : Context). map (told reading) (node_match_list context n t place))
+      (λ i. record { text = reading.points; table = sym made.made.table i; unicode = sym made.made.unicode i })
+
+  -- so that of a pattern's program has the pattern's matches
   pub pattern-coming : (t : Table) (o : Options) (p : Pattern) → IsProgramOf s.compiled t o p
       → coming_on (items_from s) position ≡ map (told reading) (match_list t o p reading.points place)
   pattern-coming t o p stands =
-      let n = length (names_of p) in
-      let table = sym made.made.table ∙ stands.table in
-      let unicode = sym made.made.unicode ∙ ap is_unicode stands.flags in
-      items-asked s all made n stands.node stands.well_formed stands.layout at place begins position starts
-      ∙ ap (λ (context : Context). map (told reading) (node_match_list context n stands.node place))
-      (λ i. record { text = reading.points; table = table i; unicode = unicode i })
-      ∙ ap (map (told reading)) (match_list-same t o p reading.points stands.node n refl stands.alike (tells s.view.kind s.view.table s.view.unicode s.view.units all).points place)
+      tree-coming (length (names_of p)) stands.node (stands.well_formed, stands.layout)
+      ∙ ap (map (told reading)) (sym (pattern-listed s.compiled t o p stands reading.points (tells s.view.kind s.view.table s.view.unicode s.view.units all).points place))
 
   -- what an executor has still to find rises, since its program is laid out from a tree
   pub coming-rises : ItemsRise (coming_on (items_from s) position)
@@ -82,6 +100,16 @@ module _ (s : Sought) (all : AreOfKind s.view.kind s.view.units) (made : IsMadeO
 
 module _ (s : Sought) (compiled : CompiledRegex) (units : List ℕ) (seeks : Seeks compiled units s) (all : AreOfKind s.view.kind units)
     (at place : ℕ) (begins : Begins (reading_of_kind s.view.kind units) at place) (position : Option ℕ) (starts : StartsAt s at position) where
+  -- what seeks a program has that part of the match list of each of its trees still to come
+  pub tree-sought : (n : ℕ) (t : Tree) → IsLaidOutFrom (target_of compiled) n t
+      → coming_on (items_from s) position ≡ map (told (reading_of_kind s.view.kind units)) (items_of_tree (target_of compiled) n t (reading_of_kind s.view.kind units).points place)
+  tree-sought n t laid =
+      subst (λ us. AreOfKind s.view.kind us → Begins (reading_of_kind s.view.kind us) at place
+      → coming_on (items_from s) position ≡ map (told (reading_of_kind s.view.kind us)) (items_of_tree (target_of compiled) n t (reading_of_kind s.view.kind us).points place)) seeks.over
+      (λ among start. tree-coming s among seeks.made at place start position starts n t (subst (λ c. IsLaidOutFrom (target_of c) n t) (sym seeks.program) laid)
+      ∙ ap (λ (c : CompiledRegex). map (told (reading_of s.view)) (items_of_tree (target_of c) n t (reading_of s.view).points place)) seeks.program)
+      all begins
+
   -- what seeks a pattern's program has that part of the pattern's match list still to come
   pub coming-sought : (t : Table) (o : Options) (p : Pattern) → IsProgramOf compiled t o p
       → coming_on (items_from s) position ≡ map (told (reading_of_kind s.view.kind units)) (match_list t o p (reading_of_kind s.view.kind units).points place)
@@ -97,14 +125,18 @@ module _ (s : Sought) (compiled : CompiledRegex) (units : List ℕ) (seeks : See
       subst (λ us. AreOfKind s.view.kind us → Begins (reading_of_kind s.view.kind us) at place → ItemsRise (coming_on (items_from s) position)) seeks.over
       (λ among start. coming-rises s among seeks.made at place start position starts) all begins
 
--- what finds the matches of trees by a program of bytes finds those of the program's pattern
+-- what finds the matches of trees by a program of bytes finds those of each tree of it
+pub tree-searched : {Position : Type 0} (compiled : CompiledRegex) (bytes : List ℕ) → IsUtf8 bytes → (IsStart : ℕ → Type 0) (starts_at : ℕ → Option Position → Type 0)
+    (items : Position → List Item) (IsOfSearch : Match → Type 0) → Searches compiled bytes IsStart starts_at items IsOfSearch
+    → (n : ℕ) (t : Tree) → IsLaidOutFrom (target_of compiled) n t → (at place : ℕ) → Begins (of_utf8 bytes) at place → (position : Option Position) → starts_at at position
+    → coming_on items position ≡ map (told (of_utf8 bytes)) (items_of_tree (target_of compiled) n t (chars bytes) place)
+tree-searched compiled bytes utf8 IsStart starts_at items IsOfSearch searches n t laid = searches.lists n t laid.0 laid.1
+
+-- and so those of the program's pattern
 pub pattern-searched : {Position : Type 0} (compiled : CompiledRegex) (bytes : List ℕ) → IsUtf8 bytes → (IsStart : ℕ → Type 0) (starts_at : ℕ → Option Position → Type 0)
     (items : Position → List Item) (IsOfSearch : Match → Type 0) → Searches compiled bytes IsStart starts_at items IsOfSearch
     → (t : Table) (o : Options) (p : Pattern) → IsProgramOf compiled t o p → (at place : ℕ) → Begins (of_utf8 bytes) at place → (position : Option Position) → starts_at at position
     → coming_on items position ≡ map (told (of_utf8 bytes)) (match_list t o p (chars bytes) place)
 pattern-searched compiled bytes utf8 IsStart starts_at items IsOfSearch searches t o p stands at place begins position starts =
-    let n = length (names_of p) in
-    searches.lists n stands.node stands.well_formed stands.layout at place begins position starts
-    ∙ ap (λ (context : Context). map (told (of_utf8 bytes)) (node_match_list context n stands.node place))
-    (λ i. record { text = chars bytes; table = stands.table i; unicode = is_unicode (stands.flags i) })
-    ∙ ap (map (told (of_utf8 bytes))) (match_list-same t o p (chars bytes) stands.node n refl stands.alike (chars-code_points bytes utf8) place)
+    searches.lists (length (names_of p)) stands.node stands.well_formed stands.layout at place begins position starts
+    ∙ ap (map (told (of_utf8 bytes))) (sym (pattern-in_text compiled t o p stands bytes utf8 place))

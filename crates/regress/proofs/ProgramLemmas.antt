@@ -30,6 +30,14 @@ use Rattle.regress_engine_runs.proofs.SizeLemmas.{count-bounded}
 use Rattle.regress.specs.Programs.{IsTreeFor, IsProgramOf}
 use Rattle.regress.specs.Refusing.{PassesCount, MayRefuseRegex}
 
+-- a tree as it is parsed is one for the pattern
+pub parsed-for : (t : Table) (o : Options) (text : List ℕ) (p : Pattern) (regex : ir.Regex) → IsTreeOf t o text p (tree regex.node) → IsTreeFor t o text p (tree regex.node)
+parsed-for t o text p regex of_text = record {
+  parsed = tree regex.node;
+  of_text = of_text;
+  rewritten = wholes-right (length (names_of p)) (tree regex.node) (tree regex.node) stays of_text.whole.well_formed;
+}
+
 -- A tree was read from a text under a table and flags, and rewritten or not: it is a tree of a pattern that the text spells.
 pub record IsReadAs (t : Table) (o : Options) (text : List ℕ) (p : Pattern) (regex : ir.Regex) : Type 0 where
   pub of_text : IsTreeFor t o text p (tree regex.node)
@@ -40,11 +48,7 @@ pub record IsReadAs (t : Table) (o : Options) (text : List ℕ) (p : Pattern) (r
 pub as-parsed : (t : Table) (o : Options) (text : List ℕ) (p : Pattern) (regex : ir.Regex) → IsTreeOf t o text p (tree regex.node)
     → options regex.flags ≡ o → table regex.tables.now ≡ t → IsReadAs t o text p regex
 as-parsed t o text p regex of_text flags of_table = record {
-  of_text = record {
-    parsed = tree regex.node;
-    of_text = of_text;
-    rewritten = wholes-right (length (names_of p)) (tree regex.node) (tree regex.node) stays of_text.whole.well_formed;
-  };
+  of_text = parsed-for t o text p regex of_text;
   flags = flags;
   table = of_table;
 }
@@ -146,7 +150,8 @@ short-passes-none t o text plain short passes = few passes.many
 pub refused-fits : (t : Table) (o : Options) (text : List ℕ) (e : Error) → MayRefuseRegex t o text e → o.sets ≡ false → length text ≤ 10000 → e ≢ TooLarge
 refused-fits t o text e refused plain short large = short-passes-none t o text plain short (subst (MayRefuseRegex t o text) large refused)
 
-copied-target : (compiled copy : CompiledRegex) → code.IsCopyOf compiled copy → target_of copy ≡ target_of compiled
+-- a copy of a program is made for the same
+pub copied-target : (compiled copy : CompiledRegex) → code.IsCopyOf compiled copy → target_of copy ≡ target_of compiled
 copied-target compiled copy same = λ i. record { program = same.program i; table = table_known (same.tables i); unicode = is_unicode (options (same.flags i)) }
 
 -- a copy of a program is one of the same pattern

@@ -3,17 +3,19 @@ use Rattle.std.specs.Prelude.{◌≡◌, ℕ, List, length, map, chars}
 use Rattle.regress_meaning.specs.Table.{Table}
 use Rattle.regress_meaning.specs.Pattern.{Pattern, names_of}
 use Rattle.regress_meaning.specs.Flags.{Options, is_unicode, first_settings}
+use Rattle.regress_meaning.specs.Matches.{Item}
 use Rattle.regress_meaning.specs.Meaning.{Forward, outcomes}
 use Rattle.regress_front.specs.TableViews.{table}
 use Rattle.regress_front.specs.FlagWords.{options}
 use Rattle.regress_front.specs.Trees.{Tree}
 use Rattle.regress_front.specs.WellFormed.{IsWellFormed}
+use Rattle.regress_front.specs.NodeMatches.{node_match_list}
 use Rattle.regress_front.specs.TreeMeaning.{node_outcomes}
 use Rattle.regress_front.specs.Alike.{IsAlike}
 use Rattle.regress_front.specs.Parsed.{IsTreeOf}
 use Rattle.regress_front.specs.RewritingLaws.{IsRewritten}
 use Rattle.regress_engine_code.specs.declared.compiled.CompiledRegex.{CompiledRegex}
-use Rattle.regress_engine.specs.Layout.{IsLayout}
+use Rattle.regress_engine.specs.Layout.{Target, IsLayout}
 use Rattle.regress_engine.specs.Standing as code
 use Rattle.regress_engine.specs.Standing.{target_of}
 
@@ -22,6 +24,14 @@ pub record IsTreeFor (table : Table) (o : Options) (text : List ℕ) (p : Patter
   pub parsed : Tree
   pub of_text : IsTreeOf table o text p parsed
   pub rewritten : IsRewritten (length (names_of p)) parsed t
+
+-- What is made for this target is laid out from a tree: it is the layout of this well-formed tree of so many groups.
+abbrev pub IsLaidOutFrom : Target → ℕ → Tree → Type 0
+IsLaidOutFrom target n t = IsWellFormed n t × IsLayout target n t
+
+-- The match list of a tree in a text, from a place on, with a target's table and mode.
+abbrev pub items_of_tree : Target → ℕ → Tree → List ℕ → ℕ → List Item
+items_of_tree target n t text place = node_match_list (record { text = text; table = target.table; unicode = target.unicode }) n t place
 
 -- The program is one of a pattern, under this table and these options: it is the layout of a well-formed tree that is alike
 -- the pattern, and its groups have the pattern's names.

@@ -38,12 +38,14 @@ pub fn is_start(text: &str, start: usize) -> bool
 #[derive(Debug, Drop)]
 pub struct Regex {
     pub(crate) alloc: Global,
-    pub(crate) source: ArcStr,
+    /// The pattern's text, unless it was made of programs.
+    pub(crate) source: Option<ArcStr>,
     pub(crate) compiled: Compiled,
 }
 
 impl Regex {
-    ghost use Rattle.regress.specs.Standing.{StandsFor, StandsInUnits, source_of, names_of_regex};
+    ghost use Rattle.regress_front.specs.Trees.{Tree};
+    ghost use Rattle.regress.specs.Standing.{StandsFor, StandsInUnits, HasTree, tree_list, source_of, names_of_regex};
     ghost use Rattle.regress.specs.Coming.{searched, sought_names, coming, BeginsAndEndsAtStarts, HoldsOfEach};
     ghost use Rattle.regress_match.specs.GroupViews.{names_of_match};
     ghost use Rattle.regress_match.specs.TextRanges.{LiesBetween, LiesInText};
@@ -112,7 +114,7 @@ impl Regex {
         let compiled = Compiled::new(alloc, points, flags, tables)?;
         Ok(Regex {
             alloc,
-            source,
+            source: Some(source),
             compiled,
         })
     }
@@ -127,6 +129,8 @@ impl Regex {
     pub fn find(&self, text: &str) -> Result<Option<Match>, Error>
         ensures found { (t : Table) → (o : Options) → (p : Pattern) → StandsFor self.now t o p →
             IfOk result (λ found. option_map item_of found ≡ option_map (told (of_utf8 text.now)) (slice_get (match_list t o p (chars text.now) 0) 0)) }
+        ensures found_of_tree { (n : ℕ) → (t : Tree) → HasTree self.now n t →
+            IfOk result (λ found. option_map item_of found ≡ option_map (told (of_utf8 text.now)) (slice_get (tree_list self.now n t (chars text.now) 0) 0)) }
         ensures inside { IfOk result (λ found. IfSome found (λ m. (m.range.start ≤ m.range.end) × IsCharBoundary text.now m.range.start × IsCharBoundary text.now m.range.end)) }
         ensures groups_inside { IfOk result (λ found. IfSome found (λ m. All (λ g. IfSome g (LiesBetween text.now)) m.captures.items)) }
         ensures starts { IfOk result (λ found. IfSome found (BeginsAndEndsAtStarts text.now)) }
@@ -148,6 +152,8 @@ impl Regex {
     pub fn find_iter<'r, 't>(&'r self, text: &'t str) -> Result<Matches<'r, 't>, Error>
         ensures matches { (t : Table) → (o : Options) → (p : Pattern) → StandsFor self.now t o p →
             IfOk result (λ ms. coming ms ≡ map (told (of_utf8 text.now)) (match_list t o p (chars text.now) 0)) }
+        ensures matches_of_tree { (n : ℕ) → (t : Tree) → HasTree self.now n t →
+            IfOk result (λ ms. coming ms ≡ map (told (of_utf8 text.now)) (tree_list self.now n t (chars text.now) 0)) }
         ensures over { IfOk result (λ ms. searched ms ≡ text.now) }
         ensures along { IfOk result (HoldsAfterAnyCalls (λ ms. searched ms ≡ text.now) ⟦<Matches<'r, 't> as Iterator>⟧.next_gives) }
         ensures inside { IfOk result (HoldsOfEach ⟦<Matches<'r, 't> as Iterator>⟧.next_gives (LiesInText text.now)) }
@@ -176,6 +182,9 @@ impl Regex {
         ensures matches { (t : Table) → (o : Options) → (p : Pattern) → StandsFor self.now t o p →
             (place : ℕ) → Begins (of_utf8 text.now) start place →
             IfOk result (λ ms. coming ms ≡ map (told (of_utf8 text.now)) (match_list t o p (chars text.now) place)) }
+        ensures matches_of_tree { (n : ℕ) → (t : Tree) → HasTree self.now n t →
+            (place : ℕ) → Begins (of_utf8 text.now) start place →
+            IfOk result (λ ms. coming ms ≡ map (told (of_utf8 text.now)) (tree_list self.now n t (chars text.now) place)) }
         ensures over { IfOk result (λ ms. searched ms ≡ text.now) }
         ensures along { IfOk result (HoldsAfterAnyCalls (λ ms. searched ms ≡ text.now) ⟦<Matches<'r, 't> as Iterator>⟧.next_gives) }
         ensures inside { IfOk result (HoldsOfEach ⟦<Matches<'r, 't> as Iterator>⟧.next_gives (LiesInText text.now)) }

@@ -93,7 +93,8 @@ impl Regex {
     ghost use Rattle.regress_match.specs.Views.{item_of};
     ghost use Rattle.regress_match.specs.GroupViews.{names_of_match};
     ghost use Rattle.regress_match.specs.TextRanges.{LiesBetween, LiesInText};
-    ghost use Rattle.regress.specs.Standing.{StandsFor, names_of_regex};
+    ghost use Rattle.regress_front.specs.Trees.{Tree};
+    ghost use Rattle.regress.specs.Standing.{StandsFor, HasTree, tree_list, names_of_regex};
     ghost use Rattle.regress.specs.Ascii.{searched_in_ascii, names_in_ascii, coming_in_ascii};
     ghost use Rattle.regress.specs.Coming.{BeginsAndEndsAtStarts, HoldsOfEach};
 
@@ -108,6 +109,8 @@ impl Regex {
         requires { IsAscii text.now }
         ensures found { (t : Table) → (o : Options) → (p : Pattern) → StandsFor self.now t o p →
             IfOk result (λ found. option_map item_of found ≡ option_map (told (of_utf8 text.now)) (slice_get (match_list t o p (chars text.now) 0) 0)) }
+        ensures found_of_tree { (n : ℕ) → (t : Tree) → HasTree self.now n t →
+            IfOk result (λ found. option_map item_of found ≡ option_map (told (of_utf8 text.now)) (slice_get (tree_list self.now n t (chars text.now) 0) 0)) }
         ensures inside { IfOk result (λ found. IfSome found (λ m. (m.range.start ≤ m.range.end) × IsCharBoundary text.now m.range.start × IsCharBoundary text.now m.range.end)) }
         ensures groups_inside { IfOk result (λ found. IfSome found (λ m. All (λ g. IfSome g (LiesBetween text.now)) m.captures.items)) }
         ensures starts { IfOk result (λ found. IfSome found (BeginsAndEndsAtStarts text.now)) }
@@ -130,6 +133,8 @@ impl Regex {
         requires { IsAscii text.now }
         ensures matches { (t : Table) → (o : Options) → (p : Pattern) → StandsFor self.now t o p →
             IfOk result (λ ms. coming_in_ascii ms ≡ map (told (of_utf8 text.now)) (match_list t o p (chars text.now) 0)) }
+        ensures matches_of_tree { (n : ℕ) → (t : Tree) → HasTree self.now n t →
+            IfOk result (λ ms. coming_in_ascii ms ≡ map (told (of_utf8 text.now)) (tree_list self.now n t (chars text.now) 0)) }
         ensures over { IfOk result (λ ms. searched_in_ascii ms ≡ text.now) }
         ensures along { IfOk result (HoldsAfterAnyCalls (λ ms. searched_in_ascii ms ≡ text.now) ⟦<AsciiMatches<'r, 't> as Iterator>⟧.next_gives) }
         ensures inside { IfOk result (HoldsOfEach ⟦<AsciiMatches<'r, 't> as Iterator>⟧.next_gives (LiesInText text.now)) }
@@ -158,6 +163,9 @@ impl Regex {
         ensures matches { (t : Table) → (o : Options) → (p : Pattern) → StandsFor self.now t o p →
             (place : ℕ) → Begins (of_utf8 text.now) start place →
             IfOk result (λ ms. coming_in_ascii ms ≡ map (told (of_utf8 text.now)) (match_list t o p (chars text.now) place)) }
+        ensures matches_of_tree { (n : ℕ) → (t : Tree) → HasTree self.now n t →
+            (place : ℕ) → Begins (of_utf8 text.now) start place →
+            IfOk result (λ ms. coming_in_ascii ms ≡ map (told (of_utf8 text.now)) (tree_list self.now n t (chars text.now) place)) }
         ensures over { IfOk result (λ ms. searched_in_ascii ms ≡ text.now) }
         ensures along { IfOk result (HoldsAfterAnyCalls (λ ms. searched_in_ascii ms ≡ text.now) ⟦<AsciiMatches<'r, 't> as Iterator>⟧.next_gives) }
         ensures inside { IfOk result (HoldsOfEach ⟦<AsciiMatches<'r, 't> as Iterator>⟧.next_gives (LiesInText text.now)) }

@@ -5,12 +5,13 @@ ghost use Rattle.regress_meaning.specs.Pattern.{Pattern};
 ghost use Rattle.regress_meaning.specs.Flags.{Options};
 ghost use Rattle.regress_meaning.specs.Matches.{match_list};
 ghost use Rattle.regress_meaning.specs.Offsets.{of_utf8, Begins};
-ghost use Rattle.regress.specs.Standing.{StandsFor, StandsInUnits, source_of, names_of_regex};
+ghost use Rattle.regress_front.specs.Trees.{Tree};
+ghost use Rattle.regress.specs.Standing.{StandsFor, StandsInUnits, HasTree, byte_target, unit_target, tree_list, source_of, names_of_regex};
 
 use crate::api::Regex;
+use crate::text::shared;
 use regress_front::{CaptureGroupName, Error};
 use std::fmt;
-use std::sync::ArcStr;
 
 impl Regex {
     /// Whether there is a match in a text ("RegExp.prototype.test"). Errs with `OutOfMemory` alone.
@@ -21,6 +22,8 @@ impl Regex {
     pub fn is_match(&self, text: &str) -> Result<bool, Error>
         ensures found { (t : Table) → (o : Options) → (p : Pattern) → StandsFor self.now t o p →
             IfOk result (λ found. IsTrue found ↔ (match_list t o p (chars text.now) 0 ≢ [])) }
+        ensures found_of_tree { (n : ℕ) → (t : Tree) → HasTree self.now n t →
+            IfOk result (λ found. IsTrue found ↔ (tree_list self.now n t (chars text.now) 0 ≢ [])) }
         ensures refused { IsOkUnless result Error.OutOfMemory }
     {
         Ok(self.find(text)?.is_some())
@@ -39,6 +42,9 @@ impl Regex {
         ensures found { (t : Table) → (o : Options) → (p : Pattern) → StandsFor self.now t o p →
             (place : ℕ) → Begins (of_utf8 text.now) start place →
             IfOk result (λ found. IsTrue found ↔ (match_list t o p (chars text.now) place ≢ [])) }
+        ensures found_of_tree { (n : ℕ) → (t : Tree) → HasTree self.now n t →
+            (place : ℕ) → Begins (of_utf8 text.now) start place →
+            IfOk result (λ found. IsTrue found ↔ (tree_list self.now n t (chars text.now) place ≢ [])) }
         ensures refused { IsOkUnless result Error.OutOfMemory }
     {
         Ok(self.find_from(text, start)?.next().transpose()?.is_some())
@@ -76,10 +82,11 @@ impl Regex {
         ensures stands { (t : Table) → (o : Options) → (p : Pattern) → StandsFor self.now t o p → IfOk result (λ r. StandsFor r t o p) }
         ensures stands_in_units { (t : Table) → (o : Options) → (p : Pattern) → StandsInUnits self.now t o p → IfOk result (λ r. StandsInUnits r t o p) }
         ensures named { IfOk result (λ r. names_of_regex r ≡ names_of_regex self.now) }
+        ensures programs { IfOk result (λ r. (byte_target r ≡ byte_target self.now) × (unit_target r ≡ unit_target self.now)) }
         ensures text { IfOk result (λ r. source_of r ≡ source_of self.now) }
         ensures refused { IsOkUnless result Error.OutOfMemory }
     {
-        let source: ArcStr = self.source.clone()?;
+        let source = shared(&self.source)?;
         let compiled = self.compiled.try_clone(self.alloc)?;
         Ok(Regex {
             alloc: self.alloc,
@@ -88,7 +95,8 @@ impl Regex {
         })
     }
 
-    /// The pattern's text. In that of a pattern that was given as code points, U+FFFD stands for each surrogate.
+    /// The pattern's text. In that of a pattern that was given as code points, U+FFFD stands for each surrogate; that of a regex
+    /// of programs is empty.
     ///
     /// ```rust
     /// let text = regex.as_str(); // `a+b`
@@ -96,7 +104,10 @@ impl Regex {
     pub fn as_str(&self) -> &str
         ensures { result.now ≡ source_of self.now }
     {
-        self.source.as_str()
+        match &self.source {
+            Some(source) => source.as_str(),
+            None => "",
+        }
     }
 }
 

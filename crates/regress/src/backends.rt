@@ -9,7 +9,8 @@ ghost use Rattle.regress_meaning.specs.Offsets.{of_utf8, told, Begins};
 ghost use Rattle.regress_match.specs.declared.found.Match.{Match};
 ghost use Rattle.regress_match.specs.Iterating.{coming_on, position_of, producer_of};
 ghost use Rattle.regress_match.specs.TextRanges.{IsMatchIn};
-ghost use Rattle.regress.specs.Standing.{StandsFor, names_of_regex};
+ghost use Rattle.regress_front.specs.Trees.{Tree};
+ghost use Rattle.regress.specs.Standing.{StandsFor, HasTree, tree_list, names_of_regex};
 
 use crate::api::Regex;
 pub use regress_engine::{
@@ -46,6 +47,9 @@ pub fn find<'t, E: Executor<'t>>(
     ensures matches { (t : Table) → (o : Options) → (p : Pattern) → StandsFor regex.now t o p →
         (place : ℕ) → Begins (of_utf8 text.now) start place →
         IfOk result (λ ms. coming_on (E.items_from (E.sought (producer_of ms))) (position_of ms) ≡ map (told (of_utf8 text.now)) (match_list t o p (chars text.now) place)) }
+    ensures matches_of_tree { (n : ℕ) → (t : Tree) → HasTree regex.now n t →
+        (place : ℕ) → Begins (of_utf8 text.now) start place →
+        IfOk result (λ ms. coming_on (E.items_from (E.sought (producer_of ms))) (position_of ms) ≡ map (told (of_utf8 text.now)) (tree_list regex.now n t (chars text.now) place)) }
     ensures begins { IfOk result (λ ms. IfSome (position_of ms) (E.is_position (E.sought (producer_of ms)))) }
     ensures inside { IfOk result (λ ms. (m : Match) → E.is_of_search (E.sought (producer_of ms)) m → IsMatchIn text.now (names_of_regex regex.now) m) }
 {
@@ -70,6 +74,9 @@ where
     ensures matches { (t : Table) → (o : Options) → (p : Pattern) → StandsFor regex.now t o p →
         (place : ℕ) → Begins (of_utf8 text.now) start place →
         IfOk result (λ ms. coming_on (E.AsAscii.items_from (E.AsAscii.sought (producer_of ms))) (position_of ms) ≡ map (told (of_utf8 text.now)) (match_list t o p (chars text.now) place)) }
+    ensures matches_of_tree { (n : ℕ) → (t : Tree) → HasTree regex.now n t →
+        (place : ℕ) → Begins (of_utf8 text.now) start place →
+        IfOk result (λ ms. coming_on (E.AsAscii.items_from (E.AsAscii.sought (producer_of ms))) (position_of ms) ≡ map (told (of_utf8 text.now)) (tree_list regex.now n t (chars text.now) place)) }
     ensures begins { IfOk result (λ ms. IfSome (position_of ms) (E.AsAscii.is_position (E.AsAscii.sought (producer_of ms)))) }
     ensures inside { IfOk result (λ ms. (m : Match) → E.AsAscii.is_of_search (E.AsAscii.sought (producer_of ms)) m → IsMatchIn text.now (names_of_regex regex.now) m) }
 {

@@ -24,6 +24,7 @@ pub use laws::{
     parts_stand_between_the_matches, whole_matches_give_the_text_back,
 };
 pub use matches::Matches;
+pub use programs::programs_of_trees_are_of_patterns;
 pub use refusing::{SyntaxError, syntax_error};
 pub use regress_engine::{CompiledRegex, is_unit_start, is_well_formed_utf16};
 pub use regress_front::{

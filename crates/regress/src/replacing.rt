@@ -7,7 +7,8 @@ ghost use Rattle.regress_meaning.specs.Flags.{Options};
 ghost use Rattle.regress_meaning.specs.Matches.{match_list};
 ghost use Rattle.regress_meaning.specs.Offsets.{of_utf8, told};
 ghost use Rattle.regress_replacing.specs.Replacing.{expansion, replaced};
-ghost use Rattle.regress.specs.Standing.{StandsFor, names_of_regex};
+ghost use Rattle.regress_front.specs.Trees.{Tree};
+ghost use Rattle.regress.specs.Standing.{StandsFor, HasTree, tree_list, names_of_regex};
 ghost use Rattle.regress.specs.Answering.{AnswersEach, RefusesOne};
 
 use crate::api::Regex;
@@ -39,6 +40,9 @@ impl Regex {
         ensures replaced { (t : Table) → (o : Options) → (p : Pattern) → StandsFor self.now t o p →
             let items = take 1 (map (told (of_utf8 text.now)) (match_list t o p (chars text.now) 0)) in
             IfOk result (λ s. string_bytes s ≡ replaced text.now items (map (expansion (names_of_regex self.now) replacement.now text.now) items)) }
+        ensures replaced_of_tree { (n : ℕ) → (t : Tree) → HasTree self.now n t →
+            let items = take 1 (map (told (of_utf8 text.now)) (tree_list self.now n t (chars text.now) 0)) in
+            IfOk result (λ s. string_bytes s ≡ replaced text.now items (map (expansion (names_of_regex self.now) replacement.now text.now) items)) }
         ensures refused { IsOkUnless result Error.OutOfMemory }
     {
         let mut written = String::new(self.alloc);
@@ -64,6 +68,9 @@ impl Regex {
     pub fn replace_all(&self, text: &str, replacement: &str) -> Result<String, Error>
         ensures replaced { (t : Table) → (o : Options) → (p : Pattern) → StandsFor self.now t o p →
             let items = map (told (of_utf8 text.now)) (match_list t o p (chars text.now) 0) in
+            IfOk result (λ s. string_bytes s ≡ replaced text.now items (map (expansion (names_of_regex self.now) replacement.now text.now) items)) }
+        ensures replaced_of_tree { (n : ℕ) → (t : Tree) → HasTree self.now n t →
+            let items = map (told (of_utf8 text.now)) (tree_list self.now n t (chars text.now) 0) in
             IfOk result (λ s. string_bytes s ≡ replaced text.now items (map (expansion (names_of_regex self.now) replacement.now text.now) items)) }
         ensures refused { IsOkUnless result Error.OutOfMemory }
     {
@@ -98,8 +105,15 @@ impl Regex {
             let items = take 1 (map (told (of_utf8 text.now)) (match_list t o p (chars text.now) 0)) in
             IfOk result (λ s. (news : List (List ℕ)) × AnswersEach (FnOnceReturnsAt F.FnOnce with) (names_of_regex self.now) items news
             × (string_bytes s ≡ replaced text.now items news)) }
+        ensures replaced_of_tree { (n : ℕ) → (t : Tree) → HasTree self.now n t →
+            let items = take 1 (map (told (of_utf8 text.now)) (tree_list self.now n t (chars text.now) 0)) in
+            IfOk result (λ s. (news : List (List ℕ)) × AnswersEach (FnOnceReturnsAt F.FnOnce with) (names_of_regex self.now) items news
+            × (string_bytes s ≡ replaced text.now items news)) }
         ensures refused { (t : Table) → (o : Options) → (p : Pattern) → StandsFor self.now t o p →
             let items = take 1 (map (told (of_utf8 text.now)) (match_list t o p (chars text.now) 0)) in
+            IfErr result (λ e. E.from_gives Error.OutOfMemory e ⊎ RefusesOne (FnOnceReturnsAt F.FnOnce with) (names_of_regex self.now) items e) }
+        ensures refused_of_tree { (n : ℕ) → (t : Tree) → HasTree self.now n t →
+            let items = take 1 (map (told (of_utf8 text.now)) (tree_list self.now n t (chars text.now) 0)) in
             IfErr result (λ e. E.from_gives Error.OutOfMemory e ⊎ RefusesOne (FnOnceReturnsAt F.FnOnce with) (names_of_regex self.now) items e) }
     {
         let mut written = String::new(self.alloc);
@@ -131,8 +145,15 @@ impl Regex {
             let items = map (told (of_utf8 text.now)) (match_list t o p (chars text.now) 0) in
             IfOk result (λ s. (news : List (List ℕ)) × AnswersEach (FnReturnsAt F.Fn with) (names_of_regex self.now) items news
             × (string_bytes s ≡ replaced text.now items news)) }
+        ensures replaced_of_tree { (n : ℕ) → (t : Tree) → HasTree self.now n t →
+            let items = map (told (of_utf8 text.now)) (tree_list self.now n t (chars text.now) 0) in
+            IfOk result (λ s. (news : List (List ℕ)) × AnswersEach (FnReturnsAt F.Fn with) (names_of_regex self.now) items news
+            × (string_bytes s ≡ replaced text.now items news)) }
         ensures refused { (t : Table) → (o : Options) → (p : Pattern) → StandsFor self.now t o p →
             let items = map (told (of_utf8 text.now)) (match_list t o p (chars text.now) 0) in
+            IfErr result (λ e. E.from_gives Error.OutOfMemory e ⊎ RefusesOne (FnReturnsAt F.Fn with) (names_of_regex self.now) items e) }
+        ensures refused_of_tree { (n : ℕ) → (t : Tree) → HasTree self.now n t →
+            let items = map (told (of_utf8 text.now)) (tree_list self.now n t (chars text.now) 0) in
             IfErr result (λ e. E.from_gives Error.OutOfMemory e ⊎ RefusesOne (FnReturnsAt F.Fn with) (names_of_regex self.now) items e) }
     {
         let mut written = String::new(self.alloc);

@@ -10,7 +10,8 @@ ghost use Rattle.regress_meaning.specs.Offsets.{of_utf8, told};
 ghost use Rattle.regress_meaning.specs.Parts.{parts, first_parts};
 ghost use Rattle.regress.specs.Behind.{LieBehindAny, LieBehindAny-prop};
 ghost use Rattle.regress.specs.Coming.{searched, coming};
-ghost use Rattle.regress.specs.Standing.{StandsFor};
+ghost use Rattle.regress_front.specs.Trees.{Tree};
+ghost use Rattle.regress.specs.Standing.{StandsFor, HasTree, tree_list};
 
 use crate::api::Regex;
 use crate::matches::Matches;
@@ -36,6 +37,8 @@ impl<'r, 't> Split<'r, 't> {
         ensures begins { IfOk result (λ s. (s.source.now ≡ source.now) × (s.behind ≡ Some 0)) }
         ensures matches { (t : Table) → (o : Options) → (p : Pattern) → StandsFor regex.now t o p →
             IfOk result (λ s. coming s.matches ≡ map (told (of_utf8 source.now)) (match_list t o p (chars source.now) 0)) }
+        ensures matches_of_tree { (n : ℕ) → (t : Tree) → HasTree regex.now n t →
+            IfOk result (λ s. coming s.matches ≡ map (told (of_utf8 source.now)) (tree_list regex.now n t (chars source.now) 0)) }
         ensures refused { IsOkUnless result Error.OutOfMemory }
     {
         let matches = regex.find_iter(source)?;
@@ -145,6 +148,8 @@ impl Regex {
     pub fn split<'r, 't>(&'r self, text: &'t str) -> Result<Split<'r, 't>, Error>
         ensures parts { (t : Table) → (o : Options) → (p : Pattern) → StandsFor self.now t o p →
             IfOk result (λ s. parts_left s ≡ parts text.now (map (told (of_utf8 text.now)) (match_list t o p (chars text.now) 0))) }
+        ensures parts_of_tree { (n : ℕ) → (t : Tree) → HasTree self.now n t →
+            IfOk result (λ s. parts_left s ≡ parts text.now (map (told (of_utf8 text.now)) (tree_list self.now n t (chars text.now) 0))) }
         ensures refused { IsOkUnless result Error.OutOfMemory }
     {
         Split::new(self, text)
@@ -163,6 +168,8 @@ impl Regex {
     pub fn splitn<'r, 't>(&'r self, text: &'t str, limit: usize) -> Result<SplitN<'r, 't>, Error>
         ensures parts { (t : Table) → (o : Options) → (p : Pattern) → StandsFor self.now t o p →
             IfOk result (λ s. first_parts_left s ≡ first_parts limit text.now (map (told (of_utf8 text.now)) (match_list t o p (chars text.now) 0))) }
+        ensures parts_of_tree { (n : ℕ) → (t : Tree) → HasTree self.now n t →
+            IfOk result (λ s. first_parts_left s ≡ first_parts limit text.now (map (told (of_utf8 text.now)) (tree_list self.now n t (chars text.now) 0))) }
         ensures refused { IsOkUnless result Error.OutOfMemory }
     {
         let parts = Split::new(self, text)?;

@@ -127,7 +127,8 @@ impl Regex {
     ghost use Rattle.regress_meaning.specs.Flags.{Options};
     ghost use Rattle.regress_meaning.specs.Matches.{match_list};
     ghost use Rattle.regress_meaning.specs.Offsets.{characters, told};
-    ghost use Rattle.regress.specs.Standing.{StandsInUnits};
+    ghost use Rattle.regress_front.specs.Trees.{Tree};
+    ghost use Rattle.regress.specs.Standing.{StandsInUnits, HasTreeInUnits, tree_list_in_units};
     ghost use Rattle.regress.specs.Units.{sought_in_utf16, sought_in_ucs2, coming_in_utf16, coming_in_ucs2, IsMatchInUnits};
     ghost use Rattle.regress.specs.Coming.{HoldsOfEach};
 
@@ -148,6 +149,9 @@ impl Regex {
         ensures matches { (t : Table) → (o : Options) → (p : Pattern) → StandsInUnits self.now t o p →
             (place : ℕ) → Begins (of_utf16 units.now) start place →
             IfOk result (λ ms. coming_in_utf16 ms ≡ map (told (of_utf16 units.now)) (match_list t o p (characters units.now) place)) }
+        ensures matches_of_tree { (n : ℕ) → (t : Tree) → HasTreeInUnits self.now n t →
+            (place : ℕ) → Begins (of_utf16 units.now) start place →
+            IfOk result (λ ms. coming_in_utf16 ms ≡ map (told (of_utf16 units.now)) (tree_list_in_units self.now n t (characters units.now) place)) }
         ensures over { IfOk result (λ ms. (sought_in_utf16 ms).view.units ≡ units.now) }
         ensures inside { IfOk result (HoldsOfEach ⟦<Utf16Matches<'r, 't> as Iterator>⟧.next_gives (IsMatchInUnits (of_utf16 units.now) units.now)) }
         ensures refused { IsOkUnless result Error.OutOfMemory }
@@ -170,6 +174,9 @@ impl Regex {
         ensures matches { (t : Table) → (o : Options) → (p : Pattern) → StandsInUnits self.now t o p →
             (place : ℕ) → Begins (of_ucs2 units.now) start place →
             IfOk result (λ ms. coming_in_ucs2 ms ≡ map (told (of_ucs2 units.now)) (match_list t o p units.now place)) }
+        ensures matches_of_tree { (n : ℕ) → (t : Tree) → HasTreeInUnits self.now n t →
+            (place : ℕ) → Begins (of_ucs2 units.now) start place →
+            IfOk result (λ ms. coming_in_ucs2 ms ≡ map (told (of_ucs2 units.now)) (tree_list_in_units self.now n t units.now place)) }
         ensures over { IfOk result (λ ms. (sought_in_ucs2 ms).view.units ≡ units.now) }
         ensures inside { IfOk result (HoldsOfEach ⟦<Ucs2Matches<'r, 't> as Iterator>⟧.next_gives (IsMatchInUnits (of_ucs2 units.now) units.now)) }
         ensures refused { IsOkUnless result Error.OutOfMemory }

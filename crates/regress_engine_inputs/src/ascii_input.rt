@@ -137,12 +137,12 @@ impl<'u, 't> InputIndexer for AsciiInput<'u, 't> {
 }
 
 impl<'u, 't> CharInput for AsciiInput<'u, 't> {
-    ghost use Rattle.regress_front_tables.specs.TableViews.{known_by, parts};
+    ghost use Rattle.regress_front_tables.specs.TableViews.{parts};
     ghost use Rattle.regress_engine_inputs.specs.AsciiByTable.{ascii-by_table};
 
     type CharProps = ASCIICharProperties;
 
-    ghost canon_by_table = { λ s dir o c read. ascii-by_table (parts s.tables.now) (known_by s.tables.now).lawful s.unicode s.text.now s.ascii dir o c read };
+    ghost canon_by_table = { λ s dir o c read. ascii-by_table (parts s.tables.now) s.tables.now.lawful s.unicode s.text.now s.ascii dir o c read };
 }
 
 impl<'u, 't> Shown for AsciiInput<'u, 't> {

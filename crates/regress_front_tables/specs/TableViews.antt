@@ -4,22 +4,17 @@ use Rattle.regress_meaning.specs.Table.{Table}
 use Rattle.regress_meaning.specs.TableParts.{TableParts, table_of}
 use Rattle.regress_front_tables.specs.declared.tables.Known.{Known}
 use Rattle.regress_front_tables.specs.declared.tables.Tables.{Tables}
-use Rattle.regress_front_tables.specs.Listed.{listed}
-use Rattle.regress_front_tables.specs.MapViews.{pairs_of}
+use Rattle.regress_front_tables.specs.Listed.{parts_known}
 
 -- what is kept once for all that share tables
 abbrev pub known_by : Tables → Known
 known_by t = arc_value t.known
 
--- the parts of it, as plain lists
-abbrev pub parts_known : Known → TableParts
-parts_known k = listed (pairs_of k.fold) (pairs_of k.upper) k.id_start k.id_continue k.properties.items k.sequences.items
-
 -- what it tells of code points
 abbrev pub table_known : Known → Table
 table_known k = table_of (parts_known k)
 
--- the parts of tables
+-- the parts of tables, as plain lists
 abbrev pub parts : Tables → TableParts
 parts t = parts_known (known_by t)
 

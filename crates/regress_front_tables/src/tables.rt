@@ -1,12 +1,12 @@
 //! Case and properties of code points.
 ghost use Rattle.std.specs.Prelude.{◌≡◌, All, IfOk, map, chars, option_map, option_copied};
+ghost use Rattle.std.specs.Arc.{arc_value};
 ghost use Rattle.regress_meaning.specs.TableParts.{IsLawful, IntervalsRise, entry};
 ghost use Rattle.regress_front_sets.specs.Props.{IsLawful-prop};
 ghost use Rattle.regress_front_sets.specs.Intervals.{ends_of};
 ghost use Rattle.regress_front_sets.specs.Sets.{ends_in};
 ghost use Rattle.regress_front_tables.specs.Entries.{entry_of};
-ghost use Rattle.regress_front_tables.specs.Listed.{listed};
-ghost use Rattle.regress_front_tables.specs.MapViews.{pairs_of};
+ghost use Rattle.regress_front_tables.specs.Listed.{parts_known};
 
 pub(crate) mod case_map;
 mod check;
@@ -37,7 +37,6 @@ pub(crate) struct Known {
     id_continue: CodePointSet,
     properties: Vec<(String, CodePointSet)>,
     sequences: Vec<(String, Vec<Vec<CodePoint>>)>,
-    pub ghost lawful: { IsLawful (listed (pairs_of fold) (pairs_of upper) id_start id_continue properties.items sequences.items) } by { IsLawful-prop (listed (pairs_of fold) (pairs_of upper) id_start id_continue properties.items sequences.items) },
 }
 
 /// Case and properties of code points, which patterns are compiled by. They keep all laws (`TableLaw`). What they know is kept
@@ -45,6 +44,7 @@ pub(crate) struct Known {
 #[derive(Drop)]
 pub struct Tables {
     pub(crate) known: Arc<Known>,
+    pub ghost lawful: { IsLawful (parts_known (arc_value known)) } by { IsLawful-prop (parts_known (arc_value known)) },
 }
 
 impl Tables {

@@ -2,8 +2,13 @@ use Rattle.std.proofs.Common.{ap, ◌∙◌}
 use Rattle.regress_engine_code.specs.Standing.{names_of}
 use Rattle.regress.specs.Coming.{sought_by, searched, sought_names, coming, next_from, HasEnded}
 use Rattle.regress.proofs.IterationLemmas.{searched-along, inside-each, starts-each}
-use Rattle.regress.proofs.ListedLemmas.{coming-sought, sought-rises}
+use Rattle.regress.proofs.ListedLemmas.{coming-sought, tree-sought, sought-rises}
 use Rattle.regress.proofs.api.Regex.find_from.Goals as goal
+
+pub returns-clause-matches_of_tree : goal.returns-clause-matches_of_tree
+returns-clause-matches_of_tree c = λ n t laid place begins.
+    tree-sought (sought_by c.new.result) c.args.self.now.compiled.byte_program c.args.text.now c.new.ensures.over c.utf8.text c.args.start place begins
+    (next_from c.new.result) c.new.ensures.begins n t laid
 
 pub returns-clause-matches : goal.returns-clause-matches
 returns-clause-matches c = λ t o p stands place begins.

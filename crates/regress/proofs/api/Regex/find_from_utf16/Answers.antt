@@ -10,8 +10,15 @@ use Rattle.regress_engine_sought.specs.Sought.{IsItemAtPlaces, IsMatchOf}
 use Rattle.regress.specs.declared.units.Utf16Matches.{Utf16Matches}
 use Rattle.regress.specs.Units.{sought_in_utf16, coming_in_utf16, HasEndedUtf16, IsMatchInUnits}
 use Rattle.regress.proofs.UnitLemmas.{match-in, each-match}
-use Rattle.regress.proofs.ListedLemmas.{coming-sought}
+use Rattle.regress.proofs.ListedLemmas.{coming-sought, tree-sought}
 use Rattle.regress.proofs.api.Regex.find_from_utf16.Goals as goal
+
+pub returns-clause-matches_of_tree : goal.returns-clause-matches_of_tree
+returns-clause-matches_of_tree c = λ n t laid place begins.
+    let units = c.args.units.now in
+    let short : All (λ u. u < 0x1_0000) units = λ k d room. let same = get_or_default units k d 0 room in let fits = c.type_inv.units k in omega (arith, same, fits) in
+    tree-sought (sought_in_utf16 c.new.result) c.args.self.now.compiled.unit_program units c.new.ensures.over short c.args.start place begins
+    c.new.result.position c.new.ensures.begins n t laid
 
 pub returns-clause-matches : goal.returns-clause-matches
 returns-clause-matches c = λ t o p stands place begins.

@@ -1,10 +1,18 @@
 use Rattle.std.specs.Str.{chars}
-use Rattle.regress_meaning.specs.Matches.{match_list}
 use Rattle.regress_meaning.specs.Offsets.{of_utf8, told}
+use Rattle.regress_meaning.specs.Pattern.{names_of}
+use Rattle.std.proofs.Common.{length}
+use Rattle.regress.specs.Standing.{tree_list}
+use Rattle.regress.proofs.ListedLemmas.{pattern-in_text}
 use Rattle.regress.proofs.AskingLemmas.{found-some}
 use Rattle.regress.proofs.api.Regex.is_match.Goals as goal
 
+pub returns-clause-found_of_tree : goal.returns-clause-found_of_tree
+returns-clause-found_of_tree c = λ n t laid.
+    let text = c.args.text.now in
+    rw c.is_some.ensures (found-some (told (of_utf8 text)) (tree_list c.args.self.now n t (chars text) 0) c.in_ok-find.field-0 (c.in_ok-find.ensures.found_of_tree n t laid))
+
 pub returns-clause-found : goal.returns-clause-found
 returns-clause-found c = λ t o p stands.
-    let text = c.args.text.now in
-    rw c.is_some.ensures (found-some (told (of_utf8 text)) (match_list t o p (chars text) 0) c.in_ok-find.field-0 (c.in_ok-find.ensures.found t o p stands))
+    rw (pattern-in_text c.args.self.now.compiled.byte_program t o p stands c.args.text.now c.utf8.text 0)
+    (returns-clause-found_of_tree c (length (names_of p)) stands.node (stands.well_formed, stands.layout))

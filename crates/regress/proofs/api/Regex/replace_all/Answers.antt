@@ -1,12 +1,13 @@
-use Rattle.std.proofs.Common.{◌≡◌, ◌++◌, map, chars, slice_range, string_bytes, refl, ap, ◌∙◌, arith}
+use Rattle.std.proofs.Common.{◌≡◌, ◌++◌, map, chars, slice_range, string_bytes, refl, ap, ◌∙◌, arith, length}
 use Rattle.std.proofs.lemmas.Grind.{common_steps}
-use Rattle.regress_meaning.specs.Matches.{match_list}
 use Rattle.regress_meaning.specs.Offsets.{of_utf8, told}
-use Rattle.regress.specs.Standing.{names_of_regex}
+use Rattle.regress.specs.Standing.{names_of_regex, tree_list}
 use Rattle.regress_match.specs.Views.{item_of}
 use Rattle.regress_replacing.specs.Replacing.{expansion}
 use Rattle.regress_replacing.specs.Views.{source_of}
 use Rattle.regress.specs.Coming.{coming}
+use Rattle.regress_meaning.specs.Pattern.{names_of}
+use Rattle.regress.proofs.ListedLemmas.{pattern-in_text}
 use Rattle.regress.proofs.ReplacingLemmas.{IsGiven, behind-start, given-one, given-none, finished-more, finished-end}
 use Rattle.regress.proofs.api.Regex.replace_all.Goals as goal
 
@@ -36,14 +37,19 @@ loop-found-preserved c =
           ∙ c.loop-found.invariant.written);
     }
 
-pub returns-clause-replaced : goal.returns-clause-replaced
-returns-clause-replaced c = λ t o p stands.
+pub returns-clause-replaced_of_tree : goal.returns-clause-replaced_of_tree
+returns-clause-replaced_of_tree c = λ n t laid.
     let text = c.args.text.now in
     let names = names_of_regex c.args.self.now in
     let new_text = expansion names (source_of c.in_ok-read.read) text in
     let left = given-none c.loop-found.found-iterator c.next.new.self c.next.result c.next.ensures.steps (grind (arith, common_steps)) in
-    let items : coming c.into_iter-found-iterator.result ≡ map (told (of_utf8 text)) (match_list t o p (chars text) 0) =
-    ap coming c.into_iter-found-iterator.ensures.into_iter_gives ∙ c.in_ok-found-items.ensures.matches t o p stands in
+    let items : coming c.into_iter-found-iterator.result ≡ map (told (of_utf8 text)) (tree_list c.args.self.now n t (chars text) 0) =
+    ap coming c.into_iter-found-iterator.ensures.into_iter_gives ∙ c.in_ok-found-items.ensures.matches_of_tree n t laid in
     rw (c.in_ok-push_str-2.ensures.bytes, c.range_from.ensures.value)
     (finished-end text new_text (string_bytes c.loop-found.written) c.loop-found.behind (coming c.loop-found.found-iterator) left ∙ c.loop-found.invariant.written
     ∙ rw (c.new-written.ensures.bytes, items, c.in_ok-read.ensures.read) refl)
+
+pub returns-clause-replaced : goal.returns-clause-replaced
+returns-clause-replaced c = λ t o p stands.
+    rw (pattern-in_text c.args.self.now.compiled.byte_program t o p stands c.args.text.now c.utf8.text 0)
+    (returns-clause-replaced_of_tree c (length (names_of p)) stands.node (stands.well_formed, stands.layout))

@@ -1,7 +1,7 @@
 use Rattle.std.proofs.Common.{refl, sym, ap, ◌∙◌, chars}
 use Rattle.std.proofs.lemmas.Str.{chars-nil}
 use Rattle.regress_meaning.proofs.NameLemmas.{begins-continues}
-use Rattle.regress_front_tables.specs.TableViews.{known_by, parts, table}
+use Rattle.regress_front_tables.specs.TableViews.{parts, table}
 use Rattle.regress_front_tokens.proofs.NameLemmas.{name_at-first, name_at-no_point, name_at-other, behind-point, behind-no_point, behind-other, behind-end, name_pushed}
 use Rattle.regress_front_tokens.proofs.ModeLemmas.{any_mode}
 use Rattle.regress_front_tokens.proofs.cursor.Cursor.try_name.Goals.{in_default-via-in-Some+else-begins_name, in_default-via-in_default, in_default-name_point-via-in-Some-name_point+else-continues_name, in_default-name_point-via-in_default-name_point}
@@ -18,7 +18,7 @@ loop-ahead-init c = record {
   read =
       let begins = sym c.begins_name.ensures ∙ c.if-begins_name.true in
       let none = ap chars c.new-name.ensures.bytes ∙ chars-nil in
-      let first = name_pushed (parts c.args.tables.now) (known_by c.args.tables.now).lawful _ _ c.in-Some.point c.in_ok-push_point-in-Some.ensures (begins-continues (table c.args.tables.now) c.in-Some.point begins) in
+      let first = name_pushed (parts c.args.tables.now) c.args.tables.now.lawful _ _ c.in-Some.point c.in_ok-push_point-in-Some.ensures (begins-continues (table c.args.tables.now) c.in-Some.point begins) in
       rw (first, none) (name_at-first _ _ _ _ c.in-Some.ensures.read begins);
   kept = c.in-Some.ensures.kept;
 }
@@ -29,7 +29,7 @@ loop-ahead-smaller c = (c.reading_leaves_less.ensures any_mode _).name_point _ _
 pub loop-ahead-preserved : goal.loop-ahead-preserved
 loop-ahead-preserved c = record {
   read =
-      rw (name_pushed (parts c.args.tables.now) (known_by c.args.tables.now).lawful _ _ c.in-Some-name_point.point c.in_ok-push_point-in-Some-name_point.ensures (sym c.continues_name.ensures ∙ c.if-continues_name.true))
+      rw (name_pushed (parts c.args.tables.now) c.args.tables.now.lawful _ _ c.in-Some-name_point.point c.in_ok-push_point-in-Some-name_point.ensures (sym c.continues_name.ensures ∙ c.if-continues_name.true))
       (c.loop-ahead.invariant.read
       ∙ behind-point c.reading_leaves_less.ensures _ _ _ _ _ c.loop-ahead-test.ensures.found (rw c.loop-ahead-test.ensures.read at c.in-Some-name_point.ensures.read) (sym c.continues_name.ensures ∙ c.if-continues_name.true));
   kept = c.in-Some-name_point.ensures.kept ∙ c.loop-ahead-test.ensures.kept ∙ c.loop-ahead.invariant.kept;
