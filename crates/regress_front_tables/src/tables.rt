@@ -7,6 +7,7 @@ ghost use Rattle.regress_front_sets.specs.Intervals.{ends_of};
 ghost use Rattle.regress_front_sets.specs.Sets.{ends_in};
 ghost use Rattle.regress_front_tables.specs.Entries.{entry_of};
 ghost use Rattle.regress_front_tables.specs.Listed.{parts_known};
+ghost use Rattle.regress_front_tables.specs.Parts.{parts_of};
 
 pub(crate) mod case_map;
 mod check;
@@ -51,7 +52,6 @@ impl Tables {
     ghost use Rattle.std.specs.Prelude.{IfErr, OnOk, IsOkUnless};
     ghost use Rattle.regress_meaning.specs.Table.{canon};
     ghost use Rattle.regress_meaning.specs.TableParts.{table_of, small_parts};
-    ghost use Rattle.regress_front_tables.specs.Parts.{parts_of};
     ghost use Rattle.regress_front_sets.specs.Sets.{in_set};
     ghost use Rattle.regress_front_tables.specs.Breaking.{TellsBroken};
     ghost use Rattle.regress_front_tables.specs.TableViews.{known_by, table, parts as parts_in};
@@ -65,18 +65,9 @@ impl Tables {
         ensures broken { IfErr result (λ e. TellsBroken e (parts_of parts)) }
     {
         check_laws(alloc, &parts)?;
-        let properties = property_sets(alloc, parts.properties)?;
-        let known = Known {
-            fold: CaseMap::new(alloc, &parts.fold)?,
-            upper: CaseMap::new(alloc, &parts.upper)?,
-            id_start: CodePointSet::from_sorted_disjoint_intervals(parts.id_start),
-            id_continue: CodePointSet::from_sorted_disjoint_intervals(parts.id_continue),
-            properties,
-            sequences: parts.sequences,
-        };
-        Ok(Tables {
-            known: Arc::new(alloc, known)?,
-        })
+        let known = known_of(alloc, parts)?;
+        let shared = Arc::new(alloc, known)?;
+        Ok(Tables { known: shared })
     }
 
     /// The small table, which knows ASCII, a few letters beyond it and four keys: `Tables::small(alloc)?`. The only error is
@@ -170,6 +161,22 @@ impl fmt::Debug for Tables {
             .field("sequences", &self.known.sequences.len())
             .finish()
     }
+}
+
+/// What tables of parts that keep all laws know.
+fn known_of(alloc: Global, parts: TableParts) -> Result<Known, AllocError>
+    requires { IsLawful (parts_of parts) }
+    ensures { IfOk result (λ known. parts_known known ≡ parts_of parts) }
+{
+    let properties = property_sets(alloc, parts.properties)?;
+    Ok(Known {
+        fold: CaseMap::new(alloc, &parts.fold)?,
+        upper: CaseMap::new(alloc, &parts.upper)?,
+        id_start: CodePointSet::from_sorted_disjoint_intervals(parts.id_start),
+        id_continue: CodePointSet::from_sorted_disjoint_intervals(parts.id_continue),
+        properties,
+        sequences: parts.sequences,
+    })
 }
 
 /// The properties, with a set for each list of intervals.

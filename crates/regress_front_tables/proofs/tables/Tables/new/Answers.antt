@@ -1,19 +1,10 @@
-use Rattle.regress_meaning.specs.TableParts.{IntervalsRise}
-use Rattle.regress_front_sets.specs.Intervals.{ends_of}
-use Rattle.regress_front_tables.specs.Entries.{entry_of}
-use Rattle.regress_front_sets.proofs.ListLemmas.{All-from_map}
+use Rattle.std.proofs.Common.{sym, ap, ◌∙◌, subst}
+use Rattle.regress_meaning.specs.TableParts.{IsLawful}
+use Rattle.regress_front_tables.specs.Listed.{parts_known}
 use Rattle.regress_front_tables.proofs.tables.Tables.new.Goals as goal
 
-pub property_sets-requires : goal.property_sets-requires
-property_sets-requires c =
-    All-from_map (λ e. IntervalsRise e.1) (entry_of (λ v. ends_of v.items)) c.args.parts.properties.items c.in_ok-check_laws.ensures.kept.canonical.2
+pub invariant_of-result : goal.invariant_of-result
+invariant_of-result c = record { lawful = subst IsLawful (sym (ap parts_known c.in_ok-shared.ensures.ok ∙ c.in_ok-known.ensures)) c.in_ok-check_laws.ensures.kept }
 
-pub new-requires : goal.new-requires
-new-requires c =
-    let kept = c.in_ok-check_laws.ensures.kept in
-    rw c.deref.ensures.value (record { range = kept.range.0.0; order = kept.order.0; idempotent = kept.idempotent.0; class_size = kept.class_size.0 })
-
-pub new-requires-2 : goal.new-requires-2
-new-requires-2 c =
-    let kept = c.in_ok-check_laws.ensures.kept in
-    rw c.deref-2.ensures.value (record { range = kept.range.0.1; order = kept.order.1; idempotent = kept.idempotent.1; class_size = kept.class_size.1 })
+pub returns-clause-made : goal.returns-clause-made
+returns-clause-made c = ap parts_known c.in_ok-shared.ensures.ok ∙ c.in_ok-known.ensures
