@@ -3,7 +3,7 @@ use Rattle.std.proofs.Common.{◌≡◌, ℕ, zero, suc, ◌+◌, ◌<◌, ◌�
 use Rattle.std.proofs.lemmas.Bool.{or_left, or_right, false≢true, cases_eq, cases_lt, lt-ltb, le-ltb, eq-eqb, ne_eqb}
 use Rattle.std.proofs.lemmas.Bool.Decides.{nat_tests}
 use Rattle.std.proofs.lemmas.List.{length-append}
-use Rattle.regress_meaning.specs.Table.{code_points, last_code_point, some_below}
+use Rattle.regress_meaning.specs.Table.{code_points, some_below}
 use Rattle.regress_meaning.specs.TableParts.{in_intervals, IntervalsRise}
 use Rattle.regress_front_sets.specs.Intervals.{gap, gaps_from, inverse}
 use Rattle.regress_front_nodes.specs.TreeMeaning.{bracket_has}

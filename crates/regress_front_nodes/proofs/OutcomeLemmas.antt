@@ -1,8 +1,8 @@
 -- Where a tree leads: its outcomes lie on one side of the place that it starts from, stay inside the text, and have as
 -- many groups.
-use Rattle.std.proofs.Common.{ℕ, ◌-◌, Bool, List, [], ◌∷◌, length, slice_get, if◌then◌else◌}
+use Rattle.std.proofs.Common.{ℕ, ◌-◌, Bool, List, [], ◌∷◌, length, slice_get}
 use Rattle.std.proofs.lemmas.List.Elements.{All-take}
-use Rattle.regress_meaning.specs.Meaning.{Direction, Forward, Backward, Outcomes, Context, step, same_all, cleared}
+use Rattle.regress_meaning.specs.Meaning.{Direction, Outcomes, Context, step, same_all, cleared}
 use Rattle.regress_meaning.proofs.StepLaws.{To, Goes, none, stays, Goes-then, Goes-both, Goes-step, Goes-keep_if, Goes-repeat_group, Goes-cleared, Goes-iterations, Goes-looked, Goes-captured}
 use Rattle.regress_front_nodes.specs.Trees.{Tree, empty, goal, char, bytes, byte_set, char_set, cat, no_part, alt, any, any_in_line, line_start, line_end, boundary, capture, back, bracket, string_set, submatch, loop, single_loop, Submatch, lookaround, atomic}
 use Rattle.regress_front_nodes.specs.TreeMeaning.{direction, submatch_direction, submatched, alternatives, node_outcomes}

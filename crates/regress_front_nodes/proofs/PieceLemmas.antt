@@ -1,10 +1,10 @@
 -- Pieces: what a code point stands for, as a list, and literals that are joined.
-use Rattle.std.proofs.Common.{◌≡◌, ℕ, zero, suc, ◌+◌, ◌<◌, ◌≤◌, Bool, true, false, ◌&&◌, ◌==◌, List, [], ◌∷◌, ◌++◌, length, if◌then◌else◌, nat_le, nat_lt, map, filter, All, refl, sym, ap, ◌∙◌, inl, inr, encode_utf8, drop, get_or, IsUtf8, arith}
+use Rattle.std.proofs.Common.{◌≡◌, ℕ, zero, suc, ◌+◌, ◌<◌, ◌≤◌, Bool, true, false, ◌&&◌, ◌==◌, List, [], ◌∷◌, ◌++◌, length, if◌then◌else◌, nat_le, nat_lt, filter, All, refl, sym, ap, ◌∙◌, inl, inr, encode_utf8, drop, get_or, IsUtf8, arith}
 use Rattle.std.specs.List.{AllPairs, list_all}
 use Rattle.std.specs.Char.{IsScalar}
 use Rattle.std.proofs.lemmas.Bool.{and_parts, and_right, or_cases, or_left, or_right, cases_eq, eqb-true, eq-eqb, ne_eqb, ltb-true}
 use Rattle.std.proofs.lemmas.Bool.Decides.{nat_tests}
-use Rattle.std.proofs.lemmas.List.{map-append, drop_more, drop_all}
+use Rattle.std.proofs.lemmas.List.{drop_more, drop_all}
 use Rattle.std.proofs.lemmas.List.Elements.{All-nil, All-cons, All-head, All-tail, All-filter, All-weaker}
 use Rattle.std.proofs.lemmas.Str.{IsUtf8-append, IsUtf8-encode, length-encode, len_utf8_bounds}
 use Rattle.std.proofs.lemmas.List.Kept.{AllPairs-from_increasing}
@@ -14,8 +14,7 @@ use Rattle.regress_meaning.specs.TableParts.{is_surrogate}
 use Rattle.regress_front_tables.specs.Folding.{Lists}
 use Rattle.regress_front_nodes.specs.Trees.{Tree, char, bytes, byte_set, char_set}
 use Rattle.regress_front_nodes.specs.WellFormed.{AreLawful}
-use Rattle.regress_front_nodes.specs.declared.piece.Piece.{Piece}
-use Rattle.regress_front_nodes.specs.Pieces.{passing_below, expansion, bytes_before, before, piece_tree, pieces_of}
+use Rattle.regress_front_nodes.specs.Pieces.{passing_below, expansion, bytes_before, before, pieces_of}
 use Rattle.regress_meaning.proofs.TableLemmas.{same_bool}
 
 -- each number is below all behind it

@@ -1,6 +1,6 @@
 -- What a tree matches: the ordered list of its outcomes from a state, by the words of `regress_meaning`. A tree is taken as
 -- it is stored: its parts in their order in both directions, its sets without a closure.
-use Rattle.std.specs.Prelude.{ℕ, ◌-◌, Bool, true, false, not, ◌&&◌, ◌||◌, ◌==◌, List, [], ◌∷◌, ◌++◌, length, take, Option, if◌then◌else◌, slice_get, map, nat_eq, chars}
+use Rattle.std.specs.Prelude.{ℕ, ◌-◌, Bool, true, not, ◌&&◌, ◌||◌, ◌==◌, List, [], ◌∷◌, ◌++◌, length, take, if◌then◌else◌, slice_get, map, nat_eq, chars}
 use Rattle.std.specs.List.{flat_map, list_all}
 use Rattle.regress_meaning.specs.Text.{holds, same_text}
 use Rattle.regress_meaning.specs.TableParts.{in_intervals}

@@ -71,9 +71,18 @@ fn place(
     while names.len() <= number {
         names.push(String::new(alloc))?;
     }
-    names[number] = match name {
-        Some(name) => name.clone()?,
-        None => String::new(alloc),
-    };
+    let text = text_of(alloc, name)?;
+    names[number] = text;
     Ok(())
+}
+
+/// A group's name as a text of its own, which is empty where it has none.
+fn text_of(alloc: Global, name: &Option<CaptureGroupName>) -> Result<CaptureGroupName, AllocError>
+    ensures { IfOk result (λ text. chars (string_bytes text)
+        ≡ unwrap_or (option_map (λ text. chars (string_bytes text)) name.now) []) }
+{
+    match name {
+        Some(name) => name.clone(),
+        None => Ok(String::new(alloc)),
+    }
 }

@@ -1,7 +1,7 @@
 use Rattle.std.proofs.Common.{◌≡◌, map, drop}
 use Rattle.regress_front_nodes.specs.Trees.{tree, cat_of}
 use Rattle.regress_front_nodes.specs.Names.{names_with, name_texts}
-use Rattle.regress_front_nodes.proofs.names.add_names.Given as goal
+use Rattle.regress_front_nodes.proofs.names.+add_names.Given as goal
 
 -- the names so far, with those of the other parts, are those of all parts
 abbrev pub invariant-loop-part : goal.invariant-loop-part
