@@ -1,8 +1,7 @@
-//! The table of all of Unicode. Of letters with a case of their own, checked by the regular expressions of Node.js 20.20; the
-//! parts of texts are worked out from the standard's properties and foldings.
+//! The table of all of Unicode. Of letters with a case of their own, checked by the regular expressions of Node.js 20.20. What
+//! patterns find by it stands in the rows of `conformance_unicode`.
 
 use crate::figures::FIGURES;
-use regress::{Flags, Regex};
 use regress_front_tables::{
     CODE_POINT_MAX, CodePoint, CodePointSet, Error, Interval, Tables, expand_code_point,
 };
@@ -179,84 +178,11 @@ fn are_known(tables: &Tables) -> bool {
     keycaps.is_some_and(|strings| strings.len() == 12) && tables.sequences("RGI_Emoji").is_none()
 }
 
-/// A pattern, its flags, a text, and the parts of it that match, each in brackets.
-const ROWS: &[(&str, &str, &str, &str)] = &[
-    (r"\p{Script=Greek}+", "u", "αβ γ b", "[αβ][γ]"),
-    (r"\p{Lu}", "iu", "aΣ1", "[a][Σ]"),
-    (r"\p{Lu}", "u", "aΣ1", "[Σ]"),
-    // Case is ignored once sets are complemented, so only what has no other case is left; the standard folds before, and
-    // would find all three letters.
-    (r"[^\P{Ll}]", "iv", "aÄĸ1", "[ĸ]"),
-    (r"[^\P{Ll}]", "v", "aÄĸ1", "[a][ĸ]"),
-    (r"[^\p{Lu}]", "iv", "aÄĸ1", "[ĸ][1]"),
-    (r"[\p{L}--[a-z]]+", "v", "aäb漢字", "[ä][漢字]"),
-    (r"[\p{Nd}&&\p{scx=Arabic}]", "v", "1٣", "[٣]"),
-    (
-        r"\p{Emoji_Keycap_Sequence}",
-        "v",
-        "1 1\u{FE0F}\u{20E3}",
-        "[1\u{FE0F}\u{20E3}]",
-    ),
-    ("ä", "i", "Ä", "[Ä]"),
-    ("ς", "iu", "Σσς", "[Σ][σ][ς]"),
-    ("ß", "iu", "ẞSS", "[ẞ]"),
-    ("ß", "i", "ẞSS", ""),
-    ("k", "iu", "K\u{212A}", "[K][\u{212A}]"),
-    ("k", "i", "K\u{212A}", "[K]"),
-    (r"(?<größe>\d+)\k<größe>", "", "1212", "[1212]"),
-    (r"\w", "iu", "ſ\u{212A}ä", "[ſ][\u{212A}]"),
-];
-
-/// A pattern under flags. It promises nothing, so what calls it has little to prove.
-fn compiled(
-    alloc: Global,
-    pattern: &str,
-    flags: &str,
-    tables: &Tables,
-) -> Result<Regex, Error> {
-    Regex::with_flags(alloc, pattern, Flags::from(flags), tables)
-}
-
-/// The parts of a text that a pattern matches, each in brackets.
-fn parts(alloc: Global, regex: &Regex, text: &str) -> Result<String, Error> {
-    let mut told = String::new(alloc);
-    for found in regex.find_iter(text)? {
-        let found = found?;
-        write!(told, "[{}]", found.as_str(text))?;
-    }
-    Ok(told)
-}
-
-/// Fails at the first row of which other parts match.
-fn match_so(alloc: Global, tables: &Tables) -> Result<(), Fail> {
-    for (pattern, flags, text, expected) in ROWS {
-        let regex = compiled(alloc, pattern, flags, tables)?;
-        let told = parts(alloc, &regex, text)?;
-        if told.as_str() != *expected {
-            return Err(Fail::new(format!(in alloc; "{pattern} with {flags} in {text}: {told}")?));
-        }
-    }
-    Ok(())
-}
-
-/// The lines of the repository's README that match Unicode text, word for word, and what they answer.
-fn unicode_text_is_matched(alloc: Global, tables: Tables) -> Result<(String, bool), Error> {
-    let greek = Regex::with_flags(alloc, r"\p{Script=Greek}+", Flags::from("u"), &tables)?;
-    let marked = greek.replace_all("αβ γ b", "[$0]")?; // `[αβ] [γ] b`
-    let street = Regex::with_flags(alloc, "straße", Flags::from("iu"), &tables)?;
-    let is_street = street.is_match("STRAẞE")?; // true
-    Ok((marked, is_street))
-}
-
 // One test, since the table takes long to make.
 #[test]
 fn the_table_is_that_of_unicode(rt: HostRuntime) -> Result<(), Fail> {
     let tables = unicode_tables(rt.alloc())?;
     assert!(rt; have_canons(&tables) && are_known(&tables));
     are_alike(rt.alloc(), &tables)?;
-    have_figures(rt.alloc(), &tables)?;
-    match_so(rt.alloc(), &tables)?;
-    let (marked, is_street) = unicode_text_is_matched(rt.alloc(), tables)?;
-    assert!(rt; marked.as_str() == "[αβ] [γ] b" && is_street);
-    Ok(())
+    have_figures(rt.alloc(), &tables)
 }

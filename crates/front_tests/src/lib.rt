@@ -1,5 +1,5 @@
 //! Tests of the front, by its public calls alone: what no program prints, sizes that no row can hold, and each call that nothing
-//! else makes; and the table of all of Unicode, with patterns that ask it. The library itself is empty.
+//! else makes; and the table of all of Unicode. The library itself is empty.
 #![tactic(auto)]
 
 #[cfg(test)]
