@@ -1,7 +1,6 @@
 //! What is known never to stand at one place, and how far a class goes: what tells nothing is proved too, and only slower.
 
-use crate::parsed::parsed;
-use regress_engine_code::emit;
+use crate::code::program;
 use regress_engine_inputs::Utf8Input;
 use regress_engine_insn::Insn;
 use regress_engine_singles::{are_apart, as_far_ahead, is_apart};
@@ -21,8 +20,7 @@ const APART: &[(u8, bool)] = &[
 #[test]
 fn bytes_are_apart_from_a_class_that_has_not_their_first(rt: HostRuntime) -> Result<(), Fail> {
     let tables = Tables::small(rt.alloc())?;
-    let regex = parsed(rt.alloc(), "", "", &tables)?;
-    let program = emit(rt.alloc(), &regex)?;
+    let program = program(rt.alloc(), "", "", false, &tables)?;
     let mut bitmap = AsciiBitmap::default();
     bitmap.set(b'a');
     let class = Insn::AsciiBracket(bitmap);
@@ -46,8 +44,7 @@ const CLASSES: &[(u8, &str, bool)] = &[
 fn classes_are_apart_that_share_no_character(rt: HostRuntime) -> Result<(), Fail> {
     let tables = Tables::small(rt.alloc())?;
     for (byte, pattern, apart) in CLASSES {
-        let regex = parsed(rt.alloc(), pattern, "", &tables)?;
-        let program = emit(rt.alloc(), &regex)?;
+        let program = program(rt.alloc(), pattern, "", false, &tables)?;
         let mut bitmap = AsciiBitmap::default();
         if *byte < 0x80 {
             bitmap.set(*byte);
@@ -83,8 +80,7 @@ fn classes_go_as_far_as_what_they_do_not_match(rt: HostRuntime) -> Result<(), Fa
     let text = "é,a;b\ncé";
     let input = Utf8Input::new(text, true, &tables);
     for (pattern, at, times, end) in FAR {
-        let regex = parsed(rt.alloc(), pattern, "", &tables)?;
-        let program = emit(rt.alloc(), &regex)?;
+        let program = program(rt.alloc(), pattern, "", false, &tables)?;
         assert!(rt; text.is_char_boundary(*at));
         assert!(rt; !program.brackets().is_empty());
         let class = Insn::Bracket(0);

@@ -53,7 +53,7 @@ fn told(alloc: Global, program: &CompiledRegex) -> Result<String, AllocError> {
 }
 
 /// The program of a pattern, of units or else of bytes. It promises nothing, so what reads it has little to prove.
-fn program(
+pub(crate) fn program(
     alloc: Global,
     pattern: &str,
     flags: &str,

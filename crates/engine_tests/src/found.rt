@@ -1,13 +1,13 @@
-//! What the executors find over texts and over units, as text.
-ghost use Rattle.std.specs.Prelude.{◌≡◌, ℕ, true, false, IfSome};
+//! What the executors find over texts, as text.
+ghost use Rattle.std.specs.Prelude.{◌≡◌, ℕ, false, IfSome};
 ghost use Rattle.regress_front_nodes.specs.Trees.{tree};
 ghost use Rattle.regress_front_nodes.specs.WellFormed.{IsWellFormed};
 ghost use Rattle.regress_match.specs.Iterating.{producer_of, position_of};
 
-use regress_engine_code::{CompiledRegex, emit, emit_units};
+use regress_engine_code::{CompiledRegex, emit};
 use regress_engine_copying::PikeVMExecutor;
 use regress_engine_exec::BacktrackExecutor;
-use regress_engine_inputs::{Ucs2Input, Utf8Input, Utf16Input};
+use regress_engine_inputs::Utf8Input;
 use regress_front_nodes::ir::Regex;
 use regress_front_tables::Error;
 use regress_match::{Match, MatchProducer, Matches, Range};
@@ -98,58 +98,6 @@ fn copying_over_utf8<'r>(
     listed(alloc, Matches::new(executor, 0))
 }
 
-/// All matches of a program of units in units of UTF-16, by the executor that undoes.
-fn undoing_over_utf16<'r>(
-    alloc: Global,
-    program: &'r CompiledRegex,
-    units: &'r [u16],
-) -> Result<Option<String>, AllocError>
-    requires units { program.now.units ≡ true }
-{
-    let input = Utf16Input::new(units, program.flags().is_unicode(), program.tables());
-    let executor = BacktrackExecutor::with_input(alloc, program, input);
-    listed(alloc, Matches::new(executor, 0))
-}
-
-/// The same by the executor that copies.
-fn copying_over_utf16<'r>(
-    alloc: Global,
-    program: &'r CompiledRegex,
-    units: &'r [u16],
-) -> Result<Option<String>, AllocError>
-    requires units { program.now.units ≡ true }
-{
-    let input = Utf16Input::new(units, program.flags().is_unicode(), program.tables());
-    let executor = PikeVMExecutor::with_input(alloc, program, input);
-    listed(alloc, Matches::new(executor, 0))
-}
-
-/// All matches of a program of units in units of which each is a character, by the executor that undoes.
-fn undoing_over_ucs2<'r>(
-    alloc: Global,
-    program: &'r CompiledRegex,
-    units: &'r [u16],
-) -> Result<Option<String>, AllocError>
-    requires units { program.now.units ≡ true }
-{
-    let input = Ucs2Input::new(units, program.flags().is_unicode(), program.tables());
-    let executor = BacktrackExecutor::with_input(alloc, program, input);
-    listed(alloc, Matches::new(executor, 0))
-}
-
-/// The same by the executor that copies.
-fn copying_over_ucs2<'r>(
-    alloc: Global,
-    program: &'r CompiledRegex,
-    units: &'r [u16],
-) -> Result<Option<String>, AllocError>
-    requires units { program.now.units ≡ true }
-{
-    let input = Ucs2Input::new(units, program.flags().is_unicode(), program.tables());
-    let executor = PikeVMExecutor::with_input(alloc, program, input);
-    listed(alloc, Matches::new(executor, 0))
-}
-
 /// All matches of a tree in a text of UTF-8, which both executors find.
 pub(crate) fn in_utf8(alloc: Global, regex: &Regex<'_>, text: &str) -> Result<String, Fail>
     requires { (n : ℕ) × IsWellFormed n (tree regex.now.node) }
@@ -158,22 +106,4 @@ pub(crate) fn in_utf8(alloc: Global, regex: &Regex<'_>, text: &str) -> Result<St
     let undoing = undoing_over_utf8(alloc, &program, text)?;
     let copying = copying_over_utf8(alloc, &program, text)?;
     same(alloc, undoing, copying)
-}
-
-/// All matches of a tree in units, which both executors find: of UTF-16, and where each unit is a character.
-pub(crate) fn in_units(
-    alloc: Global,
-    regex: &Regex<'_>,
-    units: &[u16],
-) -> Result<(String, String), Fail>
-    requires { (n : ℕ) × IsWellFormed n (tree regex.now.node) }
-{
-    let program = emit_units(alloc, regex)?;
-    let undoing = undoing_over_utf16(alloc, &program, units)?;
-    let copying = copying_over_utf16(alloc, &program, units)?;
-    let in_pairs = same(alloc, undoing, copying)?;
-    let undoing = undoing_over_ucs2(alloc, &program, units)?;
-    let copying = copying_over_ucs2(alloc, &program, units)?;
-    let alone = same(alloc, undoing, copying)?;
-    Ok((in_pairs, alone))
 }

@@ -1,5 +1,5 @@
 //! Tests of the engine's parts, by their public calls alone: what no program prints, sizes that no row can hold, both executors
-//! over units and beside the evaluator, and each call that nothing else makes. The library itself is empty.
+//! beside the evaluator, and each call that nothing else makes. The library itself is empty.
 #![tactic(auto)]
 
 #[cfg(test)]
@@ -20,5 +20,3 @@ mod parsed;
 mod positions;
 #[cfg(test)]
 mod singles;
-#[cfg(test)]
-mod units;
