@@ -1,6 +1,5 @@
 //! What callers of `regress` write: their loops over matches and parts, closures, named groups and tables, each proved and run;
-//! what the calls of `regress` and of the program promise; long patterns and texts; and the program over streams that fail. By
-//! public calls alone; the library itself is empty.
+//! what the calls of `regress` promise; long patterns and texts. By public calls alone; the library itself is empty.
 #![tactic(auto)]
 
 #[cfg(test)]
@@ -20,11 +19,7 @@ mod promises;
 #[cfg(test)]
 mod refusals;
 #[cfg(test)]
-mod run_promises;
-#[cfg(test)]
 mod sizes;
-#[cfg(test)]
-mod streams;
 #[cfg(test)]
 mod tables;
 #[cfg(test)]

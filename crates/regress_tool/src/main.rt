@@ -4,6 +4,11 @@
 //! its range or `-`. An error is told in one line on standard error.
 #![tactic(auto)]
 
+#[cfg(test)]
+mod promises;
+#[cfg(test)]
+mod streams;
+
 use regress_program::{StdSink, StdSource, answer};
 use std::env;
 use std::process::ExitCode;
