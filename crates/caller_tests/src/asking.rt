@@ -1,19 +1,9 @@
-//! What is asked of a compiled pattern and of a text, and patterns that are compiled in other ways.
+//! What is asked of a compiled pattern and of units, and a pattern of code points as it is shown.
 
-use crate::told::{compiled, ends, first, is_same};
-use regress::{
-    Error, Flags, Match, Regex, Tables, backends, is_start, is_unit_start, is_well_formed_utf16,
-};
+use crate::told::{compiled, is_same};
+use regress::{Flags, Regex, Tables, is_unit_start, is_well_formed_utf16};
 use std::alloc::Global;
 use std::test::Fail;
-
-/// Whether there is a match from an offset on, at which a search may begin.
-fn matches_from(regex: &Regex, text: &str, start: usize) -> Result<bool, Fail> {
-    if !is_start(text, start) {
-        return Err("no search may begin there".into());
-    }
-    Ok(regex.is_match_from(text, start)?)
-}
 
 /// How many groups a match has, and the name of the first that is counted.
 fn groups_of<'r>(regex: &'r Regex) -> (usize, Option<&'r str>) {
@@ -25,11 +15,9 @@ fn groups_of<'r>(regex: &'r Regex) -> (usize, Option<&'r str>) {
 fn what_is_asked_of_a_regex(rt: HostRuntime) -> Result<(), Fail> {
     let tables = Tables::small(rt.alloc())?;
     let regex = compiled(rt.alloc(), "(?<n>a)(é)?", "", &tables)?;
-    let within = matches_from(&regex, "xa", 1)?;
-    let behind = matches_from(&regex, "ax", 1)? || matches_from(&regex, "a", 2)?;
     let told = format!(in rt.alloc(); "<{regex}>")?;
     is_same(rt.alloc(), "text", told.as_str(), "<(?<n>a)(é)?>")?;
-    assert!(rt; within && !behind && groups_of(&regex) == (3, Some("n")));
+    assert!(rt; groups_of(&regex) == (3, Some("n")));
     Ok(())
 }
 
@@ -54,31 +42,6 @@ fn a_surrogate_is_shown_as_another_character(rt: HostRuntime) -> Result<(), Fail
     )
 }
 
-/// A regex that searches texts for `a` and units for `b`.
-fn of_two_programs(alloc: Global, tables: &Tables) -> Result<Regex, Error> {
-    let flags = Flags::default();
-    let of_bytes = backends::emit(alloc, &backends::try_parse(alloc, &[0x61], flags, tables)?)?;
-    let of_units = backends::emit_units(
-        alloc,
-        &backends::try_parse(alloc, &[0x62], flags, tables)?,
-    )?;
-    Ok(Regex::from_programs(alloc, of_bytes, of_units))
-}
-
-/// The first match in units that are each one character, from an offset on.
-fn first_in_units(regex: &Regex, units: &[u16], start: usize) -> Result<Option<Match>, Error> {
-    regex.find_from_ucs2(units, start)?.next().transpose()
-}
-
-#[test]
-fn each_search_goes_by_its_own_program(rt: HostRuntime) -> Result<(), Fail> {
-    let tables = Tables::small(rt.alloc())?;
-    let regex = of_two_programs(rt.alloc(), &tables)?;
-    assert!(rt; ends(first(&regex, "ab")?) == Some((0, 1)));
-    assert!(rt; ends(first_in_units(&regex, &[0x61, 0x62], 0)?) == Some((1, 2)));
-    Ok(())
-}
-
 /// A pair.
 const PAIR: &[u16] = &[0xD83D, 0xDE00];
 
@@ -94,9 +57,5 @@ fn units_stand_in_pairs(rt: HostRuntime) -> Result<(), Fail> {
         assert!(rt; is_unit_start(UNITS, start) == *expected);
     }
     assert!(rt; is_well_formed_utf16(PAIR) && !is_well_formed_utf16(UNITS));
-    // Where each unit is a character a search begins anywhere.
-    let tables = Tables::small(rt.alloc())?;
-    let regex = compiled(rt.alloc(), "(?<=(.)|).", "u", &tables)?;
-    assert!(rt; ends(first_in_units(&regex, UNITS, 2)?) == Some((2, 3)));
     Ok(())
 }

@@ -1,7 +1,7 @@
 //! The named groups of a match, and the texts of groups.
 
 use crate::told::{compiled, first, is_same};
-use regress::{Error, Match, Range, Regex, Tables};
+use regress::{Error, Match, Regex, Tables};
 use std::alloc::Global;
 use std::test::Fail;
 
@@ -48,16 +48,6 @@ fn texts<'t>(
     Ok((found.group_str(text, group), found.named_str(text, name)))
 }
 
-/// The range of a copy of the first match, and the text of a group in the copy.
-fn copied<'t>(
-    regex: &Regex,
-    text: &'t str,
-    group: usize,
-) -> Result<(Range, Option<&'t str>), Fail> {
-    let copy = regex.find(text)?.ok_or("no match")?.try_clone()?;
-    Ok((copy.range(), copy.group_str(text, group)))
-}
-
 /// Groups and names, and their texts in the first match of `(?<n>é)(?<m>b)?` in `aé`.
 const TEXTS: &[(usize, &str, Option<&str>, Option<&str>)] = &[
     (0, "n", Some("é"), Some("é")),
@@ -75,6 +65,5 @@ fn the_text_of_a_group(rt: HostRuntime) -> Result<(), Fail> {
             return Err(Fail::new(*group));
         }
     }
-    assert!(rt; copied(&regex, "aé", 1)? == (1..3, Some("é")));
     Ok(())
 }
