@@ -1,43 +1,46 @@
 //! Searches, by each road.
-ghost use Rattle.std.specs.Prelude.{IfSome};
-ghost use Rattle.regress_match.specs.Iterating.{position_of, producer_of};
+ghost use Rattle.std.specs.Iterator.{IsFinite};
 
 use crate::asking::{Work, try_work};
 use crate::building::compiled;
 use crate::refusal::Refusal;
 use crate::row::Row;
 use crate::telling::{tell_first, tell_item};
-use regress::backends::{self, DefaultExecutor, MatchProducer, Matches, PikeVMExecutor, Utf8Input};
-use regress::{Regex, Tables, is_ascii_text, is_unit_start};
+use regress::backends::{self, DefaultExecutor, PikeVMExecutor, Utf8Input};
+use regress::{Error, Match, Regex, Tables, is_ascii_text, is_unit_start};
 use std::alloc::{AllocError, Global};
 
 /// The executor that copies.
 type Copying<'t> = PikeVMExecutor<'t, Utf8Input<'t, 't>>;
 
-/// Tells all matches of a search; past an error nothing may come.
-fn tell_search<P: MatchProducer>(told: &mut String, matches: Matches<P>) -> Result<(), AllocError>
-    requires { IfSome (position_of matches) (P.is_position (P.sought (producer_of matches))) }
+/// Tells all items of a search; past an error nothing may come.
+fn tell_items<I: Iterator<Item = Result<Match, Error>>>(
+    told: &mut String,
+    items: I,
+) -> Result<(), AllocError>
+    requires can { I.can_next items }
+    requires ends { IsFinite (I.remaining items) }
 {
-    for item in matches {
+    for item in items {
         tell_item(told, item)?;
     }
     Ok(())
 }
 
-/// Tells the first match of a search.
-fn tell_start<P: MatchProducer>(told: &mut String, matches: Matches<P>) -> Result<(), AllocError>
-    requires { IfSome (position_of matches) (P.is_position (P.sought (producer_of matches))) }
+/// Tells the first item of a search.
+fn tell_start<I: Iterator<Item = Result<Match, Error>>>(
+    told: &mut String,
+    items: I,
+) -> Result<(), AllocError>
+    requires { I.can_next items }
 {
-    let mut matches = matches;
-    tell_first(told, matches.next())
+    let mut items = items;
+    tell_first(told, items.next())
 }
 
 /// Tells all matches by the library's calls.
 pub(crate) fn tell_all(told: &mut String, regex: &Regex, text: &str) -> Result<(), Refusal> {
-    for item in regex.find_iter(text)? {
-        tell_item(told, item)?;
-    }
-    Ok(())
+    Ok(tell_items(told, regex.find_iter(text)?)?)
 }
 
 /// Tells all matches by the calls for ASCII.
@@ -45,10 +48,7 @@ fn tell_ascii(told: &mut String, regex: &Regex, text: &str) -> Result<(), Refusa
     if !is_ascii_text(text) {
         return Err(Refusal::Other);
     }
-    for item in regex.find_iter_ascii(text)? {
-        tell_item(told, item)?;
-    }
-    Ok(())
+    Ok(tell_items(told, regex.find_iter_ascii(text)?)?)
 }
 
 /// Tells all matches in units of UTF-16.
@@ -56,18 +56,12 @@ fn tell_utf16(told: &mut String, regex: &Regex, units: &[u16]) -> Result<(), Ref
     if !is_unit_start(units, 0) {
         return Err(Refusal::Other);
     }
-    for item in regex.find_from_utf16(units, 0)? {
-        tell_item(told, item)?;
-    }
-    Ok(())
+    Ok(tell_items(told, regex.find_from_utf16(units, 0)?)?)
 }
 
 /// Tells all matches in units of which each is a character.
 fn tell_ucs2(told: &mut String, regex: &Regex, units: &[u16]) -> Result<(), Refusal> {
-    for item in regex.find_from_ucs2(units, 0)? {
-        tell_item(told, item)?;
-    }
-    Ok(())
+    Ok(tell_items(told, regex.find_from_ucs2(units, 0)?)?)
 }
 
 /// Tells all matches by the executor that undoes.
@@ -76,7 +70,7 @@ fn tell_undoing<'t>(
     regex: &'t Regex,
     text: &'t str,
 ) -> Result<(), AllocError> {
-    tell_search(told, backends::find::<DefaultExecutor<'t>>(regex, text, 0)?)
+    tell_items(told, backends::find::<DefaultExecutor<'t>>(regex, text, 0)?)
 }
 
 /// Tells all matches by the executor that copies.
@@ -85,7 +79,7 @@ fn tell_copying<'t>(
     regex: &'t Regex,
     text: &'t str,
 ) -> Result<(), AllocError> {
-    tell_search(told, backends::find::<Copying<'t>>(regex, text, 0)?)
+    tell_items(told, backends::find::<Copying<'t>>(regex, text, 0)?)
 }
 
 /// Tells the first match by the executor that undoes.
