@@ -1,6 +1,6 @@
 -- What holds of each kind of input.
 use Rattle.std.specs.Prelude.{slice_range}
-use Rattle.std.proofs.Common.{◌≡◌, ℕ, ◌≤◌, Bool, true, false, List, length, Some, ap₂, arith}
+use Rattle.std.proofs.Common.{◌≡◌, ℕ, ◌≤◌, Bool, true, false, List, length, Some, refl, ap₂, arith}
 use Rattle.regress_meaning.specs.Table.{Table}
 use Rattle.regress_meaning.specs.Meaning.{Direction}
 use Rattle.regress_meaning.specs.Offsets.{offset, of_utf16}
@@ -8,7 +8,7 @@ use Rattle.regress_meaning.specs.Inputs.{Tells}
 use Rattle.regress_meaning.specs.Steps.{repeated, same_units}
 use Rattle.regress_front_nodes.specs.ByteInputs.{TellsBytes}
 use Rattle.regress_front_bytes.proofs.TextLemmas.{offset_of_end, offset_is_boundary}
-use Rattle.regress_engine_input.specs.Views.{Kind, utf8, ascii, utf16, ucs2, AreOfKind, are_bytes, input_of_kind, reading_of_kind, IsReadable, outside_pairs}
+use Rattle.regress_engine_input.specs.Views.{View, Kind, utf8, ascii, utf16, ucs2, AreOfKind, are_bytes, input_of, input_of_kind, reading_of_kind, IsReadable, outside_pairs}
 use Rattle.regress_engine_input.proofs.PlaceLemmas.{place-inside}
 use Rattle.regress_engine_input.proofs.UnitTexts.{single_offset, ascii_tells, ucs2_tells}
 use Rattle.regress_engine_input.proofs.Utf16Texts.{utf16_tells, utf16_end}
@@ -23,6 +23,25 @@ tells utf8 table unicode units all = utf8_tells table unicode units all
 tells ascii table unicode units all = ascii_tells table unicode units all
 tells utf16 table unicode units all = utf16_tells table unicode units all
 tells ucs2 table unicode units all = ucs2_tells table unicode units all
+
+-- an input has the table and the mode that it shows
+pub table-is : (v : View) → (input_of v).table ≡ v.table
+table-is v = by_kind v.kind
+  where
+    by_kind : (kind : Kind) → (input_of_kind kind v.table v.unicode v.units).table ≡ v.table
+    by_kind utf8 = refl
+    by_kind ascii = refl
+    by_kind utf16 = refl
+    by_kind ucs2 = refl
+
+pub unicode-is : (v : View) → (input_of v).unicode ≡ v.unicode
+unicode-is v = by_kind v.kind
+  where
+    by_kind : (kind : Kind) → (input_of_kind kind v.table v.unicode v.units).unicode ≡ v.unicode
+    by_kind utf8 = refl
+    by_kind ascii = refl
+    by_kind utf16 = refl
+    by_kind ucs2 = refl
 
 -- the last place has the number of units as its offset
 pub end : (kind : Kind) (units : List ℕ) → AreOfKind kind units → offset (reading_of_kind kind units) (length (reading_of_kind kind units).points) ≡ length units

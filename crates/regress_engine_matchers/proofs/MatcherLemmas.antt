@@ -1,16 +1,18 @@
 -- What reads keep, and the code points of a part, one after another beside an offset.
 use Rattle.std.specs.Prelude.{slice_get, slice_range}
-use Rattle.std.proofs.Common.{◌≡◌, ◌≢◌, ◌⊎◌, inl, inr, ℕ, zero, suc, ◌+◌, ◌-◌, ◌<◌, ◌≤◌, Bool, true, false, ◌==◌, List, [], ◌∷◌, ◌++◌, length, take, drop, reverse, get_or, Option, Some, None, if◌then◌else◌, option_map, option_and_then, refl, sym, ap, ◌∙◌, subst, arith, length-take, length-drop}
+use Rattle.std.proofs.Common.{◌≡◌, ◌≢◌, ◌⊎◌, inl, inr, ℕ, zero, suc, ◌+◌, ◌-◌, ◌<◌, ◌≤◌, Bool, true, false, ◌==◌, List, [], ◌∷◌, ◌++◌, length, take, drop, reverse, get_or, Option, Some, None, if◌then◌else◌, option_map, option_and_then, refl, sym, ap, ap₂, ◌∙◌, subst, arith, length-take, length-drop}
 use Rattle.std.proofs.Math.Seq.{take-append_seam, take-add}
 use Rattle.std.proofs.lemmas.Bool.{cases_lt, eq-eqb, ne_eqb}
 use Rattle.std.proofs.lemmas.List.{drop_all, drop_more, take_more, take_all, reverse-append, length-reverse}
 use Rattle.std.proofs.lemmas.Option.{slice_get-get_or, slice_get_past}
+use Rattle.regress_meaning.specs.Table.{canon}
 use Rattle.regress_meaning.specs.Meaning.{Direction, Forward, Backward, same}
 use Rattle.regress_meaning.specs.Offsets.{Reading, offset}
 use Rattle.regress_meaning.specs.Inputs.{Input, Tells, neighbour, point_told}
 use Rattle.regress_meaning.specs.Steps.{copied, repeated, passed, point, only_if}
 use Rattle.regress_meaning.proofs.OffsetLemmas.{offsets-far}
 use Rattle.regress_engine_input.specs.Views.{View, input_of, reading_of, CanRead, behind}
+use Rattle.regress_engine_input.proofs.KindLemmas.{table-is, unicode-is}
 use Rattle.regress_engine_matchers.specs.References.{IsPlace, units_left, alike, all_alike, in_turn, begin_in}
 
 -- All that is asked of what an input shows: a read stays where one may read, and goes on.
@@ -77,7 +79,7 @@ module _ (input : Input) (dir : Direction) where
       by_next : (y : Option (ℕ × ℕ)) → option_and_then (λ (y : ℕ × ℕ). if same input.table input.unicode true c y.0 then copied input n dir true q to y.1 else None) y
           ≡ option_and_then (all_alike input dir cs) (passed (same input.table input.unicode true c) y)
       by_next None = refl
-      by_next (Some y) = by_test (same input.table input.unicode true c y.0) y.1
+      by_next (Some (d, r)) = by_test (same input.table input.unicode true c d) r
 
 module _ (input : Input) (reading : Reading) (told : Tells reading input) where
   -- the place so many code points on
@@ -91,7 +93,7 @@ module _ (input : Input) (reading : Reading) (told : Tells reading input) where
   HasRoom Backward p k = (k ≤ p) × (p ≤ length reading.points)
 
   -- the first of those from a place on, and the place behind it
-  record First (dir : Direction) (p k : ℕ) : Type 0 where
+  record FirstLeft (dir : Direction) (p k : ℕ) : Type 0 where
     pub c : ℕ
     pub q : ℕ
     pub read : input.next dir (offset reading p) ≡ Some (c, offset reading q)
@@ -100,8 +102,9 @@ module _ (input : Input) (reading : Reading) (told : Tells reading input) where
     pub end : onward dir q k ≡ onward dir p (suc k)
     pub apart : offset reading p ≢ offset reading (onward dir p (suc k))
 
-  first : (dir : Direction) (p k : ℕ) → HasRoom dir p (suc k) → First dir p k
-  first Forward p k room =
+  first_of : (dir : Direction) (p k : ℕ) → HasRoom dir p (suc k) → FirstLeft dir p k
+  first_of Forward p k room =
+      let same : suc p + k ≡ p + suc k = omega arith in
       let here : slice_get reading.points p ≡ Some (get_or reading.points p 0) = slice_get-get_or reading.points p 0 (omega (arith, room)) in
       let rest = subst (λ o. IsFirst Forward reading.points p (option_map (λ c. (c, suc p)) o)) here (first-left Forward reading.points p (omega (arith, room))) in
       record {
@@ -110,11 +113,12 @@ module _ (input : Input) (reading : Reading) (told : Tells reading input) where
         read = told.next Forward p (omega (arith, room)) ∙ ap (λ o. option_map (point_told reading) (option_map (λ c. (c, suc p)) o)) here;
         left = rest.0;
         room = omega (arith, room);
-        end = omega arith;
+        end = same;
         apart = λ e. let h = told.rise p (p + suc k) (omega arith) room in omega (arith, e, h);
       }
-  first Backward zero k room = absurd (omega (arith, room.0))
-  first Backward (suc p) k room =
+  first_of Backward zero k room = absurd (omega (arith, room.0))
+  first_of Backward (suc p) k room =
+      let same : p - k ≡ suc p - suc k = omega arith in
       let here : slice_get reading.points p ≡ Some (get_or reading.points p 0) = slice_get-get_or reading.points p 0 (omega (arith, room.1)) in
       let rest = subst (λ o. IsFirst Backward reading.points (suc p) (option_map (λ c. (c, p)) o)) here (first-left Backward reading.points (suc p) room.1) in
       record {
@@ -123,7 +127,7 @@ module _ (input : Input) (reading : Reading) (told : Tells reading input) where
         read = told.next Backward (suc p) room.1 ∙ ap (λ o. option_map (point_told reading) (option_map (λ c. (c, p)) o)) here;
         left = rest.0;
         room = (omega (arith, room.0), omega (arith, room.1));
-        end = omega arith;
+        end = same;
         apart = λ e. let h = told.rise (suc p - suc k) (suc p) (omega (arith, room.0)) room.1 in omega (arith, e, h);
       }
 
@@ -139,7 +143,7 @@ module _ (input : Input) (reading : Reading) (told : Tells reading input) where
       ap (λ q. copied input n dir true (offset reading p) (offset reading q) o) (stays dir p) ∙ copied-here input dir n (offset reading p) o
   copied-points dir (suc k) zero p o room few = absurd (omega (arith, few))
   copied-points dir (suc k) (suc m) p o room few =
-      let f = first dir p k room in
+      let f = first_of dir p k room in
       copied-more input dir m (offset reading p) (offset reading (onward dir p (suc k))) o f.c (offset reading f.q) (take k (left_in dir reading.points f.q)) f.apart f.read
       (λ r. ap (λ q. copied input m dir true (offset reading f.q) (offset reading q) r) (sym f.end) ∙ copied-points dir k m f.q r f.room (omega (arith, few)))
       ∙ ap (λ cs. all_alike input dir (take (suc k) cs) o) (sym f.left)
@@ -184,6 +188,22 @@ module _ (input : Input) (reading : Reading) (told : Tells reading input) where
 abbrev pub unread : Direction → ℕ → ℕ → ℕ
 unread Forward n at = n - at
 unread Backward n at = at
+
+-- the canons of an input are those of its table
+pub canon-is : (v : View) (c : ℕ) → canon (input_of v).table (input_of v).unicode c ≡ canon v.table v.unicode c
+canon-is v c = ap₂ (λ table unicode. canon table unicode c) (table-is v) (unicode-is v)
+
+-- a code point that is read, compared by canons that are the table's
+pub alike-here : (input : Input) (dir : Direction) (f : ℕ → ℕ) (c d o o' : ℕ) → Some d ≡ point input dir o → o' ≡ behind o (input.next dir o)
+    → f c ≡ canon input.table input.unicode c → f d ≡ canon input.table input.unicode d → only_if (f c == f d) o' ≡ alike input dir c o
+alike-here input dir f c d o o' read moved left right = by_read (input.next dir o) read moved
+  where
+    by_read : (x : Option (ℕ × ℕ)) → Some d ≡ option_map (λ (z : ℕ × ℕ). z.0) x → o' ≡ behind o x
+        → only_if (f c == f d) o' ≡ passed (same input.table input.unicode true c) x
+    by_read None e m = absurd (cc e)
+    by_read (Some (b, r)) e m =
+        let here : d ≡ b = cc in
+        ap₂ (λ u v. only_if (u == v) o') left (right ∙ ap (canon input.table input.unicode) here) ∙ ap (only_if (canon input.table input.unicode c == canon input.table input.unicode b)) m
 
 -- where a code point passed, it was read
 passed-read : (test : ℕ → Bool) (x : Option (ℕ × ℕ)) (q : ℕ) → Some q ≡ passed test x → (d : ℕ) × (x ≡ Some (d, q))
@@ -235,50 +255,50 @@ module _ (v part : View) (told : Tells (reading_of part) (input_of part)) (dir :
     where
       by_point : (x : Option (ℕ × ℕ)) → IsFirst dir points h.place x → (input_of part).next dir at ≡ option_map (point_told (reading_of part)) x → all (in_turn dir points) start ≡ Some pos
       by_point None first read = h.same ∙ ap (λ cs. all cs pos) first
-      by_point (Some x) first read = absurd (cc (ap (option_map (λ (z : ℕ × ℕ). z.0)) read, none))
+      by_point (Some (d, q)) first read = let clash : ◌≡◌ {A = Option ℕ} None (Some d) = sym none ∙ ap (option_map (λ (z : ℕ × ℕ). z.0)) read in absurd (cc clash)
 
   module _ (c next : ℕ) (here : Some c ≡ point (input_of part) dir at) (moved : next ≡ behind at ((input_of part).next dir at)) where
     -- the first that is left was read
-    record Goes : Type 0 where
+    record ReadFirst : Type 0 where
       pub q : ℕ
       pub inside : q ≤ length points
-      pub here : offset (reading_of part) q ≡ next
+      pub there : offset (reading_of part) q ≡ next
       pub left : left_in dir points h.place ≡ c ∷ left_in dir points q
 
-    goes : Goes
-    goes = by_point (neighbour points dir h.place) (first-left dir points h.place h.inside) read-here
+    read_first : ReadFirst
+    read_first = by_point (neighbour points dir h.place) (first-left dir points h.place h.inside) read-here
       where
-        by_point : (x : Option (ℕ × ℕ)) → IsFirst dir points h.place x → (input_of part).next dir at ≡ option_map (point_told (reading_of part)) x → Goes
-        by_point None first read = absurd (cc (ap (option_map (λ (z : ℕ × ℕ). z.0)) read, here))
+        by_point : (x : Option (ℕ × ℕ)) → IsFirst dir points h.place x → (input_of part).next dir at ≡ option_map (point_told (reading_of part)) x → ReadFirst
+        by_point None first read = let clash : ◌≡◌ {A = Option ℕ} (Some c) None = here ∙ ap (option_map (λ (z : ℕ × ℕ). z.0)) read in absurd (cc clash)
         by_point (Some (d, q)) first read =
             let found : Some c ≡ Some d = here ∙ ap (option_map (λ (z : ℕ × ℕ). z.0)) read in
             let same : d ≡ c = cc in
             record {
               q = q;
               inside = first.1;
-              here = sym (moved ∙ ap (behind at) read);
+              there = sym (moved ∙ ap (behind at) read);
               left = first.0 ∙ ap (λ n. n ∷ left_in dir points q) same;
             }
 
-    rest-first : all (in_turn dir points) start ≡ option_and_then (all (left_in dir points goes.q)) (alike (input_of v) dir c pos)
+    rest-first : all (in_turn dir points) start ≡ option_and_then (all (left_in dir points read_first.q)) (alike (input_of v) dir c pos)
     unfolding all_alike
-    rest-first = h.same ∙ ap (λ cs. all cs pos) goes.left
+    rest-first = h.same ∙ ap (λ cs. all cs pos) read_first.left
 
     -- it stands there: the loop goes on behind it
     pub IsCompared-on : Reads v → (pos' : ℕ) → Some pos' ≡ alike (input_of v) dir c pos → IsCompared v part dir start next pos'
     IsCompared-on reads pos' stands =
         let read = passed-read (same (input_of v).table (input_of v).unicode true c) ((input_of v).next dir pos) pos' stands in
         record {
-          place = goes.q;
-          inside = goes.inside;
-          here = goes.here;
+          place = read_first.q;
+          inside = read_first.inside;
+          here = read_first.there;
           can = (reads.on dir pos (read.0, pos') h.can read.1).0;
-          same = rest-first ∙ ap (option_and_then (all (left_in dir points goes.q))) (sym stands);
+          same = rest-first ∙ ap (option_and_then (all (left_in dir points read_first.q))) (sym stands);
         }
 
     -- it doesn't: nothing is repeated
     pub IsCompared-none : None ≡ alike (input_of v) dir c pos → all (in_turn dir points) start ≡ None
-    IsCompared-none none = rest-first ∙ ap (option_and_then (all (left_in dir points goes.q))) (sym none)
+    IsCompared-none none = rest-first ∙ ap (option_and_then (all (left_in dir points read_first.q))) (sym none)
 
     -- and less is left to be read
     pub unread-less : Reads part → CanRead part at → unread dir (length part.units) next < unread dir (length part.units) at

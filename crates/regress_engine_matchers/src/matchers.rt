@@ -92,8 +92,8 @@ fn next_alike<Input: CharInput, Dir: Direction>(
     ensures { only_if result (Input.Position.offset pos.new)
         ≡ alike (input_of (Input.view input.now)) (way Dir.FORWARD) (Input.Element.code c) (Input.Position.offset pos.old) }
 {
-    match next(input, dir, pos) {
-        Some(d) => input.fold_equals(c, d),
-        None => false,
-    }
+    let Some(d) = next(input, dir, pos) else {
+        return false;
+    };
+    input.fold_equals(c, d)
 }

@@ -7,8 +7,8 @@ use Rattle.regress_meaning.specs.Meaning.{Forward, Backward, word_at}
 use Rattle.regress_meaning.specs.Offsets.{offset}
 use Rattle.regress_meaning.specs.Inputs.{Tells, point_told}
 use Rattle.regress_meaning.specs.Steps.{point, at_boundary}
-use Rattle.regress_engine_input.specs.Views.{View, Kind, utf8, ascii, utf16, ucs2, AreOfKind, input_of, input_of_kind, reading_of}
-use Rattle.regress_engine_input.proofs.KindLemmas.{tells}
+use Rattle.regress_engine_input.specs.Views.{View, AreOfKind, input_of, reading_of}
+use Rattle.regress_engine_input.proofs.KindLemmas.{tells, table-is}
 use Rattle.regress_engine_insn.specs.Instructions.{Program, Stands}
 use Rattle.regress_engine_insn.specs.Instructions as code
 use Rattle.regress_engine_runs.specs.Meets.{IsAtPlace}
@@ -17,16 +17,6 @@ use Rattle.regress_engine_singles.specs.Failing.{IsStuck}
 use Rattle.regress_engine_singles.specs.Passed.{PassesOver, IsInside}
 use Rattle.regress_engine_singles.proofs.StuckLemmas.{simple-stuck}
 use Rattle.regress_engine_singles.proofs.LeadingLemmas.{fails-on}
-
--- what an input knows of letters is what its view does
-table-is : (v : View) → (input_of v).table ≡ v.table
-table-is v = by_kind v.kind
-  where
-    by_kind : (k : Kind) → (input_of_kind k v.table v.unicode v.units).table ≡ v.table
-    by_kind utf8 = refl
-    by_kind ascii = refl
-    by_kind utf16 = refl
-    by_kind ucs2 = refl
 
 module _ (v : View) (all : AreOfKind v.kind v.units) where
   -- the character ahead of a place stands before the next one
