@@ -51,9 +51,9 @@ fn bytes_left(text: &[u8], part: &[u8], at: usize) -> Option<usize>
 }
 
 /// The offset past some bytes that stand beside one in a direction, or `None` where they don't:
-/// `bytes_beside(Backward::new(), b"abc", b"ab", 2)` is `Some(0)`.
+/// `slice_beside(Backward::new(), b"abc", b"ab", 2)` is `Some(0)`.
 #[inline]
-pub fn bytes_beside<Dir: Direction>(_dir: Dir, text: &[u8], part: &[u8], at: usize) -> Option<usize>
+pub fn slice_beside<Dir: Direction>(_dir: Dir, text: &[u8], part: &[u8], at: usize) -> Option<usize>
     requires { at ≤ length text.now }
     ensures { (input : Input) → input.units ≡ text.now → result ≡ literal input (way Dir.FORWARD) part.now at }
 {

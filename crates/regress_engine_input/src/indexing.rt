@@ -5,7 +5,7 @@ ghost use Rattle.regress_meaning.specs.Steps.{point, only_if, literal};
 ghost use Rattle.regress_front_tables.specs.TableViews.{table};
 ghost use Rattle.regress_engine_input.specs.Views.{View, way, are_bytes, input_of, CanRead, LiesIn, behind, unit_beside, in_bytes, moved_right, found_from, units_repeated, AreOfKind};
 
-use crate::bytes::{byte_left, byte_right, bytes_beside};
+use crate::bytes::{byte_left, byte_right, slice_beside};
 use crate::cursor::Direction;
 use crate::element::{CodeUnit, ElementType};
 use crate::position::PositionType;
@@ -206,7 +206,7 @@ pub trait InputIndexer: Debug + Copy {
         let Some(text) = self.bytes() else {
             return false;
         };
-        match bytes_beside(dir, text, bytes, self.pos_to_offset(*pos)) {
+        match slice_beside(dir, text, bytes, self.pos_to_offset(*pos)) {
             Some(end) => {
                 *pos = <Self::Position as PositionType>::new(end);
                 true

@@ -8,7 +8,7 @@ mod indexing;
 mod laws;
 mod position;
 
-pub use bytes::bytes_beside;
+pub use bytes::slice_beside;
 pub use cursor::{Backward, Direction, Forward};
 pub use element::{CodeUnit, ElementType};
 pub use indexing::InputIndexer;

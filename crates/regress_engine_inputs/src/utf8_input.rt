@@ -5,7 +5,7 @@ ghost use Rattle.std.proofs.Common.{rules};
 
 use crate::bytes::{utf8_left, utf8_right};
 use crate::position::DefPosition;
-use regress_engine_input::{Direction, InputIndexer, PositionType, bytes_beside};
+use regress_engine_input::{Direction, InputIndexer, PositionType, slice_beside};
 use regress_engine_matchers::{CharInput, UTF8CharProperties};
 use regress_engine_sought::{ExecutorInput, Shown};
 use regress_front_tables::Tables;
@@ -139,7 +139,7 @@ impl<'u, 't> InputIndexer for Utf8Input<'u, 't> {
         ensures { only_if result pos.new.offset ≡ units_repeated (utf8_view self.now) (way Dir.FORWARD) range.start.offset range.end.offset pos.old.offset }
     {
         let part = &self.contents()[range.start.offset()..range.end.offset()];
-        pos.move_to(bytes_beside(dir, self.contents(), part, pos.offset()))
+        pos.move_to(slice_beside(dir, self.contents(), part, pos.offset()))
     }
 
     ghost are_of_kind = { λ s. s.utf8 };

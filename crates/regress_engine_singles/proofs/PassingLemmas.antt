@@ -12,38 +12,38 @@ use Rattle.regress_front_bytes.specs.ByteSets.{members}
 use Rattle.regress_engine_insn.specs.Instructions.{Instruction, Program}
 use Rattle.regress_engine_insn.proofs.BitmapLemmas.{holds-members}
 use Rattle.regress_engine_runs.specs.States.{Marks}
-use Rattle.regress_engine_runs.specs.Runs.{advance, after_times, as_far as taken_far}
+use Rattle.regress_engine_runs.specs.Runs.{advance, after_times, as_far}
 use Rattle.regress_engine_singles.specs.declared.taken.Taken.{Taken}
-use Rattle.regress_engine_singles.specs.Passing.{as_far, after, IsBegun, IsTaken}
+use Rattle.regress_engine_singles.specs.Passing.{scan_while, after, IsBegun, IsTaken}
 
 module _ (input : Input) (passes : ℕ → Bool) (dir : Direction) where
-  pub far-goes : (left o q : ℕ) → 0 < left → Some q ≡ passed passes (input.next dir o) → as_far input passes dir (left - 1) q ≡ as_far input passes dir left o
-  unfolding as_far
+  pub far-goes : (left o q : ℕ) → 0 < left → Some q ≡ passed passes (input.next dir o) → scan_while input passes dir (left - 1) q ≡ scan_while input passes dir left o
+  unfolding scan_while
   far-goes zero o q some e = absurd (omega (arith, some))
   far-goes (suc n) o q some e =
       let same : suc n - 1 ≡ n = omega arith in
-      ap (λ m. as_far input passes dir m q) same ∙ ap (λ (x : Option ℕ). elim x [ None ↦ o | Some q ↦ as_far input passes dir n q ]) e
+      ap (λ m. scan_while input passes dir m q) same ∙ ap (λ (x : Option ℕ). elim x [ None ↦ o | Some q ↦ scan_while input passes dir n q ]) e
 
-  pub far-stops : (left o : ℕ) → 0 < left → None ≡ passed passes (input.next dir o) → o ≡ as_far input passes dir left o
-  unfolding as_far
+  pub far-stops : (left o : ℕ) → 0 < left → None ≡ passed passes (input.next dir o) → o ≡ scan_while input passes dir left o
+  unfolding scan_while
   far-stops zero o some e = absurd (omega (arith, some))
-  far-stops (suc n) o some e = ap (λ (x : Option ℕ). elim x [ None ↦ o | Some q ↦ as_far input passes dir n q ]) e
+  far-stops (suc n) o some e = ap (λ (x : Option ℕ). elim x [ None ↦ o | Some q ↦ scan_while input passes dir n q ]) e
 
-  pub far-all : (left o : ℕ) → left ≤ 0 → o ≡ as_far input passes dir left o
-  unfolding as_far
+  pub far-all : (left o : ℕ) → left ≤ 0 → o ≡ scan_while input passes dir left o
+  unfolding scan_while
   far-all zero o none = refl
   far-all (suc n) o none = absurd (omega (arith, none))
 
 -- what leads where all lead, stopped
 module _ (input : Input) (passes : ℕ → Bool) (dir : Direction) (left times o p : ℕ) where
-  pub far-stopped : as_far input passes dir left o ≡ as_far input passes dir times p → 0 < left → None ≡ passed passes (input.next dir o) → (q : ℕ) → q ≡ o → q ≡ as_far input passes dir times p
+  pub far-stopped : scan_while input passes dir left o ≡ scan_while input passes dir times p → 0 < left → None ≡ passed passes (input.next dir o) → (q : ℕ) → q ≡ o → q ≡ scan_while input passes dir times p
   far-stopped rest some e q same = same ∙ far-stops input passes dir left o some e ∙ rest
 
-  pub far-ended : as_far input passes dir left o ≡ as_far input passes dir times p → left ≤ 0 → (q : ℕ) → q ≡ o → q ≡ as_far input passes dir times p
+  pub far-ended : scan_while input passes dir left o ≡ scan_while input passes dir times p → left ≤ 0 → (q : ℕ) → q ≡ o → q ≡ scan_while input passes dir times p
   far-ended rest none q same = same ∙ far-all input passes dir left o none ∙ rest
 
-  pub far-led : as_far input passes dir left o ≡ as_far input passes dir times p → 0 < left → (q : ℕ) → Some q ≡ passed passes (input.next dir o)
-      → as_far input passes dir (left - 1) q ≡ as_far input passes dir times p
+  pub far-led : scan_while input passes dir left o ≡ scan_while input passes dir times p → 0 < left → (q : ℕ) → Some q ≡ passed passes (input.next dir o)
+      → scan_while input passes dir (left - 1) q ≡ scan_while input passes dir times p
   far-led rest some q e = far-goes input passes dir left o q some e ∙ rest
 
 -- those that were counted
@@ -133,18 +133,18 @@ passed-alike f h same (Some (c, o)) = ap (λ b. if b then Some o else None) (sym
 -- An instruction that takes what passes a test goes as far as the test passes.
 module _ (program : Program) (input : Input) (passes : ℕ → Bool) (i : Instruction) (dir : Direction) (groups : List Marks)
     (same : (o : ℕ) → passed passes (input.next dir o) ≡ advance program input i dir groups o) where
-  pub far-taken : (n o : ℕ) → as_far input passes dir n o ≡ taken_far program input n i dir groups o
-  unfolding as_far taken_far
+  pub far-taken : (n o : ℕ) → scan_while input passes dir n o ≡ as_far program input n i dir groups o
+  unfolding scan_while as_far
   far-taken zero o = refl
-  far-taken (suc n) o = ap (λ (x : Option ℕ). elim x [ None ↦ o | Some q ↦ as_far input passes dir n q ]) (same o) ∙ by_found (advance program input i dir groups o) (λ q. far-taken n q)
+  far-taken (suc n) o = ap (λ (x : Option ℕ). elim x [ None ↦ o | Some q ↦ scan_while input passes dir n q ]) (same o) ∙ by_found (advance program input i dir groups o) (λ q. far-taken n q)
     where
       left : Option ℕ → ℕ
-      left x = elim x [ None ↦ o | Some q ↦ as_far input passes dir n q ]
+      left x = elim x [ None ↦ o | Some q ↦ scan_while input passes dir n q ]
 
       right : Option ℕ → ℕ
-      right x = elim x [ None ↦ o | Some q ↦ taken_far program input n i dir groups q ]
+      right x = elim x [ None ↦ o | Some q ↦ as_far program input n i dir groups q ]
 
-      by_found : (x : Option ℕ) → ((q : ℕ) → as_far input passes dir n q ≡ taken_far program input n i dir groups q) → left x ≡ right x
+      by_found : (x : Option ℕ) → ((q : ℕ) → scan_while input passes dir n q ≡ as_far program input n i dir groups q) → left x ≡ right x
       by_found None rest = refl
       by_found (Some q) rest = rest q
 

@@ -19,7 +19,7 @@ use Rattle.regress_front_sets.proofs.SetLemmas.{held-from, held-none}
 use Rattle.regress_front_nodes.specs.TreeMeaning.{bracket_has}
 use Rattle.regress_meaning.specs.TableParts.{in_intervals}
 use Rattle.std.proofs.lemmas.List.{get_or-drop}
-use Rattle.regress_engine_singles.specs.Passing.{as_far, StopsAt}
+use Rattle.regress_engine_singles.specs.Passing.{scan_while, StopsAt}
 
 module _ (v : View) (all : AreOfKind v.kind v.units) (are : are_bytes v.kind ≡ true) (stops : List ℕ) (low : (c : ℕ) → 0x80 ≤ c → holds stops c ≡ false)
     (passes : ℕ → Bool) (others : (c : ℕ) → passes c ≡ not (holds stops c)) where
@@ -65,13 +65,13 @@ module _ (v : View) (all : AreOfKind v.kind v.units) (are : are_bytes v.kind ≡
         by_room (inr full) = let room = at.room in let same : length v.units ≡ end = omega (arith, full, room) in by_kind v.kind are (subst (IsCharBoundary v.units) same (IsCharBoundary-end v.units))
 
     -- the class goes as far as that
-    pub far-stopped : (n o : ℕ) → CanRead v o → start ≤ o → o ≤ end → end - o ≤ n → as_far (input_of v) passes Forward n o ≡ end
-    unfolding as_far
+    pub far-stopped : (n o : ℕ) → CanRead v o → start ≤ o → o ≤ end → end - o ≤ n → scan_while (input_of v) passes Forward n o ≡ end
+    unfolding scan_while
     far-stopped zero o can from to room = omega (arith, to, room)
     far-stopped (suc n) o can from to room = by_order (cases_lt o end) (far-stopped n)
       where
         goes : Option ℕ → ℕ
-        goes x = elim x [ None ↦ o | Some q ↦ as_far (input_of v) passes Forward n q ]
+        goes x = elim x [ None ↦ o | Some q ↦ scan_while (input_of v) passes Forward n q ]
 
         by_next : (b : Bool) → only_if b (suc o) ≡ passed (holds stops) ((input_of v).next Forward o) → (c q : ℕ) → (input_of v).next Forward o ≡ Some (c, q) → holds stops c ≡ b
         by_next true e c q f = by_held (holds stops c) refl
@@ -88,7 +88,7 @@ module _ (v : View) (all : AreOfKind v.kind v.units) (are : are_bytes v.kind ≡
         tested : (b : Bool) (c q : ℕ) → (input_of v).next Forward o ≡ Some (c, q) → holds stops c ≡ b → passed passes ((input_of v).next Forward o) ≡ (if not b then Some q else None)
         tested b c q f g = ap (passed passes) f ∙ ap (λ (t : Bool). if t then Some q else None) (others c ∙ ap not g)
 
-        by_order : (o < end) ⊎ (end ≤ o) → ((o : ℕ) → CanRead v o → start ≤ o → o ≤ end → end - o ≤ n → as_far (input_of v) passes Forward n o ≡ end) → goes (passed passes ((input_of v).next Forward o)) ≡ end
+        by_order : (o < end) ⊎ (end ≤ o) → ((o : ℕ) → CanRead v o → start ≤ o → o ≤ end → end - o ≤ n → scan_while (input_of v) passes Forward n o ≡ end) → goes (passed passes ((input_of v).next Forward o)) ≡ end
         by_order (inl less) rest =
             let high = at.room in
             let inside : o < length v.units = omega (arith, less, high) in

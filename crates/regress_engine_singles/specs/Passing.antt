@@ -7,9 +7,9 @@ use Rattle.regress_meaning.specs.Text.{holds}
 
 module _ (input : Input) (passes : ℕ → Bool) (dir : Direction) where
   -- the offset behind as many as there are, at most so many
-  unfoldable pub as_far : ℕ → ℕ → ℕ
-  as_far zero o = o
-  as_far (suc n) o = elim (passed passes (input.next dir o)) [ None ↦ o | Some q ↦ as_far n q ]
+  unfoldable pub scan_while : ℕ → ℕ → ℕ
+  scan_while zero o = o
+  scan_while (suc n) o = elim (passed passes (input.next dir o)) [ None ↦ o | Some q ↦ scan_while n q ]
 
   -- the offset behind so many, where there are so many
   unfoldable pub after : ℕ → ℕ → Option ℕ

@@ -9,7 +9,7 @@ ghost use Rattle.regress_engine_runs.specs.Runs.{after_times, as_far};
 ghost use Rattle.regress_engine_runs.specs.Closed.{Fits};
 
 use crate::class::ScannedBracket;
-use crate::far::as_far;
+use crate::far::scan_while;
 use crate::stops::as_far_searched;
 use regress_engine_code::CompiledRegex;
 use regress_engine_input::{Direction, Forward};
@@ -40,7 +40,7 @@ pub fn as_far_ahead<Input: CharInput>(
         Insn::AsciiBracket(bitmap) => {
             ascii_bitmap_holds_ascii(bitmap);
             let set = MatchByteSet { bytes: bitmap };
-            Some(as_far(input, Forward::new(), &set, times, offset))
+            Some(scan_while(input, Forward::new(), &set, times, offset))
         }
         Insn::Bracket(index) => {
             let bc = &program.brackets()[*index];
@@ -48,12 +48,12 @@ pub fn as_far_ahead<Input: CharInput>(
                 return Some(far);
             }
             let class = ScannedBracket { bc };
-            Some(as_far(input, Forward::new(), &class, times, offset))
+            Some(scan_while(input, Forward::new(), &class, times, offset))
         }
-        Insn::MatchAny => Some(as_far(input, Forward::new(), &MatchAny::new(), times, offset)),
+        Insn::MatchAny => Some(scan_while(input, Forward::new(), &MatchAny::new(), times, offset)),
         Insn::MatchAnyExceptLineTerminator => {
             let in_line = MatchAnyExceptLineTerminator::new();
-            Some(as_far(input, Forward::new(), &in_line, times, offset))
+            Some(scan_while(input, Forward::new(), &in_line, times, offset))
         }
         _ => None,
     }

@@ -1,7 +1,7 @@
 //! How far a test on one character passes.
 ghost use Rattle.std.specs.Prelude.{◌≡◌};
 ghost use Rattle.regress_engine_input.specs.Views.{way, input_of, CanRead};
-ghost use Rattle.regress_engine_singles.specs.Passing.{as_far};
+ghost use Rattle.regress_engine_singles.specs.Passing.{scan_while};
 
 use regress_engine_input::{Direction, InputIndexer, PositionType};
 use regress_engine_matchers::SingleCharMatcher;
@@ -11,10 +11,10 @@ use regress_engine_matchers::SingleCharMatcher;
 /// Asks that characters may be read from the offset on, and that the test is one for the input.
 ///
 /// ```rust
-/// let behind = as_far(&input, Forward::new(), &MatchAny::new(), usize::MAX, 0);
+/// let behind = scan_while(&input, Forward::new(), &MatchAny::new(), usize::MAX, 0);
 /// ```
 #[inline]
-pub fn as_far<Input: InputIndexer, Dir: Direction, Matcher: SingleCharMatcher<Input, Dir>>(
+pub fn scan_while<Input: InputIndexer, Dir: Direction, Matcher: SingleCharMatcher<Input, Dir>>(
     input: &Input,
     dir: Dir,
     matcher: &Matcher,
@@ -23,7 +23,7 @@ pub fn as_far<Input: InputIndexer, Dir: Direction, Matcher: SingleCharMatcher<In
 ) -> usize
     requires place { CanRead (Input.view input.now) offset }
     requires suits { Matcher.Suits matcher.now (Input.view input.now) }
-    ensures { result ≡ as_far (input_of (Input.view input.now)) (Matcher.passes matcher.now) (way Dir.FORWARD) times offset }
+    ensures { result ≡ scan_while (input_of (Input.view input.now)) (Matcher.passes matcher.now) (way Dir.FORWARD) times offset }
 {
     let mut behind = <Input::Position as PositionType>::new(offset);
     let mut left = times;

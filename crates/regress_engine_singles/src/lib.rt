@@ -13,6 +13,6 @@ mod taking;
 pub use ahead::as_far_ahead;
 pub use apart::{are_apart, is_apart};
 pub use class::ScannedBracket;
-pub use far::as_far;
+pub use far::scan_while;
 pub use taken::{Taken, taken_ahead};
 pub use taking::{first_byte, is_class, is_edge, takes_one, takes_some};

@@ -5,7 +5,7 @@ ghost use Rattle.regress_meaning.specs.Text.{holds};
 ghost use Rattle.regress_front_sets.specs.Intervals.{ends_of, in_interval};
 ghost use Rattle.regress_front_nodes.specs.TreeMeaning.{bracket_has};
 ghost use Rattle.regress_engine_input.specs.Views.{input_of, CanRead};
-ghost use Rattle.regress_engine_singles.specs.Passing.{as_far, StopsAt};
+ghost use Rattle.regress_engine_singles.specs.Passing.{scan_while, StopsAt};
 
 use memchr::memchr3;
 use regress_engine_input::InputIndexer;
@@ -73,7 +73,7 @@ pub(crate) fn as_far_searched<Input: InputIndexer>(
     offset: usize,
 ) -> Option<usize>
     requires { CanRead (Input.view input.now) offset }
-    ensures { IfSome result (λ far. far ≡ as_far (input_of (Input.view input.now)) (bracket_has class.now.invert (ends_of class.now.cps.intervals.items)) ahead times offset) }
+    ensures { IfSome result (λ far. far ≡ scan_while (input_of (Input.view input.now)) (bracket_has class.now.invert (ends_of class.now.cps.intervals.items)) ahead times offset) }
 {
     let bytes = input.bytes()?;
     let stops = all_but(class)?;

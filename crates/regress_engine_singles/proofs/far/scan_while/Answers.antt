@@ -1,7 +1,7 @@
 use Rattle.regress_engine_input.specs.Views.{way, input_of}
 use Rattle.regress_engine_singles.proofs.PassingLemmas.{far-led, far-stopped, far-ended, reads-on}
-use Rattle.regress_engine_singles.proofs.far.as_far.Goals as goal
-use Rattle.regress_engine_singles.proofs.far.as_far.Goals.{else-loop-left-test, then-loop-left-test+then-not-matches}
+use Rattle.regress_engine_singles.proofs.far.scan_while.Goals as goal
+use Rattle.regress_engine_singles.proofs.far.scan_while.Goals.{else-loop-left-test, then-loop-left-test+then-not-matches}
 
 pub loop-left-preserved : goal.loop-left-preserved
 loop-left-preserved g c =
