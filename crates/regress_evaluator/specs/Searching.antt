@@ -33,9 +33,13 @@ names_of s = shared_names s.group_names
 abbrev pub searching : CompiledPattern → List ℕ → Context
 searching pattern text = record { text = text; table = table pattern.tables.now; unicode = pattern.unicode }
 
+-- how many groups a compiled pattern has
+abbrev pub group_count_of : CompiledPattern → ℕ
+group_count_of pattern = length (names_in (tree pattern.node.now))
+
 -- the items of a compiled pattern in a text from a place on, told in places
 abbrev pub matches_of : CompiledPattern → List ℕ → ℕ → List Item
-matches_of pattern text = node_match_list (searching pattern text) (length (names_in (tree pattern.node.now))) (tree pattern.node.now)
+matches_of pattern text = node_match_list (searching pattern text) (group_count_of pattern) (tree pattern.node.now)
 
 -- the items from a place on, told in bytes
 abbrev pub items_from : Search → ℕ → List Item

@@ -1,5 +1,5 @@
 //! The search for a compiled pattern in a text, by the evaluator.
-ghost use Rattle.std.specs.Prelude.{◌≡◌, ◌<◌, ⊤, None, true, map, length, chars, encode_utf8_all, IfOk, IfSome, OnErr, IsOkUnless};
+ghost use Rattle.std.specs.Prelude.{◌≡◌, ◌<◌, ⊤, None, true, map, chars, encode_utf8_all, IfOk, IfSome, OnErr, IsOkUnless};
 ghost use Rattle.std.specs.Str.{all_scalars};
 ghost use Rattle.regress_front_nodes.specs.Trees.{tree};
 ghost use Rattle.regress_front_nodes.specs.Names.{names_in};
@@ -37,7 +37,7 @@ pub struct Search<'r> {
 
 impl<'r> Search<'r> {
     ghost use Rattle.regress_evaluator.specs.StateViews.{context_of};
-    ghost use Rattle.regress_evaluator.specs.Searching.{pattern_of, points_of, names_of, searching, items_from, places_behind, IsMatchOf};
+    ghost use Rattle.regress_evaluator.specs.Searching.{pattern_of, points_of, names_of, searching, group_count_of, items_from, places_behind, IsMatchOf};
     ghost use Rattle.regress_match.specs.Iterating.{Finds};
 
     /// The search for a pattern in a text. Its matches have the names of the groups of the tree. Errs with `OutOfMemory` alone.
@@ -68,7 +68,7 @@ impl<'r> Search<'r> {
     fn evaluator(&self) -> Evaluator<'_>
         ensures context { context_of result ≡ searching (pattern_of self.now) (points_of self.now) }
         ensures text { result.points.now ≡ points_of self.now }
-        ensures groups { result.group_count ≡ length (names_in (tree self.now.pattern.node.now)) }
+        ensures groups { result.group_count ≡ group_count_of self.now.pattern }
     {
         Evaluator {
             alloc: self.alloc,

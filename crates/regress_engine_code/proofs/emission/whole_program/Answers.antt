@@ -42,8 +42,9 @@ returns-clause-emitted c =
       unicode = unicode;
     } in
     let shared : table c.in_ok-tables.tables ≡ table regex.tables.now = ap table_known c.in_ok-tables.ensures in
+    let grouped = c.in_ok-groups.ensures.ok ∙ ap length c.deref.ensures.value ∙ group-for-name n t c.in_ok-names.names formed c.in_ok-names.ensures in
     let layout = told-layout c.args.units (table regex.tables.now) unicode _ n t start w c.from.result c.in_ok-groups.groups
-    c.new-code.ensures c.is_unicode.ensures c.in_ok-node.ensures.added c.from.ensures (c.in_ok-groups.ensures.ok ∙ ap length c.deref.ensures.value ∙ group-for-name n t c.in_ok-names.names formed c.in_ok-names.ensures) in
+    c.new-code.ensures c.is_unicode.ensures c.in_ok-node.ensures.added c.from.ensures grouped in
     record {
       flags = refl;
       table = shared;
@@ -69,6 +70,7 @@ invariant_of-result c =
       unicode = is_unicode (options regex.flags);
     } in
     let shared : table c.in_ok-tables.tables ≡ table regex.tables.now = ap table_known c.in_ok-tables.ensures in
+    let grouped = c.in_ok-groups.ensures.ok ∙ ap length c.deref.ensures.value ∙ group-for-name n t c.in_ok-names.names formed c.in_ok-names.ensures in
     record {
       laid = ∣ (
         n,
@@ -77,7 +79,7 @@ invariant_of-result c =
         subst (λ (x : Table). IsLayout (target x) n t) (sym shared)
             (told-layout c.args.units (table regex.tables.now) (is_unicode (options regex.flags)) _ n t (written c.new-code.result) w
             c.from.result c.in_ok-groups.groups c.new-code.ensures c.is_unicode.ensures c.in_ok-node.ensures.added c.from.ensures
-            (c.in_ok-groups.ensures.ok ∙ ap length c.deref.ensures.value ∙ group-for-name n t c.in_ok-names.names formed c.in_ok-names.ensures)),
+            grouped),
         c.in_ok-start_pred.ensures.serves,
       ) ∣₁;
       told = subst (λ brackets. AreAhead (program_from c.node.new.code.insns.items brackets c.from.result c.in_ok-groups.groups c.args.units) c.in_ok-ahead.ahead.items) c.deref-3.ensures.value
