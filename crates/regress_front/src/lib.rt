@@ -44,7 +44,7 @@ pub use regress_front_sets::{
     is_ascii_word, line_terminator, whitespace, word_chars,
 };
 pub use regress_front_syntax::{
-    Class, Modifiers, Parsed, Refused, Syntax, Term, parse, parse_telling_place,
+    Class, Modifiers, Refused, Syntax, Term, parse, parse_telling_place,
 };
 pub use regress_front_tables::{
     TableError, TableLaw, TableParts, Tables, add_icase_code_points, closure, expand_code_point,

@@ -7,4 +7,4 @@ mod parser;
 mod whole;
 
 pub use regress_front_tokens::{Class, Modifiers, Quantifier, Syntax, Term};
-pub use whole::{Parsed, Refused, parse, parse_telling_place};
+pub use whole::{Refused, parse, parse_telling_place};

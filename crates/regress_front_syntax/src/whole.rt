@@ -1,18 +1,17 @@
 //! Whole patterns: the parser from the beginning of a text to its end, or to where it is refused.
 ghost use Rattle.std.specs.Prelude.{◌≡◌, ◌≤◌, length, IfOk, IfErr};
-ghost use Rattle.regress_meaning.specs.Pattern.{names_of};
 ghost use Rattle.regress_meaning.specs.Grammar.{Spells, mode_of};
 ghost use Rattle.regress_meaning.specs.Limits.{WithinLimits};
 ghost use Rattle.regress_meaning.specs.Scan.{scanned_names};
 ghost use Rattle.regress_front_core.specs.FlagWords.{options};
 ghost use Rattle.regress_front_core.specs.Refusals.{MayRefuse};
 ghost use Rattle.regress_front_tables.specs.TableViews.{table};
-ghost use Rattle.regress_front_tokens.specs.Escapes.{mode_view, texts, HasFewGroups};
+ghost use Rattle.regress_front_tokens.specs.Escapes.{mode_view, HasFewGroups};
 ghost use Rattle.regress_front_tokens.specs.Trees.{tree};
 ghost use Rattle.regress_front_tokens.specs.Ranges.{HasRanges};
 
 use crate::parser::Parser;
-use regress_front_tables::{CaptureGroupName, CodePoint, Error, Flags, MAX_CAPTURE_GROUPS, Tables};
+use regress_front_tables::{CodePoint, Error, Flags, MAX_CAPTURE_GROUPS, Tables};
 use regress_front_tokens::{Mode, Syntax, mode_of};
 use std::alloc::Global;
 
@@ -37,15 +36,6 @@ fn limited_mode<'t>(
     Ok(mode)
 }
 
-/// A pattern that was read.
-#[derive(Debug, Drop)]
-pub struct Parsed {
-    /// Its tree.
-    pub syntax: Syntax,
-    /// The name of each capturing group by its number, empty where it has none.
-    pub group_names: Vec<CaptureGroupName>,
-}
-
 /// Why a pattern is refused, and where.
 #[derive(Debug, Drop)]
 pub struct Refused {
@@ -61,25 +51,20 @@ pub fn parse_telling_place(
     points: &[CodePoint],
     flags: Flags,
     tables: &Tables,
-) -> Result<Parsed, Refused>
-    ensures accepted { IfOk result (λ s. Spells (table tables.now) (options flags) points.now (tree s.syntax) × WithinLimits (tree s.syntax)) }
-    ensures named { IfOk result (λ s. texts s.group_names ≡ names_of (tree s.syntax)) }
-    ensures ranges { IfOk result (λ s. HasRanges s.syntax) }
+) -> Result<Syntax, Refused>
+    ensures accepted { IfOk result (λ s. Spells (table tables.now) (options flags) points.now (tree s) × WithinLimits (tree s)) }
+    ensures ranges { IfOk result HasRanges }
     ensures refused { IfErr result (λ r. MayRefuse (table tables.now) (options flags) points.now r.error) }
     ensures inside { IfErr result (λ r. r.place ≤ length points.now) }
 {
     regress_meaning::reading_decides_the_grammar();
-    regress_meaning::names_are_found_by_a_scan();
     let mode = match limited_mode(alloc, points, flags, tables) {
         Ok(mode) => mode,
         Err(error) => return Err(Refused { error, place: 0 }),
     };
     let mut parser = Parser::new(alloc, points);
     match parser.pattern(&mode) {
-        Ok(syntax) => Ok(Parsed {
-            syntax,
-            group_names: mode.names,
-        }),
+        Ok(syntax) => Ok(syntax),
         Err(error) => Err(Refused {
             error,
             place: points.len().saturating_sub(parser.remaining()),
@@ -87,22 +72,21 @@ pub fn parse_telling_place(
     }
 }
 
-/// Reads a pattern with flags ("ParsePattern"): its tree, and the names of its groups. `Syntax` where the text is no pattern;
-/// `TooDeep`, `TooManyGroups` and `TooManyLoops` where it passes that limit; `OutOfMemory` at any time.
+/// Reads a pattern with flags ("ParsePattern"): its tree. `Syntax` where the text is no pattern; `TooDeep`, `TooManyGroups` and
+/// `TooManyLoops` where it passes that limit; `OutOfMemory` at any time.
 /// `parse(alloc, &[0x2A], Flags::default(), &tables)` errs with `Syntax`: nothing stands before the `*`.
 pub fn parse(
     alloc: Global,
     points: &[CodePoint],
     flags: Flags,
     tables: &Tables,
-) -> Result<Parsed, Error>
-    ensures accepted { IfOk result (λ s. Spells (table tables.now) (options flags) points.now (tree s.syntax) × WithinLimits (tree s.syntax)) }
-    ensures named { IfOk result (λ s. texts s.group_names ≡ names_of (tree s.syntax)) }
-    ensures ranges { IfOk result (λ s. HasRanges s.syntax) }
+) -> Result<Syntax, Error>
+    ensures accepted { IfOk result (λ s. Spells (table tables.now) (options flags) points.now (tree s) × WithinLimits (tree s)) }
+    ensures ranges { IfOk result HasRanges }
     ensures refused { IfErr result (λ e. MayRefuse (table tables.now) (options flags) points.now e) }
 {
     match parse_telling_place(alloc, points, flags, tables) {
-        Ok(parsed) => Ok(parsed),
+        Ok(syntax) => Ok(syntax),
         Err(refused) => Err(refused.error),
     }
 }

@@ -56,10 +56,10 @@ pub fn try_parse<'u>(
     regress_meaning::spelled_names_are_not_empty();
     lowered_trees_are_alike();
     whole_trees_are_well_formed();
-    let parsed = parse(alloc, pattern, flags, tables)?;
+    let syntax = parse(alloc, pattern, flags, tables)?;
     let lowering = Lowering::new(alloc, tables, flags.is_unicode());
     let mut node = Node::Empty;
-    lowering.lower(&parsed.syntax, &first_scope(flags), &mut node)?;
+    lowering.lower(&syntax, &first_scope(flags), &mut node)?;
     Ok(Regex {
         node: Node::Cat(vec![in alloc; node, Node::Goal]?),
         flags,

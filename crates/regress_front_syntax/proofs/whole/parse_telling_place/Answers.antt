@@ -1,8 +1,6 @@
-use Rattle.std.proofs.Common.{Ok, Err, ap, ◌∙◌}
-use Rattle.regress_meaning.specs.Tokens.{Mode}
+use Rattle.std.proofs.Common.{Ok, Err}
 use Rattle.regress_front_core.specs.FlagWords.{options}
 use Rattle.regress_front_tables.specs.TableViews.{table}
-use Rattle.regress_front_tokens.specs.Trees.{tree}
 use Rattle.regress_front_syntax.proofs.PatternLemmas.{spelled, refused, answer-moved}
 use Rattle.regress_front_syntax.proofs.whole.parse_telling_place.Goals as goal
 
@@ -13,13 +11,6 @@ returns-in-Ok-pattern-clause-accepted c =
     let t = c.args.points.now in
     let s = c.in-Ok-pattern.syntax in
     spelled tb o t (c.reading_decides_the_grammar.ensures tb o t) s (answer-moved _ _ _ t (Ok s) c.new-parser.ensures.text c.in-Ok.ensures.mode c.in-Ok-pattern.ensures.answer)
-
-pub returns-in-Ok-pattern-clause-named : goal.returns-in-Ok-pattern-clause-named
-returns-in-Ok-pattern-clause-named c =
-    let tb = table c.args.tables.now in
-    let o = options c.args.flags in
-    let accepted = returns-in-Ok-pattern-clause-accepted c in
-    ap (λ (m : Mode). m.names) c.in-Ok.ensures.mode ∙ c.names_are_found_by_a_scan.ensures tb o c.args.points.now (tree c.in-Ok-pattern.syntax) accepted.0
 
 pub returns-in-Ok-pattern-clause-ranges : goal.returns-in-Ok-pattern-clause-ranges
 returns-in-Ok-pattern-clause-ranges c = c.in-Ok-pattern.ensures.ranges

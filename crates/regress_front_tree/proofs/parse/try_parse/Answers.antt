@@ -21,8 +21,8 @@ ended w t s = flat_map-self (node_outcomes w t Forward s)
 
 pub lower-requires : goals.lower-requires
 lower-requires c =
-    let spelled = c.in_ok-parsed.ensures.accepted.0 in
-    let p = parsed.tree c.in_ok-parsed.parsed.syntax in
+    let spelled = c.in_ok-syntax.ensures.accepted.0 in
+    let p = parsed.tree c.in_ok-syntax.syntax in
     record {
       points = c.spelled_trees_hold_code_points.ensures (table c.args.tables.now) (options c.args.flags) c.args.pattern.now p c.requires spelled;
       names = c.spelled_names_are_not_empty.ensures (table c.args.tables.now) (options c.args.flags) c.args.pattern.now p spelled;
@@ -31,10 +31,10 @@ lower-requires c =
 pub returns-clause-accepted : goals.returns-clause-accepted
 returns-clause-accepted c =
     let o = options c.args.flags in
-    let p = parsed.tree c.in_ok-parsed.parsed.syntax in
+    let p = parsed.tree c.in_ok-syntax.syntax in
     let t = tree c.lower.new.node in
-    let (spelled, within) = c.in_ok-parsed.ensures.accepted in
-    let (last, ranges) = c.in_ok-parsed.ensures.ranges in
+    let (spelled, within) = c.in_ok-syntax.ensures.accepted in
+    let (last, ranges) = c.in_ok-syntax.ensures.ranges in
     let lowered : Lowers (table c.args.tables.now) (is_unicode o) false (first_settings o) 0 p t last =
     rw (c.first_scope.ensures.backward, c.first_scope.ensures.settings, c.new-lowering.ensures.tables, c.new-lowering.ensures.unicode, c.is_unicode.ensures) at c.in_ok-lower.ensures 0 last ranges in
     let whole = c.whole_trees_are_well_formed.ensures (table c.args.tables.now) o c.args.pattern.now p t last spelled within lowered in
