@@ -1,4 +1,4 @@
-//! What callers of `regress` write: their loops over matches and parts, closures, named groups and tables, each proved and run;
+//! What callers of `regress` write: their loops over matches and parts, closures, named groups and tables, and what owns tables and a regex, each proved and run;
 //! what the calls of `regress` promise; long patterns and texts. By public calls alone; the library itself is empty.
 #![tactic(auto)]
 
@@ -14,6 +14,8 @@ mod loops;
 mod matches;
 #[cfg(test)]
 mod named;
+#[cfg(test)]
+mod owning;
 #[cfg(test)]
 mod promises;
 #[cfg(test)]
