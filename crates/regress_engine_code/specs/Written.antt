@@ -8,6 +8,7 @@ use Rattle.regress_engine_code.specs.declared.code.Code.{Code}
 use Rattle.regress_engine_insn.specs.Instructions.{Instruction, jump, Program, Stands}
 use Rattle.regress_engine_insn.specs.InsnViews.{instruction}
 use Rattle.regress_engine_insn.specs.Layout.{Spot, Lies}
+use Rattle.regress_engine_insn.specs.ProgramViews.{bracket_ends}
 
 -- The instructions and brackets so far, and how many loops begin in them.
 pub record Written : Type 0 where
