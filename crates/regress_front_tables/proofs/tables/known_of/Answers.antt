@@ -10,10 +10,8 @@ property_sets-requires c =
 
 pub new-requires : goal.new-requires
 new-requires c =
-    let kept = c.requires in
-    rw c.deref.ensures.value (record { range = kept.range.0.0; order = kept.order.0; idempotent = kept.idempotent.0; class_size = kept.class_size.0 })
+    rw c.deref.ensures.value (record { range = c.requires.range.0.0; order = c.requires.order.0; idempotent = c.requires.idempotent.0; class_size = c.requires.class_size.0 })
 
 pub new-requires-2 : goal.new-requires-2
 new-requires-2 c =
-    let kept = c.requires in
-    rw c.deref-2.ensures.value (record { range = kept.range.0.1; order = kept.order.1; idempotent = kept.idempotent.1; class_size = kept.class_size.1 })
+    rw c.deref-2.ensures.value (record { range = c.requires.range.0.1; order = c.requires.order.1; idempotent = c.requires.idempotent.1; class_size = c.requires.class_size.1 })

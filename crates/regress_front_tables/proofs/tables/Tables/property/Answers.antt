@@ -1,11 +1,10 @@
 use Rattle.std.proofs.Common.{chars, map, sym, ap, ◌∙◌}
 use Rattle.std.specs.Option.{option_map}
 use Rattle.regress_meaning.specs.TableParts.{entry, in_intervals}
-use Rattle.regress_front_sets.specs.Sets.{in_set}
+use Rattle.regress_front_sets.specs.Sets.{in_set, ends_in}
 use Rattle.regress_front_tables.specs.declared.tables.Known.{Known}
 use Rattle.regress_front_tables.specs.Entries.{entry_of}
 use Rattle.regress_front_tables.specs.TableViews.{known_by}
-use Rattle.regress_front_sets.specs.Sets.{ends_in}
 use Rattle.regress_front_tables.proofs.EntryLemmas.{entry-map, option_map-copied, option_map-option_map}
 use Rattle.regress_front_tables.proofs.tables.Tables.property.Goals as goal
 
