@@ -7,22 +7,21 @@ use Rattle.std.proofs.lemmas.Bool.Decides.{nat_tests}
 use Rattle.std.proofs.lemmas.List.{append_assoc, append-nil, length-set, length-replicate, get_or-set_same, get_or-set_other}
 use Rattle.std.proofs.lemmas.Option.{slice_get_past, slice_get-get_or}
 use Rattle.regress_front_nodes.specs.Trees.{Tree, cat, alt, capture, submatch, loop, single_loop}
-use Rattle.regress_front_nodes.specs.Forms.{is_leaf}
 use Rattle.regress_front_nodes.specs.Names.{padded, placed, names_with, names_in}
 use Rattle.regress_front_nodes.specs.WellFormed.{group_ids, AreNumbered, name_by_number}
 use Rattle.regress_front_nodes.proofs.CountLemmas.{times, count-append, count-cons}
 
 -- ---- a name in its place
 
-empty-at : (n i : ℕ) → get_or (replicate {A = List ℕ} n []) i [] ≡ []
-empty-at zero i = refl
-empty-at (suc n) zero = refl
-empty-at (suc n) (suc i) = empty-at n i
-
 empty-behind : (names : List (List ℕ)) (n i : ℕ) → get_or (names ++ replicate n []) i [] ≡ get_or names i []
-empty-behind [] n i = empty-at n i
+empty-behind [] zero i = refl
+empty-behind [] (suc n) zero = refl
+empty-behind [] (suc n) (suc i) = empty-behind [] n i
 empty-behind (name ∷ names) n zero = refl
 empty-behind (name ∷ names) n (suc i) = empty-behind names n i
+
+length-padded : (k : ℕ) (names : List (List ℕ)) → length (padded k names) ≡ length names + (suc k - length names)
+length-padded k names = length-append names (replicate (suc k - length names) []) ∙ ap (λ n. length names + n) (length-replicate (suc k - length names) [])
 
 -- one more empty name changes nothing where the place has none yet
 pub padded-more : (k : ℕ) (names : List (List ℕ)) → length names ≤ k → padded k (names ++ [] ∷ []) ≡ padded k names
@@ -36,148 +35,76 @@ padded-more k names few =
 -- and where it has one there is none to add
 pub padded-full : (k : ℕ) (names : List (List ℕ)) → k < length names → padded k names ≡ names
 padded-full k names full =
-    let none : suc k - length names ≡ 0 = omega (arith, full) in
-    ap (λ n. names ++ replicate n []) none ∙ append-nil names
+    let none : suc k - length names ≡ 0 = omega (arith, full) in ap (λ n. names ++ replicate n []) none ∙ append-nil names
 
-pub length-placed : (k : ℕ) (name : List ℕ) (names : List (List ℕ)) → length (placed k name names) ≡ length names + (suc k - length names)
-length-placed k name names =
-    length-set (names ++ replicate (suc k - length names) []) k name ∙ length-append names (replicate (suc k - length names) [])
-    ∙ ap (λ n. length names + n) (length-replicate (suc k - length names) [])
+length-placed : (k : ℕ) (name : List ℕ) (names : List (List ℕ)) → length (placed k name names) ≡ length names + (suc k - length names)
+length-placed k name names = length-set (padded k names) k name ∙ length-padded k names
 
--- it is there
-own-place : (k : ℕ) (name : List ℕ) (names : List (List ℕ)) → get_or (placed k name names) k [] ≡ name
-own-place k name names = get_or-set_same (names ++ replicate (suc k - length names) []) k name [] long
+-- ---- the names of a tree, at one number
+
+-- Adding the names of a tree changes no name whose number no group has, and puts a name that one group has in its place.
+abbrev Told : ℕ → Tree → Type 0
+Told k t =
+    (times k (group_ids t) ≡ 0 → (name_by_number k t ≡ None) × ((names : List (List ℕ)) → get_or (names_with names t) k [] ≡ get_or names k []))
+    × (times k (group_ids t) ≡ 1 → (name : List ℕ) × (name_by_number k t ≡ Some name)
+    × ((names : List (List ℕ)) → (get_or (names_with names t) k [] ≡ name) × (k < length (names_with names t))))
+
+-- It adds no fewer names than there were, and none past the numbers of its groups.
+abbrev Counted : Tree → Type 0
+Counted t = (names : List (List ℕ)) → (length names ≤ length (names_with names t))
+    × ((n : ℕ) → length names ≤ n → ((k : ℕ) → n ≤ k → times k (group_ids t) ≡ 0) → length (names_with names t) ≤ n)
+
+-- two trees side by side
+counted-both : (a b : Tree) → Counted a → Counted b → Counted (cat a b)
+counted-both a b h g = λ names. let first = (h names).0 in let second = (g (names_with names a)).0 in (
+  omega (arith, first, second),
+  λ n few none. (g (names_with names a)).1 n ((h names).1 n few (λ k past. omega (arith, count-append k (group_ids a) (group_ids b), none k past)))
+      (λ k past. omega (arith, count-append k (group_ids a) (group_ids b), none k past)),
+)
+
+told-both : (k : ℕ) (a b : Tree) → Counted b → Told k a → Told k b → Told k (cat a b)
+told-both k a b more h g = (λ none. absent (omega (arith, counted, none)) (omega (arith, counted, none)), λ one. of_two one (times k (group_ids a)) refl)
   where
-    long : k < length (names ++ replicate (suc k - length names) [])
-    long =
-        let both = length-append names (replicate (suc k - length names) []) in
-        let more = length-replicate {A = List ℕ} (suc k - length names) [] in
-        omega (arith, both, more)
+    counted : times k (group_ids a ++ group_ids b) ≡ times k (group_ids a) + times k (group_ids b)
+    counted = count-append k (group_ids a) (group_ids b)
 
--- and every other name is where it was
-other-place : (i k : ℕ) (name : List ℕ) (names : List (List ℕ)) → i ≢ k → get_or (placed k name names) i [] ≡ get_or names i []
-other-place i k name names apart =
-    get_or-set_other (names ++ replicate (suc k - length names) []) k i name [] apart ∙ empty-behind names (suc k - length names) i
+    absent : times k (group_ids a) ≡ 0 → times k (group_ids b) ≡ 0
+        → (name_by_number k (cat a b) ≡ None) × ((names : List (List ℕ)) → get_or (names_with names (cat a b)) k [] ≡ get_or names k [])
+    absent e f =
+        (ap (λ o. option_or o (name_by_number k b)) (h.0 e).0 ∙ (g.0 f).0, λ names. (g.0 f).1 (names_with names a) ∙ (h.0 e).1 names)
 
--- ---- how many names there are
-
-names-grow : (t : Tree) (names : List (List ℕ)) → length names ≤ length (names_with names t)
-names-grow (cat a b) names = let first = names-grow a names in let second = names-grow b (names_with names a) in omega (arith, first, second)
-names-grow (alt a b) names = let first = names-grow a names in let second = names-grow b (names_with names a) in omega (arith, first, second)
-names-grow (capture k name a) names =
-    let own = length-placed k (unwrap_or name []) names in
-    let inner = names-grow a (placed k (unwrap_or name []) names) in
-    omega (arith, own, inner)
-names-grow (submatch kind first last a) names = names-grow a names
-names-grow (loop a first last least most greedy) names = names-grow a names
-names-grow (single_loop a least most greedy) names = names-grow a names
-names-grow _ names = omega arith
+    of_two : times k (group_ids a ++ group_ids b) ≡ 1 → (m : ℕ) → times k (group_ids a) ≡ m
+        → (name : List ℕ) × (name_by_number k (cat a b) ≡ Some name)
+        × ((names : List (List ℕ)) → (get_or (names_with names (cat a b)) k [] ≡ name) × (k < length (names_with names (cat a b))))
+    of_two one zero e =
+        let (name, by_number, there) = g.1 (omega (arith, counted, one, e)) in
+        (name, ap (λ o. option_or o (name_by_number k b)) (h.0 e).0 ∙ by_number, λ names. there (names_with names a))
+    of_two one (suc m) e =
+        let (name, by_number, there) = h.1 (omega (arith, counted, one, e)) in
+        let none : times k (group_ids b) ≡ 0 = omega (arith, counted, one, e) in (
+          name,
+          ap (λ o. option_or o (name_by_number k b)) by_number,
+          λ names. let within = (there names).1 in let grown = (more (names_with names a)).0 in
+              ((g.0 none).1 (names_with names a) ∙ (there names).0, omega (arith, within, grown)),
+        )
 
 -- a number of the tree's groups is another than this
 numbered-apart : (k j : ℕ) (ids : List ℕ) → times k (j ∷ ids) ≡ 0 → (k ≢ j) × (times k ids ≡ 0)
 numbered-apart k j ids none =
-    let counted = count-cons k j ids in
-    (λ e. absurd (grind (arith, nat_tests, counted, none, e)), omega (arith, counted, none))
+    let counted = count-cons k j ids in (λ e. absurd (grind (arith, nat_tests, counted, none, e)), omega (arith, counted, none))
 
-names-few : (n : ℕ) (t : Tree) (names : List (List ℕ)) → length names ≤ n → ((k : ℕ) → n ≤ k → times k (group_ids t) ≡ 0) → length (names_with names t) ≤ n
-names-few n (cat a b) names few none =
-    names-few n b (names_with names a) (names-few n a names few (λ k h. omega (arith, count-append k (group_ids a) (group_ids b), none k h)))
-    (λ k h. omega (arith, count-append k (group_ids a) (group_ids b), none k h))
-names-few n (alt a b) names few none =
-    names-few n b (names_with names a) (names-few n a names few (λ k h. omega (arith, count-append k (group_ids a) (group_ids b), none k h)))
-    (λ k h. omega (arith, count-append k (group_ids a) (group_ids b), none k h))
-names-few n (capture k name a) names few none =
-    names-few n a (placed k (unwrap_or name []) names) (by_number (cases_lt k n)) (λ j h. (numbered-apart j k (group_ids a) (none j h)).1)
+counted-group : (j : ℕ) (name : Option (List ℕ)) (a : Tree) → Counted a → Counted (capture j name a)
+counted-group j name a h = λ names. let inner = h (placed j (unwrap_or name []) names) in let grown = length-placed j (unwrap_or name []) names in (
+  (let more = inner.0 in omega (arith, more, grown)),
+  λ n few none. inner.1 n (small n few none grown (cases_lt j n)) (λ k past. (numbered-apart k j (group_ids a) (none k past)).1),
+)
   where
-    by_number : (k < n) ⊎ (n ≤ k) → length (placed k (unwrap_or name []) names) ≤ n
-    by_number (inl h) = omega (arith, length-placed k (unwrap_or name []) names, few, h)
-    by_number (inr h) = absurd ((numbered-apart k k (group_ids a) (none k h)).0 refl)
-names-few n (submatch kind first last a) names few none = names-few n a names few none
-names-few n (loop a first last least most greedy) names few none = names-few n a names few none
-names-few n (single_loop a least most greedy) names few none = names-few n a names few none
-names-few n _ names few none = few
+    small : {l m : ℕ} (n : ℕ) → m ≤ n → ((k : ℕ) → n ≤ k → times k (j ∷ group_ids a) ≡ 0) → l ≡ m + (suc j - m) → (j < n) ⊎ (n ≤ j) → l ≤ n
+    small n few none grown (inl h) = omega (arith, few, grown, h)
+    small n few none grown (inr h) = absurd ((numbered-apart j j (group_ids a) (none j h)).0 refl)
 
--- ---- a number that no group of the tree has
-
-names-elsewhere : (k : ℕ) (t : Tree) (names : List (List ℕ)) → times k (group_ids t) ≡ 0 → get_or (names_with names t) k [] ≡ get_or names k []
-names-elsewhere k (cat a b) names none =
-    let counted = count-append k (group_ids a) (group_ids b) in
-    names-elsewhere k b (names_with names a) (omega (arith, counted, none)) ∙ names-elsewhere k a names (omega (arith, counted, none))
-names-elsewhere k (alt a b) names none =
-    let counted = count-append k (group_ids a) (group_ids b) in
-    names-elsewhere k b (names_with names a) (omega (arith, counted, none)) ∙ names-elsewhere k a names (omega (arith, counted, none))
-names-elsewhere k (capture j name a) names none =
-    let apart = numbered-apart k j (group_ids a) none in
-    names-elsewhere k a (placed j (unwrap_or name []) names) apart.1 ∙ other-place k j (unwrap_or name []) names apart.0
-names-elsewhere k (submatch kind first last a) names none = names-elsewhere k a names none
-names-elsewhere k (loop a first last least most greedy) names none = names-elsewhere k a names none
-names-elsewhere k (single_loop a least most greedy) names none = names-elsewhere k a names none
-names-elsewhere k _ names none = refl
-
-no-name : (k : ℕ) (t : Tree) → times k (group_ids t) ≡ 0 → name_by_number k t ≡ None
-no-name k (cat a b) none =
-    let counted = count-append k (group_ids a) (group_ids b) in
-    ap (λ o. option_or o (name_by_number k b)) (no-name k a (omega (arith, counted, none))) ∙ no-name k b (omega (arith, counted, none))
-no-name k (alt a b) none =
-    let counted = count-append k (group_ids a) (group_ids b) in
-    ap (λ o. option_or o (name_by_number k b)) (no-name k a (omega (arith, counted, none))) ∙ no-name k b (omega (arith, counted, none))
-no-name k (capture j name a) none =
-    let apart = numbered-apart k j (group_ids a) none in
-    let other : (j == k) ≡ false = grind (arith, nat_tests, apart.0) in
-    ap (λ (b : Bool). if b then Some (unwrap_or name []) else name_by_number k a) other ∙ no-name k a apart.1
-no-name k (submatch kind first last a) none = no-name k a none
-no-name k (loop a first last least most greedy) none = no-name k a none
-no-name k (single_loop a least most greedy) none = no-name k a none
-no-name k _ none = refl
-
--- ---- a number that one group has
-
--- the group's name stands in its place
-record IsNamed (k : ℕ) (t : Tree) : Type 0 where
-  name : List ℕ
-  by_number : name_by_number k t ≡ Some name
-  there : (names : List (List ℕ)) → get_or (names_with names t) k [] ≡ name
-  within : (names : List (List ℕ)) → k < length (names_with names t)
-
--- the group is in the first of two trees, or in the second
-in-one : (k : ℕ) (xs ys : List ℕ) → times k (xs ++ ys) ≡ 1
-    → ((times k xs ≡ 1) × (times k ys ≡ 0)) ⊎ ((times k xs ≡ 0) × (times k ys ≡ 1))
-in-one k xs ys one = by_count (times k xs) refl
-  where
-    counted : times k xs + times k ys ≡ 1
-    counted = sym (count-append k xs ys) ∙ one
-
-    by_count : (n : ℕ) → times k xs ≡ n → ((times k xs ≡ 1) × (times k ys ≡ 0)) ⊎ ((times k xs ≡ 0) × (times k ys ≡ 1))
-    by_count zero e = inr (e, omega (arith, counted, e))
-    by_count (suc n) e = inl (omega (arith, counted, e), omega (arith, counted, e))
-
--- of two trees one has the group
-beside : (k : ℕ) (a b : Tree) → (times k (group_ids a) ≡ 1 → IsNamed k a) → (times k (group_ids b) ≡ 1 → IsNamed k b)
-    → times k (group_ids a ++ group_ids b) ≡ 1 → IsNamed k (cat a b)
-beside k a b in_first in_second one = of_two (in-one k (group_ids a) (group_ids b) one)
-  where
-    of_two : ((times k (group_ids a) ≡ 1) × (times k (group_ids b) ≡ 0)) ⊎ ((times k (group_ids a) ≡ 0) × (times k (group_ids b) ≡ 1)) → IsNamed k (cat a b)
-    of_two (inl h) =
-        let first = in_first h.0 in
-        record {
-          name = first.name;
-          by_number = ap (λ o. option_or o (name_by_number k b)) first.by_number;
-          there = λ names. names-elsewhere k b (names_with names a) h.1 ∙ first.there names;
-          within = λ names. omega (arith, first.within names, names-grow b (names_with names a));
-        }
-    of_two (inr h) =
-        let second = in_second h.1 in
-        record {
-          name = second.name;
-          by_number = ap (λ o. option_or o (name_by_number k b)) (no-name k a h.0) ∙ second.by_number;
-          there = λ names. second.there (names_with names a);
-          within = λ names. second.within (names_with names a);
-        }
-
--- it is the group, or the tree in it has the group
-own-or-inner : (k j : ℕ) (name : Option (List ℕ)) (a : Tree) → (times k (group_ids a) ≡ 1 → IsNamed k a)
-    → times k (j ∷ group_ids a) ≡ 1 → IsNamed k (capture j name a)
-own-or-inner k j name a in_contents one = by_number (cases_eq j k)
+told-group : (k j : ℕ) (name : Option (List ℕ)) (a : Tree) → Counted a → Told k a → Told k (capture j name a)
+told-group k j name a more h = by_number (cases_eq j k)
   where
     own : List ℕ
     own = unwrap_or name []
@@ -185,64 +112,69 @@ own-or-inner k j name a in_contents one = by_number (cases_eq j k)
     counted : times k (j ∷ group_ids a) ≡ cond (j == k) 1 0 + times k (group_ids a)
     counted = count-cons k j (group_ids a)
 
-    by_number : (j ≡ k) ⊎ (j ≢ k) → IsNamed k (capture j name a)
+    by_number : (j ≡ k) ⊎ (j ≢ k) → Told k (capture j name a)
     by_number (inl e) =
         let same : (j == k) ≡ true = grind (arith, nat_tests, e) in
-        let none : times k (group_ids a) ≡ 0 = let c = counted ∙ ap (λ (b : Bool). cond b 1 0 + times k (group_ids a)) same in omega (arith, c, one) in
-        record {
-          name = own;
-          by_number = ap (λ (b : Bool). if b then Some own else name_by_number k a) same;
-          there = λ names. names-elsewhere k a (placed j own names) none ∙ ap (λ i. get_or (placed j own names) i []) (sym e) ∙ own-place j own names;
-          within = λ names. omega (arith, e, length-placed j own names, names-grow a (placed j own names));
-        }
+        let both : times k (j ∷ group_ids a) ≡ 1 + times k (group_ids a) = counted ∙ ap (λ (b : Bool). cond b 1 0 + times k (group_ids a)) same in (
+          λ none. absurd (omega (arith, both, none)),
+          λ one. let inside = (h.0 (omega (arith, both, one))).1 in (
+            own,
+            ap (λ (b : Bool). if b then Some own else name_by_number k a) same,
+            λ names. let long = length-padded j names in let grown = length-placed j own names in let last = (more (placed j own names)).0 in (
+              inside (placed j own names) ∙ ap (λ i. get_or (placed j own names) i []) (sym e)
+                  ∙ get_or-set_same (padded j names) j own [] (omega (arith, long)),
+              omega (arith, e, grown, last),
+            ),
+          ),
+        )
     by_number (inr apart) =
         let other : (j == k) ≡ false = grind (arith, nat_tests, apart) in
-        let inside : times k (group_ids a) ≡ 1 = let c = counted ∙ ap (λ (b : Bool). cond b 1 0 + times k (group_ids a)) other in omega (arith, c, one) in
-        let inner = in_contents inside in
-        record {
-          name = inner.name;
-          by_number = ap (λ (b : Bool). if b then Some own else name_by_number k a) other ∙ inner.by_number;
-          there = λ names. inner.there (placed j own names);
-          within = λ names. inner.within (placed j own names);
-        }
+        let same : times k (j ∷ group_ids a) ≡ times k (group_ids a) =
+        let c = counted ∙ ap (λ (b : Bool). cond b 1 0 + times k (group_ids a)) other in omega (arith, c) in
+        let told = ap (λ (b : Bool). if b then Some own else name_by_number k a) other in (
+          λ none. let inside = h.0 (sym same ∙ none) in (
+            told ∙ inside.0,
+            λ names. inside.1 (placed j own names) ∙ get_or-set_other (padded j names) j k own [] (λ e. apart (sym e)) ∙ empty-behind names (suc j - length names) k,
+          ),
+          λ one. let (found, by_number, there) = h.1 (sym same ∙ one) in (found, told ∙ by_number, λ names. there (placed j own names)),
+        )
 
-named : (k : ℕ) (t : Tree) → times k (group_ids t) ≡ 1 → IsNamed k t
-named k (cat a b) one = beside k a b (named k a) (named k b) one
-named k (alt a b) one =
-    let both = beside k a b (named k a) (named k b) one in
-    record { name = both.name; by_number = both.by_number; there = both.there; within = both.within }
-named k (capture j name a) one = own-or-inner k j name a (named k a) one
-named k (submatch kind first last a) one =
-    let inner = named k a one in
-    record { name = inner.name; by_number = inner.by_number; there = inner.there; within = inner.within }
-named k (loop a first last least most greedy) one =
-    let inner = named k a one in
-    record { name = inner.name; by_number = inner.by_number; there = inner.there; within = inner.within }
-named k (single_loop a least most greedy) one =
-    let inner = named k a one in
-    record { name = inner.name; by_number = inner.by_number; there = inner.there; within = inner.within }
-named k _ one = absurd (omega (arith, one))
+counted-names : (t : Tree) → Counted t
+counted-names (cat a b) = counted-both a b (counted-names a) (counted-names b)
+counted-names (alt a b) = counted-both a b (counted-names a) (counted-names b)
+counted-names (capture j name a) = counted-group j name a (counted-names a)
+counted-names (submatch kind first last a) = counted-names a
+counted-names (loop a first last least most greedy) = counted-names a
+counted-names (single_loop a least most greedy) = counted-names a
+counted-names _ = λ names. (omega arith, λ n few none. few)
+
+told : (k : ℕ) (t : Tree) → Told k t
+told k (cat a b) = told-both k a b (counted-names b) (told k a) (told k b)
+told k (alt a b) = told-both k a b (counted-names b) (told k a) (told k b)
+told k (capture j name a) = told-group k j name a (counted-names a) (told k a)
+told k (submatch kind first last a) = told k a
+told k (loop a first last least most greedy) = told k a
+told k (single_loop a least most greedy) = told k a
+told k _ = (λ none. (refl, λ names. refl), λ one. absurd (omega (arith, one)))
 
 -- ---- the names of a tree whose groups are numbered
 
 module _ (n : ℕ) (t : Tree) (numbered : AreNumbered 0 n (group_ids t)) where
   once : (k : ℕ) → k < n → times k (group_ids t) ≡ 1
   once k h =
-      let inside : (nat_le 0 k && nat_lt k n) ≡ true = grind (arith, nat_tests) in
-      numbered.once k ∙ ap (λ (b : Bool). if b then 1 else 0) inside
+      let inside : (nat_le 0 k && nat_lt k n) ≡ true = grind (arith, nat_tests) in numbered.once k ∙ ap (λ (b : Bool). if b then 1 else 0) inside
 
   never : (k : ℕ) → n ≤ k → times k (group_ids t) ≡ 0
   never k h =
-      let outside : (nat_le 0 k && nat_lt k n) ≡ false = grind (arith, nat_tests) in
-      numbered.once k ∙ ap (λ (b : Bool). if b then 1 else 0) outside
+      let outside : (nat_le 0 k && nat_lt k n) ≡ false = grind (arith, nat_tests) in numbered.once k ∙ ap (λ (b : Bool). if b then 1 else 0) outside
 
   -- there is one for each group
   pub names-counted : length (names_in t) ≡ n
-  names-counted = let few = names-few n t [] (omega arith) never in by_number n refl few
+  names-counted = by_number n refl ((counted-names t []).1 n (omega arith) never)
     where
       by_number : (m : ℕ) → n ≡ m → length (names_in t) ≤ n → length (names_in t) ≡ n
       by_number zero e few = omega (arith, e, few)
-      by_number (suc m) e few = let last = (named m t (once m (omega (arith, e)))).within [] in omega (arith, e, few, last)
+      by_number (suc m) e few = let last = (((told m t).1 (once m (omega (arith, e)))).2 []).1 in omega (arith, e, few, last)
 
   -- and it is the group's name
   pub names-by-number : (k : ℕ) → name_by_number k t ≡ slice_get (names_in t) k
@@ -250,10 +182,10 @@ module _ (n : ℕ) (t : Tree) (numbered : AreNumbered 0 n (group_ids t)) where
     where
       by_place : (k < n) ⊎ (n ≤ k) → name_by_number k t ≡ slice_get (names_in t) k
       by_place (inl h) =
-          let group = named k t (once k h) in
-          group.by_number ∙ ap Some (sym (group.there [])) ∙ sym (slice_get-get_or (names_in t) k [] (group.within []))
+          let (name, by_number, there) = (told k t).1 (once k h) in
+          by_number ∙ ap Some (sym (there []).0) ∙ sym (slice_get-get_or (names_in t) k [] (there []).1)
       by_place (inr h) =
-          no-name k t (never k h) ∙ sym (slice_get_past (names_in t) k (let counted = names-counted in omega (arith, counted, h)))
+          ((told k t).0 (never k h)).0 ∙ sym (slice_get_past (names_in t) k (let counted = names-counted in omega (arith, counted, h)))
 
 -- lists with the same in each place are the same
 same-at-each : {A : Type 0} (xs ys : List A) → ((k : ℕ) → slice_get xs k ≡ slice_get ys k) → xs ≡ ys
@@ -261,21 +193,8 @@ same-at-each [] [] same = refl
 same-at-each [] (y ∷ ys) same = absurd (let e = ap is_some (same 0) in grind (arith, e))
 same-at-each (x ∷ xs) [] same = absurd (let e = ap is_some (same 0) in grind (arith, e))
 same-at-each (x ∷ xs) (y ∷ ys) same =
-    let head = ap (λ o. unwrap_or o x) (same 0) in
-    let tail = same-at-each xs ys (λ k. same (suc k)) in
-    λ i. head i ∷ tail i
+    let head = ap (λ o. unwrap_or o x) (same 0) in let tail = same-at-each xs ys (λ k. same (suc k)) in λ i. head i ∷ tail i
 
 -- a list that has the name of each group by its number, and no more, is the list of them
 pub names-are : (n : ℕ) (t : Tree) (names : List (List ℕ)) → AreNumbered 0 n (group_ids t) → ((k : ℕ) → name_by_number k t ≡ slice_get names k) → names_in t ≡ names
 names-are n t names numbered each = same-at-each (names_in t) names (λ k. sym (names-by-number n t numbered k) ∙ each k)
-
--- ---- nodes
-
-pub names-leaf : (names : List (List ℕ)) (t : Tree) → is_leaf t ≡ true → names_with names t ≡ names
-names-leaf names (cat a b) leaf = absurd (grind (arith, leaf))
-names-leaf names (alt a b) leaf = absurd (grind (arith, leaf))
-names-leaf names (capture k name a) leaf = absurd (grind (arith, leaf))
-names-leaf names (submatch kind first last a) leaf = absurd (grind (arith, leaf))
-names-leaf names (loop a first last least most greedy) leaf = absurd (grind (arith, leaf))
-names-leaf names (single_loop a least most greedy) leaf = absurd (grind (arith, leaf))
-names-leaf names _ leaf = refl
