@@ -22,7 +22,7 @@ use Rattle.regress_engine_code.proofs.StandingLemmas.{groups-few, told-layout, w
 use Rattle.regress_engine_code.proofs.emission.whole_program.Goals as goal
 
 -- the names of a well-formed tree are as many as its groups
-group-for-name : (n : ℕ) (t : Tree) (names : Vec (String Global)) → IsWellFormed n t → name_texts names ≡ names_in t → length names.items ≡ n
+group-for-name : (n : ℕ) (t : Tree) (names : Vec (String Global) Global) → IsWellFormed n t → name_texts names ≡ names_in t → length names.items ≡ n
 group-for-name n t names formed named =
     sym (length-map names.items (λ name. chars (string_bytes name))) ∙ ap length named ∙ names-counted n t formed.numbered
 
