@@ -1,3 +1,4 @@
+pub mod AlikeMatches
 pub mod IterationLemmas
 pub mod RisingLemmas
 pub mod ReplacingLemmas

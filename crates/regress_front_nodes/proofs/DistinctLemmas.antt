@@ -128,8 +128,7 @@ distinct-left [] ts = refl
 distinct-left (s ∷ ss) ts =
     let p : State → Bool = λ t. not (same_state s t) in
     ap (λ us. s ∷ us) (
-    ap (without s) (distinct-left ss ts)
-    ∙ filter-distinct p (distinct ss ++ ts)
+    ap (without s) (distinct-left ss ts) ∙ filter-distinct p (distinct ss ++ ts)
     ∙ ap distinct (filter-append p (distinct ss) ts ∙ ap (λ us. us ++ filter p ts) (sym (filter-again p (distinct ss))) ∙ sym (filter-append p (without s (distinct ss)) ts))
     ∙ sym (filter-distinct p (without s (distinct ss) ++ ts))
     )
@@ -209,8 +208,7 @@ outcomes-left_out f s rs (t ∷ ts) h = go (same_state s t) refl (outcomes-left_
         let same : s ≡ t = same_state-is s t k in
         rw k (repeats-left_out rs (f t) (flat_map f ts) (subst (λ u. AllIn rs (f u)) same h) ∙ rest)
     go false k rest longer = rw k (
-        ap distinct (sym (append_assoc rs (f t) (flat_map f ts)))
-        ∙ longer
+        ap distinct (sym (append_assoc rs (f t) (flat_map f ts))) ∙ longer
         ∙ ap distinct (append_assoc rs (f t) (flat_map f (without s ts)))
         )
 

@@ -1,4 +1,3 @@
-pub mod AlikeMatches
 pub mod ChangeLemmas
 pub mod CharacterLemmas
 pub mod CopyLemmas

@@ -70,8 +70,7 @@ told-both k a b more h g = (λ none. absent (omega (arith, counted, none)) (omeg
 
     absent : times k (group_ids a) ≡ 0 → times k (group_ids b) ≡ 0
         → (name_by_number k (cat a b) ≡ None) × ((names : List (List ℕ)) → get_or (names_with names (cat a b)) k [] ≡ get_or names k [])
-    absent e f =
-        (ap (λ o. option_or o (name_by_number k b)) (h.0 e).0 ∙ (g.0 f).0, λ names. (g.0 f).1 (names_with names a) ∙ (h.0 e).1 names)
+    absent e f = (ap (λ o. option_or o (name_by_number k b)) (h.0 e).0 ∙ (g.0 f).0, λ names. (g.0 f).1 (names_with names a) ∙ (h.0 e).1 names)
 
     of_two : times k (group_ids a ++ group_ids b) ≡ 1 → (m : ℕ) → times k (group_ids a) ≡ m
         → (name : List ℕ) × (name_by_number k (cat a b) ≡ Some name)
@@ -82,8 +81,7 @@ told-both k a b more h g = (λ none. absent (omega (arith, counted, none)) (omeg
     of_two one (suc m) e =
         let (name, by_number, there) = h.1 (omega (arith, counted, one, e)) in
         let none : times k (group_ids b) ≡ 0 = omega (arith, counted, one, e) in (
-          name,
-          ap (λ o. option_or o (name_by_number k b)) by_number,
+          name, ap (λ o. option_or o (name_by_number k b)) by_number,
           λ names. let within = (there names).1 in let grown = (more (names_with names a)).0 in
               ((g.0 none).1 (names_with names a) ∙ (there names).0, omega (arith, within, grown)),
         )
@@ -118,8 +116,7 @@ told-group k j name a more h = by_number (cases_eq j k)
         let both : times k (j ∷ group_ids a) ≡ 1 + times k (group_ids a) = counted ∙ ap (λ (b : Bool). cond b 1 0 + times k (group_ids a)) same in (
           λ none. absurd (omega (arith, both, none)),
           λ one. let inside = (h.0 (omega (arith, both, one))).1 in (
-            own,
-            ap (λ (b : Bool). if b then Some own else name_by_number k a) same,
+            own, ap (λ (b : Bool). if b then Some own else name_by_number k a) same,
             λ names. let long = length-padded j names in let grown = length-placed j own names in let last = (more (placed j own names)).0 in (
               inside (placed j own names) ∙ ap (λ i. get_or (placed j own names) i []) (sym e)
                   ∙ get_or-set_same (padded j names) j own [] (omega (arith, long)),
@@ -133,8 +130,7 @@ told-group k j name a more h = by_number (cases_eq j k)
         let c = counted ∙ ap (λ (b : Bool). cond b 1 0 + times k (group_ids a)) other in omega (arith, c) in
         let told = ap (λ (b : Bool). if b then Some own else name_by_number k a) other in (
           λ none. let inside = h.0 (sym same ∙ none) in (
-            told ∙ inside.0,
-            λ names. inside.1 (placed j own names) ∙ get_or-set_other (padded j names) j k own [] (λ e. apart (sym e)) ∙ empty-behind names (suc j - length names) k,
+            told ∙ inside.0, λ names. inside.1 (placed j own names) ∙ get_or-set_other (padded j names) j k own [] (λ e. apart (sym e)) ∙ empty-behind names (suc j - length names) k,
           ),
           λ one. let (found, by_number, there) = h.1 (sym same ∙ one) in (found, told ∙ by_number, λ names. there (placed j own names)),
         )

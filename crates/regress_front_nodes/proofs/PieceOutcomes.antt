@@ -205,8 +205,7 @@ module _ (w : Context) where
       → node_outcomes w (cat_of (reverse (t ∷ ts))) Backward s ≡ flat_map (node_outcomes w t Backward) (node_outcomes w (cat_of (reverse ts)) Backward s)
   unfolding node_outcomes
   turned-first t ts s =
-      ap (λ us. node_outcomes w (cat_of us) Backward s) (reverse-append (t ∷ []) ts)
-      ∙ parts-append (reverse ts) (t ∷ []) s
+      ap (λ us. node_outcomes w (cat_of us) Backward s) (reverse-append (t ∷ []) ts) ∙ parts-append (reverse ts) (t ∷ []) s
       ∙ (λ i. flat_map (λ r. flat_map-self (node_outcomes w t Backward r) i) (node_outcomes w (cat_of (reverse ts)) Backward s))
 
   pieces-stay : (ts : List Tree) → list_all is_piece ts ≡ true → (s : State) → Within s → All Within (node_outcomes w (cat_of (reverse ts)) Backward s)

@@ -186,8 +186,7 @@ source-listed pairs d c h =
 
 listed-source : (pairs : List (ℕ × ℕ)) (d c : ℕ) → Contains pairs (c, d) → holds (sources d pairs) c ≡ true
 listed-source pairs d c listed =
-    holds-sources pairs d c
-    ∙ list_any_at (λ p. (p.1 == d) && (p.0 == c)) pairs listed.0 (c, d) listed.1
+    holds-sources pairs d c ∙ list_any_at (λ p. (p.1 == d) && (p.0 == c)) pairs listed.0 (c, d) listed.1
     (ap (λ p. (p.1 == d) && (p.0 == c)) listed.2 ∙ and_from _ _ (eq-eqb d d refl) (eq-eqb c c refl))
 
 module _ (pairs : List (ℕ × ℕ)) (lawful : IsCaseMap pairs) (a : ℕ) (bound : a ≤ last_code_point) where

@@ -71,8 +71,7 @@ module _ (root : List ℕ) (pages : List (List ℕ)) (c : ℕ) where
     | inl e ↦
         let none : m + 1 - 1 - m ≡ 0 = omega arith in
         let here : get_or (pages ++ page ∷ []) (m + 1 - 1) [] ≡ page =
-        get_or-append_right pages (page ∷ []) m (m + 1 - 1) [] (sym size) (omega arith)
-        ∙ ap (λ j. get_or (page ∷ []) j []) none in
+        get_or-append_right pages (page ∷ []) m (m + 1 - 1) [] (sym size) (omega arith) ∙ ap (λ j. get_or (page ∷ []) j []) none in
         rw (eq-eqb _ _ e, number_in-some (root ++ (m + 1) ∷ []) (pages ++ page ∷ []) c (m + 1) (last_entry root (m + 1) (c / 256) (e ∙ len)) (omega arith), here) refl
     | inr ne ↦ rw (ne_eqb _ _ ne) (other (λ e. ne (e ∙ sym len)))
   ]

@@ -154,17 +154,12 @@ KeepsRange-from_numbers parts all =
 -- where the law on range is kept, all numbers are code points
 pub All-numbers : (parts : TableParts) → KeepsRange parts → All is_code_point (numbers parts)
 All-numbers parts kept =
-    All-append is_code_point _ _
-    (All-append is_code_point _ _ (All-numbers_of parts.fold kept.0.0) (All-numbers_of parts.upper kept.0.1))
+    All-append is_code_point _ _ (All-append is_code_point _ _ (All-numbers_of parts.fold kept.0.0) (All-numbers_of parts.upper kept.0.1))
     (All-flat_map is_code_point (λ e. flat_map (λ s. s) e.1) parts.sequences (λ k d l. All-flat_map is_code_point (λ s. s) (get_or parts.sequences k d).1 (kept.1 k d l)))
 
 -- ---- the lists of a value of parts
 
--- an entry with a key, and strings under it
-abbrev Sequences : Type 0
-Sequences = String Global × Vec (Vec ℕ Global) Global
-
-numbers_in-entries : (entries : List Sequences) → flat_map (λ e. flat_map (λ s. s.items) e.1.items) entries
+numbers_in-entries : (entries : List (String Global × Vec (Vec ℕ Global) Global)) → flat_map (λ e. flat_map (λ s. s.items) e.1.items) entries
     ≡ numbers_in (map (entry_of (λ v. map (λ s. s.items) v.items)) entries)
 numbers_in-entries [] = refl
 numbers_in-entries (e ∷ entries) =

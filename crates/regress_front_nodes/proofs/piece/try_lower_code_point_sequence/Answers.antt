@@ -33,8 +33,7 @@ loop-cp-preserved c =
     let size = told.few.1 in
     let same = ap (λ (ms : List ℕ). length ms) listed in
     let few : length (expansion t c.args.icase c.args.unicode cp) ≤ 4 = omega arith in (
-      c.in_ok-add.ensures rest
-          ∙ ap (λ (ms : List ℕ). completed front (before ms rest)) listed
+      c.in_ok-add.ensures rest ∙ ap (λ (ms : List ℕ). completed front (before ms rest)) listed
           ∙ ap (λ (ts : List Tree). completed front ts) (sym (pieces-step t c.args.icase c.args.unicode c.args.cps.now i c.loop-cp-test.true))
           ∙ c.loop-cp.invariant.0,
       All-more (λ d. length (expansion t c.args.icase c.args.unicode d) ≤ 4) c.args.cps.now i 0 c.loop-cp-test.true c.loop-cp.invariant.1 few,
