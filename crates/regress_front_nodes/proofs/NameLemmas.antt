@@ -104,9 +104,6 @@ counted-group j name a h = λ names. let inner = h (placed j (unwrap_or name [])
 told-group : (k j : ℕ) (name : Option (List ℕ)) (a : Tree) → Counted a → Told k a → Told k (capture j name a)
 told-group k j name a more h = by_number (cases_eq j k)
   where
-    own : List ℕ
-    own = unwrap_or name []
-
     counted : times k (j ∷ group_ids a) ≡ cond (j == k) 1 0 + times k (group_ids a)
     counted = count-cons k j (group_ids a)
 
@@ -116,10 +113,10 @@ told-group k j name a more h = by_number (cases_eq j k)
         let both : times k (j ∷ group_ids a) ≡ 1 + times k (group_ids a) = counted ∙ ap (λ (b : Bool). cond b 1 0 + times k (group_ids a)) same in (
           λ none. absurd (omega (arith, both, none)),
           λ one. let inside = (h.0 (omega (arith, both, one))).1 in (
-            own, ap (λ (b : Bool). if b then Some own else name_by_number k a) same,
-            λ names. let long = length-padded j names in let grown = length-placed j own names in let last = (more (placed j own names)).0 in (
-              inside (placed j own names) ∙ ap (λ i. get_or (placed j own names) i []) (sym e)
-                  ∙ get_or-set_same (padded j names) j own [] (omega (arith, long)),
+            unwrap_or name [], ap (λ (b : Bool). if b then Some (unwrap_or name []) else name_by_number k a) same,
+            λ names. let long = length-padded j names in let grown = length-placed j (unwrap_or name []) names in let last = (more (placed j (unwrap_or name []) names)).0 in (
+              inside (placed j (unwrap_or name []) names) ∙ ap (λ i. get_or (placed j (unwrap_or name []) names) i []) (sym e)
+                  ∙ get_or-set_same (padded j names) j (unwrap_or name []) [] (omega (arith, long)),
               omega (arith, e, grown, last),
             ),
           ),
@@ -128,11 +125,11 @@ told-group k j name a more h = by_number (cases_eq j k)
         let other : (j == k) ≡ false = grind (arith, nat_tests, apart) in
         let same : times k (j ∷ group_ids a) ≡ times k (group_ids a) =
         let c = counted ∙ ap (λ (b : Bool). cond b 1 0 + times k (group_ids a)) other in omega (arith, c) in
-        let told = ap (λ (b : Bool). if b then Some own else name_by_number k a) other in (
+        let told = ap (λ (b : Bool). if b then Some (unwrap_or name []) else name_by_number k a) other in (
           λ none. let inside = h.0 (sym same ∙ none) in (
-            told ∙ inside.0, λ names. inside.1 (placed j own names) ∙ get_or-set_other (padded j names) j k own [] (λ e. apart (sym e)) ∙ empty-behind names (suc j - length names) k,
+            told ∙ inside.0, λ names. inside.1 (placed j (unwrap_or name []) names) ∙ get_or-set_other (padded j names) j k (unwrap_or name []) [] (λ e. apart (sym e)) ∙ empty-behind names (suc j - length names) k,
           ),
-          λ one. let (found, by_number, there) = h.1 (sym same ∙ one) in (found, told ∙ by_number, λ names. there (placed j own names)),
+          λ one. let (found, by_number, there) = h.1 (sym same ∙ one) in (found, told ∙ by_number, λ names. there (placed j (unwrap_or name []) names)),
         )
 
 counted-names : (t : Tree) → Counted t
