@@ -2,7 +2,7 @@ use Rattle.std.proofs.Common.{◌≡◌, ◌++◌, map, ap, ap₂, ◌∙◌, re
 use Rattle.regress_engine_runs.specs.States.{mixed}
 use Rattle.regress_engine_sought.specs.StateViews.{marks_of}
 use Rattle.regress_engine_undo.specs.Held.{held, frame_of}
-use Rattle.regress_engine_undo.proofs.LeaveLemmas.{leaves-negated, leaves-positive}
+use Rattle.regress_engine_undo.proofs.LeaveLemmas.{leaves-all, leaves-negated, leaves-positive}
 use Rattle.regress_engine_undo.proofs.memory.Memory.leave.Goals as goal
 
 pub returns-then-is_negated-clause-leaves : goal.returns-then-is_negated-clause-leaves
@@ -18,3 +18,9 @@ returns-clause-leaves c =
     let told : (held c.carry.new.self).groups ≡ mixed 0 f.first f.last h.groups k.groups = c.in_ok-carry.ensures.groups ∙ ap (λ gs. mixed 0 f.first f.last (map marks_of gs) k.groups) (c.deref-2.ensures.value ∙ items ∙ ap₂ (λ xs ys. xs ++ ys) c.clear.ensures.items c.deref.ensures.value) in
     leaves-positive c.args.spot.now (record c.args.spot.now { at = f.continuation; offset = c.end_offset-spot.result; forward = c.in-Some.frame.spot.forward }) h k (held c.carry.new.self) f c.in-Some.ensures.rest (sym c.is_negated.ensures ∙ c.if-is_negated.false) refl refl c.end_offset-spot.ensures
     c.in_ok-carry.ensures.loops told c.in_ok-carry.ensures.same
+
+pub returns-in_default-clause-leaves : goal.returns-in_default-clause-leaves
+returns-in_default-clause-leaves c =
+    let before = c.in_ok-extend_from_slice.ensures.items ∙ ap₂ (λ xs ys. xs ++ ys) c.clear.ensures.items c.deref.ensures.value in
+    let after = c.in_ok-extend_from_slice-2.ensures.items ∙ ap₂ (λ xs ys. xs ++ ys) c.clear-in_default.ensures.items c.deref-in_default.ensures.value in
+    (refl, ap (map marks_of) (after ∙ before), leaves-all c.args.spot.now (held c.args.self.now) (held c.unwind.new.self) c.in_default.ensures.rest)
