@@ -90,7 +90,7 @@ module _ (program : Program) (input : Input) where
       out (omega (arith, none, few)) begun groups))
       [] failed)
     where
-      either : (greedy more way : Bool) (s t : Whole) → Fail program input dir (s ∷ []) → (way ≡ true → Fail program input dir (t ∷ [])) → Fail program input dir (ordered greedy more way s t)
+      either : (greedy more enough : Bool) (s t : Whole) → Fail program input dir (s ∷ []) → (enough ≡ true → Fail program input dir (t ∷ [])) → Fail program input dir (ordered greedy more enough s t)
       either true true true s t first second = fail-both program input first (t ∷ []) (second refl)
       either true true false s t first second = first
       either true false true s t first second = second refl

@@ -15,8 +15,8 @@ returns-in-Ok-pattern-clause-accepted c =
 pub returns-in-Ok-pattern-clause-ranges : goal.returns-in-Ok-pattern-clause-ranges
 returns-in-Ok-pattern-clause-ranges c = c.in-Ok-pattern.ensures.ranges
 
-pub returns-in-Err-pattern-clause-refused : goal.returns-in-Err-pattern-clause-refused
-returns-in-Err-pattern-clause-refused c =
+pub returns-clause-refused : goal.returns-clause-refused
+returns-clause-refused c =
     let tb = table c.args.tables.now in
     let o = options c.args.flags in
     let t = c.args.points.now in

@@ -8,6 +8,6 @@ use Rattle.regress_evaluator.proofs.search.Search.new.Goals as goal
 pub invariant_of-result : goal.invariant_of-result
 invariant_of-result c = record {
   characters = rw c.in_ok-text.ensures (scalars-chars c.args.source.now c.utf8.source);
-  named = map-map chars string_bytes (arc_slice_items c.in_ok-group_names.group_names)
-      ∙ ap (map (λ name. chars (string_bytes name))) c.in_ok-group_names.ensures ∙ c.in_ok-group_names-2.ensures;
+  named = map-map chars string_bytes (arc_slice_items c.in_ok-group_names-2.group_names)
+      ∙ ap (map (λ name. chars (string_bytes name))) c.in_ok-group_names-2.ensures ∙ c.in_ok-group_names.ensures;
 }

@@ -1,4 +1,5 @@
 use Rattle.std.proofs.Common.{refl, sym, ap, length, arith}
+use Rattle.std.proofs.lemmas.Result.{IfOk-weaker}
 use Rattle.regress_meaning.specs.Pattern.{character}
 use Rattle.regress_front_tokens.specs.Cursors.{unread}
 use Rattle.regress_front_tokens.specs.Escapes.{mode_view}

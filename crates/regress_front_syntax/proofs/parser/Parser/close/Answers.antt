@@ -1,4 +1,5 @@
 use Rattle.std.proofs.Common.{◌≡◌, true, false, sym, ap, subst, ◌∙◌}
+use Rattle.std.proofs.lemmas.Result.{IfOk-weaker}
 use Rattle.regress_meaning.specs.Reading.{quantified}
 use Rattle.regress_front_tokens.specs.Trees.{tree}
 use Rattle.regress_front_syntax.specs.Openings.{enclosed, finish, is_lookbehind, may_repeat}

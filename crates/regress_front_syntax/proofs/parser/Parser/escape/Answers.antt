@@ -1,5 +1,5 @@
 use Rattle.std.proofs.Common.{◌==◌, refl, sym, ap, ◌∙◌, arith}
-use Rattle.std.proofs.lemmas.Result.{err_from_is_err_and}
+use Rattle.std.proofs.lemmas.Result.{IfOk-weaker, err_from_is_err_and}
 use Rattle.regress_meaning.specs.Text.{is_at}
 use Rattle.regress_meaning.specs.Pattern.{word_boundary}
 use Rattle.regress_meaning.specs.Grammar.{tree_of}

@@ -1,4 +1,5 @@
 use Rattle.std.proofs.Common.{◌≡◌, ◌==◌, ◌∷◌, refl, sym, ap, ◌∙◌, drop}
+use Rattle.std.proofs.lemmas.Result.{IfOk-weaker}
 use Rattle.regress_meaning.specs.Text.{is_at}
 use Rattle.regress_meaning.specs.Pattern.{any, line_start, line_end}
 use Rattle.regress_meaning.specs.Reading.{read_term, disjunction_at, escape_opening, class_opening}
