@@ -31,7 +31,7 @@ fn syntax_of(
     flags: Flags,
     tables: &Tables,
 ) -> Result<Syntax, Error> {
-    Ok(parse(alloc, points, flags, tables)?.syntax)
+    parse(alloc, points, flags, tables)
 }
 
 /// A pattern in all its forms. Errs where it is refused.
