@@ -421,9 +421,9 @@ where
 fn of_programs(alloc: Global, byte_program: CompiledRegex, unit_program: CompiledRegex) -> Regex
     requires of_bytes { byte_program.units ≡ false }
     requires of_units { unit_program.units ≡ true }
-    ensures stands { (t : Table) → (o : Options) → (p : Pattern) → IsProgramOf byte_program.entry t o p → StandsFor result t o p }
-    ensures stands_in_units { (t : Table) → (o : Options) → (p : Pattern) → IsProgramOf unit_program.entry t o p → StandsInUnits result t o p }
-    ensures programs { (byte_target result ≡ target_of byte_program.entry) × (unit_target result ≡ target_of unit_program.entry) }
+    ensures stands { (t : Table) → (o : Options) → (p : Pattern) → IsProgramOf byte_program t o p → StandsFor result t o p }
+    ensures stands_in_units { (t : Table) → (o : Options) → (p : Pattern) → IsProgramOf unit_program t o p → StandsInUnits result t o p }
+    ensures programs { (byte_target result ≡ target_of byte_program) × (unit_target result ≡ target_of unit_program) }
 {
     Regex::from_programs(alloc, byte_program, unit_program)
 }

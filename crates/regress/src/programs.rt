@@ -36,10 +36,10 @@ impl Regex {
     ) -> Regex
         requires of_bytes { byte_program.units ≡ false }
         requires of_units { unit_program.units ≡ true }
-        ensures stands { (t : Table) → (o : Options) → (p : Pattern) → IsProgramOf byte_program.entry t o p → StandsFor result t o p }
-        ensures stands_in_units { (t : Table) → (o : Options) → (p : Pattern) → IsProgramOf unit_program.entry t o p → StandsInUnits result t o p }
-        ensures programs { (byte_target result ≡ target_of byte_program.entry) × (unit_target result ≡ target_of unit_program.entry) }
-        ensures named { names_of_regex result ≡ names_of byte_program.entry }
+        ensures stands { (t : Table) → (o : Options) → (p : Pattern) → IsProgramOf byte_program t o p → StandsFor result t o p }
+        ensures stands_in_units { (t : Table) → (o : Options) → (p : Pattern) → IsProgramOf unit_program t o p → StandsInUnits result t o p }
+        ensures programs { (byte_target result ≡ target_of byte_program) × (unit_target result ≡ target_of unit_program) }
+        ensures named { names_of_regex result ≡ names_of byte_program }
         ensures text { source_of result ≡ [] }
     {
         let compiled = Compiled {

@@ -1,5 +1,5 @@
 //! The parts of a text between its matches.
-ghost use Rattle.std.specs.Prelude.{◌≡◌, ◌∷◌, [], Some, None, IfSome, IfOk, IsCharBoundary, IsOkUnless, MatchOption, chars, length, map};
+ghost use Rattle.std.specs.Prelude.{◌≡◌, ℕ, ◌∷◌, [], Some, None, IfSome, IfOk, IsCharBoundary, IsOkUnless, MatchOption, chars, length, map};
 ghost use Rattle.std.specs.Iterator.{at_most};
 ghost use Rattle.std.proofs.Props.{props};
 ghost use Rattle.regress_meaning.specs.Table.{Table};
