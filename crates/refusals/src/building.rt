@@ -15,11 +15,7 @@ use regress_front::{ir, optimize, try_parse};
 use std::alloc::Global;
 
 /// A pattern under flags.
-pub(crate) fn compiled(
-    alloc: Global,
-    row: &Row,
-    tables: &Tables,
-) -> Result<Regex, Error> {
+pub(crate) fn compiled(alloc: Global, row: &Row, tables: &Tables) -> Result<Regex, Error> {
     Regex::with_flags(alloc, row.pattern.as_str(), row.flags(), tables)
 }
 

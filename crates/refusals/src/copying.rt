@@ -33,11 +33,7 @@ fn copy_of(alloc: Global, node: &Node) -> Result<Option<Node>, Error> {
 }
 
 /// Tells the instructions of a copy of a program.
-fn tell_program(
-    told: &mut String,
-    alloc: Global,
-    program: &CompiledRegex,
-) -> Result<(), Refusal> {
+fn tell_program(told: &mut String, alloc: Global, program: &CompiledRegex) -> Result<(), Refusal> {
     let copy = program.try_clone(alloc)?;
     write!(told, "{:?} {:?}", copy.insns(), copy.start_pred())?;
     Ok(())

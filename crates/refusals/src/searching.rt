@@ -65,20 +65,12 @@ fn tell_ucs2(told: &mut String, regex: &Regex, units: &[u16]) -> Result<(), Refu
 }
 
 /// Tells all matches by the executor that undoes.
-fn tell_undoing<'t>(
-    told: &mut String,
-    regex: &'t Regex,
-    text: &'t str,
-) -> Result<(), AllocError> {
+fn tell_undoing<'t>(told: &mut String, regex: &'t Regex, text: &'t str) -> Result<(), AllocError> {
     tell_items(told, backends::find::<DefaultExecutor<'t>>(regex, text, 0)?)
 }
 
 /// Tells all matches by the executor that copies.
-fn tell_copying<'t>(
-    told: &mut String,
-    regex: &'t Regex,
-    text: &'t str,
-) -> Result<(), AllocError> {
+fn tell_copying<'t>(told: &mut String, regex: &'t Regex, text: &'t str) -> Result<(), AllocError> {
     tell_items(told, backends::find::<Copying<'t>>(regex, text, 0)?)
 }
 
