@@ -43,11 +43,7 @@ fn second(regex: &Regex, text: &str) -> Result<Option<Match>, Error> {
 }
 
 /// Of each match, where the first match behind it begins.
-fn starts_behind(
-    alloc: Global,
-    regex: &Regex,
-    text: &str,
-) -> Result<Vec<Option<usize>>, Error> {
+fn starts_behind(alloc: Global, regex: &Regex, text: &str) -> Result<Vec<Option<usize>>, Error> {
     let mut starts = Vec::new(alloc);
     for found in regex.find_iter(text)? {
         let found = found?;
@@ -58,11 +54,7 @@ fn starts_behind(
 }
 
 /// The units that each match takes, in units of UTF-16.
-fn unit_parts<'t>(
-    alloc: Global,
-    regex: &Regex,
-    units: &'t [u16],
-) -> Result<Vec<&'t [u16]>, Error> {
+fn unit_parts<'t>(alloc: Global, regex: &Regex, units: &'t [u16]) -> Result<Vec<&'t [u16]>, Error> {
     let mut parts = Vec::new(alloc);
     for found in regex.find_from_utf16(units, 0)? {
         if let Some(part) = units.get(found?.range()) {

@@ -21,7 +21,7 @@ ghost use Rattle.regress_replacing.specs.Replacing.{expansion, replaced};
 ghost use Rattle.regress_engine.specs.Standing.{target_of};
 ghost use Rattle.regress.specs.Ascii.{coming_in_ascii};
 ghost use Rattle.regress.specs.Answering.{AnswersEach};
-ghost use Rattle.regress.specs.Coming.{HasEnded, coming, searched, sought_names};
+ghost use Rattle.regress.specs.Coming.{HasEnded, coming, searched, searched_names};
 ghost use Rattle.regress.specs.Programs.{IsProgramOf};
 ghost use Rattle.regress.specs.Refusing.{MayRefuseRegex};
 ghost use Rattle.regress.specs.Splitting.{parts_left, first_parts_left, GivesPart, GivesSplit};
@@ -73,12 +73,7 @@ fn of_text_under(
 }
 
 /// The same of code points.
-fn of_points(
-    alloc: Global,
-    points: &[u32],
-    flags: Flags,
-    tables: &Tables,
-) -> Result<Regex, Error>
+fn of_points(alloc: Global, points: &[u32], flags: Flags, tables: &Tables) -> Result<Regex, Error>
     requires { All (λ c. c ≤ 0x10_FFFF) points.now }
     ensures accepted { IfOk result (λ r. (p : Pattern) × Spells (table tables.now) (options flags) points.now p
         × WithinLimits p × StandsFor r (table tables.now) (options flags) p × StandsInUnits r (table tables.now) (options flags) p) }
@@ -128,7 +123,7 @@ fn in_text_from<'r, 't>(
 /// The next match in a text.
 fn next_in_text(matches: &mut Matches<'_, '_>) -> Option<Result<Match, Error>>
     ensures over { searched matches.new ≡ searched matches.old }
-    ensures gives { GivesMatch coming HasEnded (IsMatchIn (searched matches.old) (sought_names matches.old)) matches.old result matches.new }
+    ensures gives { GivesMatch coming HasEnded (IsMatchIn (searched matches.old) (searched_names matches.old)) matches.old result matches.new }
 {
     matches.next()
 }
@@ -389,10 +384,10 @@ fn found_by<'t, E: Executor<'t>>(
     requires ascii { IsTrue E.Text.ASCII_ONLY → IsAscii text.now }
     ensures of_pattern { (t : Table) → (o : Options) → (p : Pattern) → StandsFor regex.now t o p →
         (place : ℕ) → Begins (of_utf8 text.now) start place →
-        IfOk result (λ ms. coming_on (E.items_from (E.sought (producer_of ms))) (position_of ms) ≡ map (told (of_utf8 text.now)) (match_list t o p (chars text.now) place)) }
+        IfOk result (λ ms. coming_on (E.items_from (E.search_of (producer_of ms))) (position_of ms) ≡ map (told (of_utf8 text.now)) (match_list t o p (chars text.now) place)) }
     ensures of_tree { (n : ℕ) → (t : Tree) → HasTree regex.now n t →
         (place : ℕ) → Begins (of_utf8 text.now) start place →
-        IfOk result (λ ms. coming_on (E.items_from (E.sought (producer_of ms))) (position_of ms) ≡ map (told (of_utf8 text.now)) (tree_list regex.now n t (chars text.now) place)) }
+        IfOk result (λ ms. coming_on (E.items_from (E.search_of (producer_of ms))) (position_of ms) ≡ map (told (of_utf8 text.now)) (tree_list regex.now n t (chars text.now) place)) }
 {
     backends::find::<E>(regex, text, start)
 }
@@ -409,10 +404,10 @@ where
     requires ascii { IsTrue E.AsAscii.Text.ASCII_ONLY → IsAscii text.now }
     ensures of_pattern { (t : Table) → (o : Options) → (p : Pattern) → StandsFor regex.now t o p →
         (place : ℕ) → Begins (of_utf8 text.now) start place →
-        IfOk result (λ ms. coming_on (E.AsAscii.items_from (E.AsAscii.sought (producer_of ms))) (position_of ms) ≡ map (told (of_utf8 text.now)) (match_list t o p (chars text.now) place)) }
+        IfOk result (λ ms. coming_on (E.AsAscii.items_from (E.AsAscii.search_of (producer_of ms))) (position_of ms) ≡ map (told (of_utf8 text.now)) (match_list t o p (chars text.now) place)) }
     ensures of_tree { (n : ℕ) → (t : Tree) → HasTree regex.now n t →
         (place : ℕ) → Begins (of_utf8 text.now) start place →
-        IfOk result (λ ms. coming_on (E.AsAscii.items_from (E.AsAscii.sought (producer_of ms))) (position_of ms) ≡ map (told (of_utf8 text.now)) (tree_list regex.now n t (chars text.now) place)) }
+        IfOk result (λ ms. coming_on (E.AsAscii.items_from (E.AsAscii.search_of (producer_of ms))) (position_of ms) ≡ map (told (of_utf8 text.now)) (tree_list regex.now n t (chars text.now) place)) }
 {
     backends::find_ascii::<E>(regex, text, start)
 }

@@ -177,13 +177,13 @@ fn try_units(
     report: &mut Report,
     alloc: Global,
     regex: &Regex,
-    sought: &InUnits<'_>,
+    searched: &InUnits<'_>,
 ) -> Result<(), AllocError> {
-    let units = sought.units;
-    let start = sought.start;
+    let units = searched.units;
+    let start = searched.start;
     let told = utf16_matches(alloc, regex, units, start);
-    report.compare("find_from_utf16", sought.utf16.as_str(), told)?;
-    match &sought.ucs2 {
+    report.compare("find_from_utf16", searched.utf16.as_str(), told)?;
+    match &searched.ucs2 {
         Some(ucs2) => {
             let told = ucs2_matches(alloc, regex, units, start);
             report.compare("find_from_ucs2", ucs2.as_str(), told)
@@ -197,20 +197,20 @@ fn try_copying_units(
     report: &mut Report,
     alloc: Global,
     program: Result<CompiledRegex, Error>,
-    sought: &InUnits<'_>,
+    searched: &InUnits<'_>,
 ) -> Result<(), AllocError> {
     let program = match program {
         Ok(program) => program,
         Err(error) => return report.compare("emit_units", "a program", told_error(alloc, &error)),
     };
-    if sought.start > 0 {
+    if searched.start > 0 {
         return Ok(());
     }
-    let told = copying_utf16_matches(alloc, &program, sought.units);
-    report.compare("UTF-16 by copying", sought.utf16.as_str(), told)?;
-    match &sought.ucs2 {
+    let told = copying_utf16_matches(alloc, &program, searched.units);
+    report.compare("UTF-16 by copying", searched.utf16.as_str(), told)?;
+    match &searched.ucs2 {
         Some(ucs2) => {
-            let told = copying_ucs2_matches(alloc, &program, sought.units);
+            let told = copying_ucs2_matches(alloc, &program, searched.units);
             report.compare("UCS-2 by copying", ucs2.as_str(), told)
         }
         None => Ok(()),
@@ -264,18 +264,18 @@ fn try_matches(
     try_tails(report, alloc, regex, text, *start, items)?;
     try_copies(report, alloc, regex, programs, text, *start, list.as_str())?;
     let start = units_before(text, *start);
-    let sought = InUnits {
+    let searched = InUnits {
         units,
         start,
         utf16,
         ucs2,
     };
-    try_units(report, alloc, regex, &sought)?;
+    try_units(report, alloc, regex, &searched)?;
     try_copying_units(
         report,
         alloc,
         units_program(alloc, points, flags, tables),
-        &sought,
+        &searched,
     )
 }
 
@@ -300,15 +300,15 @@ fn try_unit_row(
     let utf16 = told(alloc, utf16)?;
     let ucs2 = Some(told(alloc, ucs2)?);
     let start = *start;
-    let sought = InUnits {
+    let searched = InUnits {
         units,
         start,
         utf16,
         ucs2,
     };
     let program = units_program(alloc, &row.pattern.points, flags, tables);
-    try_units(report, alloc, regex, &sought)?;
-    try_copying_units(report, alloc, program, &sought)
+    try_units(report, alloc, regex, &searched)?;
+    try_copying_units(report, alloc, program, &searched)
 }
 
 /// Tries a text with its first match replaced. A closure puts in the same text where it holds no `$`, and else the match itself.

@@ -13,10 +13,7 @@ fn unless_refused(outcome: Result<String, Error>) -> Result<String, AllocError> 
 }
 
 /// Why a pattern is refused, as rows tell it.
-pub(crate) fn refusal(
-    alloc: Global,
-    outcome: Result<Regex, Error>,
-) -> Result<String, AllocError> {
+pub(crate) fn refusal(alloc: Global, outcome: Result<Regex, Error>) -> Result<String, AllocError> {
     match outcome {
         Ok(_) => String::from_str(alloc, "accepted"),
         Err(error) => told_error(alloc, &error),
@@ -64,11 +61,7 @@ pub(crate) fn names(alloc: Global, regex: &Regex, text: &str) -> Result<String, 
 }
 
 /// A text with its first match replaced.
-pub(crate) fn replaced(
-    regex: &Regex,
-    text: &str,
-    replacement: &str,
-) -> Result<String, AllocError> {
+pub(crate) fn replaced(regex: &Regex, text: &str, replacement: &str) -> Result<String, AllocError> {
     unless_refused(regex.replace(text, replacement))
 }
 

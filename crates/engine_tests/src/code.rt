@@ -1,4 +1,4 @@
-//! What a program of units tells of the bytes ahead of its addresses, and how long programs are.
+//! What a program of units tells of the first bytes of its addresses, and how long programs are.
 
 use crate::parsed::parsed;
 use regress_engine_code::{CompiledRegex, emit, emit_units};
@@ -23,10 +23,14 @@ pub(crate) fn program(
 }
 
 #[test]
-fn a_program_of_units_lacks_nothing(rt: HostRuntime) -> Result<(), Fail> {
+fn a_program_of_units_may_begin_with_each_byte(rt: HostRuntime) -> Result<(), Fail> {
     let tables = Tables::small(rt.alloc())?;
     let program = program(rt.alloc(), "ab", "", true, &tables)?;
-    assert!(rt; program.is_unit_program() && !program.lacks(0, b'b') && !program.lacks(1, b'a'));
+    assert!(rt;
+        program.is_unit_program()
+            && !program.cannot_begin_with(0, b'b')
+            && !program.cannot_begin_with(1, b'a')
+    );
     Ok(())
 }
 

@@ -36,7 +36,7 @@ const PATTERNS: &[(&str, &str)] = &[
     ("(?:(?>a+|(b))(?<=(?>ab|b|a))|c)*d", ""),
 ];
 
-/// Texts in which each of these is sought.
+/// Texts in which each of these is searched for.
 const TEXTS: &[&str] = &[
     "",
     "aabcbc",

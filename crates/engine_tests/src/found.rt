@@ -40,7 +40,7 @@ pub(crate) fn listed<P: MatchProducer>(
     alloc: Global,
     matches: Matches<P>,
 ) -> Result<Option<String>, AllocError>
-    requires { IfSome (position_of matches) (P.is_position (P.sought (producer_of matches))) }
+    requires { IfSome (position_of matches) (P.is_position (P.search_of (producer_of matches))) }
 {
     let mut told = String::new(alloc);
     for found in matches {

@@ -3,9 +3,9 @@
 #![tactic(auto)]
 
 #[cfg(test)]
-mod apart;
-#[cfg(test)]
 mod code;
+#[cfg(test)]
+mod disjoint;
 #[cfg(test)]
 mod evaluated;
 #[cfg(test)]

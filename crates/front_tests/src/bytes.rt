@@ -57,8 +57,8 @@ fn every_second_is_moved(rt: HostRuntime) -> Result<(), Fail> {
 #[test]
 fn equal_items_are_found(rt: HostRuntime) -> Result<(), Fail> {
     let items = [1, 3, 3, 3, 7];
-    for (sought, start, end) in [(3, 1, 4), (1, 0, 1), (4, 4, 4), (9, 5, 5)] {
-        let range = equal_range_by(items.as_slice(), |x| x.cmp(&sought));
+    for (searchable, start, end) in [(3, 1, 4), (1, 0, 1), (4, 4, 4), (9, 5, 5)] {
+        let range = equal_range_by(items.as_slice(), |x| x.cmp(&searchable));
         assert!(rt; range.start == start && range.end == end);
     }
     Ok(())

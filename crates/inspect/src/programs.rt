@@ -140,26 +140,26 @@ fn push_bytes_of(out: &mut String, kind: &str, bytes: &[u8]) -> Result<(), Alloc
     push_bytes(out, bytes)
 }
 
-/// The bytes that may stand ahead of an address.
-fn ahead_of(program: &CompiledRegex, address: usize) -> ByteBitmap {
-    let mut ahead = ByteBitmap::default();
+/// The bytes with which a match from an address may begin.
+fn first_bytes_at(program: &CompiledRegex, address: usize) -> ByteBitmap {
+    let mut first_bytes = ByteBitmap::default();
     for byte in 0..=u8::MAX {
-        if !program.lacks(address, byte) {
-            ahead.set(byte);
+        if !program.cannot_begin_with(address, byte) {
+            first_bytes.set(byte);
         }
     }
-    ahead
+    first_bytes
 }
 
-/// For each address of a program the bytes that may stand ahead.
-pub(crate) fn push_ahead(
+/// For each address of a program its first bytes.
+pub(crate) fn push_first_bytes(
     alloc: Global,
     out: &mut String,
     program: &CompiledRegex,
 ) -> Result<(), AllocError> {
     for address in 0..program.insns().len() {
         write!(out, "    {address:>3} ")?;
-        push_bitmap(alloc, out, &ahead_of(program, address))?;
+        push_bitmap(alloc, out, &first_bytes_at(program, address))?;
         out.push('\n')?;
     }
     Ok(())

@@ -1,7 +1,7 @@
 //! What is printed of a pattern, each section under its heading.
 
 use crate::forms::{Forms, compile};
-use crate::programs::{push_ahead, push_program, push_start};
+use crate::programs::{push_first_bytes, push_program, push_start};
 use crate::request::Request;
 use crate::syntax::push_syntax;
 use crate::texts::push_quoted;
@@ -19,7 +19,7 @@ enum Section {
     Rewritten,
     Predicate,
     Program,
-    Ahead,
+    FirstBytes,
     Units,
     Groups,
     Sizes,
@@ -32,7 +32,11 @@ const SECTIONS: &[(Section, &str, &str)] = &[
     (Section::Rewritten, "rewritten", "  rewritten tree\n"),
     (Section::Predicate, "predicate", "  start predicate\n"),
     (Section::Program, "program", "  program of bytes\n"),
-    (Section::Ahead, "ahead", "  bytes ahead of each address\n"),
+    (
+        Section::FirstBytes,
+        "first_bytes",
+        "  first bytes of each address\n",
+    ),
     (Section::Units, "units", "  program of units\n"),
     (Section::Groups, "groups", "  groups and names\n"),
     (Section::Sizes, "sizes", "  sizes\n"),
@@ -87,7 +91,7 @@ fn push_section(
         Section::Rewritten => push_rewritten(alloc, out, forms, request.shows("tree")),
         Section::Predicate => push_predicate(alloc, out, &forms.program),
         Section::Program => push_program(alloc, out, &forms.program),
-        Section::Ahead => push_ahead(alloc, out, &forms.program),
+        Section::FirstBytes => push_first_bytes(alloc, out, &forms.program),
         Section::Units => push_units(alloc, out, forms, request.shows("program")),
         Section::Groups => push_groups(out, forms.program.group_names()),
         Section::Sizes => push_sizes(alloc, out, forms),

@@ -12,7 +12,7 @@ use Rattle.regress_match.specs.Iterating.{GivesFirst, GivesMatch}
 use Rattle.regress_match.specs.TextRanges.{LiesInText, IsMatchIn}
 use Rattle.regress_front_bytes.proofs.TextLemmas.{place_of_boundary}
 use Rattle.regress.specs.declared.matches.Matches.{Matches}
-use Rattle.regress.specs.Coming.{searched, sought_names, coming, HasEnded, IsStart, BeginsAndEndsAtStarts, HoldsOfEach}
+use Rattle.regress.specs.Coming.{searched, searched_names, coming, HasEnded, IsStart, BeginsAndEndsAtStarts, HoldsOfEach}
 
 -- the first item of a list is what a step over it gives
 pub first-given : (IsInside : Match → Type 0) (before after : List Item) (given : Option (Result Match Error)) (tell : Item → Item) (items : List Item)
@@ -67,7 +67,7 @@ module _ {S : Type 0} (searched : S → List ℕ) (names : S → List (List ℕ)
 
 -- what a step of the iterator over a text of UTF-8 is
 abbrev pub gives_next : Matches → Option (Result Match Error) → Matches → Type 0
-gives_next = gives_in_text searched sought_names coming HasEnded
+gives_next = gives_in_text searched searched_names coming HasEnded
 
 -- a step gives the first of the items also where less is said of its match
 pub first-weaker : (P Q : Match → Type 0) → ((m : Match) → P m → Q m) → (before after : List Item) (r : Option (Result Match Error))

@@ -27,12 +27,12 @@ use Rattle.regress_engine_input.proofs.KindLemmas.{tells}
 use Rattle.regress_engine_code.specs.declared.compiled.CompiledRegex.{CompiledRegex}
 use Rattle.regress_engine_code.specs.Laid.{IsLaid}
 use Rattle.regress_engine_code.specs.Standing.{target_of}
-use Rattle.regress_engine_sought.specs.Searching.{Searches}
-use Rattle.regress_engine_sought.specs.Sought.{Sought, IsMadeOf, StartsAt, items_from}
-use Rattle.regress_engine_sought.specs.SoughtOnce.{rises}
-use Rattle.regress_engine_sought.proofs.ProducerLemmas.{items-asked}
+use Rattle.regress_engine_search.specs.Searching.{Searches}
+use Rattle.regress_engine_search.specs.Search.{Search, IsMadeOf, StartsAt, items_from}
+use Rattle.regress_engine_search.specs.SearchProps.{rises}
+use Rattle.regress_engine_search.proofs.ProducerLemmas.{items-asked}
 use Rattle.regress.specs.Programs.{IsProgramOf, IsLaidOutFrom, items_of_tree}
-use Rattle.regress.specs.Seeking.{Seeks}
+use Rattle.regress.specs.SearchFor.{IsSearchFor}
 
 -- items that rise do so told in offsets, where each lies in the text
 told-rise : (r : Reading) → OffsetsRise r → (P : Item → Type 0) → ((i : Item) → P i → IsItemInside r.points i) → (items : List Item) → All P items
@@ -67,7 +67,7 @@ pub pattern-in_text : (compiled : CompiledRegex) (t : Table) (o : Options) (p : 
     → match_list t o p (chars bytes) place ≡ items_of_tree (target_of compiled) (length (names_of p)) stands.node (chars bytes) place
 pattern-in_text compiled t o p stands bytes utf8 place = pattern-listed compiled t o p stands (chars bytes) (chars-code_points bytes utf8) place
 
-module _ (s : Sought) (all : AreOfKind s.view.kind s.view.units) (made : IsMadeOf s.compiled s.view)
+module _ (s : Search) (all : AreOfKind s.view.kind s.view.units) (made : IsMadeOf s.compiled s.view)
     (at place : ℕ) (begins : Begins (reading_of s.view) at place) (position : Option ℕ) (starts : StartsAt s at position) where
   abbrev reading : Reading
   reading = reading_of s.view
@@ -98,32 +98,32 @@ module _ (s : Sought) (all : AreOfKind s.view.kind s.view.units) (made : IsMadeO
           (told-rise reading (rises s.view.kind s.view.units) (λ i. IsItemInside reading.points i × (length i.groups ≡ n)) (λ i h. h.0)
           (node_match_list context n t place) (matches_lie context n t place) (matches_rise context n t place))
 
-module _ (s : Sought) (compiled : CompiledRegex) (units : List ℕ) (seeks : Seeks compiled units s) (all : AreOfKind s.view.kind units)
+module _ (s : Search) (compiled : CompiledRegex) (units : List ℕ) (is_search : IsSearchFor compiled units s) (all : AreOfKind s.view.kind units)
     (at place : ℕ) (begins : Begins (reading_of_kind s.view.kind units) at place) (position : Option ℕ) (starts : StartsAt s at position) where
   -- what seeks a program has that part of the match list of each of its trees still to come
-  pub tree-sought : (n : ℕ) (t : Tree) → IsLaidOutFrom (target_of compiled) n t
+  pub tree-searchable : (n : ℕ) (t : Tree) → IsLaidOutFrom (target_of compiled) n t
       → coming_on (items_from s) position ≡ map (told (reading_of_kind s.view.kind units)) (items_of_tree (target_of compiled) n t (reading_of_kind s.view.kind units).points place)
-  tree-sought n t laid =
+  tree-searchable n t laid =
       subst (λ us. AreOfKind s.view.kind us → Begins (reading_of_kind s.view.kind us) at place
-      → coming_on (items_from s) position ≡ map (told (reading_of_kind s.view.kind us)) (items_of_tree (target_of compiled) n t (reading_of_kind s.view.kind us).points place)) seeks.over
-      (λ among start. tree-coming s among seeks.made at place start position starts n t (subst (λ c. IsLaidOutFrom (target_of c) n t) (sym seeks.program) laid)
-      ∙ ap (λ (c : CompiledRegex). map (told (reading_of s.view)) (items_of_tree (target_of c) n t (reading_of s.view).points place)) seeks.program)
+      → coming_on (items_from s) position ≡ map (told (reading_of_kind s.view.kind us)) (items_of_tree (target_of compiled) n t (reading_of_kind s.view.kind us).points place)) is_search.over
+      (λ among start. tree-coming s among is_search.made at place start position starts n t (subst (λ c. IsLaidOutFrom (target_of c) n t) (sym is_search.program) laid)
+      ∙ ap (λ (c : CompiledRegex). map (told (reading_of s.view)) (items_of_tree (target_of c) n t (reading_of s.view).points place)) is_search.program)
       all begins
 
-  -- what seeks a pattern's program has that part of the pattern's match list still to come
-  pub coming-sought : (t : Table) (o : Options) (p : Pattern) → IsProgramOf compiled t o p
+  -- a search with a pattern's program has that part of the pattern's match list still to come
+  pub coming-searched : (t : Table) (o : Options) (p : Pattern) → IsProgramOf compiled t o p
       → coming_on (items_from s) position ≡ map (told (reading_of_kind s.view.kind units)) (match_list t o p (reading_of_kind s.view.kind units).points place)
-  coming-sought t o p stands =
+  coming-searched t o p stands =
       subst (λ us. AreOfKind s.view.kind us → Begins (reading_of_kind s.view.kind us) at place
-      → coming_on (items_from s) position ≡ map (told (reading_of_kind s.view.kind us)) (match_list t o p (reading_of_kind s.view.kind us).points place)) seeks.over
-      (λ among start. pattern-coming s among seeks.made at place start position starts t o p (subst (λ c. IsProgramOf c t o p) (sym seeks.program) stands))
+      → coming_on (items_from s) position ≡ map (told (reading_of_kind s.view.kind us)) (match_list t o p (reading_of_kind s.view.kind us).points place)) is_search.over
+      (λ among start. pattern-coming s among is_search.made at place start position starts t o p (subst (λ c. IsProgramOf c t o p) (sym is_search.program) stands))
       all begins
 
   -- and it rises
-  pub sought-rises : ItemsRise (coming_on (items_from s) position)
-  sought-rises =
-      subst (λ us. AreOfKind s.view.kind us → Begins (reading_of_kind s.view.kind us) at place → ItemsRise (coming_on (items_from s) position)) seeks.over
-      (λ among start. coming-rises s among seeks.made at place start position starts) all begins
+  pub searched-rises : ItemsRise (coming_on (items_from s) position)
+  searched-rises =
+      subst (λ us. AreOfKind s.view.kind us → Begins (reading_of_kind s.view.kind us) at place → ItemsRise (coming_on (items_from s) position)) is_search.over
+      (λ among start. coming-rises s among is_search.made at place start position starts) all begins
 
 -- what finds the matches of trees by a program of bytes finds those of each tree of it
 pub tree-searched : {Position : Type 0} (compiled : CompiledRegex) (bytes : List ℕ) → IsUtf8 bytes → (IsStart : ℕ → Type 0) (starts_at : ℕ → Option Position → Type 0)

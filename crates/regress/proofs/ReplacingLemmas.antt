@@ -16,7 +16,7 @@ use Rattle.regress_replacing.specs.Replacing.{replaced_from, replaced}
 use Rattle.regress.specs.declared.matches.Matches.{Matches}
 use Rattle.regress.specs.Answering.{Answering, AnswersTo, AnswersText, AnswersEach, RefusesOne}
 use Rattle.regress.specs.Behind.{LieBehind}
-use Rattle.regress.specs.Coming.{searched, sought_names, coming}
+use Rattle.regress.specs.Coming.{searched, searched_names, coming}
 use Rattle.regress.proofs.IterationLemmas.{gives_next}
 use Rattle.regress.proofs.RisingLemmas.{behind-front}
 
@@ -35,11 +35,11 @@ replaced-end text at = refl
 -- text may be cut.
 pub record IsBehind (text : List ℕ) (names : List (List ℕ)) (at : ℕ) (ms : Matches) : Type 0 where
   pub over : searched ms ≡ text
-  pub named : sought_names ms ≡ names
+  pub named : searched_names ms ≡ names
   pub cut : IsCharBoundary text at
   pub order : LieBehind at (coming ms)
 
-pub behind-start : (text : List ℕ) (names : List (List ℕ)) (ms : Matches) → IsUtf8 text → searched ms ≡ text → sought_names ms ≡ names → ItemsRise (coming ms)
+pub behind-start : (text : List ℕ) (names : List (List ℕ)) (ms : Matches) → IsUtf8 text → searched ms ≡ text → searched_names ms ≡ names → ItemsRise (coming ms)
     → IsBehind text names 0 ms
 behind-start text names ms utf8 over named rises =
     record { over = over; named = named; cut = IsCharBoundary-start text utf8; order = behind-front (coming ms) rises }
@@ -55,7 +55,7 @@ pub record IsGiven (text : List ℕ) (names : List (List ℕ)) (at : ℕ) (old :
 pub given-one : (text : List ℕ) (names : List (List ℕ)) (at : ℕ) (old new : Matches) (r : Option (Result Match Error)) (m : Match) → IsBehind text names at old
     → gives_next old r new → r ≡ Some (Ok m) → IsGiven text names at old m new
 given-one text names at old new r m h step found =
-    let given : GivesFirst (IsMatchIn (searched old) (sought_names old)) (coming old) (Some (Ok m)) (coming new) = rw found at step.2.first in
+    let given : GivesFirst (IsMatchIn (searched old) (searched_names old)) (coming old) (Some (Ok m)) (coming new) = rw found at step.2.first in
     let order : LieBehind at (item_of m ∷ coming new) = subst (λ (items : List Item). LieBehind at items) given.0 h.order in
     let inside : LiesInText text m = subst (λ (bytes : List ℕ). LiesInText bytes m) h.over given.1.0 in
     record {
@@ -69,7 +69,7 @@ given-one text names at old new r m h step found =
 -- a step that gave nothing had nothing left
 pub given-none : (old new : Matches) (r : Option (Result Match Error)) → gives_next old r new → r ≡ None → coming old ≡ []
 given-none old new r step none =
-    let given : GivesFirst (IsMatchIn (searched old) (sought_names old)) (coming old) None (coming new) = rw none at step.2.first in given.0
+    let given : GivesFirst (IsMatchIn (searched old) (searched_names old)) (coming old) None (coming new) = rw none at step.2.first in given.0
 
 -- what is written, and what the items that are left make of the rest of the text
 module _ (text : List ℕ) (new_text : Item → List ℕ) where

@@ -11,7 +11,7 @@ use Rattle.regress_front_bytes.proofs.TextLemmas.{offset-le}
 use Rattle.regress_match.proofs.TakenLemmas.{of_groups}
 use Rattle.regress_engine_input.proofs.UnitTexts.{single_offset}
 use Rattle.regress_engine_runs.specs.Meets.{AreAtPlaces}
-use Rattle.regress_engine_sought.specs.Sought.{Sought, IsItemAtPlaces, IsMatchOf}
+use Rattle.regress_engine_search.specs.Search.{Search, IsItemAtPlaces, IsMatchOf}
 use Rattle.regress.specs.Coming.{HoldsOfEach}
 use Rattle.regress.specs.Units.{LiesInUnits, IsMatchInUnits}
 
@@ -36,15 +36,15 @@ module _ (reading : Reading) (units : List ℕ) (end : offset reading (length re
   pub match-in : (m : Match) → IsItemAtPlaces reading (item_of m) → IsMatchInUnits reading units m
   match-in m inside = (range-in m.range inside.0, of_groups (AreAtPlaces reading) (LiesInUnits reading units) range-in m.captures.items inside.1)
 
-module _ {S : Type 0} (sought : S → Sought) (gives : S → Option (Result Match Error) → S → Type 0)
-    (keeps : (old new : S) (r : Option (Result Match Error)) → gives old r new → sought new ≡ sought old)
-    (finds : (old new : S) (m : Match) → gives old (Some (Ok m)) new → IsMatchOf (sought old) m) where
-  -- steps seek the same
-  sought-along : (ms old : S) (given : List (Result Match Error)) → Yields gives ms given old → sought old ≡ sought ms
-  sought-along ms old [] same = ap sought (sym same)
-  sought-along ms old (x ∷ given) (next, step, others) = sought-along next old given others ∙ keeps ms next (Some x) step
+module _ {S : Type 0} (search_of : S → Search) (gives : S → Option (Result Match Error) → S → Type 0)
+    (keeps : (old new : S) (r : Option (Result Match Error)) → gives old r new → search_of new ≡ search_of old)
+    (finds : (old new : S) (m : Match) → gives old (Some (Ok m)) new → IsMatchOf (search_of old) m) where
+  -- steps are of the same search
+  search_of-along : (ms old : S) (given : List (Result Match Error)) → Yields gives ms given old → search_of old ≡ search_of ms
+  search_of-along ms old [] same = ap search_of (sym same)
+  search_of-along ms old (x ∷ given) (next, step, others) = search_of-along next old given others ∙ keeps ms next (Some x) step
 
-  -- what is said of each match of what is sought is said of each that steps give
-  pub each-match : (Q : Match → Type 0) (ms : S) → ((m : Match) → IsMatchOf (sought ms) m → Q m) → HoldsOfEach gives Q ms
+  -- what is said of each match of what is searched for is said of each that steps give
+  pub each-match : (Q : Match → Type 0) (ms : S) → ((m : Match) → IsMatchOf (search_of ms) m → Q m) → HoldsOfEach gives Q ms
   each-match Q ms said given old new r m yields step found =
-      said m (subst (λ (s : Sought). IsMatchOf s m) (sought-along ms old given yields) (finds old new m (subst (λ x. gives old x new) found step)))
+      said m (subst (λ (s : Search). IsMatchOf s m) (search_of-along ms old given yields) (finds old new m (subst (λ x. gives old x new) found step)))

@@ -8,15 +8,15 @@ use Rattle.regress_match.specs.declared.found.Match.{Match}
 use Rattle.regress_match.specs.Iterating.{coming_on, steps_on}
 use Rattle.regress_engine.specs.InputViews.{utf8_view}
 use Rattle.regress_engine.specs.Standing.{names_of}
-use Rattle.regress_engine.specs.Sought.{Sought, items_from, places_behind}
+use Rattle.regress_engine.specs.Search.{Search, items_from, places_behind}
 use Rattle.regress.specs.declared.matches.Matches.{Matches}
 
--- what is sought, and in what text
-abbrev pub sought_by : Matches → Sought
-sought_by ms = record {
-  compiled = ms.executor.subject.program.now;
-  view = utf8_view ms.executor.subject.input;
-  sought = ms.executor.subject.sought;
+-- the search: with which program, in what text
+abbrev pub search_by : Matches → Search
+search_by ms = record {
+  compiled = ms.executor.context.program.now;
+  view = utf8_view ms.executor.context.input;
+  searchable = ms.executor.context.searchable;
 }
 
 -- the offset from which the next search goes, and none where the iterator has ended
@@ -25,19 +25,19 @@ next_from ms = ms.position
 
 -- The bytes of the text that is searched.
 abbrev pub searched : Matches → List ℕ
-searched ms = (sought_by ms).view.units
+searched ms = (search_by ms).view.units
 
--- The names of the groups of the pattern that is sought, as bytes of UTF-8.
-abbrev pub sought_names : Matches → List (List ℕ)
-sought_names ms = names_of (sought_by ms).compiled
+-- The names of the groups of the pattern that is searched for, as bytes of UTF-8.
+abbrev pub searched_names : Matches → List (List ℕ)
+searched_names ms = names_of (search_by ms).compiled
 
 -- The items that are still to come, told in bytes.
 abbrev pub coming : Matches → List Item
-coming ms = coming_on (items_from (sought_by ms)) (next_from ms)
+coming ms = coming_on (items_from (search_by ms)) (next_from ms)
 
 -- how many steps there may be up to the end
 abbrev pub steps_left : Matches → ℕ
-steps_left ms = steps_on (places_behind (sought_by ms)) (next_from ms)
+steps_left ms = steps_on (places_behind (search_by ms)) (next_from ms)
 
 -- The search is over.
 abbrev pub HasEnded : Matches → Type 0

@@ -1,6 +1,6 @@
 pub mod Texts
 pub mod Programs
-pub mod Seeking
+pub mod SearchFor
 pub mod Refusing
 pub mod Positions
 pub mod Standing

@@ -6,41 +6,41 @@ use Rattle.regress_meaning.specs.Offsets.{Reading, Begins}
 use Rattle.regress_match.specs.declared.found.Match.{Match}
 use Rattle.regress_match.specs.Iterating.{coming_on, steps_on}
 use Rattle.regress_engine.specs.InputViews.{utf16_view, ucs2_view}
-use Rattle.regress_engine.specs.Sought.{Sought, items_from, places_behind}
+use Rattle.regress_engine.specs.Search.{Search, items_from, places_behind}
 use Rattle.regress.specs.declared.units.Utf16Matches.{Utf16Matches}
 use Rattle.regress.specs.declared.units.Ucs2Matches.{Ucs2Matches}
 
--- what is sought in units of UTF-16, and in what text
-abbrev pub sought_in_utf16 : Utf16Matches → Sought
-sought_in_utf16 ms = record {
-  compiled = ms.executor.subject.program.now;
-  view = utf16_view ms.executor.subject.input;
-  sought = ms.executor.subject.sought;
+-- the same of units of UTF-16
+abbrev pub search_in_utf16 : Utf16Matches → Search
+search_in_utf16 ms = record {
+  compiled = ms.executor.context.program.now;
+  view = utf16_view ms.executor.context.input;
+  searchable = ms.executor.context.searchable;
 }
 
--- what is sought in units that are each one character, and in what text
-abbrev pub sought_in_ucs2 : Ucs2Matches → Sought
-sought_in_ucs2 ms = record {
-  compiled = ms.executor.subject.program.now;
-  view = ucs2_view ms.executor.subject.input;
-  sought = ms.executor.subject.sought;
+-- the same of units that are each one character
+abbrev pub search_in_ucs2 : Ucs2Matches → Search
+search_in_ucs2 ms = record {
+  compiled = ms.executor.context.program.now;
+  view = ucs2_view ms.executor.context.input;
+  searchable = ms.executor.context.searchable;
 }
 
 -- the items that are still to come in units of UTF-16, told in units
 abbrev pub coming_in_utf16 : Utf16Matches → List Item
-coming_in_utf16 ms = coming_on (items_from (sought_in_utf16 ms)) ms.position
+coming_in_utf16 ms = coming_on (items_from (search_in_utf16 ms)) ms.position
 
 -- the items that are still to come in units that are each one character
 abbrev pub coming_in_ucs2 : Ucs2Matches → List Item
-coming_in_ucs2 ms = coming_on (items_from (sought_in_ucs2 ms)) ms.position
+coming_in_ucs2 ms = coming_on (items_from (search_in_ucs2 ms)) ms.position
 
 -- how many steps there may be up to the end of units of UTF-16
 abbrev pub steps_in_utf16 : Utf16Matches → ℕ
-steps_in_utf16 ms = steps_on (places_behind (sought_in_utf16 ms)) ms.position
+steps_in_utf16 ms = steps_on (places_behind (search_in_utf16 ms)) ms.position
 
 -- how many steps there may be up to the end of units that are each one character
 abbrev pub steps_in_ucs2 : Ucs2Matches → ℕ
-steps_in_ucs2 ms = steps_on (places_behind (sought_in_ucs2 ms)) ms.position
+steps_in_ucs2 ms = steps_on (places_behind (search_in_ucs2 ms)) ms.position
 
 -- the search in units of UTF-16 is over
 abbrev pub HasEndedUtf16 : Utf16Matches → Type 0

@@ -46,7 +46,7 @@ pub struct Regex {
 impl Regex {
     ghost use Rattle.regress_front.specs.Trees.{Tree};
     ghost use Rattle.regress.specs.Standing.{StandsFor, StandsInUnits, HasTree, tree_list, source_of, names_of_regex};
-    ghost use Rattle.regress.specs.Coming.{searched, sought_names, coming, BeginsAndEndsAtStarts, HoldsOfEach};
+    ghost use Rattle.regress.specs.Coming.{searched, searched_names, coming, BeginsAndEndsAtStarts, HoldsOfEach};
     ghost use Rattle.regress_match.specs.GroupViews.{names_of_match};
     ghost use Rattle.regress_match.specs.TextRanges.{LiesBetween, LiesInText};
 
@@ -159,7 +159,7 @@ impl Regex {
         ensures inside { IfOk result (HoldsOfEach ⟦<Matches<'r, 't> as Iterator>⟧.next_gives (LiesInText text.now)) }
         ensures starts { IfOk result (HoldsOfEach ⟦<Matches<'r, 't> as Iterator>⟧.next_gives (BeginsAndEndsAtStarts text.now)) }
         ensures rise { IfOk result (λ ms. ItemsRise (coming ms)) }
-        ensures named { IfOk result (λ ms. sought_names ms ≡ names_of_regex self.now) }
+        ensures named { IfOk result (λ ms. searched_names ms ≡ names_of_regex self.now) }
         ensures refused { IsOkUnless result Error.OutOfMemory }
     {
         self.find_from(text, 0)
@@ -190,7 +190,7 @@ impl Regex {
         ensures inside { IfOk result (HoldsOfEach ⟦<Matches<'r, 't> as Iterator>⟧.next_gives (LiesInText text.now)) }
         ensures starts { IfOk result (HoldsOfEach ⟦<Matches<'r, 't> as Iterator>⟧.next_gives (BeginsAndEndsAtStarts text.now)) }
         ensures rise { IfOk result (λ ms. ItemsRise (coming ms)) }
-        ensures named { IfOk result (λ ms. sought_names ms ≡ names_of_regex self.now) }
+        ensures named { IfOk result (λ ms. searched_names ms ≡ names_of_regex self.now) }
         ensures refused { IsOkUnless result Error.OutOfMemory }
     {
         Ok(Matches::new(self, text, start))

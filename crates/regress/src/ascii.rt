@@ -4,7 +4,7 @@ ghost use Rattle.std.specs.Iterator.{at_most};
 ghost use Rattle.std.specs.Str.{IsAscii};
 ghost use Rattle.regress_meaning.specs.Offsets.{of_ascii, of_utf8, Begins};
 ghost use Rattle.regress_engine.specs.InputViews.{ascii_view};
-ghost use Rattle.regress_engine.specs.Sought.{StartsAt};
+ghost use Rattle.regress_engine.specs.Search.{StartsAt};
 ghost use Rattle.regress_match.specs.Iterating.{GivesMatch};
 ghost use Rattle.regress_match.specs.TextRanges.{IsMatchIn};
 ghost use Rattle.regress.specs.Positions.{IsPlaced, IsPlaced-prop};
@@ -32,19 +32,19 @@ pub fn is_ascii_text(text: &str) -> bool
 pub struct AsciiMatches<'r, 't> {
     executor: BacktrackExecutor<'r, AsciiInput<'r, 't>>,
     position: Option<usize>,
-    ghost placed: { IsPlaced (ascii_view executor.subject.input) position } by { IsPlaced-prop (ascii_view executor.subject.input) position },
+    ghost placed: { IsPlaced (ascii_view executor.context.input) position } by { IsPlaced-prop (ascii_view executor.context.input) position },
 }
 
 impl<'r, 't> AsciiMatches<'r, 't> {
-    ghost use Rattle.regress.specs.Seeking.{Seeks};
-    ghost use Rattle.regress.specs.Ascii.{sought_in_ascii};
+    ghost use Rattle.regress.specs.SearchFor.{IsSearchFor};
+    ghost use Rattle.regress.specs.Ascii.{search_in_ascii};
 
     /// The matches of a pattern in a text of ASCII, from an offset on.
     fn new(regex: &'r Regex, text: &'t str, start: usize) -> Self
         requires ascii { IsAscii text.now }
         requires start { (place : ℕ) × Begins (of_ascii text.now) start place }
-        ensures over { Seeks regex.now.compiled.byte_program text.now (sought_in_ascii result) }
-        ensures begins { StartsAt (sought_in_ascii result) start result.position }
+        ensures over { IsSearchFor regex.now.compiled.byte_program text.now (search_in_ascii result) }
+        ensures begins { StartsAt (search_in_ascii result) start result.position }
     {
         let program = &regex.compiled.byte_program;
         let input = AsciiInput::new(text, program.flags().is_unicode(), program.tables());

@@ -46,12 +46,12 @@ pub fn find<'t, E: Executor<'t>>(
     requires ascii { IsTrue E.Text.ASCII_ONLY → IsAscii text.now }
     ensures matches { (t : Table) → (o : Options) → (p : Pattern) → StandsFor regex.now t o p →
         (place : ℕ) → Begins (of_utf8 text.now) start place →
-        IfOk result (λ ms. coming_on (E.items_from (E.sought (producer_of ms))) (position_of ms) ≡ map (told (of_utf8 text.now)) (match_list t o p (chars text.now) place)) }
+        IfOk result (λ ms. coming_on (E.items_from (E.search_of (producer_of ms))) (position_of ms) ≡ map (told (of_utf8 text.now)) (match_list t o p (chars text.now) place)) }
     ensures matches_of_tree { (n : ℕ) → (t : Tree) → HasTree regex.now n t →
         (place : ℕ) → Begins (of_utf8 text.now) start place →
-        IfOk result (λ ms. coming_on (E.items_from (E.sought (producer_of ms))) (position_of ms) ≡ map (told (of_utf8 text.now)) (tree_list regex.now n t (chars text.now) place)) }
-    ensures begins { IfOk result (λ ms. IfSome (position_of ms) (E.is_position (E.sought (producer_of ms)))) }
-    ensures inside { IfOk result (λ ms. (m : Match) → E.is_of_search (E.sought (producer_of ms)) m → IsMatchIn text.now (names_of_regex regex.now) m) }
+        IfOk result (λ ms. coming_on (E.items_from (E.search_of (producer_of ms))) (position_of ms) ≡ map (told (of_utf8 text.now)) (tree_list regex.now n t (chars text.now) place)) }
+    ensures begins { IfOk result (λ ms. IfSome (position_of ms) (E.is_position (E.search_of (producer_of ms)))) }
+    ensures inside { IfOk result (λ ms. (m : Match) → E.is_of_search (E.search_of (producer_of ms)) m → IsMatchIn text.now (names_of_regex regex.now) m) }
 {
     let executor = E::new(regex.alloc, &regex.compiled.byte_program, text)?;
     Ok(Matches::new(executor, start))
@@ -73,12 +73,12 @@ where
     requires ascii { IsTrue E.AsAscii.Text.ASCII_ONLY → IsAscii text.now }
     ensures matches { (t : Table) → (o : Options) → (p : Pattern) → StandsFor regex.now t o p →
         (place : ℕ) → Begins (of_utf8 text.now) start place →
-        IfOk result (λ ms. coming_on (E.AsAscii.items_from (E.AsAscii.sought (producer_of ms))) (position_of ms) ≡ map (told (of_utf8 text.now)) (match_list t o p (chars text.now) place)) }
+        IfOk result (λ ms. coming_on (E.AsAscii.items_from (E.AsAscii.search_of (producer_of ms))) (position_of ms) ≡ map (told (of_utf8 text.now)) (match_list t o p (chars text.now) place)) }
     ensures matches_of_tree { (n : ℕ) → (t : Tree) → HasTree regex.now n t →
         (place : ℕ) → Begins (of_utf8 text.now) start place →
-        IfOk result (λ ms. coming_on (E.AsAscii.items_from (E.AsAscii.sought (producer_of ms))) (position_of ms) ≡ map (told (of_utf8 text.now)) (tree_list regex.now n t (chars text.now) place)) }
-    ensures begins { IfOk result (λ ms. IfSome (position_of ms) (E.AsAscii.is_position (E.AsAscii.sought (producer_of ms)))) }
-    ensures inside { IfOk result (λ ms. (m : Match) → E.AsAscii.is_of_search (E.AsAscii.sought (producer_of ms)) m → IsMatchIn text.now (names_of_regex regex.now) m) }
+        IfOk result (λ ms. coming_on (E.AsAscii.items_from (E.AsAscii.search_of (producer_of ms))) (position_of ms) ≡ map (told (of_utf8 text.now)) (tree_list regex.now n t (chars text.now) place)) }
+    ensures begins { IfOk result (λ ms. IfSome (position_of ms) (E.AsAscii.is_position (E.AsAscii.search_of (producer_of ms)))) }
+    ensures inside { IfOk result (λ ms. (m : Match) → E.AsAscii.is_of_search (E.AsAscii.search_of (producer_of ms)) m → IsMatchIn text.now (names_of_regex regex.now) m) }
 {
     find::<E::AsAscii>(regex, text, start)
 }

@@ -3,7 +3,7 @@ ghost use Rattle.std.specs.Prelude.{ℕ};
 ghost use Rattle.std.specs.Iterator.{at_most};
 ghost use Rattle.regress_meaning.specs.Offsets.{of_utf8, Begins};
 ghost use Rattle.regress_engine.specs.InputViews.{utf8_view};
-ghost use Rattle.regress_engine.specs.Sought.{StartsAt};
+ghost use Rattle.regress_engine.specs.Search.{StartsAt};
 ghost use Rattle.regress_match.specs.Iterating.{GivesMatch};
 ghost use Rattle.regress_match.specs.TextRanges.{IsMatchIn};
 ghost use Rattle.regress.specs.Positions.{IsPlaced, IsPlaced-prop};
@@ -20,19 +20,19 @@ use std::iter::FusedIterator;
 pub struct Matches<'r, 't> {
     executor: BacktrackExecutor<'r, Utf8Input<'r, 't>>,
     position: Option<usize>,
-    ghost placed: { IsPlaced (utf8_view executor.subject.input) position } by { IsPlaced-prop (utf8_view executor.subject.input) position },
+    ghost placed: { IsPlaced (utf8_view executor.context.input) position } by { IsPlaced-prop (utf8_view executor.context.input) position },
 }
 
 impl<'r, 't> Matches<'r, 't> {
     ghost use Rattle.std.specs.Prelude.{◌≡◌};
-    ghost use Rattle.regress.specs.Seeking.{Seeks};
-    ghost use Rattle.regress.specs.Coming.{sought_by, next_from};
+    ghost use Rattle.regress.specs.SearchFor.{IsSearchFor};
+    ghost use Rattle.regress.specs.Coming.{search_by, next_from};
 
     /// The matches of a pattern in a text, from an offset in bytes on.
     pub(crate) fn new(regex: &'r Regex, source: &'t str, start: usize) -> Self
         requires { (place : ℕ) × Begins (of_utf8 source.now) start place }
-        ensures over { Seeks regex.now.compiled.byte_program source.now (sought_by result) }
-        ensures begins { StartsAt (sought_by result) start (next_from result) }
+        ensures over { IsSearchFor regex.now.compiled.byte_program source.now (search_by result) }
+        ensures begins { StartsAt (search_by result) start (next_from result) }
     {
         let executor = BacktrackExecutor::new(regex.alloc, &regex.compiled.byte_program, source);
         let position = executor.initial_position(start);
@@ -42,12 +42,12 @@ impl<'r, 't> Matches<'r, 't> {
 
 impl<'r, 't> Iterator for Matches<'r, 't> {
     ghost use Rattle.std.specs.Prelude.{◌≡◌};
-    ghost use Rattle.regress.specs.Coming.{searched, sought_names, coming, steps_left, HasEnded};
+    ghost use Rattle.regress.specs.Coming.{searched, searched_names, coming, steps_left, HasEnded};
 
     type Item = Result<Match, Error>;
 
-    ghost next_gives = { λ old r new. (searched new ≡ searched old) × (sought_names new ≡ sought_names old)
-        × GivesMatch coming HasEnded (IsMatchIn (searched old) (sought_names old)) old r new };
+    ghost next_gives = { λ old r new. (searched new ≡ searched old) × (searched_names new ≡ searched_names old)
+        × GivesMatch coming HasEnded (IsMatchIn (searched old) (searched_names old)) old r new };
 
     ghost remaining = { λ ms. at_most (steps_left ms) };
 

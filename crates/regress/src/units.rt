@@ -3,7 +3,7 @@ ghost use Rattle.std.specs.Prelude.{ℕ};
 ghost use Rattle.std.specs.Iterator.{at_most};
 ghost use Rattle.regress_meaning.specs.Offsets.{of_utf16, of_ucs2, Begins};
 ghost use Rattle.regress_engine.specs.InputViews.{utf16_view, ucs2_view};
-ghost use Rattle.regress_engine.specs.Sought.{StartsAt, IsMatchOf};
+ghost use Rattle.regress_engine.specs.Search.{StartsAt, IsMatchOf};
 ghost use Rattle.regress_match.specs.Iterating.{GivesMatch};
 ghost use Rattle.regress.specs.Positions.{IsPlaced, IsPlaced-prop};
 
@@ -18,7 +18,7 @@ use std::iter::FusedIterator;
 pub struct Utf16Matches<'r, 't> {
     executor: BacktrackExecutor<'r, Utf16Input<'r, 't>>,
     position: Option<usize>,
-    ghost placed: { IsPlaced (utf16_view executor.subject.input) position } by { IsPlaced-prop (utf16_view executor.subject.input) position },
+    ghost placed: { IsPlaced (utf16_view executor.context.input) position } by { IsPlaced-prop (utf16_view executor.context.input) position },
 }
 
 /// The matches of a compiled pattern in 16-bit units that are each one character, each after the one before: from
@@ -27,18 +27,18 @@ pub struct Utf16Matches<'r, 't> {
 pub struct Ucs2Matches<'r, 't> {
     executor: BacktrackExecutor<'r, Ucs2Input<'r, 't>>,
     position: Option<usize>,
-    ghost placed: { IsPlaced (ucs2_view executor.subject.input) position } by { IsPlaced-prop (ucs2_view executor.subject.input) position },
+    ghost placed: { IsPlaced (ucs2_view executor.context.input) position } by { IsPlaced-prop (ucs2_view executor.context.input) position },
 }
 
 impl<'r, 't> Utf16Matches<'r, 't> {
-    ghost use Rattle.regress.specs.Seeking.{Seeks};
-    ghost use Rattle.regress.specs.Units.{sought_in_utf16};
+    ghost use Rattle.regress.specs.SearchFor.{IsSearchFor};
+    ghost use Rattle.regress.specs.Units.{search_in_utf16};
 
     /// The matches of a pattern in units, from an offset on.
     fn new(regex: &'r Regex, units: &'t [u16], start: usize) -> Self
         requires { (place : ℕ) × Begins (of_utf16 units.now) start place }
-        ensures over { Seeks regex.now.compiled.unit_program units.now (sought_in_utf16 result) }
-        ensures begins { StartsAt (sought_in_utf16 result) start result.position }
+        ensures over { IsSearchFor regex.now.compiled.unit_program units.now (search_in_utf16 result) }
+        ensures begins { StartsAt (search_in_utf16 result) start result.position }
     {
         let program = &regex.compiled.unit_program;
         let input = Utf16Input::new(units, program.flags().is_unicode(), program.tables());
@@ -49,14 +49,14 @@ impl<'r, 't> Utf16Matches<'r, 't> {
 }
 
 impl<'r, 't> Ucs2Matches<'r, 't> {
-    ghost use Rattle.regress.specs.Seeking.{Seeks};
-    ghost use Rattle.regress.specs.Units.{sought_in_ucs2};
+    ghost use Rattle.regress.specs.SearchFor.{IsSearchFor};
+    ghost use Rattle.regress.specs.Units.{search_in_ucs2};
 
     /// The matches of a pattern in units, from an offset on.
     fn new(regex: &'r Regex, units: &'t [u16], start: usize) -> Self
         requires { (place : ℕ) × Begins (of_ucs2 units.now) start place }
-        ensures over { Seeks regex.now.compiled.unit_program units.now (sought_in_ucs2 result) }
-        ensures begins { StartsAt (sought_in_ucs2 result) start result.position }
+        ensures over { IsSearchFor regex.now.compiled.unit_program units.now (search_in_ucs2 result) }
+        ensures begins { StartsAt (search_in_ucs2 result) start result.position }
     {
         let program = &regex.compiled.unit_program;
         let input = Ucs2Input::new(units, program.flags().is_unicode(), program.tables());
@@ -68,12 +68,12 @@ impl<'r, 't> Ucs2Matches<'r, 't> {
 
 impl<'r, 't> Iterator for Utf16Matches<'r, 't> {
     ghost use Rattle.std.specs.Prelude.{◌≡◌};
-    ghost use Rattle.regress.specs.Units.{sought_in_utf16, coming_in_utf16, steps_in_utf16, HasEndedUtf16};
+    ghost use Rattle.regress.specs.Units.{search_in_utf16, coming_in_utf16, steps_in_utf16, HasEndedUtf16};
 
     type Item = Result<Match, Error>;
 
-    ghost next_gives = { λ old r new. (sought_in_utf16 new ≡ sought_in_utf16 old)
-        × GivesMatch coming_in_utf16 HasEndedUtf16 (IsMatchOf (sought_in_utf16 old)) old r new };
+    ghost next_gives = { λ old r new. (search_in_utf16 new ≡ search_in_utf16 old)
+        × GivesMatch coming_in_utf16 HasEndedUtf16 (IsMatchOf (search_in_utf16 old)) old r new };
 
     ghost remaining = { λ ms. at_most (steps_in_utf16 ms) };
 
@@ -95,12 +95,12 @@ impl<'r, 't> FusedIterator for Utf16Matches<'r, 't> {}
 
 impl<'r, 't> Iterator for Ucs2Matches<'r, 't> {
     ghost use Rattle.std.specs.Prelude.{◌≡◌};
-    ghost use Rattle.regress.specs.Units.{sought_in_ucs2, coming_in_ucs2, steps_in_ucs2, HasEndedUcs2};
+    ghost use Rattle.regress.specs.Units.{search_in_ucs2, coming_in_ucs2, steps_in_ucs2, HasEndedUcs2};
 
     type Item = Result<Match, Error>;
 
-    ghost next_gives = { λ old r new. (sought_in_ucs2 new ≡ sought_in_ucs2 old)
-        × GivesMatch coming_in_ucs2 HasEndedUcs2 (IsMatchOf (sought_in_ucs2 old)) old r new };
+    ghost next_gives = { λ old r new. (search_in_ucs2 new ≡ search_in_ucs2 old)
+        × GivesMatch coming_in_ucs2 HasEndedUcs2 (IsMatchOf (search_in_ucs2 old)) old r new };
 
     ghost remaining = { λ ms. at_most (steps_in_ucs2 ms) };
 
@@ -129,7 +129,7 @@ impl Regex {
     ghost use Rattle.regress_meaning.specs.Offsets.{characters, told};
     ghost use Rattle.regress_front.specs.Trees.{Tree};
     ghost use Rattle.regress.specs.Standing.{StandsInUnits, HasTreeInUnits, tree_list_in_units};
-    ghost use Rattle.regress.specs.Units.{sought_in_utf16, sought_in_ucs2, coming_in_utf16, coming_in_ucs2, IsMatchInUnits};
+    ghost use Rattle.regress.specs.Units.{search_in_utf16, search_in_ucs2, coming_in_utf16, coming_in_ucs2, IsMatchInUnits};
     ghost use Rattle.regress.specs.Coming.{HoldsOfEach};
 
     /// The matches in units of UTF-16 from `start` on, an offset in units, their ranges told in units ("RegExpBuiltinExec"). A
@@ -152,7 +152,7 @@ impl Regex {
         ensures matches_of_tree { (n : ℕ) → (t : Tree) → HasTreeInUnits self.now n t →
             (place : ℕ) → Begins (of_utf16 units.now) start place →
             IfOk result (λ ms. coming_in_utf16 ms ≡ map (told (of_utf16 units.now)) (tree_list_in_units self.now n t (characters units.now) place)) }
-        ensures over { IfOk result (λ ms. (sought_in_utf16 ms).view.units ≡ units.now) }
+        ensures over { IfOk result (λ ms. (search_in_utf16 ms).view.units ≡ units.now) }
         ensures inside { IfOk result (HoldsOfEach ⟦<Utf16Matches<'r, 't> as Iterator>⟧.next_gives (IsMatchInUnits (of_utf16 units.now) units.now)) }
         ensures refused { IsOkUnless result Error.OutOfMemory }
     {
@@ -177,7 +177,7 @@ impl Regex {
         ensures matches_of_tree { (n : ℕ) → (t : Tree) → HasTreeInUnits self.now n t →
             (place : ℕ) → Begins (of_ucs2 units.now) start place →
             IfOk result (λ ms. coming_in_ucs2 ms ≡ map (told (of_ucs2 units.now)) (tree_list_in_units self.now n t units.now place)) }
-        ensures over { IfOk result (λ ms. (sought_in_ucs2 ms).view.units ≡ units.now) }
+        ensures over { IfOk result (λ ms. (search_in_ucs2 ms).view.units ≡ units.now) }
         ensures inside { IfOk result (HoldsOfEach ⟦<Ucs2Matches<'r, 't> as Iterator>⟧.next_gives (IsMatchInUnits (of_ucs2 units.now) units.now)) }
         ensures refused { IsOkUnless result Error.OutOfMemory }
     {

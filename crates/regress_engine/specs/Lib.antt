@@ -16,7 +16,7 @@ pub use Rattle.regress_engine_runs.specs.Items
 pub use Rattle.regress_engine_runs.specs.Meets
 pub use Rattle.regress_engine_runs.specs.Runs
 pub use Rattle.regress_engine_runs.specs.States
-pub use Rattle.regress_engine_sought.specs.Answering
-pub use Rattle.regress_engine_sought.specs.Searching
-pub use Rattle.regress_engine_sought.specs.Sought
-pub use Rattle.regress_engine_sought.specs.SoughtOnce
+pub use Rattle.regress_engine_search.specs.Answering
+pub use Rattle.regress_engine_search.specs.Search
+pub use Rattle.regress_engine_search.specs.SearchProps
+pub use Rattle.regress_engine_search.specs.Searching

@@ -32,13 +32,13 @@ pub use regress_engine_matchers::{
     ASCIICharProperties, CharInput, CharProperties, UTF8CharProperties, Utf16CharProperties,
     matchers, reads_stay_in_texts,
 };
-pub use regress_engine_prefix::{Seeker, StartPredicate, predicate_for_re};
+pub use regress_engine_prefix::{Prefilter, StartPredicate, predicate_for_re};
 pub use regress_engine_runs::{
-    counts_are_bounded, inputs_move_on, layouts_are_closed, layouts_list_matches,
-    layouts_never_get_stuck, layouts_read_at_places, layouts_run_as_trees, runs_are_determined,
+    counts_are_bounded, inputs_move_on, layouts_are_closed, layouts_have_progress,
+    layouts_list_matches, layouts_read_at_places, layouts_run_as_trees, runs_are_determined,
     searches_find_matches, searches_may_skip,
 };
-pub use regress_engine_sought::{
-    AnyText, AsciiText, Executor, ExecutorInput, Shown, Subject, TextKind, executors_list_matches,
-    executors_match_as_trees, roads_agree, start_predicates_may_skip,
+pub use regress_engine_search::{
+    AnyText, AsciiText, Executor, ExecutorInput, SearchContext, Shown, TextKind, executors_agree,
+    executors_list_matches, executors_match_as_trees, start_predicates_may_skip,
 };

@@ -6,9 +6,9 @@ use Rattle.regress_engine_insn.specs.Instructions.{Instruction, Program, Stands}
 use Rattle.regress_engine_runs.specs.States.{Marks}
 use Rattle.regress_engine_runs.specs.Runs.{advance, as_far}
 use Rattle.regress_engine_runs.specs.Meets.{IsAtPlace}
-use Rattle.regress_engine_sought.specs.Sought.{Suits}
-use Rattle.regress_engine_sought.specs.Ready.{IsBody}
-use Rattle.regress_engine_sought.proofs.ReadyLemmas.{body-next}
+use Rattle.regress_engine_search.specs.Search.{Suits}
+use Rattle.regress_engine_search.specs.Ready.{IsBody}
+use Rattle.regress_engine_search.proofs.ReadyLemmas.{body-next}
 
 -- as far as it goes is at a place
 module _ (program : Program) (v : View) (all : AreOfKind v.kind v.units) (suits : Suits program v) (at : ℕ) (i : Instruction) (here : Stands program (at - 1) i) (dir : Direction) (groups : List Marks) where

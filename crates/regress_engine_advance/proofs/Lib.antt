@@ -1,4 +1,4 @@
+pub mod CannotBeginLemmas
 pub mod FarLemmas
-pub mod LackedLemmas
 pub mod ReadLemmas
 pub mod TakenLemmas

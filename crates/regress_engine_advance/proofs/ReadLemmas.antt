@@ -14,8 +14,8 @@ use Rattle.regress_engine_runs.specs.States.{Marks}
 use Rattle.regress_engine_runs.specs.Runs.{advance}
 use Rattle.regress_engine_runs.specs.Meets.{reads_character}
 use Rattle.regress_engine_runs.specs.Closed.{Fits}
-use Rattle.regress_engine_sought.specs.Ready.{is_simple}
-use Rattle.regress_engine_singles.specs.Taking.{is_edge}
+use Rattle.regress_engine_search.specs.Ready.{is_simple}
+use Rattle.regress_engine_singles.specs.Taking.{is_assertion}
 
 -- an instruction that was read stands there
 pub stands-read : (slice insns : List Insn) (at : ℕ) (d : Insn) → slice ≡ insns → at < length slice → slice_get (map instruction insns) at ≡ Some (instruction (get_or slice at d))
@@ -54,8 +54,8 @@ pub more-than : (n : ℕ) → 0 < n → nat_lt 0 n ≡ true
 more-than n some = grind (arith, nat_tests)
 
 -- what asks what stands beside an offset changes nothing but that
-pub edge-simple : (i : Instruction) → is_edge i ≡ true → is_simple i ≡ true
-edge-simple (code.line_start multiline) e = refl
-edge-simple (code.line_end multiline) e = refl
-edge-simple (code.boundary inverted folded) e = refl
-edge-simple _ e = absurd (grind arith)
+pub assertion-simple : (i : Instruction) → is_assertion i ≡ true → is_simple i ≡ true
+assertion-simple (code.line_start multiline) e = refl
+assertion-simple (code.line_end multiline) e = refl
+assertion-simple (code.boundary inverted folded) e = refl
+assertion-simple _ e = absurd (grind arith)

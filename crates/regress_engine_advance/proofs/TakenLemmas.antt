@@ -2,7 +2,7 @@
 use Rattle.std.proofs.Common.{◌≡◌, ℕ, ◌+◌, ◌-◌, ◌<◌, Bool, true, List, [], length, refl, sym, ap, ◌∙◌, arith}
 use Rattle.regress_meaning.specs.Meaning.{Direction}
 use Rattle.regress_meaning.specs.Inputs.{Input}
-use Rattle.regress_engine_input.specs.Views.{View, way, reading_of}
+use Rattle.regress_engine_input.specs.Views.{View, direction_of, reading_of}
 use Rattle.regress_engine_insn.specs.Instructions.{Instruction, Program, Stands}
 use Rattle.regress_engine_insn.specs.Instructions as code
 use Rattle.regress_engine_runs.specs.States.{Marks}
@@ -11,9 +11,9 @@ use Rattle.regress_engine_runs.specs.Meets.{IsAtPlace, ReadsPlaces, reads_charac
 use Rattle.regress_engine_runs.specs.Closed.{Fits, IsClosed, takes_character}
 use Rattle.regress_engine_runs.specs.UndoStack.{whole}
 use Rattle.regress_engine_runs.proofs.RunViews.{one_stands}
-use Rattle.regress_engine_sought.specs.Ready.{IsReady, IsBody, is_simple}
-use Rattle.regress_engine_singles.proofs.StuckLemmas.{simple-stuck, loop-stuck, end-stuck}
-use Rattle.regress_engine_singles.proofs.LackLemmas.{takes-taking}
+use Rattle.regress_engine_search.specs.Ready.{IsReady, IsBody, is_simple}
+use Rattle.regress_engine_singles.proofs.DeadLemmas.{simple-dead, loop-dead, end-dead}
+use Rattle.regress_engine_singles.proofs.FirstByteLemmas.{takes-taking}
 use Rattle.regress_engine_singles.specs.Taking.{is_taking}
 use Rattle.regress_engine_advance.specs.First.{IsTakenFirst}
 
@@ -79,19 +79,19 @@ module _ (program : Program) (closed : IsClosed program) (at : ℕ) where
   first-here i here takes = record {
     fits = taking-fits program at i takes (closed at i here);
     takes = takes;
-    stuck = λ input forward o none. simple-stuck program input (way forward) at o i here (taking-simple i takes) none;
+    dead = λ input forward o none. simple-dead program input (direction_of forward) at o i here (taking-simple i takes) none;
   }
 
   pub first-loop : (least most : ℕ) (greedy : Bool) (i : Instruction) → Stands program at (code.single_loop least most greedy) → Stands program (at + 1) i → is_taking i ≡ true → 0 < least → IsTakenFirst program at i
   first-loop least most greedy i here body takes some = record {
     fits = taking-fits program (at + 1) i takes (closed (at + 1) i body);
     takes = takes;
-    stuck = λ input forward o none. loop-stuck program input (way forward) at o least most greedy i here body some none;
+    dead = λ input forward o none. loop-dead program input (direction_of forward) at o least most greedy i here body some none;
   }
 
   pub first-behind : (k : ℕ) (i : Instruction) → Stands program at (code.end_group k) → IsTakenFirst program (at + 1) i → IsTakenFirst program at i
   first-behind k i here first = record {
     fits = first.fits;
     takes = first.takes;
-    stuck = λ input forward o none. end-stuck program input (way forward) at o k here (first.stuck input forward o none);
+    dead = λ input forward o none. end-dead program input (direction_of forward) at o k here (first.dead input forward o none);
   }

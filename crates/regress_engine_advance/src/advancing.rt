@@ -2,11 +2,11 @@
 ghost use Rattle.std.specs.Prelude.{◌≡◌, map};
 ghost use Rattle.regress_engine_code.specs.Standing.{program_of};
 ghost use Rattle.regress_engine_insn.specs.InsnViews.{instruction};
-ghost use Rattle.regress_engine_input.specs.Views.{way, input_of};
+ghost use Rattle.regress_engine_input.specs.Views.{direction_of, input_of};
 ghost use Rattle.regress_engine_runs.specs.Runs.{advance};
-ghost use Rattle.regress_engine_sought.specs.Sought.{Suits};
-ghost use Rattle.regress_engine_sought.specs.StateViews.{marks_of};
-ghost use Rattle.regress_engine_sought.specs.Ready.{IsReady};
+ghost use Rattle.regress_engine_search.specs.Search.{Suits};
+ghost use Rattle.regress_engine_search.specs.StateViews.{marks_of};
+ghost use Rattle.regress_engine_search.specs.Ready.{IsReady};
 
 use crate::characters::{any, any_in_line, ascii_bracket, bracket, byte_set, char_set, this_char};
 use crate::edges::{boundary, line_edge};
@@ -36,7 +36,7 @@ pub fn advance<Input: CharInput>(
 ) -> Option<usize>
     requires suits { Suits (program_of program.now) (Input.view input.now) }
     requires ready { IsReady (program_of program.now) (Input.view input.now) (instruction insn.now) (map marks_of groups.now) offset }
-    ensures { result ≡ advance (program_of program.now) (input_of (Input.view input.now)) (instruction insn.now) (way forward)
+    ensures { result ≡ advance (program_of program.now) (input_of (Input.view input.now)) (instruction insn.now) (direction_of forward)
         (map marks_of groups.now) offset }
 {
     match insn {

@@ -7,7 +7,7 @@ ghost use Rattle.regress_front_bytes.specs.ByteSets.{members};
 ghost use Rattle.regress_front_bytes.specs.Bitmaps.{ascii_bitmap_contains};
 ghost use Rattle.regress_front_sets.specs.Intervals.{ends_of};
 ghost use Rattle.regress_front_nodes.specs.TreeMeaning.{bracket_has};
-ghost use Rattle.regress_engine_input.specs.Views.{way, input_of, CanRead};
+ghost use Rattle.regress_engine_input.specs.Views.{direction_of, input_of, CanRead};
 
 use crate::reading::beside;
 use regress_engine_input::{ElementType, InputIndexer};
@@ -35,7 +35,7 @@ pub(crate) fn this_char<Input: InputIndexer>(
     wanted: u32,
 ) -> Option<usize>
     requires { CanRead (Input.view input.now) offset }
-    ensures { result ≡ passed (nat_eq wanted) ((input_of (Input.view input.now)).next (way forward) offset) }
+    ensures { result ≡ passed (nat_eq wanted) ((input_of (Input.view input.now)).next (direction_of forward) offset) }
 {
     let (c, past) = beside(input, forward, offset)?;
     if wanted == c.as_u32() {
@@ -54,7 +54,7 @@ pub(crate) fn char_set<Input: InputIndexer>(
     set: &[u32; MAX_CHAR_SET_LENGTH],
 ) -> Option<usize>
     requires { CanRead (Input.view input.now) offset }
-    ensures { result ≡ passed (holds set.now) ((input_of (Input.view input.now)).next (way forward) offset) }
+    ensures { result ≡ passed (holds set.now) ((input_of (Input.view input.now)).next (direction_of forward) offset) }
 {
     let (c, past) = beside(input, forward, offset)?;
     if charset_contains(set, c.as_u32()) {
@@ -73,7 +73,7 @@ pub(crate) fn byte_set<Input: InputIndexer>(
     bytes: &[u8],
 ) -> Option<usize>
     requires { CanRead (Input.view input.now) offset }
-    ensures { result ≡ passed (holds bytes.now) ((input_of (Input.view input.now)).next (way forward) offset) }
+    ensures { result ≡ passed (holds bytes.now) ((input_of (Input.view input.now)).next (direction_of forward) offset) }
 {
     let (c, past) = beside(input, forward, offset)?;
     if has_number(bytes, c.as_u32()) {
@@ -99,7 +99,7 @@ pub fn ascii_bracket<Input: InputIndexer>(
     bitmap: &AsciiBitmap,
 ) -> Option<usize>
     requires { CanRead (Input.view input.now) offset }
-    ensures { result ≡ passed (holds (members (ascii_bitmap_contains bitmap.now))) ((input_of (Input.view input.now)).next (way forward) offset) }
+    ensures { result ≡ passed (holds (members (ascii_bitmap_contains bitmap.now))) ((input_of (Input.view input.now)).next (direction_of forward) offset) }
 {
     let (c, past) = beside(input, forward, offset)?;
     let byte = <u8 as TryFrom<u32>>::try_from(c.as_u32()).ok()?;
@@ -120,7 +120,7 @@ pub fn ascii_bracket<Input: InputIndexer>(
 #[inline]
 pub fn any<Input: InputIndexer>(input: &Input, forward: bool, offset: usize) -> Option<usize>
     requires { CanRead (Input.view input.now) offset }
-    ensures { result ≡ passed (λ c. true) ((input_of (Input.view input.now)).next (way forward) offset) }
+    ensures { result ≡ passed (λ c. true) ((input_of (Input.view input.now)).next (direction_of forward) offset) }
 {
     let (_, past) = beside(input, forward, offset)?;
     Some(past)
@@ -136,7 +136,7 @@ pub fn any<Input: InputIndexer>(input: &Input, forward: bool, offset: usize) -> 
 #[inline(always)]
 pub fn any_in_line<Input: CharInput>(input: &Input, forward: bool, offset: usize) -> Option<usize>
     requires { CanRead (Input.view input.now) offset }
-    ensures { result ≡ passed (λ c. not (is_line_end c)) ((input_of (Input.view input.now)).next (way forward) offset) }
+    ensures { result ≡ passed (λ c. not (is_line_end c)) ((input_of (Input.view input.now)).next (direction_of forward) offset) }
 {
     let (c, past) = beside(input, forward, offset)?;
     if <Input::CharProps as CharProperties>::is_line_terminator(c) {
@@ -162,7 +162,7 @@ pub fn bracket<Input: InputIndexer>(
 ) -> Option<usize>
     requires { CanRead (Input.view input.now) offset }
     ensures { result ≡ passed (bracket_has class.now.invert (ends_of class.now.cps.intervals.items))
-        ((input_of (Input.view input.now)).next (way forward) offset) }
+        ((input_of (Input.view input.now)).next (direction_of forward) offset) }
 {
     let (c, past) = beside(input, forward, offset)?;
     if (ScannedBracket { bc: class }).has(c.as_u32()) {

@@ -5,10 +5,10 @@ ghost use Rattle.regress_meaning.specs.Meaning.{is_line_end, is_some_and, word_a
 ghost use Rattle.regress_meaning.specs.Steps.{point, at_boundary, only_if};
 ghost use Rattle.regress_engine_insn.specs.Instructions.{Program};
 ghost use Rattle.regress_engine_insn.specs.InsnViews.{instruction};
-ghost use Rattle.regress_engine_input.specs.Views.{way, input_of, CanRead};
+ghost use Rattle.regress_engine_input.specs.Views.{direction_of, input_of, CanRead};
 ghost use Rattle.regress_engine_runs.specs.States.{Marks};
 ghost use Rattle.regress_engine_runs.specs.Runs.{advance};
-ghost use Rattle.regress_engine_singles.specs.Taking.{is_edge};
+ghost use Rattle.regress_engine_singles.specs.Taking.{is_assertion};
 
 use crate::reading::beside;
 use regress_engine_input::InputIndexer;
@@ -24,8 +24,8 @@ pub(crate) fn line_edge<Input: CharInput>(
     offset: usize,
 ) -> bool
     requires { CanRead (Input.view input.now) offset }
-    ensures { result ≡ not (is_some ((input_of (Input.view input.now)).next (way forward) offset))
-        || (multiline && is_some_and (point (input_of (Input.view input.now)) (way forward) offset) is_line_end) }
+    ensures { result ≡ not (is_some ((input_of (Input.view input.now)).next (direction_of forward) offset))
+        || (multiline && is_some_and (point (input_of (Input.view input.now)) (direction_of forward) offset) is_line_end) }
 {
     match beside(input, forward, offset) {
         Some((c, _)) => multiline && <Input::CharProps as CharProperties>::is_line_terminator(c),
@@ -65,7 +65,7 @@ pub fn word_beside<Input: CharInput>(
     offset: usize,
 ) -> bool
     requires { CanRead (Input.view input.now) offset }
-    ensures { result ≡ word_at (Input.view input.now).table folded (point (input_of (Input.view input.now)) (way forward) offset) }
+    ensures { result ≡ word_at (Input.view input.now).table folded (point (input_of (Input.view input.now)) (direction_of forward) offset) }
 {
     match beside(input, forward, offset) {
         Some((c, _)) => is_word(input, folded, c),
@@ -98,8 +98,8 @@ pub fn boundary<Input: CharInput>(input: &Input, folded: bool, offset: usize) ->
 #[inline]
 pub fn holds_at<Input: CharInput>(input: &Input, insn: &Insn, offset: usize) -> bool
     requires { CanRead (Input.view input.now) offset }
-    ensures { (program : Program) (forward : Bool) (groups : List Marks) → is_edge (instruction insn.now) ≡ true
-        → only_if result offset ≡ advance program (input_of (Input.view input.now)) (instruction insn.now) (way forward) groups offset }
+    ensures { (program : Program) (forward : Bool) (groups : List Marks) → is_assertion (instruction insn.now) ≡ true
+        → only_if result offset ≡ advance program (input_of (Input.view input.now)) (instruction insn.now) (direction_of forward) groups offset }
 {
     match insn {
         Insn::StartOfLine { multiline } => line_edge(input, false, *multiline, offset),

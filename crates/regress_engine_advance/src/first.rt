@@ -5,12 +5,12 @@ ghost use Rattle.regress_engine_insn.specs.InsnViews.{instruction};
 ghost use Rattle.regress_engine_code.specs.Standing.{program_of};
 ghost use Rattle.regress_engine_input.specs.Views.{View, are_bytes, input_of};
 ghost use Rattle.regress_engine_runs.specs.Closed.{Fits, IsClosed};
-ghost use Rattle.regress_engine_singles.specs.Apart.{AreApart};
+ghost use Rattle.regress_engine_singles.specs.Disjoint.{AreDisjoint};
 ghost use Rattle.regress_engine_advance.specs.First.{IsTakenFirst};
 
 use regress_engine_code::CompiledRegex;
 use regress_engine_insn::Insn;
-use regress_engine_singles::{are_apart, first_byte, is_apart, takes_some};
+use regress_engine_singles::{are_disjoint, first_byte, is_disjoint, takes_some};
 
 /// What is taken at an address: the instruction there, or what a one-character loop there does at least once; `None` where
 /// neither takes anything.
@@ -71,13 +71,13 @@ pub fn is_atomic(program: &CompiledRegex, insn: &Insn, at: usize) -> bool
     requires closed { IsClosed (program_of program.now) }
     requires fits { Fits (program_of program.now) 0 (instruction insn.now) }
     ensures { (v : View) → are_bytes v.kind ≡ not (program_of program.now).units → result ≡ true
-        → (i : Instruction) × IsTakenFirst (program_of program.now) at i × AreApart (program_of program.now) (input_of v) (instruction insn.now) i }
+        → (i : Instruction) × IsTakenFirst (program_of program.now) at i × AreDisjoint (program_of program.now) (input_of v) (instruction insn.now) i }
 {
     let Some(taken) = taken_first(program, at) else {
         return false;
     };
     let Some(first) = first_byte(taken) else {
-        return are_apart(program, insn, taken);
+        return are_disjoint(program, insn, taken);
     };
-    is_apart(program, insn, first)
+    is_disjoint(program, insn, first)
 }

@@ -4,7 +4,7 @@ ghost use Rattle.regress_meaning.specs.Meaning.{Forward as ahead};
 ghost use Rattle.regress_meaning.specs.Steps.{literal};
 ghost use Rattle.regress_engine_code.specs.Standing.{program_of};
 ghost use Rattle.regress_engine_insn.specs.InsnViews.{instruction};
-ghost use Rattle.regress_engine_input.specs.Views.{way, input_of, are_bytes};
+ghost use Rattle.regress_engine_input.specs.Views.{direction_of, input_of, are_bytes};
 ghost use Rattle.regress_engine_runs.specs.States.{Marks};
 ghost use Rattle.regress_engine_runs.specs.Meets.{reads_character};
 ghost use Rattle.regress_engine_runs.specs.Runs.{advance};
@@ -49,7 +49,7 @@ pub fn bytes_beside<Input: InputIndexer>(
 ) -> Option<usize>
     requires kind { are_bytes (Input.view input.now).kind ≡ true }
     requires some { 0 < length bytes.now }
-    ensures { result ≡ literal (input_of (Input.view input.now)) (way forward) bytes.now offset }
+    ensures { result ≡ literal (input_of (Input.view input.now)) (direction_of forward) bytes.now offset }
 {
     if offset > input.pos_to_offset(input.right_end()) {
         return None;
@@ -82,7 +82,7 @@ pub(crate) fn byte_seq<Input: InputIndexer>(
     requires kind { are_bytes (Input.view input.now).kind ≡ not (program_of program.now).units }
     requires fits { Fits (program_of program.now) 0 (instruction insn.now) }
     ensures { (groups : List Marks) → reads_character (instruction insn.now) ≡ false
-        → result ≡ advance (program_of program.now) (input_of (Input.view input.now)) (instruction insn.now) (way forward) groups offset }
+        → result ≡ advance (program_of program.now) (input_of (Input.view input.now)) (instruction insn.now) (direction_of forward) groups offset }
 {
     let bytes = bytes_of(insn);
     if bytes.is_empty() {

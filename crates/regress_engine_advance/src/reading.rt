@@ -1,7 +1,7 @@
 //! The character beside an offset.
 ghost use Rattle.std.specs.Prelude.{◌≡◌, option_map, Some, IfSome};
 ghost use Rattle.regress_meaning.specs.Meaning.{Forward as ahead, Backward as backward};
-ghost use Rattle.regress_engine_input.specs.Views.{way, input_of, CanRead};
+ghost use Rattle.regress_engine_input.specs.Views.{direction_of, input_of, CanRead};
 
 use regress_engine_input::cursor::next;
 use regress_engine_input::{Backward, Direction, ElementType, Forward, InputIndexer, PositionType};
@@ -14,7 +14,7 @@ fn read<Input: InputIndexer, Dir: Direction>(
     offset: usize,
 ) -> Option<(Input::Element, usize)>
     requires { CanRead (Input.view input.now) offset }
-    ensures { option_map (λ x. (Input.Element.code x.0, x.1)) result ≡ (input_of (Input.view input.now)).next (way Dir.FORWARD) offset }
+    ensures { option_map (λ x. (Input.Element.code x.0, x.1)) result ≡ (input_of (Input.view input.now)).next (direction_of Dir.FORWARD) offset }
 {
     let mut position = <Input::Position as PositionType>::new(offset);
     let character = next(input, dir, &mut position)?;
@@ -64,7 +64,7 @@ pub fn beside<Input: InputIndexer>(
     offset: usize,
 ) -> Option<(Input::Element, usize)>
     requires { CanRead (Input.view input.now) offset }
-    ensures { option_map (λ x. (Input.Element.code x.0, x.1)) result ≡ (input_of (Input.view input.now)).next (way forward) offset }
+    ensures { option_map (λ x. (Input.Element.code x.0, x.1)) result ≡ (input_of (Input.view input.now)).next (direction_of forward) offset }
 {
     if forward {
         if let Some(found) = ascii_ahead(input, offset) {

@@ -1,10 +1,10 @@
 //! What a group took, once more.
 ghost use Rattle.std.specs.Prelude.{◌≡◌, Some, IfSome};
 ghost use Rattle.regress_meaning.specs.Steps.{repeated};
-ghost use Rattle.regress_engine_input.specs.Views.{way, input_of, reading_of};
+ghost use Rattle.regress_engine_input.specs.Views.{direction_of, input_of, reading_of};
 ghost use Rattle.regress_engine_runs.specs.States.{range_of};
 ghost use Rattle.regress_engine_runs.specs.Meets.{AreAtPlaces, IsAtPlace};
-ghost use Rattle.regress_engine_sought.specs.StateViews.{marks_of};
+ghost use Rattle.regress_engine_search.specs.StateViews.{marks_of};
 
 use regress_engine_input::{Backward, Direction, Forward, InputIndexer, PositionType};
 use regress_engine_matchers::CharInput;
@@ -23,7 +23,7 @@ fn once_more<Input: CharInput, Dir: Direction>(
 ) -> Option<usize>
     requires range { AreAtPlaces (reading_of (Input.view input.now)) (range.start, range.end) }
     requires place { IsAtPlace (reading_of (Input.view input.now)) offset }
-    ensures { result ≡ repeated (input_of (Input.view input.now)) (way Dir.FORWARD) icase (Some (range.start, range.end)) offset }
+    ensures { result ≡ repeated (input_of (Input.view input.now)) (direction_of Dir.FORWARD) icase (Some (range.start, range.end)) offset }
 {
     let mut position = <Input::Position as PositionType>::new(offset);
     let start = <Input::Position as PositionType>::new(range.start);
@@ -52,7 +52,7 @@ pub(crate) fn back_reference<Input: CharInput>(
 ) -> Option<usize>
     requires range { IfSome (range_of (marks_of group.now)) (AreAtPlaces (reading_of (Input.view input.now))) }
     requires place { IsAtPlace (reading_of (Input.view input.now)) offset }
-    ensures { result ≡ repeated (input_of (Input.view input.now)) (way forward) icase (range_of (marks_of group.now)) offset }
+    ensures { result ≡ repeated (input_of (Input.view input.now)) (direction_of forward) icase (range_of (marks_of group.now)) offset }
 {
     let (Some(start), Some(end)) = (group.start, group.end) else {
         return Some(offset);

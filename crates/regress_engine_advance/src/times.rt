@@ -3,12 +3,12 @@ ghost use Rattle.std.specs.Prelude.{◌≡◌, ◌-◌, ◌<◌, ℕ, IfSome, ma
 ghost use Rattle.regress_engine_insn.specs.Instructions.{Stands};
 ghost use Rattle.regress_engine_insn.specs.InsnViews.{instruction};
 ghost use Rattle.regress_engine_code.specs.Standing.{program_of};
-ghost use Rattle.regress_engine_input.specs.Views.{way, input_of, reading_of};
+ghost use Rattle.regress_engine_input.specs.Views.{direction_of, input_of, reading_of};
 ghost use Rattle.regress_engine_runs.specs.Runs.{after_times, as_far};
 ghost use Rattle.regress_engine_runs.specs.Meets.{IsAtPlace};
-ghost use Rattle.regress_engine_sought.specs.StateViews.{marks_of};
-ghost use Rattle.regress_engine_sought.specs.Ready.{IsBody};
-ghost use Rattle.regress_engine_sought.specs.Sought.{Suits};
+ghost use Rattle.regress_engine_search.specs.StateViews.{marks_of};
+ghost use Rattle.regress_engine_search.specs.Ready.{IsBody};
+ghost use Rattle.regress_engine_search.specs.Search.{Suits};
 
 use crate::advancing::advance;
 use regress_engine_code::CompiledRegex;
@@ -39,7 +39,7 @@ pub fn after_times<Input: CharInput>(
         × IsBody (program_of program.now) (Input.view input.now) at offset }
     requires groups { length groups.now ≡ program.now.groups }
     ensures behind { result ≡ after_times (program_of program.now) (input_of (Input.view input.now)) times
-        (instruction insn.now) (way forward) (map marks_of groups.now) offset }
+        (instruction insn.now) (direction_of forward) (map marks_of groups.now) offset }
     ensures place { IfSome result (IsAtPlace (reading_of (Input.view input.now))) }
 {
     let mut behind = offset;
@@ -75,7 +75,7 @@ pub fn as_far<Input: CharInput>(
         × IsBody (program_of program.now) (Input.view input.now) at offset }
     requires groups { length groups.now ≡ program.now.groups }
     ensures far { result ≡ as_far (program_of program.now) (input_of (Input.view input.now)) times
-        (instruction insn.now) (way forward) (map marks_of groups.now) offset }
+        (instruction insn.now) (direction_of forward) (map marks_of groups.now) offset }
     ensures place { IsAtPlace (reading_of (Input.view input.now)) result }
 {
     if forward {

@@ -11,18 +11,18 @@ use Rattle.regress_front_nodes.specs.WellFormed.{AreLawful}
 use Rattle.regress_engine_insn.specs.Counts.{count}
 use Rattle.regress_engine_insn.specs.Instructions.{Instruction, Program, Stands, StandFrom}
 use Rattle.regress_engine_insn.specs.Instructions as code
-use Rattle.regress_engine_insn.specs.Layout.{Spot, next, later, Target, resets, Lies}
+use Rattle.regress_engine_insn.specs.Layout.{ProgramPoint, next, later, Target, resets, Lies}
 use Rattle.regress_engine_code.specs.Written.{Written, end, with, changed, Keeps, Adds, AddsTree, MayRefuse}
 use Rattle.regress_engine_insn.proofs.LayoutLemmas.{resets-length}
 use Rattle.regress_engine_insn.proofs.CountLemmas.{counted}
 use Rattle.regress_engine_code.proofs.WrittenLemmas.{Keeps-same, Keeps-chain, Keeps-with, Keeps-changed, Has-earlier, Has-later, Has-behind, Stands-changed, StandFrom-with, end-with}
 
--- what may lie between two spots of a program
+-- what may lie between two points of a program
 abbrev pub Lie : Type 1
-Lie = Program → Spot → Spot → Type 0
+Lie = Program → ProgramPoint → ProgramPoint → Type 0
 
 module _ (units : Bool) where
-  -- what lies between the same spots in other words
+  -- what lies between the same program points in other words
   pub Adds-turned : (L M : Lie) (a b : Written) → ((program : Program) → program.units ≡ units → L program (end a) (end b) → M program (end a) (end b))
       → Adds units L a b → Adds units M a b
   Adds-turned L M a b turn adds = record { kept = adds.kept; lie = λ program same has. turn program same (adds.lie program same has) }
@@ -37,8 +37,8 @@ module _ (units : Bool) where
       subst (λ v. Adds units (λ program p q. StandFrom program p.address is × (q ≡ later p (length is))) w v) (sym e)
       (record { kept = Keeps-with w is; lie = λ program same has. (StandFrom-with program w is has, end-with w is) })
 
-  one-later : (p q : Spot) → q ≡ later p 1 → q ≡ next p
-  one-later p q e = e ∙ ap (λ (n : ℕ). let r : Spot = record { address = n; loops = p.loops } in r) (let h : p.address + 1 ≡ suc p.address = omega arith in h)
+  one-later : (p q : ProgramPoint) → q ≡ later p 1 → q ≡ next p
+  one-later p q e = e ∙ ap (λ (n : ℕ). let r : ProgramPoint = record { address = n; loops = p.loops } in r) (let h : p.address + 1 ≡ suc p.address = omega arith in h)
 
   -- one instruction is added
   pub Adds-one : (w w' : Written) (i : Instruction) → w' ≡ with w (i ∷ []) → Adds units (λ program p q. Stands program p.address i × (q ≡ next p)) w w'
@@ -58,7 +58,7 @@ module _ (units : Bool) where
   }
 
   end-changed : (w : Written) (address : ℕ) (i : Instruction) → end (changed w address i) ≡ end w
-  end-changed w address i = ap (λ (n : ℕ). let p : Spot = record { address = n; loops = w.loops } in p) (length-set w.instructions address i)
+  end-changed w address i = ap (λ (n : ℕ). let p : ProgramPoint = record { address = n; loops = w.loops } in p) (length-set w.instructions address i)
 
   -- What lies behind one instruction, which is written last, when it is known where it ends.
   pub Adds-opened : (L : Lie) (w0 w1 w2 w3 : Written) (i : Instruction) → Keeps w0 w1 → length w1.instructions ≡ suc (length w0.instructions)
@@ -88,7 +88,7 @@ one-longer w i w' e =
     let size : length (with w (i ∷ [])).instructions ≡ suc (length w.instructions) = omega (arith, length-append w.instructions (i ∷ [])) in (
       subst (λ v. Keeps w v) (sym e) (Keeps-with w (i ∷ [])),
       ap (λ (v : Written). length v.instructions) e ∙ size,
-      ap end e ∙ ap (λ (n : ℕ). let p : Spot = record { address = n; loops = w.loops } in p) size,
+      ap end e ∙ ap (λ (n : ℕ). let p : ProgramPoint = record { address = n; loops = w.loops } in p) size,
     )
 
 -- the same bounds and more
@@ -113,7 +113,7 @@ module _ (units : Bool) (table : Table) (unicode : Bool) where
       let lies = adds.lie (as_program w) refl (record { instructions = λ k i from h. h; brackets = λ k x h. h }) in
       counted (record { program = as_program w; table = table; unicode = unicode }) n t b (end a) (end w) lies lawful
 
-  parts-lie : (target : Target) (b : Bool) (ts : List Tree) (t : Tree) (p m q : Spot) → Lies target b (cat_of ts) p m → Lies target b t m q
+  parts-lie : (target : Target) (b : Bool) (ts : List Tree) (t : Tree) (p m q : ProgramPoint) → Lies target b (cat_of ts) p m → Lies target b t m q
       → Lies target b (cat_of (ts ++ t ∷ [])) p q
   parts-lie target b [] t p m q none h = (q, subst (λ r. Lies target b t r q) none h, refl)
   parts-lie target b (u ∷ ts) t p m q (r, first, rest) h = (r, first, parts-lie target b ts t r m q rest h)
@@ -168,7 +168,7 @@ module _ (units : Bool) (table : Table) (unicode : Bool) where
       Adds-turned units (λ program p q. Stands program p.address i × Inner program (end w1) q) (tree_lies b (tree.submatch kind first last t)) w0 w4
       (λ program same h. (
         end w2,
-        subst (λ (a : ℕ). Stands program (length w0.instructions) (code.submatch kind first last a)) (sym (ap (λ (p : Spot). p.address) opened.0)) h.0,
+        subst (λ (a : ℕ). Stands program (length w0.instructions) (code.submatch kind first last a)) (sym (ap (λ (p : ProgramPoint). p.address) opened.0)) h.0,
         subst (λ r. tree_lies (reads_backward kind b) t program r (end w2)) start.2 h.1.0,
         h.1.1,
       ))
@@ -193,7 +193,7 @@ module _ (units : Bool) (table : Table) (unicode : Bool) where
         end w2,
         subst (λ (a : ℕ). Stands program (length w0.instructions) (code.alt a)) mid.1 h.0,
         subst (λ r. tree_lies b s program r (end w2)) start.2 h.1.0,
-        subst (λ (a : ℕ). Stands program (length w2.instructions) (code.jump a)) (sym (ap (λ (p : Spot). p.address) ends)) h.1.1.0,
+        subst (λ (a : ℕ). Stands program (length w2.instructions) (code.jump a)) (sym (ap (λ (p : ProgramPoint). p.address) ends)) h.1.1.0,
         subst (λ r. tree_lies b t program r (end w6)) mid.2 h.1.1.1,
       ))
       outer.1
@@ -219,14 +219,14 @@ module _ (units : Bool) (table : Table) (unicode : Bool) where
       (Adds-chain units Reset (tree_lies b t) w1 w2 w3 (Adds-all units w1 w2 (resets first (last - first)) reset) adds)
       (Adds-one units w3 w4 again ended) in
       let opened = Adds-opened units All w0 w1 w4 w5 i (Keeps-chain w0 v w1 none start.0) (start.1 ∙ ap suc same) whole closed in
-      let inside : Spot = record { address = suc (length w0.instructions); loops = suc w0.loops } in
-      let at : end w1 ≡ inside = start.2 ∙ ap next (ap end numbered) ∙ ap (λ (l : ℕ). let p : Spot = record { address = suc (length w0.instructions); loops = l } in p) (let h : w0.loops + 1 ≡ suc w0.loops = omega arith in h) in
+      let inside : ProgramPoint = record { address = suc (length w0.instructions); loops = suc w0.loops } in
+      let at : end w1 ≡ inside = start.2 ∙ ap next (ap end numbered) ∙ ap (λ (l : ℕ). let p : ProgramPoint = record { address = suc (length w0.instructions); loops = l } in p) (let h : w0.loops + 1 ≡ suc w0.loops = omega arith in h) in
       Adds-turned units (λ program p q. Stands program p.address i × All program (end w1) q) (tree_lies b (tree.loop t first last least most greedy)) w0 w5
       (λ program same' h. (
         end w3,
-        subst (λ (a : ℕ). Stands program (length w0.instructions) (code.enter_loop (fields a))) (sym (ap (λ (p : Spot). p.address) opened.0)) h.0,
-        subst (λ (p : Spot). StandFrom program p.address (resets first (last - first))) at h.1.0.0.0,
-        subst (λ r. tree_lies b t program r (end w3)) (h.1.0.0.1 ∙ ap₂ (λ (p : Spot) (n : ℕ). later p n) at (resets-length first (last - first))) h.1.0.1,
+        subst (λ (a : ℕ). Stands program (length w0.instructions) (code.enter_loop (fields a))) (sym (ap (λ (p : ProgramPoint). p.address) opened.0)) h.0,
+        subst (λ (p : ProgramPoint). StandFrom program p.address (resets first (last - first))) at h.1.0.0.0,
+        subst (λ r. tree_lies b t program r (end w3)) (h.1.0.0.1 ∙ ap₂ (λ (p : ProgramPoint) (n : ℕ). later p n) at (resets-length first (last - first))) h.1.0.1,
         h.1.1,
       ))
       opened.1

@@ -11,7 +11,7 @@ use Rattle.regress_front_nodes.specs.Trees.{string_set}
 use Rattle.regress_engine_code.specs.declared.emitter.Emitter.{Emitter}
 use Rattle.regress_engine_insn.specs.Counts.{string_count, strings_count, count}
 use Rattle.regress_engine_insn.specs.Instructions.{Instruction, Program, alt, jump, fail, Stands, StandFrom}
-use Rattle.regress_engine_insn.specs.Layout.{Spot, next, later, string_code, AreArms}
+use Rattle.regress_engine_insn.specs.Layout.{ProgramPoint, next, later, string_code, AreArms}
 use Rattle.regress_engine_code.specs.Written.{Written, end, with, changed, closed, MayRefuse}
 use Rattle.regress_engine_code.specs.Emitting.{target, AddsArms, OpensArms, RefusesArms, Refuses}
 use Rattle.regress_engine_code.proofs.JumpLemmas.{closed-more}
@@ -80,14 +80,14 @@ module _ (emitter : Emitter) (backward icase : Bool) where
           (λ program same h. (
             end w2,
             subst (λ (ks : List Instruction). StandFrom program (suc (length w.instructions)) ks × (end w2 ≡ later (next (end w)) (length ks))) (told program same)
-                (subst (λ (p : Spot). StandFrom program p.address is × (end w2 ≡ later p (length is))) fork.2 h.0.1),
+                (subst (λ (p : ProgramPoint). StandFrom program p.address is × (end w2 ≡ later p (length is))) fork.2 h.0.1),
             subst (λ (k : ℕ). Stands program (length w.instructions) (alt k)) target_is h.0.0.0,
-            subst (λ (k : ℕ). Stands program (length w2.instructions) (jump k)) (sym (ap (λ (p : Spot). p.address) opened.0)) h.1.0,
-            subst (λ (p : Spot). Rest program p (end v')) start.2 h.1.1,
+            subst (λ (k : ℕ). Stands program (length w2.instructions) (jump k)) (sym (ap (λ (p : ProgramPoint). p.address) opened.0)) h.1.0,
+            subst (λ (p : ProgramPoint). Rest program p (end v')) start.2 h.1.1,
           ))
           (Adds-chain units Front Jump w w2 v' (Adds-chain units Fork Spelled w w1 w2 (Adds-one units w w1 (alt a) forked) (Adds-all units w1 w2 is spelled)) opened.1)
 
-  -- one more string, and the ways round it, are no more than all
+  -- one more string, and the branches round it, are no more than all
   pub arms-room : (strings : List (List ℕ)) (jumps : List ℕ) (s : List ℕ) (later all : List (List ℕ)) (old w : Written) → OpensArms emitter backward icase strings jumps old w
       → strings ++ s ∷ later ≡ all → (cs : List ℕ) (rest : List (List ℕ))
       → length w.instructions + (string_count units (table emitter.tables.now) emitter.unicode icase s + 2)

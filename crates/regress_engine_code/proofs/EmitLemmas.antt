@@ -22,7 +22,7 @@ use Rattle.regress_front_nodes.specs.TreeMeaning.{bracket_has}
 use Rattle.regress_engine_insn.specs.Counts.{count}
 use Rattle.regress_engine_insn.specs.Instructions.{Instruction, Program, Stands, StandFrom}
 use Rattle.regress_engine_insn.specs.Instructions as code
-use Rattle.regress_engine_insn.specs.Layout.{Spot, next, later, chunks, byte_set_code}
+use Rattle.regress_engine_insn.specs.Layout.{ProgramPoint, next, later, chunks, byte_set_code}
 use Rattle.regress_engine_code.specs.Written.{Written, end, with, Has, Keeps, AddsTree, MayRefuse}
 use Rattle.regress_engine_code.specs.Emitting.{anchor_code}
 use Rattle.regress_engine_insn.proofs.LiteralLemmas.{one-character, literal-alone}
@@ -140,7 +140,7 @@ module _ (units : Bool) (table : Table) (unicode : Bool) where
         lie = λ program units' has. (
           code.bracket k,
           has.brackets k (inverted, intervals) (adds.kept.brackets k (inverted, intervals) there),
-          subst (λ (p : Spot). Stands program p.address (code.bracket k) × (end w' ≡ next p)) same
-              (adds.lie program units' (subst (λ n. Has program n w') (sym (ap (λ (p : Spot). p.address) same)) has)),
+          subst (λ (p : ProgramPoint). Stands program p.address (code.bracket k) × (end w' ≡ next p)) same
+              (adds.lie program units' (subst (λ n. Has program n w') (sym (ap (λ (p : ProgramPoint). p.address) same)) has)),
         );
       }

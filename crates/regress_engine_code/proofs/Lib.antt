@@ -5,5 +5,5 @@ pub mod EmitLemmas
 pub mod PieceLemmas
 pub mod JumpLemmas
 pub mod ArmLemmas
-pub mod AheadLemmas
+pub mod MayBeginLemmas
 pub mod StandingLemmas

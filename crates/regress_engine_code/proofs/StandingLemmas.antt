@@ -10,7 +10,7 @@ use Rattle.regress_front_nodes.specs.WellFormed.{AreLawful, IsWellFormed, group_
 use Rattle.regress_front_nodes.specs.Sizes.{loops}
 use Rattle.regress_engine_insn.specs.Counts.{count}
 use Rattle.regress_engine_insn.specs.Instructions.{Instruction, Program}
-use Rattle.regress_engine_insn.specs.Layout.{Spot, Lies, IsLayout}
+use Rattle.regress_engine_insn.specs.Layout.{ProgramPoint, Lies, IsLayout}
 use Rattle.regress_engine_code.specs.Written.{Written, AddsTree}
 use Rattle.regress_engine_code.proofs.AddLemmas.{AddsTree-counted}
 
@@ -107,8 +107,8 @@ whole-layout units table unicode n t start w program from adds same instructions
       brackets = λ k x h. ap (λ (bs : List (Bool × List (ℕ × ℕ))). slice_get bs k) brackets ∙ h;
     }) in
     record {
-      lies = subst (λ (q : Spot). Lies (record { program = program; table = table; unicode = unicode }) false t (record { address = 0; loops = 0 }) q)
-          (ap₂ (λ (is : List Instruction) (l : ℕ). let q : Spot = record { address = length is; loops = l } in q) (sym instructions) (sym loops)) lies;
+      lies = subst (λ (q : ProgramPoint). Lies (record { program = program; table = table; unicode = unicode }) false t (record { address = 0; loops = 0 }) q)
+          (ap₂ (λ (is : List Instruction) (l : ℕ). let q : ProgramPoint = record { address = length is; loops = l } in q) (sym instructions) (sym loops)) lies;
       groups = groups;
     }
 

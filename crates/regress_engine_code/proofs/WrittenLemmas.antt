@@ -4,7 +4,7 @@ use Rattle.std.proofs.Common.{sym, ◌≡◌, ℕ, zero, suc, ◌+◌, ◌-◌, 
 use Rattle.std.proofs.lemmas.List.{append-nil, length-set}
 use Rattle.std.proofs.lemmas.Option.{slice_get_within}
 use Rattle.regress_engine_insn.specs.Instructions.{Instruction, reset_group, Program, Stands, StandFrom}
-use Rattle.regress_engine_insn.specs.Layout.{Spot, later, resets}
+use Rattle.regress_engine_insn.specs.Layout.{ProgramPoint, later, resets}
 use Rattle.regress_engine_code.specs.Written.{Written, end, with, changed, Has, Keeps}
 
 -- ---- lists
@@ -104,7 +104,7 @@ StandFrom-with program w is has =
     (λ k i h. has.instructions (length w.instructions + k) i (omega arith) (get-back w.instructions is k i h))
 
 pub end-with : (w : Written) (is : List Instruction) → end (with w is) ≡ later (end w) (length is)
-end-with w is = ap (λ (n : ℕ). let p : Spot = record { address = n; loops = w.loops } in p) (length-append w.instructions is)
+end-with w is = ap (λ (n : ℕ). let p : ProgramPoint = record { address = n; loops = w.loops } in p) (length-append w.instructions is)
 
 -- ---- more instructions at once
 

@@ -1,4 +1,4 @@
-pub mod Ahead
+pub mod MayBegin
 pub mod Written
 pub mod Laid
 pub mod Emitting

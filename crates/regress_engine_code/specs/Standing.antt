@@ -11,7 +11,7 @@ use Rattle.regress_front_nodes.specs.Sizes.{loops}
 use Rattle.regress_front_nodes.specs.declared.ir.Regex.{Regex}
 use Rattle.regress_engine_code.specs.declared.compiled.CompiledRegex.{CompiledRegex}
 use Rattle.regress_engine_insn.specs.Instructions.{Program, begins_loop}
-use Rattle.regress_engine_code.specs.Ahead.{may_stand}
+use Rattle.regress_engine_code.specs.MayBegin.{may_begin_with}
 use Rattle.regress_engine_insn.specs.Counts.{count}
 use Rattle.regress_engine_insn.specs.Layout.{Target, IsLayout}
 use Rattle.regress_engine_insn.specs.ProgramViews.{program_from, target_from}
@@ -29,9 +29,9 @@ target_of compiled = target_from (program_of compiled) compiled.tables compiled.
 abbrev pub names_of : CompiledRegex → List (List ℕ)
 names_of compiled = map string_bytes (arc_slice_items compiled.group_names)
 
--- by what a program tells of an address, this byte does not stand ahead where something is led to
-abbrev pub lacks : CompiledRegex → (at b : ℕ) → Bool
-lacks compiled at b = not (may_stand compiled.ahead.items at b)
+-- by what a program tells of an address, no match from there begins with this byte
+abbrev pub cannot_begin_with : CompiledRegex → (at b : ℕ) → Bool
+cannot_begin_with compiled at b = not (may_begin_with compiled.first_bytes.items at b)
 
 -- how many instructions a program of a tree has, in units or in bytes
 abbrev pub length_for : (units : Bool) → Regex → ℕ
@@ -58,4 +58,4 @@ pub record IsCopyOf (compiled copy : CompiledRegex) : Type 0 where
   pub start : IsSameStart compiled.start_pred copy.start_pred
   pub flags : copy.flags ≡ compiled.flags
   pub tables : known_by copy.tables ≡ known_by compiled.tables
-  pub lacks : (at b : ℕ) → lacks copy at b ≡ lacks compiled at b
+  pub cannot_begin_with : (at b : ℕ) → cannot_begin_with copy at b ≡ cannot_begin_with compiled at b

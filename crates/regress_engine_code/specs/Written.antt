@@ -7,7 +7,7 @@ use Rattle.regress_front_nodes.specs.Trees.{Tree}
 use Rattle.regress_engine_code.specs.declared.code.Code.{Code}
 use Rattle.regress_engine_insn.specs.Instructions.{Instruction, jump, Program, Stands}
 use Rattle.regress_engine_insn.specs.InsnViews.{instruction}
-use Rattle.regress_engine_insn.specs.Layout.{Spot, Lies}
+use Rattle.regress_engine_insn.specs.Layout.{ProgramPoint, Lies}
 use Rattle.regress_engine_insn.specs.ProgramViews.{bracket_ends}
 
 -- The instructions and brackets so far, and how many loops begin in them.
@@ -24,8 +24,8 @@ written code = record {
   loops = code.loops;
 }
 
--- the spot behind it
-abbrev pub end : Written → Spot
+-- the program point behind it
+abbrev pub end : Written → ProgramPoint
 end w = record { address = length w.instructions; loops = w.loops }
 
 -- with more instructions
@@ -52,8 +52,8 @@ pub record Keeps (old new : Written) : Type 0 where
   pub instructions : (k : ℕ) (i : Instruction) → slice_get old.instructions k ≡ Some i → slice_get new.instructions k ≡ Some i
   pub brackets : (k : ℕ) (x : Bool × List (ℕ × ℕ)) → slice_get old.brackets k ≡ Some x → slice_get new.brackets k ≡ Some x
 
--- What was written is kept, and behind it is written what lies thus between its spots, in any program that has it.
-pub record Adds (units : Bool) (lies : Program → Spot → Spot → Type 0) (old new : Written) : Type 0 where
+-- What was written is kept, and behind it is written what lies thus between its program points, in any program that has it.
+pub record Adds (units : Bool) (lies : Program → ProgramPoint → ProgramPoint → Type 0) (old new : Written) : Type 0 where
   pub kept : Keeps old new
   pub lie : (program : Program) → program.units ≡ units → Has program (length old.instructions) new → lies program (end old) (end new)
 

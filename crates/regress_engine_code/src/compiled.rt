@@ -1,7 +1,7 @@
 //! Programs as they are handed out.
 ghost use Rattle.std.specs.Prelude.{◌≡◌, IfOk, IfErr};
 ghost use Rattle.std.specs.Arc.{arc_slice_items};
-ghost use Rattle.regress_engine_code.specs.Ahead.{AreAhead};
+ghost use Rattle.regress_engine_code.specs.MayBegin.{AreFirstBytes};
 ghost use Rattle.regress_engine_insn.specs.ProgramViews.{program_from, target_from};
 ghost use Rattle.regress_engine_code.specs.Laid.{IsLaid};
 
@@ -28,14 +28,14 @@ pub struct CompiledRegex {
     pub(crate) flags: Flags,
     pub(crate) tables: Tables,
     pub(crate) units: bool,
-    /// Of a program of bytes, for each address the bytes that may stand ahead; of units nothing.
-    pub(crate) ahead: Vec<ByteBitmap>,
+    /// Of a program of bytes, for each address the bytes with which a match from there may begin; of units nothing.
+    pub(crate) first_bytes: Vec<ByteBitmap>,
     pub(crate) ghost laid: { ∥ IsLaid (target_from (program_from insns.items brackets.items loops groups units) tables flags) start_pred ∥₁ },
-    pub(crate) ghost told: { AreAhead (program_from insns.items brackets.items loops groups units) ahead.items },
+    pub(crate) ghost told: { AreFirstBytes (program_from insns.items brackets.items loops groups units) first_bytes.items },
 }
 
 impl CompiledRegex {
-    ghost use Rattle.regress_engine_code.specs.Standing.{IsCopyOf, lacks};
+    ghost use Rattle.regress_engine_code.specs.Standing.{IsCopyOf, cannot_begin_with};
 
     /// The instructions. An address is an index into them, and the program begins at 0: `program.insns()[0]` is done first.
     pub fn insns(&self) -> &[Insn]
@@ -52,7 +52,7 @@ impl CompiledRegex {
     }
 
     /// Where a match may begin, told by the bytes there; of a program of units `StartAnchored` or `Arbitrary`. An executor looks
-    /// for it by `Seeker::new(program.start_pred())`.
+    /// for it by `Prefilter::new(program.start_pred())`.
     pub fn start_pred(&self) -> &StartPredicate
         ensures { result.now ≡ self.now.start_pred }
     {
@@ -109,18 +109,18 @@ impl CompiledRegex {
         self.units
     }
 
-    /// Whether nothing is led to from an address on, read forward, where a byte stands ahead: in a program of bytes each thing
+    /// Whether no match can be reached from an address on, read forward, where a byte stands ahead: in a program of bytes each thing
     /// that is taken first from there on begins otherwise, as far as is told without going back to an earlier address. Of
     /// characters beyond ASCII only those in literals are told apart. Of `ab|[c-e]` at address 0 that holds of the byte `x`.
     ///
     /// ```rust
-    /// let nowhere = program.lacks(0, b'x');
+    /// let nowhere = program.cannot_begin_with(0, b'x');
     /// ```
     #[inline(always)]
-    pub fn lacks(&self, at: usize, byte: u8) -> bool
-        ensures { result ≡ lacks self.now at byte }
+    pub fn cannot_begin_with(&self, at: usize, byte: u8) -> bool
+        ensures { result ≡ cannot_begin_with self.now at byte }
     {
-        at < self.ahead.len() && !self.ahead[at].contains(byte)
+        at < self.first_bytes.len() && !self.first_bytes[at].contains(byte)
     }
 
     /// The same program once more. It errs with `OutOfMemory` alone.
@@ -142,7 +142,7 @@ impl CompiledRegex {
             flags: self.flags,
             tables: self.tables.try_clone()?,
             units: self.units,
-            ahead: self.ahead.to_vec(alloc)?,
+            first_bytes: self.first_bytes.to_vec(alloc)?,
         })
     }
 }

@@ -1,12 +1,12 @@
 //! Programs as they are handed out, and how a tree becomes one.
 #![tactic(auto)]
 
-mod ahead;
 mod brackets;
 mod code;
 mod compiled;
 mod emission;
 mod emitter;
+mod first_bytes;
 mod leaves;
 mod strings;
 

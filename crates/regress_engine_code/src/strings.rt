@@ -87,7 +87,7 @@ impl<'u> Emitter<'u> {
         Ok(insns)
     }
 
-    /// Writes all strings but the last, each with a way to the next and a place for the jump to the end, whose addresses are
+    /// Writes all strings but the last, each with a branch to the next and a place for the jump to the end, whose addresses are
     /// the answer.
     fn arms(
         &self,

@@ -8,10 +8,10 @@ use Rattle.regress_engine_insn.specs.Instructions.{Instruction, Program, Stands}
 use Rattle.regress_engine_insn.specs.Instructions as code
 use Rattle.regress_engine_runs.specs.States.{Marks, Whole}
 use Rattle.regress_engine_runs.specs.Runs.{advance, after_times, as_far, one_by_one, given_back, counted, successors}
-use Rattle.regress_engine_sought.specs.Ready.{IsBody}
-use Rattle.regress_engine_sought.specs.Sought.{Suits}
-use Rattle.regress_engine_sought.proofs.InsnLemmas.{single-successors}
-use Rattle.regress_engine_sought.proofs.GivenBack.{given-back}
+use Rattle.regress_engine_search.specs.Ready.{IsBody}
+use Rattle.regress_engine_search.specs.Search.{Suits}
+use Rattle.regress_engine_search.proofs.InsnLemmas.{single-successors}
+use Rattle.regress_engine_search.proofs.GivenBack.{given-back}
 
 -- ---- offsets, one by one
 

@@ -1,15 +1,15 @@
 -- A goal is left.
 use Rattle.std.proofs.Common.{◌≡◌, true, false, List, [], ◌∷◌, Some, None, refl, ap, ◌∙◌, subst}
 use Rattle.regress_meaning.specs.Inputs.{Input}
-use Rattle.regress_engine_input.specs.Views.{way}
+use Rattle.regress_engine_input.specs.Views.{direction_of}
 use Rattle.regress_engine_insn.specs.Instructions.{Program, Stands, goal}
 use Rattle.regress_engine_runs.specs.States.{Whole, mixed}
 use Rattle.regress_engine_runs.specs.Runs.{after_submatch}
 use Rattle.regress_engine_runs.specs.UndoStack.{Frame}
-use Rattle.regress_engine_sought.specs.Tasks.{Leads, ComesAs, outside_of}
-use Rattle.regress_engine_sought.proofs.TaskLemmas.{leads-then, leads-found, ends-outermost, outside-first}
-use Rattle.regress_engine_sought.specs.Submatches.{submatch_of, is_negated, end_offset}
-use Rattle.regress_engine_sought.proofs.SubmatchLemmas.{after-negated, after-some}
+use Rattle.regress_engine_search.specs.Tasks.{Leads, ComesAs, outside_of}
+use Rattle.regress_engine_search.proofs.TaskLemmas.{leads-then, leads-found, ends-outermost, outside-first}
+use Rattle.regress_engine_search.specs.Submatches.{submatch_of, is_negated, end_offset}
+use Rattle.regress_engine_search.proofs.SubmatchLemmas.{after-negated, after-some}
 use Rattle.regress_engine_copying.specs.declared.stack.Frame as stack
 use Rattle.regress_engine_copying.specs.Held.{tried, submatched, Held, frame_of, pushed, put}
 use Rattle.regress_engine_copying.specs.Tasks.{work_of, task_of}
@@ -34,7 +34,7 @@ none-outside h none = ap (λ es. outside_of (work_of es)) none
 module _ (program : Program) (input : Input) (t : Whole) (h : Held) (here : Stands program t.at goal) where
   -- the whole program is left
   pub leaves-all : (k : Held) → Unwinds h None k → ComesAs program input (task_of (t ∷ []) h) t
-  leaves-all k unwinds n r come = ends-outermost program input (way h.forward) t (work_of h.entries) unwinds here n r come
+  leaves-all k unwinds n r come = ends-outermost program input (direction_of h.forward) t (work_of h.entries) unwinds here n r come
 
   -- a lookaround or an atomic group is left
   leaves-found : (f : stack.Frame) (s : Whole) (k : Held) (ss : List Whole) → Unwinds h (Some (frame_of f s, s)) k
@@ -42,7 +42,7 @@ module _ (program : Program) (input : Input) (t : Whole) (h : Held) (here : Stan
       → Leads program input 1 (task_of (t ∷ []) h) (task_of ss (record k { forward = f.forward }))
   leaves-found f s k ss unwinds e =
       subst (λ x. Leads program input 1 (task_of (t ∷ []) h) (task_of x (record k { forward = f.forward }))) e
-      (leads-found program input (way h.forward) t (work_of h.entries) (frame_of f s, s, work_of k.entries) unwinds here)
+      (leads-found program input (direction_of h.forward) t (work_of h.entries) (frame_of f s, s, work_of k.entries) unwinds here)
 
   -- a negated one fails
   pub leaves-negated : (f : stack.Frame) (s : Whole) (k : Held) → Unwinds h (Some (frame_of f s, s)) k → is_negated (submatch_of f.kind) ≡ true

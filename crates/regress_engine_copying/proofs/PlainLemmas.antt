@@ -8,8 +8,8 @@ use Rattle.regress_engine_insn.specs.declared.insn.Insn.{Insn}
 use Rattle.regress_engine_insn.specs.declared.insn.Insn.TheVariants.{Goal, Lookahead, Lookbehind, Atomic}
 use Rattle.regress_engine_runs.specs.States.{Whole}
 use Rattle.regress_engine_runs.specs.Runs.{advance, is_plain, moved_to, successors}
-use Rattle.regress_engine_sought.specs.Ready.{is_simple}
-use Rattle.regress_engine_sought.proofs.InsnLemmas.{simple-successors}
+use Rattle.regress_engine_search.specs.Ready.{is_simple}
+use Rattle.regress_engine_search.proofs.InsnLemmas.{simple-successors}
 use Rattle.regress_engine_copying.proofs.StateLemmas.{next-is}
 
 module _ (program : Program) (input : Input) (i : Instruction) (dir : Direction) (s : Whole) (simple : is_simple i ≡ true) where

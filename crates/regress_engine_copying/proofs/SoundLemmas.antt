@@ -9,7 +9,7 @@ use Rattle.regress_engine_insn.specs.Instructions as code
 use Rattle.regress_engine_runs.specs.States.{Whole, onward, first_state, unset}
 use Rattle.regress_engine_runs.specs.Runs.{advance, successors, choices, ordered, counted, is_idle, moved_to, fields_of, one_more}
 use Rattle.regress_engine_runs.specs.UndoStack.{Frame}
-use Rattle.regress_engine_sought.specs.Tasks.{HasGroups}
+use Rattle.regress_engine_search.specs.Tasks.{HasGroups}
 use Rattle.regress_engine_copying.specs.Held.{Entry, tried, submatched, Held, pushed, put}
 use Rattle.regress_engine_copying.specs.Sound.{IsWhole, AreSound}
 

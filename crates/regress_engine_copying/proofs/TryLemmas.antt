@@ -2,14 +2,14 @@
 use Rattle.std.proofs.Common.{◌≡◌, ℕ, true, [], ◌∷◌, Option, Some, None, refl, sym, subst}
 use Rattle.regress_meaning.specs.Meaning.{Forward}
 use Rattle.regress_meaning.specs.Steps.{passed}
-use Rattle.regress_engine_input.specs.Views.{View, way, input_of, reading_of}
+use Rattle.regress_engine_input.specs.Views.{View, direction_of, input_of, reading_of}
 use Rattle.regress_engine_insn.specs.Instructions.{Program}
 use Rattle.regress_engine_runs.specs.States.{Whole, first_state}
 use Rattle.regress_engine_runs.specs.Computed.{IsComputed}
 use Rattle.regress_engine_runs.specs.UndoStack.{ReadOn, outermost}
-use Rattle.regress_engine_sought.specs.Tasks.{Leads, IsTried}
-use Rattle.regress_engine_sought.specs.Answering.{IsAnswer}
-use Rattle.regress_engine_sought.proofs.TaskLemmas.{leads-then, leads-later, tried-first, tried-fails, tried-on}
+use Rattle.regress_engine_search.specs.Tasks.{Leads, IsTried}
+use Rattle.regress_engine_search.specs.Answering.{IsAnswer}
+use Rattle.regress_engine_search.proofs.TaskLemmas.{leads-then, leads-later, tried-first, tried-fails, tried-on}
 use Rattle.regress_engine_copying.specs.Held.{Held, tried}
 use Rattle.regress_engine_copying.specs.Tasks.{work_of, task_of}
 
@@ -35,7 +35,7 @@ module _ (program : Program) (v : View) (start : ℕ) (ends : IsComputed program
   pub trying-fails : (h : Held) → IsTried program v ends.0.0 ends.0.1 (task_of [] h) → h.entries ≡ [] → IsAnswer program (input_of v) start None []
   unfolding work_of
   trying-fails h trying empty =
-      tried-fails program v start ends _ [] (subst (λ es. IsTried program v ends.0.0 ends.0.1 (record { dir = way h.forward; states = []; work = work_of es })) empty trying)
+      tried-fails program v start ends _ [] (subst (λ es. IsTried program v ends.0.0 ends.0.1 (record { dir = direction_of h.forward; states = []; work = work_of es })) empty trying)
 
 -- a state was taken off, and a step done
 module _ (program : Program) (v : View) (s : Whole) (h j k : Held) where

@@ -1,9 +1,9 @@
 -- What waits on the executor's stack, as the definitions have it.
 use Rattle.std.specs.Prelude.{Bool, List, ◌∷◌, ◌++◌, map, reverse}
-use Rattle.regress_engine_input.specs.Views.{way}
+use Rattle.regress_engine_input.specs.Views.{direction_of}
 use Rattle.regress_engine_runs.specs.States.{Whole}
 use Rattle.regress_engine_runs.specs.UndoStack.{Frame}
-use Rattle.regress_engine_sought.specs.Submatches.{submatch_of}
+use Rattle.regress_engine_search.specs.Submatches.{submatch_of}
 use Rattle.regress_engine_copying.specs.declared.stack.Frame as code
 use Rattle.regress_engine_copying.specs.declared.stack.Pending.{Pending}
 use Rattle.regress_engine_copying.specs.declared.stack.Pending.TheVariants.{Tried, Submatch}
@@ -26,7 +26,7 @@ frame_of f s = record {
   continuation = f.continuation;
   at = s.at;
   offset = s.offset;
-  outside = way f.forward;
+  outside = direction_of f.forward;
 }
 
 -- what waits

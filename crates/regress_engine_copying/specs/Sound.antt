@@ -2,7 +2,7 @@
 use Rattle.std.specs.Prelude.{◌≡◌, List, [], ◌∷◌, length, Option, IfSome}
 use Rattle.regress_engine_insn.specs.Instructions.{Program}
 use Rattle.regress_engine_runs.specs.States.{Whole}
-use Rattle.regress_engine_sought.specs.Tasks.{HasGroups}
+use Rattle.regress_engine_search.specs.Tasks.{HasGroups}
 use Rattle.regress_engine_copying.specs.Held.{Entry, tried, submatched, Held}
 
 -- A state has the program's loops and groups.

@@ -1,7 +1,7 @@
 -- What a state of the executor is to the definitions.
 use Rattle.std.specs.Prelude.{List, [], Option, Some, None, map}
 use Rattle.regress_engine_runs.specs.States.{Marks, Whole}
-use Rattle.regress_engine_sought.specs.StateViews.{loop_of, marks_of}
+use Rattle.regress_engine_search.specs.StateViews.{loop_of, marks_of}
 use Rattle.regress_engine_copying.specs.declared.state.State.{State}
 
 -- a state

@@ -4,14 +4,14 @@ use Rattle.regress_meaning.specs.Inputs.{Input}
 use Rattle.regress_engine_insn.specs.Instructions.{Program, Stands, goal}
 use Rattle.regress_engine_runs.specs.States.{Whole}
 use Rattle.regress_engine_runs.specs.UndoStack.{Frame}
-use Rattle.regress_engine_sought.specs.Tasks.{Leads, ComesAs, outside_of}
+use Rattle.regress_engine_search.specs.Tasks.{Leads, ComesAs, outside_of}
 use Rattle.regress_engine_copying.specs.declared.stack.Frame as code
 use Rattle.regress_engine_copying.specs.declared.state.State.{State}
 use Rattle.regress_engine_copying.specs.StateOf.{state_of}
 use Rattle.regress_engine_copying.specs.Held.{Held, frame_of}
 use Rattle.regress_engine_copying.specs.Tasks.{work_of, task_of}
 
--- A step from a state: it has come to that state as the answer, or what waits is gone on with.
+-- A step from a state: it has come to that state as the answer, or what waits is continued.
 abbrev pub Steps : Program → Input → Whole → Held → Option Whole → Held → Type 0
 Steps program input s h None k = Leads program input 1 (task_of (s ∷ []) h) (task_of [] k)
 Steps program input s h (Some t) k = (t ≡ s) × ComesAs program input (task_of (s ∷ []) h) s

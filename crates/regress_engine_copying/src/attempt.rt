@@ -9,8 +9,8 @@ ghost use Rattle.regress_engine_runs.specs.States.{first_state};
 ghost use Rattle.regress_engine_runs.specs.Computed.{IsComputed};
 ghost use Rattle.regress_engine_runs.specs.UndoStack.{ReadOn, outermost};
 ghost use Rattle.regress_engine_runs.proofs.OneAnswer.{IsComputed-prop};
-ghost use Rattle.regress_engine_sought.specs.Answering.{IsAnswer};
-ghost use Rattle.regress_engine_sought.specs.Sought.{Suits};
+ghost use Rattle.regress_engine_search.specs.Answering.{IsAnswer};
+ghost use Rattle.regress_engine_search.specs.Search.{Suits};
 ghost use Rattle.regress_engine_copying.specs.StateOf.{groups_of};
 
 use crate::stack::Stack;

@@ -2,7 +2,7 @@
 use crate::search::PikeVMExecutor;
 use regress_engine_code::CompiledRegex;
 use regress_engine_inputs::{AsciiInput, Utf8Input};
-use regress_engine_sought::{AnyText, AsciiText, Executor};
+use regress_engine_search::{AnyText, AsciiText, Executor};
 use std::alloc::{AllocError, Global};
 
 impl<'t> Executor<'t> for PikeVMExecutor<'t, Utf8Input<'t, 't>> {

@@ -1,7 +1,7 @@
 //! How a goal is left: that of a lookaround or an atomic group, or that of the whole program.
 ghost use Rattle.std.specs.Prelude.{◌≡◌, [], option_map, IfOk, IfSome};
 ghost use Rattle.regress_engine_insn.specs.Instructions.{Program};
-ghost use Rattle.regress_engine_sought.specs.Tasks.{HasGroups};
+ghost use Rattle.regress_engine_search.specs.Tasks.{HasGroups};
 ghost use Rattle.regress_engine_copying.specs.StateOf.{state_of};
 ghost use Rattle.regress_engine_copying.specs.Held.{held, frame_of};
 ghost use Rattle.regress_engine_copying.specs.Sound.{IsWhole, AreSound};

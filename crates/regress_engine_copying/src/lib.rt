@@ -1,4 +1,4 @@
-//! The copying executor: it tries the ways through a program one after another, on a stack of whole states.
+//! The copying executor: it tries the paths through a program one after another, on a stack of whole states.
 #![tactic(auto)]
 
 mod attempt;
@@ -12,5 +12,5 @@ mod stack;
 mod state;
 mod step;
 
-pub use regress_engine_sought::{ExecutorInput, Shown};
+pub use regress_engine_search::{ExecutorInput, Shown};
 pub use search::PikeVMExecutor;

@@ -1,10 +1,10 @@
 //! The matches of a program in a text, one after another.
 ghost use Rattle.std.specs.Prelude.{◌≡◌, ◌<◌, None, IfOk, IfSome, OnErr};
 ghost use Rattle.regress_match.specs.Iterating.{Finds, steps_on};
-ghost use Rattle.regress_engine_sought.specs.Sought.{Sought, items_from, places_behind, IsPosition, IsStart, StartsAt, IsMatchOf, Steps};
+ghost use Rattle.regress_engine_search.specs.Search.{Search, items_from, places_behind, IsPosition, IsStart, StartsAt, IsMatchOf, Steps};
 
 use crate::search::PikeVMExecutor;
-use regress_engine_sought::{ExecutorInput, Shown};
+use regress_engine_search::{ExecutorInput, Shown};
 use regress_front_core::Error;
 use regress_match::{Match, MatchProducer};
 use std::alloc::AllocError;
@@ -23,11 +23,11 @@ impl<'r, Input: ExecutorInput> PikeVMExecutor<'r, Input> {
     /// }
     /// ```
     pub fn step(&mut self, position: &mut Option<usize>) -> Option<Result<Match, AllocError>>
-        requires { IfSome position.old (IsPosition (⟦<PikeVMExecutor<'r, Input> as MatchProducer>⟧.sought self.old)) }
-        ensures kept { ⟦<PikeVMExecutor<'r, Input> as MatchProducer>⟧.sought self.new ≡ ⟦<PikeVMExecutor<'r, Input> as MatchProducer>⟧.sought self.old }
-        ensures stepped { Steps (⟦<PikeVMExecutor<'r, Input> as MatchProducer>⟧.sought self.old) position.old result position.new }
-        ensures inside { IfSome position.new (IsPosition (⟦<PikeVMExecutor<'r, Input> as MatchProducer>⟧.sought self.old)) }
-        ensures nearer { IfSome result (λ _. steps_on (places_behind (⟦<PikeVMExecutor<'r, Input> as MatchProducer>⟧.sought self.old)) position.new < steps_on (places_behind (⟦<PikeVMExecutor<'r, Input> as MatchProducer>⟧.sought self.old)) position.old) }
+        requires { IfSome position.old (IsPosition (⟦<PikeVMExecutor<'r, Input> as MatchProducer>⟧.search_of self.old)) }
+        ensures kept { ⟦<PikeVMExecutor<'r, Input> as MatchProducer>⟧.search_of self.new ≡ ⟦<PikeVMExecutor<'r, Input> as MatchProducer>⟧.search_of self.old }
+        ensures stepped { Steps (⟦<PikeVMExecutor<'r, Input> as MatchProducer>⟧.search_of self.old) position.old result position.new }
+        ensures inside { IfSome position.new (IsPosition (⟦<PikeVMExecutor<'r, Input> as MatchProducer>⟧.search_of self.old)) }
+        ensures nearer { IfSome result (λ _. steps_on (places_behind (⟦<PikeVMExecutor<'r, Input> as MatchProducer>⟧.search_of self.old)) position.new < steps_on (places_behind (⟦<PikeVMExecutor<'r, Input> as MatchProducer>⟧.search_of self.old)) position.old) }
         ensures ended { position.old ≡ None → result ≡ None }
     {
         let from = position.take()?;
@@ -41,18 +41,18 @@ impl<'r, Input: ExecutorInput> PikeVMExecutor<'r, Input> {
         position: usize,
         next: &mut Option<usize>,
     ) -> Result<Option<Match>, AllocError>
-        requires { IsPosition (⟦<PikeVMExecutor<'r, Input> as MatchProducer>⟧.sought self.old) position }
-        ensures kept { ⟦<PikeVMExecutor<'r, Input> as MatchProducer>⟧.sought self.new ≡ ⟦<PikeVMExecutor<'r, Input> as MatchProducer>⟧.sought self.old }
-        ensures found { IfOk result (λ found. Finds (items_from (⟦<PikeVMExecutor<'r, Input> as MatchProducer>⟧.sought self.old)) (IsMatchOf (⟦<PikeVMExecutor<'r, Input> as MatchProducer>⟧.sought self.old)) position found next.new) }
-        ensures inside { IfSome next.new (IsPosition (⟦<PikeVMExecutor<'r, Input> as MatchProducer>⟧.sought self.old)) }
-        ensures nearer { IfSome next.new (λ p. places_behind (⟦<PikeVMExecutor<'r, Input> as MatchProducer>⟧.sought self.old) p < places_behind (⟦<PikeVMExecutor<'r, Input> as MatchProducer>⟧.sought self.old) position) }
+        requires { IsPosition (⟦<PikeVMExecutor<'r, Input> as MatchProducer>⟧.search_of self.old) position }
+        ensures kept { ⟦<PikeVMExecutor<'r, Input> as MatchProducer>⟧.search_of self.new ≡ ⟦<PikeVMExecutor<'r, Input> as MatchProducer>⟧.search_of self.old }
+        ensures found { IfOk result (λ found. Finds (items_from (⟦<PikeVMExecutor<'r, Input> as MatchProducer>⟧.search_of self.old)) (IsMatchOf (⟦<PikeVMExecutor<'r, Input> as MatchProducer>⟧.search_of self.old)) position found next.new) }
+        ensures inside { IfSome next.new (IsPosition (⟦<PikeVMExecutor<'r, Input> as MatchProducer>⟧.search_of self.old)) }
+        ensures nearer { IfSome next.new (λ p. places_behind (⟦<PikeVMExecutor<'r, Input> as MatchProducer>⟧.search_of self.old) p < places_behind (⟦<PikeVMExecutor<'r, Input> as MatchProducer>⟧.search_of self.old) position) }
         ensures last { OnErr result (next.new ≡ None) }
     {
         *next = None;
         let Some(found) = self.find_from(position)? else {
             return Ok(None);
         };
-        *next = self.subject.goes_on(&found);
+        *next = self.context.goes_on(&found);
         Ok(Some(found))
     }
 }
@@ -60,9 +60,9 @@ impl<'r, Input: ExecutorInput> PikeVMExecutor<'r, Input> {
 impl<'r, Input: ExecutorInput> MatchProducer for PikeVMExecutor<'r, Input> {
     type Position = usize;
 
-    ghost Sought = { Sought };
+    ghost Search = { Search };
 
-    ghost sought = { λ e. record { compiled = e.subject.program.now; view = Input.shown e.subject.input; sought = e.subject.sought } };
+    ghost search_of = { λ e. record { compiled = e.context.program.now; view = Input.shown e.context.input; searchable = e.context.searchable } };
 
     ghost is_position = { IsPosition };
 
@@ -78,7 +78,7 @@ impl<'r, Input: ExecutorInput> MatchProducer for PikeVMExecutor<'r, Input> {
 
     /// The offset itself; `None` for an offset past the end.
     fn initial_position(&self, offset: usize) -> Option<usize> {
-        (offset <= self.subject.text_len()).then_some(offset)
+        (offset <= self.context.text_len()).then_some(offset)
     }
 
     /// The first match from an offset on, and in `next` the offset to go on from ("RegExpBuiltinExec").

@@ -6,8 +6,8 @@ ghost use Rattle.regress_engine_code.specs.Standing.{names_of, program_of};
 ghost use Rattle.regress_engine_input.specs.Views.{input_of, reading_of};
 ghost use Rattle.regress_engine_runs.specs.Items.{Finds};
 ghost use Rattle.regress_engine_runs.specs.Meets.{IsAtPlace};
-ghost use Rattle.regress_engine_sought.specs.Answering.{IsFound, IsOutcome};
-ghost use Rattle.regress_engine_sought.specs.Sought.{IsMadeOf, IsItemAtPlaces};
+ghost use Rattle.regress_engine_search.specs.Answering.{IsFound, IsOutcome};
+ghost use Rattle.regress_engine_search.specs.Search.{IsMadeOf, IsItemAtPlaces};
 ghost use Rattle.regress_engine_copying.specs.StateOf.{groups_of};
 
 use crate::attempt::Attempt;
@@ -15,7 +15,7 @@ use crate::stack::Stack;
 use crate::state::State;
 use regress_engine_advance::any;
 use regress_engine_code::CompiledRegex;
-use regress_engine_sought::{ExecutorInput, Shown, Subject, captures};
+use regress_engine_search::{ExecutorInput, SearchContext, Shown, captures};
 use regress_match::{Match, MatchProducer};
 use std::alloc::{AllocError, Global};
 
@@ -24,7 +24,7 @@ use std::alloc::{AllocError, Global};
 #[derive(Debug, Drop)]
 pub struct PikeVMExecutor<'r, Input: Shown> {
     alloc: Global,
-    pub(crate) subject: Subject<'r, Input>,
+    pub(crate) context: SearchContext<'r, Input>,
     stack: Stack,
     ends: Vec<usize>,
 }
@@ -40,12 +40,12 @@ impl<'r, Input: ExecutorInput> PikeVMExecutor<'r, Input> {
     /// ```
     pub fn with_input(alloc: Global, program: &'r CompiledRegex, input: Input) -> Self
         requires made { IsMadeOf program.now (Input.view input) }
-        ensures program { (⟦<PikeVMExecutor<'r, Input> as MatchProducer>⟧.sought result).compiled ≡ program.entry.now }
-        ensures text { (⟦<PikeVMExecutor<'r, Input> as MatchProducer>⟧.sought result).view ≡ Input.view input }
+        ensures program { (⟦<PikeVMExecutor<'r, Input> as MatchProducer>⟧.search_of result).compiled ≡ program.entry.now }
+        ensures text { (⟦<PikeVMExecutor<'r, Input> as MatchProducer>⟧.search_of result).view ≡ Input.view input }
     {
         PikeVMExecutor {
             alloc,
-            subject: Subject::new(program, input),
+            context: SearchContext::new(program, input),
             stack: Stack::new(alloc),
             ends: Vec::new(alloc),
         }
@@ -54,15 +54,15 @@ impl<'r, Input: ExecutorInput> PikeVMExecutor<'r, Input> {
     /// Searches from an offset on, where the text goes on as the program's start predicate says. It answers the offset from
     /// which the first run has an answer, and the state that is the answer.
     fn search(&mut self, offset: usize) -> Result<Option<(usize, State)>, AllocError>
-        requires { IsAtPlace (reading_of (Input.view self.old.subject.input)) offset }
-        ensures found { IfOk result (λ found. IsFound (program_of self.old.subject.program.now) (input_of (Input.view self.old.subject.input)) offset (option_map (λ x. (x.0, x.1.offset)) found) (groups_of (option_map (λ x. x.1) found))) }
-        ensures kept { self.new.subject ≡ self.old.subject }
+        requires { IsAtPlace (reading_of (Input.view self.old.context.input)) offset }
+        ensures found { IfOk result (λ found. IsFound (program_of self.old.context.program.now) (input_of (Input.view self.old.context.input)) offset (option_map (λ x. (x.0, x.1.offset)) found) (groups_of (option_map (λ x. x.1) found))) }
+        ensures kept { self.new.context ≡ self.old.context }
     {
-        let program = self.subject.program;
-        let input = self.subject.input;
+        let program = self.context.program;
+        let input = self.context.input;
         let mut from = offset;
         'places: loop {
-            let Some(start) = self.subject.next_start(from) else {
+            let Some(start) = self.context.next_start(from) else {
                 return Ok(None);
             };
             let attempt = Attempt {
@@ -90,17 +90,17 @@ impl<'r, Input: ExecutorInput> PikeVMExecutor<'r, Input> {
     /// let found = executor.find_from(0)?;
     /// ```
     pub fn find_from(&mut self, offset: usize) -> Result<Option<Match>, AllocError>
-        requires { IsAtPlace (reading_of (Input.view self.old.subject.input)) offset }
-        ensures found { IfOk result (λ found. Finds (program_of self.old.subject.program.now) (input_of (Input.view self.old.subject.input)) offset (option_map item_of found)) }
-        ensures inside { IfOk result (λ found. IfSome found (λ m. IsItemAtPlaces (reading_of (Input.view self.old.subject.input)) (item_of m))) }
-        ensures named { IfOk result (λ found. IfSome found (λ m. names_of_match m ≡ names_of self.old.subject.program.now)) }
-        ensures kept { self.new.subject ≡ self.old.subject }
+        requires { IsAtPlace (reading_of (Input.view self.old.context.input)) offset }
+        ensures found { IfOk result (λ found. Finds (program_of self.old.context.program.now) (input_of (Input.view self.old.context.input)) offset (option_map item_of found)) }
+        ensures inside { IfOk result (λ found. IfSome found (λ m. IsItemAtPlaces (reading_of (Input.view self.old.context.input)) (item_of m))) }
+        ensures named { IfOk result (λ found. IfSome found (λ m. names_of_match m ≡ names_of self.old.context.program.now)) }
+        ensures kept { self.new.context ≡ self.old.context }
     {
         let Some((start, found)) = self.search(offset)? else {
             return Ok(None);
         };
         let captures = captures(self.alloc, &found.groups)?;
-        let names = self.subject.program.shared_group_names()?;
+        let names = self.context.program.shared_group_names()?;
         Ok(Some(Match::new(start..found.offset, captures, names)))
     }
 
@@ -114,22 +114,22 @@ impl<'r, Input: ExecutorInput> PikeVMExecutor<'r, Input> {
     /// let found = executor.match_at(3)?;
     /// ```
     pub fn match_at(&mut self, offset: usize) -> Result<Option<Match>, AllocError>
-        requires { IsAtPlace (reading_of (Input.view self.old.subject.input)) offset }
-        ensures outcome { IfOk result (λ found. IsOutcome (program_of self.old.subject.program.now) (input_of (Input.view self.old.subject.input)) offset (option_map item_of found)) }
-        ensures inside { IfOk result (λ found. IfSome found (λ m. IsItemAtPlaces (reading_of (Input.view self.old.subject.input)) (item_of m))) }
-        ensures named { IfOk result (λ found. IfSome found (λ m. names_of_match m ≡ names_of self.old.subject.program.now)) }
-        ensures kept { self.new.subject ≡ self.old.subject }
+        requires { IsAtPlace (reading_of (Input.view self.old.context.input)) offset }
+        ensures outcome { IfOk result (λ found. IsOutcome (program_of self.old.context.program.now) (input_of (Input.view self.old.context.input)) offset (option_map item_of found)) }
+        ensures inside { IfOk result (λ found. IfSome found (λ m. IsItemAtPlaces (reading_of (Input.view self.old.context.input)) (item_of m))) }
+        ensures named { IfOk result (λ found. IfSome found (λ m. names_of_match m ≡ names_of self.old.context.program.now)) }
+        ensures kept { self.new.context ≡ self.old.context }
     {
         let attempt = Attempt {
-            program: self.subject.program,
-            input: self.subject.input,
+            program: self.context.program,
+            input: self.context.input,
             start: offset,
         };
         let Some(found) = attempt.run(self.alloc, &mut self.stack, &mut self.ends)? else {
             return Ok(None);
         };
         let captures = captures(self.alloc, &found.groups)?;
-        let names = self.subject.program.shared_group_names()?;
+        let names = self.context.program.shared_group_names()?;
         Ok(Some(Match::new(offset..found.offset, captures, names)))
     }
 }

@@ -3,15 +3,15 @@ ghost use Rattle.std.specs.Prelude.{◌≡◌, ◌+◌, ◌^◌, ◌<◌, ◌∷
 ghost use Rattle.regress_meaning.specs.Inputs.{Input};
 ghost use Rattle.regress_engine_insn.specs.Instructions.{Program};
 ghost use Rattle.regress_engine_runs.specs.States.{onward};
-ghost use Rattle.regress_engine_sought.specs.Submatches.{submatch_of, reads_forward};
-ghost use Rattle.regress_engine_sought.specs.Tasks.{Leads};
+ghost use Rattle.regress_engine_search.specs.Submatches.{submatch_of, reads_forward};
+ghost use Rattle.regress_engine_search.specs.Tasks.{Leads};
 ghost use Rattle.regress_engine_copying.specs.StateOf.{state_of};
 ghost use Rattle.regress_engine_copying.specs.Held.{held, entry_of, frame_of, tried, submatched, pushed, put};
 ghost use Rattle.regress_engine_copying.specs.Tasks.{task_of};
 ghost use Rattle.regress_engine_copying.specs.Sound.{StaysSound};
 
 use crate::state::State;
-use regress_engine_sought::Submatch;
+use regress_engine_search::Submatch;
 use regress_front_core::CaptureGroupID;
 use std::alloc::{AllocError, Global};
 

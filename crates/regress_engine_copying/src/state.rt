@@ -1,10 +1,10 @@
 //! The states of a run.
 ghost use Rattle.std.specs.Prelude.{◌≡◌, ◌+◌, ◌^◌, ◌<◌, ◌≤◌, ℕ, length, get_or, slice_set, replicate, IfOk};
 ghost use Rattle.regress_engine_insn.specs.InsnViews.{fields};
-ghost use Rattle.regress_engine_input.specs.Views.{way};
+ghost use Rattle.regress_engine_input.specs.Views.{direction_of};
 ghost use Rattle.regress_engine_runs.specs.States.{unset, onward, begun, mixed};
 ghost use Rattle.regress_engine_runs.specs.Runs.{count_of, one_more, is_idle};
-ghost use Rattle.regress_engine_sought.specs.StateViews.{loop_of, marks_of};
+ghost use Rattle.regress_engine_search.specs.StateViews.{loop_of, marks_of};
 ghost use Rattle.regress_engine_copying.specs.StateOf.{state_of};
 
 use regress_engine_insn::LoopFields;
@@ -26,7 +26,7 @@ pub(crate) struct State {
 
 /// The marks of a group that starts at an offset, or else ends there.
 fn marked(old: GroupData<usize>, starts: bool, offset: usize) -> GroupData<usize>
-    ensures { marks_of result ≡ begun (way starts) offset (marks_of old) }
+    ensures { marks_of result ≡ begun (direction_of starts) offset (marks_of old) }
 {
     if starts {
         GroupData {
@@ -110,7 +110,7 @@ impl State {
     pub(crate) fn mark(&mut self, group: usize, starts: bool)
         requires room { self.old.at + 1 < 2 ^ 64 }
         requires there { group < length (state_of self.old).groups }
-        ensures { state_of self.new ≡ onward (record (state_of self.old) { groups = slice_set (state_of self.old).groups group (begun (way starts) self.old.offset (get_or (state_of self.old).groups group unset)) }) }
+        ensures { state_of self.new ≡ onward (record (state_of self.old) { groups = slice_set (state_of self.old).groups group (begun (direction_of starts) self.old.offset (get_or (state_of self.old).groups group unset)) }) }
     {
         let old = self.group_data(group);
         let marks = marked(old, starts, self.offset);

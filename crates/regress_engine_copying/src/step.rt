@@ -4,7 +4,7 @@ ghost use Rattle.regress_engine_insn.specs.Instructions.{Instruction, Stands};
 ghost use Rattle.regress_engine_code.specs.Standing.{program_of};
 ghost use Rattle.regress_engine_input.specs.Views.{input_of, reading_of};
 ghost use Rattle.regress_engine_runs.specs.Meets.{reads_character, ReadsPlaces};
-ghost use Rattle.regress_engine_sought.specs.Sought.{Suits};
+ghost use Rattle.regress_engine_search.specs.Search.{Suits};
 ghost use Rattle.regress_engine_copying.specs.StateOf.{state_of};
 ghost use Rattle.regress_engine_copying.specs.Held.{held};
 ghost use Rattle.regress_engine_copying.specs.Sound.{IsWhole, AreSound};
@@ -15,7 +15,7 @@ use crate::stack::{Frame, Stack};
 use crate::state::State;
 use regress_engine_insn::Insn;
 use regress_engine_matchers::CharInput;
-use regress_engine_sought::Submatch;
+use regress_engine_search::Submatch;
 use std::alloc::AllocError;
 
 impl<'a, Input: CharInput> Attempt<'a, Input> {

@@ -3,14 +3,14 @@ use Rattle.std.specs.Prelude.{replicate, IfSome}
 use Rattle.std.proofs.Common.{◌≡◌, ℕ, Bool, true, false, [], ◌∷◌, Option, Some, None, ◌⊎◌, inl, inr, sym, subst}
 use Rattle.std.proofs.lemmas.List.{length-replicate}
 use Rattle.regress_meaning.specs.Meaning.{Forward}
-use Rattle.regress_engine_input.specs.Views.{View, way, input_of, reading_of}
+use Rattle.regress_engine_input.specs.Views.{View, direction_of, input_of, reading_of}
 use Rattle.regress_engine_insn.specs.Instructions.{Program}
 use Rattle.regress_engine_runs.specs.States.{Whole, unset, first_state}
 use Rattle.regress_engine_runs.specs.Computed.{IsComputed}
 use Rattle.regress_engine_runs.specs.UndoStack.{ReadOn, outermost, stands_for}
-use Rattle.regress_engine_sought.specs.Tasks.{Task, Leads, IsTried}
-use Rattle.regress_engine_sought.specs.Answering.{IsAnswer}
-use Rattle.regress_engine_sought.proofs.TaskLemmas.{leads-then, tried-first, tried-on, tried-fails}
+use Rattle.regress_engine_search.specs.Tasks.{Task, Leads, IsTried}
+use Rattle.regress_engine_search.specs.Answering.{IsAnswer}
+use Rattle.regress_engine_search.proofs.TaskLemmas.{leads-then, tried-first, tried-on, tried-fails}
 use Rattle.regress_engine_undo.specs.declared.undo.Spot.{Spot}
 use Rattle.regress_engine_undo.specs.Held.{Held}
 use Rattle.regress_engine_undo.specs.Sound.{IsSound, IsHeld}
@@ -33,8 +33,8 @@ module _ (program : Program) (v : View) (start : ℕ) (ends : IsComputed program
   pub trying-fails : (q : Spot) (k : Held) → IsTried program v ends.0.0 ends.0.1 (task program (input_of v) false q k) → k.stack ≡ [] → IsAnswer program (input_of v) start None k.groups
   unfolding stands_for
   trying-fails q k tried empty =
-      tried-fails program v start ends (way q.forward) k.groups
-      (subst (λ s. IsTried program v ends.0.0 ends.0.1 (record { dir = way q.forward; states = []; work = stands_for program (input_of v) (way q.forward) s k.loops k.groups })) empty tried)
+      tried-fails program v start ends (direction_of q.forward) k.groups
+      (subst (λ s. IsTried program v ends.0.0 ends.0.1 (record { dir = direction_of q.forward; states = []; work = stands_for program (input_of v) (direction_of q.forward) s k.loops k.groups })) empty tried)
 
 -- it may begin where a way from its spot leads
 pub trying-way : (program : Program) (v : View) (n : ℕ) (r : Option Whole) (o start first : ℕ) (h : Held) → IsWay program (input_of v) true o start first

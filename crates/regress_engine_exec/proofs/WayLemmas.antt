@@ -1,17 +1,17 @@
--- Where it is gone on from two ways.
+-- Where it continues from two ways.
 use Rattle.std.proofs.Common.{◌≡◌, ℕ, ◌+◌, Bool, true, ◌⊎◌, inl, inr, refl, sym, subst, arith}
 use Rattle.regress_meaning.specs.Inputs.{Input}
-use Rattle.regress_engine_input.specs.Views.{way}
+use Rattle.regress_engine_input.specs.Views.{direction_of}
 use Rattle.regress_engine_insn.specs.Instructions.{Program, Stands}
 use Rattle.regress_engine_insn.specs.Instructions as code
-use Rattle.regress_engine_sought.specs.Tasks.{Task, Leads}
-use Rattle.regress_engine_sought.proofs.TaskLemmas.{leads-then}
-use Rattle.regress_engine_singles.specs.Failing.{IsStuck}
+use Rattle.regress_engine_search.specs.Tasks.{Task, Leads}
+use Rattle.regress_engine_search.proofs.TaskLemmas.{leads-then}
+use Rattle.regress_engine_singles.specs.Failing.{IsDead}
 use Rattle.regress_engine_leading.specs.Known.{Comes}
 use Rattle.regress_engine_undo.specs.declared.undo.Spot.{Spot}
 use Rattle.regress_engine_undo.specs.Held.{Held}
 use Rattle.regress_engine_undo.specs.Tasks.{task}
-use Rattle.regress_engine_undo.proofs.DispatchLemmas.{first-stuck, second-stuck, take-some}
+use Rattle.regress_engine_undo.proofs.DispatchLemmas.{first-dead, second-dead, take-some}
 use Rattle.regress_engine_exec.specs.Trying.{IsWay}
 
 module _ (program : Program) (input : Input) (forward : Bool) (o : ℕ) where
@@ -38,12 +38,12 @@ module _ (program : Program) (input : Input) (forward : Bool) (o : ℕ) where
       by_way (inr before) = inr (leads-fewer 1 1 (from start) (from next) (leads-then program input 1 1 before (on h)))
 
   -- of two ways the first leads nowhere
-  pub way-second : (start at second : ℕ) → Stands program at (code.alt second) → IsStuck program input (way forward) (at + 1) o → IsWay program input forward o start at → IsWay program input forward o start second
-  way-second start at second here stuck so = way-on start at second so (λ h. first-stuck program input (spot at) h second here stuck)
+  pub way-second : (start at second : ℕ) → Stands program at (code.alt second) → IsDead program input (direction_of forward) (at + 1) o → IsWay program input forward o start at → IsWay program input forward o start second
+  way-second start at second here dead so = way-on start at second so (λ h. first-dead program input (spot at) h second here dead)
 
   -- or the second
-  pub way-first : (start at second : ℕ) → Stands program at (code.alt second) → IsStuck program input (way forward) second o → IsWay program input forward o start at → IsWay program input forward o start (at + 1)
-  way-first start at second here stuck so = way-on start at (at + 1) so (λ h. second-stuck program input (spot at) h second here stuck)
+  pub way-first : (start at second : ℕ) → Stands program at (code.alt second) → IsDead program input (direction_of forward) second o → IsWay program input forward o start at → IsWay program input forward o start (at + 1)
+  way-first start at second here dead so = way-on start at (at + 1) so (λ h. second-dead program input (spot at) h second here dead)
 
   -- none yet
   pub way-here : (start : ℕ) → IsWay program input forward o start start

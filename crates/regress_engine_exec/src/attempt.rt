@@ -8,9 +8,9 @@ ghost use Rattle.regress_engine_input.specs.Views.{input_of, reading_of};
 ghost use Rattle.regress_engine_runs.specs.States.{first_state};
 ghost use Rattle.regress_engine_runs.specs.Computed.{IsComputed};
 ghost use Rattle.regress_engine_runs.specs.UndoStack.{ReadOn, outermost};
-ghost use Rattle.regress_engine_sought.specs.Answering.{IsAnswer};
+ghost use Rattle.regress_engine_search.specs.Answering.{IsAnswer};
 ghost use Rattle.regress_engine_undo.specs.Held.{held};
-ghost use Rattle.regress_engine_sought.specs.Sought.{Suits};
+ghost use Rattle.regress_engine_search.specs.Search.{Suits};
 ghost use Rattle.regress_engine_exec.specs.Trying.{IsWay};
 ghost use Rattle.regress_engine_runs.proofs.OneAnswer.{IsComputed-prop};
 

@@ -3,18 +3,18 @@ ghost use Rattle.std.specs.Prelude.{◌≡◌, ◌<◌, ℕ, true, false, List, 
 ghost use Rattle.regress_engine_insn.specs.InsnViews.{instruction};
 ghost use Rattle.regress_engine_insn.specs.Instructions.{byte_seq};
 ghost use Rattle.regress_engine_code.specs.Standing.{program_of};
-ghost use Rattle.regress_engine_input.specs.Views.{way, input_of, reading_of};
+ghost use Rattle.regress_engine_input.specs.Views.{direction_of, input_of, reading_of};
 ghost use Rattle.regress_engine_runs.specs.Runs.{advance, gap};
 ghost use Rattle.regress_engine_runs.specs.Meets.{IsAtPlace};
 ghost use Rattle.regress_engine_runs.specs.UndoStack.{give_back, take_on, whole};
-ghost use Rattle.regress_engine_sought.specs.Ready.{IsBody, IsReady};
-ghost use Rattle.regress_engine_sought.specs.StateViews.{marks_of};
-ghost use Rattle.regress_engine_sought.specs.Submatches.{submatch_of, is_negated};
-ghost use Rattle.regress_engine_sought.specs.Tasks.{Leads};
+ghost use Rattle.regress_engine_search.specs.Ready.{IsBody, IsReady};
+ghost use Rattle.regress_engine_search.specs.StateViews.{marks_of};
+ghost use Rattle.regress_engine_search.specs.Submatches.{submatch_of, is_negated};
+ghost use Rattle.regress_engine_search.specs.Tasks.{Leads};
 ghost use Rattle.regress_engine_undo.specs.Held.{held, undo_of, pushed};
-ghost use Rattle.regress_engine_sought.specs.Sought.{Suits};
+ghost use Rattle.regress_engine_search.specs.Search.{Suits};
 ghost use Rattle.regress_engine_undo.specs.Sound.{IsHeld};
-ghost use Rattle.regress_engine_undo.specs.Stuck.{GivesFrom, TakesFrom};
+ghost use Rattle.regress_engine_undo.specs.Dead.{GivesFrom, TakesFrom};
 ghost use Rattle.regress_engine_undo.specs.Tasks.{task};
 
 use crate::attempt::Attempt;
@@ -31,7 +31,7 @@ use std::alloc::AllocError;
 /// Whether the second offset is ahead of the first, forward or backward.
 #[inline]
 fn is_ahead(forward: bool, near: usize, far: usize) -> bool
-    ensures { result ≡ nat_lt 0 (gap (way forward) near far) }
+    ensures { result ≡ nat_lt 0 (gap (direction_of forward) near far) }
 {
     if forward { near < far } else { far < near }
 }
@@ -54,7 +54,7 @@ fn exhaust(frame: &Frame, spot: &mut Spot) -> bool
 }
 
 impl<'a, Input: CharInput> Attempt<'a, Input> {
-    /// The far one of some offsets, from a far one back to a near one, at which it may be gone on at an address, where what is
+    /// The far one of some offsets, from a far one back to a near one, at which it may continue at an address, where what is
     /// taken first from there on stands; `None` where it stands at none of them.
     fn far_way(
         &self,
@@ -88,7 +88,7 @@ impl<'a, Input: CharInput> Attempt<'a, Input> {
         }
     }
 
-    /// Goes on at the far one of the offsets where it may be gone on, later at those before it; answers whether there is one.
+    /// Goes on at the far one of the offsets where it may continue, later at those before it; answers whether there is one.
     pub(crate) fn give_back(
         &self,
         at: usize,
@@ -135,7 +135,7 @@ impl<'a, Input: CharInput> Attempt<'a, Input> {
         requires suits { Suits (program_of self.now.program.now) (Input.view self.now.input) }
         requires ready { IsReady (program_of self.now.program.now) (Input.view self.now.input) (instruction insn.now) (map marks_of groups.now) offset }
         requires first { IfSome first (λ b. (rest : List ℕ) × (instruction insn.now ≡ byte_seq (b ∷ rest))) }
-        ensures { result ≡ is_some (advance (program_of self.now.program.now) (input_of (Input.view self.now.input)) (instruction insn.now) (way forward) (map marks_of groups.now) offset) }
+        ensures { result ≡ is_some (advance (program_of self.now.program.now) (input_of (Input.view self.now.input)) (instruction insn.now) (direction_of forward) (map marks_of groups.now) offset) }
     {
         if forward {
             if let Some(byte) = first {
@@ -158,7 +158,7 @@ impl<'a, Input: CharInput> Attempt<'a, Input> {
     ) -> Option<usize>
         requires suits { Suits (program_of self.now.program.now) (Input.view self.now.input) }
         requires ready { IsReady (program_of self.now.program.now) (Input.view self.now.input) (instruction insn.now) (map marks_of groups.now) offset }
-        ensures { result ≡ advance (program_of self.now.program.now) (input_of (Input.view self.now.input)) (instruction insn.now) (way forward) (map marks_of groups.now) offset }
+        ensures { result ≡ advance (program_of self.now.program.now) (input_of (Input.view self.now.input)) (instruction insn.now) (direction_of forward) (map marks_of groups.now) offset }
     {
         match insn {
             Insn::AsciiBracket(bitmap) => ascii_bracket(&self.input, forward, offset, bitmap),
@@ -168,7 +168,7 @@ impl<'a, Input: CharInput> Attempt<'a, Input> {
     }
 
     /// The near one of some offsets, from one on behind each iteration of the instruction before an address, at most so many,
-    /// at which it may be gone on there, where what is taken first from there on stands, and how many may follow; `None`
+    /// at which it may continue there, where what is taken first from there on stands, and how many may follow; `None`
     /// where it stands at none of them.
     fn near_way(
         &self,
@@ -206,7 +206,7 @@ impl<'a, Input: CharInput> Attempt<'a, Input> {
         }
     }
 
-    /// Goes on at the near one of the offsets where it may be gone on, later at those behind it; answers whether there is one.
+    /// Goes on at the near one of the offsets where it may continue, later at those behind it; answers whether there is one.
     pub(crate) fn take_on(
         &self,
         at: usize,

@@ -1,4 +1,4 @@
-//! The executor that undoes: it tries the ways through a program one after another, on one state and one stack of records.
+//! The executor that undoes: it tries the paths through a program one after another, on one state and one stack of records.
 #![tactic(auto)]
 
 mod attempt;
@@ -11,5 +11,5 @@ mod step;
 mod turns;
 mod ways;
 
-pub use regress_engine_sought::{ExecutorInput, Shown};
+pub use regress_engine_search::{ExecutorInput, Shown};
 pub use search::BacktrackExecutor;

@@ -9,16 +9,16 @@ ghost use Rattle.regress_front_tables.specs.TableViews.{table};
 ghost use Rattle.regress_engine_input.specs.Views.{input_of, reading_of, utf8};
 ghost use Rattle.regress_engine_runs.specs.Items.{Finds};
 ghost use Rattle.regress_engine_runs.specs.Meets.{IsAtPlace};
-ghost use Rattle.regress_engine_sought.specs.Answering.{IsFound, IsOutcome};
+ghost use Rattle.regress_engine_search.specs.Answering.{IsFound, IsOutcome};
 ghost use Rattle.regress_engine_undo.specs.Held.{held};
-ghost use Rattle.regress_engine_sought.specs.Sought.{IsMadeOf, IsItemAtPlaces};
+ghost use Rattle.regress_engine_search.specs.Search.{IsMadeOf, IsItemAtPlaces};
 
 use crate::attempt::Attempt;
 use regress_engine_advance::beside;
 use regress_engine_code::CompiledRegex;
 use regress_engine_inputs::Utf8Input;
 use regress_engine_leading::{Beginning, known_at};
-use regress_engine_sought::{ExecutorInput, Shown, Subject, captures};
+use regress_engine_search::{ExecutorInput, SearchContext, Shown, captures};
 use regress_engine_undo::Memory;
 use regress_front_core::GroupData;
 use regress_match::{Match, MatchProducer};
@@ -29,7 +29,7 @@ use std::alloc::{AllocError, Global};
 #[derive(Debug, Drop)]
 pub struct BacktrackExecutor<'r, Input: Shown> {
     alloc: Global,
-    pub(crate) subject: Subject<'r, Input>,
+    pub(crate) context: SearchContext<'r, Input>,
     memory: Memory,
     answer: Vec<GroupData<usize>>,
 }
@@ -45,12 +45,12 @@ impl<'r, Input: ExecutorInput> BacktrackExecutor<'r, Input> {
     /// ```
     pub fn with_input(alloc: Global, program: &'r CompiledRegex, input: Input) -> Self
         requires made { IsMadeOf program.now (Input.view input) }
-        ensures program { (⟦<BacktrackExecutor<'r, Input> as MatchProducer>⟧.sought result).compiled ≡ program.entry.now }
-        ensures text { (⟦<BacktrackExecutor<'r, Input> as MatchProducer>⟧.sought result).view ≡ Input.view input }
+        ensures program { (⟦<BacktrackExecutor<'r, Input> as MatchProducer>⟧.search_of result).compiled ≡ program.entry.now }
+        ensures text { (⟦<BacktrackExecutor<'r, Input> as MatchProducer>⟧.search_of result).view ≡ Input.view input }
     {
         BacktrackExecutor {
             alloc,
-            subject: Subject::new(program, input),
+            context: SearchContext::new(program, input),
             memory: Memory::new(alloc),
             answer: Vec::new(alloc),
         }
@@ -59,15 +59,15 @@ impl<'r, Input: ExecutorInput> BacktrackExecutor<'r, Input> {
     /// Searches from an offset on, where the text goes on as the program's start predicate says. It answers the offset from
     /// which the first run has an answer, and where that ends; the answer's groups are then held.
     fn search(&mut self, offset: usize) -> Result<Option<(usize, usize)>, AllocError>
-        requires { IsAtPlace (reading_of (Input.view self.old.subject.input)) offset }
-        ensures found { IfOk result (λ found. IsFound (program_of self.old.subject.program.now) (input_of (Input.view self.old.subject.input)) offset found (held self.new.memory).groups) }
-        ensures kept { self.new.subject ≡ self.old.subject }
+        requires { IsAtPlace (reading_of (Input.view self.old.context.input)) offset }
+        ensures found { IfOk result (λ found. IsFound (program_of self.old.context.program.now) (input_of (Input.view self.old.context.input)) offset found (held self.new.memory).groups) }
+        ensures kept { self.new.context ≡ self.old.context }
     {
-        let program = self.subject.program;
-        let input = self.subject.input;
+        let program = self.context.program;
+        let input = self.context.input;
         let mut from = offset;
         'places: loop {
-            let Some(start) = self.subject.next_start(from) else {
+            let Some(start) = self.context.next_start(from) else {
                 return Ok(None);
             };
             let first = match known_at(program, &input, start) {
@@ -102,17 +102,17 @@ impl<'r, Input: ExecutorInput> BacktrackExecutor<'r, Input> {
     /// let found = executor.find_from(0)?;
     /// ```
     pub fn find_from(&mut self, offset: usize) -> Result<Option<Match>, AllocError>
-        requires { IsAtPlace (reading_of (Input.view self.old.subject.input)) offset }
-        ensures found { IfOk result (λ found. Finds (program_of self.old.subject.program.now) (input_of (Input.view self.old.subject.input)) offset (option_map item_of found)) }
-        ensures inside { IfOk result (λ found. IfSome found (λ m. IsItemAtPlaces (reading_of (Input.view self.old.subject.input)) (item_of m))) }
-        ensures named { IfOk result (λ found. IfSome found (λ m. names_of_match m ≡ names_of self.old.subject.program.now)) }
-        ensures kept { self.new.subject ≡ self.old.subject }
+        requires { IsAtPlace (reading_of (Input.view self.old.context.input)) offset }
+        ensures found { IfOk result (λ found. Finds (program_of self.old.context.program.now) (input_of (Input.view self.old.context.input)) offset (option_map item_of found)) }
+        ensures inside { IfOk result (λ found. IfSome found (λ m. IsItemAtPlaces (reading_of (Input.view self.old.context.input)) (item_of m))) }
+        ensures named { IfOk result (λ found. IfSome found (λ m. names_of_match m ≡ names_of self.old.context.program.now)) }
+        ensures kept { self.new.context ≡ self.old.context }
     {
         let Some((start, end)) = self.search(offset)? else {
             return Ok(None);
         };
         let captures = captures(self.alloc, &self.memory.groups)?;
-        let names = self.subject.program.shared_group_names()?;
+        let names = self.context.program.shared_group_names()?;
         Ok(Some(Match::new(start..end, captures, names)))
     }
 
@@ -126,22 +126,22 @@ impl<'r, Input: ExecutorInput> BacktrackExecutor<'r, Input> {
     /// let found = executor.match_at(3)?;
     /// ```
     pub fn match_at(&mut self, offset: usize) -> Result<Option<Match>, AllocError>
-        requires { IsAtPlace (reading_of (Input.view self.old.subject.input)) offset }
-        ensures outcome { IfOk result (λ found. IsOutcome (program_of self.old.subject.program.now) (input_of (Input.view self.old.subject.input)) offset (option_map item_of found)) }
-        ensures inside { IfOk result (λ found. IfSome found (λ m. IsItemAtPlaces (reading_of (Input.view self.old.subject.input)) (item_of m))) }
-        ensures named { IfOk result (λ found. IfSome found (λ m. names_of_match m ≡ names_of self.old.subject.program.now)) }
-        ensures kept { self.new.subject ≡ self.old.subject }
+        requires { IsAtPlace (reading_of (Input.view self.old.context.input)) offset }
+        ensures outcome { IfOk result (λ found. IsOutcome (program_of self.old.context.program.now) (input_of (Input.view self.old.context.input)) offset (option_map item_of found)) }
+        ensures inside { IfOk result (λ found. IfSome found (λ m. IsItemAtPlaces (reading_of (Input.view self.old.context.input)) (item_of m))) }
+        ensures named { IfOk result (λ found. IfSome found (λ m. names_of_match m ≡ names_of self.old.context.program.now)) }
+        ensures kept { self.new.context ≡ self.old.context }
     {
         let attempt = Attempt {
-            program: self.subject.program,
-            input: self.subject.input,
+            program: self.context.program,
+            input: self.context.input,
             start: offset,
         };
         let Some(end) = attempt.run(0, &mut self.memory, &mut self.answer)? else {
             return Ok(None);
         };
         let captures = captures(self.alloc, &self.memory.groups)?;
-        let names = self.subject.program.shared_group_names()?;
+        let names = self.context.program.shared_group_names()?;
         Ok(Some(Match::new(offset..end, captures, names)))
     }
 }
@@ -156,8 +156,8 @@ impl<'r, 't> BacktrackExecutor<'r, Utf8Input<'r, 't>> {
     /// ```
     pub fn new(alloc: Global, program: &'r CompiledRegex, text: &'t str) -> Self
         requires bytes { program.now.units ≡ false }
-        ensures program { (⟦<BacktrackExecutor<'r, Utf8Input<'r, 't>> as MatchProducer>⟧.sought result).compiled ≡ program.entry.now }
-        ensures text { (⟦<BacktrackExecutor<'r, Utf8Input<'r, 't>> as MatchProducer>⟧.sought result).view ≡ record { kind = utf8; units = text.now; table = table program.entry.now.tables; unicode = is_unicode (options program.entry.now.flags) } }
+        ensures program { (⟦<BacktrackExecutor<'r, Utf8Input<'r, 't>> as MatchProducer>⟧.search_of result).compiled ≡ program.entry.now }
+        ensures text { (⟦<BacktrackExecutor<'r, Utf8Input<'r, 't>> as MatchProducer>⟧.search_of result).view ≡ record { kind = utf8; units = text.now; table = table program.entry.now.tables; unicode = is_unicode (options program.entry.now.flags) } }
     {
         let unicode = program.flags().is_unicode();
         let input = Utf8Input::new(text, unicode, program.tables());

@@ -2,11 +2,11 @@
 ghost use Rattle.std.specs.Prelude.{◌≡◌, ◌+◌, ◌≤◌, true, IfOk, OnOk};
 ghost use Rattle.regress_engine_insn.specs.Instructions.{single_loop};
 ghost use Rattle.regress_engine_code.specs.Standing.{program_of};
-ghost use Rattle.regress_engine_input.specs.Views.{way, input_of};
+ghost use Rattle.regress_engine_input.specs.Views.{direction_of, input_of};
 ghost use Rattle.regress_engine_runs.specs.Runs.{successors};
-ghost use Rattle.regress_engine_sought.specs.Ready.{IsBody};
-ghost use Rattle.regress_engine_sought.specs.Sought.{Suits};
-ghost use Rattle.regress_engine_sought.specs.Tasks.{Leads};
+ghost use Rattle.regress_engine_search.specs.Ready.{IsBody};
+ghost use Rattle.regress_engine_search.specs.Search.{Suits};
+ghost use Rattle.regress_engine_search.specs.Tasks.{Leads};
 ghost use Rattle.regress_engine_undo.specs.Held.{held};
 ghost use Rattle.regress_engine_undo.specs.Sound.{IsHeld};
 ghost use Rattle.regress_engine_undo.specs.Tasks.{task_of, task, state_at};
@@ -31,7 +31,7 @@ impl<'a, Input: CharInput> Attempt<'a, Input> {
         requires sound { IsHeld (program_of self.now.program.now) (Input.view self.now.input) (held memory.old) }
         requires order { least ≤ most }
         requires body { IsBody (program_of self.now.program.now) (Input.view self.now.input) (spot.old.at + 2) spot.old.offset }
-        ensures leads { IfOk result (λ going. Leads (program_of self.now.program.now) (input_of (Input.view self.now.input)) 0 (task_of (program_of self.now.program.now) (input_of (Input.view self.now.input)) (successors (program_of self.now.program.now) (input_of (Input.view self.now.input)) (single_loop least most greedy) (way spot.old.forward) (state_at spot.old (held memory.old))) spot.old (held memory.old)) (task (program_of self.now.program.now) (input_of (Input.view self.now.input)) going spot.new (held memory.new))) }
+        ensures leads { IfOk result (λ going. Leads (program_of self.now.program.now) (input_of (Input.view self.now.input)) 0 (task_of (program_of self.now.program.now) (input_of (Input.view self.now.input)) (successors (program_of self.now.program.now) (input_of (Input.view self.now.input)) (single_loop least most greedy) (direction_of spot.old.forward) (state_at spot.old (held memory.old))) spot.old (held memory.old)) (task (program_of self.now.program.now) (input_of (Input.view self.now.input)) going spot.new (held memory.new))) }
         ensures sound { OnOk result (IsHeld (program_of self.now.program.now) (Input.view self.now.input) (held memory.new)) }
     {
         let insn = self.instruction(spot.at + 1);

@@ -3,22 +3,22 @@ ghost use Rattle.std.specs.Prelude.{◌≡◌, ◌+◌, ◌^◌, ◌<◌, true, 
 ghost use Rattle.regress_engine_insn.specs.Instructions.{Instruction, Stands, loop_again, enter_loop, LoopFields};
 ghost use Rattle.regress_engine_insn.specs.InsnViews.{instruction};
 ghost use Rattle.regress_engine_code.specs.Standing.{program_of};
-ghost use Rattle.regress_engine_input.specs.Views.{way, input_of, reading_of};
+ghost use Rattle.regress_engine_input.specs.Views.{direction_of, input_of, reading_of};
 ghost use Rattle.regress_engine_runs.specs.Meets.{reads_character, ReadsPlaces};
 ghost use Rattle.regress_engine_runs.specs.UndoStack.{ReadOn, stands_for};
-ghost use Rattle.regress_engine_sought.specs.Ready.{is_simple};
-ghost use Rattle.regress_engine_sought.specs.Tasks.{Leads};
+ghost use Rattle.regress_engine_search.specs.Ready.{is_simple};
+ghost use Rattle.regress_engine_search.specs.Tasks.{Leads};
 ghost use Rattle.regress_engine_undo.specs.Held.{held};
-ghost use Rattle.regress_engine_sought.specs.Sought.{Suits};
+ghost use Rattle.regress_engine_search.specs.Search.{Suits};
 ghost use Rattle.regress_engine_undo.specs.Sound.{IsHeld};
 ghost use Rattle.regress_engine_undo.specs.Tasks.{state_at, task};
 ghost use Rattle.regress_engine_exec.specs.Trying.{Steps};
 
 use crate::attempt::Attempt;
-use regress_engine_advance::{advance, is_stuck};
+use regress_engine_advance::{advance, is_dead};
 use regress_engine_insn::Insn;
 use regress_engine_matchers::CharInput;
-use regress_engine_sought::Submatch;
+use regress_engine_search::Submatch;
 use regress_engine_undo::{Memory, Spot, begun, ended};
 use regress_front_core::GroupData;
 use std::alloc::AllocError;
@@ -50,7 +50,7 @@ impl<'a, Input: CharInput> Attempt<'a, Input> {
         true
     }
 
-    /// Ends an iteration of the repetition that begins at an address, and answers whether it is gone on.
+    /// Ends an iteration of the repetition that begins at an address, and answers whether it continues.
     #[inline]
     fn again(&self, begin: usize, memory: &mut Memory, spot: &mut Spot) -> Result<bool, AllocError>
         requires suits { Suits (program_of self.now.program.now) (Input.view self.now.input) }
@@ -62,14 +62,14 @@ impl<'a, Input: CharInput> Attempt<'a, Input> {
         match self.instruction(begin) {
             Insn::EnterLoop(repetition) => {
                 let exit = repetition.exit as usize;
-                let stuck = is_stuck(self.program, &self.input, exit, spot.forward, spot.offset);
-                memory.again(repetition, begin, stuck, spot)
+                let dead = is_dead(self.program, &self.input, exit, spot.forward, spot.offset);
+                memory.again(repetition, begin, dead, spot)
             }
             _ => Ok(false),
         }
     }
 
-    /// Does the instruction at a spot. It answers whether it is gone on, or `None` where that is the end of the run.
+    /// Does the instruction at a spot. It answers whether it continues, or `None` where that is the end of the run.
     pub(crate) fn step(
         &self,
         memory: &mut Memory,
@@ -80,7 +80,7 @@ impl<'a, Input: CharInput> Attempt<'a, Input> {
         requires sound { IsHeld (program_of self.now.program.now) (Input.view self.now.input) (held memory.old) }
         requires stands { (i : Instruction) × Stands (program_of self.now.program.now) spot.old.at i }
         requires reads { (i : Instruction) → Stands (program_of self.now.program.now) spot.old.at i → reads_character i ≡ true → ReadsPlaces (reading_of (Input.view self.now.input)) i (state_at spot.old (held memory.old)) }
-        requires later { ReadOn (program_of self.now.program.now) (input_of (Input.view self.now.input)) (reading_of (Input.view self.now.input)) (way spot.old.forward) (state_at spot.old (held memory.old) ∷ []) (stands_for (program_of self.now.program.now) (input_of (Input.view self.now.input)) (way spot.old.forward) (held memory.old).stack (held memory.old).loops (held memory.old).groups) }
+        requires later { ReadOn (program_of self.now.program.now) (input_of (Input.view self.now.input)) (reading_of (Input.view self.now.input)) (direction_of spot.old.forward) (state_at spot.old (held memory.old) ∷ []) (stands_for (program_of self.now.program.now) (input_of (Input.view self.now.input)) (direction_of spot.old.forward) (held memory.old).stack (held memory.old).loops (held memory.old).groups) }
         ensures leads { IfOk result (λ left. Steps (program_of self.now.program.now) (input_of (Input.view self.now.input)) spot.old (held memory.old) left spot.new (held memory.new)) }
         ensures sound { IfOk result (λ left. IfSome left (λ going. IsHeld (program_of self.now.program.now) (Input.view self.now.input) (held memory.new))) }
     {
@@ -121,8 +121,8 @@ impl<'a, Input: CharInput> Attempt<'a, Input> {
             }
             Insn::EnterLoop(repetition) => {
                 let exit = repetition.exit as usize;
-                let stuck = is_stuck(self.program, &self.input, exit, spot.forward, spot.offset);
-                let going = memory.enter(repetition, stuck, spot)?;
+                let dead = is_dead(self.program, &self.input, exit, spot.forward, spot.offset);
+                let going = memory.enter(repetition, dead, spot)?;
                 Ok(Some(going))
             }
             Insn::LoopAgain { begin } => {

@@ -6,17 +6,17 @@ ghost use Rattle.regress_engine_insn.specs.InsnViews.{instruction, fields};
 ghost use Rattle.regress_engine_code.specs.Standing.{program_of};
 ghost use Rattle.regress_engine_input.specs.Views.{input_of, reading_of};
 ghost use Rattle.regress_engine_runs.specs.Meets.{IsAtPlace};
-ghost use Rattle.regress_engine_sought.specs.Tasks.{Leads};
-ghost use Rattle.regress_engine_sought.specs.Sought.{Suits};
-ghost use Rattle.regress_engine_singles.specs.Failing.{IsStuck};
+ghost use Rattle.regress_engine_search.specs.Tasks.{Leads};
+ghost use Rattle.regress_engine_search.specs.Search.{Suits};
+ghost use Rattle.regress_engine_singles.specs.Failing.{IsDead};
 ghost use Rattle.regress_engine_singles.specs.Passed.{is_class};
 ghost use Rattle.regress_engine_undo.specs.Held.{held, loop_written};
 ghost use Rattle.regress_engine_undo.specs.Sound.{IsHeld};
 ghost use Rattle.regress_engine_undo.specs.Tasks.{task};
-ghost use Rattle.regress_engine_undo.specs.Stuck.{IsTurn};
+ghost use Rattle.regress_engine_undo.specs.Dead.{IsTurn};
 
 use crate::attempt::Attempt;
-use regress_engine_advance::{is_atomic, is_stuck};
+use regress_engine_advance::{is_atomic, is_dead};
 use regress_engine_insn::{Insn, LoopFields};
 use regress_engine_matchers::CharInput;
 use regress_engine_singles::{Taken, is_class, taken_ahead};
@@ -80,7 +80,7 @@ impl<'a, Input: CharInput> Attempt<'a, Input> {
     }
 
     /// The iterations that begin at an address with two ways, where the first one is a class and nothing else, and where that
-    /// takes a character surely nothing is led to by the other one, nor behind the repetition.
+    /// takes a character surely no match can be reached by the other one, nor behind the repetition.
     fn turn(&self, at: usize, second: usize) -> Option<Turn<'_>>
         requires suits { Suits (program_of self.now.program.now) (Input.view self.now.input) }
         requires class { (i : Instruction) × Stands (program_of self.now.program.now) (at + 1) i × (is_class i ≡ true) }
@@ -121,16 +121,16 @@ impl<'a, Input: CharInput> Attempt<'a, Input> {
         })
     }
 
-    /// The address where it is gone on behind so many iterations, of which the class takes no more: where the last one ends, or
-    /// behind the repetition where nothing else is led to.
+    /// The address where it continues behind so many iterations, of which the class takes no more: where the last one ends, or
+    /// behind the repetition where no other match can be reached.
     fn way_on(&self, turn: &Turn<'_>, second: usize, count: usize, offset: usize) -> usize
         requires { Suits (program_of self.now.program.now) (Input.view self.now.input) }
-        ensures { (result ≡ turn.now.again) ⊎ ((result ≡ turn.now.repetition.now.exit) × (turn.now.repetition.now.min_iters ≤ count) × IsStuck (program_of self.now.program.now) (input_of (Input.view self.now.input)) ahead second offset) }
+        ensures { (result ≡ turn.now.again) ⊎ ((result ≡ turn.now.repetition.now.exit) × (turn.now.repetition.now.min_iters ≤ count) × IsDead (program_of self.now.program.now) (input_of (Input.view self.now.input)) ahead second offset) }
     {
         if count < turn.repetition.min_iters {
             return turn.again;
         }
-        if is_stuck(self.program, &self.input, second, true, offset) {
+        if is_dead(self.program, &self.input, second, true, offset) {
             return turn.repetition.exit as usize;
         }
         turn.again
@@ -199,7 +199,7 @@ impl<'a, Input: CharInput> Attempt<'a, Input> {
                 }
             }
         }
-        if is_stuck(self.program, &self.input, second, spot.forward, spot.offset) {
+        if is_dead(self.program, &self.input, second, spot.forward, spot.offset) {
             spot.at += 1;
             return Ok(());
         }

@@ -1,19 +1,19 @@
-//! Where it is gone on at once, since one of two ways surely leads nowhere.
+//! Where it continues at once, since one of two ways surely leads nowhere.
 ghost use Rattle.std.specs.Prelude.{◌≡◌, ◌+◌, ◌^◌, ◌<◌, ℕ, true, Some};
 ghost use Rattle.regress_meaning.specs.Meaning.{Forward as ahead};
 ghost use Rattle.regress_engine_insn.specs.Instructions.{Stands, alt};
 ghost use Rattle.regress_engine_code.specs.Standing.{program_of};
 ghost use Rattle.regress_engine_input.specs.Views.{input_of, in_bytes, unit_beside};
-ghost use Rattle.regress_engine_sought.specs.Sought.{Suits};
+ghost use Rattle.regress_engine_search.specs.Search.{Suits};
 ghost use Rattle.regress_engine_exec.specs.Trying.{IsWay};
 
 use crate::attempt::Attempt;
-use regress_engine_advance::{is_stuck_ahead, is_stuck_behind, next_byte};
+use regress_engine_advance::{is_dead_ahead, is_dead_behind, next_byte};
 use regress_engine_insn::Insn;
 use regress_engine_matchers::CharInput;
 
 impl<'a, Input: CharInput> Attempt<'a, Input> {
-    /// The address at which it is gone on from one, read forward, where this byte stands ahead: as long as one of two ways
+    /// The address at which it continues from one, read forward, where this byte stands ahead: as long as one of two ways
     /// surely leads nowhere, by the other.
     #[inline(always)]
     fn way_ahead(&self, start: usize, byte: u8) -> usize
@@ -30,11 +30,11 @@ impl<'a, Input: CharInput> Attempt<'a, Input> {
             if second <= at {
                 break;
             }
-            if is_stuck_ahead(self.program, at + 1, byte) {
+            if is_dead_ahead(self.program, at + 1, byte) {
                 at = second;
                 continue;
             }
-            if !is_stuck_ahead(self.program, second, byte) {
+            if !is_dead_ahead(self.program, second, byte) {
                 break;
             }
             at += 1;
@@ -42,7 +42,7 @@ impl<'a, Input: CharInput> Attempt<'a, Input> {
         at
     }
 
-    /// The address at which it is gone on from two ways, by what stands beside an offset: that of both where neither surely
+    /// The address at which it continues from two ways, by what stands beside an offset: that of both where neither surely
     /// leads nowhere.
     #[inline(always)]
     pub(crate) fn way_of_two(&self, at: usize, second: usize, forward: bool, offset: usize) -> usize
@@ -57,10 +57,10 @@ impl<'a, Input: CharInput> Attempt<'a, Input> {
                 None => at,
             };
         }
-        if is_stuck_behind(self.program, &self.input, at + 1, offset) {
+        if is_dead_behind(self.program, &self.input, at + 1, offset) {
             return second;
         }
-        if is_stuck_behind(self.program, &self.input, second, offset) {
+        if is_dead_behind(self.program, &self.input, second, offset) {
             return at + 1;
         }
         at

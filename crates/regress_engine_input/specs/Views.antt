@@ -21,9 +21,9 @@ pub record View : Type 0 where
   pub table : Table
   pub unicode : Bool
 
--- which way is read, by whether it is forward
-abbrev pub way : Bool → Direction
-way forward = if forward then Forward else Backward
+-- the direction of reading, by whether it is forward
+abbrev pub direction_of : Bool → Direction
+direction_of forward = if forward then Forward else Backward
 
 -- units of a kind are bytes
 abbrev pub are_bytes : Kind → Bool

@@ -3,7 +3,7 @@ ghost use Rattle.std.specs.Prelude.{◌≡◌, ◌≤◌, length};
 ghost use Rattle.regress_meaning.specs.Meaning.{Forward, Backward};
 ghost use Rattle.regress_meaning.specs.Inputs.{Input};
 ghost use Rattle.regress_meaning.specs.Steps.{literal};
-ghost use Rattle.regress_engine_input.specs.Views.{way, unit_beside};
+ghost use Rattle.regress_engine_input.specs.Views.{direction_of, unit_beside};
 
 use crate::cursor::Direction;
 
@@ -55,7 +55,7 @@ fn bytes_left(text: &[u8], part: &[u8], at: usize) -> Option<usize>
 #[inline]
 pub fn slice_beside<Dir: Direction>(_dir: Dir, text: &[u8], part: &[u8], at: usize) -> Option<usize>
     requires { at ≤ length text.now }
-    ensures { (input : Input) → input.units ≡ text.now → result ≡ literal input (way Dir.FORWARD) part.now at }
+    ensures { (input : Input) → input.units ≡ text.now → result ≡ literal input (direction_of Dir.FORWARD) part.now at }
 {
     if Dir::FORWARD {
         bytes_right(text, part, at)

@@ -1,12 +1,12 @@
 //! Reading in a direction.
 ghost use Rattle.std.specs.Prelude.{◌≡◌, Bool, true, false, option_map, is_some, if◌then◌else◌};
 ghost use Rattle.regress_meaning.specs.Steps.{point, only_if, literal};
-ghost use Rattle.regress_engine_input.specs.Views.{way, input_of, CanRead, LiesIn, behind, unit_beside, in_bytes, past_unit};
+ghost use Rattle.regress_engine_input.specs.Views.{direction_of, input_of, CanRead, LiesIn, behind, unit_beside, in_bytes, past_unit};
 
 use crate::indexing::InputIndexer;
 use std::fmt::Debug;
 
-/// Which way a text is read.
+/// In which direction a text is read.
 pub trait Direction: Debug + Copy {
     // whether it is forward
     ghost FORWARD: { Bool };
@@ -58,8 +58,8 @@ pub fn next<Input: InputIndexer, Dir: Direction>(
     pos: &mut Input::Position,
 ) -> Option<Input::Element>
     requires { CanRead (Input.view input.now) (Input.Position.offset pos.old) }
-    ensures point { option_map Input.Element.code result ≡ point (input_of (Input.view input.now)) (way Dir.FORWARD) (Input.Position.offset pos.old) }
-    ensures position { Input.Position.offset pos.new ≡ behind (Input.Position.offset pos.old) ((input_of (Input.view input.now)).next (way Dir.FORWARD) (Input.Position.offset pos.old)) }
+    ensures point { option_map Input.Element.code result ≡ point (input_of (Input.view input.now)) (direction_of Dir.FORWARD) (Input.Position.offset pos.old) }
+    ensures position { Input.Position.offset pos.new ≡ behind (Input.Position.offset pos.old) ((input_of (Input.view input.now)).next (direction_of Dir.FORWARD) (Input.Position.offset pos.old)) }
 {
     if Dir::FORWARD {
         input.next_right(pos)
@@ -78,8 +78,8 @@ pub fn next_byte<Input: InputIndexer, Dir: Direction>(
     pos: &mut Input::Position,
 ) -> Option<u8>
     requires { LiesIn (Input.view input.now) (Input.Position.offset pos.old) }
-    ensures byte { result ≡ in_bytes (Input.view input.now).kind (unit_beside (Input.view input.now).units (way Dir.FORWARD) (Input.Position.offset pos.old)) }
-    ensures position { Input.Position.offset pos.new ≡ (if is_some result then past_unit (way Dir.FORWARD) (Input.Position.offset pos.old) else Input.Position.offset pos.old) }
+    ensures byte { result ≡ in_bytes (Input.view input.now).kind (unit_beside (Input.view input.now).units (direction_of Dir.FORWARD) (Input.Position.offset pos.old)) }
+    ensures position { Input.Position.offset pos.new ≡ (if is_some result then past_unit (direction_of Dir.FORWARD) (Input.Position.offset pos.old) else Input.Position.offset pos.old) }
 {
     if Dir::FORWARD {
         let byte = input.peek_byte_right(*pos)?;
@@ -103,7 +103,7 @@ pub fn try_match_lit<const N: usize, Input: InputIndexer, Dir: Direction>(
     wanted: &[u8; N],
 ) -> bool
     requires { LiesIn (Input.view input.now) (Input.Position.offset pos.old) }
-    ensures { only_if result (Input.Position.offset pos.new) ≡ in_bytes (Input.view input.now).kind (literal (input_of (Input.view input.now)) (way Dir.FORWARD) wanted.now (Input.Position.offset pos.old)) }
+    ensures { only_if result (Input.Position.offset pos.new) ≡ in_bytes (Input.view input.now).kind (literal (input_of (Input.view input.now)) (direction_of Dir.FORWARD) wanted.now (Input.Position.offset pos.old)) }
 {
     input.match_bytes(dir, pos, wanted)
 }

@@ -3,7 +3,7 @@ ghost use Rattle.std.specs.Prelude.{Some, ◌≡◌, ◌≤◌, ◌-◌, ℕ, op
 ghost use Rattle.regress_meaning.specs.Meaning.{Forward as forward, Backward as backward};
 ghost use Rattle.regress_meaning.specs.Steps.{point, only_if, literal};
 ghost use Rattle.regress_front_tables.specs.TableViews.{table};
-ghost use Rattle.regress_engine_input.specs.Views.{View, way, are_bytes, input_of, CanRead, LiesIn, behind, unit_beside, in_bytes, moved_right, found_from, units_repeated, AreOfKind};
+ghost use Rattle.regress_engine_input.specs.Views.{View, direction_of, are_bytes, input_of, CanRead, LiesIn, behind, unit_beside, in_bytes, moved_right, found_from, units_repeated, AreOfKind};
 
 use crate::bytes::{byte_left, byte_right, slice_beside};
 use crate::cursor::Direction;
@@ -194,14 +194,14 @@ pub trait InputIndexer: Debug + Copy {
         requires order { Self.Position.offset range.start ≤ Self.Position.offset range.end }
         requires end { LiesIn (view self.now) (Self.Position.offset range.end) }
         requires position { LiesIn (view self.now) (Self.Position.offset pos.old) }
-        ensures { only_if result (Self.Position.offset pos.new) ≡ units_repeated (view self.now) (way Dir.FORWARD) (Self.Position.offset range.start) (Self.Position.offset range.end) (Self.Position.offset pos.old) };
+        ensures { only_if result (Self.Position.offset pos.new) ≡ units_repeated (view self.now) (direction_of Dir.FORWARD) (Self.Position.offset range.start) (Self.Position.offset range.end) (Self.Position.offset pos.old) };
 
     /// Whether these bytes stand beside a position, to its right or to its left by the direction. Where they do the position
     /// moves past them, else it may be any. Over units, which are no bytes, they never do.
     #[inline]
     fn match_bytes<Dir: Direction>(&self, dir: Dir, pos: &mut Self::Position, bytes: &[u8]) -> bool
         requires { LiesIn (view self.now) (Self.Position.offset pos.old) }
-        ensures { only_if result (Self.Position.offset pos.new) ≡ in_bytes (view self.now).kind (literal (input_of (view self.now)) (way Dir.FORWARD) bytes.now (Self.Position.offset pos.old)) }
+        ensures { only_if result (Self.Position.offset pos.new) ≡ in_bytes (view self.now).kind (literal (input_of (view self.now)) (direction_of Dir.FORWARD) bytes.now (Self.Position.offset pos.old)) }
     {
         let Some(text) = self.bytes() else {
             return false;

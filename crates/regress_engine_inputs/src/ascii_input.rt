@@ -7,7 +7,7 @@ use crate::bytes::{single_byte_left, single_byte_right};
 use crate::position::DefPosition;
 use regress_engine_input::{Direction, InputIndexer, PositionType, slice_beside};
 use regress_engine_matchers::{ASCIICharProperties, CharInput};
-use regress_engine_sought::{ExecutorInput, Shown};
+use regress_engine_search::{ExecutorInput, Shown};
 use regress_front_tables::Tables;
 use std::ops::Range;
 
@@ -51,7 +51,7 @@ impl<'u, 't> AsciiInput<'u, 't> {
 impl<'u, 't> InputIndexer for AsciiInput<'u, 't> {
     ghost use Rattle.std.specs.Prelude.{◌≡◌, ◌≤◌, slice_range};
     ghost use Rattle.regress_meaning.specs.Steps.{only_if};
-    ghost use Rattle.regress_engine_input.specs.Views.{way, CanRead, LiesIn, units_repeated};
+    ghost use Rattle.regress_engine_input.specs.Views.{direction_of, CanRead, LiesIn, units_repeated};
     ghost use Rattle.regress_engine_inputs.specs.InputViews.{ascii_view};
 
     type Element = u8;
@@ -125,7 +125,7 @@ impl<'u, 't> InputIndexer for AsciiInput<'u, 't> {
         requires order { range.start.offset ≤ range.end.offset }
         requires end { LiesIn (ascii_view self.now) range.end.offset }
         requires position { LiesIn (ascii_view self.now) pos.old.offset }
-        ensures { only_if result pos.new.offset ≡ units_repeated (ascii_view self.now) (way Dir.FORWARD) range.start.offset range.end.offset pos.old.offset }
+        ensures { only_if result pos.new.offset ≡ units_repeated (ascii_view self.now) (direction_of Dir.FORWARD) range.start.offset range.end.offset pos.old.offset }
     {
         let part = &self.contents()[range.start.offset()..range.end.offset()];
         pos.move_to(slice_beside(dir, self.contents(), part, pos.offset()))

@@ -7,7 +7,7 @@ ghost use Rattle.regress_meaning.specs.Inputs.{Input, single_next, utf16_next};
 ghost use Rattle.regress_meaning.specs.TableParts.{is_surrogate};
 ghost use Rattle.regress_meaning.specs.Offsets.{Begins, characters, of_utf16};
 ghost use Rattle.regress_meaning.specs.Steps.{literal, splits, unless_split};
-ghost use Rattle.regress_engine_input.specs.Views.{way};
+ghost use Rattle.regress_engine_input.specs.Views.{direction_of};
 
 use regress_engine_input::Direction;
 
@@ -142,7 +142,7 @@ pub(crate) fn units_beside<Dir: Direction>(
     at: usize,
 ) -> Option<usize>
     requires { at ≤ length units.now }
-    ensures { (input : Input) → input.units ≡ units.now → result ≡ literal input (way Dir.FORWARD) part.now at }
+    ensures { (input : Input) → input.units ≡ units.now → result ≡ literal input (direction_of Dir.FORWARD) part.now at }
 {
     if Dir::FORWARD {
         units_right(units, part, at)

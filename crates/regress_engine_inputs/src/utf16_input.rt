@@ -7,7 +7,7 @@ use crate::position::DefPosition;
 use crate::units::{outside_pair, units_beside, utf16_left, utf16_right};
 use regress_engine_input::{Direction, InputIndexer, PositionType};
 use regress_engine_matchers::{CharInput, Utf16CharProperties};
-use regress_engine_sought::{ExecutorInput, Shown};
+use regress_engine_search::{ExecutorInput, Shown};
 use regress_front_tables::Tables;
 use std::ops::Range;
 
@@ -43,7 +43,7 @@ impl<'u, 't> Utf16Input<'u, 't> {
 impl<'u, 't> InputIndexer for Utf16Input<'u, 't> {
     ghost use Rattle.std.specs.Prelude.{◌≡◌, ◌≤◌, slice_range};
     ghost use Rattle.regress_meaning.specs.Steps.{only_if};
-    ghost use Rattle.regress_engine_input.specs.Views.{way, CanRead, LiesIn, units_repeated};
+    ghost use Rattle.regress_engine_input.specs.Views.{direction_of, CanRead, LiesIn, units_repeated};
     ghost use Rattle.regress_engine_inputs.specs.InputViews.{utf16_view};
 
     type Element = u32;
@@ -117,7 +117,7 @@ impl<'u, 't> InputIndexer for Utf16Input<'u, 't> {
         requires order { range.start.offset ≤ range.end.offset }
         requires end { LiesIn (utf16_view self.now) range.end.offset }
         requires position { LiesIn (utf16_view self.now) pos.old.offset }
-        ensures { only_if result pos.new.offset ≡ units_repeated (utf16_view self.now) (way Dir.FORWARD) range.start.offset range.end.offset pos.old.offset }
+        ensures { only_if result pos.new.offset ≡ units_repeated (utf16_view self.now) (direction_of Dir.FORWARD) range.start.offset range.end.offset pos.old.offset }
     {
         let part = &self.units[range.start.offset()..range.end.offset()];
         let found = units_beside(dir, self.units, part, pos.offset());

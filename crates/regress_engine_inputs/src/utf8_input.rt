@@ -7,7 +7,7 @@ use crate::bytes::{utf8_left, utf8_right};
 use crate::position::DefPosition;
 use regress_engine_input::{Direction, InputIndexer, PositionType, slice_beside};
 use regress_engine_matchers::{CharInput, UTF8CharProperties};
-use regress_engine_sought::{ExecutorInput, Shown};
+use regress_engine_search::{ExecutorInput, Shown};
 use regress_front_tables::Tables;
 use std::ops::Range;
 
@@ -50,7 +50,7 @@ impl<'u, 't> Utf8Input<'u, 't> {
 impl<'u, 't> InputIndexer for Utf8Input<'u, 't> {
     ghost use Rattle.std.specs.Prelude.{◌≡◌, ◌≤◌, slice_range};
     ghost use Rattle.regress_meaning.specs.Steps.{only_if};
-    ghost use Rattle.regress_engine_input.specs.Views.{way, CanRead, LiesIn, units_repeated};
+    ghost use Rattle.regress_engine_input.specs.Views.{direction_of, CanRead, LiesIn, units_repeated};
     ghost use Rattle.regress_engine_inputs.specs.InputViews.{utf8_view};
 
     type Element = char;
@@ -136,7 +136,7 @@ impl<'u, 't> InputIndexer for Utf8Input<'u, 't> {
         requires order { range.start.offset ≤ range.end.offset }
         requires end { LiesIn (utf8_view self.now) range.end.offset }
         requires position { LiesIn (utf8_view self.now) pos.old.offset }
-        ensures { only_if result pos.new.offset ≡ units_repeated (utf8_view self.now) (way Dir.FORWARD) range.start.offset range.end.offset pos.old.offset }
+        ensures { only_if result pos.new.offset ≡ units_repeated (utf8_view self.now) (direction_of Dir.FORWARD) range.start.offset range.end.offset pos.old.offset }
     {
         let part = &self.contents()[range.start.offset()..range.end.offset()];
         pos.move_to(slice_beside(dir, self.contents(), part, pos.offset()))

@@ -11,7 +11,7 @@ use Rattle.regress_front_nodes.specs.Forms.{in_reading_order}
 use Rattle.regress_front_nodes.specs.Pieces.{pieces_of}
 use Rattle.regress_engine_insn.specs.Instructions.{Instruction, Program, Stands, StandFrom, begins_loop}
 use Rattle.regress_engine_insn.specs.Instructions as code
-use Rattle.regress_engine_insn.specs.Layout.{Spot, next, Target, byte_set_code, char_set_code, literal_code, string_code, resets, IsBracket, IsOne, AreAll, AreArms, Lies, IsLayout}
+use Rattle.regress_engine_insn.specs.Layout.{ProgramPoint, next, Target, byte_set_code, char_set_code, literal_code, string_code, resets, IsBracket, IsOne, AreAll, AreArms, Lies, IsLayout}
 use Rattle.regress_engine_insn.proofs.LayoutLemmas.{resets-length}
 use Rattle.regress_engine_insn.proofs.TakingLemmas.{OfTaking, char_set-taking, byte_set-taking, literal-taking, pieces-taking}
 
@@ -44,8 +44,8 @@ module _ (target : Target) where
   abbrev begun : ℕ → ℕ
   begun k = count_by begins_loop (take k target.program.instructions)
 
-  -- between two spots as many repetitions begin as their loops tell
-  abbrev Tells : Spot → Spot → Type 0
+  -- between two program points as many repetitions begin as their loops tell
+  abbrev Tells : ProgramPoint → ProgramPoint → Type 0
   Tells p q = begun q.address + p.loops ≡ begun p.address + q.loops
 
   plain-step : (k : ℕ) (i : Instruction) → Stands target.program k i → IsPlain i → begun (suc k) ≡ begun k
@@ -60,24 +60,24 @@ module _ (target : Target) where
       let e : k + suc (length is) ≡ suc k + length is = omega arith in
       ap begun e ∙ plain-steps is (suc k) stand (All-tail IsPlain i is plain) ∙ plain-step k i here (All-head IsPlain i is plain)
 
-  nothing : (p q : Spot) → q ≡ p → Tells p q
-  nothing p q e = let a = ap (λ (m : Spot). begun m.address) e in let l = ap (λ (m : Spot). m.loops) e in omega (arith, a, l)
+  nothing : (p q : ProgramPoint) → q ≡ p → Tells p q
+  nothing p q e = let a = ap (λ (m : ProgramPoint). begun m.address) e in let l = ap (λ (m : ProgramPoint). m.loops) e in omega (arith, a, l)
 
-  single : (i : Instruction) (p q : Spot) → IsOne target i p q → IsPlain i → Tells p q
+  single : (i : Instruction) (p q : ProgramPoint) → IsOne target i p q → IsPlain i → Tells p q
   single i p q (here, end) plain =
       let step = plain-step p.address i here plain in
-      let a = ap (λ (m : Spot). begun m.address) end in
-      let l = ap (λ (m : Spot). m.loops) end in
+      let a = ap (λ (m : ProgramPoint). begun m.address) end in
+      let l = ap (λ (m : ProgramPoint). m.loops) end in
       omega (arith, step, a, l)
 
-  several : (is : List Instruction) (p q : Spot) → AreAll target is p q → All IsPlain is → Tells p q
+  several : (is : List Instruction) (p q : ProgramPoint) → AreAll target is p q → All IsPlain is → Tells p q
   several is p q (stand, end) plain =
       let steps = plain-steps is p.address stand plain in
-      let a = ap (λ (m : Spot). begun m.address) end in
-      let l = ap (λ (m : Spot). m.loops) end in
+      let a = ap (λ (m : ProgramPoint). begun m.address) end in
+      let l = ap (λ (m : ProgramPoint). m.loops) end in
       omega (arith, steps, a, l)
 
-  arms-tell : (b icase : Bool) (strings : List (List ℕ)) (p q : Spot) → AreArms target b icase strings p q → Tells p q
+  arms-tell : (b icase : Bool) (strings : List (List ℕ)) (p q : ProgramPoint) → AreArms target b icase strings p q → Tells p q
   arms-tell b icase [] p q h = single code.fail p q h refl
   arms-tell b icase (s ∷ []) p q h =
       several (string_code target b icase s) p q h (pieces-taking target.program IsPlain (plain-taking target.program) b (in_reading_order b (pieces_of target.table icase target.unicode s)))
@@ -97,8 +97,8 @@ module _ (target : Target) where
   resets-plain first zero = All-nil IsPlain
   resets-plain first (suc n) = All-cons IsPlain (code.reset_group first) (resets (suc first) n) refl (resets-plain (suc first) n)
 
-  -- Between the spots of a tree as many repetitions begin as its loops.
-  pub loops-begin : (t : Tree) (b : Bool) (p q : Spot) → Lies target b t p q → Tells p q
+  -- Between the program points of a tree as many repetitions begin as its loops.
+  pub loops-begin : (t : Tree) (b : Bool) (p q : ProgramPoint) → Lies target b t p q → Tells p q
   loops-begin tree.empty b p q h = nothing p q h
   loops-begin tree.no_part b p q h = nothing p q h
   loops-begin (tree.bytes bs) b p q h = several (literal_code target.program b bs) p q h (literal-taking target.program IsPlain (plain-taking target.program) b bs)

@@ -16,7 +16,7 @@ use Rattle.regress_front_nodes.specs.Sizes.{loops}
 use Rattle.regress_front_nodes.specs.WellFormed.{AreLawful}
 use Rattle.regress_engine_insn.specs.Instructions.{Instruction, Program}
 use Rattle.regress_engine_insn.specs.Instructions as code
-use Rattle.regress_engine_insn.specs.Layout.{Spot, next, later, Target, most_bytes, chunks, literal_code, piece_code, pieces_code, string_code, AreArms, Lies, IsLayout}
+use Rattle.regress_engine_insn.specs.Layout.{ProgramPoint, next, later, Target, most_bytes, chunks, literal_code, piece_code, pieces_code, string_code, AreArms, Lies, IsLayout}
 use Rattle.regress_engine_insn.specs.Counts.{literal_count, piece_count, string_count, strings_count, count}
 use Rattle.regress_engine_insn.proofs.LayoutLemmas.{at-same}
 use Rattle.regress_engine_insn.proofs.LiteralLemmas.{one-character, literal-alone}
@@ -88,25 +88,25 @@ sum-turned f true (t ∷ ts) =
     let rest = sum-turned f true ts in
     turned ∙ parts ∙ last-first (sum_by f (reverse ts)) (sum_by f ts) (f t) (sum_by f (t ∷ ts)) rest (sum_by-cons f t ts)
 
--- the loops of a spot that is told by another
-loops-at : (p q : Spot) → q ≡ p → q.loops ≡ p.loops
-loops-at p q e = ap (λ (m : Spot). m.loops) e
+-- the loops of a program point that is told by another
+loops-at : (p q : ProgramPoint) → q ≡ p → q.loops ≡ p.loops
+loops-at p q e = ap (λ (m : ProgramPoint). m.loops) e
 
 module _ (target : Target) where
-  abbrev Counted : Spot → Spot → ℕ → ℕ → Type 0
+  abbrev Counted : ProgramPoint → ProgramPoint → ℕ → ℕ → Type 0
   Counted p q n k = (q.address ≡ p.address + n) × (q.loops ≡ p.loops + k)
 
   abbrev own : Tree → ℕ
   own t = count target.program.units target.table target.unicode t
 
   -- one instruction
-  one : (p q : Spot) → q ≡ next p → Counted p q 1 0
+  one : (p q : ProgramPoint) → q ≡ next p → Counted p q 1 0
   one p q e = let a = at-same (next p) q e in let l = loops-at (next p) q e in (omega (arith, a), omega (arith, l))
 
-  none : (p q : Spot) → q ≡ p → Counted p q 0 0
+  none : (p q : ProgramPoint) → q ≡ p → Counted p q 0 0
   none p q e = let a = at-same p q e in let l = loops-at p q e in (omega (arith, a), omega (arith, l))
 
-  some : (p q : Spot) (n m : ℕ) → q ≡ later p n → n ≡ m → Counted p q m 0
+  some : (p q : ProgramPoint) (n m : ℕ) → q ≡ later p n → n ≡ m → Counted p q m 0
   some p q n m e f = let a = at-same (later p n) q e in let l = loops-at (later p n) q e in (omega (arith, a, f), omega (arith, l))
 
   pub string-length : (b icase : Bool) (cs : List ℕ) → All is_code_point cs
@@ -117,7 +117,7 @@ module _ (target : Target) where
       pieces-length target.program b (in_reading_order b ts) (ordered-pieces b ts (all-pieces target.table icase target.unicode cs points))
       ∙ sum-turned (piece_count target.program.units) b ts
 
-  arms-counted : (b icase : Bool) (strings : List (List ℕ)) (p q : Spot) → All (All is_code_point) strings → AreArms target b icase strings p q
+  arms-counted : (b icase : Bool) (strings : List (List ℕ)) (p q : ProgramPoint) → All (All is_code_point) strings → AreArms target b icase strings p q
       → Counted p q (strings_count target.program.units target.table target.unicode icase strings) 0
   arms-counted b icase [] p q points (here, end) = one p q end
   arms-counted b icase (cs ∷ []) p q points (stand, end) =
@@ -132,7 +132,7 @@ module _ (target : Target) where
       (omega (arith, at, more, sum), omega (arith, loop, loops'))
 
   -- what takes one character is one instruction
-  single-counted : (n : ℕ) (a : Tree) (b : Bool) (p q : Spot) → Lies target b a p q → takes_one a ≡ true → AreLawful n a → Counted p q 1 0
+  single-counted : (n : ℕ) (a : Tree) (b : Bool) (p q : ProgramPoint) → Lies target b a p q → takes_one a ≡ true → AreLawful n a → Counted p q 1 0
   single-counted n (tree.char c) b p q h is lawful = one p q h.1
   single-counted n tree.any b p q h is lawful = one p q h.1
   single-counted n tree.any_in_line b p q h is lawful = one p q h.1
@@ -143,8 +143,8 @@ module _ (target : Target) where
       let alone = one-character bs is in some p q _ 1 end (ap length (literal-alone target.program b bs alone.0 alone.1 lawful))
   single-counted n _ b p q h is lawful = absurd (grind arith)
 
-  -- Between the two spots are as many addresses as the tree has instructions, and as many loops as it has.
-  pub counted : (n : ℕ) (t : Tree) (b : Bool) (p q : Spot) → Lies target b t p q → AreLawful n t → Counted p q (own t) (loops t)
+  -- Between the two program points are as many addresses as the tree has instructions, and as many loops as it has.
+  pub counted : (n : ℕ) (t : Tree) (b : Bool) (p q : ProgramPoint) → Lies target b t p q → AreLawful n t → Counted p q (own t) (loops t)
   unfolding count
   counted n tree.empty b p q h lawful = none p q h
   counted n tree.no_part b p q h lawful = none p q h

@@ -6,7 +6,7 @@ use Rattle.regress_front_nodes.specs.TreeMeaning.{reads_backward}
 use Rattle.regress_front_nodes.specs.Trees as tree
 use Rattle.regress_engine_insn.specs.Instructions.{Instruction, Program, Stands, StandFrom}
 use Rattle.regress_engine_insn.specs.Instructions as code
-use Rattle.regress_engine_insn.specs.Layout.{Spot, next, later, Target, resets, string_code, IsBracket, AreArms, Lies}
+use Rattle.regress_engine_insn.specs.Layout.{ProgramPoint, next, later, Target, resets, string_code, IsBracket, AreArms, Lies}
 
 -- instructions that stand one after another are some and then the others
 pub stand-parts : (program : Program) (xs ys : List Instruction) (address : ℕ) → StandFrom program address (xs ++ ys)
@@ -17,15 +17,15 @@ stand-parts program (x ∷ xs) ys address (here, rest) =
     let e : suc address + length xs ≡ address + suc (length xs) = omega arith in
     ((here, parts.0), subst (λ a. StandFrom program a ys) e parts.1)
 
--- the address of a spot that is told by another
-pub at-same : (p q : Spot) → q ≡ p → q.address ≡ p.address
-at-same p q e = ap (λ (m : Spot). m.address) e
+-- the address of a program point that is told by another
+pub at-same : (p q : ProgramPoint) → q ≡ p → q.address ≡ p.address
+at-same p q e = ap (λ (m : ProgramPoint). m.address) e
 
 pub resets-length : (first n : ℕ) → length (resets first n) ≡ n
 resets-length first zero = refl
 resets-length first (suc n) = ap suc (resets-length (suc first) n)
 
-arms-forward : (target : Target) (b icase : Bool) (strings : List (List ℕ)) (p q : Spot) → AreArms target b icase strings p q → p.address ≤ q.address
+arms-forward : (target : Target) (b icase : Bool) (strings : List (List ℕ)) (p q : ProgramPoint) → AreArms target b icase strings p q → p.address ≤ q.address
 arms-forward target b icase [] p q h = let e = at-same (next p) q h.1 in omega (arith, e)
 arms-forward target b icase (s ∷ []) p q h =
     let n : ℕ = length (string_code target b icase s) in
@@ -36,7 +36,7 @@ arms-forward target b icase (s ∷ t ∷ ss) p q (m, first, alt, jump, rest) =
     let r = arms-forward target b icase (t ∷ ss) (next m) q rest in omega (arith, e, r)
 
 -- a layout goes forward
-pub Lies-forward : (target : Target) (b : Bool) (t : Tree) (p q : Spot) → Lies target b t p q → p.address ≤ q.address
+pub Lies-forward : (target : Target) (b : Bool) (t : Tree) (p q : ProgramPoint) → Lies target b t p q → p.address ≤ q.address
 Lies-forward target b tree.empty p q h = let e = at-same p q h in omega (arith, e)
 Lies-forward target b (tree.bytes bs) p q h = let e = at-same (later p _) q h.1 in omega (arith, e)
 Lies-forward target b (tree.cat s t) p q (m, h, k) =
@@ -82,7 +82,7 @@ module _ (target : Target) (is : List Instruction) (brackets : List (Bool × Lis
   all-stand (x ∷ xs) low agree (h, rest) =
       (agree low x (omega arith) (omega arith) h, all-stand xs (suc low) (λ k i below above. agree k i (omega arith) (omega arith)) rest)
 
-  arms-moved : (b icase : Bool) (strings : List (List ℕ)) (p q : Spot) → Agrees p.address q.address → AreArms target b icase strings p q
+  arms-moved : (b icase : Bool) (strings : List (List ℕ)) (p q : ProgramPoint) → Agrees p.address q.address → AreArms target b icase strings p q
       → AreArms (with_code target is brackets) b icase strings p q
   arms-moved b icase [] p q agree h = let e = at-same (next p) q h.1 in (agree p.address code.fail (omega arith) (omega (arith, e)) h.0, h.1)
   arms-moved b icase (s ∷ []) p q agree h =
@@ -106,8 +106,8 @@ module _ (target : Target) (is : List Instruction) (brackets : List (Bool × Lis
   bracket-moved inverted intervals (code.ascii_bracket cs) has h = h
   bracket-moved inverted intervals _ has h = absurd h
 
-  -- A layout rests on the instructions between its spots, and on its brackets: it stays where others are pushed or written.
-  pub Lies-moved : HasBrackets → (b : Bool) (t : Tree) (p q : Spot) → Agrees p.address q.address → Lies target b t p q → Lies (with_code target is brackets) b t p q
+  -- A layout rests on the instructions between its program points, and on its brackets: it stays where others are pushed or written.
+  pub Lies-moved : HasBrackets → (b : Bool) (t : Tree) (p q : ProgramPoint) → Agrees p.address q.address → Lies target b t p q → Lies (with_code target is brackets) b t p q
   Lies-moved has b tree.empty p q agree h = h
   Lies-moved has b (tree.bytes bs) p q agree h =
       let e = at-same (later p _) q h.1 in (all-stand _ p.address (λ k i below above. agree k i below (omega (arith, above, e))) h.0, h.1)

@@ -10,17 +10,17 @@ use Rattle.regress_front_nodes.specs.Pieces.{pieces_of}
 use Rattle.regress_engine_insn.specs.Instructions.{LoopFields, Instruction, Program, Stands, StandFrom}
 use Rattle.regress_engine_insn.specs.Instructions as code
 
--- A spot in a program: an address, and how many loops begin before it.
-pub record Spot : Type 0 where
+-- A point of a program: an address, and how many loops begin before it.
+pub record ProgramPoint : Type 0 where
   pub address : ℕ
   pub loops : ℕ
 
--- the spot behind one instruction that begins no loop
-abbrev pub next : Spot → Spot
+-- the program point behind one instruction that begins no loop
+abbrev pub next : ProgramPoint → ProgramPoint
 next p = record p { address = suc p.address }
 
--- the spot behind so many instructions that begin no loop
-abbrev pub later : Spot → ℕ → Spot
+-- the program point behind so many instructions that begin no loop
+abbrev pub later : ProgramPoint → ℕ → ProgramPoint
 later p n = record p { address = p.address + n }
 
 -- at most this many bytes are compared at once
@@ -91,47 +91,47 @@ string_code target backward icase cs =
     pieces_code target.program backward (in_reading_order backward (pieces_of target.table icase target.unicode cs))
 
 module _ (target : Target) where
-  -- one instruction, and nothing else, stands between two spots
-  abbrev pub IsOne : Instruction → Spot → Spot → Type 0
+  -- one instruction, and nothing else, stands between two program points
+  abbrev pub IsOne : Instruction → ProgramPoint → ProgramPoint → Type 0
   IsOne i p q = Stands target.program p.address i × (q ≡ next p)
 
-  -- these instructions, and nothing else, stand between two spots
-  abbrev pub AreAll : List Instruction → Spot → Spot → Type 0
+  -- these instructions, and nothing else, stand between two program points
+  abbrev pub AreAll : List Instruction → ProgramPoint → ProgramPoint → Type 0
   AreAll is p q = StandFrom target.program p.address is × (q ≡ later p (length is))
 
-  -- The strings of a set lie between two spots: an `Alt` before each but the last leads past it, a `Jump` behind it to the end.
-  abbrev pub AreArms : (backward icase : Bool) → List (List ℕ) → Spot → Spot → Type 0
+  -- The strings of a set lie between two program points: an `Alt` before each but the last leads past it, a `Jump` behind it to the end.
+  abbrev pub AreArms : (backward icase : Bool) → List (List ℕ) → ProgramPoint → ProgramPoint → Type 0
   AreArms backward icase [] p q = IsOne code.fail p q
   AreArms backward icase (s ∷ []) p q = AreAll (string_code target backward icase s) p q
-  AreArms backward icase (s ∷ t ∷ ss) p q = (m : Spot) × AreAll (string_code target backward icase s) (next p) m
+  AreArms backward icase (s ∷ t ∷ ss) p q = (m : ProgramPoint) × AreAll (string_code target backward icase s) (next p) m
       × Stands target.program p.address (code.alt (suc m.address)) × Stands target.program m.address (code.jump q.address)
       × AreArms backward icase (t ∷ ss) (next m) q
 
-  -- A tree lies between two spots; backward: inside a lookbehind.
-  abbrev pub Lies : (backward : Bool) → Tree → Spot → Spot → Type 0
+  -- A tree lies between two program points; backward: inside a lookbehind.
+  abbrev pub Lies : (backward : Bool) → Tree → ProgramPoint → ProgramPoint → Type 0
   Lies backward tree.empty p q = q ≡ p
   Lies backward tree.goal p q = IsOne code.goal p q
   Lies backward (tree.char c) p q = IsOne (code.char c) p q
   Lies backward (tree.bytes bs) p q = AreAll (literal_code target.program backward bs) p q
   Lies backward (tree.byte_set bs) p q = IsOne (byte_set_code target.program.units bs) p q
   Lies backward (tree.char_set cs) p q = IsOne (char_set_code cs) p q
-  Lies backward (tree.cat a b) p q = (m : Spot) × Lies backward a p m × Lies backward b m q
+  Lies backward (tree.cat a b) p q = (m : ProgramPoint) × Lies backward a p m × Lies backward b m q
   Lies backward tree.no_part p q = q ≡ p
-  Lies backward (tree.alt a b) p q = (m : Spot) × Stands target.program p.address (code.alt (suc m.address)) × Lies backward a (next p) m
+  Lies backward (tree.alt a b) p q = (m : ProgramPoint) × Stands target.program p.address (code.alt (suc m.address)) × Lies backward a (next p) m
       × Stands target.program m.address (code.jump q.address) × Lies backward b (next m) q
   Lies backward tree.any p q = IsOne code.any p q
   Lies backward tree.any_in_line p q = IsOne code.any_in_line p q
   Lies backward (tree.line_start multiline) p q = IsOne (code.line_start multiline) p q
   Lies backward (tree.line_end multiline) p q = IsOne (code.line_end multiline) p q
   Lies backward (tree.boundary inverted folded) p q = IsOne (code.boundary inverted folded) p q
-  Lies backward (tree.capture k name a) p q = (m : Spot) × Stands target.program p.address (code.begin_group k) × Lies backward a (next p) m
+  Lies backward (tree.capture k name a) p q = (m : ProgramPoint) × Stands target.program p.address (code.begin_group k) × Lies backward a (next p) m
       × IsOne (code.end_group k) m q
   Lies backward (tree.back k icase) p q = IsOne (code.back (k - 1) icase) p q
   Lies backward (tree.bracket inverted intervals) p q = (i : Instruction) × IsBracket target.program inverted intervals i × IsOne i p q
   Lies backward (tree.string_set strings icase) p q = AreArms backward icase strings p q
-  Lies backward (tree.submatch kind first last a) p q = (m : Spot) × Stands target.program p.address (code.submatch kind first last q.address)
+  Lies backward (tree.submatch kind first last a) p q = (m : ProgramPoint) × Stands target.program p.address (code.submatch kind first last q.address)
       × Lies (reads_backward kind backward) a (next p) m × IsOne code.goal m q
-  Lies backward (tree.loop a first last least most greedy) p q = (m : Spot)
+  Lies backward (tree.loop a first last least most greedy) p q = (m : ProgramPoint)
       × Stands target.program p.address (code.enter_loop (record { loop_id = p.loops; least = least; most = most; greedy = greedy; exit = q.address }))
       × StandFrom target.program (suc p.address) (resets first (last - first))
       × Lies backward a (record { address = suc p.address + (last - first); loops = suc p.loops }) m × IsOne (code.loop_again p.address) m q

@@ -6,15 +6,15 @@ use Rattle.regress_engine_input.specs.Views.{View, input_of}
 use Rattle.regress_engine_insn.specs.Instructions.{Instruction, Program, Stands}
 use Rattle.regress_engine_runs.specs.States.{Marks}
 use Rattle.regress_engine_runs.specs.Runs.{advance}
-use Rattle.regress_engine_sought.specs.Ready.{is_simple}
-use Rattle.regress_engine_singles.specs.Failing.{IsStuck}
+use Rattle.regress_engine_search.specs.Ready.{is_simple}
+use Rattle.regress_engine_singles.specs.Failing.{IsDead}
 use Rattle.regress_engine_singles.specs.Passed.{PassesOver}
 use Rattle.regress_engine_leading.specs.declared.leading.Beginning.{Beginning}
 use Rattle.regress_engine_leading.specs.declared.leading.Beginning.TheVariants.{Passed, At}
 
--- Where nothing is led to from an address on, nothing is from the first one.
+-- Where no match can be reached from an address on, nothing is from the first one.
 abbrev pub BeginsAt : Program → View → (at : ℕ) → Type 0
-BeginsAt program v at = (o : ℕ) → IsStuck program (input_of v) Forward at o → IsStuck program (input_of v) Forward 0 o
+BeginsAt program v at = (o : ℕ) → IsDead program (input_of v) Forward at o → IsDead program (input_of v) Forward 0 o
 
 -- An instruction stands first that leads on and takes nothing from a place.
 abbrev pub IsPassed : Program → Input → (start : ℕ) → Instruction → Type 0

@@ -9,15 +9,15 @@ ghost use Rattle.regress_engine_runs.specs.States.{Marks};
 ghost use Rattle.regress_engine_runs.specs.Runs.{advance};
 ghost use Rattle.regress_engine_runs.specs.Closed.{Fits};
 ghost use Rattle.regress_engine_runs.specs.Meets.{IsAtPlace};
-ghost use Rattle.regress_engine_sought.specs.Sought.{Suits};
-ghost use Rattle.regress_engine_singles.specs.Failing.{IsStuck};
+ghost use Rattle.regress_engine_search.specs.Search.{Suits};
+ghost use Rattle.regress_engine_singles.specs.Failing.{IsDead};
 ghost use Rattle.regress_engine_singles.specs.Passed.{is_class};
 
 use regress_engine_advance::{ascii_bracket, bracket, bytes_beside, holds_at};
 use regress_engine_code::CompiledRegex;
 use regress_engine_insn::Insn;
 use regress_engine_matchers::CharInput;
-use regress_engine_singles::{is_class, is_edge};
+use regress_engine_singles::{is_assertion, is_class};
 
 /// The offset behind the character ahead of one, where a class matches that.
 #[inline]
@@ -51,7 +51,7 @@ fn byte_ahead<Input: CharInput>(input: &Input, offset: usize, byte: &[u8; 1]) ->
     bytes_beside(input, true, offset, byte)
 }
 
-/// Whether surely nothing is led to from an address and an offset on, read forward: bytes are taken there that don't
+/// Whether surely no match can be reached from an address and an offset on, read forward: bytes are taken there that don't
 /// stand, or a class that does not match, or what is asked of the offset is not so; before these may come ends and
 /// beginnings of groups, what is asked and is so, and characters of ASCII that stand there.
 pub(crate) fn fails<Input: CharInput>(
@@ -63,14 +63,14 @@ pub(crate) fn fails<Input: CharInput>(
 ) -> bool
     requires suits { Suits (program_of program.now) (Input.view input.now) }
     requires place { IsAtPlace (reading_of (Input.view input.now)) offset }
-    ensures { result ≡ true → IsStuck (program_of program.now) (input_of (Input.view input.now)) ahead at offset }
+    ensures { result ≡ true → IsDead (program_of program.now) (input_of (Input.view input.now)) ahead at offset }
 {
     let insns = program.insns();
     if at >= insns.len() || left == 0 {
         return false;
     }
     let insn = &insns[at];
-    if is_edge(insn) {
+    if is_assertion(insn) {
         if !holds_at(input, insn, offset) {
             return true;
         }

@@ -4,16 +4,16 @@ ghost use Rattle.regress_engine_insn.specs.Instructions.{Program, Stands, bounda
 ghost use Rattle.regress_engine_code.specs.Standing.{program_of};
 ghost use Rattle.regress_engine_input.specs.Views.{View, reading_of};
 ghost use Rattle.regress_engine_runs.specs.Meets.{IsAtPlace};
-ghost use Rattle.regress_engine_sought.specs.Sought.{Suits};
+ghost use Rattle.regress_engine_search.specs.Search.{Suits};
 ghost use Rattle.regress_engine_singles.specs.Passed.{PassesOver};
 ghost use Rattle.regress_engine_leading.specs.Known.{BeginsAt, IsKnown};
 
 use crate::failing::{class_ahead, fails};
-use regress_engine_advance::{beside, boundary, is_atomic, is_stuck, is_word, word_beside};
+use regress_engine_advance::{beside, boundary, is_atomic, is_dead, is_word, word_beside};
 use regress_engine_code::CompiledRegex;
 use regress_engine_insn::Insn;
 use regress_engine_matchers::{CharInput, CharProperties};
-use regress_engine_singles::{as_far_ahead, is_class, is_edge, takes_one};
+use regress_engine_singles::{as_far_ahead, is_assertion, is_class, takes_one};
 
 /// So many instructions behind a run are looked at.
 const LOOKED_AT: usize = 8;
@@ -57,14 +57,14 @@ fn passed_taken<Input: CharInput>(
         return None;
     }
     let (_, behind) = beside(input, true, start)?;
-    if !is_stuck(program, input, at + 1, true, behind) {
+    if !is_dead(program, input, at + 1, true, behind) {
         return None;
     }
     Some(behind)
 }
 
 /// How far no run has an answer, where the program has a class at an address and then a loop of a class: up to where that
-/// stops, where nothing is led to from any of its ends; where it has no such loop, what `passed_taken` tells.
+/// stops, where no match can be reached from any of its ends; where it has no such loop, what `passed_taken` tells.
 fn passed_from<Input: CharInput>(
     program: &CompiledRegex,
     input: &Input,
@@ -106,7 +106,7 @@ fn passed_from<Input: CharInput>(
     Some(far)
 }
 
-/// The offset behind the character ahead of the start, where there is one and nothing is led to from the start.
+/// The offset behind the character ahead of the start, where there is one and no match can be reached from the start.
 fn passed_one<Input: CharInput>(
     program: &CompiledRegex,
     input: &Input,
@@ -180,7 +180,7 @@ fn passed_line<Input: CharInput>(
     }
 }
 
-/// What is known of the start without a run: how far no run has an answer, where nothing is led to from behind the run of
+/// What is known of the start without a run: how far no run has an answer, where no match can be reached from behind the run of
 /// characters or the one character that the program begins with, or from an offset of which it asks something first; or
 /// that a run is behind the `\b` that it begins with.
 ///
@@ -204,7 +204,7 @@ pub fn known_at<Input: CharInput>(program: &CompiledRegex, input: &Input, start:
         Insn::WordBoundaryUnicodeICase { invert: false } => at_word(program, input, start, true),
         Insn::StartOfLine { multiline: true } => Beginning::of(passed_line(program, input, start)),
         insn => {
-            if is_edge(insn) {
+            if is_assertion(insn) {
                 return Beginning::of(passed_one(program, input, start));
             }
             Beginning::of(passed_from(program, input, start, 0))

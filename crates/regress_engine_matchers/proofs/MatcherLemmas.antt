@@ -304,13 +304,13 @@ module _ (v part : View) (told : Tells (reading_of part) (input_of part)) (dir :
     pub unread-less : Reads part → CanRead part at → unread dir (length part.units) next < unread dir (length part.units) at
     unread-less reads can = by_read ((input_of part).next dir at) refl here moved
       where
-        by_way : (d : Direction) (x : ℕ) → at ≤ length part.units → x ≤ length part.units → 0 < units_left d at x → unread d (length part.units) x < unread d (length part.units) at
-        by_way Forward x from room on = omega arith
-        by_way Backward x from room on = omega arith
+        by_direction : (d : Direction) (x : ℕ) → at ≤ length part.units → x ≤ length part.units → 0 < units_left d at x → unread d (length part.units) x < unread d (length part.units) at
+        by_direction Forward x from room on = omega arith
+        by_direction Backward x from room on = omega arith
 
         by_read : (x : Option (ℕ × ℕ)) → (input_of part).next dir at ≡ x → Some c ≡ option_map (λ (z : ℕ × ℕ). z.0) x → next ≡ behind at x
             → unread dir (length part.units) next < unread dir (length part.units) at
         by_read None e some m = absurd (cc some)
         by_read (Some x) e some m =
             let on = reads.on dir at x can e in
-            subst (λ n. unread dir (length part.units) n < unread dir (length part.units) at) (sym m) (by_way dir x.1 (reads.inside at can) (reads.inside x.1 on.0) on.1)
+            subst (λ n. unread dir (length part.units) n < unread dir (length part.units) at) (sym m) (by_direction dir x.1 (reads.inside at can) (reads.inside x.1 on.0) on.1)

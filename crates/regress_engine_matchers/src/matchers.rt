@@ -2,7 +2,7 @@
 ghost use Rattle.std.specs.Prelude.{◌≡◌, ◌≤◌, Some, false, true, length};
 ghost use Rattle.regress_meaning.specs.Table.{canon};
 ghost use Rattle.regress_meaning.specs.Steps.{only_if, repeated};
-ghost use Rattle.regress_engine_input.specs.Views.{way, input_of, CanRead, LiesIn, units_repeated};
+ghost use Rattle.regress_engine_input.specs.Views.{direction_of, input_of, CanRead, LiesIn, units_repeated};
 ghost use Rattle.regress_engine_matchers.specs.References.{IsPlace, begin_in, alike, part_repeated};
 
 use crate::properties::CharInput;
@@ -25,10 +25,10 @@ pub fn backref<Input: InputIndexer, Dir: Direction>(
     requires end { LiesIn (Input.view input.now) (Input.Position.offset range.end) }
     requires position { LiesIn (Input.view input.now) (Input.Position.offset pos.old) }
     ensures units { only_if result (Input.Position.offset pos.new)
-        ≡ units_repeated (Input.view input.now) (way Dir.FORWARD) (Input.Position.offset range.start) (Input.Position.offset range.end) (Input.Position.offset pos.old) }
+        ≡ units_repeated (Input.view input.now) (direction_of Dir.FORWARD) (Input.Position.offset range.start) (Input.Position.offset range.end) (Input.Position.offset pos.old) }
     ensures between { IsPlace (Input.view input.now) (Input.Position.offset range.start) → IsPlace (Input.view input.now) (Input.Position.offset range.end)
         → IsPlace (Input.view input.now) (Input.Position.offset pos.old) → only_if result (Input.Position.offset pos.new)
-        ≡ repeated (input_of (Input.view input.now)) (way Dir.FORWARD) false (Some (Input.Position.offset range.start, Input.Position.offset range.end)) (Input.Position.offset pos.old) }
+        ≡ repeated (input_of (Input.view input.now)) (direction_of Dir.FORWARD) false (Some (Input.Position.offset range.start, Input.Position.offset range.end)) (Input.Position.offset pos.old) }
 {
     input.subrange_eq(dir, pos, range)
 }
@@ -50,10 +50,10 @@ pub fn backref_icase<Input: CharInput, Dir: Direction>(
     requires end { CanRead (Input.view input.now) (Input.Position.offset range.end) }
     requires position { CanRead (Input.view input.now) (Input.Position.offset pos.old) }
     ensures part { only_if result (Input.Position.offset pos.new)
-        ≡ part_repeated (Input.view input.now) (way Dir.FORWARD) (Input.Position.offset range.start) (Input.Position.offset range.end) (Input.Position.offset pos.old) }
+        ≡ part_repeated (Input.view input.now) (direction_of Dir.FORWARD) (Input.Position.offset range.start) (Input.Position.offset range.end) (Input.Position.offset pos.old) }
     ensures between { IsPlace (Input.view input.now) (Input.Position.offset range.start) → IsPlace (Input.view input.now) (Input.Position.offset range.end)
         → only_if result (Input.Position.offset pos.new)
-        ≡ repeated (input_of (Input.view input.now)) (way Dir.FORWARD) true (Some (Input.Position.offset range.start, Input.Position.offset range.end)) (Input.Position.offset pos.old) }
+        ≡ repeated (input_of (Input.view input.now)) (direction_of Dir.FORWARD) true (Some (Input.Position.offset range.start, Input.Position.offset range.end)) (Input.Position.offset pos.old) }
 {
     let part = input.subinput(range);
     let mut at = begin(&part, dir);
@@ -68,7 +68,7 @@ pub fn backref_icase<Input: CharInput, Dir: Direction>(
 /// The position at which a text begins, as it is read in a direction.
 #[inline]
 fn begin<Input: InputIndexer, Dir: Direction>(input: &Input, _dir: Dir) -> Input::Position
-    ensures { Input.Position.offset result ≡ begin_in (way Dir.FORWARD) (length (Input.view input.now).units) }
+    ensures { Input.Position.offset result ≡ begin_in (direction_of Dir.FORWARD) (length (Input.view input.now).units) }
 {
     if Dir::FORWARD {
         input.left_end()
@@ -90,7 +90,7 @@ fn next_alike<Input: CharInput, Dir: Direction>(
         ≡ canon (Input.view input.now).table (Input.view input.now).unicode (Input.Element.code c) }
     requires position { CanRead (Input.view input.now) (Input.Position.offset pos.old) }
     ensures { only_if result (Input.Position.offset pos.new)
-        ≡ alike (input_of (Input.view input.now)) (way Dir.FORWARD) (Input.Element.code c) (Input.Position.offset pos.old) }
+        ≡ alike (input_of (Input.view input.now)) (direction_of Dir.FORWARD) (Input.Element.code c) (Input.Position.offset pos.old) }
 {
     let Some(d) = next(input, dir, pos) else {
         return false;

@@ -5,7 +5,7 @@ ghost use Rattle.regress_meaning.specs.Meaning.{is_line_end};
 ghost use Rattle.regress_meaning.specs.Steps.{passed, only_if};
 ghost use Rattle.regress_front_sets.specs.Intervals.{ends_of};
 ghost use Rattle.regress_front_nodes.specs.TreeMeaning.{bracket_has};
-ghost use Rattle.regress_engine_input.specs.Views.{View, way, input_of, CanRead};
+ghost use Rattle.regress_engine_input.specs.Views.{View, direction_of, input_of, CanRead};
 
 use crate::properties::{CharInput, CharProperties};
 use regress_engine_input::cursor::next;
@@ -26,7 +26,7 @@ pub trait SingleCharMatcher<Input: InputIndexer, Dir: Direction> {
     fn matches(&self, input: &Input, dir: Dir, pos: &mut Input::Position) -> bool
         requires position { CanRead (Input.view input.now) (Input.Position.offset pos.old) }
         requires suits { Suits self.now (Input.view input.now) }
-        ensures { only_if result (Input.Position.offset pos.new) ≡ passed (passes self.now) ((input_of (Input.view input.now)).next (way Dir.FORWARD) (Input.Position.offset pos.old)) };
+        ensures { only_if result (Input.Position.offset pos.new) ≡ passed (passes self.now) ((input_of (Input.view input.now)).next (direction_of Dir.FORWARD) (Input.Position.offset pos.old)) };
 }
 
 /// One character of the text.

@@ -2,4 +2,4 @@ pub mod LeadLemmas
 pub mod PrefixLemmas
 pub mod ServingLemmas
 pub mod StartLemmas
-pub mod SeekLemmas
+pub mod PrefilterLemmas

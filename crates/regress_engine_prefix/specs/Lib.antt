@@ -1,4 +1,4 @@
 pub mod FirstBytes
 pub mod Prefixes
 pub mod Starts
-pub mod Seeking
+pub mod Prefiltering

@@ -3,9 +3,9 @@
 
 mod first_bytes;
 mod joining;
+mod prefilter;
 mod prefix;
-mod seeker;
 mod start;
 
-pub use seeker::Seeker;
+pub use prefilter::Prefilter;
 pub use start::{StartPredicate, predicate_for_re};

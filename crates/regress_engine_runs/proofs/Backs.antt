@@ -16,7 +16,7 @@ use Rattle.regress_front_nodes.specs.Trees as tree
 use Rattle.regress_front_nodes.specs.TreeMeaning.{node_outcomes, direction}
 use Rattle.regress_engine_insn.specs.Instructions.{Program, Instruction, Stands}
 use Rattle.regress_engine_insn.specs.Instructions as code
-use Rattle.regress_engine_insn.specs.Layout.{Spot, next, Target}
+use Rattle.regress_engine_insn.specs.Layout.{ProgramPoint, next, Target}
 use Rattle.regress_engine_runs.specs.States.{Whole, unset, range_of, onward}
 use Rattle.regress_engine_runs.specs.Runs.{moved_to, successors}
 use Rattle.regress_engine_runs.specs.Meets.{AreAtPlaces}
@@ -121,7 +121,7 @@ module _ (target : Target) (input : Input) (reading : Reading) (tells : Tells re
   by_group dir address gone low high s w (Some None) at stands h = (stays target input reading dir address gone low high s w (onward w) at stands refl refl, tt)
   by_group dir address gone low high s w (Some (Some (a, b))) at stands h = copies dir address gone low high s w a b at stands h
 
-  pub referring : (b : Bool) (k : ℕ) (p : Spot) → Stands target.program p.address (code.back (k - 1) icase) → Enters target input reading b (tree.back k icase) p (next p)
+  pub referring : (b : Bool) (k : ℕ) (p : ProgramPoint) → Stands target.program p.address (code.back (k - 1) icase) → Enters target input reading b (tree.back k icase) p (next p)
   unfolding node_outcomes
   referring b k p here s w at stands may =
       let dir : Direction = direction b in

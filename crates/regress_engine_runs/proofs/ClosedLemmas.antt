@@ -13,7 +13,7 @@ use Rattle.regress_front_nodes.specs.WellFormed.{AreLawful, AreNumbered, IsWellF
 use Rattle.regress_front_nodes.specs.TreeMeaning.{reads_backward}
 use Rattle.regress_engine_insn.specs.Instructions.{Instruction, Program, Stands, StandFrom}
 use Rattle.regress_engine_insn.specs.Instructions as code
-use Rattle.regress_engine_insn.specs.Layout.{char_set_code, byte_set_code, Spot, next, later, Target, literal_code, pieces_code, string_code, resets, IsBracket, IsOne, AreAll, AreArms, Lies, IsLayout}
+use Rattle.regress_engine_insn.specs.Layout.{char_set_code, byte_set_code, ProgramPoint, next, later, Target, literal_code, pieces_code, string_code, resets, IsBracket, IsOne, AreAll, AreArms, Lies, IsLayout}
 use Rattle.regress_engine_insn.proofs.LayoutLemmas.{at-same}
 use Rattle.regress_engine_insn.proofs.LiteralLemmas.{one-character, literal-alone}
 use Rattle.regress_engine_insn.proofs.TakingLemmas.{OfTaking, char_set-taking, byte_set-taking, literal-taking, pieces-taking}
@@ -106,26 +106,26 @@ module _ (program : Program) where
       (subst (AllFit (suc low)) e (resets-fit (suc first) n (suc low) (λ k below above. groups k (omega arith) (omega arith)) stand))
 
 module _ (target : Target) where
-  abbrev Between : Spot → Spot → Type 0
+  abbrev Between : ProgramPoint → ProgramPoint → Type 0
   Between p q = AllFit target.program p.address q.address
 
-  nothing : (p q : Spot) → q ≡ p → Between p q
+  nothing : (p q : ProgramPoint) → q ≡ p → Between p q
   nothing p q e = let a = at-same p q e in none-fit target.program p.address q.address (omega (arith, a))
 
-  single : (i : Instruction) (p q : Spot) → IsOne target i p q → Fits target.program p.address i → Between p q
+  single : (i : Instruction) (p q : ProgramPoint) → IsOne target i p q → Fits target.program p.address i → Between p q
   single i p q (here, end) fits = subst (AllFit target.program p.address) (sym (at-same (next p) q end)) (one-fits target.program p.address i here fits)
 
-  several : (is : List Instruction) (p q : Spot) → AreAll target is p q → All (AlwaysFits target.program) is → Between p q
+  several : (is : List Instruction) (p q : ProgramPoint) → AreAll target is p q → All (AlwaysFits target.program) is → Between p q
   several is p q (stand, end) fit = subst (AllFit target.program p.address) (sym (at-same (later p (length is)) q end)) (list-fits target.program is p.address stand fit)
 
   -- what is before and behind a part
-  around : (i j : Instruction) (p m q : Spot) → Stands target.program p.address i → Fits target.program p.address i → Between (next p) m
+  around : (i j : Instruction) (p m q : ProgramPoint) → Stands target.program p.address i → Fits target.program p.address i → Between (next p) m
       → Stands target.program m.address j → Fits target.program m.address j → AllFit target.program p.address (suc m.address)
   around i j p m q here fits inner there fits' =
       both-fit target.program p.address (suc p.address) (suc m.address) (one-fits target.program p.address i here fits)
       (both-fit target.program (suc p.address) m.address (suc m.address) inner (one-fits target.program m.address j there fits'))
 
-  arms-fit : (b icase : Bool) (strings : List (List ℕ)) (p q : Spot) → AreArms target b icase strings p q → Between p q
+  arms-fit : (b icase : Bool) (strings : List (List ℕ)) (p q : ProgramPoint) → AreArms target b icase strings p q → Between p q
   arms-fit b icase [] p q h = single code.fail p q h tt
   arms-fit b icase (s ∷ []) p q h = several (string_code target b icase s) p q h (pieces-fit target.program b (in_reading_order b (pieces_of target.table icase target.unicode s)))
   arms-fit b icase (s ∷ t ∷ ss) p q (m, first, alt, jump, rest) =
@@ -152,7 +152,7 @@ module _ (target : Target) where
   bracket-takes inverted intervals _ is = absurd is
 
   -- what takes one character is one instruction that does
-  takes-one : (n : ℕ) (a : Tree) (b : Bool) (p q : Spot) → Lies target b a p q → takes_one a ≡ true → AreLawful n a
+  takes-one : (n : ℕ) (a : Tree) (b : Bool) (p q : ProgramPoint) → Lies target b a p q → takes_one a ≡ true → AreLawful n a
       → (i : Instruction) × Stands target.program p.address i × (takes_character i ≡ true)
   takes-one n (tree.char c) b p q h is lawful = (code.char c, h.0, refl)
   takes-one n tree.any b p q h is lawful = (code.any, h.0, refl)
@@ -170,8 +170,8 @@ module _ (target : Target) where
       by_units c false = is
   takes-one n _ b p q h is lawful = absurd (grind arith)
 
-  -- Between the spots of a tree all fits.
-  all-fit : (n : ℕ) (t : Tree) (b : Bool) (p q : Spot) → Lies target b t p q → AreLawful n t → n ≤ target.program.groups
+  -- Between the program points of a tree all fits.
+  all-fit : (n : ℕ) (t : Tree) (b : Bool) (p q : ProgramPoint) → Lies target b t p q → AreLawful n t → n ≤ target.program.groups
       → ((k : ℕ) → 0 < occurs k t → k < target.program.groups) → q.loops ≤ target.program.loops → Between p q
   all-fit n tree.empty b p q h lawful count groups loops = nothing p q h
   all-fit n tree.no_part b p q h lawful count groups loops = nothing p q h
@@ -189,7 +189,7 @@ module _ (target : Target) where
       (all-fit n t b (next m) q k lawful.1 count (λ j some. groups j (omega (arith, some))) loops)
   all-fit n (tree.capture k name a) b p q (m, begin, h, end) lawful count groups loops =
       let place = at-same (next m) q end.1 in
-      let same = ap (λ (r : Spot). r.loops) end.1 in
+      let same = ap (λ (r : ProgramPoint). r.loops) end.1 in
       let here : k < target.program.groups = groups k (omega (arith, own k)) in
       subst (AllFit target.program p.address) (sym place)
       (around (code.begin_group k) (code.end_group k) p m q begin here
@@ -199,13 +199,13 @@ module _ (target : Target) where
       own k = grind (arith, nat_tests)
   all-fit n (tree.submatch kind first last a) b p q (m, begin, h, end) lawful count groups loops =
       let place = at-same (next m) q end.1 in
-      let same = ap (λ (r : Spot). r.loops) end.1 in
+      let same = ap (λ (r : ProgramPoint). r.loops) end.1 in
       subst (AllFit target.program p.address) (sym place)
       (around (code.submatch kind first last q.address) code.goal p m q begin (groups-inside first last a lawful.0 groups)
       (all-fit n a (reads_backward kind b) (next p) m h lawful.1 count groups (omega (arith, same, loops))) end.0 tt)
   all-fit n (tree.loop a first last least most greedy) b p q (m, begin, reset, h, end) lawful count groups loops =
       let place = at-same (next m) q end.1 in
-      let same = ap (λ (r : Spot). r.loops) end.1 in
+      let same = ap (λ (r : ProgramPoint). r.loops) end.1 in
       let rises = Lies-rises target b a (record { address = suc p.address + (last - first); loops = suc p.loops }) m h in
       let inside = groups-inside first last a lawful.0 groups in
       subst (AllFit target.program p.address) (sym place)

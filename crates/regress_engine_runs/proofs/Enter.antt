@@ -15,7 +15,7 @@ use Rattle.regress_front_nodes.specs.ByteInputs.{TellsBytes, placed}
 use Rattle.regress_front_nodes.specs.Singles.{takes_one}
 use Rattle.regress_engine_insn.specs.Instructions.{LoopFields, Program, Instruction, Stands, StandFrom}
 use Rattle.regress_engine_insn.specs.Instructions as code
-use Rattle.regress_engine_insn.specs.Layout.{Spot, next, Target, Lies, IsBracket, literal_code, char_set_code, byte_set_code}
+use Rattle.regress_engine_insn.specs.Layout.{ProgramPoint, next, Target, Lies, IsBracket, literal_code, char_set_code, byte_set_code}
 use Rattle.regress_engine_insn.proofs.LiteralLemmas.{one-character, literal-alone}
 use Rattle.regress_engine_runs.specs.States.{Whole}
 use Rattle.regress_engine_runs.specs.Runs.{moved_to}
@@ -38,7 +38,7 @@ module _ (target : Target) (input : Input) (reading : Reading) (tells : Tells re
   abbrev context : Context
   context = context_of reading input
 
-  bracket-enters : (b inverted : Bool) (intervals : List (ℕ × ℕ)) (i : Instruction) (p : Spot) → IsBracket target.program inverted intervals i → Stands target.program p.address i
+  bracket-enters : (b inverted : Bool) (intervals : List (ℕ × ℕ)) (i : Instruction) (p : ProgramPoint) → IsBracket target.program inverted intervals i → Stands target.program p.address i
       → Enters target input reading b (tree.bracket inverted intervals) p (next p)
   unfolding node_outcomes
   bracket-enters b inverted intervals (code.bracket k) p is h =
@@ -70,7 +70,7 @@ module _ (target : Target) (input : Input) (reading : Reading) (tells : Tells re
       → not (is_some (input.next dir w.offset)) ≡ not (is_some (neighbour reading.points dir s.place))
   none-at dir s w stands = ap (λ (o : Option (ℕ × ℕ)). not (is_some o)) (told-at dir s w stands) ∙ told-some (neighbour reading.points dir s.place)
 
-  line_start-enters : (b multiline : Bool) (p : Spot) → Stands target.program p.address (code.line_start multiline) → Enters target input reading b (tree.line_start multiline) p (next p)
+  line_start-enters : (b multiline : Bool) (p : ProgramPoint) → Stands target.program p.address (code.line_start multiline) → Enters target input reading b (tree.line_start multiline) p (next p)
   unfolding node_outcomes
   line_start-enters b multiline p h =
       testing target input reading tells b (tree.line_start multiline) (code.line_start multiline) p h refl
@@ -79,7 +79,7 @@ module _ (target : Target) (input : Input) (reading : Reading) (tells : Tells re
       (none-at Backward s w stands ∙ none-before context s.place stands.inside.place) (point-at Backward s w stands ∙ point-before context s.place))
       (λ s. refl)
 
-  line_end-enters : (b multiline : Bool) (p : Spot) → Stands target.program p.address (code.line_end multiline) → Enters target input reading b (tree.line_end multiline) p (next p)
+  line_end-enters : (b multiline : Bool) (p : ProgramPoint) → Stands target.program p.address (code.line_end multiline) → Enters target input reading b (tree.line_end multiline) p (next p)
   unfolding node_outcomes
   line_end-enters b multiline p h =
       testing target input reading tells b (tree.line_end multiline) (code.line_end multiline) p h refl
@@ -88,7 +88,7 @@ module _ (target : Target) (input : Input) (reading : Reading) (tells : Tells re
       (none-at Forward s w stands ∙ none-after context s.place stands.inside.place) (point-at Forward s w stands ∙ point-after context s.place))
       (λ s. refl)
 
-  boundary-enters : (b inverted folded : Bool) (p : Spot) → Stands target.program p.address (code.boundary inverted folded)
+  boundary-enters : (b inverted folded : Bool) (p : ProgramPoint) → Stands target.program p.address (code.boundary inverted folded)
       → Enters target input reading b (tree.boundary inverted folded) p (next p)
   unfolding node_outcomes
   boundary-enters b inverted folded p h =
@@ -99,7 +99,7 @@ module _ (target : Target) (input : Input) (reading : Reading) (tells : Tells re
       (λ s. refl)
 
   -- a repetition of what takes one character
-  single-enters : (n : ℕ) (a : Tree) (b : Bool) (least most : ℕ) (greedy : Bool) (p q : Spot) → Stands target.program p.address (code.single_loop least most greedy)
+  single-enters : (n : ℕ) (a : Tree) (b : Bool) (least most : ℕ) (greedy : Bool) (p q : ProgramPoint) → Stands target.program p.address (code.single_loop least most greedy)
       → Lies target b a (next p) q → takes_one a ≡ true → least ≤ most → AreLawful n a → Enters target input reading b (tree.single_loop a least most greedy) p q
   unfolding node_outcomes
   single-enters n (tree.char c) b least most greedy p q here h one order lawful =
@@ -165,9 +165,9 @@ module _ (target : Target) (input : Input) (reading : Reading) (tells : Tells re
           ∙ sym (one-placed input reading tells (direction b) c place room)) means
   single-enters n _ b least most greedy p q here h one order lawful = absurd (grind arith)
 
-  -- Every tree is entered: in a state without its groups, at the spot where it begins, the program comes to its
-  -- outcomes, one by one, at the spot where it ends.
-  pub enters : (n : ℕ) (t : Tree) (b : Bool) (p q : Spot) → Lies target b t p q → AreLawful n t → ((k : ℕ) → occurs k t ≤ 1) → goals t ≡ 0 → Enters target input reading b t p q
+  -- Every tree is entered: in a state without its groups, at the program point where it begins, the program comes to its
+  -- outcomes, one by one, at the program point where it ends.
+  pub enters : (n : ℕ) (t : Tree) (b : Bool) (p q : ProgramPoint) → Lies target b t p q → AreLawful n t → ((k : ℕ) → occurs k t ≤ 1) → goals t ≡ 0 → Enters target input reading b t p q
   unfolding node_outcomes
   enters n tree.empty b p q h lawful once ended = empty-enters target input reading tells b tree.empty p q h (λ s. refl)
   enters n tree.no_part b p q h lawful once ended = empty-enters target input reading tells b tree.no_part p q h (λ s. refl)
@@ -205,13 +205,13 @@ module _ (target : Target) (input : Input) (reading : Reading) (tells : Tells re
   enters n (tree.submatch kind first last a) b p q (m, begin, h, end) lawful once ended =
       subst (λ r. Enters target input reading b (tree.submatch kind first last a) p r) (sym end.1)
       (looking target input reading b kind first last a p m
-      (subst (λ c. Stands target.program p.address (code.submatch kind first last c)) (ap (λ (r : Spot). r.address) end.1) begin) end.0 lawful.0
+      (subst (λ c. Stands target.program p.address (code.submatch kind first last c)) (ap (λ (r : ProgramPoint). r.address) end.1) begin) end.0 lawful.0
       (enters n a (reads_backward kind b) (next p) m h lawful.1 once ended))
   enters n (tree.loop a first last least most greedy) b p q (m, begin, reset, h, end) lawful once ended =
       subst (λ r. Enters target input reading b (tree.loop a first last least most greedy) p r) (sym end.1)
       (repeating target input reading tells.rise b a first last least most greedy p m (record {
         begin = subst (λ c. Stands target.program p.address (code.enter_loop (record { loop_id = p.loops; least = least; most = most; greedy = greedy; exit = c })))
-            (ap (λ (r : Spot). r.address) end.1) begin;
+            (ap (λ (r : ProgramPoint). r.address) end.1) begin;
         reset = reset;
         end = end.0;
         numbered = lawful.0;

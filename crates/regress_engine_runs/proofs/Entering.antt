@@ -9,7 +9,7 @@ use Rattle.regress_front_nodes.specs.Trees as tree
 use Rattle.regress_front_nodes.specs.TreeMeaning.{node_outcomes, direction}
 use Rattle.regress_engine_insn.specs.Instructions.{Program, Instruction, Stands}
 use Rattle.regress_engine_insn.specs.Instructions as code
-use Rattle.regress_engine_insn.specs.Layout.{Spot, next, Target}
+use Rattle.regress_engine_insn.specs.Layout.{ProgramPoint, next, Target}
 use Rattle.regress_engine_runs.specs.States.{Whole, onward}
 use Rattle.regress_engine_runs.specs.Stand.{StandsFor}
 use Rattle.regress_engine_runs.proofs.RunLemmas.{steps}
@@ -17,8 +17,8 @@ use Rattle.regress_engine_runs.proofs.Leading.{Leads, leads_at_once, first_expan
 use Rattle.regress_engine_runs.proofs.Places.{occurs, Arrives, MayEnter, Keeps-all, Keeps-then, Keeps-less, MayEnter-part, MayEnter-after}
 
 module _ (target : Target) (input : Input) (reading : Reading) where
-  -- Entering a tree at one spot leads to its outcomes, at another.
-  abbrev pub Enters : Bool → Tree → Spot → Spot → Type 0
+  -- Entering a tree at one program point leads to its outcomes, at another.
+  abbrev pub Enters : Bool → Tree → ProgramPoint → ProgramPoint → Type 0
   Enters b t p q = (s : State) (w : Whole) → w.at ≡ p.address → StandsFor reading s w → MayEnter (λ k. occurs k t) q.loops w
       → Leads target.program input reading (direction b) (Arrives reading (direction b) q.address (λ k. occurs k t) p.loops q.loops s.place w)
       (w ∷ []) (node_outcomes (context_of reading input) t (direction b) s)
@@ -33,7 +33,7 @@ module _ (target : Target) (input : Input) (reading : Reading) where
     ahead = IsAhead-same dir s.place;
   }
 
-  pub one_after_another : (b : Bool) (s t : Tree) (p m q : Spot) → p.loops ≤ m.loops → m.loops ≤ q.loops
+  pub one_after_another : (b : Bool) (s t : Tree) (p m q : ProgramPoint) → p.loops ≤ m.loops → m.loops ≤ q.loops
       → ((k : ℕ) → occurs k s + occurs k t ≤ 1) → Enters b s p m → Enters b t m q → Enters b (tree.cat s t) p q
   unfolding node_outcomes
   one_after_another b s t p m q below above once first second u w at stands may =
@@ -57,7 +57,7 @@ module _ (target : Target) (input : Input) (reading : Reading) where
   pub standing : {address : ℕ} {i : Instruction} (w : Whole) → w.at ≡ address → Stands target.program address i → Stands target.program w.at i
   standing {i = i} w e h = subst (λ a. Stands target.program a i) (sym e) h
 
-  pub first_or_second : (b : Bool) (s t : Tree) (p m q : Spot) → p.loops ≤ m.loops → m.loops ≤ q.loops
+  pub first_or_second : (b : Bool) (s t : Tree) (p m q : ProgramPoint) → p.loops ≤ m.loops → m.loops ≤ q.loops
       → Stands target.program p.address (code.alt (suc m.address)) → Stands target.program m.address (code.jump q.address)
       → Enters b s (next p) m → Enters b t (next m) q → Enters b (tree.alt s t) p q
   unfolding node_outcomes

@@ -13,7 +13,7 @@ use Rattle.regress_front_nodes.specs.Trees as tree
 use Rattle.regress_front_nodes.specs.TreeMeaning.{node_outcomes, direction}
 use Rattle.regress_engine_insn.specs.Instructions.{Program, Instruction, Stands}
 use Rattle.regress_engine_insn.specs.Instructions as code
-use Rattle.regress_engine_insn.specs.Layout.{Spot, next, Target}
+use Rattle.regress_engine_insn.specs.Layout.{ProgramPoint, next, Target}
 use Rattle.regress_engine_runs.specs.States.{Whole, Marks, unset, range_of, begun, ended, onward}
 use Rattle.regress_engine_runs.specs.Stand.{StandsFor}
 use Rattle.regress_engine_runs.proofs.RunLemmas.{steps}
@@ -74,7 +74,7 @@ module _ (reading : Reading) where
   }
 
 module _ (target : Target) (input : Input) (reading : Reading) where
-  pub in_group : (b : Bool) (k : ℕ) (name : Option (List ℕ)) (a : Tree) (p m : Spot)
+  pub in_group : (b : Bool) (k : ℕ) (name : Option (List ℕ)) (a : Tree) (p m : ProgramPoint)
       → Stands target.program p.address (code.begin_group k) → Stands target.program m.address (code.end_group k)
       → ((j : ℕ) → (if k == j then 1 else 0) + occurs j a ≤ 1) → Enters target input reading b a (next p) m
       → Enters target input reading b (tree.capture k name a) p (next m)

@@ -210,27 +210,27 @@ module _ (program : Program) (input : Input) where
   came (nowhere a e) = inr (a, inr (e, refl))
 
   pub one_find : {at : ℕ} {i j : Option Item} → Finds program input at i → Finds program input at j → i ≡ j
-  one_find {at = at} {j = j} (found {w = w} a) k = by_way (came k)
+  one_find {at = at} {j = j} (found {w = w} a) k = by_case (came k)
     where
-      by_way : Came at j → Some (item_of at w) ≡ j
-      by_way (inl (v, b, e)) = let f = one_answer at (Some w) (Some v) a b in let g : w ≡ v = cc in ap (λ x. Some (item_of at x)) g ∙ sym e
-      by_way (inr (b, way)) = let f = one_answer at (Some w) None a b in absurd (cc)
-  one_find {at = at} {i = i} {j = j} (later {c = c} {next = next} a e h) k = by_way (came k) (λ x. one_find h x)
+      by_case : Came at j → Some (item_of at w) ≡ j
+      by_case (inl (v, b, e)) = let f = one_answer at (Some w) (Some v) a b in let g : w ≡ v = cc in ap (λ x. Some (item_of at x)) g ∙ sym e
+      by_case (inr (b, other)) = let f = one_answer at (Some w) None a b in absurd (cc)
+  one_find {at = at} {i = i} {j = j} (later {c = c} {next = next} a e h) k = by_case (came k) (λ x. one_find h x)
     where
-      by_way : Came at j → (Finds program input next j → i ≡ j) → i ≡ j
-      by_way (inl (v, b, g)) rest = let f = one_answer at None (Some v) a b in absurd (cc)
-      by_way (inr (b, inl (d, m, g, l))) rest =
+      by_case : Came at j → (Finds program input next j → i ≡ j) → i ≡ j
+      by_case (inl (v, b, g)) rest = let f = one_answer at None (Some v) a b in absurd (cc)
+      by_case (inr (b, inl (d, m, g, l))) rest =
           let x : ◌≡◌ {A = Option (ℕ × ℕ)} (Some (d, m)) (Some (c, next)) = sym g ∙ e in
           let z : ◌≡◌ {A = ℕ × ℕ} (d, m) (c, next) = cc in
           let y : m ≡ next = ap (λ (v : ℕ × ℕ). v.1) z in
           rest (subst (λ q. Finds program input q j) y l)
-      by_way (inr (b, inr (g, l))) rest = absurd (cc)
-  one_find {at = at} {j = j} (nowhere a e) k = by_way (came k)
+      by_case (inr (b, inr (g, l))) rest = absurd (cc)
+  one_find {at = at} {j = j} (nowhere a e) k = by_case (came k)
     where
-      by_way : Came at j → None ≡ j
-      by_way (inl (v, b, g)) = let f = one_answer at None (Some v) a b in absurd (cc)
-      by_way (inr (b, inl (d, m, g, l))) = absurd (cc)
-      by_way (inr (b, inr (g, l))) = sym l
+      by_case : Came at j → None ≡ j
+      by_case (inl (v, b, g)) = let f = one_answer at None (Some v) a b in absurd (cc)
+      by_case (inr (b, inl (d, m, g, l))) = absurd (cc)
+      by_case (inr (b, inr (g, l))) = sym l
 
   -- how a list of items may have come about
   abbrev Listed : Option ℕ → List Item → Type 0

@@ -10,7 +10,7 @@ use Rattle.regress_front_nodes.specs.Trees.{Tree}
 use Rattle.regress_front_nodes.specs.Trees as tree
 use Rattle.regress_front_nodes.specs.TreeMeaning.{node_outcomes, direction}
 use Rattle.regress_engine_insn.specs.Instructions.{Instruction, Stands}
-use Rattle.regress_engine_insn.specs.Layout.{Spot, next, Target, char_set_code, byte_set_code}
+use Rattle.regress_engine_insn.specs.Layout.{ProgramPoint, next, Target, char_set_code, byte_set_code}
 use Rattle.regress_engine_runs.specs.States.{Whole, Marks, onward}
 use Rattle.regress_engine_runs.specs.Runs.{moved_to, successors}
 use Rattle.regress_engine_runs.specs.Stand.{StandsFor, AreOf}
@@ -68,7 +68,7 @@ module _ (target : Target) (input : Input) (reading : Reading) (tells : Tells re
       by_test false = tt
 
   -- an instruction that takes one character
-  pub taking : (b : Bool) (t : Tree) (i : Instruction) (test : ℕ → Bool) (p : Spot) → Stands target.program p.address i → is_unreferring i ≡ true
+  pub taking : (b : Bool) (t : Tree) (i : Instruction) (test : ℕ → Bool) (p : ProgramPoint) → Stands target.program p.address i → is_unreferring i ≡ true
       → ((w : Whole) → successors target.program input i (direction b) w ≡ moved_to w (passed test (input.next (direction b) w.offset)))
       → ((s : State) → node_outcomes context t (direction b) s ≡ step context (direction b) 1 (list_all test) s)
       → Enters target input reading b t p (next p)
@@ -89,7 +89,7 @@ module _ (target : Target) (input : Input) (reading : Reading) (tells : Tells re
       (leads_at_once target.program input reading Q (node_outcomes context t dir s) (successors target.program input i dir w) pairs)
 
   -- an instruction that keeps the state where a test passes
-  pub testing : (b : Bool) (t : Tree) (i : Instruction) (p : Spot) → Stands target.program p.address i → is_unreferring i ≡ true
+  pub testing : (b : Bool) (t : Tree) (i : Instruction) (p : ProgramPoint) → Stands target.program p.address i → is_unreferring i ≡ true
       → (test : State → Bool)
       → ((s : State) (w : Whole) → StandsFor reading s w → successors target.program input i (direction b) w ≡ moved_to w (only_if (test s) w.offset))
       → ((s : State) → node_outcomes context t (direction b) s ≡ keep_if (test s) s)
@@ -108,21 +108,21 @@ module _ (target : Target) (input : Input) (reading : Reading) (tells : Tells re
       by_test false = tt
 
   -- a tree that leaves all as it is
-  pub empty-enters : (b : Bool) (t : Tree) (p q : Spot) → q ≡ p → ((s : State) → node_outcomes context t (direction b) s ≡ s ∷ []) → Enters target input reading b t p q
+  pub empty-enters : (b : Bool) (t : Tree) (p q : ProgramPoint) → q ≡ p → ((s : State) → node_outcomes context t (direction b) s ≡ s ∷ []) → Enters target input reading b t p q
   empty-enters b t p q e means = subst (λ r. Enters target input reading b t p r) (sym e) (λ s w at stands may.
       let Q : State → Whole → Type 0 = Arrives reading (direction b) p.address (λ k. occurs k t) p.loops p.loops s.place w in
       subst (Leads target.program input reading (direction b) Q (w ∷ [])) (sym (means s))
       (leads_at_once target.program input reading Q (s ∷ []) (w ∷ []) (stays target input reading (direction b) p.address (λ k. occurs k t) p.loops p.loops s w w at stands refl refl, tt)))
 
   -- a set of ASCII characters
-  pub byte_set-enters : (b : Bool) (bs : List ℕ) (p : Spot) (units : Bool) → Stands target.program p.address (byte_set_code units bs)
+  pub byte_set-enters : (b : Bool) (bs : List ℕ) (p : ProgramPoint) (units : Bool) → Stands target.program p.address (byte_set_code units bs)
       → Enters target input reading b (tree.byte_set bs) p (next p)
   unfolding node_outcomes
   byte_set-enters b bs p units h =
       taking b (tree.byte_set bs) (byte_set_code units bs) (holds bs) p h (byte_set-plain units bs) (byte_set-leads target.program input (direction b) units bs) (λ s. refl)
 
   -- a set of code points
-  pub char_set-enters : (b : Bool) (cs : List ℕ) (p : Spot) → Stands target.program p.address (char_set_code cs) → Enters target input reading b (tree.char_set cs) p (next p)
+  pub char_set-enters : (b : Bool) (cs : List ℕ) (p : ProgramPoint) → Stands target.program p.address (char_set_code cs) → Enters target input reading b (tree.char_set cs) p (next p)
   unfolding node_outcomes
   char_set-enters b cs p h =
       taking b (tree.char_set cs) (char_set_code cs) (holds cs) p h (char_set-plain cs) (char_set-leads target.program input (direction b) cs) (λ s. refl)

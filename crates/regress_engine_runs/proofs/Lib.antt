@@ -26,7 +26,7 @@ pub mod Strings
 pub mod SizeLemmas
 pub mod Enter
 pub mod WholeTree
-pub mod Stuck
+pub mod Progress
 pub mod ClosedLemmas
 pub mod ItemLemmas
 pub mod Emitted

@@ -18,7 +18,7 @@ use Rattle.regress_front_nodes.specs.ByteInputs.{TellsBytes, placed}
 use Rattle.regress_front_nodes.proofs.SequenceLemmas.{in_reading_order-map}
 use Rattle.regress_engine_insn.specs.Instructions.{Program, Instruction, Stands, StandFrom}
 use Rattle.regress_engine_insn.specs.Instructions as code
-use Rattle.regress_engine_insn.specs.Layout.{Spot, Target, AreAll, chunks, most_bytes, literal_code}
+use Rattle.regress_engine_insn.specs.Layout.{ProgramPoint, Target, AreAll, chunks, most_bytes, literal_code}
 use Rattle.regress_engine_runs.specs.States.{Whole}
 use Rattle.regress_engine_runs.specs.Runs.{moved_to, successors}
 use Rattle.regress_engine_runs.specs.Meets.{reads_character, IsAtPlace}
@@ -383,7 +383,7 @@ module _ (target : Target) (input : Input) (reading : Reading) where
       by_test false = tt
 
   -- steps that lead beyond a literal's characters
-  stepping : {X : Type 0} (b : Bool) (bs : List ℕ) (p q : Spot) (f : X → Instruction) (go : X → ℕ → Option ℕ) (xs : List X) (inv : ℕ → Type 0)
+  stepping : {X : Type 0} (b : Bool) (bs : List ℕ) (p q : ProgramPoint) (f : X → Instruction) (go : X → ℕ → Option ℕ) (xs : List X) (inv : ℕ → Type 0)
       → ((x : X) (o : ℕ) → inv o → reads_character (f x) ≡ true → IsAtPlace reading o) → ((x : X) (o q : ℕ) → inv o → go x o ≡ Some q → inv q)
       → ((place : ℕ) → place ≤ length reading.points → inv (offset reading place)) → ((x : X) → is_unreferring (f x) ≡ true)
       → ((x : X) (w : Whole) → successors target.program input (f x) (direction b) w ≡ moved_to w (go x w.offset))
@@ -395,8 +395,8 @@ module _ (target : Target) (input : Input) (reading : Reading) where
   stepping b bs p q f go xs inv reads keeps begins plain does code-is told (stand, end) s w at stands may =
       let dir : Direction = direction b in
       let size : length (literal_code target.program b bs) ≡ length xs = ap length code-is ∙ length-map xs f in
-      let place : p.address + length xs ≡ q.address = let e : q.address ≡ p.address + length (literal_code target.program b bs) = ap (λ (m : Spot). m.address) end in omega (arith, e, size) in
-      let loops : q.loops ≡ p.loops = ap (λ (m : Spot). m.loops) end in
+      let place : p.address + length xs ≡ q.address = let e : q.address ≡ p.address + length (literal_code target.program b bs) = ap (λ (m : ProgramPoint). m.address) end in omega (arith, e, size) in
+      let loops : q.loops ≡ p.loops = ap (λ (m : ProgramPoint). m.loops) end in
       let cs : List ℕ = chars bs in
       let found : all_steps go xs w.offset ≡ option_map (offset reading) (placed cs (beside context dir (length cs) s.place)) =
       ap (all_steps go xs) stands.place ∙ told s.place stands.inside.place in
@@ -412,7 +412,7 @@ module _ (target : Target) (input : Input) (reading : Reading) where
       (placed-leads dir q.address (λ k. occurs k (tree.bytes bs)) p.loops q.loops cs s w (beside context dir (length cs) s.place) stands (beside-fits context dir (length cs) s.place stands.inside.place)))
 
   -- A literal: chunks of bytes in a program of bytes, characters in one of units.
-  pub spelling : Tells reading input → (target.program.units ≡ false → TellsBytes reading input) → (b : Bool) (bs : List ℕ) (p q : Spot) → AreCharacters bs
+  pub spelling : Tells reading input → (target.program.units ≡ false → TellsBytes reading input) → (b : Bool) (bs : List ℕ) (p q : ProgramPoint) → AreCharacters bs
       → AreAll target (literal_code target.program b bs) p q → Enters target input reading b (tree.bytes bs) p q
   spelling tells told b bs p q whole lies = by_units target.program.units refl
     where

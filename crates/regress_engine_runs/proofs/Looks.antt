@@ -11,7 +11,7 @@ use Rattle.regress_front_nodes.specs.TreeMeaning.{submatch_direction, submatched
 use Rattle.regress_front_nodes.specs.WellFormed.{group_ids, AreNumbered}
 use Rattle.regress_engine_insn.specs.Instructions.{Program, Stands}
 use Rattle.regress_engine_insn.specs.Instructions as code
-use Rattle.regress_engine_insn.specs.Layout.{Spot, next, Target}
+use Rattle.regress_engine_insn.specs.Layout.{ProgramPoint, next, Target}
 use Rattle.regress_engine_runs.specs.States.{Whole, Marks, unset, mixed, onward}
 use Rattle.regress_engine_runs.specs.Stand.{StandsFor}
 use Rattle.regress_engine_runs.proofs.SafeRuns.{SafeRuns, ends, finds}
@@ -48,7 +48,7 @@ mixed-new i first last (n ∷ new) (m ∷ old) e h =
 
 module _ (target : Target) (input : Input) (reading : Reading) where
   -- the answer of the contents, and what follows it
-  by_answer : (dir : Direction) (kind : Submatch) (first last : ℕ) (a : Tree) (p m : Spot) (s : State) (w : Whole)
+  by_answer : (dir : Direction) (kind : Submatch) (first last : ℕ) (a : Tree) (p m : ProgramPoint) (s : State) (w : Whole)
       → Stands target.program w.at (code.submatch kind first last (suc m.address)) → Stands target.program m.address code.goal
       → AreNumbered first last (group_ids a) → StandsFor reading s w → (us : List State) (vs : List Whole)
       → Pairwise (Arrives reading (submatch_direction kind dir) m.address (λ k. occurs k a) p.loops m.loops s.place w) us vs
@@ -143,7 +143,7 @@ module _ (target : Target) (input : Input) (reading : Reading) where
       )))
       (looks_around target.program input reading atomic first last (suc m.address) w (Some v) here (e [] (Some v) run))
 
-  pub looking : (b : Bool) (kind : Submatch) (first last : ℕ) (a : Tree) (p m : Spot)
+  pub looking : (b : Bool) (kind : Submatch) (first last : ℕ) (a : Tree) (p m : ProgramPoint)
       → Stands target.program p.address (code.submatch kind first last (suc m.address)) → Stands target.program m.address code.goal
       → AreNumbered first last (group_ids a) → Enters target input reading (reads_backward kind b) a (next p) m
       → Enters target input reading b (tree.submatch kind first last a) p (next m)

@@ -14,7 +14,7 @@ use Rattle.regress_front_nodes.specs.TreeMeaning.{node_outcomes, direction}
 use Rattle.regress_front_nodes.specs.WellFormed.{group_ids, AreNumbered}
 use Rattle.regress_engine_insn.specs.Instructions.{LoopFields, Program, Instruction, Stands, StandFrom}
 use Rattle.regress_engine_insn.specs.Instructions as code
-use Rattle.regress_engine_insn.specs.Layout.{Spot, next, Target, resets}
+use Rattle.regress_engine_insn.specs.Layout.{ProgramPoint, next, Target, resets}
 use Rattle.regress_engine_runs.specs.States.{Whole, Marks, unset, range_of, onward}
 use Rattle.regress_engine_runs.specs.Runs.{ordered, count_of, one_more, choices, is_idle, fields_of, successors}
 use Rattle.regress_engine_runs.specs.Stand.{StandsFor, AreOf}
@@ -164,7 +164,7 @@ same_offset reading rise p q low high = by_place (cases_lt p q) (cases_lt q p)
 
 -- ---- a repetition
 
-module _ (target : Target) (input : Input) (reading : Reading) (rise : OffsetsRise reading) (b : Bool) (a : Tree) (first last least most : ℕ) (greedy : Bool) (p m : Spot) where
+module _ (target : Target) (input : Input) (reading : Reading) (rise : OffsetsRise reading) (b : Bool) (a : Tree) (first last least most : ℕ) (greedy : Bool) (p m : ProgramPoint) where
   abbrev pub dir : Direction
   dir = direction b
 
@@ -182,7 +182,7 @@ module _ (target : Target) (input : Input) (reading : Reading) (rise : OffsetsRi
   body s = node_outcomes context a dir (cleared first last s)
 
   -- where its contents begin
-  abbrev pub inner : Spot
+  abbrev pub inner : ProgramPoint
   inner = record { address = suc p.address + (last - first); loops = suc p.loops }
 
   -- how the repetition lies
@@ -279,7 +279,7 @@ module _ (target : Target) (input : Input) (reading : Reading) (rise : OffsetsRi
       subst (λ c. Expands target.program input reading dir (v ∷ []) (if c then [] else choices fields p.address v)) e
       (subst (λ (o : Option LoopFields). Expands target.program input reading dir (v ∷ []) (elim o [ None ↦ [] | Some f ↦ if is_idle f v then [] else choices f p.address v ])) found goes)
 
-  -- behind an iteration that led to a state, what that one leads to is led to by the first
+  -- behind an iteration that led to a state, the first leads to what that one leads to
   gone_on : (s u x : State) (w v z : Whole) → Again s w u v → Out u v x z → Out s w x z
   gone_on s u x w v z (r, entry) o = record {
     at = o.at;
@@ -300,7 +300,7 @@ module _ (target : Target) (input : Input) (reading : Reading) (rise : OffsetsRi
   choices-are w more out e f =
       ap₂ (λ c d. ordered greedy c d (one_more p.loops p.address w) (record w { at = suc m.address })) (sym e) (sym f)
 
-  -- the way out
+  -- the exit
   out : (s : State) (w : Whole) → StandsFor reading s w → Leads target.program input reading dir (Out s w) (record w { at = suc m.address } ∷ []) (s ∷ [])
   out s w stands =
       let v : Whole = record w { at = suc m.address } in

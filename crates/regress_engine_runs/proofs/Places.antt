@@ -9,7 +9,7 @@ use Rattle.regress_front_nodes.specs.Trees as tree
 use Rattle.regress_front_nodes.specs.TreeMeaning.{reads_backward}
 use Rattle.regress_front_nodes.specs.WellFormed.{group_ids}
 use Rattle.regress_front_nodes.proofs.CountLemmas.{times, count-cons}
-use Rattle.regress_engine_insn.specs.Layout.{Spot, next, Target, AreArms, Lies}
+use Rattle.regress_engine_insn.specs.Layout.{ProgramPoint, next, Target, AreArms, Lies}
 use Rattle.regress_engine_runs.specs.States.{Whole, Marks, unset}
 use Rattle.regress_engine_runs.specs.Stand.{StandsFor}
 
@@ -23,7 +23,7 @@ occurs k (tree.loop a first last least most greedy) = occurs k a
 occurs k (tree.single_loop a least most greedy) = occurs k a
 occurs k _ = 0
 
--- Between two spots the loops that are numbered elsewhere are kept, and the groups that don't occur.
+-- Between two program points the loops that are numbered elsewhere are kept, and the groups that don't occur.
 pub record AreKept (gone : ℕ → ℕ) (low high : ℕ) (old_loops : List (ℕ × ℕ)) (old : List Marks) (new_loops : List (ℕ × ℕ)) (new : List Marks) : Type 0 where
   pub loops : (k : ℕ) → (k < low) ⊎ (high ≤ k) → get_or new_loops k (0, 0) ≡ get_or old_loops k (0, 0)
   pub loop_count : length new_loops ≡ length old_loops
@@ -131,24 +131,24 @@ occurs-is k (tree.loop a first last least most greedy) = occurs-is k a
 occurs-is k (tree.single_loop a least most greedy) = occurs-is k a
 occurs-is k _ = refl
 
--- the loops of a spot that is told by another
-loops-same : (p q : Spot) → q ≡ p → p.loops ≤ q.loops
-loops-same p q e = let f : q.loops ≡ p.loops = ap (λ (m : Spot). m.loops) e in omega (arith, f)
+-- the loops of a program point that is told by another
+loops-same : (p q : ProgramPoint) → q ≡ p → p.loops ≤ q.loops
+loops-same p q e = let f : q.loops ≡ p.loops = ap (λ (m : ProgramPoint). m.loops) e in omega (arith, f)
 
-pub arms-rise : (target : Target) (b icase : Bool) (strings : List (List ℕ)) (p q : Spot) → AreArms target b icase strings p q → p.loops ≤ q.loops
+pub arms-rise : (target : Target) (b icase : Bool) (strings : List (List ℕ)) (p q : ProgramPoint) → AreArms target b icase strings p q → p.loops ≤ q.loops
 arms-rise target b icase [] p q h = loops-same (next p) q h.1
-arms-rise target b icase (s ∷ []) p q h = let e = ap (λ (m : Spot). m.loops) h.1 in omega (arith, e)
+arms-rise target b icase (s ∷ []) p q h = let e = ap (λ (m : ProgramPoint). m.loops) h.1 in omega (arith, e)
 arms-rise target b icase (s ∷ t ∷ ss) p q (m, first, alt, jump, rest) =
-    let e = ap (λ (m : Spot). m.loops) first.1 in
+    let e = ap (λ (m : ProgramPoint). m.loops) first.1 in
     let r = arms-rise target b icase (t ∷ ss) (next m) q rest in
     omega (arith, e, r)
 
 -- loops are numbered on
-pub Lies-rises : (target : Target) (b : Bool) (t : Tree) (p q : Spot) → Lies target b t p q → p.loops ≤ q.loops
+pub Lies-rises : (target : Target) (b : Bool) (t : Tree) (p q : ProgramPoint) → Lies target b t p q → p.loops ≤ q.loops
 Lies-rises target b tree.empty p q h = loops-same p q h
 Lies-rises target b tree.goal p q h = loops-same (next p) q h.1
 Lies-rises target b (tree.char c) p q h = loops-same (next p) q h.1
-Lies-rises target b (tree.bytes bs) p q h = let e = ap (λ (m : Spot). m.loops) h.1 in omega (arith, e)
+Lies-rises target b (tree.bytes bs) p q h = let e = ap (λ (m : ProgramPoint). m.loops) h.1 in omega (arith, e)
 Lies-rises target b (tree.byte_set bs) p q h = loops-same (next p) q h.1
 Lies-rises target b (tree.char_set cs) p q h = loops-same (next p) q h.1
 Lies-rises target b (tree.cat s t) p q (m, h, k) =

@@ -21,7 +21,7 @@ use Rattle.regress_front_nodes.specs.Trees.{Tree, cat_of, empty, any_in_line, ch
 use Rattle.regress_front_nodes.specs.WellFormed.{IsWellFormed}
 use Rattle.regress_front_nodes.specs.Pieces.{pieces_of, expansion}
 use Rattle.regress_engine_insn.specs.Instructions.{Program}
-use Rattle.regress_engine_insn.specs.Layout.{Spot, Target, IsLayout}
+use Rattle.regress_engine_insn.specs.Layout.{ProgramPoint, Target, IsLayout}
 use Rattle.regress_engine_insn.specs.Counts.{count}
 use Rattle.regress_engine_runs.specs.States.{Whole, range_of, first_state}
 use Rattle.regress_engine_runs.specs.Runs.{after_times, as_far, one_by_one, back_to}
@@ -432,17 +432,17 @@ counted_pieces = refl
 
 -- ---- trees that lie in their programs
 
-abbrev spot : ℕ → Spot
-spot k = record { address = k; loops = 0 }
+abbrev program_point : ℕ → ProgramPoint
+program_point k = record { address = k; loops = 0 }
 
 -- (a|a\1)$ lies in its program
 a_layout : IsLayout (record { program = program_of 0 1 inside_itself; table = table_of small_parts; unicode = false }) 1 (cat inside_itself (cat goal no_part))
 unfolding computation
 a_layout = record {
   lies = (
-    spot 8,
-    (spot 7, (spot 6, refl, (spot 3, refl, (refl, refl), refl, (spot 5, (refl, refl), (spot 6, (refl, refl), refl))), (refl, refl)), (spot 8, (refl, refl), refl)),
-    (spot 9, (refl, refl), refl),
+    program_point 8,
+    (program_point 7, (program_point 6, refl, (program_point 3, refl, (refl, refl), refl, (program_point 5, (refl, refl), (program_point 6, (refl, refl), refl))), (refl, refl)), (program_point 8, (refl, refl), refl)),
+    (program_point 9, (refl, refl), refl),
   );
   groups = refl;
 }
@@ -463,17 +463,17 @@ example_lies : (units : Bool) → IsLayout (example_target units) 0 example
 unfolding computation
 example_lies true = record {
   lies = (
-    spot 5,
-    (spot 3, ((refl, (refl, tt)), refl), refl, refl, ((refl, tt), refl)),
-    (spot 7, ((refl, (refl, tt)), refl), (spot 9, (refl, ((refl, tt), refl)), (spot 10, (refl, refl), refl))),
+    program_point 5,
+    (program_point 3, ((refl, (refl, tt)), refl), refl, refl, ((refl, tt), refl)),
+    (program_point 7, ((refl, (refl, tt)), refl), (program_point 9, (refl, ((refl, tt), refl)), (program_point 10, (refl, refl), refl))),
   );
   groups = refl;
 }
 example_lies false = record {
   lies = (
-    spot 4,
-    (spot 2, ((refl, tt), refl), refl, refl, ((refl, tt), refl)),
-    (spot 5, ((refl, tt), refl), (spot 7, (refl, ((refl, tt), refl)), (spot 8, (refl, refl), refl))),
+    program_point 4,
+    (program_point 2, ((refl, tt), refl), refl, refl, ((refl, tt), refl)),
+    (program_point 5, ((refl, tt), refl), (program_point 7, (refl, ((refl, tt), refl)), (program_point 8, (refl, refl), refl))),
   );
   groups = refl;
 }

@@ -17,7 +17,7 @@ use Rattle.regress_front_nodes.specs.TreeMeaning.{node_outcomes, direction}
 use Rattle.regress_front_nodes.proofs.SequenceLemmas.{in_reading_order-map}
 use Rattle.regress_engine_insn.specs.Instructions.{Program, Instruction, Stands}
 use Rattle.regress_engine_insn.specs.Instructions as code
-use Rattle.regress_engine_insn.specs.Layout.{Spot, next, Target}
+use Rattle.regress_engine_insn.specs.Layout.{ProgramPoint, next, Target}
 use Rattle.regress_engine_runs.specs.States.{Whole, Marks}
 use Rattle.regress_engine_runs.specs.Runs.{advance, after_times, as_far, one_by_one, given_back, counted, successors}
 use Rattle.regress_engine_runs.specs.Stand.{StandsFor}
@@ -375,7 +375,7 @@ module _ (target : Target) (input : Input) (reading : Reading) (tells : Tells re
             subst (λ x. given_back input dir x (as_far target.program input (most - least) i dir groups x) ≡ reverse (one_by_one target.program input (most - least) i dir groups x)) (sym e)
             (ap (given_back input dir (offset reading q)) far ∙ back)
 
-  pub repeating_one : (b : Bool) (a : Tree) (i : Instruction) (test : ℕ → Bool) (least most : ℕ) (greedy : Bool) (p : Spot) → least ≤ most
+  pub repeating_one : (b : Bool) (a : Tree) (i : Instruction) (test : ℕ → Bool) (least most : ℕ) (greedy : Bool) (p : ProgramPoint) → least ≤ most
       → Stands target.program p.address (code.single_loop least most greedy) → Stands target.program (suc p.address) i
       → ((groups : List Marks) (place : ℕ) → place ≤ length reading.points
       → advance target.program input i (direction b) groups (offset reading place) ≡ passed test (input.next (direction b) (offset reading place)))

@@ -15,7 +15,7 @@ use Rattle.regress_front_nodes.specs.ByteInputs.{TellsBytes}
 use Rattle.regress_front_nodes.proofs.PieceOutcomes.{pieces-outcomes, back-outcomes}
 use Rattle.regress_engine_insn.specs.Instructions.{Program, Instruction, Stands, StandFrom}
 use Rattle.regress_engine_insn.specs.Instructions as code
-use Rattle.regress_engine_insn.specs.Layout.{Spot, next, later, Target, AreAll, AreArms, piece_code, pieces_code}
+use Rattle.regress_engine_insn.specs.Layout.{ProgramPoint, next, later, Target, AreAll, AreArms, piece_code, pieces_code}
 use Rattle.regress_engine_insn.proofs.StringLemmas.{IsPiece, all-pieces, ordered-pieces}
 use Rattle.regress_engine_insn.proofs.LayoutLemmas.{stand-parts}
 use Rattle.regress_engine_runs.specs.States.{Whole}
@@ -40,8 +40,8 @@ pieces-without k [] h = refl
 pieces-without k (t ∷ ts) h =
     let e = piece-without k t (All-head IsPiece t ts h) in let f = pieces-without k ts (All-tail IsPiece t ts h) in omega (arith, e, f)
 
--- the spot behind one instruction
-one-further : (p q : Spot) → q ≡ later p 1 → next p ≡ q
+-- the program point behind one instruction
+one-further : (p q : ProgramPoint) → q ≡ later p 1 → next p ≡ q
 one-further p q end = let e : suc p.address ≡ p.address + 1 = omega arith in (λ i. record p { address = e i }) ∙ sym end
 
 module _ (target : Target) (input : Input) (reading : Reading) (tells : Tells reading input) (told : target.program.units ≡ false → TellsBytes reading input) (made : IsMadeFor target input) where
@@ -49,7 +49,7 @@ module _ (target : Target) (input : Input) (reading : Reading) (tells : Tells re
   context = context_of reading input
 
   -- what enters a tree enters another of the same outcomes and groups
-  entered-as : (b : Bool) (t u : Tree) (p q : Spot) → ((k : ℕ) → occurs k t ≡ occurs k u)
+  entered-as : (b : Bool) (t u : Tree) (p q : ProgramPoint) → ((k : ℕ) → occurs k t ≡ occurs k u)
       → ((s : State) → s.place ≤ length reading.points → node_outcomes context t (direction b) s ≡ node_outcomes context u (direction b) s)
       → Enters target input reading b t p q → Enters target input reading b u p q
   entered-as b t u p q same means enter s w at stands may =
@@ -69,7 +69,7 @@ module _ (target : Target) (input : Input) (reading : Reading) (tells : Tells re
       (enter s w at stands (MayEnter-part f g q.loops q.loops w fewer (omega arith) may)))
 
   -- a piece
-  piece-enters : (b : Bool) (t : Tree) (p q : Spot) → IsPiece t → AreAll target (piece_code target.program b t) p q → Enters target input reading b t p q
+  piece-enters : (b : Bool) (t : Tree) (p q : ProgramPoint) → IsPiece t → AreAll target (piece_code target.program b t) p q → Enters target input reading b t p q
   unfolding node_outcomes
   piece-enters b (tree.char c) p q is (stand, end) =
       subst (λ r. Enters target input reading b (tree.char c) p r) (one-further p q end)
@@ -83,7 +83,7 @@ module _ (target : Target) (input : Input) (reading : Reading) (tells : Tells re
   piece-enters b _ p q is lies = absurd is
 
   -- pieces one after another
-  pieces-enter : (b : Bool) (ts : List Tree) (p q : Spot) → All IsPiece ts → AreAll target (pieces_code target.program b ts) p q → Enters target input reading b (cat_of ts) p q
+  pieces-enter : (b : Bool) (ts : List Tree) (p q : ProgramPoint) → All IsPiece ts → AreAll target (pieces_code target.program b ts) p q → Enters target input reading b (cat_of ts) p q
   unfolding node_outcomes
   pieces-enter b [] p q are (stand, end) =
       let e : p.address + 0 ≡ p.address = omega arith in
@@ -91,11 +91,11 @@ module _ (target : Target) (input : Input) (reading : Reading) (tells : Tells re
   pieces-enter b (t ∷ ts) p q are (stand, end) =
       let xs : List Instruction = piece_code target.program b t in
       let ys : List Instruction = pieces_code target.program b ts in
-      let m : Spot = later p (length xs) in
+      let m : ProgramPoint = later p (length xs) in
       let parts = stand-parts target.program xs ys p.address stand in
       let size : length (xs ++ ys) ≡ length xs + length ys = length-append xs ys in
       let e : p.address + length (xs ++ ys) ≡ p.address + length xs + length ys = omega (arith, size) in
-      let loops : q.loops ≡ p.loops = ap (λ (r : Spot). r.loops) end in
+      let loops : q.loops ≡ p.loops = ap (λ (r : ProgramPoint). r.loops) end in
       let first : IsPiece t = All-head IsPiece t ts are in
       let others : All IsPiece ts = All-tail IsPiece t ts are in
       one_after_another target input reading b t (cat_of ts) p m q (omega arith) (omega (arith, loops))
@@ -116,7 +116,7 @@ module _ (target : Target) (input : Input) (reading : Reading) (tells : Tells re
       ∙ pieces-outcomes context tells.points icase cs s points inside
 
   -- a string
-  string-enters : (b icase : Bool) (cs : List ℕ) (p q : Spot) → All is_code_point cs → AreAll target (pieces_code target.program b (parts_of b icase cs)) p q
+  string-enters : (b icase : Bool) (cs : List ℕ) (p q : ProgramPoint) → All is_code_point cs → AreAll target (pieces_code target.program b (parts_of b icase cs)) p q
       → Enters target input reading b (cat_of (parts_of b icase cs)) p q
   string-enters b icase cs p q points lies =
       pieces-enter b (parts_of b icase cs) p q (ordered-pieces b (pieces_of target.table icase target.unicode cs) (all-pieces target.table icase target.unicode cs points)) lies
@@ -126,7 +126,7 @@ module _ (target : Target) (input : Input) (reading : Reading) (tells : Tells re
       pieces-without k (parts_of b icase cs) (ordered-pieces b (pieces_of target.table icase target.unicode cs) (all-pieces target.table icase target.unicode cs points))
 
   -- A set of strings: its arms are entered one after another.
-  pub choosing : (b icase : Bool) (strings : List (List ℕ)) (p q : Spot) → All (All is_code_point) strings → AreArms target b icase strings p q
+  pub choosing : (b icase : Bool) (strings : List (List ℕ)) (p q : ProgramPoint) → All (All is_code_point) strings → AreArms target b icase strings p q
       → Enters target input reading b (tree.string_set strings icase) p q
   unfolding node_outcomes
   choosing b icase [] p q points (here, end) = λ s w at stands may.
@@ -142,7 +142,7 @@ module _ (target : Target) (input : Input) (reading : Reading) (tells : Tells re
       let own : All is_code_point cs = All-head (All is_code_point) cs (ds ∷ strings) points in
       let t : Tree = cat_of (parts_of b icase cs) in
       let others : Tree = tree.string_set (ds ∷ strings) icase in
-      let loops : m.loops ≡ p.loops = ap (λ (r : Spot). r.loops) first.1 in
+      let loops : m.loops ≡ p.loops = ap (λ (r : ProgramPoint). r.loops) first.1 in
       entered-as b (tree.alt t others) (tree.string_set (cs ∷ ds ∷ strings) icase) p q
       (λ k. let e = string-without b icase cs own k in omega (arith, e))
       (λ s inside. ap (λ us. us ++ node_outcomes context others (direction b) s) (parts-outcomes b icase cs own s inside))

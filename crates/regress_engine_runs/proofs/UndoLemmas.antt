@@ -12,7 +12,7 @@ use Rattle.regress_engine_runs.specs.Runs.{against, gap, given_back, one_by_one,
 use Rattle.regress_engine_runs.specs.UndoStack.{MovesOn, give_back, take_on, whole, at_each, Frame, Undo, Work, outermost, inside, trying, old_loop, old_group, first_do, stands_for, Comes, alone, within, failed, succeeded, steps_left}
 use Rattle.regress_engine_runs.proofs.Computed.{runs-computed}
 use Rattle.regress_engine_runs.proofs.GivingBack.{back_to-end, given_back-more}
-use Rattle.regress_engine_runs.proofs.Stuck.{first_stands}
+use Rattle.regress_engine_runs.proofs.Progress.{first_stands}
 use Rattle.regress_engine_runs.proofs.RunViews.{run_goes, run_none, run_found, run_looks}
 use Rattle.regress_engine_runs.proofs.Parts.{steps-answer}
 
@@ -58,7 +58,7 @@ module _ (program : Program) (input : Input) (dir : Direction) (stack : List Und
   pub taken_on_last : (at offset left : ℕ) (i : Instruction) → Stands program (at - 1) i → (left ≡ 0) ⊎ (advance program input i dir groups offset ≡ None)
       → stands_for program input dir (take_on at offset left ∷ stack) loops groups ≡ first_do (whole at offset loops groups ∷ []) (stands_for program input dir stack loops groups)
   unfolding stands_for one_by_one
-  taken_on_last at offset zero i here way = ap (λ x. first_do (at_each program input at loops groups (elim x [ None ↦ [] | Some i ↦ one_by_one program input 0 i dir groups offset ])) (stands_for program input dir stack loops groups)) here
+  taken_on_last at offset zero i here ended = ap (λ x. first_do (at_each program input at loops groups (elim x [ None ↦ [] | Some i ↦ one_by_one program input 0 i dir groups offset ])) (stands_for program input dir stack loops groups)) here
   taken_on_last at offset (suc left) i here (inl e) = absurd (omega (arith, e))
   taken_on_last at offset (suc left) i here (inr e) =
       ap (λ x. first_do (at_each program input at loops groups (elim x [ None ↦ [] | Some i ↦ one_by_one program input (suc left) i dir groups offset ])) (stands_for program input dir stack loops groups)) here

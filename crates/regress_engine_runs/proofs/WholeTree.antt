@@ -16,7 +16,7 @@ use Rattle.regress_front_nodes.specs.ByteInputs.{TellsBytes}
 use Rattle.regress_front_nodes.proofs.StepLemmas.{flat_map-self}
 use Rattle.regress_engine_insn.specs.Instructions.{Program, Stands}
 use Rattle.regress_engine_insn.specs.Instructions as code
-use Rattle.regress_engine_insn.specs.Layout.{Spot, Target, Lies, IsLayout}
+use Rattle.regress_engine_insn.specs.Layout.{ProgramPoint, Target, Lies, IsLayout}
 use Rattle.regress_engine_runs.specs.States.{Whole, unset, range_of, first_state}
 use Rattle.regress_engine_runs.specs.Stand.{StandsFor, IsMadeFor, IsFirst, RunsAsTree}
 use Rattle.regress_engine_runs.proofs.SafeRuns.{SafeRuns, safe-run, ends, finds}
@@ -50,7 +50,7 @@ module _ (target : Target) (input : Input) (reading : Reading) (tells : Tells re
   AtGoal s v = Stands target.program v.at code.goal × StandsFor reading s v
 
   -- a tree that ends at its goal leads there
-  ends_at_goal : (n : ℕ) (t : Tree) (b : Bool) (p q : Spot) → Lies target b t p q → AreLawful n t → ((k : ℕ) → occurs k t ≤ 1)
+  ends_at_goal : (n : ℕ) (t : Tree) (b : Bool) (p q : ProgramPoint) → Lies target b t p q → AreLawful n t → ((k : ℕ) → occurs k t ≤ 1)
       → goals t ≡ 1 → last_part t ≡ tree.goal → (s : State) (w : Whole) → w.at ≡ p.address → StandsFor reading s w → MayEnter (λ k. occurs k t) q.loops w
       → Leads target.program input reading (direction b) AtGoal (w ∷ []) (node_outcomes (context_of reading input) t (direction b) s)
   unfolding node_outcomes
@@ -141,8 +141,8 @@ module _ (target : Target) (input : Input) (reading : Reading) (tells : Tells re
   runs_safely n t formed layout place room =
       let w : Whole = first_state target.program (offset reading place) in
       let s : State = record { place = place; groups = replicate n None } in
-      let start : Spot = record { address = 0; loops = 0 } in
-      let end : Spot = record { address = length target.program.instructions; loops = target.program.loops } in
+      let start : ProgramPoint = record { address = 0; loops = 0 } in
+      let end : ProgramPoint = record { address = length target.program.instructions; loops = target.program.loops } in
       let may : AreFree (λ k. occurs k t) end.loops w.loops w.groups = record {
         loops = let e = length-replicate {A = ℕ × ℕ} target.program.loops (0, 0) in omega (arith, e);
         here = λ k some. let e = length-replicate target.program.groups unset in omega (arith, e, layout.groups, (number_of n k t formed.numbered).1 some);

@@ -28,9 +28,9 @@ module _ (program : Program) (input : Input) where
         → Runs program input (submatch_direction kind dir) (onward s ∷ []) q → Meets dir (after_submatch kind first last continuation s q ++ ss) t
         → Meets dir (s ∷ ss) t
 
--- A program never gets stuck: from each place of the text, at each state that its run meets an instruction stands.
-abbrev pub NeverStuck : Program → Input → Reading → Type 0
-NeverStuck program input reading = (p : ℕ) → p ≤ length reading.points → (t : Whole)
+-- A program makes progress: from each place of the text, at each state that its run meets an instruction stands.
+abbrev pub HasProgress : Program → Input → Reading → Type 0
+HasProgress program input reading = (p : ℕ) → p ≤ length reading.points → (t : Whole)
     → Meets program input Forward (first_state program (offset reading p) ∷ []) t → (i : Instruction) × Stands program t.at i
 
 -- an instruction reads the characters beside the offset where it stands

@@ -35,7 +35,7 @@ count_of id s = (get_or s.loops id (0, 0)).0
 abbrev pub one_more : (id begin : ℕ) → Whole → Whole
 one_more id begin s = record s { at = suc begin; loops = slice_set s.loops id (suc (count_of id s), s.offset) }
 
--- one more iteration and the way out, those that may be: the first of them first where greedy
+-- one more iteration and the exit, those that may be: the first of them first where greedy
 abbrev pub ordered : (greedy more out : Bool) → Whole → Whole → List Whole
 ordered greedy more out s t =
     let first = if more then s ∷ [] else [] in

@@ -11,8 +11,8 @@ use Rattle.regress_engine_runs.specs.Runs.{Run, Runs, after_submatch, one_more, 
 use Rattle.regress_engine_runs.specs.Computed.{run}
 use Rattle.regress_engine_runs.specs.Meets.{Meets, reads_character, ReadsPlaces}
 
--- What is matched by itself and is under way: its instruction, where it stands and at which offset, and which way was read
--- before it.
+-- What is matched by itself and is under way: its instruction, where it stands and at which offset, and in which direction was
+-- read before it.
 pub record Frame : Type 0 where
   pub kind : Submatch
   pub first : ℕ
@@ -36,9 +36,9 @@ pub data Undo : Type 0 where
   give_back : (at near far : ℕ) → Undo
   -- go on at an address, at an offset and behind each further iteration of the instruction before, at most so many
   take_on : (at offset left : ℕ) → Undo
-  -- there is no other way through the contents of a lookaround or an atomic group
+  -- there is no other path through the contents of a lookaround or an atomic group
   frame : Frame → Undo
-  -- all ways on from an address and an offset have been tried
+  -- all paths on from an address and an offset have been tried
   tried : (at offset : ℕ) → Undo
 
 -- What is still to be done: some states, the most preferred first, and what goes on by the answer of their run.
@@ -47,7 +47,7 @@ pub data Work : Type 0 where
   outermost : List Whole → Work
   -- the state at a lookaround or an atomic group whose contents they are, and then what is to be done outside
   inside : List Whole → Frame → Whole → Work → Work
-  -- a state all of whose ways they are, and then what is to be done behind it
+  -- a state all of whose paths they are, and then what is to be done behind it
   trying : List Whole → Whole → Work → Work
 
 -- some states, and then the work

@@ -17,7 +17,7 @@ ghost use Rattle.regress_engine_runs.specs.States.{Whole};
 ghost use Rattle.regress_engine_runs.specs.Runs.{Run};
 ghost use Rattle.regress_engine_runs.specs.Closed.{IsClosed};
 ghost use Rattle.regress_engine_runs.specs.Items.{Answers, Finds, Lists, begins_at};
-ghost use Rattle.regress_engine_runs.specs.Meets.{NeverStuck, ReadsAtPlaces};
+ghost use Rattle.regress_engine_runs.specs.Meets.{HasProgress, ReadsAtPlaces};
 ghost use Rattle.regress_engine_runs.specs.Stand.{IsMadeFor, RunsAsTree};
 ghost use Rattle.regress_engine_runs.specs.UndoStack.{MovesOn};
 
@@ -26,10 +26,10 @@ pub fn layouts_run_as_trees()
     ensures { (target : Target) → (input : Input) → (reading : Reading) → Tells reading input → (target.program.units ≡ false → TellsBytes reading input) → IsMadeFor target input → (n : ℕ) → (t : Tree) → IsWellFormed n t → IsLayout target n t → RunsAsTree target.program input reading n t }
 {}
 
-/// A program that is a layout never gets stuck: each address that its run comes to, from each place of a text, inside and
+/// A program that is a layout makes progress: each address that its run comes to, from each place of a text, inside and
 /// outside of lookarounds and atomic groups, is that of an instruction.
-pub fn layouts_never_get_stuck()
-    ensures { (target : Target) → (input : Input) → (reading : Reading) → Tells reading input → (target.program.units ≡ false → TellsBytes reading input) → IsMadeFor target input → (n : ℕ) → (t : Tree) → IsWellFormed n t → IsLayout target n t → NeverStuck target.program input reading }
+pub fn layouts_have_progress()
+    ensures { (target : Target) → (input : Input) → (reading : Reading) → Tells reading input → (target.program.units ≡ false → TellsBytes reading input) → IsMadeFor target input → (n : ℕ) → (t : Tree) → IsWellFormed n t → IsLayout target n t → HasProgress target.program input reading }
 {}
 
 /// A program that is a layout reads at places alone: wherever its run comes to an instruction that reads characters, from each

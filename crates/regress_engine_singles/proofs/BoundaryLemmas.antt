@@ -12,10 +12,10 @@ use Rattle.regress_engine_input.proofs.KindLemmas.{tells, table-is}
 use Rattle.regress_engine_insn.specs.Instructions.{Program, Stands}
 use Rattle.regress_engine_insn.specs.Instructions as code
 use Rattle.regress_engine_runs.specs.Meets.{IsAtPlace}
-use Rattle.regress_engine_sought.proofs.PlaceLemmas.{moves, next-place}
-use Rattle.regress_engine_singles.specs.Failing.{IsStuck}
+use Rattle.regress_engine_search.proofs.PlaceLemmas.{moves, next-place}
+use Rattle.regress_engine_singles.specs.Failing.{IsDead}
 use Rattle.regress_engine_singles.specs.Passed.{PassesOver, IsInside}
-use Rattle.regress_engine_singles.proofs.StuckLemmas.{simple-stuck}
+use Rattle.regress_engine_singles.proofs.DeadLemmas.{simple-dead}
 use Rattle.regress_engine_singles.proofs.LeadingLemmas.{fails-on}
 
 module _ (v : View) (all : AreOfKind v.kind v.units) where
@@ -63,12 +63,12 @@ module _ (v : View) (all : AreOfKind v.kind v.units) where
     pub inside-on : (was : Bool) (at c q : ℕ) → IsInside program v folded start at was → (input_of v).next Forward at ≡ Some (c, q) → is_word v.table folded c ≡ was → IsInside program v folded start q was
     inside-on was at c q inside next same =
         let none = no-boundary folded was at c q inside.before next same in
-        let stuck : IsStuck program (input_of v) Forward 0 at =
-        simple-stuck program (input_of v) Forward 0 at (code.boundary false folded) here refl (λ groups. sym (ap (λ (b : Bool). if b then Some at else None) none)) in
+        let dead : IsDead program (input_of v) Forward 0 at =
+        simple-dead program (input_of v) Forward 0 at (code.boundary false folded) here refl (λ groups. sym (ap (λ (b : Bool). if b then Some at else None) none)) in
         let low = inside.further in
         let past = moves v Forward at c q next in
         record {
-          on = λ offset finds. fails-on program v all offset at c q stuck next (inside.on offset finds);
+          on = λ offset finds. fails-on program v all offset at c q dead next (inside.on offset finds);
           place = next-place v all Forward at c q inside.place next;
           further = omega (arith, low, past);
           before = sym same ∙ ap (word_at v.table folded) (sym (point-behind at c q inside.place next));

@@ -12,8 +12,8 @@ use Rattle.regress_engine_runs.specs.Meets.{Meets, now, later, inside, behind}
 use Rattle.regress_engine_runs.specs.UndoStack.{Frame, Work, outermost, first_do, whole, at_each, Comes, alone, within, ComesTo, meets_alone, meets_within, meets_outside, meets_left, meets_tried, meets_failed, meets_succeeded}
 use Rattle.regress_engine_runs.specs.UndoStack as stack
 use Rattle.regress_engine_runs.proofs.RunViews.{run_goes, run_none, run_looks}
-use Rattle.regress_engine_sought.specs.Tasks.{Leads}
-use Rattle.regress_engine_singles.specs.Failing.{Fail, failed, steps, inner, IsStuck}
+use Rattle.regress_engine_search.specs.Tasks.{Leads}
+use Rattle.regress_engine_singles.specs.Failing.{Fail, failed, steps, inner, IsDead}
 
 module _ (program : Program) (input : Input) where
   abbrev Gone : Direction → List Whole → Type 0
@@ -173,10 +173,10 @@ module _ (program : Program) (input : Input) where
     reads = λ reading on t i met. on t i (work-meets dir ss xs gone work t met);
   }
 
-  -- states at each of some offsets at which nothing is led to
-  pub fail-each : (dir : Direction) (at : ℕ) (loops : List (ℕ × ℕ)) (groups : List Marks) (os : List ℕ) → All (IsStuck program input dir at) os
+  -- states at each of some offsets from which no match can be reached
+  pub fail-each : (dir : Direction) (at : ℕ) (loops : List (ℕ × ℕ)) (groups : List Marks) (os : List ℕ) → All (IsDead program input dir at) os
       → Gone dir (at_each program input at loops groups os)
   fail-each dir at loops groups [] all = failed
   fail-each dir at loops groups (o ∷ os) all =
-      fail-both (All-head (IsStuck program input dir at) o os all loops groups) (at_each program input at loops groups os)
-      (fail-each dir at loops groups os (All-tail (IsStuck program input dir at) o os all))
+      fail-both (All-head (IsDead program input dir at) o os all loops groups) (at_each program input at loops groups os)
+      (fail-each dir at loops groups os (All-tail (IsDead program input dir at) o os all))

@@ -1,4 +1,4 @@
--- A program that begins with a class and a loop of another, from whose ends nothing is led to.
+-- A program that begins with a class and a loop of another, from whose ends no match can be reached.
 use Rattle.std.specs.Prelude.{slice_get, option_and_then, if◌then◌else◌}
 use Rattle.std.proofs.Common.{◌≡◌, ℕ, zero, suc, ◌+◌, ◌-◌, ◌≤◌, Bool, true, false, List, [], ◌∷◌, ◌++◌, Option, Some, None, refl, sym, ap, ◌∙◌, subst, arith}
 use Rattle.std.proofs.lemmas.List.Elements.{All-cons, All-weaker}
@@ -14,18 +14,18 @@ use Rattle.regress_engine_runs.specs.Runs.{moved_to, advance, after_times, as_fa
 use Rattle.regress_engine_runs.specs.Meets.{IsAtPlace}
 use Rattle.regress_engine_runs.specs.UndoStack.{whole, at_each}
 use Rattle.regress_engine_runs.specs.Closed.{Fits, takes_character}
-use Rattle.regress_engine_sought.specs.Ready.{is_simple}
-use Rattle.regress_engine_sought.specs.Sought.{Suits}
-use Rattle.regress_engine_sought.proofs.GivenBack.{given-back}
-use Rattle.regress_engine_sought.proofs.InsnLemmas.{simple-plain, simple-successors}
-use Rattle.regress_engine_sought.proofs.PlaceLemmas.{moves, next-place}
-use Rattle.regress_engine_sought.proofs.SearchLemmas.{FindsOn, search-on}
-use Rattle.regress_engine_singles.specs.Failing.{Fail, failed, steps, IsStuck}
+use Rattle.regress_engine_search.specs.Ready.{is_simple}
+use Rattle.regress_engine_search.specs.Search.{Suits}
+use Rattle.regress_engine_search.proofs.GivenBack.{given-back}
+use Rattle.regress_engine_search.proofs.InsnLemmas.{simple-plain, simple-successors}
+use Rattle.regress_engine_search.proofs.PlaceLemmas.{moves, next-place}
+use Rattle.regress_engine_search.proofs.SearchLemmas.{FindsOn, search-on}
+use Rattle.regress_engine_singles.specs.Failing.{Fail, failed, steps, IsDead}
 use Rattle.regress_engine_singles.specs.Passed.{is_class, PassesOver}
 use Rattle.regress_engine_singles.proofs.Chains.{Takes, given-taken}
 use Rattle.regress_engine_singles.proofs.Failures.{fail-each, fail-none}
 use Rattle.regress_engine_singles.specs.Taking.{takes_one}
-use Rattle.regress_engine_singles.proofs.StuckLemmas.{step-stuck, ways-stuck}
+use Rattle.regress_engine_singles.proofs.DeadLemmas.{step-dead, ways-dead}
 
 -- a character is read at one offset alone
 same-offset : (x : Option (ℕ × ℕ)) (d r c q : ℕ) → x ≡ Some (d, r) → x ≡ Some (c, q) → q ≡ r
@@ -95,31 +95,31 @@ pub class-place : (program : Program) (v : View) → AreOfKind v.kind v.units �
 class-place program v all j is o q place e = let (c, next) = class-next program v j is [] o q e in next-place v all Forward o c q place next
 
 -- From where the program fails the search goes on with the next character.
-pub fails-on : (program : Program) (v : View) → AreOfKind v.kind v.units → (offset o c q : ℕ) → IsStuck program (input_of v) Forward 0 o → (input_of v).next Forward o ≡ Some (c, q)
+pub fails-on : (program : Program) (v : View) → AreOfKind v.kind v.units → (offset o c q : ℕ) → IsDead program (input_of v) Forward 0 o → (input_of v).next Forward o ≡ Some (c, q)
     → FindsOn program (input_of v) offset o → FindsOn program (input_of v) offset q
-fails-on program v all offset o c q stuck next on =
-    search-on program v all offset o c q [] on (fail-none program (input_of v) (stuck (first_state program o).loops (first_state program o).groups)) next
+fails-on program v all offset o c q dead next on =
+    search-on program v all offset o c q [] on (fail-none program (input_of v) (dead (first_state program o).loops (first_state program o).groups)) next
 
-pub passes-one : (program : Program) (v : View) → AreOfKind v.kind v.units → (start c q : ℕ) → IsStuck program (input_of v) Forward 0 start → IsAtPlace (reading_of v) start
+pub passes-one : (program : Program) (v : View) → AreOfKind v.kind v.units → (start c q : ℕ) → IsDead program (input_of v) Forward 0 start → IsAtPlace (reading_of v) start
     → (input_of v).next Forward start ≡ Some (c, q) → PassesOver program v start q
-passes-one program v all start c q stuck place next = record {
-  on = λ offset finds. fails-on program v all offset start c q stuck next finds;
+passes-one program v all start c q dead place next = record {
+  on = λ offset finds. fails-on program v all offset start c q dead next finds;
   place = next-place v all Forward start c q place next;
   further = moves v Forward start c q next;
 }
 
--- So it does from a character that an instruction takes at an address, where nothing is led to behind both.
+-- So it does from a character that an instruction takes at an address, where no match can be reached from behind both.
 pub passes-taken : (program : Program) (v : View) → AreOfKind v.kind v.units → (at : ℕ) (j : Instruction) → Stands program at j → takes_one j ≡ true
-    → ((o : ℕ) → IsStuck program (input_of v) Forward at o → IsStuck program (input_of v) Forward 0 o) → (start c q : ℕ) → IsAtPlace (reading_of v) start → (input_of v).next Forward start ≡ Some (c, q)
-    → IsStuck program (input_of v) Forward (at + 1) q → PassesOver program v start q
-passes-taken program v all at j here is lead start c q place next stuck =
+    → ((o : ℕ) → IsDead program (input_of v) Forward at o → IsDead program (input_of v) Forward 0 o) → (start c q : ℕ) → IsAtPlace (reading_of v) start → (input_of v).next Forward start ≡ Some (c, q)
+    → IsDead program (input_of v) Forward (at + 1) q → PassesOver program v start q
+passes-taken program v all at j here is lead start c q place next dead =
     passes-one program v all start c q
-    (lead start (step-stuck program (input_of v) Forward at start j here (one-simple j is) (λ groups r e.
+    (lead start (step-dead program (input_of v) Forward at start j here (one-simple j is) (λ groups r e.
     let (d, also) = one-next program v j is groups start r e in
-    subst (IsStuck program (input_of v) Forward (at + 1)) (same-offset ((input_of v).next Forward start) d r c q also next) stuck)))
+    subst (IsDead program (input_of v) Forward (at + 1)) (same-offset ((input_of v).next Forward start) d r c q also next) dead)))
     place next
 
--- A class at an address, and behind it a loop of another, which stops at an offset from which nothing is led to; nor is from where the loop takes something.
+-- A class at an address, and behind it a loop of another, which stops at an offset from which no match can be reached; nor is from where the loop takes something.
 pub record IsLeading (program : Program) (v : View) (at most far : ℕ) (i j : Instruction) : Type 0 where
   pub first : Stands program at i
   pub first_class : is_class i ≡ true
@@ -127,8 +127,8 @@ pub record IsLeading (program : Program) (v : View) (at most far : ℕ) (i j : I
   pub body : Stands program (at + 2) j
   pub body_class : is_class j ≡ true
   pub stops : (groups : List Marks) → None ≡ advance program (input_of v) j Forward groups far
-  pub behind : IsStuck program (input_of v) Forward (at + 3) far
-  pub apart : (groups : List Marks) (o q : ℕ) → advance program (input_of v) j Forward groups o ≡ Some q → IsStuck program (input_of v) Forward (at + 3) o
+  pub behind : IsDead program (input_of v) Forward (at + 3) far
+  pub apart : (groups : List Marks) (o q : ℕ) → advance program (input_of v) j Forward groups o ≡ Some q → IsDead program (input_of v) Forward (at + 3) o
 
 module _ (program : Program) (v : View) (all : AreOfKind v.kind v.units) (suits : Suits program v) (at most far : ℕ) (i j : Instruction) (leading : IsLeading program v at most far i j) where
   abbrev input : Input
@@ -167,13 +167,13 @@ module _ (program : Program) (v : View) (all : AreOfKind v.kind v.units) (suits 
       subst (λ n. as_far program input n j Forward groups o ≡ far) e (more (most - m) m o reaches groups)
 
   -- the loop leads nowhere from where it comes to there
-  loop-fails : (o : ℕ) → IsAtPlace (reading_of v) o → Reaches most o → IsStuck program input Forward (at + 1) o
+  loop-fails : (o : ℕ) → IsAtPlace (reading_of v) o → Reaches most o → IsDead program input Forward (at + 1) o
   unfolding after_times
   loop-fails o place reaches =
       let three : at + 3 ≡ at + 1 + 2 = omega arith in
       let body : Stands program (at + 1 + 1) j = subst (λ a. Stands program a j) (let e : at + 2 ≡ at + 1 + 1 = omega arith in e) leading.body in
       let before : Stands program (at + 3 - 1) j = subst (λ a. Stands program a j) (let e : at + 2 ≡ at + 3 - 1 = omega arith in e) leading.body in
-      ways-stuck program input Forward (at + 1) o 0 most true j leading.loop body (λ loops groups.
+      ways-dead program input Forward (at + 1) o 0 most true j leading.loop body (λ loops groups.
       let (less, back, takes) = given-taken program input j Forward groups most o in
       let given : given_back input Forward o (as_far program input most j Forward groups o) ≡ far ∷ less =
       given-back v all program suits Forward groups (at + 3) j most o (j, before, class-takes j leading.body_class, place, omega arith) before ∙ back ∙ ap (λ x. x ∷ less) (reaches groups) in
@@ -182,16 +182,16 @@ module _ (program : Program) (v : View) (all : AreOfKind v.kind v.units) (suits 
       (subst (λ (xs : List ℕ). Fail program input Forward (at_each program input (at + 1 + 2) loops groups xs)) (sym given)
       (subst (λ a. Fail program input Forward (at_each program input a loops groups (far ∷ less))) three
       (fail-each program input Forward (at + 3) loops groups (far ∷ less)
-      (All-cons (IsStuck program input Forward (at + 3)) far less leading.behind
-      (All-weaker (Takes program input j Forward groups) (IsStuck program input Forward (at + 3)) (λ p t. leading.apart groups p t.0 t.1) less takes))))))
+      (All-cons (IsDead program input Forward (at + 3)) far less leading.behind
+      (All-weaker (Takes program input j Forward groups) (IsDead program input Forward (at + 3)) (λ p t. leading.apart groups p t.0 t.1) less takes))))))
 
   -- So does the class before it, where that is so behind the character that it takes.
-  first-fails : (o : ℕ) → ((groups : List Marks) (q : ℕ) → advance program input i Forward groups o ≡ Some q → IsAtPlace (reading_of v) q × Reaches most q) → IsStuck program input Forward at o
-  first-fails o behind = step-stuck program input Forward at o i leading.first (class-simple i leading.first_class) (λ groups q e.
+  first-fails : (o : ℕ) → ((groups : List Marks) (q : ℕ) → advance program input i Forward groups o ≡ Some q → IsAtPlace (reading_of v) q × Reaches most q) → IsDead program input Forward at o
+  first-fails o behind = step-dead program input Forward at o i leading.first (class-simple i leading.first_class) (λ groups q e.
       let (place, reaches) = behind groups q e in
       loop-fails q place reaches)
 
-  module _ (lead : (o : ℕ) → IsStuck program input Forward at o → IsStuck program input Forward 0 o) where
+  module _ (lead : (o : ℕ) → IsDead program input Forward at o → IsDead program input Forward 0 o) where
     -- the class that the program begins with takes the same character as the loop
     same-next : (o c q : ℕ) → input.next Forward o ≡ Some (c, q) → IsAtPlace (reading_of v) q → Reaches most q
         → (groups : List Marks) (r : ℕ) → advance program input i Forward groups o ≡ Some r → IsAtPlace (reading_of v) r × Reaches most r
@@ -223,10 +223,10 @@ module _ (program : Program) (v : View) (all : AreOfKind v.kind v.units) (suits 
             let reaches_on : Reaches m q = λ groups. ap (λ (x : Option ℕ). elim x [ None ↦ o | Some q ↦ as_far program input m j Forward groups q ]) (sym (class-any program v j leading.body_class groups [] o ∙ e)) ∙ reaches groups in
             let on = rest q fewer inside reaches_on in
             let low = on.0 in
-            let stuck = first-fails o (same-next o c q next inside (as_many m q fewer reaches_on)) in (
+            let dead = first-fails o (same-next o c q next inside (as_many m q fewer reaches_on)) in (
               omega (arith, low, past),
               on.1,
-              λ offset finds. on.2 offset (fails-on program v all offset o c q (lead o stuck) next finds),
+              λ offset finds. on.2 offset (fails-on program v all offset o c q (lead o dead) next finds),
             )
 
     -- From where the program begins up to there nothing is found.
@@ -237,9 +237,9 @@ module _ (program : Program) (v : View) (all : AreOfKind v.kind v.units) (suits 
         let past = moves v Forward start c near next in
         let on = passes most near (omega arith) inside reaches in
         let low = on.0 in
-        let stuck = first-fails start (same-next start c near next inside reaches) in
+        let dead = first-fails start (same-next start c near next inside reaches) in
         record {
-          on = λ offset finds. on.2 offset (fails-on program v all offset start c near (lead start stuck) next finds);
+          on = λ offset finds. on.2 offset (fails-on program v all offset start c near (lead start dead) next finds);
           place = on.1;
           further = omega (arith, low, past);
         }

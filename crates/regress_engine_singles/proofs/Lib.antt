@@ -1,10 +1,10 @@
-pub mod ApartLemmas
+pub mod DisjointLemmas
 pub mod Chains
 pub mod Failures
-pub mod LackLemmas
+pub mod FirstByteLemmas
 pub mod LeadingLemmas
 pub mod LineLemmas
 pub mod PassingLemmas
 pub mod StopLemmas
-pub mod StuckLemmas
+pub mod DeadLemmas
 pub mod BoundaryLemmas

@@ -7,10 +7,10 @@ use Rattle.regress_engine_input.specs.Views.{View, AreOfKind, input_of, reading_
 use Rattle.regress_engine_insn.specs.Instructions.{Program, Stands}
 use Rattle.regress_engine_insn.specs.Instructions as code
 use Rattle.regress_engine_runs.specs.Meets.{IsAtPlace}
-use Rattle.regress_engine_sought.proofs.PlaceLemmas.{moves, next-place}
-use Rattle.regress_engine_singles.specs.Failing.{IsStuck}
+use Rattle.regress_engine_search.proofs.PlaceLemmas.{moves, next-place}
+use Rattle.regress_engine_singles.specs.Failing.{IsDead}
 use Rattle.regress_engine_singles.specs.Passed.{PassesOver, IsInLine}
-use Rattle.regress_engine_singles.proofs.StuckLemmas.{simple-stuck}
+use Rattle.regress_engine_singles.proofs.DeadLemmas.{simple-dead}
 use Rattle.regress_engine_singles.proofs.LeadingLemmas.{fails-on}
 use Rattle.regress_engine_singles.proofs.BoundaryLemmas.{point-behind}
 
@@ -31,8 +31,8 @@ module _ (v : View) (all : AreOfKind v.kind v.units) where
           ap (λ (x : Option (ℕ × ℕ)). not (is_some x) || (true && is_some_and (option_map (λ z. z.0) x) is_line_end)) f ∙ ap is_line_end same ∙ within
 
   module _ (program : Program) (start : ℕ) where
-    pub in-line-here : IsAtPlace (reading_of v) start → IsStuck program (input_of v) Forward 0 start → IsInLine program v start start
-    in-line-here place stuck = record { on = λ offset finds. finds; place = place; further = omega arith; stuck = stuck }
+    pub in-line-here : IsAtPlace (reading_of v) start → IsDead program (input_of v) Forward 0 start → IsInLine program v start start
+    in-line-here place dead = record { on = λ offset finds. finds; place = place; further = omega arith; dead = dead }
 
     -- behind a character of the line too nothing is found
     pub passes-line : (at c q : ℕ) → IsInLine program v start at → (input_of v).next Forward at ≡ Some (c, q) → PassesOver program v start q
@@ -40,20 +40,20 @@ module _ (v : View) (all : AreOfKind v.kind v.units) where
         let low = inside.further in
         let past = moves v Forward at c q next in
         record {
-          on = λ offset finds. fails-on program v all offset at c q inside.stuck next (inside.on offset finds);
+          on = λ offset finds. fails-on program v all offset at c q inside.dead next (inside.on offset finds);
           place = next-place v all Forward at c q inside.place next;
           further = omega (arith, low, past);
         }
 
-    -- and where it ends no line, nothing is led to from there
+    -- and where it ends no line, no match can be reached from there
     pub in-line-on : Stands program 0 (code.line_start true) → (at c q : ℕ) → IsInLine program v start at → (input_of v).next Forward at ≡ Some (c, q) → is_line_end c ≡ false → IsInLine program v start q
     in-line-on here at c q inside next within =
         let none = no-line at c q inside.place next within in
         let low = inside.further in
         let past = moves v Forward at c q next in
         record {
-          on = λ offset finds. fails-on program v all offset at c q inside.stuck next (inside.on offset finds);
+          on = λ offset finds. fails-on program v all offset at c q inside.dead next (inside.on offset finds);
           place = next-place v all Forward at c q inside.place next;
           further = omega (arith, low, past);
-          stuck = simple-stuck program (input_of v) Forward 0 q (code.line_start true) here refl (λ groups. sym (ap (λ (b : Bool). if b then Some q else None) none));
+          dead = simple-dead program (input_of v) Forward 0 q (code.line_start true) here refl (λ groups. sym (ap (λ (b : Bool). if b then Some q else None) none));
         }

@@ -18,9 +18,9 @@ module _ (program : Program) (input : Input) where
     inner : {dir : Direction} {first last continuation : ℕ} {s : Whole} {ss : List Whole} → Stands program s.at (code.submatch atomic first last continuation)
         → Fail dir (onward s ∷ []) → Fail dir ss → Fail dir (s ∷ ss)
 
-  -- from an address and an offset nothing is led to, whatever the loops and the groups are
-  abbrev pub IsStuck : Direction → (at offset : ℕ) → Type 0
-  IsStuck dir at o = (loops : List (ℕ × ℕ)) (groups : List Marks) → Fail dir (whole at o loops groups ∷ [])
+  -- from an address and an offset no match can be reached, whatever the loops and the groups are
+  abbrev pub IsDead : Direction → (at offset : ℕ) → Type 0
+  IsDead dir at o = (loops : List (ℕ × ℕ)) (groups : List Marks) → Fail dir (whole at o loops groups ∷ [])
 
   -- an instruction takes nothing beside an offset
   abbrev pub TakesNothing : Direction → Instruction → ℕ → Type 0

@@ -1,4 +1,4 @@
-pub mod Apart
+pub mod Disjoint
 pub mod Failing
 pub mod Passed
 pub mod Passing

@@ -6,8 +6,8 @@ use Rattle.regress_engine_input.specs.Views.{View, input_of, reading_of}
 use Rattle.regress_engine_insn.specs.Instructions.{Instruction, Program}
 use Rattle.regress_engine_insn.specs.Instructions as code
 use Rattle.regress_engine_runs.specs.Meets.{IsAtPlace}
-use Rattle.regress_engine_sought.proofs.SearchLemmas.{FindsOn}
-use Rattle.regress_engine_singles.specs.Failing.{IsStuck}
+use Rattle.regress_engine_search.proofs.SearchLemmas.{FindsOn}
+use Rattle.regress_engine_singles.specs.Failing.{IsDead}
 
 -- an instruction is a class
 abbrev pub is_class : Instruction → Bool
@@ -30,9 +30,9 @@ pub record IsInside (program : Program) (v : View) (folded : Bool) (start at : �
   pub further : start ≤ at
   pub before : was ≡ word_at v.table folded (point (input_of v) Backward at)
 
--- From one offset on and up to another nothing is found, and what is found from either is the same; from the other nothing is led to.
+-- From one offset on and up to another nothing is found, and what is found from either is the same; from the other no match can be reached.
 pub record IsInLine (program : Program) (v : View) (start at : ℕ) : Type 0 where
   pub on : (offset : ℕ) → FindsOn program (input_of v) offset start → FindsOn program (input_of v) offset at
   pub place : IsAtPlace (reading_of v) at
   pub further : start ≤ at
-  pub stuck : IsStuck program (input_of v) Forward 0 at
+  pub dead : IsDead program (input_of v) Forward 0 at

@@ -6,11 +6,11 @@ use Rattle.regress_engine_runs.specs.Closed.{takes_character}
 use Rattle.regress_engine_singles.specs.Passed.{is_class}
 
 -- an instruction asks what stands beside an offset
-abbrev pub is_edge : Instruction → Bool
-is_edge (code.line_start multiline) = true
-is_edge (code.line_end multiline) = true
-is_edge (code.boundary inverted folded) = true
-is_edge _ = false
+abbrev pub is_assertion : Instruction → Bool
+is_assertion (code.line_start multiline) = true
+is_assertion (code.line_end multiline) = true
+is_assertion (code.boundary inverted folded) = true
+is_assertion _ = false
 
 -- an instruction takes a character or bytes
 abbrev pub is_taking : Instruction → Bool

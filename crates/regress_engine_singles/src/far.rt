@@ -1,6 +1,6 @@
 //! How far a test on one character passes.
 ghost use Rattle.std.specs.Prelude.{◌≡◌};
-ghost use Rattle.regress_engine_input.specs.Views.{way, input_of, CanRead};
+ghost use Rattle.regress_engine_input.specs.Views.{direction_of, input_of, CanRead};
 ghost use Rattle.regress_engine_singles.specs.Passing.{scan_while};
 
 use regress_engine_input::{Direction, InputIndexer, PositionType};
@@ -23,7 +23,7 @@ pub fn scan_while<Input: InputIndexer, Dir: Direction, Matcher: SingleCharMatche
 ) -> usize
     requires place { CanRead (Input.view input.now) offset }
     requires suits { Matcher.Suits matcher.now (Input.view input.now) }
-    ensures { result ≡ scan_while (input_of (Input.view input.now)) (Matcher.passes matcher.now) (way Dir.FORWARD) times offset }
+    ensures { result ≡ scan_while (input_of (Input.view input.now)) (Matcher.passes matcher.now) (direction_of Dir.FORWARD) times offset }
 {
     let mut behind = <Input::Position as PositionType>::new(offset);
     let mut left = times;

@@ -2,17 +2,17 @@
 #![tactic(auto)]
 
 mod ahead;
-mod apart;
 mod ascii;
 mod class;
+mod disjoint;
 mod far;
 mod stops;
 mod taken;
 mod taking;
 
 pub use ahead::as_far_ahead;
-pub use apart::{are_apart, is_apart};
 pub use class::ScannedBracket;
+pub use disjoint::{are_disjoint, is_disjoint};
 pub use far::scan_while;
 pub use taken::{Taken, taken_ahead};
-pub use taking::{first_byte, is_class, is_edge, takes_one, takes_some};
+pub use taking::{first_byte, is_assertion, is_class, takes_one, takes_some};

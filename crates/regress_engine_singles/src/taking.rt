@@ -3,7 +3,7 @@ ghost use Rattle.std.specs.Prelude.{◌≡◌, ℕ, true, List, ◌∷◌, slice
 ghost use Rattle.regress_engine_insn.specs.Instructions.{byte_seq, bytes_in};
 ghost use Rattle.regress_engine_insn.specs.InsnViews.{instruction};
 ghost use Rattle.regress_engine_singles.specs.Passed.{is_class};
-ghost use Rattle.regress_engine_singles.specs.Taking.{is_edge, is_taking, takes_one, takes_some};
+ghost use Rattle.regress_engine_singles.specs.Taking.{is_assertion, is_taking, takes_one, takes_some};
 
 use regress_engine_insn::{Insn, bytes_of};
 
@@ -32,11 +32,11 @@ pub fn first_byte(insn: &Insn) -> Option<u8>
 /// Whether an instruction asks what stands beside an offset, and takes nothing, as `^` does.
 ///
 /// ```rust
-/// let edge = is_edge(&Insn::WordBoundary { invert: false }); // true
+/// let edge = is_assertion(&Insn::WordBoundary { invert: false }); // true
 /// ```
 #[inline]
-pub fn is_edge(insn: &Insn) -> bool
-    ensures { result ≡ is_edge (instruction insn.now) }
+pub fn is_assertion(insn: &Insn) -> bool
+    ensures { result ≡ is_assertion (instruction insn.now) }
 {
     matches!(
         insn,

@@ -1,22 +1,22 @@
--- What is undone, and where it is gone on.
+-- What is undone, and where it continues.
 use Rattle.std.specs.Prelude.{get_or, slice_set, ◌^◌}
 use Rattle.std.proofs.Common.{◌≡◌, ℕ, zero, suc, ◌+◌, ◌-◌, ◌<◌, ◌≤◌, Bool, true, false, List, [], ◌∷◌, length, Some, None, if◌then◌else◌, ◌⊎◌, refl, sym, ap, ◌∙◌, subst, arith}
 use Rattle.std.proofs.lemmas.List.{length-set}
 use Rattle.regress_meaning.specs.Inputs.{Input}
-use Rattle.regress_engine_input.specs.Views.{View, way, reading_of}
+use Rattle.regress_engine_input.specs.Views.{View, direction_of, reading_of}
 use Rattle.regress_engine_insn.specs.Instructions.{Program, Instruction, Stands}
 use Rattle.regress_engine_runs.specs.States.{Whole, Marks}
 use Rattle.regress_engine_runs.specs.Runs.{against, gap, advance, one_more}
 use Rattle.regress_engine_runs.specs.Meets.{IsAtPlace}
 use Rattle.regress_engine_runs.specs.UndoStack.{Undo, Frame, Work, old_loop, old_group, resume, iterate, give_back, take_on, frame, tried, whole, first_do, stands_for, at_each, MovesOn}
 use Rattle.regress_engine_runs.proofs.UndoLemmas.{given_back_last, given_back_one, taken_on_last, taken_on_one}
-use Rattle.regress_engine_sought.specs.Ready.{IsBody}
-use Rattle.regress_engine_sought.specs.Tasks.{Task, Leads}
-use Rattle.regress_engine_sought.proofs.TaskLemmas.{leads-then, leads-same, leads-first, leads-exhausted, leads-tried}
+use Rattle.regress_engine_search.specs.Ready.{IsBody}
+use Rattle.regress_engine_search.specs.Tasks.{Task, Leads}
+use Rattle.regress_engine_search.proofs.TaskLemmas.{leads-then, leads-same, leads-first, leads-exhausted, leads-tried}
 use Rattle.regress_engine_undo.specs.declared.undo.Spot.{Spot}
 use Rattle.regress_engine_undo.specs.Held.{Held, pushed, loop_written}
-use Rattle.regress_engine_sought.specs.Submatches.{is_negated}
-use Rattle.regress_engine_sought.proofs.SubmatchLemmas.{after-none}
+use Rattle.regress_engine_search.specs.Submatches.{is_negated}
+use Rattle.regress_engine_search.proofs.SubmatchLemmas.{after-none}
 use Rattle.regress_engine_undo.specs.Sound.{IsSound, IsHeld}
 use Rattle.regress_engine_undo.specs.Tasks.{task, state_at}
 use Rattle.regress_engine_undo.proofs.StepLemmas.{iterate-leads}
@@ -25,11 +25,11 @@ use Rattle.regress_engine_runs.proofs.Iterations.{back_to-none}
 module _ (program : Program) (input : Input) where
   -- a record stands for a state and the rest
   pub resumed : (p : Spot) (h : Held) (u : Undo) (s : List Undo) (at o : ℕ)
-      → stands_for program input (way p.forward) (u ∷ h.stack) h.loops h.groups ≡ first_do (whole at o h.loops h.groups ∷ []) (stands_for program input (way p.forward) s h.loops h.groups)
+      → stands_for program input (direction_of p.forward) (u ∷ h.stack) h.loops h.groups ≡ first_do (whole at o h.loops h.groups ∷ []) (stands_for program input (direction_of p.forward) s h.loops h.groups)
       → Leads program input 0 (task program input false p (pushed u h)) (task program input true (record p { at = at; offset = o }) (record h { stack = s }))
   resumed p h u s at o e =
-      subst (λ (w : Work). Leads program input 0 (record { dir = way p.forward; states = []; work = w }) (task program input true (record p { at = at; offset = o }) (record h { stack = s }))) (sym e)
-      (leads-first program input (way p.forward) [] (whole at o h.loops h.groups ∷ []) (stands_for program input (way p.forward) s h.loops h.groups))
+      subst (λ (w : Work). Leads program input 0 (record { dir = direction_of p.forward; states = []; work = w }) (task program input true (record p { at = at; offset = o }) (record h { stack = s }))) (sym e)
+      (leads-first program input (direction_of p.forward) [] (whole at o h.loops h.groups ∷ []) (stands_for program input (direction_of p.forward) s h.loops h.groups))
 
   pub resume-back : (p : Spot) (h : Held) (at o : ℕ) → Leads program input 0 (task program input false p (pushed (resume at o) h)) (task program input true (record p { at = at; offset = o }) h)
   unfolding stands_for
@@ -39,7 +39,7 @@ module _ (program : Program) (input : Input) where
   pub tried-back : (p : Spot) (h : Held) (at o : ℕ) → Leads program input 0 (task program input false p (pushed (tried at o) h)) (task program input false p h)
   unfolding stands_for
   tried-back p h at o =
-      leads-tried program input (way p.forward) (whole at o h.loops h.groups) (stands_for program input (way p.forward) h.stack h.loops h.groups)
+      leads-tried program input (direction_of p.forward) (whole at o h.loops h.groups) (stands_for program input (direction_of p.forward) h.stack h.loops h.groups)
 
   pub old_loop-back : (p : Spot) (h k : Held) (id : ℕ) (x : ℕ × ℕ) → k ≡ record h { loops = slice_set h.loops id x }
       → Leads program input 0 (task program input false p (pushed (old_loop id x) h)) (task program input false p k)
@@ -60,11 +60,11 @@ module _ (program : Program) (input : Input) where
       let on : Spot = record p { offset = o } in
       subst (λ x. Leads program input 0 (task program input false p (pushed (iterate id begin o) h)) (task program input true x k)) (sym same)
       (leads-then program input 0 0
-      (leads-first program input (way p.forward) [] (one_more id begin (whole begin o h.loops h.groups) ∷ []) (stands_for program input (way p.forward) h.stack h.loops h.groups))
+      (leads-first program input (direction_of p.forward) [] (one_more id begin (whole begin o h.loops h.groups) ∷ []) (stands_for program input (direction_of p.forward) h.stack h.loops h.groups))
       (iterate-leads on h k id count begin counted is program input))
 
   -- a lookaround or an atomic group whose contents have no answer
-  pub submatch-back : (p q : Spot) (h : Held) (f : Frame) → f.outside ≡ way q.forward → (is_negated f.kind ≡ true → q ≡ record { at = f.continuation; offset = f.offset; forward = q.forward })
+  pub submatch-back : (p q : Spot) (h : Held) (f : Frame) → f.outside ≡ direction_of q.forward → (is_negated f.kind ≡ true → q ≡ record { at = f.continuation; offset = f.offset; forward = q.forward })
       → Leads program input 0 (task program input false p (pushed (frame f) h)) (task program input (is_negated f.kind) q h)
   unfolding stands_for
   submatch-back p q h f turned placed = by_way (is_negated f.kind) refl
@@ -79,18 +79,18 @@ module _ (program : Program) (input : Input) where
       left b = if b then record s { at = f.continuation } ∷ [] else []
 
       inside_of : Work
-      inside_of = stands_for program input (way p.forward) (frame f ∷ h.stack) h.loops h.groups
+      inside_of = stands_for program input (direction_of p.forward) (frame f ∷ h.stack) h.loops h.groups
 
       from : Task
       from = task program input false p (pushed (frame f) h)
 
-      exhausted : Leads program input 0 (record { dir = way p.forward; states = []; work = inside_of }) (record { dir = f.outside; states = left (is_negated f.kind); work = rest })
+      exhausted : Leads program input 0 (record { dir = direction_of p.forward; states = []; work = inside_of }) (record { dir = f.outside; states = left (is_negated f.kind); work = rest })
       exhausted =
           subst (λ (ss : List Whole). Leads program input 0 from (record { dir = f.outside; states = ss; work = rest })) (after-none f.kind f.first f.last f.continuation s)
-          (leads-exhausted program input (way p.forward) f s rest)
+          (leads-exhausted program input (direction_of p.forward) f s rest)
 
       -- the direction is that outside
-      turn : (b : Bool) → is_negated f.kind ≡ b → Leads program input 0 from (record { dir = way q.forward; states = left b; work = stands_for program input (way q.forward) h.stack h.loops h.groups })
+      turn : (b : Bool) → is_negated f.kind ≡ b → Leads program input 0 from (record { dir = direction_of q.forward; states = left b; work = stands_for program input (direction_of q.forward) h.stack h.loops h.groups })
       turn b e =
           subst (λ d. Leads program input 0 from (record { dir = d; states = left b; work = stands_for program input d h.stack h.loops h.groups })) turned
           (subst (λ c. Leads program input 0 from (record { dir = f.outside; states = left c; work = rest })) e exhausted)
@@ -98,43 +98,43 @@ module _ (program : Program) (input : Input) where
       by_way : (b : Bool) → is_negated f.kind ≡ b → Leads program input 0 from (task program input (is_negated f.kind) q h)
       by_way true e =
           subst (λ c. Leads program input 0 from (task program input c q h)) (sym e)
-          (subst (λ (x : Spot). Leads program input 0 from (record { dir = way q.forward; states = state_at x h ∷ []; work = stands_for program input (way q.forward) h.stack h.loops h.groups })) (sym (placed e)) (turn true e))
+          (subst (λ (x : Spot). Leads program input 0 from (record { dir = direction_of q.forward; states = state_at x h ∷ []; work = stands_for program input (direction_of q.forward) h.stack h.loops h.groups })) (sym (placed e)) (turn true e))
       by_way false e = subst (λ c. Leads program input 0 from (task program input c q h)) (sym e) (turn false e)
 
   -- ---- one-character loops
 
-  pub give_back-last : (p : Spot) (h : Held) (at near far : ℕ) → gap (way p.forward) near far ≡ 0
+  pub give_back-last : (p : Spot) (h : Held) (at near far : ℕ) → gap (direction_of p.forward) near far ≡ 0
       → Leads program input 0 (task program input false p (pushed (give_back at near far) h)) (task program input true (record p { at = at; offset = far }) h)
   give_back-last p h at near far e =
-      resumed p h (give_back at near far) h.stack at far (given_back_last program input (way p.forward) h.stack h.loops h.groups at near far e)
+      resumed p h (give_back at near far) h.stack at far (given_back_last program input (direction_of p.forward) h.stack h.loops h.groups at near far e)
 
-  pub give_back-none : (p : Spot) (h : Held) (at near far : ℕ) → input.next (against (way p.forward)) far ≡ None
+  pub give_back-none : (p : Spot) (h : Held) (at near far : ℕ) → input.next (against (direction_of p.forward)) far ≡ None
       → Leads program input 0 (task program input false p (pushed (give_back at near far) h)) (task program input true (record p { at = at; offset = far }) h)
   unfolding stands_for
   give_back-none p h at near far e =
       resumed p h (give_back at near far) h.stack at far
-      (ap (λ os. first_do (at_each program input at h.loops h.groups os) (stands_for program input (way p.forward) h.stack h.loops h.groups)) (back_to-none input (gap (way p.forward) near far) (way p.forward) near far e))
+      (ap (λ os. first_do (at_each program input at h.loops h.groups os) (stands_for program input (direction_of p.forward) h.stack h.loops h.groups)) (back_to-none input (gap (direction_of p.forward) near far) (direction_of p.forward) near far e))
 
-  pub give_back-more : (p : Spot) (h k : Held) (at near far c q : ℕ) → MovesOn input → 0 < gap (way p.forward) near far → input.next (against (way p.forward)) far ≡ Some (c, q)
+  pub give_back-more : (p : Spot) (h k : Held) (at near far c q : ℕ) → MovesOn input → 0 < gap (direction_of p.forward) near far → input.next (against (direction_of p.forward)) far ≡ Some (c, q)
       → k ≡ pushed (give_back at near q) h
       → Leads program input 0 (task program input false p (pushed (give_back at near far) h)) (task program input true (record p { at = at; offset = far }) k)
   give_back-more p h k at near far c q moves some e is =
       subst (λ x. Leads program input 0 (task program input false p (pushed (give_back at near far) h)) (task program input true (record p { at = at; offset = far }) x)) (sym is)
-      (resumed p h (give_back at near far) (give_back at near q ∷ h.stack) at far (given_back_one program input (way p.forward) h.stack h.loops h.groups moves at near far c q some e))
+      (resumed p h (give_back at near far) (give_back at near q ∷ h.stack) at far (given_back_one program input (direction_of p.forward) h.stack h.loops h.groups moves at near far c q some e))
 
-  pub take_on-last : (p : Spot) (h : Held) (at o left : ℕ) (i : Instruction) → Stands program (at - 1) i → (left ≡ 0) ⊎ (advance program input i (way p.forward) h.groups o ≡ None)
+  pub take_on-last : (p : Spot) (h : Held) (at o left : ℕ) (i : Instruction) → Stands program (at - 1) i → (left ≡ 0) ⊎ (advance program input i (direction_of p.forward) h.groups o ≡ None)
       → Leads program input 0 (task program input false p (pushed (take_on at o left) h)) (task program input true (record p { at = at; offset = o }) h)
   take_on-last p h at o left i here way_out =
-      resumed p h (take_on at o left) h.stack at o (taken_on_last program input (way p.forward) h.stack h.loops h.groups at o left i here way_out)
+      resumed p h (take_on at o left) h.stack at o (taken_on_last program input (direction_of p.forward) h.stack h.loops h.groups at o left i here way_out)
 
-  pub take_on-more : (p : Spot) (h k : Held) (at o left q : ℕ) (i : Instruction) → Stands program (at - 1) i → (left ≡ 0 → ⊥) → advance program input i (way p.forward) h.groups o ≡ Some q
+  pub take_on-more : (p : Spot) (h k : Held) (at o left q : ℕ) (i : Instruction) → Stands program (at - 1) i → (left ≡ 0 → ⊥) → advance program input i (direction_of p.forward) h.groups o ≡ Some q
       → k ≡ pushed (take_on at q (left - 1)) h
       → Leads program input 0 (task program input false p (pushed (take_on at o left) h)) (task program input true (record p { at = at; offset = o }) k)
   take_on-more p h k at o zero q i here some e is = absurd (some refl)
   take_on-more p h k at o (suc left) q i here some e is =
       let same : suc left - 1 ≡ left = omega arith in
       subst (λ x. Leads program input 0 (task program input false p (pushed (take_on at o (suc left)) h)) (task program input true (record p { at = at; offset = o }) x)) (sym (is ∙ ap (λ n. pushed (take_on at q n) h) same))
-      (resumed p h (take_on at o (suc left)) (take_on at q left ∷ h.stack) at o (taken_on_one program input (way p.forward) h.stack h.loops h.groups at o left q i here e))
+      (resumed p h (take_on at o (suc left)) (take_on at q left ∷ h.stack) at o (taken_on_one program input (direction_of p.forward) h.stack h.loops h.groups at o left q i here e))
 
 -- ---- what is held
 

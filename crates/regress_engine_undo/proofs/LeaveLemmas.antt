@@ -4,19 +4,19 @@ use Rattle.std.proofs.Common.{◌≡◌, ℕ, ◌+◌, ◌<◌, ◌≤◌, true,
 use Rattle.std.proofs.lemmas.List.{length-set}
 use Rattle.regress_meaning.specs.Meaning.{Direction}
 use Rattle.regress_meaning.specs.Inputs.{Input}
-use Rattle.regress_engine_input.specs.Views.{way}
+use Rattle.regress_engine_input.specs.Views.{direction_of}
 use Rattle.regress_engine_insn.specs.Instructions.{Program, Stands}
 use Rattle.regress_engine_insn.specs.Instructions as code
 use Rattle.regress_engine_runs.specs.States.{Whole, Marks, unset, mixed}
 use Rattle.regress_engine_runs.specs.Runs.{one_more}
 use Rattle.regress_engine_runs.specs.UndoStack.{Undo, old_loop, old_group, resume, iterate, give_back, take_on, frame, tried, Frame, Work, whole, stands_for}
-use Rattle.regress_engine_sought.specs.Tasks.{Task, Leads, outside_of}
-use Rattle.regress_engine_sought.proofs.TaskLemmas.{leads-found, ends-outermost, outside-first}
+use Rattle.regress_engine_search.specs.Tasks.{Task, Leads, outside_of}
+use Rattle.regress_engine_search.proofs.TaskLemmas.{leads-found, ends-outermost, outside-first}
 use Rattle.regress_engine_undo.specs.declared.undo.Spot.{Spot}
 use Rattle.regress_engine_undo.proofs.LeadLemmas.{group-kept}
 use Rattle.regress_engine_undo.specs.Held.{Held, pushed, group_written}
-use Rattle.regress_engine_sought.specs.Submatches.{is_negated, end_offset}
-use Rattle.regress_engine_sought.proofs.SubmatchLemmas.{after-negated, after-some}
+use Rattle.regress_engine_search.specs.Submatches.{is_negated, end_offset}
+use Rattle.regress_engine_search.proofs.SubmatchLemmas.{after-negated, after-some}
 use Rattle.regress_engine_undo.specs.Tasks.{task, state_at}
 use Rattle.regress_engine_undo.specs.Leaving.{told_outside, work_of, Unwinds, EndsAt}
 use Rattle.regress_engine_runs.proofs.MixedGroups.{mixed-more}
@@ -24,19 +24,19 @@ use Rattle.regress_engine_runs.proofs.MixedGroups.{mixed-more}
 -- the whole program is left
 pub leaves-all : (p : Spot) (h k : Held) → Unwinds h None k → EndsAt p h
 leaves-all p h k unwinds program input here n r come =
-    ends-outermost program input (way p.forward) (state_at p h) (work_of program input (way p.forward) h) (unwinds program input (way p.forward)) here n r come
+    ends-outermost program input (direction_of p.forward) (state_at p h) (work_of program input (direction_of p.forward) h) (unwinds program input (direction_of p.forward)) here n r come
 
 -- a negated lookaround fails
-pub leaves-negated : (p q : Spot) (h k : Held) (f : Frame) → Unwinds h (Some f) k → is_negated f.kind ≡ true → way q.forward ≡ f.outside
+pub leaves-negated : (p q : Spot) (h k : Held) (f : Frame) → Unwinds h (Some f) k → is_negated f.kind ≡ true → direction_of q.forward ≡ f.outside
     → (program : Program) (input : Input) → Stands program p.at code.goal → Leads program input 1 (task program input true p h) (task program input false q k)
 leaves-negated p q h k f unwinds negated turned program input here =
     subst (λ d. Leads program input 1 (task program input true p h) (record { dir = d; states = []; work = work_of program input d k })) (sym turned)
     (subst (λ (ss : List Whole). Leads program input 1 (task program input true p h) (record { dir = f.outside; states = ss; work = work_of program input f.outside k }))
     (after-negated f.kind f.first f.last f.continuation (whole f.at f.offset k.loops k.groups) (state_at p h) negated)
-    (leads-found program input (way p.forward) (state_at p h) (work_of program input (way p.forward) h) _ (unwinds program input (way p.forward)) here))
+    (leads-found program input (direction_of p.forward) (state_at p h) (work_of program input (direction_of p.forward) h) _ (unwinds program input (direction_of p.forward)) here))
 
 -- a positive one and an atomic group take the groups on
-pub leaves-positive : (p q : Spot) (h k l : Held) (f : Frame) → Unwinds h (Some f) k → is_negated f.kind ≡ false → way q.forward ≡ f.outside → q.at ≡ f.continuation
+pub leaves-positive : (p q : Spot) (h k l : Held) (f : Frame) → Unwinds h (Some f) k → is_negated f.kind ≡ false → direction_of q.forward ≡ f.outside → q.at ≡ f.continuation
     → q.offset ≡ end_offset f.kind f.offset p.offset → l.loops ≡ k.loops → l.groups ≡ mixed 0 f.first f.last h.groups k.groups
     → ((program : Program) (input : Input) (dir : Direction) → work_of program input dir l ≡ work_of program input dir k)
     → (program : Program) (input : Input) → Stands program p.at code.goal → Leads program input 1 (task program input true p h) (task program input true q l)
@@ -44,12 +44,12 @@ leaves-positive p q h k l f unwinds positive turned at offset loops groups same 
     let from : Task = task program input true p h in
     let state : Whole = whole f.continuation (end_offset f.kind f.offset p.offset) k.loops (mixed 0 f.first f.last h.groups k.groups) in
     let told : state ≡ state_at q l = (λ i. whole (sym at i) (sym offset i) (sym loops i) (sym groups i)) in
-    subst (λ (s : Whole). Leads program input 1 from (record { dir = way q.forward; states = s ∷ []; work = work_of program input (way q.forward) l })) told
-    (subst (λ (w : Work). Leads program input 1 from (record { dir = way q.forward; states = state ∷ []; work = w })) (sym (same program input (way q.forward)))
+    subst (λ (s : Whole). Leads program input 1 from (record { dir = direction_of q.forward; states = s ∷ []; work = work_of program input (direction_of q.forward) l })) told
+    (subst (λ (w : Work). Leads program input 1 from (record { dir = direction_of q.forward; states = state ∷ []; work = w })) (sym (same program input (direction_of q.forward)))
     (subst (λ d. Leads program input 1 from (record { dir = d; states = state ∷ []; work = work_of program input d k })) (sym turned)
     (subst (λ (ss : List Whole). Leads program input 1 from (record { dir = f.outside; states = ss; work = work_of program input f.outside k }))
     (after-some f.kind f.first f.last f.continuation (whole f.at f.offset k.loops k.groups) (state_at p h) positive)
-    (leads-found program input (way p.forward) (state_at p h) (work_of program input (way p.forward) h) _ (unwinds program input (way p.forward)) here))))
+    (leads-found program input (direction_of p.forward) (state_at p h) (work_of program input (direction_of p.forward) h) _ (unwinds program input (direction_of p.forward)) here))))
 
 -- ---- one record without going on
 

@@ -6,5 +6,5 @@ pub mod BackLemmas
 pub mod LeaveLemmas
 pub mod DispatchLemmas
 pub mod SingleLemmas
-pub mod StuckLemmas
+pub mod DeadLemmas
 pub mod TurnLemmas

@@ -2,17 +2,17 @@
 use Rattle.std.specs.Prelude.{get_or, slice_set, nat_lt, nat_le, ◌^◌}
 use Rattle.std.proofs.Common.{◌≡◌, ℕ, suc, ◌+◌, ◌<◌, ◌≤◌, ◌∷◌, [], List, Bool, true, false, if◌then◌else◌, length, refl, sym, ap, ◌∙◌, subst, arith}
 use Rattle.std.proofs.lemmas.Bool.Decides.{nat_tests}
-use Rattle.regress_engine_input.specs.Views.{way}
+use Rattle.regress_engine_input.specs.Views.{direction_of}
 use Rattle.regress_meaning.specs.Inputs.{Input}
 use Rattle.regress_engine_insn.specs.Instructions.{LoopFields, Program}
 use Rattle.regress_engine_runs.specs.States.{Whole, Marks, onward}
 use Rattle.regress_engine_runs.specs.Runs.{count_of, one_more, ordered, choices, is_idle}
 use Rattle.regress_engine_runs.specs.UndoStack.{Work, first_do, stands_for, resume, iterate}
-use Rattle.regress_engine_sought.specs.Tasks.{Task, Leads}
-use Rattle.regress_engine_sought.proofs.TaskLemmas.{leads-then, leads-same, leads-first, leads-later}
-use Rattle.regress_engine_singles.specs.Failing.{IsStuck}
+use Rattle.regress_engine_search.specs.Tasks.{Task, Leads}
+use Rattle.regress_engine_search.proofs.TaskLemmas.{leads-then, leads-same, leads-first, leads-later}
+use Rattle.regress_engine_singles.specs.Failing.{IsDead}
 use Rattle.regress_engine_singles.proofs.Failures.{leads-without}
-use Rattle.regress_engine_singles.proofs.StuckLemmas.{leads-stuck}
+use Rattle.regress_engine_singles.proofs.DeadLemmas.{leads-dead}
 use Rattle.regress_engine_undo.specs.declared.undo.Spot.{Spot}
 use Rattle.regress_engine_undo.specs.Held.{Held, loop_written, group_written, pushed}
 use Rattle.regress_engine_undo.specs.Sound.{IsSound, IsHeld}
@@ -30,7 +30,7 @@ fork-leads p h k target is program input =
     let e : suc p.at ≡ p.at + 1 = omega arith in
     subst (λ x. Leads program input 0 (task_of program input (onward s ∷ record s { at = target } ∷ []) p h) (task program input true (record p { at = p.at + 1 }) x)) (sym is)
     (subst (λ a. Leads program input 0 (task_of program input (onward s ∷ record s { at = target } ∷ []) p h) (task program input true (record p { at = a }) (pushed (resume target p.offset) h))) e
-    (leads-later program input (way p.forward) (onward s ∷ []) (record s { at = target } ∷ []) (stands_for program input (way p.forward) h.stack h.loops h.groups)))
+    (leads-later program input (direction_of p.forward) (onward s ∷ []) (record s { at = target } ∷ []) (stands_for program input (direction_of p.forward) h.stack h.loops h.groups)))
 
 pub resume-sound : (h k : Held) (at offset : ℕ) → k ≡ pushed (resume at offset) h → StaysSound h k
 unfolding IsSound
@@ -119,7 +119,7 @@ module _ (f : LoopFields) (begin : ℕ) (p : Spot) (h : Held) (count : ℕ) (cou
       from_choices (one_more f.loop_id begin here ∷ record here { at = f.exit } ∷ []) (record p { at = begin + 1 }) k true
       (choices-are f begin here true true true greedy (more-true less) (out-true enough))
       (λ program input. leads-then program input 0 0
-      (leads-later program input (way p.forward) (one_more f.loop_id begin here ∷ []) (record here { at = f.exit } ∷ []) (stands_for program input (way p.forward) h.stack h.loops h.groups))
+      (leads-later program input (direction_of p.forward) (one_more f.loop_id begin here ∷ []) (record here { at = f.exit } ∷ []) (stands_for program input (direction_of p.forward) h.stack h.loops h.groups))
       (iterate-leads p (pushed (resume f.exit p.offset) h) k f.loop_id count begin counted (is ∙ ap (loop_written f.loop_id (count + 1, p.offset)) pushes) program input))
 
   pub choose-lazy : (k : Held) → count < f.most → f.least ≤ count → f.greedy ≡ false → k ≡ pushed (iterate f.loop_id begin p.offset) h
@@ -129,16 +129,16 @@ module _ (f : LoopFields) (begin : ℕ) (p : Spot) (h : Held) (count : ℕ) (cou
       from_choices (record here { at = f.exit } ∷ one_more f.loop_id begin here ∷ []) (record p { at = f.exit }) k true
       (choices-are f begin here false true true lazy (more-true less) (out-true enough))
       (λ program input. subst (λ x. Leads program input 0 (task_of program input (record here { at = f.exit } ∷ one_more f.loop_id begin here ∷ []) p h) (task program input true (record p { at = f.exit }) x)) (sym is)
-      (leads-later program input (way p.forward) (record here { at = f.exit } ∷ []) (one_more f.loop_id begin here ∷ []) (stands_for program input (way p.forward) h.stack h.loops h.groups)))
+      (leads-later program input (direction_of p.forward) (record here { at = f.exit } ∷ []) (one_more f.loop_id begin here ∷ []) (stands_for program input (direction_of p.forward) h.stack h.loops h.groups)))
 
-  -- where nothing is led to from behind it the repetition is not left
-  stay-only : (program : Program) (input : Input) → IsStuck program input (way p.forward) f.exit p.offset → (greedy more out : Bool)
+  -- where no match can be reached from behind it the repetition is not left
+  stay-only : (program : Program) (input : Input) → IsDead program input (direction_of p.forward) f.exit p.offset → (greedy more out : Bool)
       → Leads program input 0 (task_of program input (ordered greedy more out (one_more f.loop_id begin here) (record here { at = f.exit })) p h)
       (task_of program input (if more then one_more f.loop_id begin here ∷ [] else []) p h)
-  stay-only program input stuck greedy more out = by_case greedy more out
+  stay-only program input dead greedy more out = by_case greedy more out
     where
       work : Work
-      work = stands_for program input (way p.forward) h.stack h.loops h.groups
+      work = stands_for program input (direction_of p.forward) h.stack h.loops h.groups
 
       Stays : Bool → Bool → Bool → Type 0
       Stays g m o = Leads program input 0 (task_of program input (ordered g m o (one_more f.loop_id begin here) (record here { at = f.exit })) p h)
@@ -147,16 +147,16 @@ module _ (f : LoopFields) (begin : ℕ) (p : Spot) (h : Held) (count : ℕ) (cou
       alone : (xs : List Whole) → Leads program input 0 (task_of program input xs p h) (task_of program input xs p h)
       alone xs = leads-same program input (task_of program input xs p h)
 
-      left : (w : Work) → Leads program input 0 (record { dir = way p.forward; states = record here { at = f.exit } ∷ []; work = w }) (record { dir = way p.forward; states = []; work = w })
-      left w = leads-stuck program input (way p.forward) f.exit p.offset h.loops h.groups w stuck
+      left : (w : Work) → Leads program input 0 (record { dir = direction_of p.forward; states = record here { at = f.exit } ∷ []; work = w }) (record { dir = direction_of p.forward; states = []; work = w })
+      left w = leads-dead program input (direction_of p.forward) f.exit p.offset h.loops h.groups w dead
 
       by_case : (g m o : Bool) → Stays g m o
       by_case true true true =
-          leads-then program input 0 0 (leads-later program input (way p.forward) (one_more f.loop_id begin here ∷ []) (record here { at = f.exit } ∷ []) work)
-          (leads-without program input (way p.forward) (one_more f.loop_id begin here ∷ []) (record here { at = f.exit } ∷ []) work (stuck h.loops h.groups))
+          leads-then program input 0 0 (leads-later program input (direction_of p.forward) (one_more f.loop_id begin here ∷ []) (record here { at = f.exit } ∷ []) work)
+          (leads-without program input (direction_of p.forward) (one_more f.loop_id begin here ∷ []) (record here { at = f.exit } ∷ []) work (dead h.loops h.groups))
       by_case false true true =
-          leads-then program input 0 0 (leads-later program input (way p.forward) (record here { at = f.exit } ∷ []) (one_more f.loop_id begin here ∷ []) work)
-          (leads-then program input 0 0 (left (first_do (one_more f.loop_id begin here ∷ []) work)) (leads-first program input (way p.forward) [] (one_more f.loop_id begin here ∷ []) work))
+          leads-then program input 0 0 (leads-later program input (direction_of p.forward) (record here { at = f.exit } ∷ []) (one_more f.loop_id begin here ∷ []) work)
+          (leads-then program input 0 0 (left (first_do (one_more f.loop_id begin here ∷ []) work)) (leads-first program input (direction_of p.forward) [] (one_more f.loop_id begin here ∷ []) work))
       by_case true false true = left work
       by_case false false true = left work
       by_case true true false = alone (one_more f.loop_id begin here ∷ [])
@@ -164,19 +164,19 @@ module _ (f : LoopFields) (begin : ℕ) (p : Spot) (h : Held) (count : ℕ) (cou
       by_case true false false = alone []
       by_case false false false = alone []
 
-  stays : (program : Program) (input : Input) → IsStuck program input (way p.forward) f.exit p.offset → (more : Bool) → nat_lt (count_of f.loop_id here) f.most ≡ more
+  stays : (program : Program) (input : Input) → IsDead program input (direction_of p.forward) f.exit p.offset → (more : Bool) → nat_lt (count_of f.loop_id here) f.most ≡ more
       → Leads program input 0 (task_of program input (choices f begin here) p h) (task_of program input (if more then one_more f.loop_id begin here ∷ [] else []) p h)
-  stays program input stuck more e =
+  stays program input dead more e =
       subst (λ b. Leads program input 0 (task_of program input (choices f begin here) p h) (task_of program input (if b then one_more f.loop_id begin here ∷ [] else []) p h)) e
-      (stay-only program input stuck f.greedy (nat_lt (count_of f.loop_id here) f.most) (nat_le f.least (count_of f.loop_id here)))
+      (stay-only program input dead f.greedy (nat_lt (count_of f.loop_id here) f.most) (nat_le f.least (count_of f.loop_id here)))
 
   pub stay-none : f.most ≤ count → GoesOnPast f.exit (choices f begin here) p h false p h
-  stay-none many program input stuck = stays program input stuck false (more-false many)
+  stay-none many program input dead = stays program input dead false (more-false many)
 
   pub stay-more : (k : Held) → count < f.most → k ≡ loop_written f.loop_id (count + 1, p.offset) h
       → GoesOnPast f.exit (choices f begin here) p h true (record p { at = begin + 1 }) k
-  stay-more k less is program input stuck =
-      leads-then program input 0 0 (stays program input stuck true (more-true less)) (iterate-leads p h k f.loop_id count begin counted is program input)
+  stay-more k less is program input dead =
+      leads-then program input 0 0 (stays program input dead true (more-true less)) (iterate-leads p h k f.loop_id count begin counted is program input)
 
 pub iterate-sound : (h k : Held) (id begin offset : ℕ) → k ≡ pushed (iterate id begin offset) h → id < length h.loops → (get_or h.loops id (0, 0)).0 + 1 < 2 ^ 64 → begin + 1 < 2 ^ 64
     → StaysSound h k
@@ -191,8 +191,8 @@ at_spot states p h going q r k same on program input =
     subst (λ x. Leads program input 0 (task_of program input states p h) (task program input going x k)) (sym same) (on program input)
 
 pub past_spot : (exit : ℕ) (states : List Whole) (p : Spot) (h : Held) (going : Bool) (q r : Spot) (k : Held) → r ≡ q → GoesOnPast exit states p h going q k → GoesOnPast exit states p h going r k
-past_spot exit states p h going q r k same on program input stuck =
-    subst (λ x. Leads program input 0 (task_of program input states p h) (task program input going x k)) (sym same) (on program input stuck)
+past_spot exit states p h going q r k same on program input dead =
+    subst (λ x. Leads program input 0 (task_of program input states p h) (task program input going x k)) (sym same) (on program input dead)
 
 -- an iteration that was idle, and one that was not
 pub again-idle : (f : LoopFields) (begin : ℕ) (p : Spot) (h : Held) → is_idle f (state_at p h) ≡ true

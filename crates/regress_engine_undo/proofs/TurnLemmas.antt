@@ -7,29 +7,29 @@ use Rattle.regress_meaning.specs.Inputs.{Input}
 use Rattle.regress_meaning.specs.Meaning.{Forward}
 use Rattle.regress_engine_insn.specs.Instructions.{Instruction, LoopFields, Program, Stands}
 use Rattle.regress_engine_insn.specs.Instructions as code
-use Rattle.regress_engine_input.specs.Views.{View, way, input_of, reading_of}
+use Rattle.regress_engine_input.specs.Views.{View, direction_of, input_of, reading_of}
 use Rattle.regress_engine_runs.specs.States.{Marks, Whole}
 use Rattle.regress_engine_runs.specs.Runs.{advance, after_times, choices, count_of, is_idle, one_more, ordered}
 use Rattle.regress_engine_runs.specs.Meets.{IsAtPlace, reads_character}
 use Rattle.regress_engine_runs.specs.UndoStack.{Work, ReadOn, resume, whole, first_do, stands_for}
 use Rattle.regress_engine_runs.proofs.ReadLemmas.{read_now}
-use Rattle.regress_engine_sought.specs.Sought.{Suits}
-use Rattle.regress_engine_sought.specs.Tasks.{Task, Leads}
-use Rattle.regress_engine_sought.proofs.TaskLemmas.{leads-then, leads-same, leads-equal, leads-first, leads-later}
-use Rattle.regress_engine_sought.proofs.PlaceLemmas.{moves}
-use Rattle.regress_engine_singles.specs.Failing.{IsStuck}
+use Rattle.regress_engine_search.specs.Search.{Suits}
+use Rattle.regress_engine_search.specs.Tasks.{Task, Leads}
+use Rattle.regress_engine_search.proofs.TaskLemmas.{leads-then, leads-same, leads-equal, leads-first, leads-later}
+use Rattle.regress_engine_search.proofs.PlaceLemmas.{moves}
+use Rattle.regress_engine_singles.specs.Failing.{IsDead}
 use Rattle.regress_engine_singles.specs.Passed.{is_class}
 use Rattle.regress_engine_singles.proofs.Failures.{leads-without}
 use Rattle.regress_engine_singles.proofs.LeadingLemmas.{class-simple, class-next}
-use Rattle.regress_engine_singles.proofs.StuckLemmas.{alt-stuck, leads-stuck, simple-stuck}
+use Rattle.regress_engine_singles.proofs.DeadLemmas.{alt-dead, leads-dead, simple-dead}
 use Rattle.regress_engine_undo.specs.declared.undo.Spot.{Spot}
 use Rattle.regress_engine_undo.specs.Held.{Held, loop_written, pushed}
 use Rattle.regress_engine_undo.specs.Tasks.{task_of, task, state_at}
 use Rattle.regress_engine_undo.proofs.LeadLemmas.{loop-kept}
 use Rattle.regress_engine_undo.specs.Sound.{IsHeld}
 use Rattle.regress_engine_undo.proofs.StepLemmas.{again-on, stay-more, loop-sound, fork-leads}
-use Rattle.regress_engine_undo.specs.Stuck.{IsTurn}
-use Rattle.regress_engine_undo.proofs.DispatchLemmas.{first-stuck, second-stuck, step-on, take-some, jump-on, again-on-step}
+use Rattle.regress_engine_undo.specs.Dead.{IsTurn}
+use Rattle.regress_engine_undo.proofs.DispatchLemmas.{first-dead, second-dead, step-on, take-some, jump-on, again-on-step}
 
 -- in fewer steps, and in fewer than that
 leads-fewer : (program : Program) (input : Input) (k l : ℕ) (t u : Task) → l ≤ k → Leads program input k t u → Leads program input l t u
@@ -67,14 +67,14 @@ module _ (program : Program) (v : View) (at second begin again : ℕ) (i : Instr
 
   -- the class takes no character
   pub turns-not : (h : Held) (o : ℕ) → ((groups : List Marks) → None ≡ takes groups o) → Leads program input 1 (task program input true (ahead at o) h) (task program input true (ahead second o) h)
-  turns-not h o none = first-stuck program input (ahead at o) h second here (simple-stuck program input Forward (at + 1) o i turn.first (class-simple i turn.class) none)
+  turns-not h o none = first-dead program input (ahead at o) h second here (simple-dead program input Forward (at + 1) o i turn.first (class-simple i turn.class) none)
 
   -- one character, up to the end of the iteration
   to-end : (h : Held) (o q : ℕ) → takes h.groups o ≡ Some q → Leads program input 1 (task program input true (ahead at o) h) (task program input true (ahead again q) h)
   to-end h o q e =
       let two : at + 2 ≡ at + 1 + 1 = omega arith in
       leads-fewer program input 3 1 _ _ (omega arith)
-      (leads-then program input 1 2 (second-stuck program input (ahead at o) h second here (turn.way h.groups o q e))
+      (leads-then program input 1 2 (second-dead program input (ahead at o) h second here (turn.way h.groups o q e))
       (leads-then program input 1 1 (take-some program input i (ahead (at + 1) o) h q turn.first (class-simple i turn.class) e)
       (jump-on program input (ahead (at + 1 + 1) q) h again (subst (λ a. Stands program a (code.jump again)) two turn.jump))))
 
@@ -82,12 +82,12 @@ module _ (program : Program) (v : View) (at second begin again : ℕ) (i : Instr
   busy h c e o entered less = ap (λ (x : ℕ × ℕ). nat_lt f.least x.0 && (x.1 == o)) entered ∙ busy-at f c e o less
 
   -- and one more begins
-  one-turn : (h : Held) (c o q : ℕ) → get_or h.loops f.loop_id (0, 0) ≡ (c, o) → c < f.most → takes h.groups o ≡ Some q → IsStuck program input Forward f.exit q
+  one-turn : (h : Held) (c o q : ℕ) → get_or h.loops f.loop_id (0, 0) ≡ (c, o) → c < f.most → takes h.groups o ≡ Some q → IsDead program input Forward f.exit q
       → Leads program input 0 (task program input true (ahead at o) h) (task program input true (ahead at q) (loop_written f.loop_id (c + 1, q) h))
-  one-turn h c o q entered less e stuck =
+  one-turn h c o q entered less e dead =
       let k : Held = loop_written f.loop_id (c + 1, q) h in
       let stays : Leads program input 0 (task_of program input (choices f begin (state_at (ahead again q) h)) (ahead again q) h) (task program input true (ahead (begin + 1) q) k) =
-      stay-more f begin (ahead again q) h c (sym (ap (λ (x : ℕ × ℕ). x.0) entered)) k less refl program input stuck in
+      stay-more f begin (ahead again q) h c (sym (ap (λ (x : ℕ × ℕ). x.0) entered)) k less refl program input dead in
       leads-fewer program input 2 0 _ _ (omega arith)
       (leads-then program input 1 1 (to-end h o q e)
       (again-on-step program input (ahead again q) (ahead at q) h k true begin f turn.ends turn.begins
@@ -184,9 +184,9 @@ module _ (program : Program) (v : View) (at second begin again : ℕ) (i : Instr
       (to-end k last past (ap (λ gs. takes gs last) turned.groups ∙ one))
 
   -- Where no iteration may follow, the repetition is left.
-  only-out : (k : Held) (past : ℕ) → f.least ≤ count_of f.loop_id (state_at (ahead again past) k) → IsStuck program input Forward at past
+  only-out : (k : Held) (past : ℕ) → f.least ≤ count_of f.loop_id (state_at (ahead again past) k) → IsDead program input Forward at past
       → Leads program input 0 (task_of program input (choices f begin (state_at (ahead again past) k)) (ahead again past) k) (task program input true (ahead f.exit past) k)
-  only-out k past enough stuck = subst (λ b. Leaves f.greedy (nat_lt (count_of f.loop_id s) f.most) b) (sym is) (by_case f.greedy (nat_lt (count_of f.loop_id s) f.most))
+  only-out k past enough dead = subst (λ b. Leaves f.greedy (nat_lt (count_of f.loop_id s) f.most) b) (sym is) (by_case f.greedy (nat_lt (count_of f.loop_id s) f.most))
     where
       s : Whole
       s = state_at (ahead again past) k
@@ -206,32 +206,32 @@ module _ (program : Program) (v : View) (at second begin again : ℕ) (i : Instr
       Leaves : Bool → Bool → Bool → Type 0
       Leaves g m b = Leads program input 0 (task_of program input (ordered g m b more exit) (ahead again past) k) (task program input true (ahead f.exit past) k)
 
-      stuck_more : IsStuck program input Forward (suc begin) past
-      stuck_more = let next : begin + 1 ≡ suc begin = omega arith in subst (λ a. IsStuck program input Forward a past) (sym turn.body ∙ next) stuck
+      dead_more : IsDead program input Forward (suc begin) past
+      dead_more = let next : begin + 1 ≡ suc begin = omega arith in subst (λ a. IsDead program input Forward a past) (sym turn.body ∙ next) dead
 
       by_case : (g m : Bool) → Leaves g m true
       by_case true true =
           leads-then program input 0 0 (leads-later program input Forward (more ∷ []) (exit ∷ []) work)
-          (leads-then program input 0 0 (leads-stuck program input Forward (suc begin) past more.loops k.groups (first_do (exit ∷ []) work) stuck_more)
+          (leads-then program input 0 0 (leads-dead program input Forward (suc begin) past more.loops k.groups (first_do (exit ∷ []) work) dead_more)
           (leads-first program input Forward [] (exit ∷ []) work))
       by_case false true =
           leads-then program input 0 0 (leads-later program input Forward (exit ∷ []) (more ∷ []) work)
-          (leads-without program input Forward (exit ∷ []) (more ∷ []) work (stuck_more more.loops k.groups))
+          (leads-without program input Forward (exit ∷ []) (more ∷ []) work (dead_more more.loops k.groups))
       by_case true false = leads-same program input (task program input true (ahead f.exit past) k)
       by_case false false = leads-same program input (task program input true (ahead f.exit past) k)
 
   pub turns-out : (h k : Held) (c o n last past : ℕ) → f.loop_id < length h.loops → get_or h.loops f.loop_id (0, 0) ≡ (c, o) → after_times program input n i Forward h.groups o ≡ Some last
-      → takes h.groups last ≡ Some past → (0 < n → c + n ≤ f.most) → IsTurned h k (c + n) last → f.least ≤ c + n → IsStuck program input Forward second past
+      → takes h.groups last ≡ Some past → (0 < n → c + n ≤ f.most) → IsTurned h k (c + n) last → f.least ≤ c + n → IsDead program input Forward second past
       → ((groups : List Marks) → None ≡ takes groups past) → Leads program input 1 (task program input true (ahead at o) h) (task program input true (ahead f.exit past) k)
-  turns-out h k c o n last past there entered e one room turned enough stuck none =
+  turns-out h k c o n last past there entered e one room turned enough dead none =
       let one_here : takes k.groups last ≡ Some past = ap (λ gs. takes gs last) turned.groups ∙ one in
-      let all_stuck : IsStuck program input Forward at past = alt-stuck program input Forward at past second here (simple-stuck program input Forward (at + 1) past i turn.first (class-simple i turn.class) none) stuck in
+      let all_dead : IsDead program input Forward at past = alt-dead program input Forward at past second here (simple-dead program input Forward (at + 1) past i turn.first (class-simple i turn.class) none) dead in
       let counted : count_of f.loop_id (state_at (ahead again past) k) ≡ c + n = ap (λ (x : ℕ × ℕ). x.0) turned.entered in
       leads-fewer program input 2 1 _ _ (omega arith)
       (leads-then program input 1 1 (turns-end h k c o n last past there entered e one room turned)
       (again-on-step program input (ahead again past) (ahead f.exit past) k k true begin f turn.ends turn.begins
       (again-on f begin (ahead again past) k true (ahead f.exit past) k (busy k (c + n) last past turned.entered (further k.groups last past one_here)) program input
-      (only-out k past (omega (arith, counted, enough)) all_stuck))))
+      (only-out k past (omega (arith, counted, enough)) all_dead))))
 
   -- what is held, as it was written
   pub turned : (h k : Held) (c o n last : ℕ) → f.loop_id < length h.loops → get_or h.loops f.loop_id (0, 0) ≡ (c, o) → after_times program input n i Forward h.groups o ≡ Some last
@@ -239,16 +239,16 @@ module _ (program : Program) (v : View) (at second begin again : ℕ) (i : Instr
   turned h k c o n last there entered e (inl unwritten) = subst (λ j. IsTurned h j (c + n) last) (sym unwritten.1) (turned-none h c o n last entered unwritten.0 e)
   turned h k c o n last there entered e (inr written) = turned-some h k (c + n) last there written
 
-  -- where it is gone on
+  -- where it continues
   pub turns-on : (h k : Held) (c o n last past way_on : ℕ) → f.loop_id < length h.loops → get_or h.loops f.loop_id (0, 0) ≡ (c, o) → after_times program input n i Forward h.groups o ≡ Some last
       → takes h.groups last ≡ Some past → (0 < n → c + n ≤ f.most) → IsTurned h k (c + n) last → ((groups : List Marks) → None ≡ takes groups past)
-      → (way_on ≡ again) ⊎ ((way_on ≡ f.exit) × (f.least ≤ c + n) × IsStuck program input Forward second past)
+      → (way_on ≡ again) ⊎ ((way_on ≡ f.exit) × (f.least ≤ c + n) × IsDead program input Forward second past)
       → Leads program input 1 (task program input true (ahead at o) h) (task program input true (ahead way_on past) k)
   turns-on h k c o n last past way_on there entered e one room turned none (inl same) =
       subst (λ a. Leads program input 1 (task program input true (ahead at o) h) (task program input true (ahead a past) k)) (sym same) (turns-end h k c o n last past there entered e one room turned)
-  turns-on h k c o n last past way_on there entered e one room turned none (inr (same, enough, stuck)) =
+  turns-on h k c o n last past way_on there entered e one room turned none (inr (same, enough, dead)) =
       subst (λ a. Leads program input 1 (task program input true (ahead at o) h) (task program input true (ahead a past) k)) (sym same)
-      (turns-out h k c o n last past there entered e one room turned enough stuck none)
+      (turns-out h k c o n last past there entered e one room turned enough dead none)
 
 -- a spot that is read forward, told otherwise
 pub ahead-as : (program : Program) (input : Input) (p : Spot) (h k : Held) (a o : ℕ) (b : Bool) → p.forward ≡ true → b ≡ true
@@ -270,12 +270,12 @@ class-reads _ is = absurd (grind arith)
 
 -- where the first of two ways is a class, it is come to at a place
 pub first-place : (program : Program) (v : View) (p : Spot) (h : Held) (second : ℕ) (i : Instruction) → Stands program p.at (code.alt second) → Stands program (p.at + 1) i → is_class i ≡ true
-    → ReadOn program (input_of v) (reading_of v) (way p.forward) (state_at p h ∷ []) (stands_for program (input_of v) (way p.forward) h.stack h.loops h.groups) → IsAtPlace (reading_of v) p.offset
+    → ReadOn program (input_of v) (reading_of v) (direction_of p.forward) (state_at p h ∷ []) (stands_for program (input_of v) (direction_of p.forward) h.stack h.loops h.groups) → IsAtPlace (reading_of v) p.offset
 first-place program v p h second i here there is reads =
     let k : Held = pushed (resume second p.offset) h in
     let q : Spot = record p { at = p.at + 1 } in
     let first = step-on program (input_of v) (code.alt second) p q h k true here refl (fork-leads p h k second refl program (input_of v)) in
-    (read_now program (input_of v) (reading_of v) (way p.forward) (state_at q k) (stands_for program (input_of v) (way p.forward) k.stack k.loops k.groups) (first.reads (reading_of v) reads) i there (class-reads i is)).0
+    (read_now program (input_of v) (reading_of v) (direction_of p.forward) (state_at q k) (stands_for program (input_of v) (direction_of p.forward) k.stack k.loops k.groups) (first.reads (reading_of v) reads) i there (class-reads i is)).0
 
 -- the loop is there
 pub loop-there : (program : Program) (v : View) (begin : ℕ) (f : LoopFields) (h : Held) → Suits program v → Stands program begin (code.enter_loop f) → IsHeld program v h → f.loop_id < length h.loops

@@ -1,11 +1,11 @@
 -- What the executor holds, as the definitions have it.
 use Rattle.std.specs.Prelude.{ℕ, List, [], ◌∷◌, map, reverse, get_or, slice_set}
-use Rattle.regress_engine_input.specs.Views.{way}
+use Rattle.regress_engine_input.specs.Views.{direction_of}
 use Rattle.regress_engine_runs.specs.States.{Marks, unset}
 use Rattle.regress_engine_runs.specs.UndoStack.{Undo, Frame}
 use Rattle.regress_engine_runs.specs.UndoStack as stack
-use Rattle.regress_engine_sought.specs.StateViews.{loop_of, marks_of}
-use Rattle.regress_engine_sought.specs.Submatches.{submatch_of}
+use Rattle.regress_engine_search.specs.StateViews.{loop_of, marks_of}
+use Rattle.regress_engine_search.specs.Submatches.{submatch_of}
 use Rattle.regress_engine_undo.specs.declared.undo.Undo as code
 use Rattle.regress_engine_undo.specs.declared.undo.Undo.TheVariants.{OldLoop, OldGroup, Resume, Iterate, GiveBack, TakeOn, Tried}
 use Rattle.regress_engine_undo.specs.declared.undo.Undo.TheVariants as variant
@@ -21,7 +21,7 @@ frame_of f = record {
   continuation = f.continuation;
   at = f.spot.at;
   offset = f.spot.offset;
-  outside = way f.spot.forward;
+  outside = direction_of f.spot.forward;
 }
 
 -- a record

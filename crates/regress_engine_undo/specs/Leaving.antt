@@ -6,7 +6,7 @@ use Rattle.regress_engine_input.specs.Views.{View}
 use Rattle.regress_engine_insn.specs.Instructions.{Program, Stands, goal}
 use Rattle.regress_engine_runs.specs.States.{Whole}
 use Rattle.regress_engine_runs.specs.UndoStack.{Frame, Work, whole, stands_for}
-use Rattle.regress_engine_sought.specs.Tasks.{Leads, ComesAs, outside_of, HasGroups}
+use Rattle.regress_engine_search.specs.Tasks.{Leads, ComesAs, outside_of, HasGroups}
 use Rattle.regress_engine_undo.specs.declared.undo.Spot.{Spot}
 use Rattle.regress_engine_undo.specs.Held.{Held}
 use Rattle.regress_engine_undo.specs.Sound.{IsHeld}

@@ -2,4 +2,4 @@ pub mod Held
 pub mod Sound
 pub mod Tasks
 pub mod Leaving
-pub mod Stuck
+pub mod Dead

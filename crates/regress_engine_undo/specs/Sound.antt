@@ -5,8 +5,8 @@ use Rattle.regress_engine_insn.specs.Instructions.{Program}
 use Rattle.regress_engine_runs.specs.States.{Marks}
 use Rattle.regress_engine_runs.specs.Meets.{IsAtPlace}
 use Rattle.regress_engine_runs.specs.UndoStack.{Undo, old_loop, old_group, resume, iterate, give_back, take_on, frame, tried}
-use Rattle.regress_engine_sought.specs.Ready.{IsBody}
-use Rattle.regress_engine_sought.specs.Tasks.{HasGroups}
+use Rattle.regress_engine_search.specs.Ready.{IsBody}
+use Rattle.regress_engine_search.specs.Tasks.{HasGroups}
 use Rattle.regress_engine_undo.specs.Held.{Held}
 
 module _ (program : Program) (v : View) where

@@ -4,9 +4,9 @@ use Rattle.regress_meaning.specs.Inputs.{Input}
 use Rattle.regress_engine_insn.specs.Instructions.{Program}
 use Rattle.regress_engine_runs.specs.States.{Whole}
 use Rattle.regress_engine_runs.specs.UndoStack.{whole, stands_for}
-use Rattle.regress_engine_input.specs.Views.{View, way}
-use Rattle.regress_engine_sought.specs.Tasks.{Task, Leads}
-use Rattle.regress_engine_singles.specs.Failing.{IsStuck}
+use Rattle.regress_engine_input.specs.Views.{View, direction_of}
+use Rattle.regress_engine_search.specs.Tasks.{Task, Leads}
+use Rattle.regress_engine_singles.specs.Failing.{IsDead}
 use Rattle.regress_engine_undo.specs.Held.{Held}
 use Rattle.regress_engine_undo.specs.Sound.{IsHeld}
 use Rattle.regress_engine_undo.specs.declared.undo.Spot.{Spot}
@@ -18,24 +18,24 @@ state_at p h = whole p.at p.offset h.loops h.groups
 module _ (program : Program) (input : Input) where
   -- what is to be done with some states first
   abbrev pub task_of : List Whole → Spot → Held → Task
-  task_of states p h = record { dir = way p.forward; states = states; work = stands_for program input (way p.forward) h.stack h.loops h.groups }
+  task_of states p h = record { dir = direction_of p.forward; states = states; work = stands_for program input (direction_of p.forward) h.stack h.loops h.groups }
 
   -- what is to be done at a spot, or where the state there has failed
   abbrev pub task : (going : Bool) → Spot → Held → Task
   task going p h = task_of (if going then state_at p h ∷ [] else []) p h
 
--- It is gone on to a spot, or failed, from these states on, whatever the program and the text.
+-- It continues to a spot, or failed, from these states on, whatever the program and the text.
 abbrev pub GoesOn : List Whole → Spot → Held → (going : Bool) → Spot → Held → Type 0
 GoesOn states p h going q k = (program : Program) (input : Input) → Leads program input 0 (task_of program input states p h) (task program input going q k)
 
--- It is gone on, if nothing is led to from an address at the offset of the spot.
+-- It continues, if no match can be reached from an address at the offset of the spot.
 abbrev pub GoesOnPast : (exit : ℕ) → List Whole → Spot → Held → (going : Bool) → Spot → Held → Type 0
-GoesOnPast exit states p h going q k = (program : Program) (input : Input) → IsStuck program input (way p.forward) exit p.offset
+GoesOnPast exit states p h going q k = (program : Program) (input : Input) → IsDead program input (direction_of p.forward) exit p.offset
     → Leads program input 0 (task_of program input states p h) (task program input going q k)
 
--- the same, where it is only told that nothing is led to
-abbrev pub GoesOnIf : (stuck : Bool) → (exit : ℕ) → List Whole → Spot → Held → (going : Bool) → Spot → Held → Type 0
-GoesOnIf stuck exit states p h going q k = (program : Program) (input : Input) → (stuck ≡ true → IsStuck program input (way p.forward) exit p.offset)
+-- the same, where it is only told that no match can be reached
+abbrev pub GoesOnIf : (dead : Bool) → (exit : ℕ) → List Whole → Spot → Held → (going : Bool) → Spot → Held → Type 0
+GoesOnIf dead exit states p h going q k = (program : Program) (input : Input) → (dead ≡ true → IsDead program input (direction_of p.forward) exit p.offset)
     → Leads program input 0 (task_of program input states p h) (task program input going q k)
 
 -- what is held stays sound

@@ -1,7 +1,7 @@
 //! What an executor holds: loops, groups, and the records by which both are undone.
 ghost use Rattle.std.specs.Prelude.{◌≡◌, ◌<◌, ℕ, [], None, length, map, get_or, replicate, slice_set, slice_range, MatchOption, OnOk};
 ghost use Rattle.regress_engine_runs.specs.States.{unset};
-ghost use Rattle.regress_engine_sought.specs.StateViews.{loop_of, marks_of};
+ghost use Rattle.regress_engine_search.specs.StateViews.{loop_of, marks_of};
 ghost use Rattle.regress_engine_undo.specs.Held.{held, undo_of, pushed, recorded, loop_written, group_written};
 
 use crate::undo::Undo;

@@ -2,29 +2,29 @@
 ghost use Rattle.std.specs.Prelude.{◌≡◌, ◌==◌, ◌&&◌, nat_lt, ◌+◌, ◌^◌, ◌<◌, ◌≤◌, ℕ, true, if◌then◌else◌, [], ◌∷◌, length, get_or, slice_set, not, IfOk, OnOk};
 ghost use Rattle.regress_engine_insn.specs.Instructions.{Program, Stands};
 ghost use Rattle.regress_engine_insn.specs.InsnViews.{fields};
-ghost use Rattle.regress_engine_input.specs.Views.{View, way};
+ghost use Rattle.regress_engine_input.specs.Views.{View, direction_of};
 ghost use Rattle.regress_meaning.specs.Inputs.{Input};
 ghost use Rattle.regress_engine_runs.specs.States.{unset, onward, begun, ended};
 ghost use Rattle.regress_engine_runs.specs.Runs.{choices, is_idle};
 ghost use Rattle.regress_engine_runs.specs.UndoStack.{frame};
-ghost use Rattle.regress_engine_sought.specs.StateViews.{marks_of};
-ghost use Rattle.regress_engine_sought.specs.Tasks.{Leads};
+ghost use Rattle.regress_engine_search.specs.StateViews.{marks_of};
+ghost use Rattle.regress_engine_search.specs.Tasks.{Leads};
 ghost use Rattle.regress_engine_undo.specs.Held.{held, pushed, loop_written};
 ghost use Rattle.regress_engine_undo.specs.Sound.{IsHeld};
-ghost use Rattle.regress_engine_sought.specs.Submatches.{submatch_of, reads_forward};
+ghost use Rattle.regress_engine_search.specs.Submatches.{submatch_of, reads_forward};
 ghost use Rattle.regress_engine_undo.specs.Tasks.{state_at, task, GoesOn, GoesOnPast, GoesOnIf, StaysSound};
 
 use crate::memory::Memory;
 use crate::undo::{Frame, Spot, Undo};
 use regress_engine_insn::LoopFields;
-use regress_engine_sought::Submatch;
+use regress_engine_search::Submatch;
 use regress_front_core::{CaptureGroupID, GroupData, LoopData};
 use std::alloc::AllocError;
 
 /// The marks of a group with its start at an offset, or its end.
 #[inline]
 fn marked(is_start: bool, offset: usize, marks: GroupData<usize>) -> GroupData<usize>
-    ensures { marks_of result ≡ begun (way is_start) offset (marks_of marks) }
+    ensures { marks_of result ≡ begun (direction_of is_start) offset (marks_of marks) }
 {
     if is_start {
         GroupData {
@@ -46,7 +46,7 @@ fn marked(is_start: bool, offset: usize, marks: GroupData<usize>) -> GroupData<u
 /// ```
 #[inline]
 pub fn begun(spot: &Spot, marks: GroupData<usize>) -> GroupData<usize>
-    ensures { marks_of result ≡ begun (way spot.now.forward) spot.now.offset (marks_of marks) }
+    ensures { marks_of result ≡ begun (direction_of spot.now.forward) spot.now.offset (marks_of marks) }
 {
     marked(spot.forward, spot.offset, marks)
 }
@@ -58,7 +58,7 @@ pub fn begun(spot: &Spot, marks: GroupData<usize>) -> GroupData<usize>
 /// ```
 #[inline]
 pub fn ended(spot: &Spot, marks: GroupData<usize>) -> GroupData<usize>
-    ensures { marks_of result ≡ ended (way spot.now.forward) spot.now.offset (marks_of marks) }
+    ensures { marks_of result ≡ ended (direction_of spot.now.forward) spot.now.offset (marks_of marks) }
 {
     marked(!spot.forward, spot.offset, marks)
 }
@@ -210,28 +210,28 @@ impl Memory {
         Ok(true)
     }
 
-    /// Goes on with a repetition; `stuck` tells that nothing is led to behind it.
+    /// Goes on with a repetition; `dead` tells that no match can be reached from behind it.
     #[inline]
     fn go_on(
         &mut self,
         repetition: &LoopFields,
         begin: usize,
-        stuck: bool,
+        dead: bool,
         spot: &mut Spot,
     ) -> Result<bool, AllocError>
         requires there { repetition.now.loop_id < length (held self.old).loops }
         requires begin { begin + 1 < 2 ^ 64 }
-        ensures leads { IfOk result (λ going. GoesOnIf stuck repetition.now.exit (choices (fields repetition.now) begin (state_at spot.old (held self.old))) spot.old (held self.old) going spot.new (held self.new)) }
+        ensures leads { IfOk result (λ going. GoesOnIf dead repetition.now.exit (choices (fields repetition.now) begin (state_at spot.old (held self.old))) spot.old (held self.old) going spot.new (held self.new)) }
         ensures sound { OnOk result (StaysSound (held self.old) (held self.new)) }
     {
-        if stuck {
+        if dead {
             self.stay(repetition, begin, spot)
         } else {
             self.choose(repetition, begin, spot)
         }
     }
 
-    /// Enters a repetition, and answers whether it is gone on; `stuck` tells that nothing is led to behind it. Asks that the
+    /// Enters a repetition, and answers whether it continues; `dead` tells that no match can be reached from behind it. Asks that the
     /// loop is there. It errs where memory is refused.
     ///
     /// ```rust
@@ -241,21 +241,21 @@ impl Memory {
     pub fn enter(
         &mut self,
         repetition: &LoopFields,
-        stuck: bool,
+        dead: bool,
         spot: &mut Spot,
     ) -> Result<bool, AllocError>
         requires there { repetition.now.loop_id < length (held self.old).loops }
         requires room { spot.old.at + 1 < 2 ^ 64 }
-        ensures leads { IfOk result (λ going. GoesOnIf stuck repetition.now.exit (choices (fields repetition.now) spot.old.at (record (state_at spot.old (held self.old)) { loops = slice_set (held self.old).loops repetition.now.loop_id (0, spot.old.offset) })) spot.old (held self.old) going spot.new (held self.new)) }
+        ensures leads { IfOk result (λ going. GoesOnIf dead repetition.now.exit (choices (fields repetition.now) spot.old.at (record (state_at spot.old (held self.old)) { loops = slice_set (held self.old).loops repetition.now.loop_id (0, spot.old.offset) })) spot.old (held self.old) going spot.new (held self.new)) }
         ensures sound { OnOk result (StaysSound (held self.old) (held self.new)) }
     {
         self.write_loop(repetition.loop_id as usize, LoopData::new(spot.offset))?;
         let begin = spot.at;
-        self.go_on(repetition, begin, stuck, spot)
+        self.go_on(repetition, begin, dead, spot)
     }
 
-    /// Ends an iteration of the repetition that begins at an address, and answers whether it is gone on; `stuck` tells that
-    /// nothing is led to behind it. Asks that the loop is there. It errs where memory is refused.
+    /// Ends an iteration of the repetition that begins at an address, and answers whether it continues; `dead` tells that
+    /// no match can be reached from behind it. Asks that the loop is there. It errs where memory is refused.
     ///
     /// ```rust
     /// let going = memory.again(&repetition, 3, false, &mut spot)?;
@@ -265,19 +265,19 @@ impl Memory {
         &mut self,
         repetition: &LoopFields,
         begin: usize,
-        stuck: bool,
+        dead: bool,
         spot: &mut Spot,
     ) -> Result<bool, AllocError>
         requires there { repetition.now.loop_id < length (held self.old).loops }
         requires begin { begin + 1 < 2 ^ 64 }
-        ensures leads { IfOk result (λ going. GoesOnIf stuck repetition.now.exit (if is_idle (fields repetition.now) (state_at spot.old (held self.old)) then [] else choices (fields repetition.now) begin (state_at spot.old (held self.old))) spot.old (held self.old) going spot.new (held self.new)) }
+        ensures leads { IfOk result (λ going. GoesOnIf dead repetition.now.exit (if is_idle (fields repetition.now) (state_at spot.old (held self.old)) then [] else choices (fields repetition.now) begin (state_at spot.old (held self.old))) spot.old (held self.old) going spot.new (held self.new)) }
         ensures sound { OnOk result (StaysSound (held self.old) (held self.new)) }
     {
         let entered = self.loop_data(repetition.loop_id as usize);
         if is_idle(repetition, entered, spot.offset) {
             return Ok(false);
         }
-        self.go_on(repetition, begin, stuck, spot)
+        self.go_on(repetition, begin, dead, spot)
     }
 
     /// Begins to try the contents of a lookaround or an atomic group that stands at the spot. It errs where memory is refused.
@@ -303,7 +303,7 @@ impl Memory {
           continuation = continuation;
           at = spot.old.at;
           offset = spot.old.offset;
-          outside = way spot.old.forward;
+          outside = direction_of spot.old.forward;
         })) (held self.old)) }
         ensures spot { OnOk result (spot.new ≡ record spot.old { at = spot.old.at + 1; forward = reads_forward (submatch_of kind) spot.old.forward }) }
     {

@@ -1,5 +1,5 @@
 //! What an executor undoes, and where it goes on.
-use regress_engine_sought::Submatch;
+use regress_engine_search::Submatch;
 use regress_front_core::{CaptureGroupID, GroupData, LoopData};
 
 /// Where a program stands: at an instruction, at an offset of the text, reading forward or backward.
@@ -79,7 +79,7 @@ pub enum Undo {
         /// How many iterations may follow.
         left: usize,
     },
-    /// There is no other way through the contents of a lookaround or an atomic group.
+    /// There is no other path through the contents of a lookaround or an atomic group.
     Submatch(Frame),
     /// There is no other way on from an address and an offset: all have been tried.
     // No step pushes it yet: what failed is to be remembered where it is popped.

@@ -124,7 +124,7 @@ module _ (body : Outcomes) where
       ap (λ (ss : List State). ss ++ outcomes_of_task greedy t) (outcomes_of_tasks-append greedy ts us)
       ∙ append_assoc (outcomes_of_tasks greedy us) (outcomes_of_tasks greedy ts) (outcomes_of_task greedy t)
 
-  -- states that are gone on from lead where their iterations do
+  -- states that are continued from lead where their iterations do
   pub outcomes_of_tasks-expansions : (greedy : Bool) (left need : ℕ) (next : List evaluator.State)
       → outcomes_of_tasks greedy (expansions next left need) ≡ flat_map (iterations body greedy left need) (map state_of next)
   outcomes_of_tasks-expansions greedy left need [] = refl
@@ -168,7 +168,7 @@ module _ (body : Outcomes) where
   outcomes_of_tasks-emit greedy all before ts t s popped told =
       rw (popped, map_push state_of all s, outcomes_of_tasks-append greedy ts (t ∷ []), told) (append_assoc (map state_of all) (state_of s ∷ []) (outcomes_of_tasks greedy ts))
 
-  -- the topmost task was gone on from
+  -- the topmost task was continued from
   pub outcomes_of_tasks-expand : (greedy : Bool) (before ts after : List Task) (s : evaluator.State) (next : List evaluator.State) (left need : ℕ)
       → 0 < left → before ≡ ts ++ Expand s left need ∷ [] → after ≡ ts ++ tasks_of greedy s next (left - 1) need
       → map state_of next ≡ body (state_of s) → outcomes_of_tasks greedy after ≡ outcomes_of_tasks greedy before
@@ -198,7 +198,7 @@ module _ (body : Outcomes) where
   abbrev pub turns_of_tasks : List Task → ℕ
   turns_of_tasks = sum_by turns_of_task
 
-  -- states that are gone on from take the turns of each
+  -- states that are continued from take the turns of each
   turns_of_tasks-expansions : (left need : ℕ) (next : List evaluator.State)
       → turns_of_tasks (expansions next left need) ≡ sum_by (turns left need) (map state_of next)
   turns_of_tasks-expansions left need [] = refl

@@ -17,7 +17,7 @@ use Rattle.regress_front_nodes.specs.NodeMatches.{node_match_list}
 abbrev pub place_within : ℕ → ℕ → Option ℕ
 place_within n place = if nat_le place n then Some place else None
 
--- the pattern that is sought
+-- the pattern that is searched for
 abbrev pub pattern_of : Search → CompiledPattern
 pattern_of s = s.pattern
 

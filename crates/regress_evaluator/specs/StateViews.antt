@@ -4,7 +4,7 @@ use Rattle.regress_meaning.specs.Meaning.{State, Direction, Forward, Backward, C
 use Rattle.regress_front_tables.specs.TableViews.{table}
 use Rattle.regress_evaluator.specs.declared.state.State as evaluator
 use Rattle.regress_evaluator.specs.declared.steps.Direction as steps
-use Rattle.regress_evaluator.specs.declared.steps.Direction.TheVariants as ways
+use Rattle.regress_evaluator.specs.declared.steps.Direction.TheVariants as directions
 use Rattle.regress_evaluator.specs.declared.evaluator.Evaluator.{Evaluator}
 use Rattle.regress_evaluator.specs.PlaceViews.{ends}
 
@@ -14,8 +14,8 @@ state_of s = record { place = s.place; groups = map (option_map ends) s.groups.i
 
 -- a direction
 abbrev pub direction_of : steps.Direction → Direction
-direction_of ways.Forward = Forward
-direction_of ways.Backward = Backward
+direction_of directions.Forward = Forward
+direction_of directions.Backward = Backward
 
 -- the text, the table and the mode of an evaluator
 abbrev pub context_of : Evaluator → Context

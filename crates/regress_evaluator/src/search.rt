@@ -102,9 +102,9 @@ impl<'r> MatchProducer for Search<'r> {
 
     type Position = usize;
 
-    ghost Sought = { Search };
+    ghost Search = { Search };
 
-    ghost sought = { λ s. s };
+    ghost search_of = { λ s. s };
 
     ghost is_position = { λ _ _. ⊤ };
 

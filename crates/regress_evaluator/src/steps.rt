@@ -12,7 +12,7 @@ use crate::state::State;
 use regress_front_tables::CodePoint;
 use std::alloc::AllocError;
 
-/// Which way the text is read ("CompileSubpattern").
+/// In which direction the text is read ("CompileSubpattern").
 #[derive(Debug, Clone, Copy, Drop)]
 pub(crate) enum Direction {
     /// From left to right.

@@ -34,7 +34,7 @@ pub use regress_front_nodes::{
 };
 pub use regress_front_opt::{PassAction, optimize};
 pub use regress_front_rules::{
-    broken_nodes_turn, normal_forms_are_reached, rules_are_right, rules_keep_the_rest,
+    broken_nodes_are_redexes, normal_forms_are_reached, rules_are_right, rules_keep_the_rest,
     trees_nest_less_than_their_size, trees_of_nodes_are_listed, wholes_are_right,
 };
 pub use regress_front_sets::{

@@ -1,4 +1,4 @@
-//! The items of a sorted slice that are equal to what is sought.
+//! The items of a sorted slice that are equal to what is searched for.
 ghost use Rattle.std.specs.Prelude.{◌≡◌, ◌≤◌, length};
 ghost use Rattle.std.specs.declared.cmp.Ordering.{Ordering};
 ghost use Rattle.std.specs.Fn.{ComputesKey};

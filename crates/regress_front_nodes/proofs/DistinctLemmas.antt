@@ -220,7 +220,7 @@ distinct-first f (s ∷ ss) =
     joined-alike (f s) (flat_map f ss) (f s) (flat_map f (distinct ss)) refl (distinct-first f ss)
     ∙ outcomes-left_out f s (f s) (distinct ss) (AllIn-self (f s))
 
--- ways that go alike from each of some states lead to what is alike
+-- steps that go alike from each of some states lead to what is alike
 pub each-alike : (P : State → Type 0) (f g : Outcomes) (ss : List State) → ((s : State) → P s → AreAlike (f s) (g s)) → All P ss → AreAlike (flat_map f ss) (flat_map g ss)
 each-alike P f g [] h k = refl
 each-alike P f g (s ∷ ss) h k = joined-alike (f s) (flat_map f ss) (g s) (flat_map g ss) (h s (All-head P s ss k)) (each-alike P f g ss h (All-tail P s ss k))

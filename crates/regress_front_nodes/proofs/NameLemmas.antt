@@ -81,7 +81,8 @@ told-both k a b more h g = (λ none. absent (omega (arith, counted, none)) (omeg
     of_two one (suc m) e =
         let (name, by_number, there) = h.1 (omega (arith, counted, one, e)) in
         let none : times k (group_ids b) ≡ 0 = omega (arith, counted, one, e) in (
-          name, ap (λ o. option_or o (name_by_number k b)) by_number,
+          name,
+          ap (λ o. option_or o (name_by_number k b)) by_number,
           λ names. let within = (there names).1 in let grown = (more (names_with names a)).0 in
               ((g.0 none).1 (names_with names a) ∙ (there names).0, omega (arith, within, grown)),
         )
@@ -113,7 +114,8 @@ told-group k j name a more h = by_number (cases_eq j k)
         let both : times k (j ∷ group_ids a) ≡ 1 + times k (group_ids a) = counted ∙ ap (λ (b : Bool). cond b 1 0 + times k (group_ids a)) same in (
           λ none. absurd (omega (arith, both, none)),
           λ one. let inside = (h.0 (omega (arith, both, one))).1 in (
-            unwrap_or name [], ap (λ (b : Bool). if b then Some (unwrap_or name []) else name_by_number k a) same,
+            unwrap_or name [],
+            ap (λ (b : Bool). if b then Some (unwrap_or name []) else name_by_number k a) same,
             λ names. let long = length-padded j names in let grown = length-placed j (unwrap_or name []) names in let last = (more (placed j (unwrap_or name []) names)).0 in (
               inside (placed j (unwrap_or name []) names) ∙ ap (λ i. get_or (placed j (unwrap_or name []) names) i []) (sym e)
                   ∙ get_or-set_same (padded j names) j (unwrap_or name []) [] (omega (arith, long)),
@@ -127,7 +129,8 @@ told-group k j name a more h = by_number (cases_eq j k)
         let c = counted ∙ ap (λ (b : Bool). cond b 1 0 + times k (group_ids a)) other in omega (arith, c) in
         let told = ap (λ (b : Bool). if b then Some (unwrap_or name []) else name_by_number k a) other in (
           λ none. let inside = h.0 (sym same ∙ none) in (
-            told ∙ inside.0, λ names. inside.1 (placed j (unwrap_or name []) names) ∙ get_or-set_other (padded j names) j k (unwrap_or name []) [] (λ e. apart (sym e)) ∙ empty-behind names (suc j - length names) k,
+            told ∙ inside.0,
+            λ names. inside.1 (placed j (unwrap_or name []) names) ∙ get_or-set_other (padded j names) j k (unwrap_or name []) [] (λ e. apart (sym e)) ∙ empty-behind names (suc j - length names) k,
           ),
           λ one. let (found, by_number, there) = h.1 (sym same ∙ one) in (found, told ∙ by_number, λ names. there (placed j (unwrap_or name []) names)),
         )

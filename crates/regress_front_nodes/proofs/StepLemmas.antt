@@ -13,7 +13,7 @@ pub list_all-agree : (p q : ℕ → Bool) → ((c : ℕ) → is_code_point c →
 list_all-agree p q same [] h = refl
 list_all-agree p q same (c ∷ cs) h = rw (same c (All-head is_code_point c cs h), list_all-agree p q same cs (All-tail is_code_point c cs h)) refl
 
--- all ways from what all ways lead to
+-- all steps from what all steps lead to
 pub flat_map-again : {X Y Z : Type 0} (f : Y → List Z) (g : X → List Y) (xs : List X) → flat_map f (flat_map g xs) ≡ flat_map (λ x. flat_map f (g x)) xs
 flat_map-again f g [] = refl
 flat_map-again f g (x ∷ xs) = flat_map-append f (g x) (flat_map g xs) ∙ ap (λ ys. flat_map f (g x) ++ ys) (flat_map-again f g xs)

@@ -7,11 +7,11 @@ use Rattle.regress_meaning.specs.TableParts.{in_intervals}
 use Rattle.regress_meaning.specs.Meaning.{State, Direction, Forward, Backward, Outcomes, Context, is_some_and, is_line_end, differ, before, after, step, same_all, iterations, cleared, looked, captured, repeat_group, keep_if}
 use Rattle.regress_front_nodes.specs.Trees.{Tree, empty, goal, char, bytes, byte_set, char_set, cat, no_part, alt, any, any_in_line, line_start, line_end, boundary, capture, back, bracket, string_set, submatch, loop, single_loop, Submatch, lookaround, atomic}
 
--- which way a part is read
+-- in which direction a part is read
 abbrev pub direction : Bool → Direction
 direction backward = if backward then Backward else Forward
 
--- which way what is matched by itself is read, inside what is read in a direction
+-- in which direction what is matched by itself is read, inside what is read in a direction
 abbrev pub submatch_direction : Submatch → Direction → Direction
 submatch_direction (lookaround negated backward) dir = direction backward
 submatch_direction atomic dir = dir

@@ -23,7 +23,7 @@ use Rattle.regress_front_nodes.proofs.PieceLemmas.{ascii-all}
 use Rattle.regress_front_rules.specs.Rules as rules
 use Rattle.regress_front_rules.specs.Rules.{is_bracket}
 use Rattle.regress_front_opt.specs.Passes.{Advances}
-use Rattle.regress_front_opt.proofs.PassLemmas.{turned-advances}
+use Rattle.regress_front_opt.proofs.PassLemmas.{root-advances}
 
 holds-one : (xs : List ℕ) (x d : ℕ) → holds (xs ++ x ∷ []) d ≡ (holds xs d || (x == d))
 holds-one [] x d = or_none (x == d)
@@ -85,7 +85,7 @@ pub few-takes : (t : Tree) (ms : List ℕ) (xs : List (ℕ × ℕ)) → Takes t 
 few-takes t ms xs h same = record { alone = h.alone; members = λ c l. h.members c l ∙ same c; lawful = h.lawful }
 
 pub bracket-advances : (dir : Direction) (inverted : Bool) (xs : List (ℕ × ℕ)) (t : Tree) → is_bracket t ≡ false → Takes t (bracket_has inverted xs) → Advances dir (bracket inverted xs) t
-bracket-advances dir inverted xs t k h = turned-advances (rules.lists k h)
+bracket-advances dir inverted xs t k h = root-advances (rules.lists k h)
 
 pub no-intervals : (is : List Interval) → (length is == 0) ≡ true → ends_of is ≡ []
 no-intervals [] h = refl

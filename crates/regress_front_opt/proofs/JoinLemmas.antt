@@ -14,13 +14,13 @@ use Rattle.regress_front_rules.specs.Rules as rules
 use Rattle.regress_front_rules.specs.Rules.{Reaches, stays, and_then, joined}
 use Rattle.regress_front_opt.specs.Shapes.{Joins, as_they_are, joined_more}
 use Rattle.regress_front_opt.specs.Passes.{Advances}
-use Rattle.regress_front_rules.proofs.KeepLemmas.{reaches-then, turned-once}
+use Rattle.regress_front_rules.proofs.KeepLemmas.{reaches-then, root-once}
 
 -- ---- what joins is reached by rules
 
 pub joins-reach : {ts us : List Tree} → Joins ts us → Reaches Forward (cat_of ts) (cat_of us)
 joins-reach as_they_are = stays
-joins-reach (joined_more us vs xs ys h) = reaches-then (joins-reach h) (turned-once (rules.joins us vs xs ys))
+joins-reach (joined_more us vs xs ys h) = reaches-then (joins-reach h) (root-once (rules.joins us vs xs ys))
 
 reverse-around : (us : List Tree) (a b : Tree) (vs : List Tree) → reverse (us ++ a ∷ b ∷ vs) ≡ reverse vs ++ b ∷ a ∷ reverse us
 reverse-around us a b vs =
@@ -33,7 +33,7 @@ reverse-one us a vs =
 pub joins-reach-back : {ts us : List Tree} → Joins ts us → Reaches Backward (cat_of (reverse ts)) (cat_of (reverse us))
 joins-reach-back as_they_are = stays
 joins-reach-back (joined_more us vs xs ys h) =
-    let one : Reaches Backward (cat_of (reverse vs ++ bytes ys ∷ bytes xs ∷ reverse us)) (cat_of (reverse vs ++ bytes (xs ++ ys) ∷ reverse us)) = turned-once (rules.joins (reverse vs) (reverse us) ys xs) in
+    let one : Reaches Backward (cat_of (reverse vs ++ bytes ys ∷ bytes xs ∷ reverse us)) (cat_of (reverse vs ++ bytes (xs ++ ys) ∷ reverse us)) = root-once (rules.joins (reverse vs) (reverse us) ys xs) in
     reaches-then (joins-reach-back h) (rw (reverse-around us (bytes xs) (bytes ys) vs, reverse-one us (bytes (xs ++ ys)) vs) one)
 
 -- what other parts than at first are reached by some rule

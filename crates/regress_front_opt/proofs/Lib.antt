@@ -1,7 +1,7 @@
 pub mod PassLemmas
 pub mod VisitLemmas
 pub mod NodeKinds
-pub mod TurnLemmas
+pub mod AdvanceLemmas
 pub mod ShapeLemmas
 pub mod JoinLemmas
 pub mod UnrollLemmas

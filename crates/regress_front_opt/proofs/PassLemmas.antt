@@ -11,10 +11,10 @@ use Rattle.regress_front_nodes.specs.Trees.{Tree, tree, cat_of, alt, capture, su
 use Rattle.regress_front_nodes.specs.WellFormed.{AreLawful}
 use Rattle.regress_front_nodes.specs.TreeMeaning.{submatch_direction, direction}
 use Rattle.regress_front_rules.specs.NormalForm.{nodes_below, Nowhere}
-use Rattle.regress_front_rules.specs.Rules.{Turns, Rewrites, there, in_part, in_first, in_second, in_capture, in_submatch, in_loop, in_single_loop, Reaches, stays, and_then}
+use Rattle.regress_front_rules.specs.Rules.{RewritesAtRoot, Rewrites, there, in_part, in_first, in_second, in_capture, in_submatch, in_loop, in_single_loop, Reaches, stays, and_then}
 use Rattle.regress_front_opt.specs.declared.action.PassAction.{PassAction}
 use Rattle.regress_front_opt.specs.Passes.{HasLaws, Advances, IsPassed, IsVisited, IsVisitedHere, IsVisitedBelow, AreVisited}
-use Rattle.regress_front_rules.proofs.KeepLemmas.{reaches-then, reaches-in, reaches-keeps, reaches-weight, rewrites-turned}
+use Rattle.regress_front_rules.proofs.KeepLemmas.{reaches-then, reaches-in, reaches-keeps, reaches-weight, rewrites-rewritten}
 use Rattle.regress_front_rules.specs.Weight.{weight}
 use Rattle.regress_front_rules.proofs.PlaceLemmas.{nowhere-parts}
 
@@ -23,8 +23,8 @@ use Rattle.regress_front_rules.proofs.PlaceLemmas.{nowhere-parts}
 pub advances-reaches : {dir : Direction} {t u : Tree} → Advances dir t u → Reaches dir t u
 advances-reaches a = and_then a.first a.others
 
-pub turned-advances : {dir : Direction} {t u : Tree} → Turns dir t u → Advances dir t u
-turned-advances {u = u} h = record { next = u; first = there h; others = stays }
+pub root-advances : {dir : Direction} {t u : Tree} → RewritesAtRoot dir t u → Advances dir t u
+root-advances {u = u} h = record { next = u; first = there h; others = stays }
 
 pub advances-then : {dir : Direction} {t u v : Tree} → Advances dir t u → Reaches dir u v → Advances dir t v
 advances-then a h = record { next = a.next; first = a.first; others = reaches-then a.others h }
@@ -171,7 +171,7 @@ alt-laws a b h = ((h.0, h.1.0), (h.0, h.1.1))
 -- rules, at least one, make a lawful tree lighter
 pub advances-lighter : {dir : Direction} {t u : Tree} → Advances dir t u → HasLaws t → weight u < weight t
 advances-lighter a l =
-    let one = rewrites-turned a.first in
+    let one = rewrites-rewritten a.first in
     let rest = reaches-weight a.others l.0 (one.keeps.lawful l.0 l.1) in
     omega (arith, one.lighter l.0 l.1, rest)
 

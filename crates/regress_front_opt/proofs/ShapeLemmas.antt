@@ -19,7 +19,7 @@ use Rattle.regress_front_rules.specs.Rules.{Reaches, stays, once}
 use Rattle.regress_front_opt.specs.Shapes.{is_loose, flattened, room_of, room_of_all, is_plain}
 use Rattle.regress_front_opt.specs.Passes.{Advances}
 use Rattle.regress_front_rules.specs.Laws.{listed}
-use Rattle.regress_front_opt.proofs.PassLemmas.{turned-advances, advances-then, advances-reaches}
+use Rattle.regress_front_opt.proofs.PassLemmas.{root-advances, advances-then, advances-reaches}
 use Rattle.regress_front_rules.proofs.KeepLemmas.{reaches-then}
 use Rattle.regress_front_rules.proofs.PlaceLemmas.{node-listed}
 use Rattle.regress_front_rules.proofs.ClauseLemmas.{is-empty, cat-list}
@@ -115,7 +115,7 @@ lost-cat ts =
     (λ i. same i && none i) ∙ and_moved (list_any always_fails (parts (cat_of ts))) (has_no_group (cat_of ts)) (goals (cat_of ts) == 0)
 
 pub lost-advances : (dir : Direction) (t : Tree) → listed t ≡ t → is_lost_cat t ≡ true → Advances dir t (char_set [])
-lost-advances dir (cat a b) p h = subst (λ u. Advances dir u (char_set [])) p (turned-advances (rules.is_lost (a ∷ parts b) (subst (λ u. is_lost_cat u ≡ true) (sym p) h)))
+lost-advances dir (cat a b) p h = subst (λ u. Advances dir u (char_set [])) p (root-advances (rules.is_lost (a ∷ parts b) (subst (λ u. is_lost_cat u ≡ true) (sym p) h)))
 lost-advances dir _ p h = absurd (false≢true h)
 
 -- ---- `Cat`s that give their parts
@@ -145,8 +145,8 @@ module _ (dir : Direction) where
       by_kind true e k =
           let (us, same) = cat-list t e p in
           let inner : parts t ≡ us = ap parts same ∙ parts-cat_of us in
-          rw inner (subst (λ u. Advances dir (cat_of (before ++ u ∷ behind)) (cat_of (before ++ (us ++ behind)))) (sym same) (turned-advances (rules.flattens before us behind)))
-      by_kind false e k = subst (λ u. Advances dir (cat_of (before ++ u ∷ behind)) (cat_of (before ++ behind))) (sym (is-empty t k)) (turned-advances (rules.drops_empty before behind))
+          rw inner (subst (λ u. Advances dir (cat_of (before ++ u ∷ behind)) (cat_of (before ++ (us ++ behind)))) (sym same) (root-advances (rules.flattens before us behind)))
+      by_kind false e k = subst (λ u. Advances dir (cat_of (before ++ u ∷ behind)) (cat_of (before ++ behind))) (sym (is-empty t k)) (root-advances (rules.drops_empty before behind))
 
   -- all parts, behind others
   flat-reaches : (before : List Tree) (ns : List Node) → Reaches dir (cat_of (before ++ map tree ns)) (cat_of (before ++ flattened (map tree ns)))
@@ -272,12 +272,12 @@ module _ (dir : Direction) (a : Tree) (first last least most : ℕ) (greedy : Bo
   pub idle-removed : least ≡ 0 → Advances dir (loop a first last least most greedy) empty
   idle-removed e =
       let none : once a least ≡ empty = ap (once a) e in
-      idle-one (λ idle. subst (λ u. Advances dir (loop a first last least most greedy) u) none (turned-advances (rules.idles idle)))
-      (λ never plain. turned-advances (rules.skips never plain))
+      idle-one (λ idle. subst (λ u. Advances dir (loop a first last least most greedy) u) none (root-advances (rules.idles idle)))
+      (λ never plain. root-advances (rules.skips never plain))
 
   pub idle-kept : (least ≡ 0 → ⊥) → least ≤ most → Advances dir (loop a first last least most greedy) a
   idle-kept some fits =
       let one : nat_le 1 least ≡ true = grind (arith, nat_tests) in
       let whole : once a least ≡ a = ap (λ b. if b then a else empty) one in
-      idle-one (λ idle. subst (λ u. Advances dir (loop a first last least most greedy) u) whole (turned-advances (rules.idles idle)))
+      idle-one (λ idle. subst (λ u. Advances dir (loop a first last least most greedy) u) whole (root-advances (rules.idles idle)))
       (λ never plain. absurd (some (omega (arith, fits, never))))

@@ -17,7 +17,7 @@ use Rattle.regress_front_rules.proofs.RuleLemmas.{small_loop}
 use Rattle.regress_front_rules.proofs.ClauseLemmas.{nesting-size}
 use Rattle.regress_front_opt.specs.Shapes.{is_flat, MayBeUnrolled}
 use Rattle.regress_front_opt.specs.Passes.{HasLaws, Advances}
-use Rattle.regress_front_opt.proofs.PassLemmas.{turned-advances}
+use Rattle.regress_front_opt.proofs.PassLemmas.{root-advances}
 use Rattle.regress_front_opt.proofs.ShapeLemmas.{zero-sum, none-found}
 
 -- ---- neither groups nor loops
@@ -91,4 +91,4 @@ copies-more n a = copies-behind n a [] (a ∷ []) ∙ copies-last n a ∙ ap (λ
 
 pub unrolled-advances : (dir : Direction) (a : Tree) (first last least most : ℕ) (greedy : Bool) → is_unrollable (loop a first last least most greedy) ≡ true
     → Advances dir (loop a first last least most greedy) (unrolled a first last least most greedy)
-unrolled-advances dir a first last least most greedy h = turned-advances (rules.unrolls h)
+unrolled-advances dir a first last least most greedy h = root-advances (rules.unrolls h)

@@ -11,8 +11,8 @@ use Rattle.regress_front_nodes.specs.WellFormed.{goals}
 use Rattle.regress_front_nodes.proofs.NodeLemmas.{parts-cat_of}
 use Rattle.regress_front_rules.specs.NormalForm.{is_literal, literals_meet, is_short_cat, has_loose_part, has_split_literal, is_loose_char, is_unrollable, is_loop_of_one, is_empty_choice, is_idle, is_idle_loop, has_no_group, is_lost_cat}
 use Rattle.regress_front_rules.specs.Rules as rules
-use Rattle.regress_front_rules.specs.Rules.{joined, unrolled, Turns}
-use Rattle.regress_front_rules.specs.Laws.{listed, IsListed, Turnable, BrokenNodesTurn, NestsLessThanItsSize}
+use Rattle.regress_front_rules.specs.Rules.{joined, unrolled, RewritesAtRoot}
+use Rattle.regress_front_rules.specs.Laws.{listed, IsListed, IsRedex, BrokenNodesAreRedexes, NestsLessThanItsSize}
 use Rattle.regress_front_rules.proofs.MeasureLemmas.{some-chars}
 
 -- the first that passes, with those before and behind
@@ -74,49 +74,49 @@ item-listed [] t behind h = All-head IsListed t behind h
 item-listed (u ∷ before) t behind h = item-listed before t behind (All-tail IsListed u (before ++ t ∷ behind) h)
 
 module _ (dir : Direction) where
-  short-turns : (ts : List Tree) → is_short_cat (cat_of ts) ≡ true → Turnable dir (cat_of ts)
-  short-turns [] h = (empty, rules.is_no_part)
-  short-turns (t ∷ []) h = (t, rules.is_one_part)
-  short-turns (t ∷ u ∷ ts) h =
+  short-redex : (ts : List Tree) → is_short_cat (cat_of ts) ≡ true → IsRedex dir (cat_of ts)
+  short-redex [] h = (empty, rules.is_no_part)
+  short-redex (t ∷ []) h = (t, rules.is_one_part)
+  short-redex (t ∷ u ∷ ts) h =
       let e : length (parts (cat_of (t ∷ u ∷ ts))) ≡ length (t ∷ u ∷ ts) = ap length (parts-cat_of (t ∷ u ∷ ts)) in
       let few = ltb-true (length (parts (cat_of (t ∷ u ∷ ts)))) 2 h in
       absurd (omega (arith, few, e))
 
-  loose-turns : (ts : List Tree) → All IsListed ts → list_any (λ u. is_cat u || is_empty u) ts ≡ true → Turnable dir (cat_of ts)
-  loose-turns ts all h =
+  loose-redex : (ts : List Tree) → All IsListed ts → list_any (λ u. is_cat u || is_empty u) ts ≡ true → IsRedex dir (cat_of ts)
+  loose-redex ts all h =
       let f = found (λ u. is_cat u || is_empty u) ts h in
       let p : IsListed f.item = item-listed f.before f.item f.behind (rw f.whole at all) in
       rw f.whole (by_kind f (is_cat f.item) refl p f.passes)
     where
-      by_kind : (f : Found (λ u. is_cat u || is_empty u) ts) → (b : Bool) → is_cat f.item ≡ b → IsListed f.item → (b || is_empty f.item) ≡ true → Turnable dir (cat_of (f.before ++ f.item ∷ f.behind))
+      by_kind : (f : Found (λ u. is_cat u || is_empty u) ts) → (b : Bool) → is_cat f.item ≡ b → IsListed f.item → (b || is_empty f.item) ≡ true → IsRedex dir (cat_of (f.before ++ f.item ∷ f.behind))
       by_kind f true e p k =
           let (us, same) = cat-list f.item e p in
           rw same (cat_of (f.before ++ (us ++ f.behind)), rules.flattens f.before us f.behind)
       by_kind f false e p k = rw (is-empty f.item k) (cat_of (f.before ++ f.behind), rules.drops_empty f.before f.behind)
 
-  split-turns : (ts : List Tree) → literals_meet ts ≡ true → Turnable dir (cat_of ts)
-  split-turns ts h =
+  split-redex : (ts : List Tree) → literals_meet ts ≡ true → IsRedex dir (cat_of ts)
+  split-redex ts h =
       let m = meeting ts h in
       rw m.whole (cat_of (m.before ++ bytes (joined dir m.first m.second) ∷ m.behind), rules.joins m.before m.behind m.first m.second)
 
   -- a `Cat` of fewer than two parts
-  pub short_cat : (t : Tree) → IsListed t → is_short_cat t ≡ true → Turnable dir t
+  pub short_cat : (t : Tree) → IsListed t → is_short_cat t ≡ true → IsRedex dir t
   short_cat t p h =
       let (ts, e) = cat-list t (and_parts (is_cat t) (nat_lt (length (parts t)) 2) h).0 p in
-      rw e (short-turns ts (rw e at h))
+      rw e (short-redex ts (rw e at h))
 
   -- a `Cat` with a `Cat` or `Empty` among its parts
-  pub loose_part : (t : Tree) → IsListed t → All IsListed (parts t) → has_loose_part t ≡ true → Turnable dir t
-  loose_part (cat a b) p all h = subst (Turnable dir) p (loose-turns (a ∷ parts b) all h)
+  pub loose_part : (t : Tree) → IsListed t → All IsListed (parts t) → has_loose_part t ≡ true → IsRedex dir t
+  loose_part (cat a b) p all h = subst (IsRedex dir) p (loose-redex (a ∷ parts b) all h)
   loose_part _ p all h = absurd (false≢true h)
 
   -- a `Cat` with two literals side by side
-  pub split_literal : (t : Tree) → IsListed t → has_split_literal t ≡ true → Turnable dir t
-  split_literal (cat a b) p h = subst (Turnable dir) p (split-turns (a ∷ parts b) h)
+  pub split_literal : (t : Tree) → IsListed t → has_split_literal t ≡ true → IsRedex dir t
+  split_literal (cat a b) p h = subst (IsRedex dir) p (split-redex (a ∷ parts b) h)
   split_literal _ p h = absurd (false≢true h)
 
   -- a character that a literal can hold
-  pub loose_char : (t : Tree) → is_loose_char t ≡ true → Turnable dir t
+  pub loose_char : (t : Tree) → is_loose_char t ≡ true → IsRedex dir t
   loose_char (char c) h = (_, rules.spells (turned (is_surrogate c) h))
     where
       turned : (b : Bool) → not b ≡ true → b ≡ false
@@ -125,27 +125,27 @@ module _ (dir : Direction) where
   loose_char _ h = absurd (false≢true h)
 
   -- a loop that is to be unrolled
-  pub unrollable_loop : (t : Tree) → is_unrollable t ≡ true → Turnable dir t
+  pub unrollable_loop : (t : Tree) → is_unrollable t ≡ true → IsRedex dir t
   unrollable_loop (loop a first last least most greedy) h = (unrolled a first last least most greedy, rules.unrolls h)
   unrollable_loop _ h = absurd (false≢true h)
 
   -- a loop over what takes one character
-  pub loop_of_one : (t : Tree) → is_loop_of_one t ≡ true → Turnable dir t
+  pub loop_of_one : (t : Tree) → is_loop_of_one t ≡ true → IsRedex dir t
   loop_of_one (loop a first last least most greedy) h = (single_loop a least most greedy, rules.loops_one h)
   loop_of_one _ h = absurd (false≢true h)
 
   -- an `Alt` of two `Empty`s
-  pub empty_choice : (t : Tree) → is_empty_choice t ≡ true → Turnable dir t
+  pub empty_choice : (t : Tree) → is_empty_choice t ≡ true → IsRedex dir t
   empty_choice (alt a b) h =
       let both = and_parts (is_empty a) (is_empty b) h in
       rw (is-empty a both.0, is-empty b both.1) (empty, rules.is_empty_choice)
   empty_choice _ h = absurd (false≢true h)
 
   -- a loop over what never takes a character, or that is never entered
-  pub idle_loop : (t : Tree) → is_idle_loop t ≡ true → Turnable dir t
+  pub idle_loop : (t : Tree) → is_idle_loop t ≡ true → IsRedex dir t
   idle_loop (loop a first last least most greedy) h = by_test (is_idle a) refl
     where
-      by_test : (b : Bool) → is_idle a ≡ b → Turnable dir (loop a first last least most greedy)
+      by_test : (b : Bool) → is_idle a ≡ b → IsRedex dir (loop a first last least most greedy)
       by_test true e = (_, rules.idles e)
       by_test false e =
           let left = and_parts (most == 0) (has_no_group a && (goals a == 0)) (rw e at h) in
@@ -153,13 +153,13 @@ module _ (dir : Direction) where
   idle_loop _ h = absurd (false≢true h)
 
   -- a `Cat` that always fails
-  pub lost_cat : (t : Tree) → IsListed t → is_lost_cat t ≡ true → Turnable dir t
-  lost_cat (cat a b) p h = subst (Turnable dir) p (char_set [], rules.is_lost (a ∷ parts b) (subst (λ u. is_lost_cat u ≡ true) (sym p) h))
+  pub lost_cat : (t : Tree) → IsListed t → is_lost_cat t ≡ true → IsRedex dir t
+  lost_cat (cat a b) p h = subst (IsRedex dir) p (char_set [], rules.is_lost (a ∷ parts b) (subst (λ u. is_lost_cat u ≡ true) (sym p) h))
   lost_cat _ p h = absurd (false≢true h)
 
 -- each clause has its rule
-pub nodes-turn : (dir : Direction) → BrokenNodesTurn dir
-nodes-turn dir = record {
+pub nodes-redexes : (dir : Direction) → BrokenNodesAreRedexes dir
+nodes-redexes dir = record {
   short_cat = short_cat dir;
   loose_part = loose_part dir;
   split_literal = split_literal dir;

@@ -14,7 +14,7 @@ use Rattle.regress_front_nodes.specs.WellFormed.{group_ids, goals, last_part, Ar
 use Rattle.regress_front_nodes.specs.Characters.{is_character}
 use Rattle.regress_front_nodes.proofs.PieceLemmas.{scalar-from}
 use Rattle.regress_front_nodes.proofs.OptionLemmas.{option_or-none}
-use Rattle.regress_front_rules.specs.Rules.{joined, unrolled, is_bracket, Turns, flattens, drops_empty, is_one_part, is_no_part, joins, spells, lists, is_empty_choice, is_lost, unrolls, loops_one, idles, skips, once, Rewrites, there, in_part, in_first, in_second, in_capture, in_submatch, in_loop, in_single_loop, Reaches, stays, and_then}
+use Rattle.regress_front_rules.specs.Rules.{joined, unrolled, is_bracket, RewritesAtRoot, flattens, drops_empty, is_one_part, is_no_part, joins, spells, lists, is_empty_choice, is_lost, unrolls, loops_one, idles, skips, once, Rewrites, there, in_part, in_first, in_second, in_capture, in_submatch, in_loop, in_single_loop, Reaches, stays, and_then}
 use Rattle.regress_front_rules.specs.Weight.{pending, bulk, weight}
 use Rattle.regress_front_rules.specs.Kept.{Keeps}
 use Rattle.regress_front_rules.proofs.IdleLemmas.{idle-groups, none-of}
@@ -24,7 +24,7 @@ use Rattle.regress_front_rules.proofs.OneLemmas.{rewrites-one}
 use Rattle.regress_front_rules.proofs.MeasureLemmas.{size-append, bulk-append, pending-append, loops-append, goals-append, ids-append, names-append, lawful-append, pending-loops, bulk-size, size-copies, bulk-copies, pending-copies, loops-copies, goals-copies, ids-copies, no_names, lawful-copies}
 
 -- what one rule does besides
-pub record IsTurned (t u : Tree) : Type 0 where
+pub record IsRewritten (t u : Tree) : Type 0 where
   pub keeps : Keeps t u
   pub lighter : (n : ℕ) → AreLawful n t → weight u < weight t
 
@@ -51,9 +51,9 @@ last-some t (v ∷ ts) u us h = h
 
 -- ---- trees without groups, loops and `Goal`
 
-leaf-turned : (t u : Tree) → group_ids t ≡ [] → group_ids u ≡ [] → goals t ≡ 0 → goals u ≡ 0 → loops u ≡ 0 → pending u ≡ 0
-    → ((n : ℕ) → AreLawful n t → AreLawful n u × (size u ≤ size t) × (bulk u < bulk t)) → IsTurned t u
-leaf-turned t u ids-t ids-u goals-t goals-u loops-u pending-u h = record {
+leaf-rewritten : (t u : Tree) → group_ids t ≡ [] → group_ids u ≡ [] → goals t ≡ 0 → goals u ≡ 0 → loops u ≡ 0 → pending u ≡ 0
+    → ((n : ℕ) → AreLawful n t → AreLawful n u × (size u ≤ size t) × (bulk u < bulk t)) → IsRewritten t u
+leaf-rewritten t u ids-t ids-u goals-t goals-u loops-u pending-u h = record {
   keeps = record {
     ids = ids-u ∙ sym ids-t;
     named = λ k. no_names k u ids-u ∙ sym (no_names k t ids-t);
@@ -68,8 +68,8 @@ leaf-turned t u ids-t ids-u goals-t goals-u loops-u pending-u h = record {
 
 -- ---- one rule alone
 
-flat-turned : (us vs : List Tree) → IsTurned (cat_of (cat_of us ∷ vs)) (cat_of (us ++ vs))
-flat-turned us vs = record {
+flat-rewritten : (us vs : List Tree) → IsRewritten (cat_of (cat_of us ∷ vs)) (cat_of (us ++ vs))
+flat-rewritten us vs = record {
   keeps = record {
     ids = ids-append us vs;
     named = λ k. names-append k us vs;
@@ -86,8 +86,8 @@ flat-turned us vs = record {
     by_rest [] l = rw (append-nil us) l
     by_rest (v ∷ vs) l = last-append us (v ∷ vs) l
 
-empty-turned : (vs : List Tree) → IsTurned (cat_of (empty ∷ vs)) (cat_of vs)
-empty-turned vs = record {
+empty-rewritten : (vs : List Tree) → IsRewritten (cat_of (empty ∷ vs)) (cat_of vs)
+empty-rewritten vs = record {
   keeps = record {
     ids = refl;
     named = λ k. refl;
@@ -104,8 +104,8 @@ empty-turned vs = record {
     by_rest [] l = absurd (cc)
     by_rest (v ∷ vs) l = l
 
-one_part-turned : (t : Tree) → IsTurned (cat_of (t ∷ [])) t
-one_part-turned t = record {
+one_part-rewritten : (t : Tree) → IsRewritten (cat_of (t ∷ [])) t
+one_part-rewritten t = record {
   keeps = record {
     ids = sym (append-nil (group_ids t));
     named = λ k. sym (option_or-none (name_by_number k t));
@@ -126,8 +126,8 @@ joined-lawful Backward xs ys h k =
     let e : length (chars (ys ++ xs)) ≡ length (chars ys) + length (chars xs) = ap length (chars-append ys xs k.1) ∙ length-append (chars ys) (chars xs) in
     ((omega (arith, length-append ys xs, h.0), IsUtf8-append ys xs k.1 h.1), omega (arith, e))
 
-joins-turned : (dir : Direction) (xs ys : List ℕ) (vs : List Tree) → IsTurned (cat_of (bytes xs ∷ bytes ys ∷ vs)) (cat_of (bytes (joined dir xs ys) ∷ vs))
-joins-turned dir xs ys vs = record {
+joins-rewritten : (dir : Direction) (xs ys : List ℕ) (vs : List Tree) → IsRewritten (cat_of (bytes xs ∷ bytes ys ∷ vs)) (cat_of (bytes (joined dir xs ys) ∷ vs))
+joins-rewritten dir xs ys vs = record {
   keeps = record {
     ids = refl;
     named = λ k. refl;
@@ -144,29 +144,29 @@ joins-turned dir xs ys vs = record {
     by_rest [] l = absurd (cc)
     by_rest (v ∷ vs) l = l
 
-spells-turned : (c : ℕ) → is_surrogate c ≡ false → IsTurned (char c) (bytes (encode_utf8 c))
-spells-turned c e = leaf-turned (char c) (bytes (encode_utf8 c)) refl refl refl refl refl refl
+spells-rewritten : (c : ℕ) → is_surrogate c ≡ false → IsRewritten (char c) (bytes (encode_utf8 c))
+spells-rewritten c e = leaf-rewritten (char c) (bytes (encode_utf8 c)) refl refl refl refl refl refl
     (λ n h. ((omega (arith, length-encode c, (len_utf8_bounds c).0), IsUtf8-encode c (scalar-from c h e)), omega (arith, ap length (spelled-chars c h e)), omega arith))
 
-lists-turned : (inverted : Bool) (intervals : List (ℕ × ℕ)) (t : Tree) → is_bracket t ≡ false → is_character t ≡ true → AreLawful 0 t → IsTurned (bracket inverted intervals) t
-lists-turned inverted intervals (char c) k e h = leaf-turned (bracket inverted intervals) (char c) refl refl refl refl refl refl (λ n l. (h, omega arith, omega arith))
-lists-turned inverted intervals (byte_set bs) k e h = leaf-turned (bracket inverted intervals) (byte_set bs) refl refl refl refl refl refl (λ n l. (h, omega arith, omega arith))
-lists-turned inverted intervals (char_set cs) k e h = leaf-turned (bracket inverted intervals) (char_set cs) refl refl refl refl refl refl (λ n l. (h, omega arith, omega arith))
-lists-turned inverted intervals any k e h = leaf-turned (bracket inverted intervals) any refl refl refl refl refl refl (λ n l. (h, omega arith, omega arith))
-lists-turned inverted intervals any_in_line k e h = leaf-turned (bracket inverted intervals) any_in_line refl refl refl refl refl refl (λ n l. (h, omega arith, omega arith))
-lists-turned inverted intervals (bracket i xs) k e h = absurd (cc)
-lists-turned inverted intervals _ k e h = absurd (cc)
+lists-rewritten : (inverted : Bool) (intervals : List (ℕ × ℕ)) (t : Tree) → is_bracket t ≡ false → is_character t ≡ true → AreLawful 0 t → IsRewritten (bracket inverted intervals) t
+lists-rewritten inverted intervals (char c) k e h = leaf-rewritten (bracket inverted intervals) (char c) refl refl refl refl refl refl (λ n l. (h, omega arith, omega arith))
+lists-rewritten inverted intervals (byte_set bs) k e h = leaf-rewritten (bracket inverted intervals) (byte_set bs) refl refl refl refl refl refl (λ n l. (h, omega arith, omega arith))
+lists-rewritten inverted intervals (char_set cs) k e h = leaf-rewritten (bracket inverted intervals) (char_set cs) refl refl refl refl refl refl (λ n l. (h, omega arith, omega arith))
+lists-rewritten inverted intervals any k e h = leaf-rewritten (bracket inverted intervals) any refl refl refl refl refl refl (λ n l. (h, omega arith, omega arith))
+lists-rewritten inverted intervals any_in_line k e h = leaf-rewritten (bracket inverted intervals) any_in_line refl refl refl refl refl refl (λ n l. (h, omega arith, omega arith))
+lists-rewritten inverted intervals (bracket i xs) k e h = absurd (cc)
+lists-rewritten inverted intervals _ k e h = absurd (cc)
 
 some-parts : (ts : List Tree) → (1 ≤ size (cat_of ts)) × (2 ≤ bulk (cat_of ts))
 some-parts [] = (omega arith, omega arith)
 some-parts (t ∷ ts) = let (a, b) = some-parts ts in (omega (arith, a), omega (arith, b))
 
-lost-turned : (ts : List Tree) → IsLostCat (cat_of ts) → IsTurned (cat_of ts) (char_set [])
-lost-turned ts l = leaf-turned (cat_of ts) (char_set []) l.no_group refl l.no_goal refl refl refl
+lost-rewritten : (ts : List Tree) → IsLostCat (cat_of ts) → IsRewritten (cat_of ts) (char_set [])
+lost-rewritten ts l = leaf-rewritten (cat_of ts) (char_set []) l.no_group refl l.no_goal refl refl refl
     (λ n h. let (a, b) = some-parts ts in ((omega arith, All-nil is_code_point), a, omega (arith, b)))
 
-unrolls-turned : (a : Tree) (first last least most : ℕ) (greedy : Bool) → IsSmallLoop a least → IsTurned (loop a first last least most greedy) (unrolled a first last least most greedy)
-unrolls-turned a first last least most greedy s =
+unrolls-rewritten : (a : Tree) (first last least most : ℕ) (greedy : Bool) → IsSmallLoop a least → IsRewritten (loop a first last least most greedy) (unrolled a first last least most greedy)
+unrolls-rewritten a first last least most greedy s =
     let rest : Tree = loop a first last zero (most - least) greedy in
     let none : pending a ≡ 0 = omega (arith, s.no_loop, pending-loops a) in
     let one : nat_le 1 least ≡ true = le-leb 1 least s.some in
@@ -187,8 +187,8 @@ unrolls-turned a first last least most greedy s =
           omega (arith, before, after, none, s.few, bulk-copies least a (rest ∷ []) bounded);
     }
 
-single-turned : (a : Tree) (first last least most : ℕ) (greedy : Bool) → takes_one a ≡ true → IsTurned (loop a first last least most greedy) (single_loop a least most greedy)
-single-turned a first last least most greedy e = record {
+single-rewritten : (a : Tree) (first last least most : ℕ) (greedy : Bool) → takes_one a ≡ true → IsRewritten (loop a first last least most greedy) (single_loop a least most greedy)
+single-rewritten a first last least most greedy e = record {
   keeps = record {
     ids = refl;
     named = λ k. refl;
@@ -202,8 +202,8 @@ single-turned a first last least most greedy e = record {
 }
 
 -- nothing, in place of a loop without groups
-skipped-turned : (a : Tree) (first last least most : ℕ) (greedy : Bool) → group_ids a ≡ [] → IsTurned (loop a first last least most greedy) empty
-skipped-turned a first last least most greedy none = record {
+skipped-rewritten : (a : Tree) (first last least most : ℕ) (greedy : Bool) → group_ids a ≡ [] → IsRewritten (loop a first last least most greedy) empty
+skipped-rewritten a first last least most greedy none = record {
   keeps = record {
     ids = sym none;
     named = λ k. sym (no_names k a none);
@@ -217,10 +217,10 @@ skipped-turned a first last least most greedy none = record {
 }
 
 -- what never takes a character, once, or nothing
-idle-turned : (a : Tree) (first last least most : ℕ) (greedy : Bool) → is_idle a ≡ true → IsTurned (loop a first last least most greedy) (once a least)
-idle-turned a first last least most greedy e = by_test (nat_le 1 least) (idle-groups a e)
+idle-rewritten : (a : Tree) (first last least most : ℕ) (greedy : Bool) → is_idle a ≡ true → IsRewritten (loop a first last least most greedy) (once a least)
+idle-rewritten a first last least most greedy e = by_test (nat_le 1 least) (idle-groups a e)
   where
-    by_test : (b : Bool) → group_ids a ≡ [] → IsTurned (loop a first last least most greedy) (if b then a else empty)
+    by_test : (b : Bool) → group_ids a ≡ [] → IsRewritten (loop a first last least most greedy) (if b then a else empty)
     by_test true none = record {
       keeps = record {
         ids = refl;
@@ -233,12 +233,12 @@ idle-turned a first last least most greedy e = by_test (nat_le 1 least) (idle-gr
       };
       lighter = λ n l. omega arith;
     }
-    by_test false none = skipped-turned a first last least most greedy none
+    by_test false none = skipped-rewritten a first last least most greedy none
 
 -- ---- one rule, in a place
 
-left-turned : (t x y : Tree) → (last_part (cat t x) ≡ goal → last_part x ≡ goal) → IsTurned x y → IsTurned (cat t x) (cat t y)
-left-turned t x y some h =
+left-rewritten : (t x y : Tree) → (last_part (cat t x) ≡ goal → last_part x ≡ goal) → IsRewritten x y → IsRewritten (cat t x) (cat t y)
+left-rewritten t x y some h =
     let k = h.keeps in
     record {
       keeps = record {
@@ -256,8 +256,8 @@ left-turned t x y some h =
       lighter = λ n l. omega (arith, h.lighter n l.1);
     }
 
-right-turned : (a b : Tree) (vs : List Tree) → IsTurned a b → IsTurned (cat_of (a ∷ vs)) (cat_of (b ∷ vs))
-right-turned a b vs h =
+right-rewritten : (a b : Tree) (vs : List Tree) → IsRewritten a b → IsRewritten (cat_of (a ∷ vs)) (cat_of (b ∷ vs))
+right-rewritten a b vs h =
     let k = h.keeps in
     record {
       keeps = record {
@@ -282,28 +282,28 @@ right-turned a b vs h =
         (omega (arith, e, c, h.keeps.no_goal c), l)
 
 -- behind the same parts
-behind-turned : (ts : List Tree) (u : Tree) (us vs : List Tree) → IsTurned (cat_of (u ∷ us)) (cat_of vs) → IsTurned (cat_of (ts ++ u ∷ us)) (cat_of (ts ++ vs))
-behind-turned [] u us vs h = h
-behind-turned (t ∷ ts) u us vs h = left-turned t (cat_of (ts ++ u ∷ us)) (cat_of (ts ++ vs)) (last-some t ts u us) (behind-turned ts u us vs h)
+behind-rewritten : (ts : List Tree) (u : Tree) (us vs : List Tree) → IsRewritten (cat_of (u ∷ us)) (cat_of vs) → IsRewritten (cat_of (ts ++ u ∷ us)) (cat_of (ts ++ vs))
+behind-rewritten [] u us vs h = h
+behind-rewritten (t ∷ ts) u us vs h = left-rewritten t (cat_of (ts ++ u ∷ us)) (cat_of (ts ++ vs)) (last-some t ts u us) (behind-rewritten ts u us vs h)
 
 -- one rule, where it applies
-pub turns-turned : {dir : Direction} {t u : Tree} → Turns dir t u → IsTurned t u
-turns-turned (flattens ts us vs) = behind-turned ts (cat_of us) vs (us ++ vs) (flat-turned us vs)
-turns-turned (drops_empty ts vs) = behind-turned ts empty vs vs (empty-turned vs)
-turns-turned (is_one_part {t}) = one_part-turned t
-turns-turned is_no_part = leaf-turned no_part empty refl refl refl refl refl refl (λ n l. (tt, omega arith, omega arith))
-turns-turned {dir} (joins ts vs xs ys) = behind-turned ts (bytes xs) (bytes ys ∷ vs) (bytes (joined dir xs ys) ∷ vs) (joins-turned dir xs ys vs)
-turns-turned (spells {c} e) = spells-turned c e
-turns-turned (lists {inverted} {intervals} {t} k takes) = lists-turned inverted intervals t k takes.alone takes.lawful
-turns-turned is_empty_choice = leaf-turned (alt empty empty) empty refl refl refl refl refl refl (λ n l. (tt, omega arith, omega arith))
-turns-turned (is_lost ts e) = lost-turned ts (lost-parts (cat_of ts) e)
-turns-turned (unrolls {a} {first} {last} {least} {most} {greedy} e) = unrolls-turned a first last least most greedy (small_loop a first last least most greedy e)
-turns-turned (loops_one {a} {first} {last} {least} {most} {greedy} e) = single-turned a first last least most greedy e
-turns-turned (idles {a} {first} {last} {least} {most} {greedy} e) = idle-turned a first last least most greedy e
-turns-turned (skips {a} {first} {last} {least} {most} {greedy} e h) = skipped-turned a first last least most greedy (none-of (group_ids a) h)
+pub root-rewritten : {dir : Direction} {t u : Tree} → RewritesAtRoot dir t u → IsRewritten t u
+root-rewritten (flattens ts us vs) = behind-rewritten ts (cat_of us) vs (us ++ vs) (flat-rewritten us vs)
+root-rewritten (drops_empty ts vs) = behind-rewritten ts empty vs vs (empty-rewritten vs)
+root-rewritten (is_one_part {t}) = one_part-rewritten t
+root-rewritten is_no_part = leaf-rewritten no_part empty refl refl refl refl refl refl (λ n l. (tt, omega arith, omega arith))
+root-rewritten {dir} (joins ts vs xs ys) = behind-rewritten ts (bytes xs) (bytes ys ∷ vs) (bytes (joined dir xs ys) ∷ vs) (joins-rewritten dir xs ys vs)
+root-rewritten (spells {c} e) = spells-rewritten c e
+root-rewritten (lists {inverted} {intervals} {t} k takes) = lists-rewritten inverted intervals t k takes.alone takes.lawful
+root-rewritten is_empty_choice = leaf-rewritten (alt empty empty) empty refl refl refl refl refl refl (λ n l. (tt, omega arith, omega arith))
+root-rewritten (is_lost ts e) = lost-rewritten ts (lost-parts (cat_of ts) e)
+root-rewritten (unrolls {a} {first} {last} {least} {most} {greedy} e) = unrolls-rewritten a first last least most greedy (small_loop a first last least most greedy e)
+root-rewritten (loops_one {a} {first} {last} {least} {most} {greedy} e) = single-rewritten a first last least most greedy e
+root-rewritten (idles {a} {first} {last} {least} {most} {greedy} e) = idle-rewritten a first last least most greedy e
+root-rewritten (skips {a} {first} {last} {least} {most} {greedy} e h) = skipped-rewritten a first last least most greedy (none-of (group_ids a) h)
 
-first-turned : (a b c : Tree) → IsTurned a b → IsTurned (alt a c) (alt b c)
-first-turned a b c h =
+first-rewritten : (a b c : Tree) → IsRewritten a b → IsRewritten (alt a c) (alt b c)
+first-rewritten a b c h =
     let k = h.keeps in
     record {
       keeps = record {
@@ -318,8 +318,8 @@ first-turned a b c h =
       lighter = λ n l. omega (arith, h.lighter n l.0);
     }
 
-second-turned : (a b c : Tree) → IsTurned b c → IsTurned (alt a b) (alt a c)
-second-turned a b c h =
+second-rewritten : (a b c : Tree) → IsRewritten b c → IsRewritten (alt a b) (alt a c)
+second-rewritten a b c h =
     let k = h.keeps in
     record {
       keeps = record {
@@ -334,8 +334,8 @@ second-turned a b c h =
       lighter = λ n l. omega (arith, h.lighter n l.1);
     }
 
-capture-turned : (k : ℕ) (name : Option (List ℕ)) (a b : Tree) → IsTurned a b → IsTurned (capture k name a) (capture k name b)
-capture-turned j name a b h =
+capture-rewritten : (k : ℕ) (name : Option (List ℕ)) (a b : Tree) → IsRewritten a b → IsRewritten (capture k name a) (capture k name b)
+capture-rewritten j name a b h =
     let k = h.keeps in
     record {
       keeps = record {
@@ -353,8 +353,8 @@ capture-turned j name a b h =
     name_of : ℕ → Option (List ℕ) → Option (List ℕ)
     name_of i o = if j == i then Some (unwrap_or name []) else o
 
-submatch-turned : (kind : Submatch) (first last : ℕ) (a b : Tree) → IsTurned a b → IsTurned (submatch kind first last a) (submatch kind first last b)
-submatch-turned kind first last a b h =
+submatch-rewritten : (kind : Submatch) (first last : ℕ) (a b : Tree) → IsRewritten a b → IsRewritten (submatch kind first last a) (submatch kind first last b)
+submatch-rewritten kind first last a b h =
     let k = h.keeps in
     record {
       keeps = record {
@@ -369,8 +369,8 @@ submatch-turned kind first last a b h =
       lighter = λ n l. omega (arith, h.lighter n l.1);
     }
 
-loop-turned : (first last least most : ℕ) (greedy : Bool) (a b : Tree) → IsTurned a b → IsTurned (loop a first last least most greedy) (loop b first last least most greedy)
-loop-turned first last least most greedy a b h =
+loop-rewritten : (first last least most : ℕ) (greedy : Bool) (a b : Tree) → IsRewritten a b → IsRewritten (loop a first last least most greedy) (loop b first last least most greedy)
+loop-rewritten first last least most greedy a b h =
     let k = h.keeps in
     record {
       keeps = record {
@@ -385,8 +385,8 @@ loop-turned first last least most greedy a b h =
       lighter = λ n l. omega (arith, h.lighter n l.2);
     }
 
-single_loop-turned : (least most : ℕ) (greedy : Bool) (a b : Tree) → ((n : ℕ) → AreLawful n a → takes_one a ≡ true → takes_one b ≡ true) → IsTurned a b → IsTurned (single_loop a least most greedy) (single_loop b least most greedy)
-single_loop-turned least most greedy a b one h =
+single_loop-rewritten : (least most : ℕ) (greedy : Bool) (a b : Tree) → ((n : ℕ) → AreLawful n a → takes_one a ≡ true → takes_one b ≡ true) → IsRewritten a b → IsRewritten (single_loop a least most greedy) (single_loop b least most greedy)
+single_loop-rewritten least most greedy a b one h =
     let k = h.keeps in
     record {
       keeps = record {
@@ -402,15 +402,15 @@ single_loop-turned least most greedy a b one h =
     }
 
 -- one rule, somewhere
-pub rewrites-turned : {dir : Direction} {t u : Tree} → Rewrites dir t u → IsTurned t u
-rewrites-turned (there h) = turns-turned h
-rewrites-turned (in_part {a = a} {b = b} ts vs h) = behind-turned ts a vs (b ∷ vs) (right-turned a b vs (rewrites-turned h))
-rewrites-turned (in_first {a = a} {b = b} {c = c} h) = first-turned a b c (rewrites-turned h)
-rewrites-turned (in_second {a = a} {b = b} {c = c} h) = second-turned a b c (rewrites-turned h)
-rewrites-turned (in_capture {k = k} {name = name} {a = a} {b = b} h) = capture-turned k name a b (rewrites-turned h)
-rewrites-turned (in_submatch {kind = kind} {first = first} {last = last} {a = a} {b = b} h) = submatch-turned kind first last a b (rewrites-turned h)
-rewrites-turned (in_loop {first = first} {last = last} {least = least} {most = most} {greedy = greedy} {a = a} {b = b} h) = loop-turned first last least most greedy a b (rewrites-turned h)
-rewrites-turned (in_single_loop {least = least} {most = most} {greedy = greedy} {a = a} {b = b} h) = single_loop-turned least most greedy a b (rewrites-one h) (rewrites-turned h)
+pub rewrites-rewritten : {dir : Direction} {t u : Tree} → Rewrites dir t u → IsRewritten t u
+rewrites-rewritten (there h) = root-rewritten h
+rewrites-rewritten (in_part {a = a} {b = b} ts vs h) = behind-rewritten ts a vs (b ∷ vs) (right-rewritten a b vs (rewrites-rewritten h))
+rewrites-rewritten (in_first {a = a} {b = b} {c = c} h) = first-rewritten a b c (rewrites-rewritten h)
+rewrites-rewritten (in_second {a = a} {b = b} {c = c} h) = second-rewritten a b c (rewrites-rewritten h)
+rewrites-rewritten (in_capture {k = k} {name = name} {a = a} {b = b} h) = capture-rewritten k name a b (rewrites-rewritten h)
+rewrites-rewritten (in_submatch {kind = kind} {first = first} {last = last} {a = a} {b = b} h) = submatch-rewritten kind first last a b (rewrites-rewritten h)
+rewrites-rewritten (in_loop {first = first} {last = last} {least = least} {most = most} {greedy = greedy} {a = a} {b = b} h) = loop-rewritten first last least most greedy a b (rewrites-rewritten h)
+rewrites-rewritten (in_single_loop {least = least} {most = most} {greedy = greedy} {a = a} {b = b} h) = single_loop-rewritten least most greedy a b (rewrites-one h) (rewrites-rewritten h)
 
 -- no rule
 pub keeps-self : (t : Tree) → Keeps t t
@@ -439,13 +439,13 @@ keeps-then a b = record {
 -- rules one after another keep what is to be kept
 pub reaches-keeps : {dir : Direction} {t u : Tree} → Reaches dir t u → Keeps t u
 reaches-keeps {t = t} stays = keeps-self t
-reaches-keeps (and_then h rest) = keeps-then (rewrites-turned h).keeps (reaches-keeps rest)
+reaches-keeps (and_then h rest) = keeps-then (rewrites-rewritten h).keeps (reaches-keeps rest)
 
 -- and never raise the weight
 pub reaches-weight : {dir : Direction} {t u : Tree} → Reaches dir t u → (n : ℕ) → AreLawful n t → weight u ≤ weight t
 reaches-weight stays n l = omega arith
 reaches-weight (and_then h rest) n l =
-    let r = rewrites-turned h in omega (arith, r.lighter n l, reaches-weight rest n (r.keeps.lawful n l))
+    let r = rewrites-rewritten h in omega (arith, r.lighter n l, reaches-weight rest n (r.keeps.lawful n l))
 
 -- rules, and then others, are rules one after another
 pub reaches-then : {dir : Direction} {t u v : Tree} → Reaches dir t u → Reaches dir u v → Reaches dir t v
@@ -458,5 +458,5 @@ reaches-in f place stays = stays
 reaches-in f place (and_then {t} {u} h rest) = and_then (place t u h) (reaches-in f place rest)
 
 -- one rule is rules one after another
-pub turned-once : {dir : Direction} {t u : Tree} → Turns dir t u → Reaches dir t u
-turned-once h = and_then (there h) stays
+pub root-once : {dir : Direction} {t u : Tree} → RewritesAtRoot dir t u → Reaches dir t u
+root-once h = and_then (there h) stays

@@ -11,9 +11,9 @@ use Rattle.regress_front_nodes.specs.Characters.{is_character}
 use Rattle.regress_front_nodes.proofs.NodeLemmas.{is_cat-cat_of}
 use Rattle.regress_front_rules.specs.NormalForm.{nodes_below, Nowhere, is_short_cat, has_loose_part, has_split_literal, is_loose_char, is_unrollable, is_loop_of_one, is_empty_choice, is_lost_cat, IsNormal, is_idle_loop}
 use Rattle.regress_front_rules.specs.Rules as rules
-use Rattle.regress_front_rules.specs.Rules.{joined, copies, Turns, flattens, drops_empty, is_one_part, is_no_part, joins, spells, lists, is_lost, unrolls, loops_one, Rewrites, there, in_part, in_first, in_second, in_capture, in_submatch, in_loop, in_single_loop, Reaches, stays, and_then, idles, skips}
+use Rattle.regress_front_rules.specs.Rules.{joined, copies, RewritesAtRoot, flattens, drops_empty, is_one_part, is_no_part, joins, spells, lists, is_lost, unrolls, loops_one, Rewrites, there, in_part, in_first, in_second, in_capture, in_submatch, in_loop, in_single_loop, Reaches, stays, and_then, idles, skips}
 use Rattle.regress_front_rules.specs.Weight.{weight}
-use Rattle.regress_front_rules.specs.Laws.{IsListed, AreListed, Turnable, NormalFormsAreReached}
+use Rattle.regress_front_rules.specs.Laws.{IsListed, AreListed, IsRedex, NormalFormsAreReached}
 use Rattle.regress_front_rules.proofs.ClauseLemmas.{short_cat, loose_part, split_literal, loose_char, unrollable_loop, loop_of_one, empty_choice, lost_cat, idle_loop}
 use Rattle.regress_front_rules.proofs.RewriteLemmas.{all-right}
 
@@ -54,30 +54,30 @@ listed-character (loop a first last least most greedy) h = absurd (false≢true 
 listed-character (single_loop a least most greedy) h = absurd (false≢true h)
 listed-character _ h = tt
 
-turns-listed : {dir : Direction} {t u : Tree} → Turns dir t u → AreListed t → AreListed u
-turns-listed (flattens ts us vs) l = let (a, b) = listed-apart ts (cat_of us ∷ vs) l in listed-append ts (us ++ vs) a (listed-append us vs b.0 b.1)
-turns-listed (drops_empty ts vs) l = let (a, b) = listed-apart ts (empty ∷ vs) l in listed-append ts vs a b.1
-turns-listed is_one_part l = l.0
-turns-listed is_no_part l = tt
-turns-listed {dir} (joins ts vs xs ys) l =
+root-listed : {dir : Direction} {t u : Tree} → RewritesAtRoot dir t u → AreListed t → AreListed u
+root-listed (flattens ts us vs) l = let (a, b) = listed-apart ts (cat_of us ∷ vs) l in listed-append ts (us ++ vs) a (listed-append us vs b.0 b.1)
+root-listed (drops_empty ts vs) l = let (a, b) = listed-apart ts (empty ∷ vs) l in listed-append ts vs a b.1
+root-listed is_one_part l = l.0
+root-listed is_no_part l = tt
+root-listed {dir} (joins ts vs xs ys) l =
     let (a, b) = listed-apart ts (bytes xs ∷ bytes ys ∷ vs) l in
     listed-append ts (bytes (joined dir xs ys) ∷ vs) a (tt, b.1.1, is_cat-cat_of vs)
-turns-listed (spells e) l = tt
-turns-listed (lists {t = t} k takes) l = listed-character t takes.alone
-turns-listed rules.is_empty_choice l = tt
-turns-listed (is_lost ts e) l = tt
-turns-listed (unrolls {a} {first} {last} {least} {most} {greedy} e) l = listed-copies least a _ l (l, tt, refl)
-turns-listed (loops_one e) l = l
-turns-listed (idles {a} {first} {last} {least} e) l = once-listed (nat_le 1 least)
+root-listed (spells e) l = tt
+root-listed (lists {t = t} k takes) l = listed-character t takes.alone
+root-listed rules.is_empty_choice l = tt
+root-listed (is_lost ts e) l = tt
+root-listed (unrolls {a} {first} {last} {least} {most} {greedy} e) l = listed-copies least a _ l (l, tt, refl)
+root-listed (loops_one e) l = l
+root-listed (idles {a} {first} {last} {least} e) l = once-listed (nat_le 1 least)
   where
     once-listed : (b : Bool) → AreListed (if b then a else empty)
     once-listed true = l
     once-listed false = tt
-turns-listed (skips e h) l = tt
+root-listed (skips e h) l = tt
 
 -- a rule somewhere leaves each `Cat` a list of parts
 pub rewrites-listed : {dir : Direction} {t u : Tree} → Rewrites dir t u → AreListed t → AreListed u
-rewrites-listed (there h) l = turns-listed h l
+rewrites-listed (there h) l = root-listed h l
 rewrites-listed (in_part {a = a} {b = b} ts vs h) l =
     let (before, behind) = listed-apart ts (a ∷ vs) l in
     listed-append ts (b ∷ vs) before (rewrites-listed h behind.0, behind.1, behind.2)
@@ -94,12 +94,12 @@ rewrites-listed (in_single_loop h) l = rewrites-listed h l
 abbrev Moves : Direction → Tree → Type 0
 Moves dir t = (u : Tree) × Rewrites dir t u
 
-module _ (test : Tree → Bool) (turn : (dir : Direction) (t : Tree) → AreListed t → test t ≡ true → Turnable dir t) where
+module _ (test : Tree → Bool) (redex : (dir : Direction) (t : Tree) → AreListed t → test t ≡ true → IsRedex dir t) where
   abbrev Fails : Tree → Type 0
   Fails u = test u ≡ false
 
   -- The test is false, or a rule applies: in the tree and below it, and, of further parts of a `Cat`, in them and below.
-  record Sought (t : Tree) : Type 0 where
+  record Searched (t : Tree) : Type 0 where
     node : (dir : Direction) → Nowhere test t ⊎ Moves dir t
     further : is_cat t ≡ true → (dir : Direction) (before : List Tree) → All Fails (nodes_below t) ⊎ Moves dir (cat_of (before ++ parts t))
 
@@ -107,19 +107,19 @@ module _ (test : Tree → Bool) (turn : (dir : Direction) (t : Tree) → AreList
   at t l dir below = by_test (test t) refl
     where
       by_test : (b : Bool) → test t ≡ b → Nowhere test t ⊎ Moves dir t
-      by_test true e = let (u, h) = turn dir t l e in inr (u, there h)
+      by_test true e = let (u, h) = redex dir t l e in inr (u, there h)
       by_test false e = elim below [ inl all ↦ inl (All-cons Fails t (nodes_below t) e all) | inr more ↦ inr more ]
 
   -- what is no `Cat` has no further parts
-  alone : (t : Tree) → (is_cat t ≡ true → ⊥) → ((dir : Direction) → Nowhere test t ⊎ Moves dir t) → Sought t
+  alone : (t : Tree) → (is_cat t ≡ true → ⊥) → ((dir : Direction) → Nowhere test t ⊎ Moves dir t) → Searched t
   alone t no_cat here = record { node = here; further = λ h. absurd (no_cat h) }
 
   -- what holds one tree
-  holding : (t a : Tree) → AreListed t → (is_cat t ≡ true → ⊥) → nodes_below t ≡ a ∷ nodes_below a → ((dir : Direction) → Nowhere test a ⊎ Moves dir t) → Sought t
+  holding : (t a : Tree) → AreListed t → (is_cat t ≡ true → ⊥) → nodes_below t ≡ a ∷ nodes_below a → ((dir : Direction) → Nowhere test a ⊎ Moves dir t) → Searched t
   holding t a l no_cat below here = alone t no_cat (λ dir. at t l dir (subst (λ us. All Fails us ⊎ Moves dir t) (sym below) (here dir)))
 
   -- a part and further parts
-  of_cat : (a b : Tree) → AreListed (cat a b) → Sought a → Sought b → Sought (cat a b)
+  of_cat : (a b : Tree) → AreListed (cat a b) → Searched a → Searched b → Searched (cat a b)
   of_cat a b l first rest = record {
     node = λ dir. at (cat a b) l dir (subst (λ u. All Fails (nodes_below (cat a b)) ⊎ Moves dir u) (parts-listed (cat a b) l refl) (by_parts dir []));
     further = λ h dir before. by_parts dir before;
@@ -136,7 +136,7 @@ module _ (test : Tree → Bool) (turn : (dir : Direction) (t : Tree) → AreList
           ]
 
   -- two arms
-  of_alt : (a b : Tree) → AreListed (alt a b) → Sought a → Sought b → Sought (alt a b)
+  of_alt : (a b : Tree) → AreListed (alt a b) → Searched a → Searched b → Searched (alt a b)
   of_alt a b l first second = alone (alt a b) false≢true (λ dir. at (alt a b) l dir (either dir))
     where
       either : (dir : Direction) → All Fails (nodes_below (alt a b)) ⊎ Moves dir (alt a b)
@@ -149,23 +149,23 @@ module _ (test : Tree → Bool) (turn : (dir : Direction) (t : Tree) → AreList
             ]
           ]
 
-  sought : (t : Tree) → AreListed t → Sought t
-  sought (cat a b) l = of_cat a b l (sought a l.0) (sought b l.1)
-  sought no_part l = record { node = λ dir. at no_part l dir (inl (All-nil Fails)); further = λ h dir before. inl (All-nil Fails) }
-  sought (alt a b) l = of_alt a b l (sought a l.0) (sought b l.1)
-  sought (capture k name a) l =
-      holding (capture k name a) a l false≢true refl (λ dir. elim ((sought a l).node dir) [ inl all ↦ inl all | inr (u, h) ↦ inr (capture k name u, in_capture h) ])
-  sought (submatch kind first last a) l =
-      holding (submatch kind first last a) a l false≢true refl (λ dir. elim ((sought a l).node (submatch_direction kind dir)) [ inl all ↦ inl all | inr (u, h) ↦ inr (submatch kind first last u, in_submatch h) ])
-  sought (loop a first last least most greedy) l =
-      holding (loop a first last least most greedy) a l false≢true refl (λ dir. elim ((sought a l).node dir) [ inl all ↦ inl all | inr (u, h) ↦ inr (loop u first last least most greedy, in_loop h) ])
-  sought (single_loop a least most greedy) l =
-      holding (single_loop a least most greedy) a l false≢true refl (λ dir. elim ((sought a l).node dir) [ inl all ↦ inl all | inr (u, h) ↦ inr (single_loop u least most greedy, in_single_loop h) ])
-  sought t l = alone t false≢true (λ dir. at t l dir (inl (All-nil Fails)))
+  searched : (t : Tree) → AreListed t → Searched t
+  searched (cat a b) l = of_cat a b l (searched a l.0) (searched b l.1)
+  searched no_part l = record { node = λ dir. at no_part l dir (inl (All-nil Fails)); further = λ h dir before. inl (All-nil Fails) }
+  searched (alt a b) l = of_alt a b l (searched a l.0) (searched b l.1)
+  searched (capture k name a) l =
+      holding (capture k name a) a l false≢true refl (λ dir. elim ((searched a l).node dir) [ inl all ↦ inl all | inr (u, h) ↦ inr (capture k name u, in_capture h) ])
+  searched (submatch kind first last a) l =
+      holding (submatch kind first last a) a l false≢true refl (λ dir. elim ((searched a l).node (submatch_direction kind dir)) [ inl all ↦ inl all | inr (u, h) ↦ inr (submatch kind first last u, in_submatch h) ])
+  searched (loop a first last least most greedy) l =
+      holding (loop a first last least most greedy) a l false≢true refl (λ dir. elim ((searched a l).node dir) [ inl all ↦ inl all | inr (u, h) ↦ inr (loop u first last least most greedy, in_loop h) ])
+  searched (single_loop a least most greedy) l =
+      holding (single_loop a least most greedy) a l false≢true refl (λ dir. elim ((searched a l).node dir) [ inl all ↦ inl all | inr (u, h) ↦ inr (single_loop u least most greedy, in_single_loop h) ])
+  searched t l = alone t false≢true (λ dir. at t l dir (inl (All-nil Fails)))
 
   -- the test is false everywhere, or a rule applies somewhere
-  pub seek : (dir : Direction) (t : Tree) → AreListed t → Nowhere test t ⊎ Moves dir t
-  seek dir t l = (sought t l).node dir
+  pub search_below : (dir : Direction) (t : Tree) → AreListed t → Nowhere test t ⊎ Moves dir t
+  search_below dir t l = (searched t l).node dir
 
 -- all of these, or the other
 and_also : {A B M : Type 0} → A ⊎ M → (A → B ⊎ M) → B ⊎ M
@@ -175,15 +175,15 @@ and_also (inr m) f = inr m
 -- A tree is in normal form, or a rule applies somewhere.
 pub normal-or-moves : (dir : Direction) (t : Tree) → AreListed t → IsNormal t ⊎ Moves dir t
 normal-or-moves dir t l =
-    and_also (seek is_short_cat (λ d u p h. short_cat d u (one-listed u p) h) dir t l) (λ no_short_cat.
-    and_also (seek has_loose_part (λ d u p h. loose_part d u (one-listed u p) (all-listed u p) h) dir t l) (λ no_loose_part.
-    and_also (seek has_split_literal (λ d u p h. split_literal d u (one-listed u p) h) dir t l) (λ no_split_literal.
-    and_also (seek is_loose_char (λ d u p h. loose_char d u h) dir t l) (λ no_loose_char.
-    and_also (seek is_unrollable (λ d u p h. unrollable_loop d u h) dir t l) (λ no_unrollable_loop.
-    and_also (seek is_loop_of_one (λ d u p h. loop_of_one d u h) dir t l) (λ no_loop_of_one.
-    and_also (seek is_empty_choice (λ d u p h. empty_choice d u h) dir t l) (λ no_empty_choice.
-    and_also (seek is_idle_loop (λ d u p h. idle_loop d u h) dir t l) (λ no_idle_loop.
-    and_also (seek is_lost_cat (λ d u p h. lost_cat d u (one-listed u p) h) dir t l) (λ no_lost_cat.
+    and_also (search_below is_short_cat (λ d u p h. short_cat d u (one-listed u p) h) dir t l) (λ no_short_cat.
+    and_also (search_below has_loose_part (λ d u p h. loose_part d u (one-listed u p) (all-listed u p) h) dir t l) (λ no_loose_part.
+    and_also (search_below has_split_literal (λ d u p h. split_literal d u (one-listed u p) h) dir t l) (λ no_split_literal.
+    and_also (search_below is_loose_char (λ d u p h. loose_char d u h) dir t l) (λ no_loose_char.
+    and_also (search_below is_unrollable (λ d u p h. unrollable_loop d u h) dir t l) (λ no_unrollable_loop.
+    and_also (search_below is_loop_of_one (λ d u p h. loop_of_one d u h) dir t l) (λ no_loop_of_one.
+    and_also (search_below is_empty_choice (λ d u p h. empty_choice d u h) dir t l) (λ no_empty_choice.
+    and_also (search_below is_idle_loop (λ d u p h. idle_loop d u h) dir t l) (λ no_idle_loop.
+    and_also (search_below is_lost_cat (λ d u p h. lost_cat d u (one-listed u p) h) dir t l) (λ no_lost_cat.
     inl (record {
       no_short_cat = no_short_cat;
       no_loose_part = no_loose_part;

@@ -14,8 +14,8 @@ use Rattle.regress_front_rules.specs.Rules.{Rewrites, there, in_part, in_first, 
 use Rattle.regress_front_rules.specs.Laws.{RulesAreRight, WholesAreRight}
 use Rattle.regress_front_rules.proofs.InsideLemmas.{tree-inside}
 use Rattle.regress_front_rules.proofs.MeasureLemmas.{pending-loops}
-use Rattle.regress_front_rules.proofs.RuleLemmas.{parts-lawful, behind-alike, turns-alike}
-use Rattle.regress_front_rules.proofs.KeepLemmas.{rewrites-turned, reaches-keeps, reaches-weight}
+use Rattle.regress_front_rules.proofs.RuleLemmas.{parts-lawful, behind-alike, root-alike}
+use Rattle.regress_front_rules.proofs.KeepLemmas.{rewrites-rewritten, reaches-keeps, reaches-weight}
 
 module _ (w : Context) (valid : All is_code_point w.text) where
   abbrev go : Direction → Tree → Outcomes
@@ -24,7 +24,7 @@ module _ (w : Context) (valid : All is_code_point w.text) where
   -- One rule somewhere makes what is alike, in the direction in which the whole is read.
   pub rewrites-alike : {dir : Direction} {t u : Tree} → Rewrites dir t u → (n : ℕ) → AreLawful n t → GoAlike w (go dir t) (go dir u)
   unfolding node_outcomes
-  rewrites-alike (there h) n l = turns-alike w valid h n l
+  rewrites-alike (there h) n l = root-alike w valid h n l
   rewrites-alike {dir} (in_part {a = a} {b = b} ts vs h) n l =
       let here = rewrites-alike h n (parts-lawful n ts (a ∷ vs) l).1.0 in
       behind-alike w valid dir ts (a ∷ vs) (b ∷ vs)
@@ -53,11 +53,11 @@ module _ (w : Context) (valid : All is_code_point w.text) where
   pub reaches-alike : {dir : Direction} {t u : Tree} → Reaches dir t u → (n : ℕ) → AreLawful n t → GoAlike w (go dir t) (go dir u)
   reaches-alike stays n l s inside = refl
   reaches-alike (and_then h rest) n l s inside =
-      rewrites-alike h n l s inside ∙ reaches-alike rest n ((rewrites-turned h).keeps.lawful n l) s inside
+      rewrites-alike h n l s inside ∙ reaches-alike rest n ((rewrites-rewritten h).keeps.lawful n l) s inside
 
 pub all-right : RulesAreRight
 all-right dir n t u h l =
-    let k = rewrites-turned h in (
+    let k = rewrites-rewritten h in (
       λ table unicode text valid. rewrites-alike (record { text = text; table = table; unicode = unicode }) valid h n l,
       k.keeps.lawful n l,
       k.lighter n l,

@@ -24,7 +24,7 @@ use Rattle.regress_front_nodes.proofs.SequenceLemmas.{cat_of-append}
 use Rattle.regress_front_nodes.proofs.PieceLemmas.{scalar-from}
 use Rattle.regress_front_nodes.proofs.NodeLemmas.{always_fails-nothing, parts-cat_of}
 use Rattle.regress_front_rules.specs.NormalForm.{is_unrollable, is_lost_cat, has_no_group}
-use Rattle.regress_front_rules.specs.Rules.{joined, Turns, flattens, drops_empty, is_one_part, is_no_part, joins, spells, lists, is_empty_choice, is_lost, unrolls, loops_one, idles, skips}
+use Rattle.regress_front_rules.specs.Rules.{joined, RewritesAtRoot, flattens, drops_empty, is_one_part, is_no_part, joins, spells, lists, is_empty_choice, is_lost, unrolls, loops_one, idles, skips}
 use Rattle.regress_front_rules.proofs.StepLemmas.{literals-joined}
 use Rattle.regress_front_rules.proofs.InsideLemmas.{tree-inside}
 use Rattle.regress_front_rules.proofs.LoopLemmas.{unrolled-same, single-same}
@@ -148,25 +148,25 @@ module _ (w : Context) (valid : All is_code_point w.text) where
       by_test false e k rest = flat_map-none (IsInside w.text) (go dir (cat_of ts)) (rest k) (go dir t s) (tree-inside w t dir s inside)
 
   -- Each rule makes what is alike, in the direction in which it is read.
-  pub turns-alike : {dir : Direction} {t u : Tree} → Turns dir t u → (n : ℕ) → AreLawful n t → GoAlike w (go dir t) (go dir u)
+  pub root-alike : {dir : Direction} {t u : Tree} → RewritesAtRoot dir t u → (n : ℕ) → AreLawful n t → GoAlike w (go dir t) (go dir u)
   unfolding node_outcomes
-  turns-alike {dir} (flattens ts us vs) n h = behind-alike dir ts (cat_of us ∷ vs) (us ++ vs) (same-alike _ _ (flat-same dir us vs))
-  turns-alike {dir} (drops_empty ts vs) n h = behind-alike dir ts (empty ∷ vs) vs (same-alike _ _ (empty-same dir vs))
-  turns-alike {dir} (is_one_part {t}) n h = same-alike _ _ (one_part-same dir t)
-  turns-alike is_no_part n h = λ s inside. refl
-  turns-alike {dir} (joins ts vs xs ys) n h =
+  root-alike {dir} (flattens ts us vs) n h = behind-alike dir ts (cat_of us ∷ vs) (us ++ vs) (same-alike _ _ (flat-same dir us vs))
+  root-alike {dir} (drops_empty ts vs) n h = behind-alike dir ts (empty ∷ vs) vs (same-alike _ _ (empty-same dir vs))
+  root-alike {dir} (is_one_part {t}) n h = same-alike _ _ (one_part-same dir t)
+  root-alike is_no_part n h = λ s inside. refl
+  root-alike {dir} (joins ts vs xs ys) n h =
       let (before, behind) = parts-lawful n ts (bytes xs ∷ bytes ys ∷ vs) h in
       behind-alike dir ts (bytes xs ∷ bytes ys ∷ vs) (bytes (joined dir xs ys) ∷ vs) (same-alike _ _ (joins-same dir xs ys vs behind.0.1 behind.1.0.1))
-  turns-alike {dir} (spells {c} e) n h = λ s inside. ap distinct (spells-same dir c h e s inside)
-  turns-alike {dir} (lists {inverted} {intervals} {t} k takes) n h = λ s inside. ap distinct (sym (takes-steps w valid t (bracket_has inverted intervals) takes dir s))
-  turns-alike is_empty_choice n h = λ s inside. repeat-left_out (s ∷ []) s [] (rw (same_state-self s) refl)
-  turns-alike {dir} (is_lost ts e) n h = λ s inside.
+  root-alike {dir} (spells {c} e) n h = λ s inside. ap distinct (spells-same dir c h e s inside)
+  root-alike {dir} (lists {inverted} {intervals} {t} k takes) n h = λ s inside. ap distinct (sym (takes-steps w valid t (bracket_has inverted intervals) takes dir s))
+  root-alike is_empty_choice n h = λ s inside. repeat-left_out (s ∷ []) s [] (rw (same_state-self s) refl)
+  root-alike {dir} (is_lost ts e) n h = λ s inside.
       let some : list_any always_fails (parts (cat_of ts)) ≡ true = (lost-parts (cat_of ts) e).fails in
       let lost = lost-nothing dir ts (rw (← parts-cat_of ts) some) s inside in
       ap distinct (lost ∙ sym (always_fails-nothing w (char_set []) dir s refl valid inside.place))
-  turns-alike {dir} (unrolls {a} {first} {last} {least} {most} {greedy} e) n h =
+  root-alike {dir} (unrolls {a} {first} {last} {least} {most} {greedy} e) n h =
       same-alike _ _ (unrolled-same w a first last least most greedy dir (small_loop a first last least most greedy e).no_group h.0 h.1)
-  turns-alike {dir} (loops_one {a} {first} {last} {least} {most} {greedy} e) n h =
+  root-alike {dir} (loops_one {a} {first} {last} {least} {most} {greedy} e) n h =
       same-alike _ _ (single-same w a first last least most greedy dir (takes_one-groups a e) h.0)
-  turns-alike {dir} (idles {a} {first} {last} {least} {most} {greedy} e) n h = λ s inside. idle-alike w a first last least most greedy dir n e h s
-  turns-alike {dir} (skips {a} {first} {last} {least} {most} {greedy} e k) n h = λ s inside. skipped-alike w a first last least most greedy dir n e k h s
+  root-alike {dir} (idles {a} {first} {last} {least} {most} {greedy} e) n h = λ s inside. idle-alike w a first last least most greedy dir n e h s
+  root-alike {dir} (skips {a} {first} {last} {least} {most} {greedy} e k) n h = λ s inside. skipped-alike w a first last least most greedy dir n e k h s

@@ -10,7 +10,7 @@ use Rattle.regress_front_nodes.specs.Forms.{is_cat, parts, nesting}
 use Rattle.regress_front_nodes.specs.Sizes.{size, loops}
 use Rattle.regress_front_nodes.specs.WellFormed.{AreLawful, IsWellFormed, name_by_number}
 use Rattle.regress_front_rules.specs.NormalForm.{is_short_cat, has_loose_part, has_split_literal, is_loose_char, is_unrollable, is_loop_of_one, is_empty_choice, is_idle_loop, is_lost_cat, IsNormal}
-use Rattle.regress_front_rules.specs.Rules.{Turns, Rewrites, Reaches}
+use Rattle.regress_front_rules.specs.Rules.{RewritesAtRoot, Rewrites, Reaches}
 use Rattle.regress_front_rules.specs.Weight.{weight, most_added}
 use Rattle.regress_front_rules.specs.Kept.{Keeps}
 
@@ -82,20 +82,20 @@ AreListed (bracket inverted intervals) = Unit {0}
 AreListed (string_set strings icase) = Unit {0}
 
 -- some rule makes another tree of it
-abbrev pub Turnable : Direction → Tree → Type 0
-Turnable dir t = (u : Tree) × Turns dir t u
+abbrev pub IsRedex : Direction → Tree → Type 0
+IsRedex dir t = (u : Tree) × RewritesAtRoot dir t u
 
 -- Where a tree itself breaks a clause of the normal form, a rule makes another tree of it, in each direction.
-pub record BrokenNodesTurn (dir : Direction) : Type 0 where
-  pub short_cat : (t : Tree) → IsListed t → is_short_cat t ≡ true → Turnable dir t
-  pub loose_part : (t : Tree) → IsListed t → All IsListed (parts t) → has_loose_part t ≡ true → Turnable dir t
-  pub split_literal : (t : Tree) → IsListed t → has_split_literal t ≡ true → Turnable dir t
-  pub loose_char : (t : Tree) → is_loose_char t ≡ true → Turnable dir t
-  pub unrollable_loop : (t : Tree) → is_unrollable t ≡ true → Turnable dir t
-  pub loop_of_one : (t : Tree) → is_loop_of_one t ≡ true → Turnable dir t
-  pub empty_choice : (t : Tree) → is_empty_choice t ≡ true → Turnable dir t
-  pub idle_loop : (t : Tree) → is_idle_loop t ≡ true → Turnable dir t
-  pub lost_cat : (t : Tree) → IsListed t → is_lost_cat t ≡ true → Turnable dir t
+pub record BrokenNodesAreRedexes (dir : Direction) : Type 0 where
+  pub short_cat : (t : Tree) → IsListed t → is_short_cat t ≡ true → IsRedex dir t
+  pub loose_part : (t : Tree) → IsListed t → All IsListed (parts t) → has_loose_part t ≡ true → IsRedex dir t
+  pub split_literal : (t : Tree) → IsListed t → has_split_literal t ≡ true → IsRedex dir t
+  pub loose_char : (t : Tree) → is_loose_char t ≡ true → IsRedex dir t
+  pub unrollable_loop : (t : Tree) → is_unrollable t ≡ true → IsRedex dir t
+  pub loop_of_one : (t : Tree) → is_loop_of_one t ≡ true → IsRedex dir t
+  pub empty_choice : (t : Tree) → is_empty_choice t ≡ true → IsRedex dir t
+  pub idle_loop : (t : Tree) → is_idle_loop t ≡ true → IsRedex dir t
+  pub lost_cat : (t : Tree) → IsListed t → is_lost_cat t ≡ true → IsRedex dir t
 
 -- Rules, one after another, lead from each lawful tree to one in normal form.
 abbrev pub NormalFormsAreReached : Type 0

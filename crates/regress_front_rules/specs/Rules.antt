@@ -34,40 +34,40 @@ abbrev pub once : Tree → ℕ → Tree
 once a least = if nat_le 1 least then a else empty
 
 -- One rule makes the second tree of the first, where it is read in this direction.
-pub data Turns (dir : Direction) : Tree → Tree → Type 0 where
+pub data RewritesAtRoot (dir : Direction) : Tree → Tree → Type 0 where
   -- a `Cat` among the parts of a `Cat` gives its parts in its place
-  flattens : (ts us vs : List Tree) → Turns dir (cat_of (ts ++ cat_of us ∷ vs)) (cat_of (ts ++ (us ++ vs)))
+  flattens : (ts us vs : List Tree) → RewritesAtRoot dir (cat_of (ts ++ cat_of us ∷ vs)) (cat_of (ts ++ (us ++ vs)))
   -- `Empty` among the parts of a `Cat` is left out
-  drops_empty : (ts vs : List Tree) → Turns dir (cat_of (ts ++ empty ∷ vs)) (cat_of (ts ++ vs))
+  drops_empty : (ts vs : List Tree) → RewritesAtRoot dir (cat_of (ts ++ empty ∷ vs)) (cat_of (ts ++ vs))
   -- a `Cat` of one part is that part
-  is_one_part : {t : Tree} → Turns dir (cat_of (t ∷ [])) t
+  is_one_part : {t : Tree} → RewritesAtRoot dir (cat_of (t ∷ [])) t
   -- a `Cat` of no part is `Empty`
-  is_no_part : Turns dir no_part empty
+  is_no_part : RewritesAtRoot dir no_part empty
   -- two literals side by side are one
-  joins : (ts vs : List Tree) (xs ys : List ℕ) → Turns dir (cat_of (ts ++ bytes xs ∷ bytes ys ∷ vs)) (cat_of (ts ++ bytes (joined dir xs ys) ∷ vs))
+  joins : (ts vs : List Tree) (xs ys : List ℕ) → RewritesAtRoot dir (cat_of (ts ++ bytes xs ∷ bytes ys ∷ vs)) (cat_of (ts ++ bytes (joined dir xs ys) ∷ vs))
   -- a character, but no surrogate, is a literal
-  spells : {c : ℕ} → is_surrogate c ≡ false → Turns dir (char c) (bytes (encode_utf8 c))
+  spells : {c : ℕ} → is_surrogate c ≡ false → RewritesAtRoot dir (char c) (bytes (encode_utf8 c))
   -- a `Bracket` is any simpler tree with its members: a set, any character, or a set of none
-  lists : {inverted : Bool} {intervals : List (ℕ × ℕ)} {t : Tree} → is_bracket t ≡ false → Takes t (bracket_has inverted intervals) → Turns dir (bracket inverted intervals) t
+  lists : {inverted : Bool} {intervals : List (ℕ × ℕ)} {t : Tree} → is_bracket t ≡ false → Takes t (bracket_has inverted intervals) → RewritesAtRoot dir (bracket inverted intervals) t
   -- an `Alt` of two `Empty`s is `Empty`
-  is_empty_choice : Turns dir (alt empty empty) empty
+  is_empty_choice : RewritesAtRoot dir (alt empty empty) empty
   -- a `Cat` without group and `Goal` fails where a part always does
-  is_lost : (ts : List Tree) → is_lost_cat (cat_of ts) ≡ true → Turns dir (cat_of ts) (char_set [])
+  is_lost : (ts : List Tree) → is_lost_cat (cat_of ts) ≡ true → RewritesAtRoot dir (cat_of ts) (char_set [])
   -- a loop over a small body begins with copies of it
   unrolls : {a : Tree} {first last least most : ℕ} {greedy : Bool} → is_unrollable (loop a first last least most greedy) ≡ true
-      → Turns dir (loop a first last least most greedy) (unrolled a first last least most greedy)
+      → RewritesAtRoot dir (loop a first last least most greedy) (unrolled a first last least most greedy)
   -- a loop over what takes one character is a one-character loop
   loops_one : {a : Tree} {first last least most : ℕ} {greedy : Bool} → takes_one a ≡ true
-      → Turns dir (loop a first last least most greedy) (single_loop a least most greedy)
+      → RewritesAtRoot dir (loop a first last least most greedy) (single_loop a least most greedy)
   -- a loop over what never takes a character is that once, or nothing
-  idles : {a : Tree} {first last least most : ℕ} {greedy : Bool} → is_idle a ≡ true → Turns dir (loop a first last least most greedy) (once a least)
+  idles : {a : Tree} {first last least most : ℕ} {greedy : Bool} → is_idle a ≡ true → RewritesAtRoot dir (loop a first last least most greedy) (once a least)
   -- a loop that is never entered, and holds no group, is `Empty`
-  skips : {a : Tree} {first last least most : ℕ} {greedy : Bool} → most ≡ 0 → has_no_group a ≡ true → Turns dir (loop a first last least most greedy) empty
+  skips : {a : Tree} {first last least most : ℕ} {greedy : Bool} → most ≡ 0 → has_no_group a ≡ true → RewritesAtRoot dir (loop a first last least most greedy) empty
 
 -- One rule makes the second tree of the first, there or somewhere below. The direction is that in which the first is read.
 pub data Rewrites : Direction → Tree → Tree → Type 0 where
   -- the tree itself
-  there : {dir : Direction} {t u : Tree} → Turns dir t u → Rewrites dir t u
+  there : {dir : Direction} {t u : Tree} → RewritesAtRoot dir t u → Rewrites dir t u
   -- one of the parts of a `Cat`, with those before and behind
   in_part : {dir : Direction} {a b : Tree} (ts vs : List Tree) → Rewrites dir a b → Rewrites dir (cat_of (ts ++ a ∷ vs)) (cat_of (ts ++ b ∷ vs))
   -- the first arm of an `Alt`

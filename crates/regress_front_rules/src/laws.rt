@@ -1,6 +1,6 @@
 //! Laws of rewriting, each the contract of a function with an empty body.
 ghost use Rattle.regress_meaning.specs.Meaning.{Direction};
-ghost use Rattle.regress_front_rules.specs.Laws.{RulesAreRight, RulesKeep, WholesAreRight, BrokenNodesTurn, NormalFormsAreReached, NodesAreListed, NestsLessThanItsSize};
+ghost use Rattle.regress_front_rules.specs.Laws.{RulesAreRight, RulesKeep, WholesAreRight, BrokenNodesAreRedexes, NormalFormsAreReached, NodesAreListed, NestsLessThanItsSize};
 
 /// One rule, somewhere in a lawful tree, leads to a tree that means the same in the direction in which the tree is read, is
 /// lawful, and has a smaller weight. So any way of applying rules ends.
@@ -21,8 +21,8 @@ pub fn wholes_are_right()
 {}
 
 /// Where a tree breaks a clause of the normal form at its root, some rule makes another tree of it.
-pub fn broken_nodes_turn()
-    ensures { (dir : Direction) → BrokenNodesTurn dir }
+pub fn broken_nodes_are_redexes()
+    ensures { (dir : Direction) → BrokenNodesAreRedexes dir }
 {}
 
 /// From each lawful tree whose `Cat`s are lists of parts, rules one after another lead to a tree in normal form.

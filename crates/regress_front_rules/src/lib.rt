@@ -5,6 +5,6 @@
 mod laws;
 
 pub use laws::{
-    broken_nodes_turn, normal_forms_are_reached, rules_are_right, rules_keep_the_rest,
+    broken_nodes_are_redexes, normal_forms_are_reached, rules_are_right, rules_keep_the_rest,
     trees_nest_less_than_their_size, trees_of_nodes_are_listed, wholes_are_right,
 };

@@ -106,19 +106,19 @@ IsWithin-halved len start made rest less w l h = record {
 -- ---- what the search keeps
 
 -- `now` are the intervals that are told now, `xs` those that were at the start.
-pub record IsSought (xs now : List Interval) (c low high start made : ℕ) : Type 0 where
+pub record IsSearched (xs now : List Interval) (c low high start made : ℕ) : Type 0 where
   pub same : now ≡ xs
   pub narrowed : IsNarrowed xs c low high
   pub counted : IsWithin (length xs) start made (high - low)
 
-pub IsSought-start : (xs : List Interval) (c start : ℕ) → IsSought xs xs c 0 (length xs) start start
-IsSought-start xs c start = record {
+pub IsSearched-start : (xs : List Interval) (c start : ℕ) → IsSearched xs xs c 0 (length xs) start start
+IsSearched-start xs c start = record {
   same = refl;
   narrowed = record { order = omega arith; within = omega arith; below = λ k l. absurd (omega arith); above = λ k l m. absurd (omega arith) };
   counted = let e : length xs - 0 ≡ length xs = omega arith in rw e (IsWithin-start (length xs) start);
 }
 
-module _ (xs now next : List Interval) (c low high start made more : ℕ) (ascend : Ascend (ends_of now)) (h : IsSought xs now c low high start made)
+module _ (xs now next : List Interval) (c low high start made more : ℕ) (ascend : Ascend (ends_of now)) (h : IsSearched xs now c low high start made)
     (l : low < high) (same : next ≡ now) (one : more ≡ made + 1) where
   -- the interval that is compared
   abbrev middle : ℕ
@@ -127,22 +127,22 @@ module _ (xs now next : List Interval) (c low high start made more : ℕ) (ascen
   rise : Ascend (ends_of xs)
   rise = subst (λ (ys : List Interval). Ascend (ends_of ys)) h.same ascend
 
-  pub IsSought-up : interval_cmp (get_or now middle first_interval) c ≡ Less → IsSought xs next c (middle + 1) high start more
-  IsSought-up is = record {
+  pub IsSearched-up : interval_cmp (get_or now middle first_interval) c ≡ Less → IsSearched xs next c (middle + 1) high start more
+  IsSearched-up is = record {
     same = cc;
     narrowed = IsNarrowed-up xs c rise low high middle h.narrowed (omega arith) (omega arith) (subst (λ (ys : List Interval). interval_cmp (get_or ys middle first_interval) c ≡ Less) h.same is);
     counted = rw one (IsWithin-halved (length xs) start made (high - low) (high - (middle + 1)) h.counted (omega arith) (omega arith));
   }
 
-  pub IsSought-down : interval_cmp (get_or now middle first_interval) c ≡ Greater → IsSought xs next c low middle start more
-  IsSought-down is = record {
+  pub IsSearched-down : interval_cmp (get_or now middle first_interval) c ≡ Greater → IsSearched xs next c low middle start more
+  IsSearched-down is = record {
     same = cc;
     narrowed = IsNarrowed-down xs c rise low high middle h.narrowed (omega arith) (omega arith) (subst (λ (ys : List Interval). interval_cmp (get_or ys middle first_interval) c ≡ Greater) h.same is);
     counted = rw one (IsWithin-halved (length xs) start made (high - low) (middle - low) h.counted (omega arith) (omega arith));
   }
 
-  pub Sought-found : interval_cmp (get_or now middle first_interval) c ≡ Equal → Some middle ≡ position (λ i. in_interval i c) xs
-  Sought-found is =
+  pub Searched-found : interval_cmp (get_or now middle first_interval) c ≡ Equal → Some middle ≡ position (λ i. in_interval i c) xs
+  Searched-found is =
       sym (position-found xs c rise middle (omega (arith, h.narrowed.within)) (subst (λ (ys : List Interval). interval_cmp (get_or ys middle first_interval) c ≡ Equal) h.same is))
 
   -- a probe more is within the number

@@ -1,4 +1,4 @@
--- The first entry with a key, sought by the bytes of the keys.
+-- The first entry with a key, searched for by the bytes of the keys.
 use Rattle.std.proofs.Common.{◌≡◌, ℕ, Bool, true, false, cond, List, [], ◌∷◌, map, Bor, Option, None, Some, option_copied, String, string_bytes, nat_eq, refl, sym, ap, ◌∙◌}
 use Rattle.std.specs.List.{find}
 use Rattle.std.specs.Option.{option_map}

@@ -94,7 +94,7 @@ first_out_of_place-properties : (properties : List Property)
 first_out_of_place-properties [] = refl
 first_out_of_place-properties (e ∷ properties) = ap (option_or (first_out_of_place (ends_of e.1.items))) (first_out_of_place-properties properties)
 
--- the first interval that is out of place is sought in the lists in turn
+-- the first interval that is out of place is searched for in the lists in turn
 pub out_of_place-parts : (p : TableParts) → option_or (first_out_of_place (ends_of p.id_start.items))
     (option_or (first_out_of_place (ends_of p.id_continue.items)) (first_some (map (λ e. first_out_of_place (ends_of e.1.items)) p.properties.items)))
     ≡ out_of_place (parts_of p)

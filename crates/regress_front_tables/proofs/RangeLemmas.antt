@@ -165,7 +165,7 @@ numbers_in-entries [] = refl
 numbers_in-entries (e ∷ entries) =
     simp (flat_map-map (λ (s : List ℕ). s) (λ (s : Vec ℕ Global). s.items) e.1.items, numbers_in-entries entries)
 
--- the least number past the last code point is sought in the lists in turn
+-- the least number past the last code point is searched for in the lists in turn
 pub least_past-parts : (p : RawParts) → lesser (lesser (least_past (numbers_of p.fold.items)) (least_past (numbers_of p.upper.items)))
     (least_past (flat_map (λ e. flat_map (λ s. s.items) e.1.items) p.sequences.items)) ≡ least_past (numbers (parts_of p))
 least_past-parts p =

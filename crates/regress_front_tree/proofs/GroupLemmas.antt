@@ -67,16 +67,16 @@ get-second [] ys i = ap (slice_get ys) (omega arith)
 get-second (x ∷ xs) ys i = let e : suc (length xs) + i ≡ suc (length xs + i) = omega arith in rw e (get-second xs ys i)
 
 -- the first where it is there, or else the second, in either order
-abbrev BothWays : {A : Type 0} → Option A → Option A → Option A → Type 0
-BothWays o p q = (option_or o p ≡ q) × (option_or p o ≡ q)
+abbrev InBothOrders : {A : Type 0} → Option A → Option A → Option A → Type 0
+InBothOrders o p q = (option_or o p ≡ q) × (option_or p o ≡ q)
 
 -- of two lists of names, the second behind the first, each name is in one
 names-beside : (k l : ℕ) (names second : List (List ℕ)) → l ≡ k + length names → (f g : ℕ → Option (List ℕ))
     → ((i : ℕ) → f (k + i) ≡ slice_get names i) → ((i : ℕ) → i < l → g i ≡ None) → ((i : ℕ) → g (l + i) ≡ slice_get second i)
-    → (i : ℕ) → BothWays (f (k + i)) (g (k + i)) (slice_get (names ++ second) i)
+    → (i : ℕ) → InBothOrders (f (k + i)) (g (k + i)) (slice_get (names ++ second) i)
 names-beside k l names second e f g first none behind i = by_place (cases_lt i (length names))
   where
-    by_place : (i < length names) ⊎ (length names ≤ i) → BothWays (f (k + i)) (g (k + i)) (slice_get (names ++ second) i)
+    by_place : (i < length names) ⊎ (length names ≤ i) → InBothOrders (f (k + i)) (g (k + i)) (slice_get (names ++ second) i)
     by_place (inl h) =
         let no : g (k + i) ≡ None = none (k + i) (omega arith) in
         let found : f (k + i) ≡ slice_get (names ++ second) i = first i ∙ sym (get-first names second i h) in

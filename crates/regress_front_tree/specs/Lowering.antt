@@ -63,7 +63,7 @@ module _ (table : Table) (unicode : Bool) where
     pub arms : HasArms (class_arms e.icase strings characters (among (class_value e c).others [])) t
 
   mutual
-    -- A pattern is lowered: the way in which it is read, its settings, the groups opened before it, the pattern, the tree,
+    -- A pattern is lowered: the direction in which it is read, its settings, the groups opened before it, the pattern, the tree,
     -- and the groups opened up to its end.
     pub data Lowers : Bool → Settings → ℕ → Pattern → Tree → ℕ → Type 0 where
       of_character : {b : Bool} {e : Settings} {k c : ℕ} {t : Tree} → Takes t (same table unicode e.icase c) → Lowers b e k (meaning.character c) t k

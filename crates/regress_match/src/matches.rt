@@ -15,36 +15,36 @@ pub trait MatchProducer: Debug + Drop {
     /// Where in the text a search begins.
     type Position: Copy + Debug;
 
-    // What is sought and in what text: all that no search changes.
-    ghost Sought: { Type 0 };
+    // What is searched for and in what text: all that no search changes.
+    ghost Search: { Type 0 };
 
-    ghost sought: { Self → Sought };
+    ghost search_of: { Self → Search };
 
     // The position is one of the text's, from which matches may be asked for.
-    ghost is_position: { Sought → Self.Position → Type 0 };
+    ghost is_position: { Search → Self.Position → Type 0 };
 
     // A search may start at the offset.
-    ghost is_start: { Sought → ℕ → Type 0 };
+    ghost is_start: { Search → ℕ → Type 0 };
 
     // The items from a position on, told in offsets.
-    ghost items_from: { Sought → Self.Position → List Item };
+    ghost items_from: { Search → Self.Position → List Item };
 
     // How many positions lie behind one.
-    ghost left_behind: { Sought → Self.Position → ℕ };
+    ghost left_behind: { Search → Self.Position → ℕ };
 
     // A search that starts at an offset begins at a position, if at any.
-    ghost starts_at: { Sought → ℕ → Option Self.Position → Type 0 };
+    ghost starts_at: { Search → ℕ → Option Self.Position → Type 0 };
 
     // A match lies in the text, and its groups are named as in the pattern.
-    ghost is_of_search: { Sought → Match → Type 0 };
+    ghost is_of_search: { Search → Match → Type 0 };
 
     /// The position at an offset; `None` for an offset past the end.
     ///
     /// Asks that a search may start at the offset.
     fn initial_position(&self, offset: usize) -> Option<Self::Position>
-        requires { is_start (sought self.now) offset }
-        ensures begins { starts_at (sought self.now) offset result }
-        ensures inside { IfSome result (is_position (sought self.now)) };
+        requires { is_start (search_of self.now) offset }
+        ensures begins { starts_at (search_of self.now) offset result }
+        ensures inside { IfSome result (is_position (search_of self.now)) };
 
     /// The first match from a position on, and in `next` the position to go on from. Where there is no match, and where
     /// memory is refused, it is the last search.
@@ -55,11 +55,11 @@ pub trait MatchProducer: Debug + Drop {
         position: Self::Position,
         next: &mut Option<Self::Position>,
     ) -> Result<Option<Match>, Error>
-        requires { is_position (sought self.old) position }
-        ensures kept { sought self.new ≡ sought self.old }
-        ensures found { IfOk result (λ found. Finds (items_from (sought self.old)) (is_of_search (sought self.old)) position found next.new) }
-        ensures inside { IfSome next.new (is_position (sought self.old)) }
-        ensures nearer { IfSome next.new (λ p. left_behind (sought self.old) p < left_behind (sought self.old) position) }
+        requires { is_position (search_of self.old) position }
+        ensures kept { search_of self.new ≡ search_of self.old }
+        ensures found { IfOk result (λ found. Finds (items_from (search_of self.old)) (is_of_search (search_of self.old)) position found next.new) }
+        ensures inside { IfSome next.new (is_position (search_of self.old)) }
+        ensures nearer { IfSome next.new (λ p. left_behind (search_of self.old) p < left_behind (search_of self.old) position) }
         ensures last { OnErr result (next.new ≡ None) }
         ensures refused { IsOkUnless result Error.OutOfMemory };
 }
@@ -82,10 +82,10 @@ impl<P: MatchProducer> Matches<P> {
     /// let matches = Matches::new(producer, 0);
     /// ```
     pub fn new(producer: P, start: usize) -> Matches<P>
-        requires { P.is_start (P.sought producer) start }
+        requires { P.is_start (P.search_of producer) start }
         ensures over { producer_of result ≡ producer }
-        ensures begins { P.starts_at (P.sought producer) start (position_of result) }
-        ensures inside { IfSome (position_of result) (P.is_position (P.sought producer)) }
+        ensures begins { P.starts_at (P.search_of producer) start (position_of result) }
+        ensures inside { IfSome (position_of result) (P.is_position (P.search_of producer)) }
     {
         let position = producer.initial_position(start);
         Matches { producer, position }
@@ -97,12 +97,12 @@ impl<P: MatchProducer> Iterator for Matches<P> {
 
     type Item = Result<Match, Error>;
 
-    ghost can_next = { λ ms. IfSome (position_of ms) (P.is_position (P.sought (producer_of ms))) };
+    ghost can_next = { λ ms. IfSome (position_of ms) (P.is_position (P.search_of (producer_of ms))) };
 
-    ghost next_gives = { λ old r new. (P.sought (producer_of new) ≡ P.sought (producer_of old))
-        × GivesMatch (λ ms. coming_on (P.items_from (P.sought (producer_of ms))) (position_of ms)) HasEnded (P.is_of_search (P.sought (producer_of old))) old r new };
+    ghost next_gives = { λ old r new. (P.search_of (producer_of new) ≡ P.search_of (producer_of old))
+        × GivesMatch (λ ms. coming_on (P.items_from (P.search_of (producer_of ms))) (position_of ms)) HasEnded (P.is_of_search (P.search_of (producer_of old))) old r new };
 
-    ghost remaining = { λ ms. at_most (steps_on (P.left_behind (P.sought (producer_of ms))) (position_of ms)) };
+    ghost remaining = { λ ms. at_most (steps_on (P.left_behind (P.search_of (producer_of ms))) (position_of ms)) };
 
     /// The next match.
     ///

@@ -186,8 +186,8 @@ module _ (m : Mode) where
     body-leaves : {t r : List ℕ} {s : Class} → ClassBody m t s r → found_from m true t ≡ found_from m false r
     body-leaves (of_members e ms) = members-leave ms
     body-leaves (of_contents {r} e contents) =
-        let way = contents-cross (named e) contents in
-        way.same true ∙ leave m (way.into true) r
+        let crossed = contents-cross (named e) contents in
+        crossed.same true ∙ leave m (crossed.into true) r
 
     mutual
       pub disjunction-found : {t r : List ℕ} {k l : ℕ} {p : Pattern} → Disjunction m t k p l r → Finds t p r

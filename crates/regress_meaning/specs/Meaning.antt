@@ -13,7 +13,7 @@ pub record State : Type 0 where
   pub place : ℕ
   pub groups : List (Option (ℕ × ℕ))
 
--- which way the text is read ("CompileSubpattern")
+-- in which direction the text is read ("CompileSubpattern")
 pub data Direction : Type 0 where
   Forward : Direction
   Backward : Direction

@@ -10,9 +10,9 @@ pub returns-clause-matches_of_tree : goal.returns-clause-matches_of_tree
 returns-clause-matches_of_tree g c = λ n t laid place begins.
     let bytes = c.args.text.now in
     let e = c.in_ok-executor.executor in
-    let s = g.E.MatchProducer.sought e in
+    let s = g.E.MatchProducer.search_of e in
     let position = c.new-2.result.position in
-    subst (λ x. coming_on (g.E.MatchProducer.items_from (g.E.MatchProducer.sought x)) position ≡ map (told (of_utf8 bytes)) (tree_list c.args.regex.now n t (chars bytes) place)) (sym c.new-2.ensures.over)
+    subst (λ x. coming_on (g.E.MatchProducer.items_from (g.E.MatchProducer.search_of x)) position ≡ map (told (of_utf8 bytes)) (tree_list c.args.regex.now n t (chars bytes) place)) (sym c.new-2.ensures.over)
     (tree-searched c.args.regex.now.compiled.byte_program bytes c.utf8.text (g.E.MatchProducer.is_start s) (g.E.MatchProducer.starts_at s) (g.E.MatchProducer.items_from s) (g.E.MatchProducer.is_of_search s)
     c.in_ok-executor.ensures n t laid c.args.start place begins position c.new-2.ensures.begins)
 
@@ -20,8 +20,8 @@ pub returns-clause-matches : goal.returns-clause-matches
 returns-clause-matches g c = λ t o p stands place begins.
     let bytes = c.args.text.now in
     let e = c.in_ok-executor.executor in
-    let s = g.E.MatchProducer.sought e in
+    let s = g.E.MatchProducer.search_of e in
     let position = c.new-2.result.position in
-    subst (λ x. coming_on (g.E.MatchProducer.items_from (g.E.MatchProducer.sought x)) position ≡ map (told (of_utf8 bytes)) (match_list t o p (chars bytes) place)) (sym c.new-2.ensures.over)
+    subst (λ x. coming_on (g.E.MatchProducer.items_from (g.E.MatchProducer.search_of x)) position ≡ map (told (of_utf8 bytes)) (match_list t o p (chars bytes) place)) (sym c.new-2.ensures.over)
     (pattern-searched c.args.regex.now.compiled.byte_program bytes c.utf8.text (g.E.MatchProducer.is_start s) (g.E.MatchProducer.starts_at s) (g.E.MatchProducer.items_from s) (g.E.MatchProducer.is_of_search s)
     c.in_ok-executor.ensures t o p stands c.args.start place begins position c.new-2.ensures.begins)

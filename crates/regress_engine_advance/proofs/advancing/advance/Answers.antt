@@ -1,7 +1,7 @@
 use Rattle.std.proofs.Common.{◌∙◌, refl}
-use Rattle.regress_engine_input.specs.Views.{input_of, way}
-use Rattle.regress_engine_sought.proofs.BracketLemmas.{bracket_takes}
-use Rattle.regress_engine_sought.proofs.ReadyLemmas.{ready_read}
+use Rattle.regress_engine_input.specs.Views.{input_of, direction_of}
+use Rattle.regress_engine_search.proofs.BracketLemmas.{bracket_takes}
+use Rattle.regress_engine_search.proofs.ReadyLemmas.{ready_read}
 use Rattle.regress_engine_advance.proofs.advancing.advance.Goals as goal
 
 pub this_char-requires : goal.this_char-requires
@@ -60,4 +60,4 @@ pub returns-in-Bracket : goal.returns-in-Bracket
 returns-in-Bracket g c =
     let here = rw c.brackets.ensures at c.index-brackets-index.is in
     let within = rw c.in-Bracket.is at c.requires.ready.fits in
-    rw c.in-Bracket.is (c.bracket.ensures ∙ bracket_takes ((input_of (g.Input.InputIndexer.view c.args.input.now)).next (way c.args.forward) c.args.offset) _ _ _ within here)
+    rw c.in-Bracket.is (c.bracket.ensures ∙ bracket_takes ((input_of (g.Input.InputIndexer.view c.args.input.now)).next (direction_of c.args.forward) c.args.offset) _ _ _ within here)

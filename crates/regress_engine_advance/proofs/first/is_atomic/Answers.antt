@@ -3,7 +3,7 @@ use Rattle.regress_engine_insn.specs.InsnViews.{instruction}
 use Rattle.regress_engine_code.specs.Standing.{program_of}
 use Rattle.regress_engine_input.specs.Views.{are_bytes, input_of}
 use Rattle.regress_engine_runs.specs.Closed.{Fits}
-use Rattle.regress_engine_singles.specs.Apart.{AreApart}
+use Rattle.regress_engine_singles.specs.Disjoint.{AreDisjoint}
 use Rattle.regress_engine_advance.proofs.first.is_atomic.Goals as goal
 
 pub returns : goal.returns
@@ -14,8 +14,8 @@ returns c = λ v kind yes.
     let are : are_bytes v.kind ≡ true = kind ∙ ap not fits in (
       instruction c.in-Some.taken.now,
       c.in-Some.ensures,
-      subst (AreApart program (input_of v) (instruction c.args.insn.now)) (sym bytes.1) (c.is_apart.ensures v bytes.0 are yes),
+      subst (AreDisjoint program (input_of v) (instruction c.args.insn.now)) (sym bytes.1) (c.is_disjoint.ensures v bytes.0 are yes),
     )
 
 pub returns-in_default-first_byte : goal.returns-in_default-first_byte
-returns-in_default-first_byte c = λ v kind yes. (instruction c.in-Some.taken.now, c.in-Some.ensures, c.are_apart.ensures v yes)
+returns-in_default-first_byte c = λ v kind yes. (instruction c.in-Some.taken.now, c.in-Some.ensures, c.are_disjoint.ensures v yes)

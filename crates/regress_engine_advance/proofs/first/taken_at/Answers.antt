@@ -3,8 +3,8 @@ use Rattle.regress_engine_insn.specs.Instructions.{Stands}
 use Rattle.regress_engine_code.specs.Standing.{program_of}
 use Rattle.regress_engine_insn.specs.declared.insn.Insn.TheVariants.{Goal}
 use Rattle.regress_engine_runs.specs.Closed.{takes_character}
-use Rattle.regress_engine_sought.proofs.InsnLemmas.{stands-as}
-use Rattle.regress_engine_singles.proofs.LackLemmas.{takes-taking}
+use Rattle.regress_engine_search.proofs.InsnLemmas.{stands-as}
+use Rattle.regress_engine_singles.proofs.FirstByteLemmas.{takes-taking}
 use Rattle.regress_engine_advance.proofs.ReadLemmas.{stands-read, stands-one}
 use Rattle.regress_engine_advance.proofs.TakenLemmas.{first-here, first-loop}
 use Rattle.regress_engine_advance.proofs.first.taken_at.Goals as goal

@@ -2,7 +2,7 @@ use Rattle.std.specs.Prelude.{IfSome}
 use Rattle.std.proofs.Common.{Option, Some, None}
 use Rattle.regress_engine_code.specs.Standing.{program_of}
 use Rattle.regress_engine_insn.specs.declared.insn.Insn.TheVariants.{Goal}
-use Rattle.regress_engine_sought.proofs.InsnLemmas.{stands-as}
+use Rattle.regress_engine_search.proofs.InsnLemmas.{stands-as}
 use Rattle.regress_engine_advance.proofs.ReadLemmas.{stands-read}
 use Rattle.regress_engine_advance.proofs.TakenLemmas.{first-behind}
 use Rattle.regress_engine_advance.proofs.first.taken_first.Goals as goal

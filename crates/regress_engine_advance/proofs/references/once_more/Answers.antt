@@ -1,9 +1,9 @@
 use Rattle.std.proofs.Common.{◌∙◌, true, false, sym}
-use Rattle.regress_engine_input.specs.Views.{way, CanRead}
+use Rattle.regress_engine_input.specs.Views.{direction_of, CanRead}
 use Rattle.regress_engine_matchers.specs.References.{IsPlace}
 use Rattle.regress_engine_matchers.proofs.ViewLemmas.{view_reads}
-use Rattle.regress_engine_sought.proofs.PlaceLemmas.{can-read}
-use Rattle.regress_engine_sought.proofs.ReadyLemmas.{place_is, repeated_lies}
+use Rattle.regress_engine_search.proofs.PlaceLemmas.{can-read}
+use Rattle.regress_engine_search.proofs.ReadyLemmas.{place_is, repeated_lies}
 use Rattle.regress_engine_advance.proofs.references.once_more.Goals as goal
 use Rattle.regress_engine_advance.proofs.references.once_more.Goals.{then-icase, else-icase}
 
@@ -38,7 +38,7 @@ pub pos_to_offset-requires : goal.pos_to_offset-requires
 pos_to_offset-requires g c =
     let v = g.Input.InputIndexer.view c.args.input.now in
     let all = g.met.Input.InputIndexer.are_of_kind c.args.input.now in
-    let dir = way g.Dir.Direction.FORWARD in
+    let dir = direction_of g.Dir.Direction.FORWARD in
     let start : IsPlace v (g.Input.Position.PositionType.offset c.new-start.result) = rw c.new-start.ensures (place_is v _ c.requires.range.0) in
     let end : IsPlace v (g.Input.Position.PositionType.offset c.new-end.result) = rw c.new-end.ensures (place_is v _ c.requires.range.1) in
     let here : IsPlace v (g.Input.Position.PositionType.offset c.new-position.result) = rw c.new-position.ensures (place_is v _ c.requires.place) in

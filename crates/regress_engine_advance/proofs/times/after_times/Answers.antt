@@ -2,9 +2,9 @@ use Rattle.std.proofs.Common.{map, sym, ◌∙◌}
 use Rattle.std.proofs.lemmas.List.{length-map}
 use Rattle.regress_engine_insn.specs.InsnViews.{instruction}
 use Rattle.regress_engine_code.specs.Standing.{program_of}
-use Rattle.regress_engine_input.specs.Views.{way, input_of}
-use Rattle.regress_engine_sought.specs.StateViews.{marks_of}
-use Rattle.regress_engine_sought.proofs.ReadyLemmas.{body-asked, body-next, body-at}
+use Rattle.regress_engine_input.specs.Views.{direction_of, input_of}
+use Rattle.regress_engine_search.specs.StateViews.{marks_of}
+use Rattle.regress_engine_search.proofs.ReadyLemmas.{body-asked, body-next, body-at}
 use Rattle.regress_engine_advance.proofs.times.after_times.Goals as goal
 use Rattle.regress_engine_runs.proofs.Iterations.{after-goes, after-stops, after-all}
 
@@ -27,8 +27,8 @@ loop-left-preserved g c =
     let i = instruction c.args.insn.now in
     let (at, here, body) = c.requires.body in
     record {
-      rest = after-goes program (input_of v) i (way c.args.forward) (map marks_of c.args.groups.now) c.loop-left.left c.loop-left.behind c.in-Some.next c.loop-left-test.true c.in-Some.ensures ∙ c.loop-left.invariant.rest;
-      place = (body-next v (g.met.Input.InputIndexer.are_of_kind c.args.input.now) program c.requires.suits at c.loop-left.behind c.in-Some.next i (way c.args.forward) (map marks_of c.args.groups.now)
+      rest = after-goes program (input_of v) i (direction_of c.args.forward) (map marks_of c.args.groups.now) c.loop-left.left c.loop-left.behind c.in-Some.next c.loop-left-test.true c.in-Some.ensures ∙ c.loop-left.invariant.rest;
+      place = (body-next v (g.met.Input.InputIndexer.are_of_kind c.args.input.now) program c.requires.suits at c.loop-left.behind c.in-Some.next i (direction_of c.args.forward) (map marks_of c.args.groups.now)
           (body-at program v at c.args.offset c.loop-left.behind body c.loop-left.invariant.place) here (sym c.in-Some.ensures)).3;
     }
 

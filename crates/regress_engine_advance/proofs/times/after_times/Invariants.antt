@@ -1,17 +1,17 @@
 use Rattle.std.proofs.Common.{◌≡◌, map}
 use Rattle.regress_engine_insn.specs.InsnViews.{instruction}
 use Rattle.regress_engine_code.specs.Standing.{program_of}
-use Rattle.regress_engine_input.specs.Views.{way, input_of, reading_of}
+use Rattle.regress_engine_input.specs.Views.{direction_of, input_of, reading_of}
 use Rattle.regress_engine_runs.specs.Runs.{after_times}
 use Rattle.regress_engine_runs.specs.Meets.{IsAtPlace}
-use Rattle.regress_engine_sought.specs.StateViews.{marks_of}
+use Rattle.regress_engine_search.specs.StateViews.{marks_of}
 use Rattle.regress_engine_advance.proofs.times.after_times.Given as goal
 
 -- what is left leads where all lead
 abbrev pub invariant-loop-left : goal.invariant-loop-left
 invariant-loop-left g l = record {
-  rest : after_times (program_of l.program) (input_of (g.Input.InputIndexer.view l.input)) l.left (instruction l.insn) (way l.forward) (map marks_of l.groups) l.behind
-      ≡ after_times (program_of l.program) (input_of (g.Input.InputIndexer.view l.input)) l.times (instruction l.insn) (way l.forward) (map marks_of l.groups) l.offset;
+  rest : after_times (program_of l.program) (input_of (g.Input.InputIndexer.view l.input)) l.left (instruction l.insn) (direction_of l.forward) (map marks_of l.groups) l.behind
+      ≡ after_times (program_of l.program) (input_of (g.Input.InputIndexer.view l.input)) l.times (instruction l.insn) (direction_of l.forward) (map marks_of l.groups) l.offset;
   place : IsAtPlace (reading_of (g.Input.InputIndexer.view l.input)) l.behind;
 }
 

@@ -3,12 +3,12 @@ use Rattle.std.proofs.lemmas.List.{length-map}
 use Rattle.regress_engine_insn.specs.InsnViews.{instruction}
 use Rattle.regress_engine_code.specs.Standing.{program_of}
 use Rattle.regress_meaning.specs.Meaning.{Forward as ahead}
-use Rattle.regress_engine_input.specs.Views.{way, input_of, reading_of}
+use Rattle.regress_engine_input.specs.Views.{direction_of, input_of, reading_of}
 use Rattle.regress_engine_runs.specs.Runs.{as_far}
 use Rattle.regress_engine_runs.specs.Meets.{IsAtPlace}
-use Rattle.regress_engine_sought.specs.StateViews.{marks_of}
-use Rattle.regress_engine_sought.proofs.ReadyLemmas.{body-asked, body-next, body-at}
-use Rattle.regress_engine_sought.proofs.PlaceLemmas.{can-read}
+use Rattle.regress_engine_search.specs.StateViews.{marks_of}
+use Rattle.regress_engine_search.proofs.ReadyLemmas.{body-asked, body-next, body-at}
+use Rattle.regress_engine_search.proofs.PlaceLemmas.{can-read}
 use Rattle.regress_engine_advance.proofs.FarLemmas.{far-place}
 use Rattle.regress_engine_advance.proofs.times.as_far.Goals as goal
 use Rattle.regress_engine_runs.proofs.Iterations.{far-goes, far-stops, far-all}
@@ -29,7 +29,7 @@ as_far_ahead-requires-clause-place g c =
 pub returns-in-Some-clause-far : goal.returns-in-Some-clause-far
 returns-in-Some-clause-far g c =
     let gs = map marks_of c.args.groups.now in
-    let far : Bool → ℕ = λ b. as_far (program_of c.args.program.now) (input_of (g.Input.InputIndexer.view c.args.input.now)) c.args.times (instruction c.args.insn.now) (way b) gs c.args.offset in
+    let far : Bool → ℕ = λ b. as_far (program_of c.args.program.now) (input_of (g.Input.InputIndexer.view c.args.input.now)) c.args.times (instruction c.args.insn.now) (direction_of b) gs c.args.offset in
     c.in-Some.ensures gs ∙ ap far (sym c.if-forward.true)
 
 pub returns-in-Some-clause-place : goal.returns-in-Some-clause-place
@@ -60,8 +60,8 @@ loop-left-preserved g c =
     let i = instruction c.args.insn.now in
     let (at, here, body) = c.requires.body in
     record {
-      rest = far-goes program (input_of v) i (way c.args.forward) (map marks_of c.args.groups.now) c.loop-left.left c.loop-left.behind c.in-Some-advance.next c.loop-left-test.true c.in-Some-advance.ensures ∙ c.loop-left.invariant.rest;
-      place = (body-next v (g.met.Input.InputIndexer.are_of_kind c.args.input.now) program c.requires.suits at c.loop-left.behind c.in-Some-advance.next i (way c.args.forward) (map marks_of c.args.groups.now)
+      rest = far-goes program (input_of v) i (direction_of c.args.forward) (map marks_of c.args.groups.now) c.loop-left.left c.loop-left.behind c.in-Some-advance.next c.loop-left-test.true c.in-Some-advance.ensures ∙ c.loop-left.invariant.rest;
+      place = (body-next v (g.met.Input.InputIndexer.are_of_kind c.args.input.now) program c.requires.suits at c.loop-left.behind c.in-Some-advance.next i (direction_of c.args.forward) (map marks_of c.args.groups.now)
           (body-at program v at c.args.offset c.loop-left.behind body c.loop-left.invariant.place) here (sym c.in-Some-advance.ensures)).3;
     }
 

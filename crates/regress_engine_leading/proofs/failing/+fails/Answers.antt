@@ -3,11 +3,11 @@ use Rattle.regress_meaning.specs.Meaning.{Forward}
 use Rattle.regress_engine_code.specs.Standing.{program_of}
 use Rattle.regress_engine_input.specs.Views.{input_of}
 use Rattle.regress_engine_insn.specs.declared.insn.Insn.TheVariants.{Goal}
-use Rattle.regress_engine_sought.proofs.InsnLemmas.{stands-as}
-use Rattle.regress_engine_sought.proofs.PlaceLemmas.{can-read}
+use Rattle.regress_engine_search.proofs.InsnLemmas.{stands-as}
+use Rattle.regress_engine_search.proofs.PlaceLemmas.{can-read}
 use Rattle.regress_engine_singles.proofs.LeadingLemmas.{class-simple, class-fits}
-use Rattle.regress_engine_singles.proofs.StuckLemmas.{simple-stuck, taken-stuck, begin-stuck, end-stuck}
-use Rattle.regress_engine_advance.proofs.ReadLemmas.{none-is, stands-read, edge-simple}
+use Rattle.regress_engine_singles.proofs.DeadLemmas.{simple-dead, taken-dead, begin-dead, end-dead}
+use Rattle.regress_engine_advance.proofs.ReadLemmas.{none-is, stands-read, assertion-simple}
 use Rattle.regress_engine_leading.proofs.failing.+fails.Goals as goal
 
 pub byte_ahead-requires-clause-kind : goal.byte_ahead-requires-clause-kind
@@ -31,26 +31,26 @@ pub returns-in-BeginCaptureGroup : goal.returns-in-BeginCaptureGroup
 returns-in-BeginCaptureGroup g t c = λ yes.
     let program = program_of c.args.program.now in
     let here = stands-read c.insns-insns.result.now c.args.program.now.insns.items c.args.at Goal c.insns-insns.ensures c.if-at-insns.false in
-    begin-stuck program (input_of (g.Input.InputIndexer.view c.args.input.now)) Forward c.args.at c.args.offset _ (stands-as program c.args.at _ _ c.in-BeginCaptureGroup.is here) (c.fails-in-BeginCaptureGroup.ensures yes)
+    begin-dead program (input_of (g.Input.InputIndexer.view c.args.input.now)) Forward c.args.at c.args.offset _ (stands-as program c.args.at _ _ c.in-BeginCaptureGroup.is here) (c.fails-in-BeginCaptureGroup.ensures yes)
 
 pub returns-in-EndCaptureGroup : goal.returns-in-EndCaptureGroup
 returns-in-EndCaptureGroup g t c = λ yes.
     let program = program_of c.args.program.now in
     let here = stands-read c.insns-insns.result.now c.args.program.now.insns.items c.args.at Goal c.insns-insns.ensures c.if-at-insns.false in
-    end-stuck program (input_of (g.Input.InputIndexer.view c.args.input.now)) Forward c.args.at c.args.offset _ (stands-as program c.args.at _ _ c.in-EndCaptureGroup.is here) (c.fails-in-EndCaptureGroup.ensures yes)
+    end-dead program (input_of (g.Input.InputIndexer.view c.args.input.now)) Forward c.args.at c.args.offset _ (stands-as program c.args.at _ _ c.in-EndCaptureGroup.is here) (c.fails-in-EndCaptureGroup.ensures yes)
 
 pub returns-in-Some : goal.returns-in-Some
 returns-in-Some g t c = λ yes.
     let program = program_of c.args.program.now in
     let here = stands-read c.insns-insns.result.now c.args.program.now.insns.items c.args.at Goal c.insns-insns.ensures c.if-at-insns.false in
-    taken-stuck program (input_of (g.Input.InputIndexer.view c.args.input.now)) Forward c.args.at c.args.offset c.in-Some.behind _ (stands-as program c.args.at _ _ c.in-ByteSeq1.is here) refl
+    taken-dead program (input_of (g.Input.InputIndexer.view c.args.input.now)) Forward c.args.at c.args.offset c.in-Some.behind _ (stands-as program c.args.at _ _ c.in-ByteSeq1.is here) refl
     (λ groups. sym c.in-Some.is ∙ c.byte_ahead.ensures.stands) (c.fails-in-Some.ensures yes)
 
 pub returns-in-None : goal.returns-in-None
 returns-in-None g t c = λ yes.
     let program = program_of c.args.program.now in
     let here = stands-read c.insns-insns.result.now c.args.program.now.insns.items c.args.at Goal c.insns-insns.ensures c.if-at-insns.false in
-    simple-stuck program (input_of (g.Input.InputIndexer.view c.args.input.now)) Forward c.args.at c.args.offset _ (stands-as program c.args.at _ _ c.in-ByteSeq1.is here) refl
+    simple-dead program (input_of (g.Input.InputIndexer.view c.args.input.now)) Forward c.args.at c.args.offset _ (stands-as program c.args.at _ _ c.in-ByteSeq1.is here) refl
     (λ groups. sym c.in-None.is ∙ c.byte_ahead.ensures.stands)
 
 pub returns-then-is_class : goal.returns-then-is_class
@@ -58,7 +58,7 @@ returns-then-is_class g t c = λ none.
     let program = program_of c.args.program.now in
     let here = stands-read c.insns-insns.result.now c.args.program.now.insns.items c.args.at Goal c.insns-insns.ensures c.if-at-insns.false in
     let class = sym c.is_class.ensures ∙ c.if-is_class.true in
-    simple-stuck program (input_of (g.Input.InputIndexer.view c.args.input.now)) Forward c.args.at c.args.offset _ here (class-simple _ class)
+    simple-dead program (input_of (g.Input.InputIndexer.view c.args.input.now)) Forward c.args.at c.args.offset _ here (class-simple _ class)
     (λ groups. none-is _ (c.is_none.ensures ∙ ap not none) ∙ c.class_ahead.ensures groups)
 
 pub holds_at-requires : goal.holds_at-requires
@@ -68,14 +68,14 @@ pub returns-then-not-holds_at : goal.returns-then-not-holds_at
 returns-then-not-holds_at g t c = λ yes.
     let program = program_of c.args.program.now in
     let here = stands-read c.insns-insns.result.now c.args.program.now.insns.items c.args.at Goal c.insns-insns.ensures c.if-at-insns.false in
-    let edge = sym c.is_edge.ensures ∙ c.if-is_edge.true in
-    simple-stuck program (input_of (g.Input.InputIndexer.view c.args.input.now)) Forward c.args.at c.args.offset _ here (edge-simple _ edge)
+    let edge = sym c.is_assertion.ensures ∙ c.if-is_assertion.true in
+    simple-dead program (input_of (g.Input.InputIndexer.view c.args.input.now)) Forward c.args.at c.args.offset _ here (assertion-simple _ edge)
     (λ groups. c.if-not-holds_at.ensures program true groups edge)
 
-pub returns-then-is_edge : goal.returns-then-is_edge
-returns-then-is_edge g t c = λ yes.
+pub returns-then-is_assertion : goal.returns-then-is_assertion
+returns-then-is_assertion g t c = λ yes.
     let program = program_of c.args.program.now in
     let here = stands-read c.insns-insns.result.now c.args.program.now.insns.items c.args.at Goal c.insns-insns.ensures c.if-at-insns.false in
-    let edge = sym c.is_edge.ensures ∙ c.if-is_edge.true in
-    taken-stuck program (input_of (g.Input.InputIndexer.view c.args.input.now)) Forward c.args.at c.args.offset c.args.offset _ here (edge-simple _ edge)
+    let edge = sym c.is_assertion.ensures ∙ c.if-is_assertion.true in
+    taken-dead program (input_of (g.Input.InputIndexer.view c.args.input.now)) Forward c.args.at c.args.offset c.args.offset _ here (assertion-simple _ edge)
     (λ groups. c.if-not-holds_at.ensures program true groups edge) (c.fails.ensures yes)

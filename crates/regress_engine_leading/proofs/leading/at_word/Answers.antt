@@ -2,8 +2,8 @@ use mathlib.Core.Bool.{beq}
 use Rattle.std.proofs.Common.{◌≡◌, Bool, true, false, not, refl, sym, ◌∙◌}
 use Rattle.regress_engine_code.specs.Standing.{program_of}
 use Rattle.regress_engine_input.specs.Views.{input_of}
-use Rattle.regress_engine_sought.proofs.PlaceLemmas.{can-read}
-use Rattle.regress_engine_sought.proofs.SearchLemmas.{search-less}
+use Rattle.regress_engine_search.proofs.PlaceLemmas.{can-read}
+use Rattle.regress_engine_search.proofs.SearchLemmas.{search-less}
 use Rattle.regress_engine_singles.proofs.BoundaryLemmas.{inside-here, inside-on}
 use Rattle.regress_engine_leading.proofs.ComesLemmas.{comes-boundary}
 use Rattle.regress_engine_leading.proofs.leading.at_word.Goals as goal

@@ -6,8 +6,8 @@ use Rattle.regress_engine_code.specs.Standing.{program_of}
 use Rattle.regress_engine_input.specs.Views.{input_of, reading_of}
 use Rattle.regress_engine_runs.specs.Meets.{IsAtPlace}
 use Rattle.regress_engine_insn.specs.declared.insn.Insn.TheVariants.{Goal}
-use Rattle.regress_engine_sought.proofs.InsnLemmas.{stands-as}
-use Rattle.regress_engine_sought.proofs.PlaceLemmas.{can-read}
+use Rattle.regress_engine_search.proofs.InsnLemmas.{stands-as}
+use Rattle.regress_engine_search.proofs.PlaceLemmas.{can-read}
 use Rattle.regress_engine_singles.proofs.LeadingLemmas.{class-fits, class-place, class-takes, passes-over}
 use Rattle.regress_engine_advance.proofs.ReadLemmas.{none-is, stands-read}
 use Rattle.regress_engine_advance.proofs.FarLemmas.{far-place}
@@ -142,6 +142,6 @@ returns g c = λ lead.
       body_class = body_class;
       stops = λ groups. none-is _ (sym c.is_some.ensures ∙ c.if-is_some.false) ∙ c.class_ahead-2.ensures groups;
       behind = c.fails.ensures c.if-not-fails.false;
-      apart = λ groups o q e. taken.stuck (input_of v) true o (apart groups o q e);
+      apart = λ groups o q e. taken.dead (input_of v) true o (apart groups o q e);
     })
     lead c.args.start c.in_ok-near.near c.requires.place (λ groups. sym (c.class_ahead.ensures groups) ∙ c.in_ok-near.was) (λ groups. sym (c.in_ok-far.ensures groups))

@@ -1,7 +1,7 @@
 use Rattle.std.proofs.Common.{sym, ◌∙◌}
 use Rattle.regress_engine_code.specs.Standing.{program_of}
-use Rattle.regress_engine_sought.proofs.PlaceLemmas.{can-read}
-use Rattle.regress_engine_sought.proofs.SearchLemmas.{search-less}
+use Rattle.regress_engine_search.proofs.PlaceLemmas.{can-read}
+use Rattle.regress_engine_search.proofs.SearchLemmas.{search-less}
 use Rattle.regress_engine_singles.proofs.LineLemmas.{in-line-here, in-line-on, passes-line}
 use Rattle.regress_engine_leading.proofs.leading.passed_line.Goals as goal
 

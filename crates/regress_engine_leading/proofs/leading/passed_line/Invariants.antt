@@ -3,7 +3,7 @@ use Rattle.regress_engine_code.specs.Standing.{program_of}
 use Rattle.regress_engine_singles.specs.Passed.{IsInLine}
 use Rattle.regress_engine_leading.proofs.leading.passed_line.Given as goal
 
--- up to here nothing is led to
+-- up to here no match can be reached
 abbrev pub invariant-places : goal.invariant-places
 invariant-places g l = IsInLine (program_of l.program) (g.Input.InputIndexer.view l.input) l.start l.at
 

@@ -1,6 +1,6 @@
 use Rattle.std.proofs.Common.{sym}
 use Rattle.regress_engine_code.specs.Standing.{program_of}
-use Rattle.regress_engine_sought.proofs.PlaceLemmas.{can-read}
+use Rattle.regress_engine_search.proofs.PlaceLemmas.{can-read}
 use Rattle.regress_engine_singles.proofs.LeadingLemmas.{passes-one}
 use Rattle.regress_engine_leading.proofs.leading.passed_one.Goals as goal
 

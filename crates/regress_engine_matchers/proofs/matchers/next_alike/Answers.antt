@@ -1,13 +1,13 @@
 use Rattle.std.proofs.Common.{sym, ap, ◌∙◌}
 use Rattle.regress_meaning.specs.Steps.{only_if}
-use Rattle.regress_engine_input.specs.Views.{way, input_of}
+use Rattle.regress_engine_input.specs.Views.{direction_of, input_of}
 use Rattle.regress_engine_matchers.proofs.MatcherLemmas.{canon-is, alike-here}
 use Rattle.regress_engine_matchers.proofs.matchers.next_alike.Goals as goal
 
 pub returns : goal.returns
 returns g c =
     let v = g.Input.InputIndexer.view c.args.input.now in
-    let dir = way g.Dir.Direction.FORWARD in
+    let dir = direction_of g.Dir.Direction.FORWARD in
     let read = sym c.in-Some.ensures.point in
     ap (λ b. only_if b (g.Input.Position.PositionType.offset c.next.new.pos)) c.fold_equals.ensures
     ∙ alike-here (input_of v) dir (g.Input.CharProps.CharProperties.canon v.table v.unicode) _ _ _ _ (sym read) c.in-Some.ensures.position

@@ -7,7 +7,7 @@ use Rattle.regress_front_nodes.specs.TreeMeaning.{bracket_has}
 use Rattle.regress_engine_input.specs.Views.{input_of}
 use Rattle.regress_engine_insn.specs.Instructions as code
 use Rattle.regress_engine_code.specs.Standing.{program_of}
-use Rattle.regress_engine_sought.proofs.BracketLemmas.{bracket_takes}
+use Rattle.regress_engine_search.proofs.BracketLemmas.{bracket_takes}
 use Rattle.regress_engine_singles.proofs.PassingLemmas.{by-members, far-taken}
 use Rattle.regress_engine_singles.proofs.ahead.as_far_ahead.Goals as goal
 

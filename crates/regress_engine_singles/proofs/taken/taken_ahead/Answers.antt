@@ -8,7 +8,7 @@ use Rattle.regress_front_nodes.specs.TreeMeaning.{bracket_has}
 use Rattle.regress_engine_input.specs.Views.{input_of}
 use Rattle.regress_engine_insn.specs.Instructions as code
 use Rattle.regress_engine_code.specs.Standing.{program_of}
-use Rattle.regress_engine_sought.proofs.BracketLemmas.{bracket_takes}
+use Rattle.regress_engine_search.proofs.BracketLemmas.{bracket_takes}
 use Rattle.regress_engine_singles.proofs.PassingLemmas.{by-members, passed-alike, option-taken}
 use Rattle.regress_engine_singles.proofs.taken.taken_ahead.Goals as goal
 

@@ -3,7 +3,7 @@ use Rattle.std.proofs.lemmas.List.{length-map}
 use Rattle.regress_front_nodes.specs.Trees.{tree}
 use Rattle.regress_front_nodes.proofs.TreeLaws.{tree-Cat}
 use Rattle.regress_front_opt.proofs.NodeKinds.{no-cat}
-use Rattle.regress_front_opt.proofs.TurnLemmas.{short-cat, no_cat-short}
+use Rattle.regress_front_opt.proofs.AdvanceLemmas.{short-cat, no_cat-short}
 use Rattle.regress_front_opt.proofs.cats.has_few_parts.Goals as goal
 
 pub returns-in-Cat : goal.returns-in-Cat

@@ -1,10 +1,10 @@
 use Rattle.std.proofs.Common.{◌∙◌, ◌<◌, ◌^◌, length, refl, sym, arith}
 use Rattle.regress_front_sets.proofs.SetLemmas.{first_interval}
-use Rattle.regress_front_sets.proofs.HalvingLemmas.{IsSought-start, IsSought-up, IsSought-down, Sought-found, one_more, position-none}
+use Rattle.regress_front_sets.proofs.HalvingLemmas.{IsSearched-start, IsSearched-up, IsSearched-down, Searched-found, one_more, position-none}
 use Rattle.regress_front_sets.proofs.halving.bracket_index.Goals as goal
 
 pub loop-low-init : goal.loop-low-init
-loop-low-init g c = rw c.len-high.ensures (IsSought-start _ _ _)
+loop-low-init g c = rw c.len-high.ensures (IsSearched-start _ _ _)
 
 pub compare-requires-clause-room : goal.compare-requires-clause-room
 compare-requires-clause-room g c =
@@ -16,19 +16,19 @@ compare-requires-clause-room g c =
 pub loop-low-preserved-in-Less : goal.loop-low-preserved-in-Less
 loop-low-preserved-in-Less g c =
     let ascend = g.met.P.Probes.ascend c.loop-low.probes in
-    IsSought-up _ _ _ _ _ _ _ _ _ ascend c.loop-low.invariant c.loop-low-test.true c.compare.ensures.kept c.compare.ensures.counted
+    IsSearched-up _ _ _ _ _ _ _ _ _ ascend c.loop-low.invariant c.loop-low-test.true c.compare.ensures.kept c.compare.ensures.counted
     (sym (c.compare.ensures.answer first_interval) ∙ c.in-Less.is)
 
 pub loop-low-preserved : goal.loop-low-preserved
 loop-low-preserved g c =
     let ascend = g.met.P.Probes.ascend c.loop-low.probes in
-    IsSought-down _ _ _ _ _ _ _ _ _ ascend c.loop-low.invariant c.loop-low-test.true c.compare.ensures.kept c.compare.ensures.counted
+    IsSearched-down _ _ _ _ _ _ _ _ _ ascend c.loop-low.invariant c.loop-low-test.true c.compare.ensures.kept c.compare.ensures.counted
     (sym (c.compare.ensures.answer first_interval) ∙ c.in-Greater.is)
 
 pub returns-in-Equal-clause-index : goal.returns-in-Equal-clause-index
 returns-in-Equal-clause-index g c =
     let ascend = g.met.P.Probes.ascend c.loop-low.probes in
-    Sought-found _ _ _ _ _ _ _ _ _ ascend c.loop-low.invariant c.loop-low-test.true c.compare.ensures.kept c.compare.ensures.counted
+    Searched-found _ _ _ _ _ _ _ _ _ ascend c.loop-low.invariant c.loop-low-test.true c.compare.ensures.kept c.compare.ensures.counted
     (sym (c.compare.ensures.answer first_interval) ∙ c.in-Equal.is)
 
 pub returns-in-Equal-clause-counted : goal.returns-in-Equal-clause-counted

@@ -2,10 +2,10 @@ use Rattle.std.proofs.Common.{◌++◌, ◌-◌, ◌<◌, arith, map, sym, ap, �
 use Rattle.std.proofs.lemmas.List.{length-map}
 use Rattle.regress_engine_insn.specs.InsnViews.{instruction}
 use Rattle.regress_engine_code.specs.Standing.{program_of}
-use Rattle.regress_engine_input.specs.Views.{way, input_of}
+use Rattle.regress_engine_input.specs.Views.{direction_of, input_of}
 use Rattle.regress_engine_runs.specs.Runs.{one_by_one}
-use Rattle.regress_engine_sought.specs.StateViews.{marks_of}
-use Rattle.regress_engine_sought.proofs.ReadyLemmas.{body-asked, body-next, body-at}
+use Rattle.regress_engine_search.specs.StateViews.{marks_of}
+use Rattle.regress_engine_search.proofs.ReadyLemmas.{body-asked, body-next, body-at}
 use Rattle.regress_engine_copying.proofs.EndLemmas.{ends-full, ends-stop, ends-more, put-last}
 use Rattle.regress_engine_copying.proofs.attempt.Attempt.collect.Goals as goal
 
@@ -15,7 +15,7 @@ iterations-init g c =
     let v = g.Input.InputIndexer.view c.args.self.now.input in
     let (at, here, body) = c.requires.body in
     record {
-      rest = ap (λ xs. xs ++ one_by_one program (input_of v) c.args.times (instruction c.args.insn.now) (way c.args.forward) (map marks_of c.args.groups.now) c.args.offset) c.clear.ensures.items;
+      rest = ap (λ xs. xs ++ one_by_one program (input_of v) c.args.times (instruction c.args.insn.now) (direction_of c.args.forward) (map marks_of c.args.groups.now) c.args.offset) c.clear.ensures.items;
       place = body.3;
     }
 
@@ -24,7 +24,7 @@ returns-then-left-eq0 g c =
     let program = program_of c.args.self.now.program.now in
     let v = g.Input.InputIndexer.view c.args.self.now.input in
     c.in_ok-push.ensures.items
-    ∙ ap (λ xs. c.iterations.ends.items ++ xs) (sym (ends-full program v (instruction c.args.insn.now) (way c.args.forward) (map marks_of c.args.groups.now) c.iterations.left c.iterations.behind c.if-left-eq0.true))
+    ∙ ap (λ xs. c.iterations.ends.items ++ xs) (sym (ends-full program v (instruction c.args.insn.now) (direction_of c.args.forward) (map marks_of c.args.groups.now) c.iterations.left c.iterations.behind c.if-left-eq0.true))
     ∙ c.iterations.invariant.rest
 
 pub advance-requires-clause-ready : goal.advance-requires-clause-ready
@@ -40,7 +40,7 @@ returns-in_default g c =
     let program = program_of c.args.self.now.program.now in
     let v = g.Input.InputIndexer.view c.args.self.now.input in
     c.in_ok-push.ensures.items
-    ∙ ap (λ xs. c.iterations.ends.items ++ xs) (sym (ends-stop program v (instruction c.args.insn.now) (way c.args.forward) (map marks_of c.args.groups.now) c.iterations.left c.iterations.behind c.in_default.ensures))
+    ∙ ap (λ xs. c.iterations.ends.items ++ xs) (sym (ends-stop program v (instruction c.args.insn.now) (direction_of c.args.forward) (map marks_of c.args.groups.now) c.iterations.left c.iterations.behind c.in_default.ensures))
     ∙ c.iterations.invariant.rest
 
 pub iterations-preserved : goal.iterations-preserved
@@ -48,7 +48,7 @@ iterations-preserved g c =
     let program = program_of c.args.self.now.program.now in
     let v = g.Input.InputIndexer.view c.args.self.now.input in
     let i = instruction c.args.insn.now in
-    let dir = way c.args.forward in
+    let dir = direction_of c.args.forward in
     let gs = map marks_of c.args.groups.now in
     let (at, here, body) = c.requires.body in
     let rest = one_by_one program (input_of v) (c.iterations.left - 1) i dir gs c.in-Some.next in

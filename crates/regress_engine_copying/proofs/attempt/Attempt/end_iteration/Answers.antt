@@ -3,8 +3,8 @@ use Rattle.std.proofs.lemmas.Result.{on_ok_weaker}
 use Rattle.regress_engine_insn.specs.Instructions.{enter_loop, loop_again}
 use Rattle.regress_engine_insn.specs.InsnViews.{fields}
 use Rattle.regress_engine_code.specs.Standing.{program_of}
-use Rattle.regress_engine_input.specs.Views.{way, input_of}
-use Rattle.regress_engine_sought.proofs.InsnLemmas.{stands-as, again-successors, no-repetition}
+use Rattle.regress_engine_input.specs.Views.{direction_of, input_of}
+use Rattle.regress_engine_search.proofs.InsnLemmas.{stands-as, again-successors, no-repetition}
 use Rattle.regress_engine_copying.specs.StateOf.{state_of}
 use Rattle.regress_engine_copying.specs.Held.{held, put}
 use Rattle.regress_engine_copying.proofs.attempt.Attempt.end_iteration.Goals as goal
@@ -28,7 +28,7 @@ returns-in-EnterLoop g c =
     let input = input_of (g.Input.InputIndexer.view c.args.self.now.input) in
     let here = stands-as program c.args.begin _ _ c.in-EnterLoop.is c.instruction.ensures.stands in
     on_ok_weaker c.again.result (λ is. is ∙ ap (λ ss. put ss (held c.args.stack.now))
-    (sym (again-successors program input (way c.args.stack.now.forward) (state_of c.args.state) c.args.begin (fields c.in-EnterLoop.repetition) here))) c.again.ensures
+    (sym (again-successors program input (direction_of c.args.stack.now.forward) (state_of c.args.state) c.args.begin (fields c.in-EnterLoop.repetition) here))) c.again.ensures
 
 pub returns-in_default : goal.returns-in_default
 returns-in_default g c =

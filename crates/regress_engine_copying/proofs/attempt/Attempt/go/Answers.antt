@@ -1,7 +1,7 @@
 use Rattle.std.proofs.Common.{◌≡◌, ◌+◌, ◌-◌, suc, subst, refl, arith}
 use Rattle.regress_engine_insn.specs.Instructions.{Stands}
 use Rattle.regress_engine_code.specs.Standing.{program_of}
-use Rattle.regress_engine_sought.proofs.InsnLemmas.{stands-as}
+use Rattle.regress_engine_search.proofs.InsnLemmas.{stands-as}
 use Rattle.regress_engine_copying.proofs.attempt.Attempt.go.Goals as goal
 
 pub mark-requires-clause-there : goal.mark-requires-clause-there

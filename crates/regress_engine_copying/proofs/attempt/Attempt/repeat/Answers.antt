@@ -2,10 +2,10 @@ use Rattle.std.proofs.Common.{◌+◌, ◌-◌, map, reverse, sym, ap, ◌∙◌
 use Rattle.std.proofs.lemmas.Result.{on_ok_weaker}
 use Rattle.regress_engine_insn.specs.InsnViews.{instruction}
 use Rattle.regress_engine_code.specs.Standing.{program_of}
-use Rattle.regress_engine_input.specs.Views.{way, input_of}
+use Rattle.regress_engine_input.specs.Views.{direction_of, input_of}
 use Rattle.regress_engine_runs.specs.Runs.{after_times, one_by_one}
-use Rattle.regress_engine_sought.specs.StateViews.{marks_of}
-use Rattle.regress_engine_sought.proofs.ReadyLemmas.{body-at}
+use Rattle.regress_engine_search.specs.StateViews.{marks_of}
+use Rattle.regress_engine_search.proofs.ReadyLemmas.{body-at}
 use Rattle.regress_engine_copying.specs.StateOf.{state_of}
 use Rattle.regress_engine_copying.specs.Held.{held, put}
 use Rattle.regress_engine_copying.proofs.EndLemmas.{ends_at, repeat-few, repeat-greedy, repeat-lazy}
@@ -17,7 +17,7 @@ returns-in_default g c =
     let v = g.Input.InputIndexer.view c.args.self.now.input in
     let i = instruction c.instruction-insn.result.now in
     let s = state_of c.args.state.now in
-    let dir = way c.args.stack.now.forward in
+    let dir = direction_of c.args.stack.now.forward in
     ap (λ ss. put ss (held c.args.stack.now))
     (repeat-few program v i s dir c.instruction-insn.ensures.stands c.args.least c.args.most c.args.greedy
     (ap (λ gs. after_times program (input_of v) c.args.least i dir (map marks_of gs) s.offset) (sym c.deref.ensures.value) ∙ sym c.in_default.ensures.behind))
@@ -28,7 +28,7 @@ returns-then-greedy g c =
     let v = g.Input.InputIndexer.view c.args.self.now.input in
     let i = instruction c.instruction-insn.result.now in
     let s = state_of c.args.state.now in
-    let dir = way c.args.stack.now.forward in
+    let dir = direction_of c.args.stack.now.forward in
     let here = c.instruction-insn.ensures.stands in
     on_ok_weaker c.push_each.result (λ is. is ∙ ap (λ ss. put ss (held c.args.stack.now))
     (ap (λ xs. ends_at program v i s dir here c.args.least c.args.most s (reverse xs)) c.as_slice.ensures.value
@@ -44,7 +44,7 @@ returns g c =
     let v = g.Input.InputIndexer.view c.args.self.now.input in
     let i = instruction c.instruction-insn.result.now in
     let s = state_of c.args.state.now in
-    let dir = way c.args.stack.now.forward in
+    let dir = direction_of c.args.stack.now.forward in
     let here = c.instruction-insn.ensures.stands in
     on_ok_weaker c.push_each-2.result (λ is. is ∙ ap (λ ss. put ss (held c.args.stack.now))
     (ap (λ xs. ends_at program v i s dir here c.args.least c.args.most s (reverse xs)) (c.as_slice-2.ensures.value ∙ c.reverse.ensures.items)

@@ -1,9 +1,9 @@
 use Rattle.std.specs.Prelude.{replicate, option_map}
 use Rattle.std.proofs.Common.{◌≡◌, ℕ, true, [], ◌∷◌, Some, refl, sym, ap, ap₂, ◌∙◌, subst}
 use Rattle.regress_engine_code.specs.Standing.{program_of}
-use Rattle.regress_engine_input.specs.Views.{way, input_of}
+use Rattle.regress_engine_input.specs.Views.{direction_of, input_of}
 use Rattle.regress_engine_runs.specs.States.{Whole, unset, first_state}
-use Rattle.regress_engine_sought.proofs.TaskLemmas.{tried-stands, tried-reads, tried-on, tried-less, tried-ends}
+use Rattle.regress_engine_search.proofs.TaskLemmas.{tried-stands, tried-reads, tried-on, tried-less, tried-ends}
 use Rattle.regress_engine_copying.specs.Held.{held, tried}
 use Rattle.regress_engine_copying.specs.StateOf.{state_of, groups_of}
 use Rattle.regress_engine_copying.specs.Tasks.{work_of, task_of}
@@ -36,7 +36,7 @@ step-requires-clause-stands g c =
     let v = g.Input.InputIndexer.view c.args.self.now.input in
     let s = state_of c.in-Some.state in
     let h = held c.next.new.self in
-    tried-stands program v _ _ (way h.forward) s (work_of h.entries)
+    tried-stands program v _ _ (direction_of h.forward) s (work_of h.entries)
     (tried-on program v _ _ 0 _ (task_of (s ∷ []) h) (c.in-Some.ensures.leads program (input_of v)) c.loop-state.invariant.tried)
 
 pub step-requires-clause-reads : goal.step-requires-clause-reads
@@ -45,7 +45,7 @@ step-requires-clause-reads g c =
     let v = g.Input.InputIndexer.view c.args.self.now.input in
     let s = state_of c.in-Some.state in
     let h = held c.next.new.self in
-    tried-reads program v _ _ (way h.forward) s (work_of h.entries)
+    tried-reads program v _ _ (direction_of h.forward) s (work_of h.entries)
     (tried-on program v _ _ 0 _ (task_of (s ∷ []) h) (c.in-Some.ensures.leads program (input_of v)) c.loop-state.invariant.tried)
 
 pub returns-in-Some-2 : goal.returns-in-Some-2

@@ -1,7 +1,7 @@
 use Rattle.std.proofs.Common.{suc, []}
 use Rattle.regress_engine_code.specs.Standing.{program_of}
 use Rattle.regress_engine_input.specs.Views.{input_of}
-use Rattle.regress_engine_sought.specs.Tasks.{IsTried, left_of}
+use Rattle.regress_engine_search.specs.Tasks.{IsTried, left_of}
 use Rattle.regress_engine_copying.specs.Held.{held}
 use Rattle.regress_engine_copying.specs.Sound.{AreSound}
 use Rattle.regress_engine_copying.specs.Tasks.{task_of}

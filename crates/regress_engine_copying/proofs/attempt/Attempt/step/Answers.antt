@@ -1,14 +1,14 @@
 use Rattle.std.proofs.Common.{true, false, refl}
 use Rattle.regress_engine_insn.specs.InsnViews.{instruction}
 use Rattle.regress_engine_code.specs.Standing.{program_of}
-use Rattle.regress_engine_input.specs.Views.{way, input_of}
-use Rattle.regress_engine_sought.proofs.InsnLemmas.{stands-as}
+use Rattle.regress_engine_input.specs.Views.{direction_of, input_of}
+use Rattle.regress_engine_search.proofs.InsnLemmas.{stands-as}
 use Rattle.regress_engine_copying.specs.declared.stack.Frame as stack
 use Rattle.regress_engine_copying.specs.StateOf.{state_of}
 use Rattle.regress_engine_copying.specs.Held.{held, frame_of}
 use Rattle.regress_engine_copying.proofs.PlainLemmas.{others-plain}
-use Rattle.regress_engine_sought.specs.declared.submatch.Submatch.TheVariants.{Lookaround, Atomic}
-use Rattle.regress_engine_sought.specs.Submatches.{submatch_of, reads_forward}
+use Rattle.regress_engine_search.specs.declared.submatch.Submatch.TheVariants.{Lookaround, Atomic}
+use Rattle.regress_engine_search.specs.Submatches.{submatch_of, reads_forward}
 use Rattle.regress_engine_copying.proofs.SoundLemmas.{plain-sound, submatch-sound}
 use Rattle.regress_engine_copying.proofs.TaskLemmas.{plain-leads, submatch-leads}
 use Rattle.regress_engine_copying.proofs.attempt.Attempt.step.Goals as goal
@@ -83,5 +83,5 @@ returns-in_ok-go-in_default g c =
     let plain = others-plain c.instruction-insn.result.now c.in_default.not-Goal c.in_default.not-Lookahead c.in_default.not-Lookbehind c.in_default.not-Atomic in
     record {
       leads = plain-leads program input i s h (held c.go.new.stack) c.instruction-insn.ensures.stands plain c.in_ok-go-in_default.ensures;
-      sound = plain-sound program input i (way h.forward) s h (held c.go.new.stack) c.in_ok-go-in_default.ensures c.requires.whole c.requires.sound;
+      sound = plain-sound program input i (direction_of h.forward) s h (held c.go.new.stack) c.in_ok-go-in_default.ensures c.requires.whole c.requires.sound;
     }

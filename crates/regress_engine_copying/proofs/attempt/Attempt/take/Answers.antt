@@ -2,11 +2,11 @@ use Rattle.std.proofs.Common.{map, sym, ap, ◌∙◌, subst}
 use Rattle.std.proofs.lemmas.Result.{on_ok_weaker}
 use Rattle.regress_engine_insn.specs.InsnViews.{instruction}
 use Rattle.regress_engine_code.specs.Standing.{program_of}
-use Rattle.regress_engine_input.specs.Views.{way, input_of}
+use Rattle.regress_engine_input.specs.Views.{direction_of, input_of}
 use Rattle.regress_engine_runs.specs.Runs.{advance}
-use Rattle.regress_engine_sought.specs.StateViews.{marks_of}
-use Rattle.regress_engine_sought.specs.Ready.{IsReady}
-use Rattle.regress_engine_sought.proofs.ReadyLemmas.{simple-ready}
+use Rattle.regress_engine_search.specs.StateViews.{marks_of}
+use Rattle.regress_engine_search.specs.Ready.{IsReady}
+use Rattle.regress_engine_search.proofs.ReadyLemmas.{simple-ready}
 use Rattle.regress_engine_copying.specs.StateOf.{state_of}
 use Rattle.regress_engine_copying.specs.Held.{held, put}
 use Rattle.regress_engine_copying.proofs.PlainLemmas.{take-none, take-some}
@@ -24,7 +24,7 @@ returns-in_default g c =
     let program = program_of c.args.self.now.program.now in
     let input = input_of (g.Input.InputIndexer.view c.args.self.now.input) in
     let i = instruction c.args.insn.now in
-    let dir = way c.args.stack.now.forward in
+    let dir = direction_of c.args.stack.now.forward in
     ap (λ ss. put ss (held c.args.stack.now)) (take-none program input i dir (state_of c.args.state) c.requires.simple
     (c.in_default.ensures ∙ ap (λ gs. advance program input i dir (map marks_of gs) c.args.state.offset) c.deref.ensures.value))
 
@@ -33,6 +33,6 @@ returns g c =
     let program = program_of c.args.self.now.program.now in
     let input = input_of (g.Input.InputIndexer.view c.args.self.now.input) in
     let i = instruction c.args.insn.now in
-    let dir = way c.args.stack.now.forward in
+    let dir = direction_of c.args.stack.now.forward in
     on_ok_weaker c.push.result (λ is. is ∙ ap (λ ss. put ss (held c.args.stack.now)) (take-some program input i dir (state_of c.args.state) c.requires.simple c.in-Some.next
     (c.in-Some.ensures ∙ ap (λ gs. advance program input i dir (map marks_of gs) c.args.state.offset) c.deref.ensures.value))) c.push.ensures

@@ -4,41 +4,41 @@ use Rattle.regress_match.specs.Views.{ends, item_of}
 use Rattle.regress_engine_code.specs.Standing.{program_of}
 use Rattle.regress_engine_input.specs.Views.{input_of}
 use Rattle.regress_engine_runs.specs.States.{range_of}
-use Rattle.regress_engine_sought.specs.StateViews.{marks_of}
-use Rattle.regress_engine_sought.specs.Answering.{IsAnswer}
-use Rattle.regress_engine_sought.specs.Sought.{IsSought}
-use Rattle.regress_engine_sought.proofs.SearchLemmas.{outcome-inside, outcome-match}
+use Rattle.regress_engine_search.specs.StateViews.{marks_of}
+use Rattle.regress_engine_search.specs.Answering.{IsAnswer}
+use Rattle.regress_engine_search.specs.Search.{IsSearchable}
+use Rattle.regress_engine_search.proofs.SearchLemmas.{outcome-inside, outcome-match}
 use Rattle.regress_engine_copying.specs.StateOf.{groups_of}
 use Rattle.regress_engine_copying.proofs.search.PikeVMExecutor.match_at.Goals as goal
 
 pub invariant_of-attempt : goal.invariant_of-attempt
 invariant_of-attempt g c =
-    let subject = c.args.self.now.subject in
-    let sought = subst (IsSought (program_of subject.program.now)) (g.met.Input.ExecutorInput.shows subject.input) subject.sought in
-    record { ends = sought.ends c.args.offset c.requires }
+    let context = c.args.self.now.context in
+    let searchable = subst (IsSearchable (program_of context.program.now)) (g.met.Input.ExecutorInput.shows context.input) context.searchable in
+    record { ends = searchable.ends c.args.offset c.requires }
 
 pub run-requires-clause-suits : goal.run-requires-clause-suits
 run-requires-clause-suits g c =
-    let subject = c.args.self.now.subject in
-    let sought = subst (IsSought (program_of subject.program.now)) (g.met.Input.ExecutorInput.shows subject.input) subject.sought in
-    sought.suits
+    let context = c.args.self.now.context in
+    let searchable = subst (IsSearchable (program_of context.program.now)) (g.met.Input.ExecutorInput.shows context.input) context.searchable in
+    searchable.suits
 
 pub run-requires-clause-reads : goal.run-requires-clause-reads
 run-requires-clause-reads g c =
-    let subject = c.args.self.now.subject in
-    let sought = subst (IsSought (program_of subject.program.now)) (g.met.Input.ExecutorInput.shows subject.input) subject.sought in
-    sought.reads c.args.offset c.requires
+    let context = c.args.self.now.context in
+    let searchable = subst (IsSearchable (program_of context.program.now)) (g.met.Input.ExecutorInput.shows context.input) context.searchable in
+    searchable.reads c.args.offset c.requires
 
 pub returns-in_default-clause-outcome : goal.returns-in_default-clause-outcome
 returns-in_default-clause-outcome g c =
-    let program = program_of c.args.self.now.subject.program.now in
-    let input = input_of (g.Input.InputIndexer.view c.args.self.now.subject.input) in
+    let program = program_of c.args.self.now.context.program.now in
+    let input = input_of (g.Input.InputIndexer.view c.args.self.now.context.input) in
     subst (λ x. IsAnswer program input c.args.offset (option_map (λ s. s.offset) x) (groups_of x)) c.in_default.is c.in_ok-found.ensures
 
 pub returns-clause-outcome : goal.returns-clause-outcome
 returns-clause-outcome g c =
-    let program = program_of c.args.self.now.subject.program.now in
-    let input = input_of (g.Input.InputIndexer.view c.args.self.now.subject.input) in
+    let program = program_of c.args.self.now.context.program.now in
+    let input = input_of (g.Input.InputIndexer.view c.args.self.now.context.input) in
     outcome-match program input c.args.offset c.in-Some.found.offset (groups_of (Some c.in-Some.found)) c.new.result c.in-Some.found.groups.items
     (subst (λ x. IsAnswer program input c.args.offset (option_map (λ s. s.offset) x) (groups_of x)) c.in-Some.is c.in_ok-found.ensures)
     refl (ap (λ r. r.start) c.new.ensures.range) (ap (λ r. r.end) c.new.ensures.range)
@@ -46,7 +46,7 @@ returns-clause-outcome g c =
 
 pub returns-clause-inside : goal.returns-clause-inside
 returns-clause-inside g c =
-    let subject = c.args.self.now.subject in
-    outcome-inside (program_of subject.program.now) (g.Input.InputIndexer.view subject.input)
-    (subst (IsSought (program_of subject.program.now)) (g.met.Input.ExecutorInput.shows subject.input) subject.sought)
+    let context = c.args.self.now.context in
+    outcome-inside (program_of context.program.now) (g.Input.InputIndexer.view context.input)
+    (subst (IsSearchable (program_of context.program.now)) (g.met.Input.ExecutorInput.shows context.input) context.searchable)
     c.args.offset c.requires (item_of c.new.result) (returns-clause-outcome g c)

@@ -2,15 +2,15 @@ use Rattle.std.proofs.Common.{◌≡◌, ◌-◌, length}
 use Rattle.regress_engine_code.specs.Standing.{program_of}
 use Rattle.regress_engine_input.specs.Views.{input_of, reading_of}
 use Rattle.regress_engine_runs.specs.Meets.{IsAtPlace}
-use Rattle.regress_engine_sought.proofs.SearchLemmas.{FindsOn}
+use Rattle.regress_engine_search.proofs.SearchLemmas.{FindsOn}
 use Rattle.regress_engine_copying.proofs.search.PikeVMExecutor.search.Given as goal
 
--- what a search from here finds is what is sought
+-- what a search from here finds is what is searched for
 abbrev pub invariant-places : goal.invariant-places
 invariant-places g l = record {
   finds : FindsOn (program_of l.program) (input_of (g.Input.InputIndexer.view l.input)) l.offset l.from;
   place : IsAtPlace (reading_of (g.Input.InputIndexer.view l.input)) l.from;
-  kept : l.self.subject ≡ l.initial.self.subject;
+  kept : l.self.context ≡ l.initial.self.context;
 }
 
 abbrev pub decreases-places : goal.decreases-places

@@ -1,6 +1,6 @@
 use Rattle.std.proofs.Common.{ℕ, length, refl, sym, ap, ap₂, ◌∙◌, arith}
 use Rattle.regress_engine_runs.specs.States.{Whole}
-use Rattle.regress_engine_sought.specs.Submatches.{submatch_of, end_offset}
+use Rattle.regress_engine_search.specs.Submatches.{submatch_of, end_offset}
 use Rattle.regress_engine_copying.specs.StateOf.{state_of}
 use Rattle.regress_engine_copying.specs.Held.{held}
 use Rattle.regress_engine_copying.proofs.LeaveLemmas.{leaves-all, leaves-negated, leaves-positive}

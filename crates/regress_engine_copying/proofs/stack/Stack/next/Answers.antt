@@ -1,6 +1,6 @@
 use Rattle.std.proofs.Common.{[], ◌∷◌, sym, subst}
-use Rattle.regress_engine_sought.specs.Tasks.{Leads}
-use Rattle.regress_engine_sought.proofs.TaskLemmas.{leads-then}
+use Rattle.regress_engine_search.specs.Tasks.{Leads}
+use Rattle.regress_engine_search.proofs.TaskLemmas.{leads-then}
 use Rattle.regress_engine_copying.specs.StateOf.{state_of}
 use Rattle.regress_engine_copying.specs.Held.{Held, held}
 use Rattle.regress_engine_copying.specs.Sound.{AreSound}

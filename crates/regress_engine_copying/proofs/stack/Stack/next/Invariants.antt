@@ -1,7 +1,7 @@
 use Rattle.std.proofs.Common.{[], length}
 use Rattle.regress_meaning.specs.Inputs.{Input}
 use Rattle.regress_engine_insn.specs.Instructions.{Program}
-use Rattle.regress_engine_sought.specs.Tasks.{Leads}
+use Rattle.regress_engine_search.specs.Tasks.{Leads}
 use Rattle.regress_engine_copying.specs.Held.{held}
 use Rattle.regress_engine_copying.specs.Sound.{AreSound}
 use Rattle.regress_engine_copying.specs.Tasks.{task_of}

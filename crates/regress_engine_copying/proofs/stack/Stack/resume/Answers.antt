@@ -1,5 +1,5 @@
 use Rattle.std.proofs.Common.{[], ◌∷◌, None, Some, sym, ap, ◌∙◌, subst}
-use Rattle.regress_engine_sought.specs.Tasks.{Leads}
+use Rattle.regress_engine_search.specs.Tasks.{Leads}
 use Rattle.regress_engine_copying.specs.StateOf.{state_of}
 use Rattle.regress_engine_copying.specs.Held.{held, entry_of, frame_of, pushed}
 use Rattle.regress_engine_copying.specs.Sound.{StaysSound}

@@ -1,5 +1,5 @@
 use Rattle.std.proofs.Common.{◌≡◌, sym, ap, ◌∙◌, subst}
-use Rattle.regress_engine_sought.specs.Tasks.{outside_of}
+use Rattle.regress_engine_search.specs.Tasks.{outside_of}
 use Rattle.regress_engine_copying.specs.StateOf.{state_of}
 use Rattle.regress_engine_copying.specs.Held.{Held, held, entry_of, frame_of, tried, submatched, pushed}
 use Rattle.regress_engine_copying.specs.Sound.{AreSound}

@@ -1,6 +1,6 @@
 use Rattle.std.proofs.Common.{◌≡◌, length}
 use Rattle.regress_engine_insn.specs.Instructions.{Program}
-use Rattle.regress_engine_sought.specs.Tasks.{outside_of}
+use Rattle.regress_engine_search.specs.Tasks.{outside_of}
 use Rattle.regress_engine_copying.specs.Held.{held}
 use Rattle.regress_engine_copying.specs.Sound.{AreSound}
 use Rattle.regress_engine_copying.specs.Tasks.{work_of}

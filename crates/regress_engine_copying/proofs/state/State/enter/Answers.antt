@@ -1,6 +1,6 @@
 use Rattle.std.specs.Prelude.{slice_set}
 use Rattle.std.proofs.Common.{ap, ◌∙◌}
-use Rattle.regress_engine_sought.specs.StateViews.{loop_of}
+use Rattle.regress_engine_search.specs.StateViews.{loop_of}
 use Rattle.regress_engine_copying.specs.StateOf.{state_of}
 use Rattle.regress_engine_copying.proofs.state.State.enter.Goals as goal
 

@@ -1,7 +1,7 @@
 use Rattle.std.proofs.Common.{refl, ap}
 use Rattle.regress_engine_runs.specs.States.{unset}
-use Rattle.regress_engine_sought.specs.StateViews.{loop_of, marks_of}
-use Rattle.regress_engine_sought.proofs.FillLemmas.{filled}
+use Rattle.regress_engine_search.specs.StateViews.{loop_of, marks_of}
+use Rattle.regress_engine_search.proofs.FillLemmas.{filled}
 use Rattle.regress_engine_copying.proofs.StateLemmas.{whole-is}
 use Rattle.regress_engine_copying.proofs.state.State.first.Goals as goal
 

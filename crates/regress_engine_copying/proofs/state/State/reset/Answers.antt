@@ -1,6 +1,6 @@
 use Rattle.std.specs.Prelude.{slice_set}
 use Rattle.std.proofs.Common.{◌+◌, ap, ◌∙◌}
-use Rattle.regress_engine_sought.specs.StateViews.{marks_of}
+use Rattle.regress_engine_search.specs.StateViews.{marks_of}
 use Rattle.regress_engine_runs.specs.States.{unset}
 use Rattle.regress_engine_copying.specs.StateOf.{state_of}
 use Rattle.regress_engine_copying.proofs.StateLemmas.{at-is, next-is}

@@ -1,6 +1,6 @@
 use Rattle.std.proofs.Common.{ap}
 use Rattle.std.proofs.lemmas.List.{map-set}
-use Rattle.regress_engine_sought.specs.StateViews.{marks_of}
+use Rattle.regress_engine_search.specs.StateViews.{marks_of}
 use Rattle.regress_engine_copying.specs.StateOf.{state_of}
 use Rattle.regress_engine_copying.proofs.state.State.set_group.Goals as goal
 

@@ -1,8 +1,8 @@
 use Rattle.std.proofs.Common.{true, false, length, sym, ap, subst, arith}
 use Rattle.regress_engine_code.specs.Standing.{program_of}
 use Rattle.regress_engine_input.specs.Views.{input_of}
-use Rattle.regress_engine_sought.specs.Tasks.{Leads}
-use Rattle.regress_engine_sought.proofs.TaskLemmas.{leads-then, leads-same}
+use Rattle.regress_engine_search.specs.Tasks.{Leads}
+use Rattle.regress_engine_search.proofs.TaskLemmas.{leads-then, leads-same}
 use Rattle.regress_engine_undo.specs.Held.{Held, held, pushed, undo_of}
 use Rattle.regress_engine_undo.specs.Sound.{IsHeld}
 use Rattle.regress_engine_undo.specs.Tasks.{task}

@@ -1,7 +1,7 @@
 use Rattle.std.proofs.Common.{false, length}
 use Rattle.regress_engine_code.specs.Standing.{program_of}
 use Rattle.regress_engine_input.specs.Views.{input_of}
-use Rattle.regress_engine_sought.specs.Tasks.{Leads}
+use Rattle.regress_engine_search.specs.Tasks.{Leads}
 use Rattle.regress_engine_undo.specs.Held.{held}
 use Rattle.regress_engine_undo.specs.Sound.{IsHeld}
 use Rattle.regress_engine_undo.specs.Tasks.{task}

@@ -1,9 +1,9 @@
 use Rattle.std.proofs.Common.{Some}
 use Rattle.regress_engine_code.specs.Standing.{program_of}
-use Rattle.regress_engine_input.specs.Views.{way, input_of, reading_of}
+use Rattle.regress_engine_input.specs.Views.{direction_of, input_of, reading_of}
 use Rattle.regress_engine_runs.specs.Runs.{gap}
 use Rattle.regress_engine_runs.specs.Meets.{IsAtPlace}
-use Rattle.regress_engine_undo.specs.Stuck.{GivesFrom}
+use Rattle.regress_engine_undo.specs.Dead.{GivesFrom}
 use Rattle.regress_engine_exec.proofs.attempt.Attempt.far_way.Given as goal
 
 -- what is given back from the far offset leads to what is given back from here
@@ -14,4 +14,4 @@ invariant-places g l = record {
 }
 
 abbrev pub decreases-places : goal.decreases-places
-decreases-places g l = gap (way l.forward) l.near l.back
+decreases-places g l = gap (direction_of l.forward) l.near l.back

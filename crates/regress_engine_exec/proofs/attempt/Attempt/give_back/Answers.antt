@@ -1,9 +1,9 @@
 use Rattle.std.proofs.Common.{refl, sym, ap, ◌∙◌}
 use Rattle.regress_engine_code.specs.Standing.{program_of}
 use Rattle.regress_engine_input.specs.Views.{input_of}
-use Rattle.regress_engine_sought.proofs.InsnLemmas.{way-against, none-ahead, some-ahead}
-use Rattle.regress_engine_sought.proofs.PlaceLemmas.{can-read, moves, next-place}
-use Rattle.regress_engine_sought.proofs.TaskLemmas.{leads-then}
+use Rattle.regress_engine_search.proofs.InsnLemmas.{direction_of-against, none-ahead, some-ahead}
+use Rattle.regress_engine_search.proofs.PlaceLemmas.{can-read, moves, next-place}
+use Rattle.regress_engine_search.proofs.TaskLemmas.{leads-then}
 use Rattle.regress_engine_undo.specs.Held.{held}
 use Rattle.regress_engine_undo.proofs.BackLemmas.{give_back-last, give_back-none, give_back-more, held-give_back, give_back-held}
 use Rattle.regress_engine_exec.proofs.attempt.Attempt.give_back.Goals as goal
@@ -37,7 +37,7 @@ returns-in_default-beside-clause-leads g c =
     let input = input_of (g.Input.InputIndexer.view c.args.self.now.input) in
     leads-then program input 0 0 (c.in-Some.ensures.leads c.args.spot.now (held c.args.memory.now) refl)
     (give_back-none program input c.args.spot.now (held c.args.memory.now) c.args.at c.args.near c.in-Some.way
-    (ap (λ d. input.next d c.in-Some.way) (sym (way-against c.args.spot.now.forward)) ∙ sym c.in_default-beside.ensures))
+    (ap (λ d. input.next d c.in-Some.way) (sym (direction_of-against c.args.spot.now.forward)) ∙ sym c.in_default-beside.ensures))
 
 pub returns-in_default-beside-clause-sound : goal.returns-in_default-beside-clause-sound
 returns-in_default-beside-clause-sound g c = (held-give_back _ _ (held c.args.memory.now) c.args.at c.args.near c.args.far c.requires.sound).1
@@ -49,7 +49,7 @@ returns-clause-leads g c =
     let input = input_of v in
     leads-then program input 0 0 (c.in-Some.ensures.leads c.args.spot.now (held c.args.memory.now) refl)
     (give_back-more program input c.args.spot.now (held c.args.memory.now) (held c.push.new.self) c.args.at c.args.near c.in-Some.way _ c.in-Some-beside.next (moves v)
-    (some-ahead _ c.if-not-is_ahead.ensures) (ap (λ d. input.next d c.in-Some.way) (sym (way-against c.args.spot.now.forward)) ∙ sym c.in-Some-beside.ensures) c.in_ok-push.ensures)
+    (some-ahead _ c.if-not-is_ahead.ensures) (ap (λ d. input.next d c.in-Some.way) (sym (direction_of-against c.args.spot.now.forward)) ∙ sym c.in-Some-beside.ensures) c.in_ok-push.ensures)
 
 pub returns-clause-sound : goal.returns-clause-sound
 returns-clause-sound g c =

@@ -2,12 +2,12 @@ use Rattle.std.proofs.Common.{◌-◌, None, Some, inl, inr, map, sym, ◌∙◌
 use Rattle.std.proofs.lemmas.List.{length-map}
 use Rattle.regress_engine_insn.specs.InsnViews.{instruction}
 use Rattle.regress_engine_code.specs.Standing.{program_of}
-use Rattle.regress_engine_input.specs.Views.{way, input_of}
-use Rattle.regress_engine_sought.specs.StateViews.{marks_of}
-use Rattle.regress_engine_sought.proofs.ReadyLemmas.{body-asked, body-next}
+use Rattle.regress_engine_input.specs.Views.{direction_of, input_of}
+use Rattle.regress_engine_search.specs.StateViews.{marks_of}
+use Rattle.regress_engine_search.proofs.ReadyLemmas.{body-asked, body-next}
 use Rattle.regress_engine_advance.proofs.ReadLemmas.{none-is}
 use Rattle.regress_engine_advance.proofs.TakenLemmas.{taking-any, taking-ready, body-taking}
-use Rattle.regress_engine_undo.proofs.StuckLemmas.{takes-same, takes-last, takes-over, takes-then}
+use Rattle.regress_engine_undo.proofs.DeadLemmas.{takes-same, takes-last, takes-over, takes-then}
 use Rattle.regress_engine_exec.proofs.attempt.Attempt.near_way.Goals as goal
 
 pub returns-in_default-clause-leads : goal.returns-in_default-clause-leads
@@ -39,13 +39,13 @@ returns-then-rest-eq0-clause-leads g c =
     let input = input_of v in
     let i = instruction c.in-Some.insn.now in
     let j = instruction c.instruction-body.result.now in
-    let dir = way c.args.forward in
+    let dir = direction_of c.args.forward in
     let groups = map marks_of c.args.groups.now in
     let near = c.places.near in
-    let stuck = c.in-Some.ensures.stuck input c.args.forward near
+    let dead = c.in-Some.ensures.dead input c.args.forward near
     (λ gs. none-is _ (sym c.stands.ensures ∙ c.if-stands.false) ∙ taking-any program input i dir groups gs near c.in-Some.ensures.takes) in
     takes-then program input c.args.forward c.args.at c.args.offset c.args.left near c.places.rest None c.places.invariant.takes
-    (takes-last program input c.args.forward c.args.at near c.places.rest j c.instruction-body.ensures.stands stuck (inl c.if-rest-eq0.true))
+    (takes-last program input c.args.forward c.args.at near c.places.rest j c.instruction-body.ensures.stands dead (inl c.if-rest-eq0.true))
 
 pub returns-in_default-once-clause-leads : goal.returns-in_default-once-clause-leads
 returns-in_default-once-clause-leads g c =
@@ -54,13 +54,13 @@ returns-in_default-once-clause-leads g c =
     let input = input_of v in
     let i = instruction c.in-Some.insn.now in
     let j = instruction c.instruction-body.result.now in
-    let dir = way c.args.forward in
+    let dir = direction_of c.args.forward in
     let groups = map marks_of c.args.groups.now in
     let near = c.places.near in
-    let stuck = c.in-Some.ensures.stuck input c.args.forward near
+    let dead = c.in-Some.ensures.dead input c.args.forward near
     (λ gs. none-is _ (sym c.stands.ensures ∙ c.if-stands.false) ∙ taking-any program input i dir groups gs near c.in-Some.ensures.takes) in
     takes-then program input c.args.forward c.args.at c.args.offset c.args.left near c.places.rest None c.places.invariant.takes
-    (takes-last program input c.args.forward c.args.at near c.places.rest j c.instruction-body.ensures.stands stuck
+    (takes-last program input c.args.forward c.args.at near c.places.rest j c.instruction-body.ensures.stands dead
     (inr (λ gs. taking-any program input j dir gs groups near (body-taking program input v c.args.at near j c.places.invariant.body c.instruction-body.ensures.stands) ∙ sym c.in_default-once.ensures)))
 
 pub places-preserved : goal.places-preserved
@@ -70,14 +70,14 @@ places-preserved g c =
     let input = input_of v in
     let i = instruction c.in-Some.insn.now in
     let j = instruction c.instruction-body.result.now in
-    let dir = way c.args.forward in
+    let dir = direction_of c.args.forward in
     let groups = map marks_of c.args.groups.now in
     let near = c.places.near in
-    let stuck = c.in-Some.ensures.stuck input c.args.forward near
+    let dead = c.in-Some.ensures.dead input c.args.forward near
     (λ gs. none-is _ (sym c.stands.ensures ∙ c.if-stands.false) ∙ taking-any program input i dir groups gs near c.in-Some.ensures.takes) in
     record {
       takes = takes-then program input c.args.forward c.args.at c.args.offset c.args.left near c.places.rest (Some (c.in-Some-once.next, c.places.rest - 1)) c.places.invariant.takes
-          (takes-over program input c.args.forward c.args.at near c.places.rest c.in-Some-once.next j c.instruction-body.ensures.stands stuck c.if-rest-eq0.false
+          (takes-over program input c.args.forward c.args.at near c.places.rest c.in-Some-once.next j c.instruction-body.ensures.stands dead c.if-rest-eq0.false
           (λ gs. taking-any program input j dir gs groups near (body-taking program input v c.args.at near j c.places.invariant.body c.instruction-body.ensures.stands) ∙ sym c.in-Some-once.ensures));
       body = body-next v (g.met.Input.InputIndexer.are_of_kind c.args.self.now.input) program c.requires.suits c.args.at near c.in-Some-once.next j dir groups
           c.places.invariant.body c.instruction-body.ensures.stands (sym c.in-Some-once.ensures);

@@ -1,8 +1,8 @@
 use Rattle.std.proofs.Common.{Some}
 use Rattle.regress_engine_code.specs.Standing.{program_of}
 use Rattle.regress_engine_input.specs.Views.{input_of}
-use Rattle.regress_engine_sought.specs.Ready.{IsBody}
-use Rattle.regress_engine_undo.specs.Stuck.{TakesFrom}
+use Rattle.regress_engine_search.specs.Ready.{IsBody}
+use Rattle.regress_engine_undo.specs.Dead.{TakesFrom}
 use Rattle.regress_engine_exec.proofs.attempt.Attempt.near_way.Given as goal
 
 -- what is taken on from the first offset leads to what is taken on from here

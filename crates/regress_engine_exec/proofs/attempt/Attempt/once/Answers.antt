@@ -1,5 +1,5 @@
 use Rattle.std.proofs.Common.{refl}
-use Rattle.regress_engine_sought.proofs.ReadyLemmas.{ready_read}
+use Rattle.regress_engine_search.proofs.ReadyLemmas.{ready_read}
 use Rattle.regress_engine_exec.proofs.attempt.Attempt.once.Goals as goal
 
 pub ascii_bracket-requires : goal.ascii_bracket-requires

@@ -5,12 +5,12 @@ use Rattle.regress_engine_runs.proofs.BodyPlaces.{fits-anywhere}
 use Rattle.regress_engine_runs.proofs.RunViews.{one_stands}
 use Rattle.regress_engine_insn.specs.InsnViews.{instruction}
 use Rattle.regress_engine_code.specs.Standing.{program_of}
-use Rattle.regress_engine_input.specs.Views.{way, input_of}
+use Rattle.regress_engine_input.specs.Views.{direction_of, input_of}
 use Rattle.regress_engine_runs.specs.Runs.{after_times, as_far}
 use Rattle.regress_engine_runs.specs.UndoStack.{give_back, take_on}
-use Rattle.regress_engine_sought.specs.StateViews.{marks_of}
-use Rattle.regress_engine_sought.proofs.ReadyLemmas.{body-at}
-use Rattle.regress_engine_sought.proofs.TaskLemmas.{leads-then}
+use Rattle.regress_engine_search.specs.StateViews.{marks_of}
+use Rattle.regress_engine_search.proofs.ReadyLemmas.{body-at}
+use Rattle.regress_engine_search.proofs.TaskLemmas.{leads-then}
 use Rattle.regress_engine_undo.specs.Held.{held, pushed}
 use Rattle.regress_engine_undo.proofs.BackLemmas.{give_back-held, take_on-held}
 use Rattle.regress_engine_undo.proofs.SingleLemmas.{repeat-few, repeat-greedy, repeat-lazy, atomic}
@@ -22,7 +22,7 @@ returns-in_default-clause-leads g c =
     let input = input_of (g.Input.InputIndexer.view c.args.self.now.input) in
     let i = instruction c.instruction-insn.result.now in
     repeat-few program input i c.args.spot.now (held c.args.memory.now) c.instruction-insn.ensures.stands c.args.least c.args.most c.args.greedy
-    (ap (λ gs. after_times program input c.args.least i (way c.args.spot.now.forward) (map marks_of gs) c.args.spot.now.offset) (sym c.deref.ensures.value) ∙ sym c.in_default.ensures.behind)
+    (ap (λ gs. after_times program input c.args.least i (direction_of c.args.spot.now.forward) (map marks_of gs) c.args.spot.now.offset) (sym c.deref.ensures.value) ∙ sym c.in_default.ensures.behind)
 
 pub give_back-requires-clause-sound : goal.give_back-requires-clause-sound
 give_back-requires-clause-sound g c =
@@ -37,8 +37,8 @@ returns-then-greedy-clause-leads g c =
     let h = held c.args.memory.now in
     leads-then program input 0 0
     (repeat-greedy program input i c.args.spot.now h c.instruction-insn.ensures.stands c.args.least c.args.most c.args.greedy (pushed (give_back (c.args.spot.now.at + 2) c.in-Some.near c.as_far-far.result) h) c.in-Some.near c.as_far-far.result c.if-greedy.true
-    (ap (λ gs. after_times program input c.args.least i (way c.args.spot.now.forward) (map marks_of gs) c.args.spot.now.offset) (sym c.deref.ensures.value) ∙ sym c.in-Some.ensures.behind)
-    (c.as_far-far.ensures.far ∙ ap (λ gs. as_far program input (c.args.most - c.args.least) i (way c.args.spot.now.forward) (map marks_of gs) c.in-Some.near) c.deref-then-greedy.ensures.value)
+    (ap (λ gs. after_times program input c.args.least i (direction_of c.args.spot.now.forward) (map marks_of gs) c.args.spot.now.offset) (sym c.deref.ensures.value) ∙ sym c.in-Some.ensures.behind)
+    (c.as_far-far.ensures.far ∙ ap (λ gs. as_far program input (c.args.most - c.args.least) i (direction_of c.args.spot.now.forward) (map marks_of gs) c.in-Some.near) c.deref-then-greedy.ensures.value)
     refl)
     c.in_ok-going.ensures.leads
 
@@ -57,7 +57,7 @@ returns-clause-leads g c =
     let h = held c.args.memory.now in
     leads-then program input 0 0
     (repeat-lazy program input i c.args.spot.now h c.instruction-insn.ensures.stands c.args.least c.args.most c.args.greedy (pushed (take_on (c.args.spot.now.at + 2) c.in-Some.near (c.args.most - c.args.least)) h) c.in-Some.near c.if-greedy.false
-    (ap (λ gs. after_times program input c.args.least i (way c.args.spot.now.forward) (map marks_of gs) c.args.spot.now.offset) (sym c.deref.ensures.value) ∙ sym c.in-Some.ensures.behind)
+    (ap (λ gs. after_times program input c.args.least i (direction_of c.args.spot.now.forward) (map marks_of gs) c.args.spot.now.offset) (sym c.deref.ensures.value) ∙ sym c.in-Some.ensures.behind)
     refl)
     c.in_ok-going-2.ensures.leads
 
@@ -82,11 +82,11 @@ returns-then-is_atomic-clause-leads g c =
     let groups = map marks_of c.args.memory.now.groups.items in
     let two : p.at + 1 ≡ p.at + 2 - 1 = omega arith in
     let here : Stands program (p.at + 2 - 1) i = subst (λ a. Stands program a i) two c.instruction-insn.ensures.stands in
-    let goes = c.as_far-far.ensures.far ∙ ap (λ gs. as_far program (input_of v) (c.args.most - c.args.least) i (way p.forward) (map marks_of gs) near) c.deref-then-greedy.ensures.value in
-    let ahead = goes ∙ ap (λ b. as_far program (input_of v) (c.args.most - c.args.least) i (way b) groups near) c.if-spot.true in
+    let goes = c.as_far-far.ensures.far ∙ ap (λ gs. as_far program (input_of v) (c.args.most - c.args.least) i (direction_of p.forward) (map marks_of gs) near) c.deref-then-greedy.ensures.value in
+    let ahead = goes ∙ ap (λ b. as_far program (input_of v) (c.args.most - c.args.least) i (direction_of b) groups near) c.if-spot.true in
     let (j, first, apart) = c.is_atomic.ensures v c.requires.suits.kind c.if-is_atomic.true in
     leads-then program (input_of v) 0 0
     (repeat-greedy program (input_of v) i p h c.instruction-insn.ensures.stands c.args.least c.args.most c.args.greedy (pushed (give_back (p.at + 2) near far) h) near far c.if-greedy.true
-    (ap (λ gs. after_times program (input_of v) c.args.least i (way p.forward) (map marks_of gs) p.offset) (sym c.deref.ensures.value) ∙ sym c.in-Some.ensures.behind) goes refl)
-    (atomic program v (g.met.Input.InputIndexer.are_of_kind c.args.self.now.input) c.requires.suits (p.at + 2) i here (λ gs o q e. first.stuck (input_of v) true o (apart gs o q e)) (c.args.most - c.args.least) near far groups
+    (ap (λ gs. after_times program (input_of v) c.args.least i (direction_of p.forward) (map marks_of gs) p.offset) (sym c.deref.ensures.value) ∙ sym c.in-Some.ensures.behind) goes refl)
+    (atomic program v (g.met.Input.InputIndexer.are_of_kind c.args.self.now.input) c.requires.suits (p.at + 2) i here (λ gs o q e. first.dead (input_of v) true o (apart gs o q e)) (c.args.most - c.args.least) near far groups
     (body-at program v (p.at + 2) p.offset near c.requires.body c.in-Some.ensures.place) ahead p h c.if-spot.true)

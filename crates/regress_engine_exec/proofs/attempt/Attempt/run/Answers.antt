@@ -1,8 +1,8 @@
 use Rattle.std.proofs.Common.{ℕ, true, false, [], replicate, sym, ap, ap₂, ◌∙◌, subst}
 use Rattle.regress_engine_code.specs.Standing.{program_of}
-use Rattle.regress_engine_input.specs.Views.{input_of, way}
+use Rattle.regress_engine_input.specs.Views.{input_of, direction_of}
 use Rattle.regress_engine_runs.specs.States.{unset}
-use Rattle.regress_engine_sought.proofs.TaskLemmas.{tried-stands, tried-reads, tried-on, tried-less, tried-ends}
+use Rattle.regress_engine_search.proofs.TaskLemmas.{tried-stands, tried-reads, tried-on, tried-less, tried-ends}
 use Rattle.regress_engine_undo.specs.declared.undo.Spot.{Spot}
 use Rattle.regress_engine_undo.specs.Held.{Held, held}
 use Rattle.regress_engine_undo.specs.Tasks.{task, state_at}
@@ -24,11 +24,11 @@ steps-init g c =
 
 pub step-requires-clause-stands : goal.step-requires-clause-stands
 step-requires-clause-stands g c =
-    tried-stands (program_of c.args.self.now.program.now) (g.Input.InputIndexer.view c.args.self.now.input) _ _ (way c.steps.spot.forward) (state_at c.steps.spot (held c.steps.memory)) _ c.steps.invariant.tried
+    tried-stands (program_of c.args.self.now.program.now) (g.Input.InputIndexer.view c.args.self.now.input) _ _ (direction_of c.steps.spot.forward) (state_at c.steps.spot (held c.steps.memory)) _ c.steps.invariant.tried
 
 pub step-requires-clause-reads : goal.step-requires-clause-reads
 step-requires-clause-reads g c =
-    tried-reads (program_of c.args.self.now.program.now) (g.Input.InputIndexer.view c.args.self.now.input) _ _ (way c.steps.spot.forward) (state_at c.steps.spot (held c.steps.memory)) _ c.steps.invariant.tried
+    tried-reads (program_of c.args.self.now.program.now) (g.Input.InputIndexer.view c.args.self.now.input) _ _ (direction_of c.steps.spot.forward) (state_at c.steps.spot (held c.steps.memory)) _ c.steps.invariant.tried
 
 pub step-requires-clause-later : goal.step-requires-clause-later
 step-requires-clause-later g c = c.steps.invariant.tried.reads

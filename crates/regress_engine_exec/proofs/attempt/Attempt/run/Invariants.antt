@@ -1,7 +1,7 @@
 use Rattle.std.proofs.Common.{suc, true}
 use Rattle.regress_engine_code.specs.Standing.{program_of}
 use Rattle.regress_engine_input.specs.Views.{input_of}
-use Rattle.regress_engine_sought.specs.Tasks.{left_of}
+use Rattle.regress_engine_search.specs.Tasks.{left_of}
 use Rattle.regress_engine_undo.specs.Held.{held}
 use Rattle.regress_engine_undo.specs.Tasks.{task}
 use Rattle.regress_engine_exec.specs.Trying.{IsTrying}

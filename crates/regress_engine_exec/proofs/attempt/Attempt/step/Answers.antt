@@ -2,10 +2,10 @@ use Rattle.std.proofs.Common.{◌≡◌, ◌+◌, ◌-◌, suc, true, inl, inr, 
 use Rattle.regress_engine_insn.specs.Instructions.{Stands}
 use Rattle.regress_engine_insn.specs.Instructions as code
 use Rattle.regress_engine_code.specs.Standing.{program_of}
-use Rattle.regress_engine_input.specs.Views.{way, input_of}
+use Rattle.regress_engine_input.specs.Views.{direction_of, input_of}
 use Rattle.regress_engine_runs.specs.States.{begun, ended}
-use Rattle.regress_engine_sought.specs.StateViews.{marks_of}
-use Rattle.regress_engine_sought.proofs.InsnLemmas.{stands-as}
+use Rattle.regress_engine_search.specs.StateViews.{marks_of}
+use Rattle.regress_engine_search.proofs.InsnLemmas.{stands-as}
 use Rattle.regress_engine_undo.specs.Held.{held}
 use Rattle.regress_engine_undo.proofs.BackLemmas.{frame-held}
 use Rattle.regress_engine_undo.proofs.DispatchLemmas.{step-on, jump-on, mark-on, submatch-on}
@@ -141,7 +141,7 @@ returns-in_ok-mark-in-BeginCaptureGroup-clause-leads g c =
     let h = held c.args.memory.now in
     let here = stands-as program p.at _ _ c.in-BeginCaptureGroup.is c.instruction-insn.ensures.stands in
     mark-on program input (code.begin_group c.in-BeginCaptureGroup.group) p _ h _ c.in-BeginCaptureGroup.group _ _ here refl
-    (c.begun-marks.ensures ∙ ap (begun (way p.forward) p.offset) c.group_data.ensures) refl c.in_ok-mark-in-BeginCaptureGroup.ensures.leads
+    (c.begun-marks.ensures ∙ ap (begun (direction_of p.forward) p.offset) c.group_data.ensures) refl c.in_ok-mark-in-BeginCaptureGroup.ensures.leads
 
 pub returns-in_ok-mark-in-EndCaptureGroup-clause-leads : goal.returns-in_ok-mark-in-EndCaptureGroup-clause-leads
 returns-in_ok-mark-in-EndCaptureGroup-clause-leads g c =
@@ -151,7 +151,7 @@ returns-in_ok-mark-in-EndCaptureGroup-clause-leads g c =
     let h = held c.args.memory.now in
     let here = stands-as program p.at _ _ c.in-EndCaptureGroup.is c.instruction-insn.ensures.stands in
     mark-on program input (code.end_group c.in-EndCaptureGroup.group) p _ h _ c.in-EndCaptureGroup.group _ _ here refl
-    (c.ended-marks.ensures ∙ ap (ended (way p.forward) p.offset) c.group_data-in-EndCaptureGroup.ensures) refl c.in_ok-mark-in-EndCaptureGroup.ensures.leads
+    (c.ended-marks.ensures ∙ ap (ended (direction_of p.forward) p.offset) c.group_data-in-EndCaptureGroup.ensures) refl c.in_ok-mark-in-EndCaptureGroup.ensures.leads
 
 pub returns-in_ok-mark-in-ResetCaptureGroup-clause-leads : goal.returns-in_ok-mark-in-ResetCaptureGroup-clause-leads
 returns-in_ok-mark-in-ResetCaptureGroup-clause-leads g c =
@@ -170,7 +170,7 @@ returns-in_ok-going-in-EnterLoop-clause-leads g c =
     let p = c.args.spot.now in
     let h = held c.args.memory.now in
     let here = stands-as program p.at _ _ c.in-EnterLoop.is c.instruction-insn.ensures.stands in
-    step-on program input _ p _ h _ _ here refl (c.in_ok-going-in-EnterLoop.ensures.leads program input c.is_stuck-stuck.ensures)
+    step-on program input _ p _ h _ _ here refl (c.in_ok-going-in-EnterLoop.ensures.leads program input c.is_dead-dead.ensures)
 
 pub returns-in_ok-going-in-Loop1CharBody-clause-leads : goal.returns-in_ok-going-in-Loop1CharBody-clause-leads
 returns-in_ok-going-in-Loop1CharBody-clause-leads g c =

@@ -1,11 +1,11 @@
 use Rattle.std.proofs.Common.{map, sym, ap, ◌∙◌, subst}
 use Rattle.regress_engine_insn.specs.InsnViews.{instruction}
 use Rattle.regress_engine_code.specs.Standing.{program_of}
-use Rattle.regress_engine_input.specs.Views.{way, input_of}
+use Rattle.regress_engine_input.specs.Views.{direction_of, input_of}
 use Rattle.regress_engine_runs.specs.Runs.{advance}
-use Rattle.regress_engine_sought.specs.StateViews.{marks_of}
-use Rattle.regress_engine_sought.specs.Ready.{IsReady}
-use Rattle.regress_engine_sought.proofs.ReadyLemmas.{simple-ready}
+use Rattle.regress_engine_search.specs.StateViews.{marks_of}
+use Rattle.regress_engine_search.specs.Ready.{IsReady}
+use Rattle.regress_engine_search.proofs.ReadyLemmas.{simple-ready}
 use Rattle.regress_engine_undo.specs.Held.{held}
 use Rattle.regress_engine_undo.specs.Tasks.{state_at}
 use Rattle.regress_engine_undo.proofs.DispatchLemmas.{take-none, take-some}
@@ -24,7 +24,7 @@ returns-in_default g c =
     let input = input_of (g.Input.InputIndexer.view c.args.self.now.input) in
     let i = instruction c.args.insn.now in
     take-none program input i c.args.spot.now (held c.args.memory.now) c.requires.stands c.requires.simple
-    (ap (λ gs. advance program input i (way c.args.spot.now.forward) (map marks_of gs) c.args.spot.now.offset) (sym c.deref.ensures.value) ∙ sym c.in_default.ensures)
+    (ap (λ gs. advance program input i (direction_of c.args.spot.now.forward) (map marks_of gs) c.args.spot.now.offset) (sym c.deref.ensures.value) ∙ sym c.in_default.ensures)
 
 pub returns : goal.returns
 returns g c =
@@ -32,4 +32,4 @@ returns g c =
     let input = input_of (g.Input.InputIndexer.view c.args.self.now.input) in
     let i = instruction c.args.insn.now in
     take-some program input i c.args.spot.now (held c.args.memory.now) c.in-Some.next c.requires.stands c.requires.simple
-    (ap (λ gs. advance program input i (way c.args.spot.now.forward) (map marks_of gs) c.args.spot.now.offset) (sym c.deref.ensures.value) ∙ sym c.in-Some.ensures)
+    (ap (λ gs. advance program input i (direction_of c.args.spot.now.forward) (map marks_of gs) c.args.spot.now.offset) (sym c.deref.ensures.value) ∙ sym c.in-Some.ensures)

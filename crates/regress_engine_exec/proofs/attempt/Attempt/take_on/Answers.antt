@@ -1,12 +1,12 @@
 use Rattle.std.proofs.Common.{inl, inr, refl, sym, ap, ◌∙◌, subst, map, arith}
 use Rattle.regress_engine_code.specs.Standing.{program_of}
 use Rattle.regress_engine_insn.specs.InsnViews.{instruction}
-use Rattle.regress_engine_input.specs.Views.{input_of, way}
+use Rattle.regress_engine_input.specs.Views.{input_of, direction_of}
 use Rattle.regress_engine_runs.specs.Runs.{advance}
-use Rattle.regress_engine_sought.specs.StateViews.{marks_of}
-use Rattle.regress_engine_sought.specs.Ready.{IsReady}
-use Rattle.regress_engine_sought.proofs.ReadyLemmas.{body-asked, body-next}
-use Rattle.regress_engine_sought.proofs.TaskLemmas.{leads-then}
+use Rattle.regress_engine_search.specs.StateViews.{marks_of}
+use Rattle.regress_engine_search.specs.Ready.{IsReady}
+use Rattle.regress_engine_search.proofs.ReadyLemmas.{body-asked, body-next}
+use Rattle.regress_engine_search.proofs.TaskLemmas.{leads-then}
 use Rattle.regress_engine_undo.specs.Held.{held}
 use Rattle.regress_engine_undo.proofs.BackLemmas.{take_on-last, take_on-more, held-take_on, take_on-held}
 use Rattle.regress_engine_exec.proofs.attempt.Attempt.take_on.Goals as goal
@@ -53,7 +53,7 @@ returns-in_default-advance-clause-leads g c =
     let i = instruction c.instruction-insn.result.now in
     leads-then program input 0 0 (c.in-Some.ensures.leads c.args.spot.now (held c.args.memory.now) refl)
     (take_on-last program input c.args.spot.now (held c.args.memory.now) c.args.at c.in-Some.near c.in-Some.rest
-    i c.instruction-insn.ensures.stands (inr (ap (λ gs. advance program input i (way c.args.spot.now.forward) (map marks_of gs) c.in-Some.near) (sym c.deref-2.ensures.value) ∙ sym c.in_default-advance.ensures)))
+    i c.instruction-insn.ensures.stands (inr (ap (λ gs. advance program input i (direction_of c.args.spot.now.forward) (map marks_of gs) c.in-Some.near) (sym c.deref-2.ensures.value) ∙ sym c.in_default-advance.ensures)))
 
 pub returns-in_default-advance-clause-sound : goal.returns-in_default-advance-clause-sound
 returns-in_default-advance-clause-sound g c = (held-take_on _ _ (held c.args.memory.now) c.args.at c.args.offset c.args.left c.requires.sound).1
@@ -66,7 +66,7 @@ returns-clause-leads g c =
     leads-then program input 0 0 (c.in-Some.ensures.leads c.args.spot.now (held c.args.memory.now) refl)
     (take_on-more program input c.args.spot.now (held c.args.memory.now) (held c.push.new.self) c.args.at c.in-Some.near c.in-Some.rest c.in-Some-advance.next
     i c.instruction-insn.ensures.stands c.if-rest-eq0.false
-    (ap (λ gs. advance program input i (way c.args.spot.now.forward) (map marks_of gs) c.in-Some.near) (sym c.deref-2.ensures.value) ∙ sym c.in-Some-advance.ensures)
+    (ap (λ gs. advance program input i (direction_of c.args.spot.now.forward) (map marks_of gs) c.in-Some.near) (sym c.deref-2.ensures.value) ∙ sym c.in-Some-advance.ensures)
     c.in_ok-push.ensures)
 
 pub returns-clause-sound : goal.returns-clause-sound
@@ -77,7 +77,7 @@ returns-clause-sound g c =
     let i = instruction c.instruction-insn.result.now in
     let was = held-take_on _ _ (held c.args.memory.now) c.args.at c.args.offset c.args.left c.requires.sound in
     take_on-held program v (held c.args.memory.now) (held c.push.new.self) c.args.at c.in-Some-advance.next _ c.in_ok-push.ensures
-    (body-next v (g.met.Input.InputIndexer.are_of_kind c.args.self.now.input) program c.requires.suits c.args.at c.in-Some.near c.in-Some-advance.next i (way c.args.spot.now.forward) (held c.args.memory.now).groups
+    (body-next v (g.met.Input.InputIndexer.are_of_kind c.args.self.now.input) program c.requires.suits c.args.at c.in-Some.near c.in-Some-advance.next i (direction_of c.args.spot.now.forward) (held c.args.memory.now).groups
     c.in-Some.ensures.body c.instruction-insn.ensures.stands
-    (ap (λ gs. advance program input i (way c.args.spot.now.forward) (map marks_of gs) c.in-Some.near) (sym c.deref-2.ensures.value) ∙ sym c.in-Some-advance.ensures))
+    (ap (λ gs. advance program input i (direction_of c.args.spot.now.forward) (map marks_of gs) c.in-Some.near) (sym c.deref-2.ensures.value) ∙ sym c.in-Some-advance.ensures))
     was.1

@@ -6,7 +6,7 @@ use Rattle.regress_engine_code.specs.Standing.{program_of}
 use Rattle.regress_engine_insn.specs.declared.insn.Insn.TheVariants.{Goal}
 use Rattle.regress_engine_input.specs.Views.{input_of}
 use Rattle.regress_engine_runs.proofs.RunViews.{one_stands}
-use Rattle.regress_engine_sought.proofs.InsnLemmas.{stands-as}
+use Rattle.regress_engine_search.proofs.InsnLemmas.{stands-as}
 use Rattle.regress_engine_singles.specs.Passed.{is_class}
 use Rattle.regress_engine_singles.proofs.LeadingLemmas.{class-fits}
 use Rattle.regress_engine_advance.proofs.ReadLemmas.{stands-read}
@@ -50,6 +50,6 @@ returns g c =
       ends = stands-as program c.in-Jump.target _ _ c.in-LoopAgain.is again;
       begins = stands-as program c.in-LoopAgain.begin _ _ c.in-EnterLoop.is c.instruction.ensures.stands;
       body = c.if-begin-at.false;
-      way = λ groups o q e. first.stuck input true o (apart groups o q e);
-      out = λ groups o q e. last.stuck input true o (away groups o q e);
+      way = λ groups o q e. first.dead input true o (apart groups o q e);
+      out = λ groups o q e. last.dead input true o (away groups o q e);
     }

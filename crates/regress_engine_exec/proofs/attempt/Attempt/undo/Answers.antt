@@ -1,9 +1,9 @@
 use Rattle.std.proofs.Common.{ℕ, Bool, false, sym, ap, ◌∙◌, subst, arith}
 use Rattle.regress_engine_code.specs.Standing.{program_of}
-use Rattle.regress_engine_input.specs.Views.{input_of, way}
+use Rattle.regress_engine_input.specs.Views.{input_of, direction_of}
 use Rattle.regress_engine_runs.specs.UndoStack.{resume, old_loop, old_group, iterate, frame}
-use Rattle.regress_engine_sought.specs.StateViews.{loop_of, marks_of}
-use Rattle.regress_engine_sought.specs.Tasks.{Leads}
+use Rattle.regress_engine_search.specs.StateViews.{loop_of, marks_of}
+use Rattle.regress_engine_search.specs.Tasks.{Leads}
 use Rattle.regress_engine_undo.specs.Held.{held, pushed, undo_of, frame_of}
 use Rattle.regress_engine_undo.proofs.BackLemmas.{held-as, leads-as, held-resume, held-old_loop, old_loop-there, held-old_group, old_group-there, held-iterate, held-frame, held-tried, resume-back, old_loop-back, old_group-back, iterate-back, submatch-back, tried-back}
 use Rattle.regress_engine_undo.specs.Tasks.{task}
@@ -80,7 +80,7 @@ returns-in-Submatch-clause-leads g c =
     let q = c.exhaust.new.spot in
     leads-as program input (undo_of c.args.undo) (frame f) p h _ (ap undo_of c.in-Submatch.is)
     (subst (λ b. Leads program input 0 (task program input false p (pushed (frame f) h)) (task program input b q h)) (sym c.exhaust.ensures.way)
-    (submatch-back program input p q h f (ap way (sym c.exhaust.ensures.direction))
+    (submatch-back program input p q h f (ap direction_of (sym c.exhaust.ensures.direction))
     (λ e. c.exhaust.ensures.spot e ∙ ap (λ (b : Bool). record { at = f.continuation; offset = f.offset; forward = b }) (sym c.exhaust.ensures.direction))))
 
 pub returns-in-Submatch-clause-sound : goal.returns-in-Submatch-clause-sound

@@ -5,7 +5,7 @@ use Rattle.regress_engine_input.specs.Views.{input_of, in_bytes, unit_beside}
 use Rattle.regress_engine_exec.specs.Trying.{IsWay}
 use Rattle.regress_engine_exec.proofs.attempt.Attempt.way_ahead.Given as goal
 
--- it is gone on here
+-- it continues here
 abbrev pub invariant-ways : goal.invariant-ways
 invariant-ways g l = (o : ℕ) → Some l.byte ≡ in_bytes (g.Input.InputIndexer.view l.self.input).kind (unit_beside (g.Input.InputIndexer.view l.self.input).units Forward o)
     → IsWay (program_of l.self.program.now) (input_of (g.Input.InputIndexer.view l.self.input)) true o l.start l.at

@@ -2,12 +2,12 @@ use Rattle.std.proofs.Common.{sym, subst, arith}
 use Rattle.regress_meaning.specs.Meaning.{Forward}
 use Rattle.regress_engine_code.specs.Standing.{program_of}
 use Rattle.regress_engine_input.specs.Views.{input_of}
-use Rattle.regress_engine_prefix.specs.Seeking.{IsNextHit}
-use Rattle.regress_engine_sought.specs.Answering.{IsAnswer}
-use Rattle.regress_engine_sought.specs.Sought.{IsSought}
-use Rattle.regress_engine_sought.proofs.PlaceLemmas.{can-read, next-place}
-use Rattle.regress_engine_sought.proofs.SearchLemmas.{search-found, search-none, search-on, search-less}
-use Rattle.regress_engine_sought.proofs.SkipLemmas.{place-lies, reaches, reaches-none}
+use Rattle.regress_engine_prefix.specs.Prefiltering.{IsNextHit}
+use Rattle.regress_engine_search.specs.Answering.{IsAnswer}
+use Rattle.regress_engine_search.specs.Search.{IsSearchable}
+use Rattle.regress_engine_search.proofs.PlaceLemmas.{can-read, next-place}
+use Rattle.regress_engine_search.proofs.SearchLemmas.{search-found, search-none, search-on, search-less}
+use Rattle.regress_engine_search.proofs.SkipLemmas.{place-lies, reaches, reaches-none}
 use Rattle.regress_engine_singles.specs.Passed.{PassesOver}
 use Rattle.regress_engine_undo.specs.Held.{held}
 use Rattle.regress_engine_leading.specs.Known.{IsKnown}
@@ -16,98 +16,98 @@ use Rattle.regress_engine_exec.proofs.search.BacktrackExecutor.search.Goals as g
 
 pub invariant_of-attempt : goal.invariant_of-attempt
 invariant_of-attempt g c =
-    let subject = c.args.self.now.subject in
-    let program = program_of subject.program.now in
-    let v = g.Input.InputIndexer.view subject.input in
-    let all = g.met.Input.InputIndexer.are_of_kind subject.input in
-    let next : IsNextHit subject.seeker.start.now v.units c.places.from c.next_start.result =
-    subst (λ u. IsNextHit u.seeker.start.now (g.Input.InputIndexer.view u.input).units c.places.from c.next_start.result) c.places.invariant.kept c.next_start.ensures in
-    let there = reaches program subject.seeker.start.now (g.Input.Shown.shown subject.input) v (g.met.Input.ExecutorInput.shows subject.input) all subject.sought subject.skips
+    let context = c.args.self.now.context in
+    let program = program_of context.program.now in
+    let v = g.Input.InputIndexer.view context.input in
+    let all = g.met.Input.InputIndexer.are_of_kind context.input in
+    let next : IsNextHit context.prefilter.start.now v.units c.places.from c.next_start.result =
+    subst (λ u. IsNextHit u.prefilter.start.now (g.Input.InputIndexer.view u.input).units c.places.from c.next_start.result) c.places.invariant.kept c.next_start.ensures in
+    let there = reaches program context.prefilter.start.now (g.Input.Shown.shown context.input) v (g.met.Input.ExecutorInput.shows context.input) all context.searchable context.skips
     c.args.offset c.places.from c.places.invariant.finds c.places.invariant.place c.next_start.result next c.in-Some.start c.in-Some.is in
-    record { ends = there.sought.ends c.in-Some.start there.place }
+    record { ends = there.searchable.ends c.in-Some.start there.place }
 
 pub run-requires-clause-reads : goal.run-requires-clause-reads
 run-requires-clause-reads g c =
-    let subject = c.args.self.now.subject in
-    let program = program_of subject.program.now in
-    let v = g.Input.InputIndexer.view subject.input in
-    let all = g.met.Input.InputIndexer.are_of_kind subject.input in
-    let next : IsNextHit subject.seeker.start.now v.units c.places.from c.next_start.result =
-    subst (λ u. IsNextHit u.seeker.start.now (g.Input.InputIndexer.view u.input).units c.places.from c.next_start.result) c.places.invariant.kept c.next_start.ensures in
-    let there = reaches program subject.seeker.start.now (g.Input.Shown.shown subject.input) v (g.met.Input.ExecutorInput.shows subject.input) all subject.sought subject.skips
+    let context = c.args.self.now.context in
+    let program = program_of context.program.now in
+    let v = g.Input.InputIndexer.view context.input in
+    let all = g.met.Input.InputIndexer.are_of_kind context.input in
+    let next : IsNextHit context.prefilter.start.now v.units c.places.from c.next_start.result =
+    subst (λ u. IsNextHit u.prefilter.start.now (g.Input.InputIndexer.view u.input).units c.places.from c.next_start.result) c.places.invariant.kept c.next_start.ensures in
+    let there = reaches program context.prefilter.start.now (g.Input.Shown.shown context.input) v (g.met.Input.ExecutorInput.shows context.input) all context.searchable context.skips
     c.args.offset c.places.from c.places.invariant.finds c.places.invariant.place c.next_start.result next c.in-Some.start c.in-Some.is in
-    there.sought.reads c.in-Some.start there.place
+    there.searchable.reads c.in-Some.start there.place
 
 pub run-requires-clause-suits : goal.run-requires-clause-suits
 run-requires-clause-suits g c =
-    let subject = c.args.self.now.subject in
-    let sought = subst (IsSought (program_of subject.program.now)) (g.met.Input.ExecutorInput.shows subject.input) subject.sought in
-    sought.suits
+    let context = c.args.self.now.context in
+    let searchable = subst (IsSearchable (program_of context.program.now)) (g.met.Input.ExecutorInput.shows context.input) context.searchable in
+    searchable.suits
 
 pub run-requires-clause-begun : goal.run-requires-clause-begun
 run-requires-clause-begun g c =
-    let subject = c.args.self.now.subject in
-    way-comes (program_of subject.program.now) (input_of (g.Input.InputIndexer.view subject.input)) c.in-Some.start c.in-At.first
-    (subst (IsKnown (program_of subject.program.now) (g.Input.InputIndexer.view subject.input) c.in-Some.start) c.in-At.is c.known_at.ensures)
+    let context = c.args.self.now.context in
+    way-comes (program_of context.program.now) (input_of (g.Input.InputIndexer.view context.input)) c.in-Some.start c.in-At.first
+    (subst (IsKnown (program_of context.program.now) (g.Input.InputIndexer.view context.input) c.in-Some.start) c.in-At.is c.known_at.ensures)
 
 pub returns-in_default-clause-found : goal.returns-in_default-clause-found
 returns-in_default-clause-found g c =
-    let subject = c.args.self.now.subject in
-    let program = program_of subject.program.now in
-    let v = g.Input.InputIndexer.view subject.input in
-    let all = g.met.Input.InputIndexer.are_of_kind subject.input in
-    let next : IsNextHit subject.seeker.start.now v.units c.places.from c.next_start.result =
-    subst (λ u. IsNextHit u.seeker.start.now (g.Input.InputIndexer.view u.input).units c.places.from c.next_start.result) c.places.invariant.kept c.next_start.ensures in
-    reaches-none program subject.seeker.start.now (g.Input.Shown.shown subject.input) v (g.met.Input.ExecutorInput.shows subject.input) all subject.sought subject.skips
+    let context = c.args.self.now.context in
+    let program = program_of context.program.now in
+    let v = g.Input.InputIndexer.view context.input in
+    let all = g.met.Input.InputIndexer.are_of_kind context.input in
+    let next : IsNextHit context.prefilter.start.now v.units c.places.from c.next_start.result =
+    subst (λ u. IsNextHit u.prefilter.start.now (g.Input.InputIndexer.view u.input).units c.places.from c.next_start.result) c.places.invariant.kept c.next_start.ensures in
+    reaches-none program context.prefilter.start.now (g.Input.Shown.shown context.input) v (g.met.Input.ExecutorInput.shows context.input) all context.searchable context.skips
     c.args.offset c.places.from c.places.invariant.finds c.places.invariant.place c.next_start.result next c.in_default.is
 
 pub returns-in-Some-2-clause-found : goal.returns-in-Some-2-clause-found
 returns-in-Some-2-clause-found g c =
-    let subject = c.args.self.now.subject in
-    let program = program_of subject.program.now in
-    let v = g.Input.InputIndexer.view subject.input in
-    let all = g.met.Input.InputIndexer.are_of_kind subject.input in
-    let next : IsNextHit subject.seeker.start.now v.units c.places.from c.next_start.result =
-    subst (λ u. IsNextHit u.seeker.start.now (g.Input.InputIndexer.view u.input).units c.places.from c.next_start.result) c.places.invariant.kept c.next_start.ensures in
-    let there = reaches program subject.seeker.start.now (g.Input.Shown.shown subject.input) v (g.met.Input.ExecutorInput.shows subject.input) all subject.sought subject.skips
+    let context = c.args.self.now.context in
+    let program = program_of context.program.now in
+    let v = g.Input.InputIndexer.view context.input in
+    let all = g.met.Input.InputIndexer.are_of_kind context.input in
+    let next : IsNextHit context.prefilter.start.now v.units c.places.from c.next_start.result =
+    subst (λ u. IsNextHit u.prefilter.start.now (g.Input.InputIndexer.view u.input).units c.places.from c.next_start.result) c.places.invariant.kept c.next_start.ensures in
+    let there = reaches program context.prefilter.start.now (g.Input.Shown.shown context.input) v (g.met.Input.ExecutorInput.shows context.input) all context.searchable context.skips
     c.args.offset c.places.from c.places.invariant.finds c.places.invariant.place c.next_start.result next c.in-Some.start c.in-Some.is in
     search-found program v all c.args.offset c.in-Some.start c.in-Some-2.end (held c.run.new.memory).groups there.on
     (subst (λ x. IsAnswer program (input_of v) c.in-Some.start x (held c.run.new.memory).groups) c.in-Some-2.is c.in_ok-end.ensures)
 
 pub beside-requires : goal.beside-requires
 beside-requires g c =
-    let subject = c.args.self.now.subject in
-    let program = program_of subject.program.now in
-    let v = g.Input.InputIndexer.view subject.input in
-    let all = g.met.Input.InputIndexer.are_of_kind subject.input in
-    let next : IsNextHit subject.seeker.start.now v.units c.places.from c.next_start.result =
-    subst (λ u. IsNextHit u.seeker.start.now (g.Input.InputIndexer.view u.input).units c.places.from c.next_start.result) c.places.invariant.kept c.next_start.ensures in
-    let there = reaches program subject.seeker.start.now (g.Input.Shown.shown subject.input) v (g.met.Input.ExecutorInput.shows subject.input) all subject.sought subject.skips
+    let context = c.args.self.now.context in
+    let program = program_of context.program.now in
+    let v = g.Input.InputIndexer.view context.input in
+    let all = g.met.Input.InputIndexer.are_of_kind context.input in
+    let next : IsNextHit context.prefilter.start.now v.units c.places.from c.next_start.result =
+    subst (λ u. IsNextHit u.prefilter.start.now (g.Input.InputIndexer.view u.input).units c.places.from c.next_start.result) c.places.invariant.kept c.next_start.ensures in
+    let there = reaches program context.prefilter.start.now (g.Input.Shown.shown context.input) v (g.met.Input.ExecutorInput.shows context.input) all context.searchable context.skips
     c.args.offset c.places.from c.places.invariant.finds c.places.invariant.place c.next_start.result next c.in-Some.start c.in-Some.is in
     can-read v all c.in-Some.start there.place
 
 pub returns-in_default-beside-clause-found : goal.returns-in_default-beside-clause-found
 returns-in_default-beside-clause-found g c =
-    let subject = c.args.self.now.subject in
-    let program = program_of subject.program.now in
-    let v = g.Input.InputIndexer.view subject.input in
-    let all = g.met.Input.InputIndexer.are_of_kind subject.input in
-    let next : IsNextHit subject.seeker.start.now v.units c.places.from c.next_start.result =
-    subst (λ u. IsNextHit u.seeker.start.now (g.Input.InputIndexer.view u.input).units c.places.from c.next_start.result) c.places.invariant.kept c.next_start.ensures in
-    let there = reaches program subject.seeker.start.now (g.Input.Shown.shown subject.input) v (g.met.Input.ExecutorInput.shows subject.input) all subject.sought subject.skips
+    let context = c.args.self.now.context in
+    let program = program_of context.program.now in
+    let v = g.Input.InputIndexer.view context.input in
+    let all = g.met.Input.InputIndexer.are_of_kind context.input in
+    let next : IsNextHit context.prefilter.start.now v.units c.places.from c.next_start.result =
+    subst (λ u. IsNextHit u.prefilter.start.now (g.Input.InputIndexer.view u.input).units c.places.from c.next_start.result) c.places.invariant.kept c.next_start.ensures in
+    let there = reaches program context.prefilter.start.now (g.Input.Shown.shown context.input) v (g.met.Input.ExecutorInput.shows context.input) all context.searchable context.skips
     c.args.offset c.places.from c.places.invariant.finds c.places.invariant.place c.next_start.result next c.in-Some.start c.in-Some.is in
     search-none program v all c.args.offset c.in-Some.start (held c.run.new.memory).groups there.on
     (subst (λ x. IsAnswer program (input_of v) c.in-Some.start x (held c.run.new.memory).groups) c.in_default-2.is c.in_ok-end.ensures) (sym c.in_default-beside.ensures)
 
 pub places-smaller : goal.places-smaller
 places-smaller g c =
-    let subject = c.args.self.now.subject in
-    let program = program_of subject.program.now in
-    let v = g.Input.InputIndexer.view subject.input in
-    let all = g.met.Input.InputIndexer.are_of_kind subject.input in
-    let next : IsNextHit subject.seeker.start.now v.units c.places.from c.next_start.result =
-    subst (λ u. IsNextHit u.seeker.start.now (g.Input.InputIndexer.view u.input).units c.places.from c.next_start.result) c.places.invariant.kept c.next_start.ensures in
-    let there = reaches program subject.seeker.start.now (g.Input.Shown.shown subject.input) v (g.met.Input.ExecutorInput.shows subject.input) all subject.sought subject.skips
+    let context = c.args.self.now.context in
+    let program = program_of context.program.now in
+    let v = g.Input.InputIndexer.view context.input in
+    let all = g.met.Input.InputIndexer.are_of_kind context.input in
+    let next : IsNextHit context.prefilter.start.now v.units c.places.from c.next_start.result =
+    subst (λ u. IsNextHit u.prefilter.start.now (g.Input.InputIndexer.view u.input).units c.places.from c.next_start.result) c.places.invariant.kept c.next_start.ensures in
+    let there = reaches program context.prefilter.start.now (g.Input.Shown.shown context.input) v (g.met.Input.ExecutorInput.shows context.input) all context.searchable context.skips
     c.args.offset c.places.from c.places.invariant.finds c.places.invariant.place c.next_start.result next c.in-Some.start c.in-Some.is in
     let less = search-less program v all c.in-Some.start _ c.in-Some-beside.behind there.place (sym c.in-Some-beside.ensures) in
     let low = there.low in
@@ -115,13 +115,13 @@ places-smaller g c =
 
 pub places-preserved : goal.places-preserved
 places-preserved g c =
-    let subject = c.args.self.now.subject in
-    let program = program_of subject.program.now in
-    let v = g.Input.InputIndexer.view subject.input in
-    let all = g.met.Input.InputIndexer.are_of_kind subject.input in
-    let next : IsNextHit subject.seeker.start.now v.units c.places.from c.next_start.result =
-    subst (λ u. IsNextHit u.seeker.start.now (g.Input.InputIndexer.view u.input).units c.places.from c.next_start.result) c.places.invariant.kept c.next_start.ensures in
-    let there = reaches program subject.seeker.start.now (g.Input.Shown.shown subject.input) v (g.met.Input.ExecutorInput.shows subject.input) all subject.sought subject.skips
+    let context = c.args.self.now.context in
+    let program = program_of context.program.now in
+    let v = g.Input.InputIndexer.view context.input in
+    let all = g.met.Input.InputIndexer.are_of_kind context.input in
+    let next : IsNextHit context.prefilter.start.now v.units c.places.from c.next_start.result =
+    subst (λ u. IsNextHit u.prefilter.start.now (g.Input.InputIndexer.view u.input).units c.places.from c.next_start.result) c.places.invariant.kept c.next_start.ensures in
+    let there = reaches program context.prefilter.start.now (g.Input.Shown.shown context.input) v (g.met.Input.ExecutorInput.shows context.input) all context.searchable context.skips
     c.args.offset c.places.from c.places.invariant.finds c.places.invariant.place c.next_start.result next c.in-Some.start c.in-Some.is in
     record {
       finds = search-on program v all c.args.offset c.in-Some.start _ c.in-Some-beside.behind (held c.run.new.memory).groups there.on
@@ -132,25 +132,25 @@ places-preserved g c =
 
 pub known_at-requires-clause-place : goal.known_at-requires-clause-place
 known_at-requires-clause-place g c =
-    let subject = c.args.self.now.subject in
-    let program = program_of subject.program.now in
-    let v = g.Input.InputIndexer.view subject.input in
-    let all = g.met.Input.InputIndexer.are_of_kind subject.input in
-    let next : IsNextHit subject.seeker.start.now v.units c.places.from c.next_start.result =
-    subst (λ u. IsNextHit u.seeker.start.now (g.Input.InputIndexer.view u.input).units c.places.from c.next_start.result) c.places.invariant.kept c.next_start.ensures in
-    let there = reaches program subject.seeker.start.now (g.Input.Shown.shown subject.input) v (g.met.Input.ExecutorInput.shows subject.input) all subject.sought subject.skips
+    let context = c.args.self.now.context in
+    let program = program_of context.program.now in
+    let v = g.Input.InputIndexer.view context.input in
+    let all = g.met.Input.InputIndexer.are_of_kind context.input in
+    let next : IsNextHit context.prefilter.start.now v.units c.places.from c.next_start.result =
+    subst (λ u. IsNextHit u.prefilter.start.now (g.Input.InputIndexer.view u.input).units c.places.from c.next_start.result) c.places.invariant.kept c.next_start.ensures in
+    let there = reaches program context.prefilter.start.now (g.Input.Shown.shown context.input) v (g.met.Input.ExecutorInput.shows context.input) all context.searchable context.skips
     c.args.offset c.places.from c.places.invariant.finds c.places.invariant.place c.next_start.result next c.in-Some.start c.in-Some.is in
     there.place
 
 pub places-smaller-in-Passed : goal.places-smaller-in-Passed
 places-smaller-in-Passed g c =
-    let subject = c.args.self.now.subject in
-    let program = program_of subject.program.now in
-    let v = g.Input.InputIndexer.view subject.input in
-    let all = g.met.Input.InputIndexer.are_of_kind subject.input in
-    let next : IsNextHit subject.seeker.start.now v.units c.places.from c.next_start.result =
-    subst (λ u. IsNextHit u.seeker.start.now (g.Input.InputIndexer.view u.input).units c.places.from c.next_start.result) c.places.invariant.kept c.next_start.ensures in
-    let there = reaches program subject.seeker.start.now (g.Input.Shown.shown subject.input) v (g.met.Input.ExecutorInput.shows subject.input) all subject.sought subject.skips
+    let context = c.args.self.now.context in
+    let program = program_of context.program.now in
+    let v = g.Input.InputIndexer.view context.input in
+    let all = g.met.Input.InputIndexer.are_of_kind context.input in
+    let next : IsNextHit context.prefilter.start.now v.units c.places.from c.next_start.result =
+    subst (λ u. IsNextHit u.prefilter.start.now (g.Input.InputIndexer.view u.input).units c.places.from c.next_start.result) c.places.invariant.kept c.next_start.ensures in
+    let there = reaches program context.prefilter.start.now (g.Input.Shown.shown context.input) v (g.met.Input.ExecutorInput.shows context.input) all context.searchable context.skips
     c.args.offset c.places.from c.places.invariant.finds c.places.invariant.place c.next_start.result next c.in-Some.start c.in-Some.is in
     let passes : PassesOver program v c.in-Some.start c.in-Passed.past = subst (IsKnown program v c.in-Some.start) c.in-Passed.is c.known_at.ensures in
     let low = there.low in
@@ -160,13 +160,13 @@ places-smaller-in-Passed g c =
 
 pub places-preserved-in-Passed : goal.places-preserved-in-Passed
 places-preserved-in-Passed g c =
-    let subject = c.args.self.now.subject in
-    let program = program_of subject.program.now in
-    let v = g.Input.InputIndexer.view subject.input in
-    let all = g.met.Input.InputIndexer.are_of_kind subject.input in
-    let next : IsNextHit subject.seeker.start.now v.units c.places.from c.next_start.result =
-    subst (λ u. IsNextHit u.seeker.start.now (g.Input.InputIndexer.view u.input).units c.places.from c.next_start.result) c.places.invariant.kept c.next_start.ensures in
-    let there = reaches program subject.seeker.start.now (g.Input.Shown.shown subject.input) v (g.met.Input.ExecutorInput.shows subject.input) all subject.sought subject.skips
+    let context = c.args.self.now.context in
+    let program = program_of context.program.now in
+    let v = g.Input.InputIndexer.view context.input in
+    let all = g.met.Input.InputIndexer.are_of_kind context.input in
+    let next : IsNextHit context.prefilter.start.now v.units c.places.from c.next_start.result =
+    subst (λ u. IsNextHit u.prefilter.start.now (g.Input.InputIndexer.view u.input).units c.places.from c.next_start.result) c.places.invariant.kept c.next_start.ensures in
+    let there = reaches program context.prefilter.start.now (g.Input.Shown.shown context.input) v (g.met.Input.ExecutorInput.shows context.input) all context.searchable context.skips
     c.args.offset c.places.from c.places.invariant.finds c.places.invariant.place c.next_start.result next c.in-Some.start c.in-Some.is in
     let passes : PassesOver program v c.in-Some.start c.in-Passed.past = subst (IsKnown program v c.in-Some.start) c.in-Passed.is c.known_at.ensures in
     record { finds = passes.on c.args.offset there.on; place = passes.place; kept = c.places.invariant.kept }

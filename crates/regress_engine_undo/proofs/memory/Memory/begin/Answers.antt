@@ -1,6 +1,6 @@
 use Rattle.std.proofs.Common.{map, ap}
 use Rattle.regress_engine_runs.specs.States.{unset}
-use Rattle.regress_engine_sought.specs.StateViews.{loop_of, marks_of}
+use Rattle.regress_engine_search.specs.StateViews.{loop_of, marks_of}
 use Rattle.regress_engine_undo.specs.Held.{undo_of}
 use Rattle.regress_engine_undo.proofs.MemoryLemmas.{filled}
 use Rattle.regress_engine_undo.proofs.memory.Memory.begin.Goals as goal

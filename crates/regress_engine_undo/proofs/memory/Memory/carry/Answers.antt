@@ -2,7 +2,7 @@ use Rattle.std.proofs.Common.{◌≡◌, ◌<◌, length, map, refl, sym, ap, �
 use Rattle.std.proofs.lemmas.Bool.{cases_lt}
 use Rattle.std.proofs.lemmas.List.{length-map, get_or-map}
 use Rattle.regress_engine_runs.specs.States.{unset, mixed}
-use Rattle.regress_engine_sought.specs.StateViews.{marks_of}
+use Rattle.regress_engine_search.specs.StateViews.{marks_of}
 use Rattle.regress_engine_undo.specs.Held.{Held, held}
 use Rattle.regress_engine_undo.proofs.LeaveLemmas.{carried, carried-same, carried-count}
 use Rattle.regress_engine_undo.proofs.StepLemmas.{mark-sound, sound-then}

@@ -3,7 +3,7 @@ use Rattle.regress_meaning.specs.Meaning.{Direction}
 use Rattle.regress_meaning.specs.Inputs.{Input}
 use Rattle.regress_engine_insn.specs.Instructions.{Program}
 use Rattle.regress_engine_runs.specs.States.{mixed}
-use Rattle.regress_engine_sought.specs.StateViews.{marks_of}
+use Rattle.regress_engine_search.specs.StateViews.{marks_of}
 use Rattle.regress_engine_undo.specs.Held.{held}
 use Rattle.regress_engine_undo.specs.Tasks.{StaysSound}
 use Rattle.regress_engine_undo.specs.Leaving.{work_of}

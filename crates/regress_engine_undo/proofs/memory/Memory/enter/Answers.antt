@@ -1,6 +1,6 @@
 use Rattle.std.proofs.Common.{ap, ◌∙◌}
 use Rattle.regress_engine_insn.specs.InsnViews.{fields}
-use Rattle.regress_engine_sought.specs.StateViews.{loop_of}
+use Rattle.regress_engine_search.specs.StateViews.{loop_of}
 use Rattle.regress_engine_undo.specs.Held.{held, loop_written}
 use Rattle.regress_engine_undo.proofs.MemoryLemmas.{ok-then}
 use Rattle.regress_engine_undo.proofs.StepLemmas.{enter-on, loop-sound, sound-then}

@@ -1,6 +1,6 @@
 use Rattle.std.proofs.Common.{◌≡◌, ◌++◌, map, ap, ap₂, ◌∙◌, refl, sym}
 use Rattle.regress_engine_runs.specs.States.{mixed}
-use Rattle.regress_engine_sought.specs.StateViews.{marks_of}
+use Rattle.regress_engine_search.specs.StateViews.{marks_of}
 use Rattle.regress_engine_undo.specs.Held.{held, frame_of}
 use Rattle.regress_engine_undo.proofs.LeaveLemmas.{leaves-all, leaves-negated, leaves-positive}
 use Rattle.regress_engine_undo.proofs.memory.Memory.leave.Goals as goal

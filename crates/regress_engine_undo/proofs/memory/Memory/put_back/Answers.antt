@@ -1,5 +1,5 @@
 use Rattle.std.proofs.Common.{ap}
-use Rattle.regress_engine_sought.specs.StateViews.{loop_of, marks_of}
+use Rattle.regress_engine_search.specs.StateViews.{loop_of, marks_of}
 use Rattle.regress_engine_undo.specs.Held.{held, undo_of, frame_of}
 use Rattle.regress_engine_undo.proofs.BackLemmas.{held-as, held-old_loop, old_loop-there, held-old_group, old_group-there, held-resume, held-iterate, held-give_back, held-take_on, held-frame, held-tried}
 use Rattle.regress_engine_undo.proofs.LeaveLemmas.{loop-outside, group-outside, resume-outside, iterate-outside, give_back-outside, take_on-outside, frame-outside, tried-outside, outside-as}

@@ -1,7 +1,7 @@
 use Rattle.std.proofs.Common.{ap, List}
 use Rattle.std.proofs.lemmas.List.{map-set}
 use Rattle.regress_engine_runs.specs.States.{Marks}
-use Rattle.regress_engine_sought.specs.StateViews.{marks_of}
+use Rattle.regress_engine_search.specs.StateViews.{marks_of}
 use Rattle.regress_engine_undo.specs.Held.{Held, held}
 use Rattle.regress_engine_undo.proofs.memory.Memory.restore_group.Goals as goal
 

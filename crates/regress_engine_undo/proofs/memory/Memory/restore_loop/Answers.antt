@@ -1,6 +1,6 @@
 use Rattle.std.proofs.Common.{ap, List, ℕ}
 use Rattle.std.proofs.lemmas.List.{map-set}
-use Rattle.regress_engine_sought.specs.StateViews.{loop_of}
+use Rattle.regress_engine_search.specs.StateViews.{loop_of}
 use Rattle.regress_engine_undo.specs.Held.{Held, held}
 use Rattle.regress_engine_undo.proofs.memory.Memory.restore_loop.Goals as goal
 

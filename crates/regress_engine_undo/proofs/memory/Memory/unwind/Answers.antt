@@ -1,5 +1,5 @@
 use Rattle.std.proofs.Common.{length, ap, ◌∙◌, subst, arith}
-use Rattle.regress_engine_sought.specs.Tasks.{outside_of}
+use Rattle.regress_engine_search.specs.Tasks.{outside_of}
 use Rattle.regress_engine_undo.specs.Held.{Held, held}
 use Rattle.regress_engine_undo.specs.Sound.{IsHeld}
 use Rattle.regress_engine_undo.specs.Leaving.{work_of}

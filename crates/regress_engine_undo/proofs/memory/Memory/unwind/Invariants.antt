@@ -2,7 +2,7 @@ use Rattle.std.proofs.Common.{◌≡◌, length}
 use Rattle.regress_meaning.specs.Meaning.{Direction}
 use Rattle.regress_meaning.specs.Inputs.{Input}
 use Rattle.regress_engine_insn.specs.Instructions.{Program}
-use Rattle.regress_engine_sought.specs.Tasks.{outside_of}
+use Rattle.regress_engine_search.specs.Tasks.{outside_of}
 use Rattle.regress_engine_undo.specs.Held.{held}
 use Rattle.regress_engine_undo.specs.Tasks.{StaysSound}
 use Rattle.regress_engine_undo.specs.Leaving.{work_of}

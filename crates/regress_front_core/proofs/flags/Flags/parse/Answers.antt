@@ -21,8 +21,8 @@ first_error-more before cs n c h =
 word_error-end : (cs before : List ℕ) (script : ScriptFlags) → first_error [] cs ≡ first_error before (drop (length before) cs)
     → length before ≡ length cs → script ≡ script_flags_of cs
     → word_error cs ≡ (if script.flags.unicode && script.flags.unicode_sets then Some BothUnicodeModes else None)
-word_error-end cs before script sought all set =
-    rw (sought, at_drop_all (first_error before) cs (length before) (omega (arith, all)), set) refl
+word_error-end cs before script searched all set =
+    rw (searched, at_drop_all (first_error before) cs (length before) (omega (arith, all)), set) refl
 
 pub loop-letter-preserved : goal.loop-letter-preserved
 loop-letter-preserved c =
@@ -31,7 +31,7 @@ loop-letter-preserved c =
     let told = c.in_ok-set.ensures.refused c.loop-letter.yielded c.loop-letter.invariant.set in
     record {
       set = c.in_ok-set.ensures.set c.loop-letter.yielded c.loop-letter.invariant.set;
-      sought = rw (length_push, c.loop-letter.invariant.sought, step, ← told) refl;
+      searched = rw (length_push, c.loop-letter.invariant.searched, step, ← told) refl;
     }
 
 pub returns-in_err-set-clause-refused : goal.returns-in_err-set-clause-refused
@@ -40,7 +40,7 @@ returns-in_err-set-clause-refused c =
     let step = first_error-more c.loop-letter.yielded _ _ _ turn in
     let told = c.in_err-set.ensures.refused c.loop-letter.yielded c.loop-letter.invariant.set in
     let p = err_from_is_err_and c.from_residual.result c.from_residual.ensures.1 in
-    rw (p.1, p.2, c.loop-letter.invariant.sought, step, ← told) refl
+    rw (p.1, p.2, c.loop-letter.invariant.searched, step, ← told) refl
 
 pub returns-clause-accepted : goal.returns-clause-accepted
 returns-clause-accepted c =
@@ -51,13 +51,13 @@ pub returns-then-script-2-clause-refused : goal.returns-then-script-2-clause-ref
 returns-then-script-2-clause-refused c =
     let end = YieldsList-end (YieldsList-from_chars c.args.word.now c.utf8.word cc) c.loop-letter.yielded _ c.loop-letter.yielded_by _ _ c.in-None.is c.next.ensures.steps in
     let set = c.loop-letter.invariant.set ∙ ap script_flags_of (sym (map-id c.loop-letter.yielded) ∙ end.0) in
-    rw (word_error-end _ _ c.loop-letter.script c.loop-letter.invariant.sought end.1 set, c.if-script.true, c.if-script-2.true) refl
+    rw (word_error-end _ _ c.loop-letter.script c.loop-letter.invariant.searched end.1 set, c.if-script.true, c.if-script-2.true) refl
 
 pub returns-clause-refused : goal.returns-clause-refused
 returns-clause-refused c =
     let end = YieldsList-end (YieldsList-from_chars c.args.word.now c.utf8.word cc) c.loop-letter.yielded _ c.loop-letter.yielded_by _ _ c.in-None.is c.next.ensures.steps in
     let set = returns-clause-accepted c in
-    let told = word_error-end _ _ c.loop-letter.script c.loop-letter.invariant.sought end.1 set in
+    let told = word_error-end _ _ c.loop-letter.script c.loop-letter.invariant.searched end.1 set in
     elim c.else-script.branch [
       | else-script-via-then-script+else-script-2 w ↦ rw (told, w.if-script.true, w.if-script-2.false) refl
       | else-script-via-else-script w ↦ rw (told, w.if-script.false) refl

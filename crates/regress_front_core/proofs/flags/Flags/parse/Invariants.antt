@@ -5,5 +5,5 @@ use Rattle.regress_front_core.proofs.flags.Flags.parse.Given as goal
 abbrev pub invariant-loop-letter : goal.invariant-loop-letter
 invariant-loop-letter l = record {
   set : l.script ≡ script_flags_of l.yielded;
-  sought : first_error [] (chars l.word) ≡ first_error l.yielded (drop (length l.yielded) (chars l.word));
+  searched : first_error [] (chars l.word) ≡ first_error l.yielded (drop (length l.yielded) (chars l.word));
 }

@@ -1,7 +1,7 @@
 use Rattle.std.proofs.Common.{◌≡◌, true, sym, ◌∙◌}
 use Rattle.regress_front_nodes.specs.Trees.{tree}
 use Rattle.regress_front_nodes.proofs.TreeLaws.{tree-Cat}
-use Rattle.regress_front_opt.proofs.TurnLemmas.{last-advances, none-advances}
+use Rattle.regress_front_opt.proofs.AdvanceLemmas.{last-advances, none-advances}
 use Rattle.regress_front_opt.proofs.cats.ShortCatsPass.rewrite.Goals as goal
 
 pub returns-in-Some : goal.returns-in-Some

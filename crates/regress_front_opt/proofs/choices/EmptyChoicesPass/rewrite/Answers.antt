@@ -1,5 +1,5 @@
 use Rattle.std.proofs.Common.{sym, ◌∙◌}
-use Rattle.regress_front_opt.proofs.TurnLemmas.{choice-advances}
+use Rattle.regress_front_opt.proofs.AdvanceLemmas.{choice-advances}
 use Rattle.regress_front_opt.proofs.choices.EmptyChoicesPass.rewrite.Goals as goal
 
 pub returns-then-is_choice_of_empties : goal.returns-then-is_choice_of_empties

@@ -4,7 +4,7 @@ use Rattle.regress_front_nodes.specs.TreeMeaning.{direction}
 use Rattle.regress_front_rules.specs.NormalForm.{is_loose_char}
 use Rattle.regress_front_nodes.proofs.TreeLaws.{tree-ByteSequence}
 use Rattle.regress_front_opt.proofs.PassLemmas.{passed-refused}
-use Rattle.regress_front_opt.proofs.TurnLemmas.{letter-advances}
+use Rattle.regress_front_opt.proofs.AdvanceLemmas.{letter-advances}
 use Rattle.regress_front_opt.proofs.letters.SpelledCharsPass.rewrite.Goals as goal
 
 pub returns-in_err-bytes : goal.returns-in_err-bytes

@@ -5,7 +5,7 @@ use Rattle.regress_front_nodes.specs.Trees.{tree}
 use Rattle.regress_front_nodes.proofs.TreeLaws.{tree-Loop, tree-Loop1CharBody}
 use Rattle.regress_front_rules.specs.NormalForm.{is_loop_of_one}
 use Rattle.regress_front_opt.proofs.NodeKinds.{no-loop}
-use Rattle.regress_front_opt.proofs.TurnLemmas.{loop-advances}
+use Rattle.regress_front_opt.proofs.AdvanceLemmas.{loop-advances}
 use Rattle.regress_front_opt.proofs.single_loops.SingleLoopsPass.rewrite.Goals as goal
 
 pub unreachable-requires : goal.unreachable-requires

@@ -1,0 +1,96 @@
+//! Addresses from which surely no match can be reached, since what is taken there doesn't stand.
+ghost use Rattle.std.specs.Prelude.{◌≡◌, ℕ, true, Some};
+ghost use Rattle.regress_meaning.specs.Meaning.{Forward as ahead, Backward as backward};
+ghost use Rattle.regress_engine_code.specs.Standing.{program_of};
+ghost use Rattle.regress_engine_input.specs.Views.{View, direction_of, input_of, in_bytes, unit_beside};
+ghost use Rattle.regress_engine_search.specs.Search.{Suits};
+ghost use Rattle.regress_engine_singles.specs.Failing.{IsDead};
+
+use crate::literals::bytes_beside;
+use regress_engine_code::CompiledRegex;
+use regress_engine_input::{InputIndexer, PositionType};
+use regress_engine_insn::bytes_of;
+
+/// The byte ahead of an offset, which may be any; `None` where the text ends, and over units.
+///
+/// ```rust
+/// let byte = next_byte(&input, 0);
+/// ```
+#[inline(always)]
+pub fn next_byte<Input: InputIndexer>(input: &Input, offset: usize) -> Option<u8>
+    ensures { result ≡ in_bytes (Input.view input.now).kind (unit_beside (Input.view input.now).units ahead offset) }
+{
+    if offset > input.pos_to_offset(input.right_end()) {
+        return None;
+    }
+    let position = <Input::Position as PositionType>::new(offset);
+    input.peek_byte_right(position)
+}
+
+/// Whether surely no match can be reached from an address on, read forward, where this byte stands ahead.
+///
+/// ```rust
+/// let dead = is_dead_ahead(&program, 0, b'a');
+/// ```
+#[inline(always)]
+pub fn is_dead_ahead(program: &CompiledRegex, at: usize, byte: u8) -> bool
+    ensures { (v : View) (o : ℕ) → Suits (program_of program.now) v → Some byte ≡ in_bytes v.kind (unit_beside v.units ahead o) → result ≡ true
+        → IsDead (program_of program.now) (input_of v) ahead at o }
+{
+    program.cannot_begin_with(at, byte)
+}
+
+/// Whether surely no match can be reached from an address on, read backward: the bytes taken there don't stand before an offset.
+///
+/// Asks that the program suits the text.
+///
+/// ```rust
+/// let dead = is_dead_behind(&program, &input, 0, 1);
+/// ```
+#[inline]
+pub fn is_dead_behind<Input: InputIndexer>(
+    program: &CompiledRegex,
+    input: &Input,
+    at: usize,
+    offset: usize,
+) -> bool
+    requires { Suits (program_of program.now) (Input.view input.now) }
+    ensures { result ≡ true → IsDead (program_of program.now) (input_of (Input.view input.now)) backward at offset }
+{
+    let insns = program.insns();
+    if at >= insns.len() {
+        return false;
+    }
+    let bytes = bytes_of(&insns[at]);
+    if bytes.is_empty() {
+        return false;
+    }
+    bytes_beside(input, false, offset, bytes).is_none()
+}
+
+/// Whether surely no match can be reached from an address on, by what stands beside an offset, forward or backward.
+///
+/// Asks that the program suits the text.
+///
+/// ```rust
+/// let dead = is_dead(&program, &input, 0, true, 1);
+/// ```
+#[inline]
+pub fn is_dead<Input: InputIndexer>(
+    program: &CompiledRegex,
+    input: &Input,
+    at: usize,
+    forward: bool,
+    offset: usize,
+) -> bool
+    requires { Suits (program_of program.now) (Input.view input.now) }
+    ensures { result ≡ true → IsDead (program_of program.now) (input_of (Input.view input.now)) (direction_of forward) at offset }
+{
+    if !forward {
+        return is_dead_behind(program, input, at, offset);
+    }
+    match next_byte(input, offset) {
+        Some(byte) => is_dead_ahead(program, at, byte),
+        None => false,
+    }
+}

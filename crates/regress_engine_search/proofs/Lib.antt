@@ -1,0 +1,14 @@
+pub mod BracketLemmas
+pub mod InsnLemmas
+pub mod FillLemmas
+pub mod TaskLemmas
+pub mod SubmatchLemmas
+pub mod ReadyLemmas
+pub mod PlaceLemmas
+pub mod GivenBack
+pub mod SearchLemmas
+pub mod SkipLemmas
+pub mod ProducerLemmas
+pub mod AgreeLemmas
+pub mod ByteTexts
+pub mod ExecutorLemmas

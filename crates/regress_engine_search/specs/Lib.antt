@@ -1,0 +1,9 @@
+pub mod StateViews
+pub mod Ready
+pub mod Tasks
+pub mod Submatches
+pub mod Answering
+pub mod Search
+pub mod Skipping
+pub mod SearchProps
+pub mod Searching

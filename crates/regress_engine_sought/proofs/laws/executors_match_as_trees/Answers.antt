@@ -1,5 +1,0 @@
-use Rattle.regress_engine_sought.proofs.ProducerLemmas.{outcome-of_tree}
-use Rattle.regress_engine_sought.proofs.laws.executors_match_as_trees.Goals as goal
-
-pub returns : goal.returns
-returns c = outcome-of_tree

@@ -1,5 +1,0 @@
-use Rattle.regress_engine_sought.proofs.SkipLemmas.{layout-skips}
-use Rattle.regress_engine_sought.proofs.laws.start_predicates_may_skip.Goals as goal
-
-pub returns : goal.returns
-returns c = layout-skips

@@ -1,9 +1,0 @@
-pub mod StateViews
-pub mod Ready
-pub mod Tasks
-pub mod Submatches
-pub mod Answering
-pub mod Sought
-pub mod Skipping
-pub mod SoughtOnce
-pub mod Searching
