@@ -133,7 +133,7 @@ name_by_number k any_in_line = None
 name_by_number k (line_start multiline) = None
 name_by_number k (line_end multiline) = None
 name_by_number k (boundary inverted folded) = None
-name_by_number k (back k icase) = None
+name_by_number k (back j icase) = None
 name_by_number k (bracket inverted intervals) = None
 name_by_number k (string_set strings icase) = None
 
