@@ -46,10 +46,8 @@ pub(crate) fn first_of_bracket(contents: &BracketContents) -> Result<ByteBitmap,
     if !contents.invert {
         return Ok(first_of_intervals(contents.cps.intervals()));
     }
-    match contents.cps.inverted() {
-        Ok(others) => Ok(first_of_intervals(others.intervals())),
-        Err(_) => Err(AllocError),
-    }
+    let others = contents.cps.try_inverted()?;
+    Ok(first_of_intervals(others.intervals()))
 }
 
 /// The set of some ASCII bytes, each the first of its character.

@@ -50,45 +50,45 @@ fn has_split(node: &Node) -> bool
     }
 }
 
-/// Adds two parts behind others, and joins them if both are literals. It answers whether memory was refused for that, and
-/// then they stand side by side.
-fn add_both(joined: &mut NodeList, last: Node, part: Node) -> bool
+/// Adds two parts behind others, and joins them if both are literals. Where memory is refused for that, they stand side by
+/// side.
+fn add_both(joined: &mut NodeList, last: Node, part: Node) -> Result<(), AllocError>
     requires { vec_len joined.old + 1 < vec_capacity joined.old }
     ensures joined { Joins (map tree joined.old.items ++ tree last ∷ tree part ∷ []) (map tree joined.new.items) }
-    ensures apart { result ≡ false → literals_meet (map tree joined.old.items ++ tree last ∷ []) ≡ false → literals_meet (map tree joined.new.items) ≡ false }
+    ensures apart { OnOk result (literals_meet (map tree joined.old.items ++ tree last ∷ []) ≡ false → literals_meet (map tree joined.new.items) ≡ false) }
     ensures len { vec_len joined.new ≤ vec_len joined.old + 2 }
     ensures capacity { vec_capacity joined.new ≡ vec_capacity joined.old }
 {
     match last {
         Node::ByteSequence(mut first) => match part {
             Node::ByteSequence(mut second) => {
-                let refused = first.append(&mut second).is_err();
+                let outcome = first.append(&mut second);
                 joined.push_reserved(Node::ByteSequence(first));
-                if refused {
+                if outcome.is_err() {
                     joined.push_reserved(Node::ByteSequence(second));
                 }
-                refused
+                outcome
             }
             part => {
                 joined.push_reserved(Node::ByteSequence(first));
                 joined.push_reserved(part);
-                false
+                Ok(())
             }
         },
         last => {
             joined.push_reserved(last);
             joined.push_reserved(part);
-            false
+            Ok(())
         }
     }
 }
 
-/// Adds a part behind others, and joins it with the last of them if both are literals. It answers whether memory was refused
-/// for that, and then they stand side by side.
-fn add(joined: &mut NodeList, part: Node) -> bool
+/// Adds a part behind others, and joins it with the last of them if both are literals. Where memory is refused for that, they
+/// stand side by side.
+fn add(joined: &mut NodeList, part: Node) -> Result<(), AllocError>
     requires { vec_len joined.old < vec_capacity joined.old }
     ensures joined { Joins (map tree joined.old.items ++ tree part ∷ []) (map tree joined.new.items) }
-    ensures apart { result ≡ false → literals_meet (map tree joined.old.items) ≡ false → literals_meet (map tree joined.new.items) ≡ false }
+    ensures apart { OnOk result (literals_meet (map tree joined.old.items) ≡ false → literals_meet (map tree joined.new.items) ≡ false) }
     ensures len { vec_len joined.new ≤ vec_len joined.old + 1 }
     ensures capacity { vec_capacity joined.new ≡ vec_capacity joined.old }
 {
@@ -96,7 +96,7 @@ fn add(joined: &mut NodeList, part: Node) -> bool
         Some(last) => add_both(joined, last, part),
         None => {
             joined.push_reserved(part);
-            false
+            Ok(())
         }
     }
 }
@@ -107,15 +107,13 @@ fn join_in_order(alloc: Global, parts: &mut NodeList) -> Result<(), AllocError>
     ensures apart { OnOk result (literals_meet (map tree parts.new.items) ≡ false) }
 {
     let mut joined = Vec::with_capacity(alloc, parts.len())?;
-    let mut refused = false;
+    let mut outcome = Ok(());
     for part in parts.iter_mut() {
-        refused |= add(&mut joined, mem::replace(part, Node::Empty));
+        let added = add(&mut joined, mem::replace(part, Node::Empty));
+        outcome = outcome.and(added);
     }
     *parts = joined;
-    if refused {
-        return Err(AllocError);
-    }
-    Ok(())
+    outcome
 }
 
 /// Joins literals side by side. In a lookbehind the parts stand from right to left, so the later literal stands in front.

@@ -55,10 +55,9 @@ fn copy_of(alloc: Global, body: &Node) -> Result<Node, AllocError>
     requires { MayBeUnrolled (tree body.now) }
     ensures { IfOk result (λ n. tree n ≡ tree body.now) }
 {
-    match body.try_duplicate(alloc, 0) {
-        Ok(Some(copy)) => Ok(copy),
-        Ok(None) => unreachable!(),
-        Err(_) => Err(AllocError),
+    match body.duplicate(alloc, 0)? {
+        Some(copy) => Ok(copy),
+        None => unreachable!(),
     }
 }
 

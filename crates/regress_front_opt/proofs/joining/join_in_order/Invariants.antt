@@ -1,4 +1,5 @@
 use Rattle.std.proofs.Common.{◌≡◌, ◌+◌, ◌++◌, ◌≤◌, false, map, drop, length, vec_len}
+use Rattle.std.specs.Result.{OnOk}
 use Rattle.std.specs.Vec.{vec_capacity}
 use Rattle.regress_front_nodes.specs.Trees.{tree}
 use Rattle.regress_front_rules.specs.NormalForm.{literals_meet}
@@ -12,4 +13,4 @@ invariant-loop-part l =
     × (drop l.part-index l.part-items ≡ drop l.part-index l.initial.part-items)
     × (length l.part-items ≡ length l.initial.part-items)
     × (vec_len l.joined ≤ l.part-index) × (length l.initial.part-items ≤ vec_capacity l.joined)
-    × (l.refused ≡ false → literals_meet (map tree l.joined.items) ≡ false)
+    × OnOk l.outcome (literals_meet (map tree l.joined.items) ≡ false)
