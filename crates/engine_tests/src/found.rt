@@ -23,7 +23,7 @@ fn tell_group(told: &mut String, group: Option<Range>) -> Result<(), AllocError>
 }
 
 /// Adds a match to a text: its range and that of each group, parted by spaces, `-` for a group without one.
-fn tell(told: &mut String, found: &Match) -> Result<(), AllocError> {
+pub(crate) fn tell(told: &mut String, found: &Match) -> Result<(), AllocError> {
     let mut is_first = true;
     for group in found.groups() {
         if !is_first {

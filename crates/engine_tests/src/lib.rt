@@ -15,6 +15,8 @@ mod inputs;
 #[cfg(test)]
 mod long;
 #[cfg(test)]
+mod outcomes;
+#[cfg(test)]
 mod parsed;
 #[cfg(test)]
 mod positions;

@@ -10,6 +10,7 @@
 mod asking;
 mod building;
 mod copying;
+mod outcomes;
 mod refusal;
 mod replacing;
 mod row;
@@ -30,6 +31,7 @@ const TOLD: usize = 0x4_0000;
 fn try_row(alloc: Global, row: &Row, told: &mut String) -> Result<bool, Refusal> {
     let is_done = building::try_row(alloc, row, told)?
         || searching::try_row(alloc, row, told)?
+        || outcomes::try_row(alloc, row, told)?
         || replacing::try_row(alloc, row, told)?
         || copying::try_row(alloc, row, told)?
         || sets::try_row(alloc, row, told)?

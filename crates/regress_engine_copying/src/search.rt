@@ -15,7 +15,7 @@ use crate::stack::Stack;
 use crate::state::State;
 use regress_engine_advance::any;
 use regress_engine_code::CompiledRegex;
-use regress_engine_search::{ExecutorInput, SearchContext, Shown, captures};
+use regress_engine_search::{ExecutorInput, SearchContext, Shown};
 use regress_match::{Match, MatchProducer};
 use std::alloc::{AllocError, Global};
 
@@ -58,16 +58,15 @@ impl<'r, Input: ExecutorInput> PikeVMExecutor<'r, Input> {
         ensures found { IfOk result (λ found. IsFound (program_of self.old.context.program.now) (input_of (Input.view self.old.context.input)) offset (option_map (λ x. (x.0, x.1.offset)) found) (groups_of (option_map (λ x. x.1) found))) }
         ensures kept { self.new.context ≡ self.old.context }
     {
-        let program = self.context.program;
-        let input = self.context.input;
+        let context = &self.context;
         let mut from = offset;
         'places: loop {
-            let Some(start) = self.context.next_start(from) else {
+            let Some(start) = context.next_start(from) else {
                 return Ok(None);
             };
             let attempt = Attempt {
-                program,
-                input,
+                program: context.program,
+                input: context.input,
                 start,
             };
             if let Some(found) = attempt.run(self.alloc, &mut self.stack, &mut self.ends)? {
@@ -96,12 +95,12 @@ impl<'r, Input: ExecutorInput> PikeVMExecutor<'r, Input> {
         ensures named { IfOk result (λ found. IfSome found (λ m. names_of_match m ≡ names_of self.old.context.program.now)) }
         ensures kept { self.new.context ≡ self.old.context }
     {
-        let Some((start, found)) = self.search(offset)? else {
+        let Some((start, state)) = self.search(offset)? else {
             return Ok(None);
         };
-        let captures = captures(self.alloc, &found.groups)?;
-        let names = self.context.program.shared_group_names()?;
-        Ok(Some(Match::new(start..found.offset, captures, names)))
+        let range = start..state.offset;
+        let found = self.context.match_of(self.alloc, range, &state.groups)?;
+        Ok(Some(found))
     }
 
     /// The match that begins at an offset: that of the program's run from there, begun at the first instruction with nothing
@@ -125,11 +124,11 @@ impl<'r, Input: ExecutorInput> PikeVMExecutor<'r, Input> {
             input: self.context.input,
             start: offset,
         };
-        let Some(found) = attempt.run(self.alloc, &mut self.stack, &mut self.ends)? else {
+        let Some(state) = attempt.run(self.alloc, &mut self.stack, &mut self.ends)? else {
             return Ok(None);
         };
-        let captures = captures(self.alloc, &found.groups)?;
-        let names = self.context.program.shared_group_names()?;
-        Ok(Some(Match::new(offset..found.offset, captures, names)))
+        let range = offset..state.offset;
+        let found = self.context.match_of(self.alloc, range, &state.groups)?;
+        Ok(Some(found))
     }
 }

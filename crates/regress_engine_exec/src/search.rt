@@ -18,7 +18,7 @@ use regress_engine_advance::beside;
 use regress_engine_code::CompiledRegex;
 use regress_engine_inputs::Utf8Input;
 use regress_engine_leading::{Beginning, known_at};
-use regress_engine_search::{ExecutorInput, SearchContext, Shown, captures};
+use regress_engine_search::{ExecutorInput, SearchContext, Shown};
 use regress_engine_undo::Memory;
 use regress_front_core::GroupData;
 use regress_match::{Match, MatchProducer};
@@ -63,14 +63,13 @@ impl<'r, Input: ExecutorInput> BacktrackExecutor<'r, Input> {
         ensures found { IfOk result (λ found. IsFound (program_of self.old.context.program.now) (input_of (Input.view self.old.context.input)) offset found (held self.new.memory).groups) }
         ensures kept { self.new.context ≡ self.old.context }
     {
-        let program = self.context.program;
-        let input = self.context.input;
+        let context = &self.context;
         let mut from = offset;
         'places: loop {
-            let Some(start) = self.context.next_start(from) else {
+            let Some(start) = context.next_start(from) else {
                 return Ok(None);
             };
-            let first = match known_at(program, &input, start) {
+            let first = match known_at(context.program, &context.input, start) {
                 Beginning::Passed(past) => {
                     from = past;
                     continue;
@@ -78,14 +77,14 @@ impl<'r, Input: ExecutorInput> BacktrackExecutor<'r, Input> {
                 Beginning::At(first) => first,
             };
             let attempt = Attempt {
-                program,
-                input,
+                program: context.program,
+                input: context.input,
                 start,
             };
             if let Some(end) = attempt.run(first, &mut self.memory, &mut self.answer)? {
                 return Ok(Some((start, end)));
             }
-            let Some((_, behind)) = beside(&input, true, start) else {
+            let Some((_, behind)) = beside(&context.input, true, start) else {
                 return Ok(None);
             };
             from = behind;
@@ -111,9 +110,8 @@ impl<'r, Input: ExecutorInput> BacktrackExecutor<'r, Input> {
         let Some((start, end)) = self.search(offset)? else {
             return Ok(None);
         };
-        let captures = captures(self.alloc, &self.memory.groups)?;
-        let names = self.context.program.shared_group_names()?;
-        Ok(Some(Match::new(start..end, captures, names)))
+        let found = self.context.match_of(self.alloc, start..end, &self.memory.groups)?;
+        Ok(Some(found))
     }
 
     /// The match that begins at an offset: that of the program's run from there, begun at the first instruction with nothing
@@ -140,9 +138,8 @@ impl<'r, Input: ExecutorInput> BacktrackExecutor<'r, Input> {
         let Some(end) = attempt.run(0, &mut self.memory, &mut self.answer)? else {
             return Ok(None);
         };
-        let captures = captures(self.alloc, &self.memory.groups)?;
-        let names = self.context.program.shared_group_names()?;
-        Ok(Some(Match::new(offset..end, captures, names)))
+        let found = self.context.match_of(self.alloc, offset..end, &self.memory.groups)?;
+        Ok(Some(found))
     }
 }
 

@@ -9,9 +9,6 @@ use Rattle.regress_meaning.specs.Laws.{IsItemInside, LiesIn}
 use Rattle.regress_meaning.specs.Matches.{Item}
 use Rattle.regress_meaning.specs.Offsets.{Reading, offset, offset_range, told as told_in}
 use Rattle.regress_front_core.specs.declared.state.GroupData.{GroupData}
-use Rattle.regress_match.specs.declared.found.Match.{Match}
-use Rattle.regress_match.specs.Views as match
-use Rattle.regress_match.specs.Views.{ends}
 use Rattle.regress_front_bytes.proofs.TextLemmas.{offset-le}
 use Rattle.regress_front_nodes.specs.Trees.{Tree}
 use Rattle.regress_front_nodes.specs.WellFormed.{IsWellFormed}
@@ -35,8 +32,8 @@ use Rattle.regress_engine_runs.proofs.ItemLemmas.{lists}
 use Rattle.regress_engine_runs.proofs.SafeRuns.{reads-where_met}
 use Rattle.regress_engine_runs.proofs.WholeTree.{runs_as_tree, runs_safely}
 use Rattle.regress_engine_matchers.proofs.ViewLemmas.{view_reads}
-use Rattle.regress_engine_search.specs.StateViews.{marks_of}
-use Rattle.regress_engine_search.specs.Answering.{IsAnswer, IsFound, IsOutcome}
+use Rattle.regress_engine_search.specs.StateViews.{marks_of, item_with}
+use Rattle.regress_engine_search.specs.Answering.{IsAnswer, IsFound, IsOutcome, FindsOn}
 use Rattle.regress_engine_search.specs.Search.{IsItemAtPlaces, Listed, IsSearchable}
 use Rattle.regress_engine_search.specs.SearchProps.{IsItemAtPlaces-prop}
 use Rattle.regress_engine_search.proofs.PlaceLemmas.{can-read, moves, next-place}
@@ -105,10 +102,6 @@ layout-searchable target v all kind made n t formed layout = record {
               (λ i h. item-at_places (reading_of v) i h.0) matches (matches_lie context n t p));
         }
 
--- what a search from one place finds is what one from another does
-abbrev pub FindsOn : Program → Input → ℕ → ℕ → Type 0
-FindsOn program input offset start = (i : Option Item) → Finds program input start i → Finds program input offset i
-
 -- a match that a search finds is at places
 pub found-inside : (program : Program) (v : View) → IsSearchable program v → (at : ℕ) → IsAtPlace (reading_of v) at → (i : Item) → Finds program (input_of v) at (Some i)
     → IsItemAtPlaces (reading_of v) i
@@ -143,26 +136,22 @@ ranges-are : (gs : List (GroupData ℕ)) → map range_of (map marks_of gs) ≡ 
 ranges-are [] = refl
 ranges-are (g ∷ gs) = ap (λ xs. range_of (marks_of g) ∷ xs) (ranges-are gs)
 
--- the item of an answer is that of the match that is made of it
-item-told : (start end : ℕ) (w : Whole) (m : Match) (gs : List (GroupData ℕ)) → w.offset ≡ end → w.groups ≡ map marks_of gs → m.range.start ≡ start → m.range.end ≡ end
-    → map (option_map ends) m.captures.items ≡ map (λ g. range_of (marks_of g)) gs → item_of start w ≡ match.item_of m
-item-told start end w m gs last held first ended captures =
-    let ranges : map range_of w.groups ≡ map (option_map ends) m.captures.items = ap (map range_of) held ∙ ranges-are gs ∙ sym captures in
-    λ i. record { start = sym first i; end = (last ∙ sym ended) i; groups = ranges i }
+-- the item of an answer is that between its ends, with its groups
+item-told : (start end : ℕ) (w : Whole) (gs : List (GroupData ℕ)) → w.offset ≡ end → w.groups ≡ map marks_of gs → item_of start w ≡ item_with start end gs
+item-told start end w gs last held =
+    let ranges : map range_of w.groups ≡ map (λ g. range_of (marks_of g)) gs = ap (map range_of) held ∙ ranges-are gs in
+    λ i. record { start = start; end = last i; groups = ranges i }
 
--- the match that is made of what was found
-pub found-match : (program : Program) (input : Input) (at start end : ℕ) (groups : List Marks) (m : Match) (gs : List (GroupData ℕ)) → IsFound program input at (Some (start, end)) groups
-    → groups ≡ map marks_of gs → m.range.start ≡ start → m.range.end ≡ end → map (option_map ends) m.captures.items ≡ map (λ g. range_of (marks_of g)) gs
-    → Finds program input at (Some (match.item_of m))
-found-match program input at start end groups m gs (w, finds, last, same) held first ended captures =
-    subst (λ x. Finds program input at (Some x)) (item-told start end w m gs last (same ∙ held) first ended captures) finds
+-- the item of what was found
+pub found-item : (program : Program) (input : Input) (at start end : ℕ) (groups : List Marks) (i : Item) (gs : List (GroupData ℕ)) → IsFound program input at (Some (start, end)) groups
+    → groups ≡ map marks_of gs → i ≡ item_with start end gs → Finds program input at (Some i)
+found-item program input at start end groups i gs (w, finds, last, same) held is =
+    subst (λ x. Finds program input at (Some x)) (item-told start end w gs last (same ∙ held) ∙ sym is) finds
 
 -- and of the answer of one run
-pub outcome-match : (program : Program) (input : Input) (start end : ℕ) (groups : List Marks) (m : Match) (gs : List (GroupData ℕ)) → IsAnswer program input start (Some end) groups
-    → groups ≡ map marks_of gs → m.range.start ≡ start → m.range.end ≡ end → map (option_map ends) m.captures.items ≡ map (λ g. range_of (marks_of g)) gs
-    → IsOutcome program input start (Some (match.item_of m))
-outcome-match program input start end groups m gs (w, answers, last, same) held first ended captures =
-    (w, answers, item-told start end w m gs last (same ∙ held) first ended captures)
+pub outcome-item : (program : Program) (input : Input) (start end : ℕ) (groups : List Marks) (i : Item) (gs : List (GroupData ℕ)) → IsAnswer program input start (Some end) groups
+    → groups ≡ map marks_of gs → i ≡ item_with start end gs → IsOutcome program input start (Some i)
+outcome-item program input start end groups i gs (w, answers, last, same) held is = (w, answers, item-told start end w gs last (same ∙ held) ∙ sym is)
 
 -- the item of a run from a place is at places
 pub outcome-inside : (program : Program) (v : View) → IsSearchable program v → (at : ℕ) → IsAtPlace (reading_of v) at → (i : Item) → IsOutcome program (input_of v) at (Some i)

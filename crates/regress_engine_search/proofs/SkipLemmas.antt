@@ -33,11 +33,12 @@ use Rattle.regress_engine_runs.proofs.ItemLemmas.{skips}
 use Rattle.regress_engine_runs.proofs.WholeTree.{runs_as_tree}
 use Rattle.regress_engine_matchers.proofs.ViewLemmas.{view_reads}
 use Rattle.regress_engine_search.proofs.PlaceLemmas.{can-read}
+use Rattle.regress_engine_search.specs.Answering.{FindsOn}
 use Rattle.regress_engine_search.specs.Search.{IsSearchable}
 use Rattle.regress_engine_search.specs.SearchProps.{rises}
 use Rattle.regress_engine_prefix.specs.Prefiltering.{IsNextHit}
-use Rattle.regress_engine_search.specs.Skipping.{MaySkip}
-use Rattle.regress_engine_search.proofs.SearchLemmas.{FindsOn, bytes-units}
+use Rattle.regress_engine_search.specs.Skipping.{MaySkip, Reaches, IsNextStart}
+use Rattle.regress_engine_search.proofs.SearchLemmas.{bytes-units}
 
 -- ---- bytes that hold a text
 
@@ -168,7 +169,7 @@ module _ (program : Program) (start : StartPredicate) (v : View) (all : AreOfKin
       by_answer (Some w) h = absurd (none (skip.begins o place w h))
 
   -- what is found next is at a place
-  pub hit-place : (from at : ℕ) → IsAtPlace (reading_of v) from → IsNextHit start v.units from (Some at) → IsAtPlace (reading_of v) at
+  hit-place : (from at : ℕ) → IsAtPlace (reading_of v) from → IsNextHit start v.units from (Some at) → IsAtPlace (reading_of v) at
   hit-place from at place (low, here, before) = by_kind (is_arbitrary start) refl
     where
       by_kind : (b : Bool) → is_arbitrary start ≡ b → IsAtPlace (reading_of v) at
@@ -189,7 +190,7 @@ module _ (program : Program) (start : StartPredicate) (v : View) (all : AreOfKin
           by_order (inr more) = let same : from ≡ at = omega (arith, low, more) in subst (IsAtPlace (reading_of v)) same place
 
   -- a search goes on from there
-  pub skip-to : (offset' from at : ℕ) → FindsOn program (input_of v) offset' from → IsAtPlace (reading_of v) from → IsNextHit start v.units from (Some at)
+  skip-to : (offset' from at : ℕ) → FindsOn program (input_of v) offset' from → IsAtPlace (reading_of v) from → IsNextHit start v.units from (Some at)
       → FindsOn program (input_of v) offset' at
   skip-to offset' from at on (p, low, e) hit = by_place (hit-place from at (p, low, e) hit)
     where
@@ -212,7 +213,7 @@ module _ (program : Program) (start : StartPredicate) (v : View) (all : AreOfKin
               on i (subst (λ o. Finds program (input_of v) o i) (sym e) here)
 
   -- and where nothing is found next there is no match
-  pub skip-all : (offset' from : ℕ) → FindsOn program (input_of v) offset' from → IsAtPlace (reading_of v) from → IsNextHit start v.units from None
+  skip-all : (offset' from : ℕ) → FindsOn program (input_of v) offset' from → IsAtPlace (reading_of v) from → IsNextHit start v.units from None
       → Finds program (input_of v) offset' None
   skip-all offset' from on (p, low, e) never =
       let size = length (reading_of v).points in
@@ -235,28 +236,8 @@ module _ (program : Program) (start : StartPredicate) (v : View) (all : AreOfKin
           told.next Forward (length (reading_of v).points) (omega arith)
           ∙ ap (λ (o : Option ℕ). option_map (point_told (reading_of v)) (option_map (λ c. (c, suc (length (reading_of v).points))) o)) (past (reading_of v).points)
 
--- A search from an offset reaches another one, from a place on: what it finds is what a search from there finds.
-pub record Reaches (program : Program) (v : View) (offset' from at : ℕ) : Type 0 where
-  pub searchable : IsSearchable program v
-  pub low : from ≤ at
-  pub place : IsAtPlace (reading_of v) at
-  pub on : FindsOn program (input_of v) offset' at
-
--- over an input, which shows what is read
-module _ (program : Program) (start : StartPredicate) (shown v : View) (shows : shown ≡ v) (all : AreOfKind v.kind v.units) (searchable : IsSearchable program shown) (skip : MaySkip program start shown)
-    (offset' from : ℕ) (on : FindsOn program (input_of v) offset' from) (place : IsAtPlace (reading_of v) from) (next : Option ℕ) (is_next : IsNextHit start v.units from next) where
-  pub reaches : (at : ℕ) → next ≡ Some at → Reaches program v offset' from at
-  reaches at is =
-      let searchable' : IsSearchable program v = subst (IsSearchable program) shows searchable in
-      let skip' : MaySkip program start v = subst (MaySkip program start) shows skip in
-      let hit : IsNextHit start v.units from (Some at) = subst (IsNextHit start v.units from) is is_next in
-      record {
-        searchable = searchable';
-        low = hit.0;
-        place = hit-place program start v all searchable' skip' from at place hit;
-        on = skip-to program start v all searchable' skip' offset' from at on place hit;
-      }
-
-  pub reaches-none : next ≡ None → Finds program (input_of v) offset' None
-  reaches-none is =
-      skip-all program start v all (subst (IsSearchable program) shows searchable) (subst (MaySkip program start) shows skip) offset' from on place (subst (IsNextHit start v.units from) is is_next)
+  -- a search reaches what is found next
+  pub next-start : (from : ℕ) → IsAtPlace (reading_of v) from → (next : Option ℕ) → IsNextHit start v.units from next → IsNextStart program v from next
+  next-start from place None never offset' on = skip-all offset' from on place never
+  next-start from place (Some at) hit =
+      record { low = hit.0; place = hit-place from at place hit; on = λ offset' on. skip-to offset' from at on place hit }

@@ -20,3 +20,7 @@ IsOutcome program input start (Some item) = (w : Whole) × Answers program input
 abbrev pub IsFound : Program → Input → ℕ → Option (ℕ × ℕ) → List Marks → Type 0
 IsFound program input at None groups = Finds program input at None
 IsFound program input at (Some (start, end)) groups = (w : Whole) × Finds program input at (Some (item_of start w)) × (w.offset ≡ end) × (w.groups ≡ groups)
+
+-- What a search from one offset finds is what one from another does.
+abbrev pub FindsOn : Program → Input → ℕ → ℕ → Type 0
+FindsOn program input offset start = (i : Option Item) → Finds program input start i → Finds program input offset i

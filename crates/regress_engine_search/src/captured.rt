@@ -20,11 +20,7 @@ fn taken(group: &GroupData<usize>) -> Option<Range>
 
 /// The ranges of groups, of those that took part: where both of its ends are known. The ends are offsets in the text. Its one
 /// error is that memory is refused.
-///
-/// ```rust
-/// let captures = captures(alloc, &groups)?;
-/// ```
-pub fn captures(
+pub(crate) fn captures(
     alloc: Global,
     groups: &[GroupData<usize>],
 ) -> Result<Vec<Option<Range>>, AllocError>

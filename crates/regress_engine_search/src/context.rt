@@ -1,21 +1,26 @@
 //! What a search is of: a program, and a text.
-ghost use Rattle.std.specs.Prelude.{◌≡◌, length, option_map};
+ghost use Rattle.std.specs.Prelude.{◌≡◌, length, option_map, IfOk};
 ghost use Rattle.regress_meaning.specs.Meaning.{Forward};
+ghost use Rattle.regress_match.specs.GroupViews.{names_of_match};
 ghost use Rattle.regress_match.specs.Views.{item_of};
 ghost use Rattle.regress_engine_input.specs.Views.{CanRead, input_of, reading_of};
-ghost use Rattle.regress_engine_code.specs.Standing.{program_of};
+ghost use Rattle.regress_engine_code.specs.Standing.{names_of, program_of};
 ghost use Rattle.regress_engine_runs.specs.Items.{goes_on};
 ghost use Rattle.regress_engine_runs.specs.Meets.{IsAtPlace};
 ghost use Rattle.regress_engine_search.specs.Search.{IsSearchable, IsMadeOf, IsItemAtPlaces};
 ghost use Rattle.regress_engine_prefix.specs.Prefiltering.{IsNextHit};
-ghost use Rattle.regress_engine_search.specs.Skipping.{MaySkip};
+ghost use Rattle.regress_engine_search.specs.Skipping.{IsNextStart, MaySkip};
 ghost use Rattle.regress_engine_search.specs.SearchProps.{IsSearchable-prop, MaySkip-prop};
+ghost use Rattle.regress_engine_search.specs.StateViews.{item_with};
 
+use crate::captured::captures;
 use crate::shown::{ExecutorInput, Shown};
 use regress_engine_code::CompiledRegex;
 use regress_engine_input::{InputIndexer, PositionType};
 use regress_engine_prefix::Prefilter;
-use regress_match::Match;
+use regress_front_core::GroupData;
+use regress_match::{Match, Range};
+use std::alloc::{AllocError, Global};
 
 /// A program, and a text that may be searched with it.
 #[derive(Debug, Drop)]
@@ -60,7 +65,7 @@ impl<'r, Input: ExecutorInput> SearchContext<'r, Input> {
     }
 
     /// The least offset from one on at which the text goes on as the start predicate says: at no place before it has a run of
-    /// the program an answer. `None` where there is none.
+    /// the program an answer, so that a search goes on there. `None` where there is none, and no match.
     ///
     /// Asks that the offset is that of a place of the text.
     ///
@@ -69,7 +74,8 @@ impl<'r, Input: ExecutorInput> SearchContext<'r, Input> {
     /// ```
     pub fn next_start(&self, offset: usize) -> Option<usize>
         requires { IsAtPlace (reading_of (Input.view self.now.input)) offset }
-        ensures { IsNextHit self.now.prefilter.start.now (Input.view self.now.input).units offset result }
+        ensures hit { IsNextHit self.now.prefilter.start.now (Input.view self.now.input).units offset result }
+        ensures start { IsNextStart (program_of self.now.program.now) (Input.view self.now.input) offset result }
     {
         match self.input.bytes() {
             Some(bytes) => self.prefilter.find_from(bytes, offset),
@@ -85,6 +91,25 @@ impl<'r, Input: ExecutorInput> SearchContext<'r, Input> {
         let position = <Input::Position as PositionType>::new(offset);
         let behind = self.input.next_right_pos(position)?;
         Some(self.input.pos_to_offset(behind))
+    }
+
+    /// The match of a range and of groups, with the program's names. Its one error is that memory is refused.
+    ///
+    /// ```rust
+    /// let found = context.match_of(alloc, start..end, &groups)?;
+    /// ```
+    pub fn match_of(
+        &self,
+        alloc: Global,
+        range: Range,
+        groups: &[GroupData<usize>],
+    ) -> Result<Match, AllocError>
+        ensures item { IfOk result (λ found. item_of found ≡ item_with range.start range.end groups.now) }
+        ensures named { IfOk result (λ found. names_of_match found ≡ names_of self.now.program.now) }
+    {
+        let captures = captures(alloc, groups)?;
+        let names = self.program.shared_group_names()?;
+        Ok(Match::new(range, captures, names))
     }
 
     /// Where a search goes on behind a match: where the match ends, or behind an empty match behind the next character;

@@ -9,7 +9,6 @@ mod laws;
 mod shown;
 mod submatch;
 
-pub use captured::captures;
 pub use context::SearchContext;
 pub use executor::{AnyText, AsciiText, Executor, TextKind};
 pub use laws::{

@@ -19,7 +19,8 @@ use Rattle.regress_engine_search.specs.Search.{Suits}
 use Rattle.regress_engine_search.proofs.GivenBack.{given-back}
 use Rattle.regress_engine_search.proofs.InsnLemmas.{simple-plain, simple-successors}
 use Rattle.regress_engine_search.proofs.PlaceLemmas.{moves, next-place}
-use Rattle.regress_engine_search.proofs.SearchLemmas.{FindsOn, search-on}
+use Rattle.regress_engine_search.specs.Answering.{FindsOn}
+use Rattle.regress_engine_search.proofs.SearchLemmas.{search-on}
 use Rattle.regress_engine_singles.specs.Failing.{Fail, failed, steps, IsDead}
 use Rattle.regress_engine_singles.specs.Passed.{is_class, PassesOver}
 use Rattle.regress_engine_singles.proofs.Chains.{Takes, given-taken}

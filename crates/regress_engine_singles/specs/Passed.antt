@@ -6,7 +6,7 @@ use Rattle.regress_engine_input.specs.Views.{View, input_of, reading_of}
 use Rattle.regress_engine_insn.specs.Instructions.{Instruction, Program}
 use Rattle.regress_engine_insn.specs.Instructions as code
 use Rattle.regress_engine_runs.specs.Meets.{IsAtPlace}
-use Rattle.regress_engine_search.proofs.SearchLemmas.{FindsOn}
+use Rattle.regress_engine_search.specs.Answering.{FindsOn}
 use Rattle.regress_engine_singles.specs.Failing.{IsDead}
 
 -- an instruction is a class

@@ -1,13 +1,11 @@
 use Rattle.std.specs.Prelude.{option_map}
-use Rattle.std.proofs.Common.{Some, map, ap, ◌∙◌, subst, refl}
-use Rattle.regress_match.specs.Views.{ends, item_of}
+use Rattle.std.proofs.Common.{Some, subst, refl}
+use Rattle.regress_match.specs.Views.{item_of}
 use Rattle.regress_engine_code.specs.Standing.{program_of}
 use Rattle.regress_engine_input.specs.Views.{input_of}
-use Rattle.regress_engine_runs.specs.States.{range_of}
-use Rattle.regress_engine_search.specs.StateViews.{marks_of}
 use Rattle.regress_engine_search.specs.Answering.{IsAnswer}
 use Rattle.regress_engine_search.specs.Search.{IsSearchable}
-use Rattle.regress_engine_search.proofs.SearchLemmas.{outcome-inside, outcome-match}
+use Rattle.regress_engine_search.proofs.SearchLemmas.{outcome-inside, outcome-item}
 use Rattle.regress_engine_copying.specs.StateOf.{groups_of}
 use Rattle.regress_engine_copying.proofs.search.PikeVMExecutor.match_at.Goals as goal
 
@@ -39,14 +37,13 @@ pub returns-clause-outcome : goal.returns-clause-outcome
 returns-clause-outcome g c =
     let program = program_of c.args.self.now.context.program.now in
     let input = input_of (g.Input.InputIndexer.view c.args.self.now.context.input) in
-    outcome-match program input c.args.offset c.in-Some.found.offset (groups_of (Some c.in-Some.found)) c.new.result c.in-Some.found.groups.items
-    (subst (λ x. IsAnswer program input c.args.offset (option_map (λ s. s.offset) x) (groups_of x)) c.in-Some.is c.in_ok-found.ensures)
-    refl (ap (λ r. r.start) c.new.ensures.range) (ap (λ r. r.end) c.new.ensures.range)
-    (ap (λ v. map (option_map ends) v.items) c.new.ensures.captures ∙ c.in_ok-captures.ensures ∙ ap (map (λ x. range_of (marks_of x))) c.deref.ensures.value)
+    outcome-item program input c.args.offset c.in-Some.state.offset (groups_of (Some c.in-Some.state)) (item_of c.in_ok-found.found) c.in-Some.state.groups.items
+    (subst (λ x. IsAnswer program input c.args.offset (option_map (λ s. s.offset) x) (groups_of x)) c.in-Some.is c.in_ok-state.ensures)
+    refl c.in_ok-found.ensures.item
 
 pub returns-clause-inside : goal.returns-clause-inside
 returns-clause-inside g c =
     let context = c.args.self.now.context in
     outcome-inside (program_of context.program.now) (g.Input.InputIndexer.view context.input)
     (subst (IsSearchable (program_of context.program.now)) (g.met.Input.ExecutorInput.shows context.input) context.searchable)
-    c.args.offset c.requires (item_of c.new.result) (returns-clause-outcome g c)
+    c.args.offset c.requires (item_of c.in_ok-found.found) (returns-clause-outcome g c)

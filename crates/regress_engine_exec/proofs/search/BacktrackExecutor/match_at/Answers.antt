@@ -1,15 +1,11 @@
-use Rattle.std.proofs.Common.{ap, ◌∙◌, subst, refl, inl}
-use Rattle.std.proofs.Common.{map}
-use Rattle.std.specs.Prelude.{option_map}
-use Rattle.regress_match.specs.Views.{ends, item_of}
+use Rattle.std.proofs.Common.{subst, refl, inl}
+use Rattle.regress_match.specs.Views.{item_of}
 use Rattle.regress_engine_code.specs.Standing.{program_of}
 use Rattle.regress_engine_input.specs.Views.{input_of}
-use Rattle.regress_engine_runs.specs.States.{range_of}
-use Rattle.regress_engine_search.specs.StateViews.{marks_of}
 use Rattle.regress_engine_search.specs.Answering.{IsAnswer}
 use Rattle.regress_engine_undo.specs.Held.{held}
 use Rattle.regress_engine_search.specs.Search.{IsSearchable}
-use Rattle.regress_engine_search.proofs.SearchLemmas.{outcome-inside, outcome-match}
+use Rattle.regress_engine_search.proofs.SearchLemmas.{outcome-inside, outcome-item}
 use Rattle.regress_engine_exec.proofs.search.BacktrackExecutor.match_at.Goals as goal
 
 pub invariant_of-attempt : goal.invariant_of-attempt
@@ -43,14 +39,13 @@ pub returns-clause-outcome : goal.returns-clause-outcome
 returns-clause-outcome g c =
     let program = program_of c.args.self.now.context.program.now in
     let input = input_of (g.Input.InputIndexer.view c.args.self.now.context.input) in
-    outcome-match program input c.args.offset c.in-Some.end (held c.run.new.memory).groups c.new.result c.run.new.memory.groups.items
+    outcome-item program input c.args.offset c.in-Some.end (held c.run.new.memory).groups (item_of c.in_ok-found.found) c.run.new.memory.groups.items
     (subst (λ x. IsAnswer program input c.args.offset x (held c.run.new.memory).groups) c.in-Some.is c.in_ok-end.ensures)
-    refl (ap (λ r. r.start) c.new.ensures.range) (ap (λ r. r.end) c.new.ensures.range)
-    (ap (λ v. map (option_map ends) v.items) c.new.ensures.captures ∙ c.in_ok-captures.ensures ∙ ap (map (λ x. range_of (marks_of x))) c.deref.ensures.value)
+    refl c.in_ok-found.ensures.item
 
 pub returns-clause-inside : goal.returns-clause-inside
 returns-clause-inside g c =
     let context = c.args.self.now.context in
     outcome-inside (program_of context.program.now) (g.Input.InputIndexer.view context.input)
     (subst (IsSearchable (program_of context.program.now)) (g.met.Input.ExecutorInput.shows context.input) context.searchable)
-    c.args.offset c.requires (item_of c.new.result) (returns-clause-outcome g c)
+    c.args.offset c.requires (item_of c.in_ok-found.found) (returns-clause-outcome g c)

@@ -2,12 +2,12 @@ use Rattle.std.proofs.Common.{sym, subst, arith}
 use Rattle.regress_meaning.specs.Meaning.{Forward}
 use Rattle.regress_engine_code.specs.Standing.{program_of}
 use Rattle.regress_engine_input.specs.Views.{input_of}
-use Rattle.regress_engine_prefix.specs.Prefiltering.{IsNextHit}
 use Rattle.regress_engine_search.specs.Answering.{IsAnswer}
 use Rattle.regress_engine_search.specs.Search.{IsSearchable}
+use Rattle.regress_engine_search.specs.Skipping.{Reaches, IsNextStart}
 use Rattle.regress_engine_search.proofs.PlaceLemmas.{can-read, next-place}
 use Rattle.regress_engine_search.proofs.SearchLemmas.{search-found, search-none, search-on, search-less}
-use Rattle.regress_engine_search.proofs.SkipLemmas.{place-lies, reaches, reaches-none}
+use Rattle.regress_engine_search.proofs.SkipLemmas.{place-lies}
 use Rattle.regress_engine_singles.specs.Passed.{PassesOver}
 use Rattle.regress_engine_undo.specs.Held.{held}
 use Rattle.regress_engine_leading.specs.Known.{IsKnown}
@@ -19,24 +19,18 @@ invariant_of-attempt g c =
     let context = c.args.self.now.context in
     let program = program_of context.program.now in
     let v = g.Input.InputIndexer.view context.input in
-    let all = g.met.Input.InputIndexer.are_of_kind context.input in
-    let next : IsNextHit context.prefilter.start.now v.units c.places.from c.next_start.result =
-    subst (λ u. IsNextHit u.prefilter.start.now (g.Input.InputIndexer.view u.input).units c.places.from c.next_start.result) c.places.invariant.kept c.next_start.ensures in
-    let there = reaches program context.prefilter.start.now (g.Input.Shown.shown context.input) v (g.met.Input.ExecutorInput.shows context.input) all context.searchable context.skips
-    c.args.offset c.places.from c.places.invariant.finds c.places.invariant.place c.next_start.result next c.in-Some.start c.in-Some.is in
-    record { ends = there.searchable.ends c.in-Some.start there.place }
+    let searchable = subst (IsSearchable program) (g.met.Input.ExecutorInput.shows context.input) context.searchable in
+    let there : Reaches program v c.places.from c.in-Some.start = subst (IsNextStart program v c.places.from) c.in-Some.is c.next_start.ensures.start in
+    record { ends = searchable.ends c.in-Some.start there.place }
 
 pub run-requires-clause-reads : goal.run-requires-clause-reads
 run-requires-clause-reads g c =
     let context = c.args.self.now.context in
     let program = program_of context.program.now in
     let v = g.Input.InputIndexer.view context.input in
-    let all = g.met.Input.InputIndexer.are_of_kind context.input in
-    let next : IsNextHit context.prefilter.start.now v.units c.places.from c.next_start.result =
-    subst (λ u. IsNextHit u.prefilter.start.now (g.Input.InputIndexer.view u.input).units c.places.from c.next_start.result) c.places.invariant.kept c.next_start.ensures in
-    let there = reaches program context.prefilter.start.now (g.Input.Shown.shown context.input) v (g.met.Input.ExecutorInput.shows context.input) all context.searchable context.skips
-    c.args.offset c.places.from c.places.invariant.finds c.places.invariant.place c.next_start.result next c.in-Some.start c.in-Some.is in
-    there.searchable.reads c.in-Some.start there.place
+    let searchable = subst (IsSearchable program) (g.met.Input.ExecutorInput.shows context.input) context.searchable in
+    let there : Reaches program v c.places.from c.in-Some.start = subst (IsNextStart program v c.places.from) c.in-Some.is c.next_start.ensures.start in
+    searchable.reads c.in-Some.start there.place
 
 pub run-requires-clause-suits : goal.run-requires-clause-suits
 run-requires-clause-suits g c =
@@ -55,11 +49,7 @@ returns-in_default-clause-found g c =
     let context = c.args.self.now.context in
     let program = program_of context.program.now in
     let v = g.Input.InputIndexer.view context.input in
-    let all = g.met.Input.InputIndexer.are_of_kind context.input in
-    let next : IsNextHit context.prefilter.start.now v.units c.places.from c.next_start.result =
-    subst (λ u. IsNextHit u.prefilter.start.now (g.Input.InputIndexer.view u.input).units c.places.from c.next_start.result) c.places.invariant.kept c.next_start.ensures in
-    reaches-none program context.prefilter.start.now (g.Input.Shown.shown context.input) v (g.met.Input.ExecutorInput.shows context.input) all context.searchable context.skips
-    c.args.offset c.places.from c.places.invariant.finds c.places.invariant.place c.next_start.result next c.in_default.is
+    subst (IsNextStart program v c.places.from) c.in_default.is c.next_start.ensures.start c.args.offset c.places.invariant.finds
 
 pub returns-in-Some-2-clause-found : goal.returns-in-Some-2-clause-found
 returns-in-Some-2-clause-found g c =
@@ -67,11 +57,8 @@ returns-in-Some-2-clause-found g c =
     let program = program_of context.program.now in
     let v = g.Input.InputIndexer.view context.input in
     let all = g.met.Input.InputIndexer.are_of_kind context.input in
-    let next : IsNextHit context.prefilter.start.now v.units c.places.from c.next_start.result =
-    subst (λ u. IsNextHit u.prefilter.start.now (g.Input.InputIndexer.view u.input).units c.places.from c.next_start.result) c.places.invariant.kept c.next_start.ensures in
-    let there = reaches program context.prefilter.start.now (g.Input.Shown.shown context.input) v (g.met.Input.ExecutorInput.shows context.input) all context.searchable context.skips
-    c.args.offset c.places.from c.places.invariant.finds c.places.invariant.place c.next_start.result next c.in-Some.start c.in-Some.is in
-    search-found program v all c.args.offset c.in-Some.start c.in-Some-2.end (held c.run.new.memory).groups there.on
+    let there : Reaches program v c.places.from c.in-Some.start = subst (IsNextStart program v c.places.from) c.in-Some.is c.next_start.ensures.start in
+    search-found program v all c.args.offset c.in-Some.start c.in-Some-2.end (held c.run.new.memory).groups (there.on c.args.offset c.places.invariant.finds)
     (subst (λ x. IsAnswer program (input_of v) c.in-Some.start x (held c.run.new.memory).groups) c.in-Some-2.is c.in_ok-end.ensures)
 
 pub beside-requires : goal.beside-requires
@@ -80,10 +67,7 @@ beside-requires g c =
     let program = program_of context.program.now in
     let v = g.Input.InputIndexer.view context.input in
     let all = g.met.Input.InputIndexer.are_of_kind context.input in
-    let next : IsNextHit context.prefilter.start.now v.units c.places.from c.next_start.result =
-    subst (λ u. IsNextHit u.prefilter.start.now (g.Input.InputIndexer.view u.input).units c.places.from c.next_start.result) c.places.invariant.kept c.next_start.ensures in
-    let there = reaches program context.prefilter.start.now (g.Input.Shown.shown context.input) v (g.met.Input.ExecutorInput.shows context.input) all context.searchable context.skips
-    c.args.offset c.places.from c.places.invariant.finds c.places.invariant.place c.next_start.result next c.in-Some.start c.in-Some.is in
+    let there : Reaches program v c.places.from c.in-Some.start = subst (IsNextStart program v c.places.from) c.in-Some.is c.next_start.ensures.start in
     can-read v all c.in-Some.start there.place
 
 pub returns-in_default-beside-clause-found : goal.returns-in_default-beside-clause-found
@@ -92,11 +76,8 @@ returns-in_default-beside-clause-found g c =
     let program = program_of context.program.now in
     let v = g.Input.InputIndexer.view context.input in
     let all = g.met.Input.InputIndexer.are_of_kind context.input in
-    let next : IsNextHit context.prefilter.start.now v.units c.places.from c.next_start.result =
-    subst (λ u. IsNextHit u.prefilter.start.now (g.Input.InputIndexer.view u.input).units c.places.from c.next_start.result) c.places.invariant.kept c.next_start.ensures in
-    let there = reaches program context.prefilter.start.now (g.Input.Shown.shown context.input) v (g.met.Input.ExecutorInput.shows context.input) all context.searchable context.skips
-    c.args.offset c.places.from c.places.invariant.finds c.places.invariant.place c.next_start.result next c.in-Some.start c.in-Some.is in
-    search-none program v all c.args.offset c.in-Some.start (held c.run.new.memory).groups there.on
+    let there : Reaches program v c.places.from c.in-Some.start = subst (IsNextStart program v c.places.from) c.in-Some.is c.next_start.ensures.start in
+    search-none program v all c.args.offset c.in-Some.start (held c.run.new.memory).groups (there.on c.args.offset c.places.invariant.finds)
     (subst (λ x. IsAnswer program (input_of v) c.in-Some.start x (held c.run.new.memory).groups) c.in_default-2.is c.in_ok-end.ensures) (sym c.in_default-beside.ensures)
 
 pub places-smaller : goal.places-smaller
@@ -105,10 +86,7 @@ places-smaller g c =
     let program = program_of context.program.now in
     let v = g.Input.InputIndexer.view context.input in
     let all = g.met.Input.InputIndexer.are_of_kind context.input in
-    let next : IsNextHit context.prefilter.start.now v.units c.places.from c.next_start.result =
-    subst (λ u. IsNextHit u.prefilter.start.now (g.Input.InputIndexer.view u.input).units c.places.from c.next_start.result) c.places.invariant.kept c.next_start.ensures in
-    let there = reaches program context.prefilter.start.now (g.Input.Shown.shown context.input) v (g.met.Input.ExecutorInput.shows context.input) all context.searchable context.skips
-    c.args.offset c.places.from c.places.invariant.finds c.places.invariant.place c.next_start.result next c.in-Some.start c.in-Some.is in
+    let there : Reaches program v c.places.from c.in-Some.start = subst (IsNextStart program v c.places.from) c.in-Some.is c.next_start.ensures.start in
     let less = search-less program v all c.in-Some.start _ c.in-Some-beside.behind there.place (sym c.in-Some-beside.ensures) in
     let low = there.low in
     omega (arith, low, less)
@@ -119,12 +97,9 @@ places-preserved g c =
     let program = program_of context.program.now in
     let v = g.Input.InputIndexer.view context.input in
     let all = g.met.Input.InputIndexer.are_of_kind context.input in
-    let next : IsNextHit context.prefilter.start.now v.units c.places.from c.next_start.result =
-    subst (λ u. IsNextHit u.prefilter.start.now (g.Input.InputIndexer.view u.input).units c.places.from c.next_start.result) c.places.invariant.kept c.next_start.ensures in
-    let there = reaches program context.prefilter.start.now (g.Input.Shown.shown context.input) v (g.met.Input.ExecutorInput.shows context.input) all context.searchable context.skips
-    c.args.offset c.places.from c.places.invariant.finds c.places.invariant.place c.next_start.result next c.in-Some.start c.in-Some.is in
+    let there : Reaches program v c.places.from c.in-Some.start = subst (IsNextStart program v c.places.from) c.in-Some.is c.next_start.ensures.start in
     record {
-      finds = search-on program v all c.args.offset c.in-Some.start _ c.in-Some-beside.behind (held c.run.new.memory).groups there.on
+      finds = search-on program v all c.args.offset c.in-Some.start _ c.in-Some-beside.behind (held c.run.new.memory).groups (there.on c.args.offset c.places.invariant.finds)
           (subst (λ x. IsAnswer program (input_of v) c.in-Some.start x (held c.run.new.memory).groups) c.in_default-2.is c.in_ok-end.ensures) (sym c.in-Some-beside.ensures);
       place = next-place v all Forward c.in-Some.start _ c.in-Some-beside.behind there.place (sym c.in-Some-beside.ensures);
       kept = c.places.invariant.kept;
@@ -135,11 +110,7 @@ known_at-requires-clause-place g c =
     let context = c.args.self.now.context in
     let program = program_of context.program.now in
     let v = g.Input.InputIndexer.view context.input in
-    let all = g.met.Input.InputIndexer.are_of_kind context.input in
-    let next : IsNextHit context.prefilter.start.now v.units c.places.from c.next_start.result =
-    subst (λ u. IsNextHit u.prefilter.start.now (g.Input.InputIndexer.view u.input).units c.places.from c.next_start.result) c.places.invariant.kept c.next_start.ensures in
-    let there = reaches program context.prefilter.start.now (g.Input.Shown.shown context.input) v (g.met.Input.ExecutorInput.shows context.input) all context.searchable context.skips
-    c.args.offset c.places.from c.places.invariant.finds c.places.invariant.place c.next_start.result next c.in-Some.start c.in-Some.is in
+    let there : Reaches program v c.places.from c.in-Some.start = subst (IsNextStart program v c.places.from) c.in-Some.is c.next_start.ensures.start in
     there.place
 
 pub places-smaller-in-Passed : goal.places-smaller-in-Passed
@@ -148,10 +119,7 @@ places-smaller-in-Passed g c =
     let program = program_of context.program.now in
     let v = g.Input.InputIndexer.view context.input in
     let all = g.met.Input.InputIndexer.are_of_kind context.input in
-    let next : IsNextHit context.prefilter.start.now v.units c.places.from c.next_start.result =
-    subst (λ u. IsNextHit u.prefilter.start.now (g.Input.InputIndexer.view u.input).units c.places.from c.next_start.result) c.places.invariant.kept c.next_start.ensures in
-    let there = reaches program context.prefilter.start.now (g.Input.Shown.shown context.input) v (g.met.Input.ExecutorInput.shows context.input) all context.searchable context.skips
-    c.args.offset c.places.from c.places.invariant.finds c.places.invariant.place c.next_start.result next c.in-Some.start c.in-Some.is in
+    let there : Reaches program v c.places.from c.in-Some.start = subst (IsNextStart program v c.places.from) c.in-Some.is c.next_start.ensures.start in
     let passes : PassesOver program v c.in-Some.start c.in-Passed.past = subst (IsKnown program v c.in-Some.start) c.in-Passed.is c.known_at.ensures in
     let low = there.low in
     let further = passes.further in
@@ -163,10 +131,6 @@ places-preserved-in-Passed g c =
     let context = c.args.self.now.context in
     let program = program_of context.program.now in
     let v = g.Input.InputIndexer.view context.input in
-    let all = g.met.Input.InputIndexer.are_of_kind context.input in
-    let next : IsNextHit context.prefilter.start.now v.units c.places.from c.next_start.result =
-    subst (λ u. IsNextHit u.prefilter.start.now (g.Input.InputIndexer.view u.input).units c.places.from c.next_start.result) c.places.invariant.kept c.next_start.ensures in
-    let there = reaches program context.prefilter.start.now (g.Input.Shown.shown context.input) v (g.met.Input.ExecutorInput.shows context.input) all context.searchable context.skips
-    c.args.offset c.places.from c.places.invariant.finds c.places.invariant.place c.next_start.result next c.in-Some.start c.in-Some.is in
+    let there : Reaches program v c.places.from c.in-Some.start = subst (IsNextStart program v c.places.from) c.in-Some.is c.next_start.ensures.start in
     let passes : PassesOver program v c.in-Some.start c.in-Passed.past = subst (IsKnown program v c.in-Some.start) c.in-Passed.is c.known_at.ensures in
-    record { finds = passes.on c.args.offset there.on; place = passes.place; kept = c.places.invariant.kept }
+    record { finds = passes.on c.args.offset (there.on c.args.offset c.places.invariant.finds); place = passes.place; kept = c.places.invariant.kept }
