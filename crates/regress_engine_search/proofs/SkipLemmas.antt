@@ -237,7 +237,13 @@ module _ (program : Program) (start : StartPredicate) (v : View) (all : AreOfKin
           ∙ ap (λ (o : Option ℕ). option_map (point_told (reading_of v)) (option_map (λ c. (c, suc (length (reading_of v).points))) o)) (past (reading_of v).points)
 
   -- a search reaches what is found next
-  pub next-start : (from : ℕ) → IsAtPlace (reading_of v) from → (next : Option ℕ) → IsNextHit start v.units from next → IsNextStart program v from next
-  next-start from place None never offset' on = skip-all offset' from on place never
+  next-start : (from : ℕ) → IsAtPlace (reading_of v) from → (next : Option ℕ) → IsNextHit start v.units from next → IsNextStart program v from next
+  next-start from place None never = λ offset' on. skip-all offset' from on place never
   next-start from place (Some at) hit =
       record { low = hit.0; place = hit-place from at place hit; on = λ offset' on. skip-to offset' from at on place hit }
+
+-- over an input, which shows what is read
+pub shown-next_start : (program : Program) (start : StartPredicate) (shown v : View) → shown ≡ v → AreOfKind v.kind v.units → IsSearchable program shown → MaySkip program start shown
+    → (from : ℕ) → IsAtPlace (reading_of v) from → (next : Option ℕ) → IsNextHit start v.units from next → IsNextStart program v from next
+shown-next_start program start shown v shows all searchable skip =
+    next-start program start v all (subst (IsSearchable program) shows searchable) (subst (MaySkip program start) shows skip)
