@@ -94,7 +94,7 @@ impl Regex {
     /// can be told as, and with what `OutOfMemory` is told as.
     ///
     /// ```rust
-    /// let text = regex.replace_with("Price: $123", |_| Ok(String::from_str(alloc, "$0")?))?; // for `\d+` it is `Price: $$0`
+    /// let text = regex.replace_with("Price: $123", |_| -> Result<String, Error> { Ok(String::from_str(alloc, "$0")?) })?; // for `\d+` it is `Price: $$0`
     /// ```
     pub fn replace_with<E, F>(&self, text: &str, with: F) -> Result<String, E>
     where
@@ -134,7 +134,7 @@ impl Regex {
     /// type that an `Error` can be told as, and with what `OutOfMemory` is told as.
     ///
     /// ```rust
-    /// let text = regex.replace_all_with("a1b22", |_| Ok(String::from_str(alloc, "#")?))?; // for `\d+` it is `a#b#`
+    /// let text = regex.replace_all_with("a1b22", |_| -> Result<String, Error> { Ok(String::from_str(alloc, "#")?) })?; // for `\d+` it is `a#b#`
     /// ```
     pub fn replace_all_with<E, F>(&self, text: &str, with: F) -> Result<String, E>
     where

@@ -50,7 +50,9 @@ pub trait Executor<'t>: MatchProducer {
     /// memory is refused alone.
     ///
     /// ```rust
-    /// let executor = <E as Executor>::new(alloc, &program, "aab")?;
+    /// fn executor_of<'t, E: Executor<'t>>(alloc: Global, program: &'t CompiledRegex) -> Result<E, AllocError> {
+    ///     E::new(alloc, program, "aab")
+    /// }
     /// ```
     fn new(alloc: Global, program: &'t CompiledRegex, text: &'t str) -> Result<Self, AllocError>
         requires bytes { program.now.units ≡ false }

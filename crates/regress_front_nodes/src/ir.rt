@@ -7,7 +7,7 @@ use std::fmt;
 /// A pattern's tree, with its flags and the tables of case and properties, as `try_parse` of `regress_front_tree` makes it.
 ///
 /// ```rust
-/// println!(rt; "{regex}"); // the nodes of the tree, each on a line of its own
+/// let shown = regex.to_string(alloc)?; // the nodes of the tree, each on a line of its own
 /// ```
 #[derive(Drop)]
 pub struct Regex<'u> {

@@ -37,7 +37,7 @@ impl BracketContents {
     ///
     /// ```rust
     /// let none = BracketContents { invert: false, cps: CodePointSet::new(alloc) };
-    /// assert!(rt; none.is_empty());
+    /// let empty = none.is_empty(); // true
     /// ```
     pub fn is_empty(&self) -> bool
         ensures { result ≡ bracket_is_empty self.now.invert (ends_in self.now.cps) }

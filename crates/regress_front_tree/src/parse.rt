@@ -39,7 +39,7 @@ fn first_scope(flags: Flags) -> Scope
 ///
 /// ```rust
 /// let regex = try_parse(alloc, &[0x61, 0x2A], Flags::from("i"), &tables)?; // /a*/i
-/// println!(rt; "{regex}"); // a `Cat` of a `Loop` over a `CharSet` of `A` and `a`, and the `Goal`
+/// let shown = regex.to_string(alloc)?; // a `Cat` of a `Loop` over a `CharSet` of `A` and `a`, and the `Goal`
 /// ```
 pub fn try_parse<'u>(
     alloc: Global,
