@@ -90,11 +90,12 @@ impl Regex {
     /// A text with its first match replaced by the text that a closure answers to it ("RegExp.prototype [ @@replace ]"), as it
     /// stands: a `$` in it has no meaning.
     ///
-    /// Asks that the closure may be called on any match. Errs with the closure's error, which is of any type that an `Error`
-    /// can be told as, and with what `OutOfMemory` is told as.
+    /// Asks that the closure may be called on any match. Errs with what the closure errs with, and with `OutOfMemory` turned
+    /// into the same type, which is any that implements `From<Error>`.
     ///
     /// ```rust
-    /// let text = regex.replace_with("Price: $123", |_| -> Result<String, Error> { Ok(String::from_str(alloc, "$0")?) })?; // for `\d+` it is `Price: $$0`
+    /// let new = |_: &Match| -> Result<String, Error> { Ok(String::from_str(alloc, "$0")?) };
+    /// let text = regex.replace_with("Price: $123", new)?; // for `\d+` it is `Price: $$0`
     /// ```
     pub fn replace_with<E, F>(&self, text: &str, with: F) -> Result<String, E>
     where
@@ -130,11 +131,12 @@ impl Regex {
     /// A text with each match replaced by the text that a closure answers to it ("RegExp.prototype [ @@replace ]"), as it
     /// stands: a `$` in it has no meaning. The closure is called on the matches in order.
     ///
-    /// Asks that the closure may be called on any match. Errs with the first error that the closure answers, which is of any
-    /// type that an `Error` can be told as, and with what `OutOfMemory` is told as.
+    /// Asks that the closure may be called on any match. Errs with the first error that the closure answers, and with
+    /// `OutOfMemory` turned into the same type, which is any that implements `From<Error>`.
     ///
     /// ```rust
-    /// let text = regex.replace_all_with("a1b22", |_| -> Result<String, Error> { Ok(String::from_str(alloc, "#")?) })?; // for `\d+` it is `a#b#`
+    /// let new = |_: &Match| -> Result<String, Error> { Ok(String::from_str(alloc, "#")?) };
+    /// let text = regex.replace_all_with("a1b22", new)?; // for `\d+` it is `a#b#`
     /// ```
     pub fn replace_all_with<E, F>(&self, text: &str, with: F) -> Result<String, E>
     where
