@@ -99,14 +99,34 @@ fn is_told(
     let regex = rewritten(alloc, pattern, flags, &tables)?;
     let unicode = regex.flags.is_unicode();
     let program = emit(alloc, &regex)?;
-    tells(alloc, &program, Utf8Input::new(text, unicode, &tables), expected)?;
+    tells(
+        alloc,
+        &program,
+        Utf8Input::new(text, unicode, &tables),
+        expected,
+    )?;
     if text.is_ascii() {
-        tells(alloc, &program, AsciiInput::new(text, unicode, &tables), expected)?;
+        tells(
+            alloc,
+            &program,
+            AsciiInput::new(text, unicode, &tables),
+            expected,
+        )?;
     }
     let program = emit_units(alloc, &regex)?;
     let units: Vec<u16> = text.encode_utf16().collect(alloc)?;
-    tells(alloc, &program, Utf16Input::new(&units, unicode, &tables), expected)?;
-    tells(alloc, &program, Ucs2Input::new(&units, unicode, &tables), expected)
+    tells(
+        alloc,
+        &program,
+        Utf16Input::new(&units, unicode, &tables),
+        expected,
+    )?;
+    tells(
+        alloc,
+        &program,
+        Ucs2Input::new(&units, unicode, &tables),
+        expected,
+    )
 }
 
 #[test]

@@ -110,7 +110,9 @@ impl<'r, Input: ExecutorInput> BacktrackExecutor<'r, Input> {
         let Some((start, end)) = self.search(offset)? else {
             return Ok(None);
         };
-        let found = self.context.match_of(self.alloc, start..end, &self.memory.groups)?;
+        let found = self
+            .context
+            .match_of(self.alloc, start..end, &self.memory.groups)?;
         Ok(Some(found))
     }
 
@@ -138,7 +140,9 @@ impl<'r, Input: ExecutorInput> BacktrackExecutor<'r, Input> {
         let Some(end) = attempt.run(0, &mut self.memory, &mut self.answer)? else {
             return Ok(None);
         };
-        let found = self.context.match_of(self.alloc, offset..end, &self.memory.groups)?;
+        let found = self
+            .context
+            .match_of(self.alloc, offset..end, &self.memory.groups)?;
         Ok(Some(found))
     }
 }
