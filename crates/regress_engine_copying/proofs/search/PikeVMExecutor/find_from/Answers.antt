@@ -1,8 +1,9 @@
 use Rattle.std.specs.Prelude.{option_map}
-use Rattle.std.proofs.Common.{Some, subst, refl}
+use Rattle.std.proofs.Common.{Some, ap, ◌∙◌, subst, refl}
 use Rattle.regress_match.specs.Views.{item_of}
 use Rattle.regress_engine_code.specs.Standing.{program_of}
 use Rattle.regress_engine_input.specs.Views.{input_of}
+use Rattle.regress_engine_search.specs.StateViews.{item_with}
 use Rattle.regress_engine_search.specs.Answering.{IsFound}
 use Rattle.regress_engine_search.specs.Search.{IsSearchable}
 use Rattle.regress_engine_search.proofs.SearchLemmas.{found-inside, found-item}
@@ -15,7 +16,7 @@ returns-clause-found g c =
     let input = input_of (g.Input.InputIndexer.view c.args.self.now.context.input) in
     found-item program input c.args.offset c.in-Some.start c.in-Some.state.offset (groups_of (Some c.in-Some.state)) (item_of c.in_ok-found.found) c.in-Some.state.groups.items
     (subst (λ x. IsFound program input c.args.offset (option_map (λ y. (y.0, y.1.offset)) x) (groups_of (option_map (λ y. y.1) x))) c.in-Some.is c.in_ok-start.ensures.found)
-    refl c.in_ok-found.ensures.item
+    refl (c.in_ok-found.ensures.item ∙ ap (item_with c.in-Some.start c.in-Some.state.offset) c.deref.ensures.value)
 
 pub returns-clause-inside : goal.returns-clause-inside
 returns-clause-inside g c =

@@ -96,5 +96,4 @@ places-preserved g c =
       finds = search-on program v all c.args.offset c.in-Some.start at c.in-Some-any.behind [] (there.on c.args.offset c.places.invariant.finds)
           (subst (λ x. IsAnswer program (input_of v) c.in-Some.start (option_map (λ s. s.offset) x) (groups_of x)) c.in_default-2.is c.in_ok-found.ensures) next_is;
       place = next-place v all Forward c.in-Some.start at c.in-Some-any.behind there.place next_is;
-      kept = c.places.invariant.kept;
     }

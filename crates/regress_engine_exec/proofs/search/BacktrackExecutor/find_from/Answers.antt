@@ -1,7 +1,8 @@
-use Rattle.std.proofs.Common.{subst, refl}
+use Rattle.std.proofs.Common.{ap, ◌∙◌, subst, refl}
 use Rattle.regress_match.specs.Views.{item_of}
 use Rattle.regress_engine_code.specs.Standing.{program_of}
 use Rattle.regress_engine_input.specs.Views.{input_of}
+use Rattle.regress_engine_search.specs.StateViews.{item_with}
 use Rattle.regress_engine_search.specs.Answering.{IsFound}
 use Rattle.regress_engine_undo.specs.Held.{held}
 use Rattle.regress_engine_search.specs.Search.{IsSearchable}
@@ -14,7 +15,7 @@ returns-clause-found g c =
     let input = input_of (g.Input.InputIndexer.view c.args.self.now.context.input) in
     found-item program input c.args.offset c.in-Some.start c.in-Some.end (held c.search.new.self.memory).groups (item_of c.in_ok-found.found) c.search.new.self.memory.groups.items
     (subst (λ x. IsFound program input c.args.offset x (held c.search.new.self.memory).groups) c.in-Some.is c.in_ok-start.ensures.found)
-    refl c.in_ok-found.ensures.item
+    refl (c.in_ok-found.ensures.item ∙ ap (item_with c.in-Some.start c.in-Some.end) c.deref.ensures.value)
 
 pub returns-clause-inside : goal.returns-clause-inside
 returns-clause-inside g c =

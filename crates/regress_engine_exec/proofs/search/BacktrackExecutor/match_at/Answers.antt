@@ -1,7 +1,8 @@
-use Rattle.std.proofs.Common.{subst, refl, inl}
+use Rattle.std.proofs.Common.{ap, ◌∙◌, subst, refl, inl}
 use Rattle.regress_match.specs.Views.{item_of}
 use Rattle.regress_engine_code.specs.Standing.{program_of}
 use Rattle.regress_engine_input.specs.Views.{input_of}
+use Rattle.regress_engine_search.specs.StateViews.{item_with}
 use Rattle.regress_engine_search.specs.Answering.{IsAnswer}
 use Rattle.regress_engine_undo.specs.Held.{held}
 use Rattle.regress_engine_search.specs.Search.{IsSearchable}
@@ -41,7 +42,7 @@ returns-clause-outcome g c =
     let input = input_of (g.Input.InputIndexer.view c.args.self.now.context.input) in
     outcome-item program input c.args.offset c.in-Some.end (held c.run.new.memory).groups (item_of c.in_ok-found.found) c.run.new.memory.groups.items
     (subst (λ x. IsAnswer program input c.args.offset x (held c.run.new.memory).groups) c.in-Some.is c.in_ok-end.ensures)
-    refl c.in_ok-found.ensures.item
+    refl (c.in_ok-found.ensures.item ∙ ap (item_with c.args.offset c.in-Some.end) c.deref.ensures.value)
 
 pub returns-clause-inside : goal.returns-clause-inside
 returns-clause-inside g c =

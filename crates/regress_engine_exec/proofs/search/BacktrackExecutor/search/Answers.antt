@@ -102,7 +102,6 @@ places-preserved g c =
       finds = search-on program v all c.args.offset c.in-Some.start _ c.in-Some-beside.behind (held c.run.new.memory).groups (there.on c.args.offset c.places.invariant.finds)
           (subst (λ x. IsAnswer program (input_of v) c.in-Some.start x (held c.run.new.memory).groups) c.in_default-2.is c.in_ok-end.ensures) (sym c.in-Some-beside.ensures);
       place = next-place v all Forward c.in-Some.start _ c.in-Some-beside.behind there.place (sym c.in-Some-beside.ensures);
-      kept = c.places.invariant.kept;
     }
 
 pub known_at-requires-clause-place : goal.known_at-requires-clause-place
@@ -133,4 +132,4 @@ places-preserved-in-Passed g c =
     let v = g.Input.InputIndexer.view context.input in
     let there : Reaches program v c.places.from c.in-Some.start = subst (IsNextStart program v c.places.from) c.in-Some.is c.next_start.ensures.start in
     let passes : PassesOver program v c.in-Some.start c.in-Passed.past = subst (IsKnown program v c.in-Some.start) c.in-Passed.is c.known_at.ensures in
-    record { finds = passes.on c.args.offset (there.on c.args.offset c.places.invariant.finds); place = passes.place; kept = c.places.invariant.kept }
+    record { finds = passes.on c.args.offset (there.on c.args.offset c.places.invariant.finds); place = passes.place }

@@ -1,4 +1,4 @@
-use Rattle.std.proofs.Common.{◌≡◌, ◌-◌, length}
+use Rattle.std.proofs.Common.{◌-◌, length}
 use Rattle.regress_engine_code.specs.Standing.{program_of}
 use Rattle.regress_engine_input.specs.Views.{input_of, reading_of}
 use Rattle.regress_engine_runs.specs.Meets.{IsAtPlace}
@@ -10,7 +10,6 @@ abbrev pub invariant-places : goal.invariant-places
 invariant-places g l = record {
   finds : FindsOn (program_of l.context.program.now) (input_of (g.Input.InputIndexer.view l.context.input)) l.offset l.from;
   place : IsAtPlace (reading_of (g.Input.InputIndexer.view l.context.input)) l.from;
-  kept : l.self.context ≡ l.initial.self.context;
 }
 
 abbrev pub decreases-places : goal.decreases-places
