@@ -1,4 +1,4 @@
-//! The example of the repository's README, word for word, and a test of it.
+//! The function of the repository's README, word for word, and one that replaces; a test of both.
 
 use regress::{Error, Flags, Regex, Tables};
 use std::alloc::Global;
