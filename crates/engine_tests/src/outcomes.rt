@@ -1,4 +1,5 @@
 //! The match that begins at one offset, with no search: by both executors, over each input.
+ghost use Rattle.std.specs.Prelude.{◌≡◌, false, true};
 ghost use Rattle.regress_engine_search.specs.Search.{IsMadeOf};
 
 use crate::found::tell;
@@ -87,6 +88,57 @@ fn tells<Input: ExecutorInput>(
     Ok(())
 }
 
+/// Fails unless both executors tell this over bytes, of UTF-8 and of ASCII.
+fn bytes_tell(
+    alloc: Global,
+    program: &CompiledRegex,
+    text: &str,
+    expected: &str,
+) -> Result<(), Fail>
+    requires { program.now.units ≡ false }
+{
+    let unicode = program.flags().is_unicode();
+    tells(
+        alloc,
+        program,
+        Utf8Input::new(text, unicode, program.tables()),
+        expected,
+    )?;
+    if !text.is_ascii() {
+        return Ok(());
+    }
+    tells(
+        alloc,
+        program,
+        AsciiInput::new(text, unicode, program.tables()),
+        expected,
+    )
+}
+
+/// Fails unless both executors tell this over 16-bit units, of UTF-16 and each a character.
+fn units_tell(
+    alloc: Global,
+    program: &CompiledRegex,
+    units: &[u16],
+    expected: &str,
+) -> Result<(), Fail>
+    requires { program.now.units ≡ true }
+{
+    let unicode = program.flags().is_unicode();
+    tells(
+        alloc,
+        program,
+        Utf16Input::new(units, unicode, program.tables()),
+        expected,
+    )?;
+    tells(
+        alloc,
+        program,
+        Ucs2Input::new(units, unicode, program.tables()),
+        expected,
+    )
+}
+
 /// Fails unless both executors tell this over each input of a text of ASCII.
 fn is_told(
     alloc: Global,
@@ -97,36 +149,11 @@ fn is_told(
 ) -> Result<(), Fail> {
     let tables = Tables::small(alloc)?;
     let regex = rewritten(alloc, pattern, flags, &tables)?;
-    let unicode = regex.flags.is_unicode();
-    let program = emit(alloc, &regex)?;
-    tells(
-        alloc,
-        &program,
-        Utf8Input::new(text, unicode, &tables),
-        expected,
-    )?;
-    if text.is_ascii() {
-        tells(
-            alloc,
-            &program,
-            AsciiInput::new(text, unicode, &tables),
-            expected,
-        )?;
-    }
-    let program = emit_units(alloc, &regex)?;
+    let byte_program = emit(alloc, &regex)?;
+    bytes_tell(alloc, &byte_program, text, expected)?;
+    let unit_program = emit_units(alloc, &regex)?;
     let units: Vec<u16> = text.encode_utf16().collect(alloc)?;
-    tells(
-        alloc,
-        &program,
-        Utf16Input::new(&units, unicode, &tables),
-        expected,
-    )?;
-    tells(
-        alloc,
-        &program,
-        Ucs2Input::new(&units, unicode, &tables),
-        expected,
-    )
+    units_tell(alloc, &unit_program, &units, expected)
 }
 
 #[test]
