@@ -17,11 +17,15 @@ mod named;
 #[cfg(test)]
 mod owning;
 #[cfg(test)]
+mod pointing;
+#[cfg(test)]
 mod promises;
 #[cfg(test)]
 mod refusals;
 #[cfg(test)]
 mod sizes;
+#[cfg(test)]
+mod sticky;
 #[cfg(test)]
 mod tables;
 #[cfg(test)]

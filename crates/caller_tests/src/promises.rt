@@ -22,6 +22,7 @@ ghost use Rattle.regress_engine.specs.Standing.{target_of};
 ghost use Rattle.regress.specs.Ascii.{coming_in_ascii};
 ghost use Rattle.regress.specs.Answering.{AnswersEach};
 ghost use Rattle.regress.specs.Coming.{HasEnded, coming, searched, searched_names};
+ghost use Rattle.regress.specs.Outcomes.{outcome_at};
 ghost use Rattle.regress.specs.Programs.{IsProgramOf};
 ghost use Rattle.regress.specs.Refusing.{MayRefuseRegex};
 ghost use Rattle.regress.specs.Splitting.{parts_left, first_parts_left, GivesPart, GivesSplit};
@@ -421,4 +422,23 @@ fn of_programs(alloc: Global, byte_program: CompiledRegex, unit_program: Compile
     ensures programs { (byte_target result ≡ target_of byte_program) × (unit_target result ≡ target_of unit_program) }
 {
     Regex::from_programs(alloc, byte_program, unit_program)
+}
+
+/// The match at one place of a text.
+fn at_place(regex: &Regex, text: &str, start: usize) -> Result<Option<Match>, Error>
+    requires { (place : ℕ) × Begins (of_utf8 text.now) start place }
+    ensures { (t : Table) → (o : Options) → (p : Pattern) → StandsFor regex.now t o p →
+        (place : ℕ) → Begins (of_utf8 text.now) start place →
+        IfOk result (λ found. option_map item_of found ≡ option_map (told (of_utf8 text.now)) (outcome_at t o p (chars text.now) place)) }
+{
+    regex.match_at(text, start)
+}
+
+/// The match at one place of 16-bit units.
+fn at_unit(regex: &Regex, units: &[u16], start: usize) -> Result<Option<Match>, Error>
+    ensures { (t : Table) → (o : Options) → (p : Pattern) → StandsInUnits regex.now t o p →
+        (place : ℕ) → Begins (of_ucs2 units.now) start place →
+        IfOk result (λ found. option_map item_of found ≡ option_map (told (of_ucs2 units.now)) (outcome_at t o p units.now place)) }
+{
+    regex.match_at_ucs2(units, start)
 }

@@ -205,6 +205,49 @@ pub(crate) fn ucs2_matches(
     }
 }
 
+/// The match that begins at a place, by `match_at`, and in a text of ASCII also by `match_at_ascii`.
+pub(crate) fn match_at(
+    alloc: Global,
+    regex: &Regex,
+    text: &str,
+    place: usize,
+) -> Result<String, AllocError> {
+    if !is_start(text, place) {
+        return String::from_str(alloc, "no start");
+    }
+    let Ok(found) = regex.match_at(text, place) else {
+        return Err(AllocError);
+    };
+    let mut told = String::new(alloc);
+    if let Some(found) = found {
+        push_match(&mut told, &found)?;
+    }
+    if is_ascii_text(text) && ascii_match_at(alloc, regex, text, place)? != told {
+        told.push_str(" and another by match_at_ascii")?;
+    }
+    Ok(told)
+}
+
+/// The match that begins at a place, by `match_at_ascii`.
+fn ascii_match_at(
+    alloc: Global,
+    regex: &Regex,
+    text: &str,
+    place: usize,
+) -> Result<String, AllocError> {
+    let mut told = String::new(alloc);
+    if !is_ascii_text(text) {
+        return Ok(told);
+    }
+    let Ok(found) = regex.match_at_ascii(text, place) else {
+        return Err(AllocError);
+    };
+    if let Some(found) = found {
+        push_match(&mut told, &found)?;
+    }
+    Ok(told)
+}
+
 /// Whether there is a match, by `is_match_from`, and from the beginning on also by `is_match`.
 pub(crate) fn is_match(
     alloc: Global,

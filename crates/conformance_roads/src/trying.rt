@@ -2,7 +2,7 @@
 
 use crate::calls::{
     ascii_matches, compiled, compiled_points, copying_ascii_matches, copying_matches,
-    copying_ucs2_matches, copying_utf16_matches, default_matches, is_match, of_programs,
+    copying_ucs2_matches, copying_utf16_matches, default_matches, is_match, match_at, of_programs,
     ucs2_matches, undoing_matches, units_program, utf16_matches,
 };
 use crate::report::{Report, told_error};
@@ -106,6 +106,37 @@ fn try_text(
     )
 }
 
+/// Of what is left of a list from a place on, the match that begins there; none where the first begins later.
+fn beginning(rest: &[Item], place: usize) -> &[Item] {
+    match rest.first() {
+        Some(item) if item.range.start == place => rest.get(..1).unwrap_or(rest),
+        _ => &[],
+    }
+}
+
+/// Tries a search from a place, and the match that begins there, by what is left of the list.
+fn try_place(
+    report: &mut Report,
+    alloc: Global,
+    regex: &Regex,
+    text: &str,
+    place: usize,
+    rest: &[Item],
+) -> Result<(), AllocError> {
+    let list = told(alloc, rest)?;
+    report.compare(
+        "find_from a place",
+        list.as_str(),
+        default_matches(alloc, regex, text, place),
+    )?;
+    let here = told(alloc, beginning(rest, place))?;
+    report.compare(
+        "match_at",
+        here.as_str(),
+        match_at(alloc, regex, text, place),
+    )
+}
+
 /// Tries a short text from each place from which the list tells what is left.
 fn try_tails(
     report: &mut Report,
@@ -121,12 +152,7 @@ fn try_tails(
     for place in start..text.len().saturating_add(2) {
         if let Some(rest) = tail(items, place) {
             if is_start(text, place) {
-                let expected = told(alloc, rest)?;
-                report.compare(
-                    "find_from a place",
-                    expected.as_str(),
-                    default_matches(alloc, regex, text, place),
-                )?;
+                try_place(report, alloc, regex, text, place, rest)?;
             }
         }
     }

@@ -29,7 +29,7 @@ start_of_boundary : (bytes : List ℕ) → IsUtf8 bytes → (at : ℕ) → IsCha
 start_of_boundary bytes utf8 at cut = let (place, within, here) = place_of_boundary bytes utf8 at cut in (place, inl (within, here))
 
 -- a match that lies in a text begins and ends where a search may begin
-starts-inside : (bytes : List ℕ) → IsUtf8 bytes → (m : Match) → LiesInText bytes m → BeginsAndEndsAtStarts bytes m
+pub starts-inside : (bytes : List ℕ) → IsUtf8 bytes → (m : Match) → LiesInText bytes m → BeginsAndEndsAtStarts bytes m
 starts-inside bytes utf8 m lies = (start_of_boundary bytes utf8 m.range.start lies.0.1, start_of_boundary bytes utf8 m.range.end lies.0.2)
 
 -- so does what a step gave

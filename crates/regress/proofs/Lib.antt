@@ -8,5 +8,6 @@ pub mod SplittingLemmas
 pub mod ProgramLemmas
 pub mod ShownLemmas
 pub mod ListedLemmas
+pub mod OutcomeLemmas
 pub mod StepLemmas
 pub mod UnitLemmas

@@ -1,9 +1,11 @@
+pub mod ErrorTexts
 pub mod Texts
 pub mod Programs
 pub mod SearchFor
 pub mod Refusing
 pub mod Positions
 pub mod Standing
+pub mod Outcomes
 pub mod Coming
 pub mod Answering
 pub mod Behind

@@ -21,6 +21,7 @@ use crate::text::{code_points, text_of};
 use regress_front::{Error, Flags, Tables};
 use regress_match::Match;
 use std::alloc::Global;
+use std::fmt;
 use std::sync::ArcStr;
 
 /// Whether a search in `text` may begin at `start`, an offset in bytes: at a boundary between characters, or past the end.
@@ -35,7 +36,7 @@ pub fn is_start(text: &str, start: usize) -> bool
 }
 
 /// A compiled pattern. It shares the tables that it was compiled with and borrows nothing, so a struct may own it beside them.
-#[derive(Debug, Drop)]
+#[derive(Drop)]
 pub struct Regex {
     pub(crate) alloc: Global,
     /// The pattern's text, unless it was made of programs.
@@ -194,5 +195,18 @@ impl Regex {
         ensures refused { IsOkUnless result Error.OutOfMemory }
     {
         Ok(Matches::new(self, text, start))
+    }
+}
+
+/// The pattern's text and flags, how many groups there are, and how many instructions the programs have.
+impl fmt::Debug for Regex {
+    fn fmt<W: fmt::Write>(&self, f: &mut fmt::Formatter<W>) -> fmt::Result {
+        f.debug_struct("Regex")
+            .field("source", &self.as_str())
+            .field("flags", &self.compiled.byte_program.flags())
+            .field("groups", &self.group_names().len())
+            .field("byte_insns", &self.compiled.byte_program.insns().len())
+            .field("unit_insns", &self.compiled.unit_program.insns().len())
+            .finish()
     }
 }
