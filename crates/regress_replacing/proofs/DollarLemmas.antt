@@ -1,5 +1,5 @@
 -- What a replacement text gives, step by step.
-use Rattle.std.proofs.Common.{◌≡◌, ◌≢◌, ℕ, zero, suc, ◌+◌, ◌<◌, false, ◌==◌, List, [], ◌∷◌, ◌++◌, length, drop, get_or, codes, refl, ap, arith, ne_eqb}
+use Rattle.std.proofs.Common.{◌≡◌, ◌≢◌, ℕ, zero, suc, ◌<◌, false, ◌==◌, List, [], ◌∷◌, ◌++◌, length, drop, get_or, codes, refl, ap, arith, ne_eqb}
 use Rattle.std.specs.Char.{is_ascii_digit}
 use Rattle.regress_meaning.specs.Text.{is_at}
 use Rattle.regress_replacing.specs.Replacing.{at_dollar, given_behind}

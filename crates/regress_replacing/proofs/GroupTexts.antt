@@ -10,7 +10,7 @@ use Rattle.regress_match.specs.GroupViews.{groups_of, names_of_match}
 use Rattle.regress_replacing.specs.Replacing.{range_of_number, part_at}
 
 -- what a group took, told otherwise
-numbered-map : {A B : Type 0} (f : A → B) (groups : List (Option A)) (n : ℕ) → numbered (map (option_map f) groups) n ≡ option_map f (numbered groups n)
+pub numbered-map : {A B : Type 0} (f : A → B) (groups : List (Option A)) (n : ℕ) → numbered (map (option_map f) groups) n ≡ option_map f (numbered groups n)
 numbered-map f [] n = refl
 numbered-map f (g ∷ groups) zero = refl
 numbered-map f (g ∷ groups) (suc n) = numbered-map f groups n

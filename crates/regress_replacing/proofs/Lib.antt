@@ -3,3 +3,7 @@ pub mod NumberLemmas
 pub mod GroupTexts
 pub mod DollarLemmas
 pub mod PieceLemmas
+pub mod TemplateLemmas
+pub mod DigitLemmas
+pub mod PartLemmas
+pub mod NamedTexts

@@ -2,8 +2,12 @@
 //! that stand for a text as it is written.
 #![tactic(auto)]
 
+mod digits;
 mod escaping;
+mod names;
 mod replacement;
+mod template;
 
 pub use escaping::escape;
 pub use replacement::Replacement;
+pub use template::Template;

@@ -36,7 +36,7 @@ fn begins_with_digit(text: &str) -> bool
 
 /// The number that digits at the front of a text write, and what stands behind those that are taken: digits are, while the
 /// number so far is at most 65535.
-fn number(text: &str) -> (usize, &str)
+pub(crate) fn number(text: &str) -> (usize, &str)
     ensures number { result.0 ≡ (number_after 0 text.now).0 }
     ensures rest { result.1.now ≡ drop (number_after 0 text.now).1 text.now }
 {
