@@ -5,3 +5,5 @@ pub mod Substitution
 pub mod Digits
 pub mod TemplateParts
 pub mod TemplateViews
+pub mod Syntax
+pub mod SyntaxViews
