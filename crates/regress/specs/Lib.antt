@@ -1,5 +1,3 @@
-pub mod ErrorTexts
-pub mod Texts
 pub mod Programs
 pub mod SearchFor
 pub mod Refusing

@@ -24,8 +24,3 @@ pub record PassesCount (table : Table) (o : Options) (text : List ℕ) : Type 0 
 abbrev pub MayRefuseRegex : Table → Options → List ℕ → Error → Type 0
 MayRefuseRegex table o text TooLarge = PassesCount table o text
 MayRefuseRegex table o text e = reading.MayRefuse table o text e
-
--- the error does not say that a text is no pattern
-abbrev pub IsNoSyntaxError : Error → Type 0
-IsNoSyntaxError (Syntax text) = ⊥
-IsNoSyntaxError _ = Unit {0}

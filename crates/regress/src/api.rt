@@ -13,11 +13,11 @@ ghost use Rattle.regress_front.specs.TableViews.{table};
 ghost use Rattle.regress_match.specs.Views.{item_of};
 ghost use Rattle.regress_front.specs.FlagWords.{options};
 ghost use Rattle.regress.specs.Refusing.{MayRefuseRegex};
-ghost use Rattle.regress.specs.Texts.{shown_text};
+ghost use Rattle.regress_errors.specs.Texts.{shown_text};
 
 use crate::compiled::Compiled;
 use crate::matches::Matches;
-use crate::text::{code_points, text_of};
+use regress_errors::{code_points, text_of};
 use regress_front::{Error, Flags, Tables};
 use regress_match::Match;
 use std::alloc::Global;

@@ -8,12 +8,9 @@ mod ascii;
 mod asking;
 pub mod backends;
 mod compiled;
-mod errors;
 mod laws;
 mod matches;
-mod pointing;
 mod programs;
-mod refusing;
 mod replacing;
 mod splitting;
 mod sticky;
@@ -22,21 +19,21 @@ mod units;
 
 pub use api::{Regex, is_start};
 pub use ascii::{AsciiMatches, is_ascii_text};
-pub use errors::CompileError;
 pub use laws::{
     escaped_texts_are_replaced_where_they_occur, no_opt_changes_no_match,
     parts_stand_between_the_matches, whole_matches_give_the_text_back,
 };
 pub use matches::Matches;
-pub use pointing::SyntaxErrorDisplay;
 pub use programs::programs_of_trees_are_of_patterns;
-pub use refusing::{SyntaxError, syntax_error, syntax_error_in_points};
 pub use regress_engine::{CompiledRegex, is_unit_start, is_well_formed_utf16};
+pub use regress_errors::{
+    CompileError, SyntaxError, SyntaxErrorDisplay, syntax_error, syntax_error_in_points,
+};
 pub use regress_front::{
     CaptureGroupName, CodePoint, Error, FlagError, Flags, Interval, ScriptFlags, TableError,
     TableLaw, TableParts, Tables, are_code_points, flags_are_read_back,
 };
 pub use regress_match::{Groups, Match, NamedGroups, Range};
-pub use regress_replacing::escape;
+pub use regress_replacing::{ReplacementSyntax, escape, expand};
 pub use splitting::{Split, SplitN};
 pub use units::{Ucs2Matches, Utf16Matches};

@@ -7,6 +7,7 @@ ghost use Rattle.regress_meaning.specs.Flags.{Options};
 ghost use Rattle.regress_meaning.specs.Matches.{match_list};
 ghost use Rattle.regress_meaning.specs.Offsets.{of_utf8, told};
 ghost use Rattle.regress_replacing.specs.Replacing.{expansion, replaced};
+ghost use Rattle.regress_replacing.specs.Syntax.{replacement_text};
 ghost use Rattle.regress_front.specs.Trees.{Tree};
 ghost use Rattle.regress.specs.Standing.{StandsFor, HasTree, tree_list, names_of_regex};
 ghost use Rattle.regress.specs.Answering.{AnswersEach, RefusesOne};
@@ -14,7 +15,7 @@ ghost use Rattle.regress.specs.Answering.{AnswersEach, RefusesOne};
 use crate::api::Regex;
 use regress_front::Error;
 use regress_match::Match;
-use regress_replacing::Replacement;
+use regress_replacing::{AnyReplacement, ReplacementSyntax};
 
 /// Adds a part of the text that is kept, and a new text behind it.
 fn append(written: &mut String, kept: &str, new: &str) -> Result<(), Error>
@@ -45,12 +46,37 @@ impl Regex {
             IfOk result (λ s. string_bytes s ≡ replaced text.now items (map (expansion (names_of_regex self.now) replacement.now text.now) items)) }
         ensures refused { IsOkUnless result Error.OutOfMemory }
     {
+        self.replace_as(text, replacement, ReplacementSyntax::Regress)
+    }
+
+    /// A text with its first match replaced by a replacement text that is written in a language: this library's, as `replace`
+    /// reads it, or the standard's ("GetSubstitution").
+    ///
+    /// Errs with `OutOfMemory` alone.
+    ///
+    /// ```rust
+    /// let marked = regex.replace_as("on 25", "<$&>", ReplacementSyntax::EcmaScript)?; // for `\d+` it is `on <25>`
+    /// ```
+    pub fn replace_as(
+        &self,
+        text: &str,
+        replacement: &str,
+        syntax: ReplacementSyntax,
+    ) -> Result<String, Error>
+        ensures replaced { (t : Table) → (o : Options) → (p : Pattern) → StandsFor self.now t o p →
+            let items = take 1 (map (told (of_utf8 text.now)) (match_list t o p (chars text.now) 0)) in
+            IfOk result (λ s. string_bytes s ≡ replaced text.now items (map (replacement_text syntax (names_of_regex self.now) replacement.now text.now) items)) }
+        ensures replaced_of_tree { (n : ℕ) → (t : Tree) → HasTree self.now n t →
+            let items = take 1 (map (told (of_utf8 text.now)) (tree_list self.now n t (chars text.now) 0)) in
+            IfOk result (λ s. string_bytes s ≡ replaced text.now items (map (replacement_text syntax (names_of_regex self.now) replacement.now text.now) items)) }
+        ensures refused { IsOkUnless result Error.OutOfMemory }
+    {
         let mut written = String::new(self.alloc);
         let Some(found) = self.find(text)? else {
             written.push_str(text)?;
             return Ok(written);
         };
-        let once = Replacement::new(self.alloc, replacement)?;
+        let once = AnyReplacement::new(self.alloc, replacement, syntax)?;
         written.push_str(&text[..found.start()])?;
         once.write(&found, text, &mut written)?;
         written.push_str(&text[found.end()..])?;
@@ -74,7 +100,32 @@ impl Regex {
             IfOk result (λ s. string_bytes s ≡ replaced text.now items (map (expansion (names_of_regex self.now) replacement.now text.now) items)) }
         ensures refused { IsOkUnless result Error.OutOfMemory }
     {
-        let read = Replacement::new(self.alloc, replacement)?;
+        self.replace_all_as(text, replacement, ReplacementSyntax::Regress)
+    }
+
+    /// A text with each match replaced by a replacement text that is written in a language, as `replace_as` has it ("RegExp.prototype
+    /// [ @@replace ]").
+    ///
+    /// Errs with `OutOfMemory` alone.
+    ///
+    /// ```rust
+    /// let swapped = regex.replace_all_as("a1 b2", "$2$1", ReplacementSyntax::EcmaScript)?; // for `(\w)(\d)` it is `1a 2b`
+    /// ```
+    pub fn replace_all_as(
+        &self,
+        text: &str,
+        replacement: &str,
+        syntax: ReplacementSyntax,
+    ) -> Result<String, Error>
+        ensures replaced { (t : Table) → (o : Options) → (p : Pattern) → StandsFor self.now t o p →
+            let items = map (told (of_utf8 text.now)) (match_list t o p (chars text.now) 0) in
+            IfOk result (λ s. string_bytes s ≡ replaced text.now items (map (replacement_text syntax (names_of_regex self.now) replacement.now text.now) items)) }
+        ensures replaced_of_tree { (n : ℕ) → (t : Tree) → HasTree self.now n t →
+            let items = map (told (of_utf8 text.now)) (tree_list self.now n t (chars text.now) 0) in
+            IfOk result (λ s. string_bytes s ≡ replaced text.now items (map (replacement_text syntax (names_of_regex self.now) replacement.now text.now) items)) }
+        ensures refused { IsOkUnless result Error.OutOfMemory }
+    {
+        let read = AnyReplacement::new(self.alloc, replacement, syntax)?;
         let mut written = String::new(self.alloc);
         let mut behind = 0;
         for found in self.find_iter(text)? {

@@ -2,8 +2,8 @@
 use Rattle.std.specs.Prelude.{ℕ, List}
 use Rattle.regress_front.specs.ErrorTexts.{error_text, flag_error_text}
 use Rattle.regress_front.specs.TableTexts.{table_error_text}
-use Rattle.regress.specs.declared.errors.CompileError.{CompileError}
-use Rattle.regress.specs.declared.errors.CompileError.TheVariants.{Pattern, Flags, Table}
+use Rattle.regress_errors.specs.declared.errors.CompileError.{CompileError}
+use Rattle.regress_errors.specs.declared.errors.CompileError.TheVariants.{Pattern, Flags, Table}
 
 -- what went wrong on the way to a match
 abbrev pub compile_error_text : CompileError → List ℕ

@@ -7,8 +7,8 @@ ghost use Rattle.regress_meaning.specs.Offsets.{of_utf8, offset};
 ghost use Rattle.regress_front.specs.TableViews.{table};
 ghost use Rattle.regress_front.specs.FlagWords.{options};
 ghost use Rattle.regress_front.specs.Refusals.{MayRefuse};
-ghost use Rattle.regress.specs.Refusing.{IsNoSyntaxError};
-ghost use Rattle.regress.specs.Texts.{shown_text};
+ghost use Rattle.regress_errors.specs.Refusing.{IsNoSyntaxError};
+ghost use Rattle.regress_errors.specs.Texts.{shown_text};
 
 use crate::text::{code_points, text_of};
 use regress_front::{CodePoint, Error, Flags, Refused, Tables, parse_telling_place};

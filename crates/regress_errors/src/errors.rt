@@ -27,7 +27,7 @@ pub enum CompileError {
 
 /// The text of the error that it holds.
 impl fmt::Display for CompileError {
-    ghost use Rattle.regress.specs.ErrorTexts.{compile_error_text};
+    ghost use Rattle.regress_errors.specs.ErrorTexts.{compile_error_text};
 
     ghost output = { λ e. Some (compile_error_text e) };
 
@@ -43,7 +43,7 @@ impl fmt::Display for CompileError {
 impl error::Error for CompileError {}
 
 impl From<Error> for CompileError {
-    ghost use Rattle.regress.specs.declared.errors.CompileError.TheVariants.{Pattern};
+    ghost use Rattle.regress_errors.specs.declared.errors.CompileError.TheVariants.{Pattern};
 
     ghost from_gives = { λ refused e. e ≡ Pattern refused };
 
@@ -53,7 +53,7 @@ impl From<Error> for CompileError {
 }
 
 impl From<FlagError> for CompileError {
-    ghost use Rattle.regress.specs.declared.errors.CompileError.TheVariants.{Flags};
+    ghost use Rattle.regress_errors.specs.declared.errors.CompileError.TheVariants.{Flags};
 
     ghost from_gives = { λ refused e. e ≡ Flags refused };
 
@@ -63,7 +63,7 @@ impl From<FlagError> for CompileError {
 }
 
 impl From<TableError> for CompileError {
-    ghost use Rattle.regress.specs.declared.errors.CompileError.TheVariants.{Table};
+    ghost use Rattle.regress_errors.specs.declared.errors.CompileError.TheVariants.{Table};
 
     ghost from_gives = { λ refused e. e ≡ Table refused };
 
@@ -73,7 +73,7 @@ impl From<TableError> for CompileError {
 }
 
 impl From<AllocError> for CompileError {
-    ghost use Rattle.regress.specs.declared.errors.CompileError.TheVariants.{Pattern};
+    ghost use Rattle.regress_errors.specs.declared.errors.CompileError.TheVariants.{Pattern};
     ghost use Rattle.regress_front_core.specs.declared.error.Error.TheVariants.{OutOfMemory};
 
     ghost from_gives = { λ _ e. e ≡ Pattern OutOfMemory };
@@ -84,7 +84,7 @@ impl From<AllocError> for CompileError {
 }
 
 impl<T: Drop> From<AllocFailed<T>> for CompileError {
-    ghost use Rattle.regress.specs.declared.errors.CompileError.TheVariants.{Pattern};
+    ghost use Rattle.regress_errors.specs.declared.errors.CompileError.TheVariants.{Pattern};
     ghost use Rattle.regress_front_core.specs.declared.error.Error.TheVariants.{OutOfMemory};
 
     ghost from_gives = { λ _ e. e ≡ Pattern OutOfMemory };

@@ -1,6 +1,6 @@
 use Rattle.std.proofs.Common.{◌∙◌}
-use Rattle.regress.proofs.ShownLemmas.{stops-at, stops-between}
-use Rattle.regress.proofs.refusing.syntax_error.Goals as goal
+use Rattle.regress_errors.proofs.ShownLemmas.{stops-at, stops-between}
+use Rattle.regress_errors.proofs.refusing.syntax_error.Goals as goal
 
 pub returns-clause-offset : goal.returns-clause-offset
 returns-clause-offset c =
