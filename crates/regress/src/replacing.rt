@@ -8,6 +8,7 @@ ghost use Rattle.regress_meaning.specs.Matches.{match_list};
 ghost use Rattle.regress_meaning.specs.Offsets.{of_utf8, told};
 ghost use Rattle.regress_replacing.specs.Replacing.{expansion, replaced};
 ghost use Rattle.regress_replacing.specs.Syntax.{replacement_text};
+ghost use Rattle.regress_replacing.specs.SyntaxViews.{syntax_of, text_of};
 ghost use Rattle.regress_front.specs.Trees.{Tree};
 ghost use Rattle.regress.specs.Standing.{StandsFor, HasTree, tree_list, names_of_regex};
 ghost use Rattle.regress.specs.Answering.{AnswersEach, RefusesOne};
@@ -126,6 +127,19 @@ impl Regex {
         ensures refused { IsOkUnless result Error.OutOfMemory }
     {
         let read = AnyReplacement::new(self.alloc, replacement, syntax)?;
+        self.replace_each(text, &read)
+    }
+
+    /// A text with each match replaced by what a replacement text that was read stands for there.
+    fn replace_each(&self, text: &str, read: &AnyReplacement<'_>) -> Result<String, Error>
+        ensures replaced { (t : Table) → (o : Options) → (p : Pattern) → StandsFor self.now t o p →
+            let items = map (told (of_utf8 text.now)) (match_list t o p (chars text.now) 0) in
+            IfOk result (λ s. string_bytes s ≡ replaced text.now items (map (replacement_text (syntax_of read.now) (names_of_regex self.now) (text_of read.now) text.now) items)) }
+        ensures replaced_of_tree { (n : ℕ) → (t : Tree) → HasTree self.now n t →
+            let items = map (told (of_utf8 text.now)) (tree_list self.now n t (chars text.now) 0) in
+            IfOk result (λ s. string_bytes s ≡ replaced text.now items (map (replacement_text (syntax_of read.now) (names_of_regex self.now) (text_of read.now) text.now) items)) }
+        ensures refused { IsOkUnless result Error.OutOfMemory }
+    {
         let mut written = String::new(self.alloc);
         let mut behind = 0;
         for found in self.find_iter(text)? {

@@ -1,5 +1,4 @@
 -- Why reading a pattern is refused, but for its syntax.
-use Rattle.std.specs.Prelude.{⊥}
 use Rattle.regress_front_core.specs.declared.error.Error.{Error}
 use Rattle.regress_front_core.specs.declared.error.Error.TheVariants.{Syntax}
 

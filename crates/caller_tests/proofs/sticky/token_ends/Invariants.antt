@@ -4,7 +4,7 @@ use Rattle.caller_tests.proofs.sticky.token_ends.Given as goal
 
 -- the next token may begin here
 abbrev pub invariant-tokens : goal.invariant-tokens
-invariant-tokens l = (place : ℕ) × Begins (of_utf8 l.text.now) l.at place
+invariant-tokens l = (place : ℕ) × Begins (of_utf8 l.text) l.at place
 
 abbrev pub decreases-tokens : goal.decreases-tokens
-decreases-tokens l = length l.text.now - l.at
+decreases-tokens l = length l.text - l.at

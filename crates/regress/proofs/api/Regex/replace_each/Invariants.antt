@@ -4,7 +4,7 @@ use Rattle.regress_replacing.specs.Syntax.{replacement_text}
 use Rattle.regress_replacing.specs.SyntaxViews.{syntax_of, text_of}
 use Rattle.regress.specs.Coming.{coming}
 use Rattle.regress.proofs.ReplacingLemmas.{IsBehind, finished}
-use Rattle.regress.proofs.api.Regex.replace_all_as.Given as goal
+use Rattle.regress.proofs.api.Regex.replace_each.Given as goal
 
 abbrev pub invariant-loop-found : goal.invariant-loop-found
 invariant-loop-found l = record {

@@ -9,7 +9,7 @@ use Rattle.regress.specs.Coming.{coming}
 use Rattle.regress_meaning.specs.Pattern.{names_of}
 use Rattle.regress.proofs.ListedLemmas.{pattern-in_text}
 use Rattle.regress.proofs.ReplacingLemmas.{IsGiven, behind-start, given-one, given-none, finished-more, finished-end}
-use Rattle.regress.proofs.api.Regex.replace_all_as.Goals as goal
+use Rattle.regress.proofs.api.Regex.replace_each.Goals as goal
 
 pub loop-found-init : goal.loop-found-init
 loop-found-init c =
@@ -25,7 +25,7 @@ loop-found-preserved c =
     let text = c.args.text.now in
     let names = names_of_regex c.args.self.now in
     let m = c.in_ok-found.found in
-    let new_text = replacement_text (syntax_of c.in_ok-read.read) names (text_of c.in_ok-read.read) text in
+    let new_text = replacement_text (syntax_of c.args.read.now) names (text_of c.args.read.now) text in
     let given : IsGiven text names c.loop-found.behind c.loop-found.found-iterator m c.next.new.self =
     given-one text names c.loop-found.behind c.loop-found.found-iterator c.next.new.self c.next.result m c.loop-found.invariant.behind c.next.ensures.steps (grind (arith, common_steps)) in
     let bytes : string_bytes c.write.new.written ≡ (string_bytes c.loop-found.written ++ slice_range text c.loop-found.behind m.range.start) ++ new_text (item_of m) =
@@ -41,13 +41,13 @@ pub returns-clause-replaced_of_tree : goal.returns-clause-replaced_of_tree
 returns-clause-replaced_of_tree c = λ n t laid.
     let text = c.args.text.now in
     let names = names_of_regex c.args.self.now in
-    let new_text = replacement_text (syntax_of c.in_ok-read.read) names (text_of c.in_ok-read.read) text in
+    let new_text = replacement_text (syntax_of c.args.read.now) names (text_of c.args.read.now) text in
     let left = given-none c.loop-found.found-iterator c.next.new.self c.next.result c.next.ensures.steps (grind (arith, common_steps)) in
     let items : coming c.into_iter-found-iterator.result ≡ map (told (of_utf8 text)) (tree_list c.args.self.now n t (chars text) 0) =
     ap coming c.into_iter-found-iterator.ensures.into_iter_gives ∙ c.in_ok-found-items.ensures.matches_of_tree n t laid in
     rw (c.in_ok-push_str-2.ensures.bytes, c.range_from.ensures.value)
     (finished-end text new_text (string_bytes c.loop-found.written) c.loop-found.behind (coming c.loop-found.found-iterator) left ∙ c.loop-found.invariant.written
-    ∙ rw (c.new-written.ensures.bytes, items, c.in_ok-read.ensures.read, c.in_ok-read.ensures.language) refl)
+    ∙ rw (c.new-written.ensures.bytes, items) refl)
 
 pub returns-clause-replaced : goal.returns-clause-replaced
 returns-clause-replaced c = λ t o p stands.
