@@ -29,4 +29,6 @@ mod sticky;
 #[cfg(test)]
 mod tables;
 #[cfg(test)]
+mod templates;
+#[cfg(test)]
 mod told;
