@@ -1,12 +1,13 @@
 //! The function of the repository's README, word for word, and one that replaces; a test of both.
 
-use regress::{Error, Flags, Regex, Tables};
+use regress::{CompileError, Error, Flags, Regex, Tables};
 use std::alloc::Global;
 use std::test::Fail;
 
 /// Where the years of the dates in a text stand, in bytes.
-fn years(alloc: Global, text: &str, tables: &Tables) -> Result<Vec<(usize, usize)>, Error> {
-    let regex = Regex::with_flags(alloc, r"(?<year>\d{4})-\d\d", Flags::from("u"), tables)?;
+fn years(alloc: Global, text: &str, tables: &Tables) -> Result<Vec<(usize, usize)>, CompileError> {
+    let script = Flags::parse("u")?;
+    let regex = Regex::with_flags(alloc, r"(?<year>\d{4})-\d\d", script.flags, tables)?;
     let mut years = Vec::new(alloc);
     for found in regex.find_iter(text)? {
         if let Some(year) = found?.named_group("year") {

@@ -11,7 +11,8 @@ use std::{error, fmt};
 /// ```rust
 /// fn has_date(alloc: Global, text: &str) -> Result<bool, CompileError> {
 ///     let tables = Tables::small(alloc)?;
-///     let regex = Regex::with_flags(alloc, r"\d{4}-\d\d", Flags::parse("u")?, &tables)?;
+///     let script = Flags::parse("u")?;
+///     let regex = Regex::with_flags(alloc, r"\d{4}-\d\d", script.flags, &tables)?;
 ///     Ok(regex.is_match(text)?)
 /// }
 /// ```
