@@ -32,3 +32,5 @@ mod tables;
 mod templates;
 #[cfg(test)]
 mod told;
+#[cfg(test)]
+mod units;

@@ -11,3 +11,4 @@ pub mod ListedLemmas
 pub mod OutcomeLemmas
 pub mod StepLemmas
 pub mod UnitLemmas
+pub mod PatternLemmas

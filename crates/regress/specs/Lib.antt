@@ -10,3 +10,4 @@ pub mod Behind
 pub mod Splitting
 pub mod Units
 pub mod Ascii
+pub mod PatternUnits

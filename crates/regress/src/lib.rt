@@ -10,6 +10,7 @@ pub mod backends;
 mod compiled;
 mod laws;
 mod matches;
+mod pattern_units;
 mod programs;
 mod replacing;
 mod splitting;
