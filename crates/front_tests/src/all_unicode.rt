@@ -163,26 +163,46 @@ const KEYS: &[(&str, bool)] = &[
     ("Hyphen", false),
     ("Other_Math", false),
     ("Line_Break=AL", false),
-    ("Changes_When_NFKC_Casefolded", false),
+    ("Changes_When_NFKC_Casefolded", true),
     ("Emoji_Keycap_Sequence", false),
 ];
 
-/// Whether the keys are known that the standard has, and the twelve keycaps are the only strings.
+/// Properties of strings, each with how many strings it has.
+const STRINGS: &[(&str, usize)] = &[
+    ("Basic_Emoji", 1409),
+    ("Emoji_Keycap_Sequence", 12),
+    ("RGI_Emoji_Modifier_Sequence", 675),
+    ("RGI_Emoji_Flag_Sequence", 259),
+    ("RGI_Emoji_Tag_Sequence", 3),
+    ("RGI_Emoji_ZWJ_Sequence", 1614),
+    ("RGI_Emoji", 3972),
+];
+
+/// Whether the keys are known that the standard has.
 fn are_known(tables: &Tables) -> bool {
     for (key, is_known) in KEYS {
         if tables.property(key).is_some() != *is_known {
             return false;
         }
     }
-    let keycaps = tables.sequences("Emoji_Keycap_Sequence");
-    keycaps.is_some_and(|strings| strings.len() == 12) && tables.sequences("RGI_Emoji").is_none()
+    true
+}
+
+/// Whether the properties of strings have so many strings.
+fn have_strings(tables: &Tables) -> bool {
+    for (key, count) in STRINGS {
+        if tables.sequences(key).map(|strings| strings.len()) != Some(*count) {
+            return false;
+        }
+    }
+    true
 }
 
 // One test, since the table takes long to make.
 #[test]
 fn the_table_is_that_of_unicode(rt: HostRuntime) -> Result<(), Fail> {
     let tables = unicode_tables(rt.alloc())?;
-    assert!(rt; have_canons(&tables) && are_known(&tables));
+    assert!(rt; have_canons(&tables) && are_known(&tables) && have_strings(&tables));
     are_alike(rt.alloc(), &tables)?;
     have_figures(rt.alloc(), &tables)
 }

@@ -1,3 +1,4 @@
 pub mod CaseLemmas
 pub mod KeyLemmas
+pub mod MemberLemmas
 pub mod SetLemmas

@@ -1,4 +1,7 @@
 pub mod Case
+pub mod Casefold
 pub mod Keys
+pub mod Members
 pub mod Names
+pub mod Sequences
 pub mod Unicode

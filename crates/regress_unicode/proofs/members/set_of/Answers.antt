@@ -3,7 +3,7 @@ use Rattle.std.proofs.lemmas.List.{take_all}
 use Rattle.regress_front_sets.specs.Intervals.{ends_of}
 use Rattle.regress_front_sets.proofs.IntervalLemmas.{in_intervals-nil}
 use Rattle.regress_unicode.proofs.SetLemmas.{in_ranges-nil, in_ranges-more, holds-exactly}
-use Rattle.regress_unicode.proofs.sets.intervals.Goals as goal
+use Rattle.regress_unicode.proofs.members.set_of.Goals as goal
 
 pub loop-first-init : goal.loop-first-init
 loop-first-init c n = rw (c.new-members.ensures, in_ranges-nil n) (in_intervals-nil n)
@@ -22,4 +22,4 @@ returns-clause-members c =
     let set = c.loop-first.members in
     let all : take c.loop-first.first-index c.deref-first-items.result.now ≡ ranges = take_all _ _ c.loop-first-test.false ∙ c.deref-first-items.ensures.value in
     let same = rw all at c.loop-first.invariant in
-    rw (c.in_ok-from_slice.ensures.items, c.intervals.ensures) (holds-exactly (ends_of set.intervals.items) ranges _ set.canonical same c.in_ok-ranges.ensures.members)
+    holds-exactly (ends_of set.intervals.items) ranges _ set.canonical same c.in_ok-ranges.ensures.members

@@ -7,8 +7,8 @@ use Rattle.regress_front_sets.specs.declared.interval.Interval.{Interval}
 use Rattle.regress_front_sets.specs.Intervals.{ends_of}
 use Rattle.regress_front_tables.specs.Entries.{entry_of}
 use Rattle.regress_unicode.specs.Keys.{shown}
-use Rattle.regress_unicode.proofs.KeyLemmas.{IsRead, read-more, all-held}
-use Rattle.regress_unicode.proofs.properties.properties.Goals as goal
+use Rattle.regress_unicode.proofs.KeyLemmas.{IsRead, zip-more, all-held}
+use Rattle.regress_unicode.proofs.properties.set_properties.Goals as goal
 
 -- an entry as its text and the ends of its intervals
 abbrev entry_shown : String Global × Vec Interval Global → List ℕ × List (ℕ × ℕ)
@@ -19,7 +19,7 @@ held-more : (entries new : List (String Global × Vec Interval Global)) (keys : 
     → AllZip IsRead (map entry_shown entries) (map shown keys) → IsRead (entry_shown e) (shown k) → new ≡ entries ++ e ∷ []
     → AllZip IsRead (map entry_shown new) (map shown (keys ++ k ∷ []))
 held-more entries new keys e k before here is =
-    rw (is, map_push entry_shown entries e, map_push {X = String Global × Set} shown keys k) (read-more _ _ _ _ before here)
+    rw (is, map_push entry_shown entries e, map_push {X = String Global × Set} shown keys k) (zip-more IsRead _ _ _ _ before here)
 
 nothing_left : {X : Type 0} (l : List X) → length l ≡ 0 → l ≡ []
 nothing_left [] h = refl
