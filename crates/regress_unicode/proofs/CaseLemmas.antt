@@ -9,6 +9,9 @@ use Rattle.ucd_case.specs.CaseFolding.{simple_fold}
 use Rattle.regress_meaning.specs.Table.{code_points}
 use Rattle.regress_meaning.specs.TableParts.{is_surrogate}
 use Rattle.regress_front_sets.proofs.IntervalLemmas.{between-within, between-outside}
+use Rattle.ucd_normal.specs.declared.forms.Form.TheVariants.{Nfkc}
+use Rattle.ucd_normal.specs.QuickCheck.{quick_check}
+use Rattle.regress_unicode.specs.Casefold.{is_no, is_outside_nfkc}
 use Rattle.regress_unicode.specs.Case.{fold_of, upper_of, single_upper, moved}
 
 scalar-outside : (c : ℕ) → InScalarRange c → is_surrogate c ≡ false
@@ -34,6 +37,14 @@ upper_of-scalar c h = rw (scalar-outside c h)
 pub upper_of-surrogate : (c : ℕ) → c < code_points → OutOfScalarRange c → upper_of c ≡ c
 unfolding upper_of
 upper_of-surrogate c small h = rw (surrogate-inside c small h)
+
+pub is_outside_nfkc-scalar : (c : ℕ) → InScalarRange c → is_outside_nfkc c ≡ is_no (quick_check Nfkc c)
+unfolding is_outside_nfkc
+is_outside_nfkc-scalar c h = rw (scalar-outside c h)
+
+pub is_outside_nfkc-surrogate : (c : ℕ) → c < code_points → OutOfScalarRange c → is_outside_nfkc c ≡ false
+unfolding is_outside_nfkc
+is_outside_nfkc-surrogate c small h = rw (surrogate-inside c small h)
 
 -- ---- the pairs of a map
 

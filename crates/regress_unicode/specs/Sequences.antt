@@ -57,7 +57,7 @@ written texts = map (λ t. chars t.now) texts
 
 -- each template with these tones
 abbrev pub with_tones : ℕ → ℕ → List (Bor (List ℕ)) → List (List ℕ)
-with_tones first second templates = map (map (toned first second)) (written templates)
+with_tones first second templates = map (λ t. map (toned first second) (chars t.now)) templates
 
 -- flags, each as two letters
 unfoldable pub flags : List (List ℕ)
@@ -67,11 +67,13 @@ flags = written FLAGS
 unfoldable pub tagged : List (List ℕ)
 tagged = written TAGGED
 
+-- the strings of these two tones
+abbrev pub of_two_tones : ℕ → ℕ → List (List ℕ)
+of_two_tones first second = with_tones first second ANY_TONES ++ (if second == first then [] else with_tones first second UNLIKE_TONES)
+
 -- the strings whose first tone, or only one, is this
 abbrev pub of_first_tone : ℕ → List (List ℕ)
-of_first_tone first =
-    with_tones first first TONED
-    ++ flat_map (λ second. with_tones first second ANY_TONES ++ (if second == first then [] else with_tones first second UNLIKE_TONES)) tones
+of_first_tone first = with_tones first first TONED ++ flat_map (of_two_tones first) tones
 
 -- characters that are joined to one emoji
 unfoldable pub joined : List (List ℕ)

@@ -1,9 +1,9 @@
 //! The code points that NFKC_Casefold moves, which no set of Unicode's data holds.
-ghost use Rattle.std.specs.Prelude.{◌≡◌, ◌&&◌, ◌<◌, ◌==◌, nat_lt, IfOk, IsOkUnless};
+ghost use Rattle.std.specs.Prelude.{◌≡◌, ◌&&◌, ◌<◌, nat_lt, IfOk, IsOkUnless};
 ghost use Rattle.regress_meaning.specs.Table.{code_points};
 ghost use Rattle.regress_front_sets.specs.Intervals.{ends_of};
 ghost use Rattle.regress_front_sets.specs.Sets.{in_set as holds};
-ghost use Rattle.regress_unicode.specs.Casefold.{is_outside_nfkc, changes_when_nfkc_casefolded};
+ghost use Rattle.regress_unicode.specs.Casefold.{is_no, is_outside_nfkc, changes_when_nfkc_casefolded};
 ghost use Rattle.regress_unicode.specs.Unicode.{Hold};
 
 use crate::members::set_with;
@@ -42,7 +42,14 @@ fn is_outside_nfkc(c: CodePoint) -> bool
     ensures { result ≡ is_outside_nfkc c }
 {
     match char::from_u32(c) {
-        Some(letter) => quick_check(letter, Form::Nfkc) == QuickCheck::No,
+        Some(letter) => is_no(quick_check(letter, Form::Nfkc)),
         None => false,
     }
+}
+
+/// Whether the answer of a quick check is no.
+fn is_no(answer: QuickCheck) -> bool
+    ensures { result ≡ is_no answer }
+{
+    matches!(answer, QuickCheck::No)
 }

@@ -1,12 +1,12 @@
 //! Sets of code points of Unicode's data, and their members one by one.
-ghost use Rattle.std.specs.Prelude.{◌≡◌, ◌&&◌, ◌≤◌, ◌++◌, ◌+◌, ◌-◌, not, IfOk, OnOk, IsOkUnless};
+ghost use Rattle.std.specs.Prelude.{◌≡◌, ◌&&◌, ◌++◌, ◌+◌, ◌-◌, not, IfOk, OnOk, IsOkUnless};
 ghost use Rattle.regress_meaning.specs.Text.{count_up};
 ghost use Rattle.regress_meaning.specs.Table.{code_points};
 ghost use Rattle.regress_front_sets.specs.Sets.{in_set as holds};
 ghost use Rattle.ucd_sets.specs.Sets.{in_set};
 ghost use Rattle.regress_unicode.specs.Members.{passing, IsSetOf};
 
-use regress_front_tables::{CODE_POINT_MAX, CodePoint, CodePointSet, Interval, TableError};
+use regress_front_tables::{CodePoint, CodePointSet, Interval, TableError};
 use std::alloc::{AllocError, Global};
 use unicode::sets::{BinaryProperty, Set};
 
@@ -59,7 +59,6 @@ pub(crate) fn members_of(alloc: Global, set: &CodePointSet) -> Result<Vec<CodePo
 
 /// Adds the code points of an interval, from low to high.
 fn push_interval(members: &mut Vec<CodePoint>, interval: Interval) -> Result<(), AllocError>
-    requires { interval.last ≤ CODE_POINT_MAX }
     ensures { OnOk result (members.new.items ≡ members.old.items ++ count_up interval.first (interval.last + 1 - interval.first)) }
 {
     for c in interval.first..interval.last + 1 {

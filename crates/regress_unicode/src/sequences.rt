@@ -1,7 +1,10 @@
 //! Properties of strings by their keys ("Binary Unicode properties of strings").
-ghost use Rattle.std.specs.Prelude.{◌≡◌, ◌++◌, ◌∷◌, [], map, flat_map, chars, codes, IfOk, OnOk, IsOkUnless};
+ghost use Rattle.std.specs.Prelude.{◌≡◌, ◌++◌, ◌∷◌, [], map, chars, IfOk, OnOk, IsOkUnless};
+ghost use Rattle.std.specs.List.{flat_map};
 ghost use Rattle.regress_front_tables.specs.Entries.{entry_of};
-ghost use Rattle.regress_unicode.specs.Sequences.{unicode_sequences, strings_of, basic_emoji, keycaps, with_modifier, flags, tagged, joined, all_emoji, with_tail, written, toned, of_first_tone};
+ghost use Rattle.regress_unicode.specs.Sequences.{unicode_sequences, strings_of, is_shown_alone, is_shown_marked, is_toned_base, basic_emoji, with_modifier, joined, all_emoji, with_tail, toned, of_first_tone, of_two_tones};
+ghost use Rattle.regress_unicode.specs.Members.{passing};
+ghost use Rattle.regress_meaning.specs.Table.{code_points};
 
 use crate::emoji::{ANY_TONES, FLAGS, JOINED, TAGGED, TONED, UNLIKE_TONES};
 use crate::members::{members_of, set_with, without};
@@ -34,8 +37,7 @@ pub(crate) fn sequences(alloc: Global) -> Result<Vec<(String, Vec<Vec<CodePoint>
     push_texts(&mut tagged, &TAGGED)?;
     let mut joined = Vec::new(alloc);
     push_joined(&mut joined)?;
-    let mut all = Vec::new(alloc);
-    push_all(&mut all)?;
+    let all = all_strings(alloc)?;
     Ok(vec![in alloc;
         (String::from_str(alloc, "Basic_Emoji")?, basic),
         (String::from_str(alloc, "Emoji_Keycap_Sequence")?, keycaps),
@@ -50,18 +52,19 @@ pub(crate) fn sequences(alloc: Global) -> Result<Vec<(String, Vec<Vec<CodePoint>
     ]?)
 }
 
-/// Adds the strings of all other properties, which are those of `RGI_Emoji`.
-fn push_all(strings: &mut Vec<Vec<CodePoint>>) -> Result<(), TableError>
-    ensures added { OnOk result (strings_of strings.new ≡ strings_of strings.old ++ all_emoji) }
+/// The strings of all other properties, which are those of `RGI_Emoji`.
+fn all_strings(alloc: Global) -> Result<Vec<Vec<CodePoint>>, TableError>
+    ensures listed { IfOk result (λ strings. strings_of strings ≡ all_emoji) }
     ensures refused { IsOkUnless result TableError.OutOfMemory }
 {
-    push_basic(strings)?;
-    push_each(strings, &KEYS, &[0xFE0F, 0x20E3])?;
-    push_modified(strings)?;
-    push_texts(strings, &FLAGS)?;
-    push_texts(strings, &TAGGED)?;
-    push_joined(strings)?;
-    Ok(())
+    let mut strings = Vec::new(alloc);
+    push_basic(&mut strings)?;
+    push_each(&mut strings, &KEYS, &[0xFE0F, 0x20E3])?;
+    push_modified(&mut strings)?;
+    push_texts(&mut strings, &FLAGS)?;
+    push_texts(&mut strings, &TAGGED)?;
+    push_joined(&mut strings)?;
+    Ok(strings)
 }
 
 /// Adds the emoji of one character: those that are shown as emoji by themselves, and those that are shown so with a mark behind.
@@ -69,15 +72,34 @@ fn push_basic(strings: &mut Vec<Vec<CodePoint>>) -> Result<(), TableError>
     ensures added { OnOk result (strings_of strings.new ≡ strings_of strings.old ++ basic_emoji) }
     ensures refused { IsOkUnless result TableError.OutOfMemory }
 {
-    let alloc = *strings.allocator();
+    let alone = shown_alone(*strings.allocator())?;
+    let marked = shown_marked(*strings.allocator())?;
+    push_each(strings, &alone, &[])?;
+    push_each(strings, &marked, &[0xFE0F])?;
+    Ok(())
+}
+
+/// The characters that are shown as emoji by themselves.
+fn shown_alone(alloc: Global) -> Result<Vec<CodePoint>, TableError>
+    ensures members { IfOk result (λ members. members.items ≡ passing is_shown_alone code_points) }
+    ensures refused { IsOkUnless result TableError.OutOfMemory }
+{
     let shown = set_with(alloc, BinaryProperty::EmojiPresentation)?;
-    let alone = without(shown, set_with(alloc, BinaryProperty::RegionalIndicator)?)?;
-    push_each(strings, &members_of(alloc, &alone)?, &[])?;
+    let letters = set_with(alloc, BinaryProperty::RegionalIndicator)?;
+    let alone = without(shown, letters)?;
+    Ok(members_of(alloc, &alone)?)
+}
+
+/// The characters that are shown as emoji with a mark behind.
+fn shown_marked(alloc: Global) -> Result<Vec<CodePoint>, TableError>
+    ensures members { IfOk result (λ members. members.items ≡ passing is_shown_marked code_points) }
+    ensures refused { IsOkUnless result TableError.OutOfMemory }
+{
+    let emoji = set_with(alloc, BinaryProperty::Emoji)?;
     let mut others = set_with(alloc, BinaryProperty::EmojiPresentation)?;
     others.try_add_set(set_with(alloc, BinaryProperty::EmojiComponent)?)?;
-    let marked = without(set_with(alloc, BinaryProperty::Emoji)?, others)?;
-    push_each(strings, &members_of(alloc, &marked)?, &[0xFE0F])?;
-    Ok(())
+    let marked = without(emoji, others)?;
+    Ok(members_of(alloc, &marked)?)
 }
 
 /// Adds each character that may have a tone of skin, with each tone.
@@ -85,13 +107,33 @@ fn push_modified(strings: &mut Vec<Vec<CodePoint>>) -> Result<(), TableError>
     ensures added { OnOk result (strings_of strings.new ≡ strings_of strings.old ++ with_modifier) }
     ensures refused { IsOkUnless result TableError.OutOfMemory }
 {
-    let alloc = *strings.allocator();
+    let bases = toned_bases(*strings.allocator())?;
+    push_with_tones(strings, &bases, &TONES)?;
+    Ok(())
+}
+
+/// The characters that may have a tone of skin.
+fn toned_bases(alloc: Global) -> Result<Vec<CodePoint>, TableError>
+    ensures members { IfOk result (λ members. members.items ≡ passing is_toned_base code_points) }
+    ensures refused { IsOkUnless result TableError.OutOfMemory }
+{
+    let with_family = set_with(alloc, BinaryProperty::EmojiModifierBase)?;
     let mut family = CodePointSet::new(alloc);
     family.try_add_one(0x1F46A)?;
-    let bases = without(set_with(alloc, BinaryProperty::EmojiModifierBase)?, family)?;
-    let members = members_of(alloc, &bases)?;
-    for tone in &TONES {
-        push_each(strings, &members, &[*tone])?;
+    let bases = without(with_family, family)?;
+    Ok(members_of(alloc, &bases)?)
+}
+
+/// Adds each of these characters with each of these tones.
+fn push_with_tones(
+    strings: &mut Vec<Vec<CodePoint>>,
+    bases: &[CodePoint],
+    tones: &[CodePoint],
+) -> Result<(), AllocError>
+    ensures { OnOk result (strings_of strings.new ≡ strings_of strings.old ++ flat_map (λ tone. with_tail (tone ∷ []) bases.now) tones.now) }
+{
+    for tone in tones {
+        push_each(strings, bases, &[*tone])?;
     }
     Ok(())
 }
@@ -101,22 +143,48 @@ fn push_joined(strings: &mut Vec<Vec<CodePoint>>) -> Result<(), AllocError>
     ensures { OnOk result (strings_of strings.new ≡ strings_of strings.old ++ joined) }
 {
     push_texts(strings, &JOINED)?;
-    for first in &TONES {
-        push_of_first_tone(strings, *first)?;
+    push_of_first_tones(strings, &TONES)
+}
+
+/// Adds the strings whose first tone, or only one, is one of these.
+fn push_of_first_tones(
+    strings: &mut Vec<Vec<CodePoint>>,
+    firsts: &[CodePoint],
+) -> Result<(), AllocError>
+    ensures { OnOk result (strings_of strings.new ≡ strings_of strings.old ++ flat_map of_first_tone firsts.now) }
+{
+    for first in firsts {
+        push_toned(strings, &TONED, *first, *first)?;
+        push_of_second_tones(strings, *first, &TONES)?;
     }
     Ok(())
 }
 
-/// Adds the strings whose first tone, or only one, is this.
-fn push_of_first_tone(strings: &mut Vec<Vec<CodePoint>>, first: CodePoint) -> Result<(), AllocError>
-    ensures { OnOk result (strings_of strings.new ≡ strings_of strings.old ++ of_first_tone first) }
+/// Adds the strings whose first tone is this, and whose second is one of these.
+fn push_of_second_tones(
+    strings: &mut Vec<Vec<CodePoint>>,
+    first: CodePoint,
+    seconds: &[CodePoint],
+) -> Result<(), AllocError>
+    ensures { OnOk result (strings_of strings.new ≡ strings_of strings.old ++ flat_map (of_two_tones first) seconds.now) }
 {
-    push_toned(strings, &TONED, first, first)?;
-    for second in &TONES {
-        push_toned(strings, &ANY_TONES, first, *second)?;
-        if *second != first {
-            push_toned(strings, &UNLIKE_TONES, first, *second)?;
-        }
+    for second in seconds {
+        push_of_two_tones(strings, first, *second)?;
+    }
+    Ok(())
+}
+
+/// Adds the strings of these two tones.
+fn push_of_two_tones(
+    strings: &mut Vec<Vec<CodePoint>>,
+    first: CodePoint,
+    second: CodePoint,
+) -> Result<(), AllocError>
+    ensures { OnOk result (strings_of strings.new ≡ strings_of strings.old ++ of_two_tones first second) }
+{
+    push_toned(strings, &ANY_TONES, first, second)?;
+    if second != first {
+        push_toned(strings, &UNLIKE_TONES, first, second)?;
     }
     Ok(())
 }
@@ -131,20 +199,34 @@ fn push_toned(
     ensures { OnOk result (strings_of strings.new ≡ strings_of strings.old ++ map (λ t. map (toned first second) (chars t.now)) templates.now) }
 {
     for template in templates {
-        let characters = template.chars().map(|c| toned(c, first, second));
-        strings.push(characters.collect(*strings.allocator())?)?;
+        let string = toned_text(*strings.allocator(), template, first, second)?;
+        push_string(strings, string)?;
     }
     Ok(())
+}
+
+/// The characters of a template, with these tones in the place of the digits 1 and 2.
+fn toned_text(
+    alloc: Global,
+    text: &str,
+    first: CodePoint,
+    second: CodePoint,
+) -> Result<Vec<CodePoint>, AllocError>
+    ensures { IfOk result (λ string. string.items ≡ map (toned first second) (chars text.now)) }
+{
+    text.chars().map(|c| toned(c, first, second)).collect(alloc)
 }
 
 /// The first tone for the digit 1, the second for 2, and for any other character itself.
 fn toned(c: char, first: CodePoint, second: CodePoint) -> CodePoint
     ensures { result ≡ toned first second c }
 {
-    match c {
-        '1' => first,
-        '2' => second,
-        _ => u32::from(c),
+    if c == '1' {
+        first
+    } else if c == '2' {
+        second
+    } else {
+        u32::from(c)
     }
 }
 
@@ -153,9 +235,17 @@ fn push_texts(strings: &mut Vec<Vec<CodePoint>>, texts: &[&str]) -> Result<(), A
     ensures { OnOk result (strings_of strings.new ≡ strings_of strings.old ++ map (λ t. chars t.now) texts.now) }
 {
     for text in texts {
-        strings.push(text.chars().map(u32::from).collect(*strings.allocator())?)?;
+        let string = characters(*strings.allocator(), text)?;
+        push_string(strings, string)?;
     }
     Ok(())
+}
+
+/// The characters of a text.
+fn characters(alloc: Global, text: &str) -> Result<Vec<CodePoint>, AllocError>
+    ensures { IfOk result (λ string. string.items ≡ chars text.now) }
+{
+    text.chars().map(u32::from).collect(alloc)
 }
 
 /// Adds each of these code points, with the same behind it.
@@ -164,12 +254,20 @@ fn push_each(
     heads: &[CodePoint],
     tail: &[CodePoint],
 ) -> Result<(), AllocError>
-    ensures { OnOk result (strings_of strings.new ≡ strings_of strings.old ++ map (λ head. head ∷ tail.now) heads.now) }
+    ensures { OnOk result (strings_of strings.new ≡ strings_of strings.old ++ with_tail tail.now heads.now) }
 {
     for head in heads {
         let mut string = vec![in *strings.allocator(); *head]?;
         string.extend_from_slice(tail)?;
-        strings.push(string)?;
+        push_string(strings, string)?;
     }
+    Ok(())
+}
+
+/// Adds a string.
+fn push_string(strings: &mut Vec<Vec<CodePoint>>, string: Vec<CodePoint>) -> Result<(), AllocError>
+    ensures { OnOk result (strings_of strings.new ≡ strings_of strings.old ++ string.items ∷ []) }
+{
+    strings.push(string)?;
     Ok(())
 }
