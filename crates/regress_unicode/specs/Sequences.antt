@@ -1,7 +1,6 @@
 -- The properties of strings that the standard lists ("Binary Unicode properties of strings").
 use Rattle.std.specs.Prelude.{ℕ, Bool, not, ◌==◌, ◌&&◌, ◌||◌, Vec, List, [], ◌∷◌, ◌++◌, map, chars, codes, if◌then◌else◌}
 use Rattle.std.specs.List.{flat_map}
-use Rattle.std.specs.Borrow.{Bor}
 use Rattle.regress_meaning.specs.Table.{code_points}
 use Rattle.ucd_sets.specs.declared.set.Set.TheVariants.{Binary}
 use Rattle.ucd_sets.specs.declared.property.BinaryProperty.{BinaryProperty}
@@ -51,33 +50,27 @@ with_modifier = flat_map (λ tone. with_tail (tone ∷ []) (passing is_toned_bas
 abbrev pub toned : ℕ → ℕ → ℕ → ℕ
 toned first second c = if c == 0x31 then first else if c == 0x32 then second else c
 
--- texts as their characters
-abbrev pub written : List (Bor (List ℕ)) → List (List ℕ)
-written texts = map (λ t. chars t.now) texts
-
--- each template with these tones
-abbrev pub with_tones : ℕ → ℕ → List (Bor (List ℕ)) → List (List ℕ)
-with_tones first second templates = map (λ t. map (toned first second) (chars t.now)) templates
-
 -- flags, each as two letters
 unfoldable pub flags : List (List ℕ)
-flags = written FLAGS
+flags = map (λ t. chars t.now) FLAGS
 
 -- strings whose last characters are tags
 unfoldable pub tagged : List (List ℕ)
-tagged = written TAGGED
+tagged = map (λ t. chars t.now) TAGGED
 
 -- the strings of these two tones
 abbrev pub of_two_tones : ℕ → ℕ → List (List ℕ)
-of_two_tones first second = with_tones first second ANY_TONES ++ (if second == first then [] else with_tones first second UNLIKE_TONES)
+of_two_tones first second =
+    map (λ t. map (toned first second) (chars t.now)) ANY_TONES
+    ++ (if second == first then [] else map (λ t. map (toned first second) (chars t.now)) UNLIKE_TONES)
 
 -- the strings whose first tone, or only one, is this
 abbrev pub of_first_tone : ℕ → List (List ℕ)
-of_first_tone first = with_tones first first TONED ++ flat_map (of_two_tones first) tones
+of_first_tone first = map (λ t. map (toned first first) (chars t.now)) TONED ++ flat_map (of_two_tones first) tones
 
 -- characters that are joined to one emoji
 unfoldable pub joined : List (List ℕ)
-joined = written JOINED ++ flat_map of_first_tone tones
+joined = map (λ t. chars t.now) JOINED ++ flat_map of_first_tone tones
 
 -- all of these
 unfoldable pub all_emoji : List (List ℕ)

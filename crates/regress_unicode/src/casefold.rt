@@ -1,5 +1,5 @@
 //! The code points that NFKC_Casefold moves, which no set of Unicode's data holds.
-ghost use Rattle.std.specs.Prelude.{◌≡◌, ◌&&◌, ◌<◌, nat_lt, IfOk, IsOkUnless};
+ghost use Rattle.std.specs.Prelude.{◌≡◌, ℕ, ◌&&◌, ◌<◌, nat_lt, IfOk, IsOkUnless};
 ghost use Rattle.regress_meaning.specs.Table.{code_points};
 ghost use Rattle.regress_front_sets.specs.Intervals.{ends_of};
 ghost use Rattle.regress_front_sets.specs.Sets.{in_set as holds};

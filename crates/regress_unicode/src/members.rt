@@ -1,5 +1,5 @@
 //! Sets of code points of Unicode's data, and their members one by one.
-ghost use Rattle.std.specs.Prelude.{◌≡◌, ◌&&◌, ◌++◌, ◌+◌, ◌-◌, not, IfOk, OnOk, IsOkUnless};
+ghost use Rattle.std.specs.Prelude.{◌≡◌, ℕ, ◌&&◌, ◌++◌, ◌+◌, ◌-◌, not, IfOk, OnOk, IsOkUnless};
 ghost use Rattle.regress_meaning.specs.Text.{count_up};
 ghost use Rattle.regress_meaning.specs.Table.{code_points};
 ghost use Rattle.regress_front_sets.specs.Sets.{in_set as holds};

@@ -23,7 +23,7 @@ returns-clause-held c =
     let named : chars (string_bytes c.in_ok-name.name) ≡ codes "Changes_When_NFKC_Casefolded" = ap chars c.in_ok-name.ensures.ok ∙ chars-IsAscii _ (search rules) in
     let called : chars (string_bytes c.in_ok-alias.alias) ≡ codes "CWKCF" = ap chars c.in_ok-alias.ensures.ok ∙ chars-IsAscii _ (search rules) in
     let folded = c.in_ok-folded.ensures.members in
-    let again : Hold (ends_of c.in_ok-again.again.items) changes_when_nfkc_casefolded = λ n. rw c.in_ok-again.ensures.items (folded n) in
+    let again : Hold (ends_of c.in_ok-again.again.items) changes_when_nfkc_casefolded = λ n. rw (c.in_ok-again.ensures.items, c.deref.ensures.value) (folded n) in
     let first = held-more _ _ _ (c.in_ok-name.name, c.in_ok-folded.folded) (codes "Changes_When_NFKC_Casefolded", changes_when_nfkc_casefolded) c.in_ok-properties.ensures.held (named, folded) c.in_ok-push.ensures.items in
     let second = held-more _ _ _ (c.in_ok-alias.alias, c.in_ok-again.again) (codes "CWKCF", changes_when_nfkc_casefolded) first (called, again) c.in_ok-push-2.ensures.items in
     subst (AllZip IsHeld _) (append_assoc key_sets _ _) second
