@@ -9,6 +9,6 @@ pub mod ProgramLemmas
 pub mod ShownLemmas
 pub mod ListedLemmas
 pub mod OutcomeLemmas
+pub mod SlotLemmas
 pub mod StepLemmas
 pub mod UnitLemmas
-pub mod PatternLemmas

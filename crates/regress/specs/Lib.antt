@@ -9,5 +9,5 @@ pub mod Answering
 pub mod Behind
 pub mod Splitting
 pub mod Units
+pub mod Slotted
 pub mod Ascii
-pub mod PatternUnits

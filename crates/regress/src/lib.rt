@@ -10,9 +10,9 @@ pub mod backends;
 mod compiled;
 mod laws;
 mod matches;
-mod pattern_units;
 mod programs;
 mod replacing;
+mod slots;
 mod splitting;
 mod sticky;
 mod text;
@@ -26,9 +26,10 @@ pub use laws::{
 };
 pub use matches::Matches;
 pub use programs::programs_of_trees_are_of_patterns;
-pub use regress_engine::{CompiledRegex, is_unit_start, is_well_formed_utf16};
+pub use regress_engine::{CompiledRegex, Scratch, is_unit_start, is_well_formed_utf16};
 pub use regress_errors::{
     CompileError, SyntaxError, SyntaxErrorDisplay, syntax_error, syntax_error_in_points,
+    syntax_error_in_units,
 };
 pub use regress_front::{
     CaptureGroupName, CodePoint, Error, FlagError, Flags, Interval, ScriptFlags, TableError,

@@ -11,14 +11,10 @@ use Rattle.regress_front.specs.TableViews.{table}
 use Rattle.regress.specs.Refusing.{MayRefuseRegex}
 use Rattle.regress.specs.Standing.{StandsFor, StandsInUnits, source_of}
 use Rattle.regress_errors.specs.Texts.{shown_text}
-use Rattle.regress.proofs.PatternLemmas.{pattern-within}
 use Rattle.regress.proofs.api.Regex.from_utf16.Goals as goal
 
 pub from_unicode-requires : goal.from_unicode-requires
-from_unicode-requires c =
-    let units = c.args.units.now in
-    let short : All (λ u. u < 0x1_0000) units = λ k d room. let same = get_or_default units k d 0 room in let fits = c.type_inv.units k in omega (arith, same, fits) in
-    rw (c.deref.ensures.value, c.in_ok-points.ensures.points) (pattern-within (is_unicode (options c.args.flags)) units short)
+from_unicode-requires c = rw c.deref.ensures.value c.in_ok-points.ensures.within
 
 pub returns-clause-accepted : goal.returns-clause-accepted
 returns-clause-accepted c =

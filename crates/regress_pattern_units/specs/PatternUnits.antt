@@ -6,8 +6,8 @@ use Rattle.regress_meaning.specs.Text.{is_at}
 use Rattle.regress_meaning.specs.Tokens.{is_high, is_low, joined}
 use Rattle.regress_meaning.specs.Grammar.{opens_name, holds_a_name}
 use Rattle.regress_meaning.specs.Offsets.{characters}
-use Rattle.regress.specs.declared.pattern_units.Place.{Place}
-use Rattle.regress.specs.declared.pattern_units.Place.TheVariants.{Outside, Escaped, InClass, EscapedInClass, InName}
+use Rattle.regress_pattern_units.specs.declared.units.Place.{Place}
+use Rattle.regress_pattern_units.specs.declared.units.Place.TheVariants.{Outside, Escaped, InClass, EscapedInClass, InName}
 
 -- a name begins: `(?<` that opens no lookbehind, and `\k<` where names are in force
 abbrev pub begins_name : (named : Bool) → List ℕ → Bool

@@ -9,9 +9,9 @@ use Rattle.regress_meaning.specs.Tokens.{is_high, is_low, joined}
 use Rattle.regress_meaning.specs.Grammar.{holds_a_name}
 use Rattle.regress_meaning.specs.Offsets.{characters}
 use Rattle.regress_engine_input.proofs.Utf16Texts.{IsShort, are_pair, all_points}
-use Rattle.regress.specs.declared.pattern_units.Place.{Place}
-use Rattle.regress.specs.declared.pattern_units.Place.TheVariants.{Outside}
-use Rattle.regress.specs.PatternUnits.{place_behind, is_in_name, point_at, scanned_points, pattern_points}
+use Rattle.regress_pattern_units.specs.declared.units.Place.{Place}
+use Rattle.regress_pattern_units.specs.declared.units.Place.TheVariants.{Outside}
+use Rattle.regress_pattern_units.specs.PatternUnits.{place_behind, is_in_name, point_at, scanned_points, pattern_points}
 
 -- one of two points, before what follows it
 chosen : (S : List ℕ → List ℕ) (b : Bool) (p u : ℕ) (us vs : List ℕ)

@@ -1,6 +1,6 @@
 use Rattle.regress_meaning.specs.Offsets.{characters}
-use Rattle.regress.proofs.PatternLemmas.{characters_none, characters-pushed, all-pushed}
-use Rattle.regress.proofs.pattern_units.characters.Goals as goal
+use Rattle.regress_pattern_units.proofs.PatternLemmas.{characters_none, characters-pushed, all-pushed}
+use Rattle.regress_pattern_units.proofs.units.characters.Goals as goal
 
 pub loop-rest-preserved : goal.loop-rest-preserved
 loop-rest-preserved c =

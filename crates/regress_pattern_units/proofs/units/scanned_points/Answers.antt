@@ -1,7 +1,7 @@
-use Rattle.regress.specs.declared.pattern_units.Place.TheVariants.{Outside}
-use Rattle.regress.specs.PatternUnits.{scanned_points}
-use Rattle.regress.proofs.PatternLemmas.{scanned_none, scanned-pushed, all-pushed}
-use Rattle.regress.proofs.pattern_units.scanned_points.Goals as goal
+use Rattle.regress_pattern_units.specs.declared.units.Place.TheVariants.{Outside}
+use Rattle.regress_pattern_units.specs.PatternUnits.{scanned_points}
+use Rattle.regress_pattern_units.proofs.PatternLemmas.{scanned_none, scanned-pushed, all-pushed}
+use Rattle.regress_pattern_units.proofs.units.scanned_points.Goals as goal
 
 pub loop-rest-preserved : goal.loop-rest-preserved
 loop-rest-preserved c =

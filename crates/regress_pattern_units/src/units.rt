@@ -1,20 +1,15 @@
-//! Patterns as 16-bit units.
-ghost use Rattle.std.specs.Prelude.{◌≡◌, ◌≤◌, ◌≢◌, ◌&&◌, true, false, length, IfOk, IfErr, IsOkUnless};
+//! The code points that the units of a pattern stand for.
+ghost use Rattle.std.specs.Prelude.{◌≡◌, ◌≤◌, ◌&&◌, true, false, All, length, IfOk, IsOkUnless};
 ghost use Rattle.regress_meaning.specs.Flags.{is_unicode};
-ghost use Rattle.regress_meaning.specs.Grammar.{Spells, holds_a_name};
-ghost use Rattle.regress_meaning.specs.Limits.{WithinLimits};
+ghost use Rattle.regress_meaning.specs.Grammar.{holds_a_name};
 ghost use Rattle.regress_meaning.specs.Offsets.{characters};
-ghost use Rattle.regress_meaning.specs.Pattern.{Pattern};
 ghost use Rattle.regress_meaning.specs.Tokens.{is_high, is_low, joined};
-ghost use Rattle.regress_front.specs.FlagWords.{options};
-ghost use Rattle.regress_front.specs.TableViews.{table};
-ghost use Rattle.regress.specs.PatternUnits.{begins_name, place_behind, is_in_name, point_at, scanned_points, pattern_points};
-ghost use Rattle.regress.specs.Refusing.{MayRefuseRegex};
-ghost use Rattle.regress_errors.specs.Texts.{shown_text};
-ghost use Rattle.regress.specs.declared.pattern_units.Place.TheVariants.{Outside};
+ghost use Rattle.regress_front_core.specs.FlagWords.{options};
+ghost use Rattle.regress_pattern_units.specs.PatternUnits.{begins_name, place_behind, is_in_name, point_at, scanned_points, pattern_points};
+ghost use Rattle.regress_pattern_units.specs.declared.units.Place.TheVariants.{Outside};
 
-use crate::api::Regex;
-use regress_front::{CodePoint, Error, Flags, Tables};
+use regress_front_core::{Error, Flags};
+use regress_front_tables::{CodePoint, Tables};
 use regress_front_tokens::mode_of;
 use std::alloc::{AllocError, Global};
 
@@ -141,14 +136,22 @@ fn holds_a_name(alloc: Global, units: &[u16], tables: &Tables) -> Result<bool, E
     Ok(mode.named)
 }
 
-/// The code points that the units of a pattern stand for under flags.
-fn pattern_points(
+/// The code points that the units of a pattern stand for under flags. In Unicode mode a high unit before a low one is one code
+/// point. Else each unit is one, but in the name of a group such a pair is one there too ("RegExpIdentifierName").
+///
+/// Errs with `OutOfMemory` alone.
+///
+/// ```rust
+/// let points = pattern_points(alloc, &[0xD83D, 0xDE00, 0x2B], flags, &tables)?; // under `u` 0x1F600 and 0x2B
+/// ```
+pub fn pattern_points(
     alloc: Global,
     units: &[u16],
     flags: Flags,
     tables: &Tables,
 ) -> Result<Vec<CodePoint>, Error>
     ensures points { IfOk result (λ points. points.items ≡ pattern_points (is_unicode (options flags)) units.now) }
+    ensures within { IfOk result (λ points. All (λ c. c ≤ 0x10_FFFF) points.items) }
     ensures refused { IsOkUnless result Error.OutOfMemory }
 {
     if flags.is_unicode() {
@@ -156,34 +159,4 @@ fn pattern_points(
     }
     let named = holds_a_name(alloc, units, tables)?;
     Ok(scanned_points(alloc, units, named)?)
-}
-
-impl Regex {
-    ghost use Rattle.regress.specs.Standing.{StandsFor, StandsInUnits, source_of};
-
-    /// Compiles a pattern that is given in 16-bit units, as script interpreters have it ("RegExpInitialize").
-    ///
-    /// In Unicode mode a high unit before a low one is one character. Else each unit is one, but in the name of a group such a
-    /// pair is one there too ("RegExpIdentifierName"): so `find_from_ucs2` finds what the standard finds, whatever the units.
-    /// In its text, as `as_str` has it, U+FFFD stands for each unit of a pair that is not joined, and for each that is in none.
-    ///
-    /// Refused as `with_flags` says.
-    ///
-    /// ```rust
-    /// let regex = Regex::from_utf16(alloc, &[0xD83D, 0xDE00, 0x2B], Flags::from("u"), &tables)?; // `😀+`
-    /// ```
-    pub fn from_utf16(
-        alloc: Global,
-        units: &[u16],
-        flags: Flags,
-        tables: &Tables,
-    ) -> Result<Regex, Error>
-        ensures accepted { IfOk result (λ r. (p : Pattern) × Spells (table tables.now) (options flags) (pattern_points (is_unicode (options flags)) units.now) p × WithinLimits p × StandsFor r (table tables.now) (options flags) p × StandsInUnits r (table tables.now) (options flags) p) }
-        ensures text { IfOk result (λ r. source_of r ≡ shown_text (pattern_points (is_unicode (options flags)) units.now)) }
-        ensures refused { IfErr result (MayRefuseRegex (table tables.now) (options flags) (pattern_points (is_unicode (options flags)) units.now)) }
-        ensures fits { (options flags).sets ≡ false → length (pattern_points (is_unicode (options flags)) units.now) ≤ 10000 → IfErr result (λ e. e ≢ Error.TooLarge) }
-    {
-        let points = pattern_points(alloc, units, flags, tables)?;
-        Regex::from_unicode(alloc, &points, flags, tables)
-    }
 }
