@@ -25,6 +25,8 @@ mod refusals;
 #[cfg(test)]
 mod sizes;
 #[cfg(test)]
+mod slots;
+#[cfg(test)]
 mod sticky;
 #[cfg(test)]
 mod tables;

@@ -1,19 +1,20 @@
 //! Matches that begin at one place: a tokeniser, and 16-bit units.
 
 use crate::told::{compiled, ends};
-use regress::{Error, Regex, Tables, is_unit_start};
+use regress::{Error, Regex, Scratch, Tables, is_unit_start};
 use std::alloc::Global;
 use std::test::Fail;
 
 /// Where the tokens of a text end, one behind another, up to where none begins.
 fn token_ends(alloc: Global, token: &Regex, text: &str) -> Result<Vec<usize>, Error> {
+    let mut scratch = Scratch::new(alloc);
     let mut ends = Vec::new(alloc);
     let mut at = 0;
-    'tokens: while let Some(found) = token.match_at(text, at)? {
-        if found.end() == at {
+    'tokens: while let Some(found) = token.match_into(&mut scratch, text, at, &mut [])? {
+        if found.end == at {
             break;
         }
-        at = found.end();
+        at = found.end;
         ends.push(at)?;
     }
     Ok(ends)

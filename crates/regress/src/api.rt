@@ -16,7 +16,7 @@ ghost use Rattle.regress.specs.Refusing.{MayRefuseRegex};
 ghost use Rattle.regress_errors.specs.Texts.{shown_text};
 ghost use Rattle.regress_pattern_units.specs.PatternUnits.{pattern_points};
 
-use crate::compiled::Compiled;
+use regress_programs::Compiled;
 use crate::matches::Matches;
 use regress_errors::{code_points, text_of};
 use regress_front::{Error, Flags, Tables};

@@ -7,7 +7,6 @@ mod api;
 mod ascii;
 mod asking;
 pub mod backends;
-mod compiled;
 mod laws;
 mod matches;
 mod programs;
@@ -25,7 +24,6 @@ pub use laws::{
     parts_stand_between_the_matches, whole_matches_give_the_text_back,
 };
 pub use matches::Matches;
-pub use programs::programs_of_trees_are_of_patterns;
 pub use regress_engine::{CompiledRegex, Scratch, is_unit_start, is_well_formed_utf16};
 pub use regress_errors::{
     CompileError, SyntaxError, SyntaxErrorDisplay, syntax_error, syntax_error_in_points,
@@ -36,6 +34,7 @@ pub use regress_front::{
     TableLaw, TableParts, Tables, are_code_points, flags_are_read_back,
 };
 pub use regress_match::{Groups, Match, NamedGroups, Range};
+pub use regress_programs::programs_of_trees_are_of_patterns;
 pub use regress_replacing::{ReplacementSyntax, escape, expand};
 pub use splitting::{Split, SplitN};
 pub use units::{Ucs2Matches, Utf16Matches};

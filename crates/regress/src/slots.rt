@@ -7,84 +7,16 @@ ghost use Rattle.regress_meaning.specs.Matches.{match_list};
 ghost use Rattle.regress_meaning.specs.Offsets.{Begins, characters, of_ucs2, of_utf8, of_utf16, told};
 ghost use Rattle.regress_front.specs.Trees.{Tree};
 ghost use Rattle.regress_match.specs.Slots.{Fills};
-ghost use Rattle.regress_engine.specs.Search.{IsMadeOf};
-ghost use Rattle.regress_engine.specs.Standing.{target_of};
-ghost use Rattle.regress_engine.specs.Views.{reading_of};
-ghost use Rattle.regress.specs.declared.slots.Anchored.TheVariants.{Yes};
-ghost use Rattle.regress.specs.Programs.{IsLaidOutFrom};
-ghost use Rattle.regress.specs.Outcomes.{outcome_at, tree_outcome, tree_outcome_in_units};
-ghost use Rattle.regress.specs.Slotted.{SlotsAreAtPlaces, first_told};
+ghost use Rattle.regress.specs.Outcomes.{outcome_at};
 
 use crate::api::Regex;
-use regress_engine::{
-    BacktrackExecutor, CompiledRegex, ExecutorInput, Scratch, Ucs2Input, Utf8Input, Utf16Input,
-};
+use regress_engine::{Scratch, Ucs2Input, Utf8Input, Utf16Input};
 use regress_front::Error;
-use regress_match::{MatchProducer, Range};
-use std::alloc::{AllocError, Global};
-use std::mem;
-
-/// Whether a match has to begin where the search does.
-#[derive(Debug, Clone, Copy)]
-pub(crate) enum Anchored {
-    No,
-    Yes,
-}
-
-/// The first match that an executor finds from an offset on, or the one that begins there, written to slots; none past the end.
-fn next_into<Input: ExecutorInput>(
-    executor: &mut BacktrackExecutor<'_, Input>,
-    anchored: Anchored,
-    start: usize,
-    slots: &mut [Option<Range>],
-) -> Result<Option<Range>, AllocError>
-    requires made { IsMadeOf executor.old.context.program.now (Input.view executor.old.context.input) }
-    requires start { (place : ℕ) × Begins (reading_of (Input.view executor.old.context.input)) start place }
-    ensures of_tree { (n : ℕ) → (t : Tree) → IsLaidOutFrom (target_of executor.old.context.program.now) n t →
-        (place : ℕ) → Begins (reading_of (Input.view executor.old.context.input)) start place →
-        IfOk result (λ found. Fills (first_told anchored executor.old.context.program.now (reading_of (Input.view executor.old.context.input)) n t place) found slots.old slots.new) }
-    ensures begins { anchored ≡ Yes → IfOk result (λ found. IfSome found (λ r. r.start ≡ start)) }
-    ensures inside { IfOk result (λ found. SlotsAreAtPlaces (reading_of (Input.view executor.old.context.input)) found slots.new) }
-    ensures untouched { OnErr result (slots.new ≡ slots.old) }
-{
-    let Some(position) = executor.initial_position(start) else {
-        return Ok(None);
-    };
-    match anchored {
-        Anchored::No => executor.find_into(position, slots),
-        Anchored::Yes => executor.match_into(position, slots),
-    }
-}
-
-/// The first match of a program from an offset of an input on, or the one that begins there, written to slots; none past the
-/// input's end. The room that the search needs is that of the scratch.
-fn find_slots<Input: ExecutorInput>(
-    alloc: Global,
-    scratch: &mut Scratch,
-    program: &CompiledRegex,
-    input: Input,
-    anchored: Anchored,
-    start: usize,
-    slots: &mut [Option<Range>],
-) -> Result<Option<Range>, AllocError>
-    requires made { IsMadeOf program.now (Input.view input) }
-    requires start { (place : ℕ) × Begins (reading_of (Input.view input)) start place }
-    ensures of_tree { (n : ℕ) → (t : Tree) → IsLaidOutFrom (target_of program.now) n t →
-        (place : ℕ) → Begins (reading_of (Input.view input)) start place →
-        IfOk result (λ found. Fills (first_told anchored program.now (reading_of (Input.view input)) n t place) found slots.old slots.new) }
-    ensures begins { anchored ≡ Yes → IfOk result (λ found. IfSome found (λ r. r.start ≡ start)) }
-    ensures inside { IfOk result (λ found. SlotsAreAtPlaces (reading_of (Input.view input)) found slots.new) }
-    ensures untouched { OnErr result (slots.new ≡ slots.old) }
-{
-    let lent = mem::replace(scratch, Scratch::new(alloc));
-    let mut executor = BacktrackExecutor::with_scratch(alloc, program, input, lent);
-    let found = next_into(&mut executor, anchored, start, slots);
-    *scratch = executor.into_scratch();
-    found
-}
+use regress_match::Range;
+use regress_programs::{Anchored, find_into};
 
 impl Regex {
-    ghost use Rattle.regress.specs.Standing.{StandsFor, StandsInUnits, HasTree, HasTreeInUnits, tree_list, tree_list_in_units};
+    ghost use Rattle.regress.specs.Standing.{StandsFor, StandsInUnits, HasTree, HasTreeInUnits, tree_list, tree_list_in_units, tree_outcome, tree_outcome_in_units};
     ghost use Rattle.regress.specs.Slotted.{SlotsLieInText, SlotsLieInUnits, EndsAreStarts};
 
     /// The first match from `start` on, an offset in bytes, written to `slots` ("RegExpBuiltinExec"): slot 0 gets the range of the
@@ -123,7 +55,7 @@ impl Regex {
     {
         let program = &self.compiled.byte_program;
         let input = Utf8Input::new(text, program.flags().is_unicode(), program.tables());
-        let found = find_slots(
+        let found = find_into(
             self.alloc,
             scratch,
             program,
@@ -168,7 +100,7 @@ impl Regex {
     {
         let program = &self.compiled.byte_program;
         let input = Utf8Input::new(text, program.flags().is_unicode(), program.tables());
-        let found = find_slots(
+        let found = find_into(
             self.alloc,
             scratch,
             program,
@@ -210,7 +142,7 @@ impl Regex {
     {
         let program = &self.compiled.unit_program;
         let input = Utf16Input::new(units, program.flags().is_unicode(), program.tables());
-        let found = find_slots(
+        let found = find_into(
             self.alloc,
             scratch,
             program,
@@ -253,7 +185,7 @@ impl Regex {
     {
         let program = &self.compiled.unit_program;
         let input = Utf16Input::new(units, program.flags().is_unicode(), program.tables());
-        let found = find_slots(
+        let found = find_into(
             self.alloc,
             scratch,
             program,
@@ -292,7 +224,7 @@ impl Regex {
     {
         let program = &self.compiled.unit_program;
         let input = Ucs2Input::new(units, program.flags().is_unicode(), program.tables());
-        let found = find_slots(
+        let found = find_into(
             self.alloc,
             scratch,
             program,
@@ -332,7 +264,7 @@ impl Regex {
     {
         let program = &self.compiled.unit_program;
         let input = Ucs2Input::new(units, program.flags().is_unicode(), program.tables());
-        let found = find_slots(
+        let found = find_into(
             self.alloc,
             scratch,
             program,

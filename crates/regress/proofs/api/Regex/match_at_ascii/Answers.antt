@@ -7,8 +7,9 @@ use Rattle.regress_front_bytes.proofs.TextLemmas.{chars-code_points}
 use Rattle.regress_engine_input.specs.Views.{View, ascii, reading_of}
 use Rattle.regress_engine_search.proofs.ByteTexts.{begins-alike, told-alike, bytes-alike}
 use Rattle.regress.specs.Standing.{byte_target}
-use Rattle.regress.specs.Outcomes.{tree_outcome}
-use Rattle.regress.proofs.OutcomeLemmas.{pattern-outcome, told-shown, inside-shown, lies-in_text, starts-in_text}
+use Rattle.regress.specs.Standing.{tree_outcome}
+use Rattle.regress_programs.proofs.OutcomeLemmas.{pattern-outcome}
+use Rattle.regress.proofs.ToldLemmas.{told-shown, inside-shown, lies-in_text, starts-in_text}
 use Rattle.regress.proofs.UnitLemmas.{begins-anywhere}
 use Rattle.regress.proofs.api.Regex.match_at_ascii.Goals as goal
 

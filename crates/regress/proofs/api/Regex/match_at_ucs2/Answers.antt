@@ -6,7 +6,8 @@ use Rattle.regress_engine_input.proofs.UnitTexts.{single_offset}
 use Rattle.regress_engine_input.specs.Views.{View, reading_of, ucs2}
 use Rattle.regress_engine_input.proofs.KindLemmas.{tells}
 use Rattle.regress.specs.Standing.{unit_target}
-use Rattle.regress.proofs.OutcomeLemmas.{pattern-outcome, told-shown, inside-shown, lies-in_units}
+use Rattle.regress_programs.proofs.OutcomeLemmas.{pattern-outcome}
+use Rattle.regress.proofs.ToldLemmas.{told-shown, inside-shown, lies-in_units}
 use Rattle.regress.proofs.UnitLemmas.{begins-anywhere}
 use Rattle.regress.proofs.api.Regex.match_at_ucs2.Goals as goal
 

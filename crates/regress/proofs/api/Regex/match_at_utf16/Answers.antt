@@ -6,7 +6,8 @@ use Rattle.regress_engine_input.proofs.Utf16Texts.{utf16_end}
 use Rattle.regress_engine_input.specs.Views.{utf16}
 use Rattle.regress_engine_input.proofs.KindLemmas.{tells}
 use Rattle.regress.specs.Standing.{unit_target}
-use Rattle.regress.proofs.OutcomeLemmas.{pattern-outcome, told-shown, inside-shown, lies-in_units}
+use Rattle.regress_programs.proofs.OutcomeLemmas.{pattern-outcome}
+use Rattle.regress.proofs.ToldLemmas.{told-shown, inside-shown, lies-in_units}
 use Rattle.regress.proofs.api.Regex.match_at_utf16.Goals as goal
 
 pub returns-clause-found_of_tree : goal.returns-clause-found_of_tree

@@ -15,7 +15,7 @@ returns-in_default-clause-found g c =
     let program = program_of c.args.self.now.context.program.now in
     let input = input_of (g.Input.InputIndexer.view c.args.self.now.context.input) in
     let none = subst (λ x. IsFound program input c.args.offset x (held c.search.new.self.scratch.memory).groups) c.in_default.is c.in_ok-start.ensures.found in
-    (None, none, tt, refl, refl)
+    (None, none, tt, (refl, refl))
 
 pub returns-clause-found : goal.returns-clause-found
 returns-clause-found g c =
@@ -32,4 +32,4 @@ returns-clause-found g c =
     let searchable = subst (IsSearchable program) (g.met.Input.ExecutorInput.shows context.input) context.searchable in
     let filled = c.fill_slots.ensures
     ∙ ap (λ gs. slots_of (length c.args.slots.now) (Some (start, end) ∷ map (λ h. range_of (marks_of h)) gs)) c.deref.ensures.value in
-    (Some i, finds, found-inside program v searchable c.args.offset c.requires i finds, refl, filled)
+    (Some i, finds, found-inside program v searchable c.args.offset c.requires i finds, (refl, filled))

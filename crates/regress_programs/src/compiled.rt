@@ -9,8 +9,8 @@ ghost use Rattle.regress_front.specs.FlagWords.{options};
 ghost use Rattle.regress_front.specs.RewritingLaws.{IsRewritten};
 ghost use Rattle.regress_front.specs.Trees.{tree};
 ghost use Rattle.regress_front.specs.WellFormed.{IsWellFormed};
-ghost use Rattle.regress.specs.Programs.{IsProgramOf};
-ghost use Rattle.regress.specs.Refusing.{MayRefuseRegex};
+ghost use Rattle.regress_programs.specs.Programs.{IsProgramOf};
+ghost use Rattle.regress_programs.specs.Refusing.{MayRefuseRegex};
 
 use regress_engine::{CompiledRegex, emit, emit_units};
 use regress_front::{Error, Flags, Tables, ir, optimize, try_parse};
@@ -18,9 +18,9 @@ use std::alloc::Global;
 
 /// The programs of a pattern: of bytes, and of units.
 #[derive(Debug, Drop)]
-pub(crate) struct Compiled {
-    pub(crate) byte_program: CompiledRegex,
-    pub(crate) unit_program: CompiledRegex,
+pub struct Compiled {
+    pub byte_program: CompiledRegex,
+    pub unit_program: CompiledRegex,
     ghost of_bytes: { byte_program.units ≡ false },
     ghost of_units: { unit_program.units ≡ true },
 }
@@ -41,7 +41,7 @@ fn rewrite(alloc: Global, regex: &mut ir::Regex<'_>) -> Result<(), Error>
 impl Compiled {
     /// Compiles a pattern that is given as code points: its tree becomes the program of units as it is read, and the program of
     /// bytes once it is rewritten, unless the flags ask that it is not.
-    pub(crate) fn new(
+    pub fn new(
         alloc: Global,
         points: &[u32],
         flags: Flags,
@@ -64,7 +64,7 @@ impl Compiled {
     }
 
     /// The same programs once more. Errs where memory is refused.
-    pub(crate) fn try_clone(&self, alloc: Global) -> Result<Compiled, Error>
+    pub fn try_clone(&self, alloc: Global) -> Result<Compiled, Error>
         ensures bytes { IfOk result (λ c. IsCopyOf self.now.byte_program c.byte_program) }
         ensures units { IfOk result (λ c. IsCopyOf self.now.unit_program c.unit_program) }
         ensures refused { IsOkUnless result Error.OutOfMemory }

@@ -1,5 +1,5 @@
-use Rattle.regress.proofs.ProgramLemmas.{parsed-for, read-program}
-use Rattle.regress.proofs.programs.programs_of_trees_are_of_patterns.Goals as goal
+use Rattle.regress_programs.proofs.ProgramLemmas.{parsed-for, read-program}
+use Rattle.regress_programs.proofs.laws.programs_of_trees_are_of_patterns.Goals as goal
 
 pub returns-clause-parsed : goal.returns-clause-parsed
 returns-clause-parsed c = λ t o text p regex of_text. parsed-for t o text p regex of_text

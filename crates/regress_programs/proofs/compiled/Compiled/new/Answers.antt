@@ -2,8 +2,8 @@ use Rattle.std.proofs.Common.{true, false, ap}
 use Rattle.std.proofs.lemmas.Result.{err_from_is_err_and}
 use Rattle.regress_front.specs.FlagWords.{options}
 use Rattle.regress_front.specs.TableViews.{table}
-use Rattle.regress.proofs.ProgramLemmas.{IsReadAs, as-parsed, as-rewritten, read-formed, read-program, program-refused, refused-fits}
-use Rattle.regress.proofs.compiled.Compiled.new.Goals as goal
+use Rattle.regress_programs.proofs.ProgramLemmas.{IsReadAs, as-parsed, as-rewritten, read-formed, read-program, program-refused, refused-fits}
+use Rattle.regress_programs.proofs.compiled.Compiled.new.Goals as goal
 
 pub emit_units-requires : goal.emit_units-requires
 emit_units-requires c =

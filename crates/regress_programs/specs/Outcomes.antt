@@ -7,8 +7,6 @@ use Rattle.regress_meaning.specs.Matches.{Item, attempt}
 use Rattle.regress_front.specs.NodeMatches.{node_attempt}
 use Rattle.regress_front.specs.Trees.{Tree}
 use Rattle.regress_engine.specs.Layout.{Target}
-use Rattle.regress.specs.declared.api.Regex.{Regex}
-use Rattle.regress.specs.Standing.{byte_target, unit_target}
 
 -- The most preferred outcome of a pattern at a place of a text; past the end there is none.
 abbrev pub outcome_at : Table → Options → Pattern → List ℕ → ℕ → Option Item
@@ -18,11 +16,3 @@ outcome_at t o p text place = if nat_le place (length text) then attempt t o p t
 abbrev pub outcome_of_tree : Target → ℕ → Tree → List ℕ → ℕ → Option Item
 outcome_of_tree target n t text place =
     if nat_le place (length text) then node_attempt (record { text = text; table = target.table; unicode = target.unicode }) n t place else None
-
--- That of a tree that a compiled pattern goes by in texts.
-abbrev pub tree_outcome : Regex → ℕ → Tree → List ℕ → ℕ → Option Item
-tree_outcome r n t text place = outcome_of_tree (byte_target r) n t text place
-
--- And of one that it goes by in 16-bit units.
-abbrev pub tree_outcome_in_units : Regex → ℕ → Tree → List ℕ → ℕ → Option Item
-tree_outcome_in_units r n t text place = outcome_of_tree (unit_target r) n t text place

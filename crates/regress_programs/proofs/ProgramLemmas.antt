@@ -27,8 +27,8 @@ use Rattle.regress_engine_code.specs.Standing.{target_of}
 use Rattle.regress_engine_code.specs.Written as code_refusals
 use Rattle.regress_engine_code.specs.Written.{AreTooMany}
 use Rattle.regress_engine_runs.proofs.SizeLemmas.{count-bounded}
-use Rattle.regress.specs.Programs.{IsTreeFor, IsProgramOf}
-use Rattle.regress.specs.Refusing.{PassesCount, MayRefuseRegex}
+use Rattle.regress_programs.specs.Programs.{IsTreeFor, IsProgramOf}
+use Rattle.regress_programs.specs.Refusing.{PassesCount, MayRefuseRegex}
 
 -- a tree as it is parsed is one for the pattern
 pub parsed-for : (t : Table) (o : Options) (text : List ℕ) (p : Pattern) (regex : ir.Regex) → IsTreeOf t o text p (tree regex.node) → IsTreeFor t o text p (tree regex.node)

@@ -10,7 +10,7 @@ use Rattle.regress_front.specs.Trees.{Tree}
 use Rattle.regress_front.specs.Sizes.{loops}
 use Rattle.regress_engine.specs.Counts.{count}
 use Rattle.regress_engine.specs.Written.{AreTooMany}
-use Rattle.regress.specs.Programs.{IsTreeFor}
+use Rattle.regress_programs.specs.Programs.{IsTreeFor}
 
 -- A program of the pattern that the text spells, in bytes or in units, passes its count of instructions or of loops.
 pub record PassesCount (table : Table) (o : Options) (text : List ℕ) : Type 0 where

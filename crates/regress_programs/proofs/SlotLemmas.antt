@@ -23,11 +23,11 @@ use Rattle.regress_engine_runs.specs.Meets.{AreAtPlaces}
 use Rattle.regress_engine_search.specs.Answering.{IsOutcome}
 use Rattle.regress_engine_search.specs.Search.{Search, IsMadeOf, IsItemAtPlaces, IsPosition, IsWritten, items_from}
 use Rattle.regress_engine_search.proofs.ProducerLemmas.{goes_on-place, items-asked, items-next, items-none, read-starts}
-use Rattle.regress.specs.declared.slots.Anchored.{Anchored}
-use Rattle.regress.specs.declared.slots.Anchored.TheVariants.{No, Yes}
-use Rattle.regress.specs.Programs.{IsLaidOutFrom, items_of_tree}
-use Rattle.regress.specs.Slotted.{HoldsOfSlots, SlotsAreAtPlaces, first_told}
-use Rattle.regress.proofs.OutcomeLemmas.{starts-past, outcome-told, tree-past}
+use Rattle.regress_programs.specs.declared.slots.Anchored.{Anchored}
+use Rattle.regress_programs.specs.declared.slots.Anchored.TheVariants.{No, Yes}
+use Rattle.regress_programs.specs.Programs.{IsLaidOutFrom, items_of_tree}
+use Rattle.regress_programs.specs.Filling.{HoldsOfSlots, SlotsAreAtPlaces, first_told}
+use Rattle.regress_programs.proofs.OutcomeLemmas.{starts-past, outcome-told, tree-past}
 
 -- ---- slots
 
@@ -62,21 +62,6 @@ module _ (reading : Reading) (found : Option (Range ℕ)) (before after : List (
   pub written-as : (IsResult : Option Item → Type 0) (j : Option Item) → ((i : Option Item) → IfSome i (IsItemAtPlaces reading) → IsResult i → i ≡ j)
       → IsWritten IsResult reading found before after → Fills j found before after
   written-as IsResult j is (i, result, inside, fills) = subst (λ k. Fills k found before after) (is i inside result) fills
-
--- another property of the ranges
-pub holds-weaker : (P Q : Range ℕ → Type 0) → ((r : Range ℕ) → P r → Q r) → (found : Option (Range ℕ)) (slots : List (Option (Range ℕ)))
-    → HoldsOfSlots P found slots → HoldsOfSlots Q found slots
-holds-weaker P Q weaker None slots holds = tt
-holds-weaker P Q weaker (Some r) slots (whole, all) = (weaker r whole, each slots all)
-  where
-    one : (g : Option (Range ℕ)) → IfSome g P → IfSome g Q
-    one None h = tt
-    one (Some x) h = weaker x h
-
-    each : (gs : List (Option (Range ℕ))) → All (λ g. IfSome g P) gs → All (λ g. IfSome g Q) gs
-    each [] all = All-nil (λ g. IfSome g Q)
-    each (g ∷ gs) all =
-        All-cons (λ g. IfSome g Q) g gs (one g (All-head (λ g. IfSome g P) g gs all)) (each gs (All-tail (λ g. IfSome g P) g gs all))
 
 -- ---- the first item of a list
 
@@ -143,11 +128,3 @@ module _ (s : Search) (all : AreOfKind s.view.kind s.view.units) (made : IsMadeO
   pub run-told : at ≤ length s.view.units → (i : Option Item) → IfSome i (IsItemAtPlaces reading) → IsOutcome (program_of s.compiled) (input_of s.view) at i
       → i ≡ first_told Yes s.compiled reading n t place
   run-told low i inside outcome = outcome-told s all made at place begins n t laid low i outcome
-
--- ---- what is told of an input is told of the text that it shows
-
-pub fills-shown : (v w : View) → v ≡ w → (anchored : Anchored) (compiled : CompiledRegex) (n : ℕ) (t : Tree) (start : ℕ) (found : Option (Range ℕ)) (before after : List (Option (Range ℕ)))
-    → ((place : ℕ) → Begins (reading_of v) start place → Fills (first_told anchored compiled (reading_of v) n t place) found before after)
-    → (place : ℕ) → Begins (reading_of w) start place → Fills (first_told anchored compiled (reading_of w) n t place) found before after
-fills-shown v w same anchored compiled n t start found before after =
-    subst (λ (x : View). (place : ℕ) → Begins (reading_of x) start place → Fills (first_told anchored compiled (reading_of x) n t place) found before after) same

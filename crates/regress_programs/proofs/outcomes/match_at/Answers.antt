@@ -8,8 +8,8 @@ use Rattle.regress_engine_input.specs.Views.{View, input_of, reading_of}
 use Rattle.regress_engine_runs.specs.Meets.{IsAtPlace}
 use Rattle.regress_engine_search.specs.Answering.{IsOutcome}
 use Rattle.regress_engine_search.specs.Search.{Search, IsSearchable, IsItemAtPlaces}
-use Rattle.regress.proofs.OutcomeLemmas.{starts-inside, starts-past, outcome-begins, outcome-told, tree-past}
-use Rattle.regress.proofs.sticky.outcome.Goals as goal
+use Rattle.regress_programs.proofs.OutcomeLemmas.{starts-inside, starts-past, outcome-begins, outcome-told, tree-past}
+use Rattle.regress_programs.proofs.outcomes.match_at.Goals as goal
 
 pub match_at-requires : goal.match_at-requires
 match_at-requires g c =
