@@ -1,11 +1,10 @@
 -- What an executor writes to slots is what a tree's match list, or its outcome at a place, has first.
 use Rattle.std.specs.Prelude.{option_map, slice_get, IfSome, nat_le}
 use Rattle.std.specs.Bool.{then_some}
-use Rattle.std.proofs.Common.{◌≡◌, ℕ, zero, suc, ◌<◌, ◌≤◌, ◌⊎◌, inl, inr, Bool, List, [], ◌∷◌, map, Option, Some, None, All, length, refl, sym, ap, ◌∙◌, subst, arith}
+use Rattle.std.proofs.Common.{◌≡◌, ℕ, zero, suc, ◌<◌, ◌≤◌, ◌⊎◌, inl, inr, Bool, List, [], ◌∷◌, map, Option, Some, None, All, length, refl, sym, ap, ◌∙◌, subst}
 use Rattle.std.proofs.lemmas.Bool.{cases_lt, le-leb, lt-leb}
 use Rattle.std.proofs.lemmas.List.Elements.{All-nil, All-cons, All-head, All-tail}
 use Rattle.std.specs.declared.ops.Range.{Range}
-use Rattle.regress_meaning.specs.Inputs.{Input}
 use Rattle.regress_meaning.specs.Meaning.{Context}
 use Rattle.regress_meaning.specs.Matches.{Item}
 use Rattle.regress_meaning.specs.Offsets.{Reading, Begins, told}
@@ -15,8 +14,7 @@ use Rattle.regress_match.proofs.TakenLemmas.{of_groups}
 use Rattle.regress_match.specs.Iterating.{coming_on}
 use Rattle.regress_match.specs.Slots.{Fills, slots_of}
 use Rattle.regress_match.specs.Views.{ends}
-use Rattle.regress_engine_input.specs.Views.{View, AreOfKind, input_of, reading_of}
-use Rattle.regress_engine_code.specs.declared.compiled.CompiledRegex.{CompiledRegex}
+use Rattle.regress_engine_input.specs.Views.{AreOfKind, input_of, reading_of}
 use Rattle.regress_engine_code.specs.Standing.{program_of, target_of}
 use Rattle.regress_engine_runs.specs.Items.{Finds, goes_on, begins_at}
 use Rattle.regress_engine_runs.specs.Meets.{AreAtPlaces}
@@ -26,7 +24,7 @@ use Rattle.regress_engine_search.proofs.ProducerLemmas.{goes_on-place, items-ask
 use Rattle.regress_programs.specs.declared.slots.Anchored.{Anchored}
 use Rattle.regress_programs.specs.declared.slots.Anchored.TheVariants.{No, Yes}
 use Rattle.regress_programs.specs.Programs.{IsLaidOutFrom, items_of_tree}
-use Rattle.regress_programs.specs.Filling.{HoldsOfSlots, SlotsAreAtPlaces, first_told}
+use Rattle.regress_programs.specs.Filling.{SlotsAreAtPlaces, first_told}
 use Rattle.regress_programs.proofs.OutcomeLemmas.{starts-past, outcome-told, tree-past}
 
 -- ---- slots

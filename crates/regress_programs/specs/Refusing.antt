@@ -4,7 +4,7 @@ use Rattle.regress_meaning.specs.Table.{Table}
 use Rattle.regress_meaning.specs.Flags.{Options, is_unicode}
 use Rattle.regress_meaning.specs.Pattern.{Pattern}
 use Rattle.regress_front_core.specs.declared.error.Error.{Error}
-use Rattle.regress_front_core.specs.declared.error.Error.TheVariants.{Syntax, TooLarge}
+use Rattle.regress_front_core.specs.declared.error.Error.TheVariants.{TooLarge}
 use Rattle.regress_front.specs.Refusals as reading
 use Rattle.regress_front.specs.Trees.{Tree}
 use Rattle.regress_front.specs.Sizes.{loops}
