@@ -1,47 +1,9 @@
 //! Replacement texts in the standard's language, and one match expanded.
 
-use crate::told::{compiled, first, is_same};
+use crate::told::{compiled, first};
 use regress::{Error, Regex, ReplacementSyntax, Tables, expand};
 use std::alloc::Global;
 use std::test::Fail;
-
-/// Patterns, texts, templates, and the texts with each match replaced.
-const REPLACED: &[(&str, &str, &str, &str)] = &[
-    (r"\d+", "a12b3", "<$&>", "a<12>b<3>"),
-    (r"\d+", "a12b3", "$`|$'", "aa|b3ba12b|"),
-    (r"(\w)(\d)", "a1 b2", "$2$1", "1a 2b"),
-    ("(a)|(b)", "ab", "[$1$2]", "[a][b]"),
-    ("a", "bab", "$$1$", "b$1$b"),
-    ("(a)", "a", "$0$00$01", "$0$00a"),
-    ("(a)", "a", "$10$2$02", "a0$2$02"),
-    (
-        "(a)(b)(c)(d)(e)(f)(g)(h)(i)(j)",
-        "abcdefghij",
-        "$10$11$9",
-        "ja1i",
-    ),
-    ("(?<x>a)(?<y>b)?", "a", "$<x>$<y>$<z>.", "a."),
-    ("(?<x>a)", "a", "$<x", "$<x"),
-    ("(a)", "a", "$<x>", "$<x>"),
-    ("(?:(?<x>a)|(?<x>b))", "ab", "$<x>$<x>", "aabb"),
-    ("a", "a", "${x}$ $&", "${x}$ a"),
-];
-
-/// A text with each match replaced by a template of the standard.
-fn templated(regex: &Regex, text: &str, template: &str) -> Result<String, Error> {
-    regex.replace_all_as(text, template, ReplacementSyntax::EcmaScript)
-}
-
-#[test]
-fn templates_are_read_as_the_standard_reads_them(rt: HostRuntime) -> Result<(), Fail> {
-    let tables = Tables::small(rt.alloc())?;
-    for (pattern, text, template, expected) in REPLACED {
-        let regex = compiled(rt.alloc(), pattern, "", &tables)?;
-        let told = templated(&regex, text, template)?;
-        is_same(rt.alloc(), template, told.as_str(), expected)?;
-    }
-    Ok(())
-}
 
 /// A template at the first match in a text, if there is one.
 fn expanded(

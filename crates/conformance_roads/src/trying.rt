@@ -7,11 +7,12 @@ use crate::calls::{
 };
 use crate::report::{Report, told_error};
 use crate::works::{
-    all_replaced, all_replaced_with, escaped, first_parts, names, parts, refusal, replaced,
-    replaced_with, syntax_refusal,
+    all_expanded, all_replaced, all_replaced_with, all_templated, escaped, expanded, first_parts,
+    names, parts, refusal, replaced, replaced_with, syntax_refusal, templated,
 };
 use conformance_rows::{
-    Expected, Item, Pattern, Row, RowError, Work, read_row, tail, told, told_in_units, units_before,
+    Expected, Item, Pattern, Replacing, Row, RowError, Work, read_row, tail, told, told_in_units,
+    units_before,
 };
 use regress::{CompiledRegex, Error, Flags, Regex, Tables, is_ascii_text, is_start};
 use std::alloc::{AllocError, Global};
@@ -337,22 +338,31 @@ fn try_unit_row(
     try_copying_units(report, alloc, program, &searched)
 }
 
-/// Tries a text with its first match replaced. A closure puts in the same text where it holds no `$`, and else the match itself.
+/// What closures come to, which put in the replacement text where it holds no `$`, and else the match itself.
+fn by_closure(replacing: &Replacing) -> &str {
+    if replacing.replacement.contains('$') {
+        replacing.text.as_str()
+    } else {
+        replacing.expected.as_str()
+    }
+}
+
+/// Tries a text with its first match replaced by a text of the library's own language, and by a closure.
 fn try_replaced(
     report: &mut Report,
     alloc: Global,
     regex: &Regex,
-    text: &str,
-    new: &str,
-    expected: &str,
+    replacing: &Replacing,
 ) -> Result<(), AllocError> {
-    report.compare("replace", expected, replaced(regex, text, new))?;
-    let by_closure = if new.contains('$') { text } else { expected };
+    let text = replacing.text.as_str();
+    let new = replacing.replacement.as_str();
     report.compare(
-        "replace_with",
-        by_closure,
-        replaced_with(alloc, regex, text, new),
-    )
+        "replace",
+        replacing.expected.as_str(),
+        replaced(regex, text, new),
+    )?;
+    let told = replaced_with(alloc, regex, text, new);
+    report.compare("replace_with", by_closure(replacing), told)
 }
 
 /// Tries a text with all its matches replaced, in the same way.
@@ -360,16 +370,52 @@ fn try_all_replaced(
     report: &mut Report,
     alloc: Global,
     regex: &Regex,
-    text: &str,
-    new: &str,
-    expected: &str,
+    replacing: &Replacing,
 ) -> Result<(), AllocError> {
-    report.compare("replace_all", expected, all_replaced(regex, text, new))?;
-    let by_closure = if new.contains('$') { text } else { expected };
+    let text = replacing.text.as_str();
+    let new = replacing.replacement.as_str();
     report.compare(
-        "replace_all_with",
-        by_closure,
-        all_replaced_with(alloc, regex, text, new),
+        "replace_all",
+        replacing.expected.as_str(),
+        all_replaced(regex, text, new),
+    )?;
+    let told = all_replaced_with(alloc, regex, text, new);
+    report.compare("replace_all_with", by_closure(replacing), told)
+}
+
+/// Tries a text with its first match replaced by a template of the standard, and what the template is at that match.
+fn try_templated(
+    report: &mut Report,
+    alloc: Global,
+    regex: &Regex,
+    replacing: &Replacing,
+) -> Result<(), AllocError> {
+    let text = replacing.text.as_str();
+    let template = replacing.replacement.as_str();
+    let expected = replacing.expected.as_str();
+    report.compare("replace_as", expected, templated(regex, text, template))?;
+    report.compare("expand", expected, expanded(alloc, regex, text, template))
+}
+
+/// Tries a text with all its matches replaced, in the same way.
+fn try_all_templated(
+    report: &mut Report,
+    alloc: Global,
+    regex: &Regex,
+    replacing: &Replacing,
+) -> Result<(), AllocError> {
+    let text = replacing.text.as_str();
+    let template = replacing.replacement.as_str();
+    let expected = replacing.expected.as_str();
+    report.compare(
+        "replace_all_as",
+        expected,
+        all_templated(regex, text, template),
+    )?;
+    report.compare(
+        "expand",
+        expected,
+        all_expanded(alloc, regex, text, template),
     )
 }
 
@@ -404,34 +450,10 @@ fn try_made(
                 names(alloc, regex, text.as_str()),
             )
         }
-        Work::Replace {
-            text,
-            replacement,
-            expected,
-        } => {
-            try_replaced(
-                report,
-                alloc,
-                regex,
-                text.as_str(),
-                replacement.as_str(),
-                expected.as_str(),
-            )
-        }
-        Work::ReplaceAll {
-            text,
-            replacement,
-            expected,
-        } => {
-            try_all_replaced(
-                report,
-                alloc,
-                regex,
-                text.as_str(),
-                replacement.as_str(),
-                expected.as_str(),
-            )
-        }
+        Work::Replace(replacing) => try_replaced(report, alloc, regex, replacing),
+        Work::ReplaceAll(replacing) => try_all_replaced(report, alloc, regex, replacing),
+        Work::ReplaceAs(replacing) => try_templated(report, alloc, regex, replacing),
+        Work::ReplaceAllAs(replacing) => try_all_templated(report, alloc, regex, replacing),
         Work::Split {
             text,
             parts: expected,

@@ -23,6 +23,17 @@ pub enum Expected {
     Refused(String),
 }
 
+/// A text, what is put in the place of its matches, and what comes of it.
+#[derive(Drop)]
+pub struct Replacing {
+    /// The text that is searched.
+    pub text: String,
+    /// The replacement text.
+    pub replacement: String,
+    /// The text that is expected.
+    pub expected: String,
+}
+
 /// What a row asks for.
 #[derive(Drop)]
 pub enum Work {
@@ -45,18 +56,14 @@ pub enum Work {
         text: String,
         expected: String,
     },
-    /// A text with its first match replaced.
-    Replace {
-        text: String,
-        replacement: String,
-        expected: String,
-    },
-    /// A text with all its matches replaced.
-    ReplaceAll {
-        text: String,
-        replacement: String,
-        expected: String,
-    },
+    /// A text with its first match replaced, by a text of the library's own language.
+    Replace(Replacing),
+    /// The same with all its matches.
+    ReplaceAll(Replacing),
+    /// A text with its first match replaced, by a template of the standard.
+    ReplaceAs(Replacing),
+    /// The same with all its matches.
+    ReplaceAllAs(Replacing),
     /// The parts between the matches, as `<a><b>`.
     Split {
         text: String,
@@ -144,6 +151,18 @@ fn units(
     })
 }
 
+/// What is replaced, by the fields behind the pattern.
+fn read_replacing(alloc: Global, fields: &[&str]) -> Result<Replacing, RowError> {
+    let [text, replacement, expected] = fields else {
+        return Err(RowError::Fields);
+    };
+    Ok(Replacing {
+        text: text_of(alloc, text)?,
+        replacement: text_of(alloc, replacement)?,
+        expected: text_of(alloc, expected)?,
+    })
+}
+
 /// What is asked for, by the name of the work and the fields behind the pattern.
 fn read_work(alloc: Global, name: &str, fields: &[&str]) -> Result<Work, RowError> {
     match (name, fields) {
@@ -155,16 +174,10 @@ fn read_work(alloc: Global, name: &str, fields: &[&str]) -> Result<Work, RowErro
             text: text_of(alloc, text)?,
             expected: text_of(alloc, names)?,
         }),
-        ("replace", [text, replacement, expected]) => Ok(Work::Replace {
-            text: text_of(alloc, text)?,
-            replacement: text_of(alloc, replacement)?,
-            expected: text_of(alloc, expected)?,
-        }),
-        ("replace_all", [text, replacement, expected]) => Ok(Work::ReplaceAll {
-            text: text_of(alloc, text)?,
-            replacement: text_of(alloc, replacement)?,
-            expected: text_of(alloc, expected)?,
-        }),
+        ("replace", others) => Ok(Work::Replace(read_replacing(alloc, others)?)),
+        ("replace_all", others) => Ok(Work::ReplaceAll(read_replacing(alloc, others)?)),
+        ("replace_as", others) => Ok(Work::ReplaceAs(read_replacing(alloc, others)?)),
+        ("replace_all_as", others) => Ok(Work::ReplaceAllAs(read_replacing(alloc, others)?)),
         ("split", [text, parts]) => Ok(Work::Split {
             text: text_of(alloc, text)?,
             parts: text_of(alloc, parts)?,
@@ -174,9 +187,7 @@ fn read_work(alloc: Global, name: &str, fields: &[&str]) -> Result<Work, RowErro
             limit: number(limit)?,
             parts: text_of(alloc, parts)?,
         }),
-        ("" | "units" | "names" | "replace" | "replace_all" | "split" | "splitn", _) => Err(
-            RowError::Fields,
-        ),
+        ("" | "units" | "names" | "split" | "splitn", _) => Err(RowError::Fields),
         _ => Err(RowError::Work),
     }
 }

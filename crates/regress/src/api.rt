@@ -76,7 +76,7 @@ impl Regex {
     /// `v` no pattern of at most 10000 characters has, and as `OutOfMemory`.
     ///
     /// ```rust
-    /// let regex = Regex::with_flags(alloc, "a+b", Flags::from("im"), &tables)?;
+    /// let regex = Regex::with_flags(alloc, "a+b", Flags::parse("im")?.flags, &tables)?;
     /// ```
     pub fn with_flags(
         alloc: Global,

@@ -38,7 +38,7 @@ fn first_scope(flags: Flags) -> Scope
 /// name of a limit that the pattern passes, and with `OutOfMemory`.
 ///
 /// ```rust
-/// let regex = try_parse(alloc, &[0x61, 0x2A], Flags::from("i"), &tables)?; // /a*/i
+/// let regex = try_parse(alloc, &[0x61, 0x2A], Flags::parse("i")?.flags, &tables)?; // /a*/i
 /// let shown = regex.to_string(alloc)?; // a `Cat` of a `Loop` over a `CharSet` of `A` and `a`, and the `Goal`
 /// ```
 pub fn try_parse<'u>(
