@@ -34,3 +34,5 @@ mod templates;
 mod told;
 #[cfg(test)]
 mod units;
+#[cfg(test)]
+mod whole;
