@@ -1,6 +1,6 @@
 use Rattle.std.proofs.Common.{List, [], ◌∷◌, map, ap, ◌∙◌}
 use Rattle.regress_front_nodes.specs.declared.node.Node.{Node}
-use Rattle.regress_front_nodes.specs.Trees.{Tree, tree, cat_of}
+use Rattle.regress_front_nodes.specs.Trees.{tree, cat_of}
 use Rattle.regress_front_nodes.proofs.TreeLaws.{tree-Cat}
 use Rattle.regress_front_tree.proofs.parse.between_ends.Goals as goals
 
