@@ -22,7 +22,9 @@ fn is_valid(
         × (IsTrue valid ↔ MatchesWhole (table tables.now) (options flags) p (chars text.now))) }
 {
     regress_meaning::whole_texts_match_by_some_outcome();
-    Regex::whole_text(alloc, pattern, flags, tables)?.is_match(text)
+    let regex = Regex::whole_text(alloc, pattern, flags, tables)?;
+    let found = regex.is_match(text)?;
+    Ok(found)
 }
 
 #[test]
