@@ -36,3 +36,5 @@ mod templates;
 mod told;
 #[cfg(test)]
 mod units;
+#[cfg(test)]
+mod whole;

@@ -2,7 +2,7 @@
 //! Where memory is refused they err with `AllocError`.
 ghost use Rattle.std.specs.Iterator.{IsFinite};
 
-use conformance_rows::push_span;
+use conformance_rows::{Pattern, push_span};
 use regress::backends::{self, DefaultExecutor, PikeVMExecutor, Utf8Input};
 use regress::{
     CompiledRegex, Error, Flags, Match, Regex, Tables, are_code_points, is_ascii_text, is_start,
@@ -60,6 +60,27 @@ pub(crate) fn compiled(
     Regex::with_flags(alloc, pattern, flags, tables)
 }
 
+/// A pattern that has to match a whole text.
+pub(crate) fn whole_text(
+    alloc: Global,
+    pattern: &str,
+    flags: Flags,
+    tables: &Tables,
+) -> Result<Regex, Error> {
+    Regex::whole_text(alloc, pattern, flags, tables)
+}
+
+/// The same, written as a pattern.
+pub(crate) fn between_ends(
+    alloc: Global,
+    pattern: &str,
+    flags: Flags,
+    tables: &Tables,
+) -> Result<Regex, Error> {
+    let written = format!(in alloc; "(?-m:^)(?:{pattern})(?-m:$)")?;
+    compiled(alloc, written.as_str(), flags, tables)
+}
+
 /// A pattern that is given as code points.
 pub(crate) fn compiled_points(
     alloc: Global,
@@ -76,12 +97,19 @@ pub(crate) fn compiled_points(
 /// The regex of the programs that a pattern's tree becomes as it is read.
 pub(crate) fn of_programs(
     alloc: Global,
-    points: &[u32],
+    pattern: &Pattern,
     flags: Flags,
     tables: &Tables,
 ) -> Result<Regex, Error> {
+    let points = &pattern.points;
     if !are_code_points(points) {
         return Err(Error::OutOfMemory);
+    }
+    if pattern.whole {
+        let tree = backends::try_parse_whole_text(alloc, points, flags, tables)?;
+        let of_bytes = backends::emit(alloc, &tree)?;
+        let of_units = backends::emit_units(alloc, &tree)?;
+        return Ok(Regex::from_programs(alloc, of_bytes, of_units));
     }
     let tree = backends::try_parse(alloc, points, flags, tables)?;
     let of_bytes = backends::emit(alloc, &tree)?;
@@ -270,12 +298,17 @@ pub(crate) fn is_match(
 /// The program of units that a pattern's tree becomes as it is read.
 pub(crate) fn units_program(
     alloc: Global,
-    points: &[u32],
+    pattern: &Pattern,
     flags: Flags,
     tables: &Tables,
 ) -> Result<CompiledRegex, Error> {
+    let points = &pattern.points;
     if !are_code_points(points) {
         return Err(Error::OutOfMemory);
+    }
+    if pattern.whole {
+        let tree = backends::try_parse_whole_text(alloc, points, flags, tables)?;
+        return backends::emit_units(alloc, &tree);
     }
     let tree = backends::try_parse(alloc, points, flags, tables)?;
     backends::emit_units(alloc, &tree)

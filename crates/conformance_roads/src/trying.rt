@@ -1,9 +1,9 @@
 //! Rows, tried by every road.
 
 use crate::calls::{
-    ascii_matches, compiled, compiled_points, copying_ascii_matches, copying_matches,
+    ascii_matches, between_ends, compiled, compiled_points, copying_ascii_matches, copying_matches,
     copying_ucs2_matches, copying_utf16_matches, default_matches, is_match, match_at, of_programs,
-    ucs2_matches, undoing_matches, units_program, utf16_matches,
+    ucs2_matches, undoing_matches, units_program, utf16_matches, whole_text,
 };
 use crate::report::{Report, told_error};
 use crate::works::{
@@ -28,6 +28,7 @@ fn compiled_pattern(
     tables: &Tables,
 ) -> Result<Regex, Error> {
     match &pattern.text {
+        Some(text) if pattern.whole => whole_text(alloc, text.as_str(), flags, tables),
         Some(text) => compiled(alloc, text.as_str(), flags, tables),
         None => compiled_points(alloc, &pattern.points, flags, tables),
     }
@@ -45,17 +46,16 @@ fn try_refused(
     let points = &pattern.points;
     let outcome = compiled_points(alloc, points, flags, tables);
     report.compare("from_unicode", expected, refusal(alloc, outcome))?;
-    let outcome = of_programs(alloc, points, flags, tables);
+    let outcome = of_programs(alloc, pattern, flags, tables);
     report.compare("try_parse and emit", expected, refusal(alloc, outcome))?;
     let Some(text) = &pattern.text else {
         return Ok(());
     };
     let text = text.as_str();
-    report.compare(
-        "with_flags",
-        expected,
-        refusal(alloc, compiled(alloc, text, flags, tables)),
-    )?;
+    let outcome = compiled(alloc, text, flags, tables);
+    report.compare("with_flags", expected, refusal(alloc, outcome))?;
+    let outcome = whole_text(alloc, text, flags, tables);
+    report.compare("whole_text", expected, refusal(alloc, outcome))?;
     if expected == "!TooLarge" {
         return Ok(());
     }
@@ -188,6 +188,29 @@ fn try_copies(
     }
 }
 
+/// Tries what a pattern over a whole text is written as.
+fn try_written(
+    report: &mut Report,
+    alloc: Global,
+    pattern: &Pattern,
+    flags: Flags,
+    tables: &Tables,
+    text: &str,
+    expected: &str,
+) -> Result<(), AllocError> {
+    let Some(source) = &pattern.text else {
+        return Ok(());
+    };
+    match between_ends(alloc, source.as_str(), flags, tables) {
+        Ok(regex) => report.compare(
+            "^(?:..)$",
+            expected,
+            default_matches(alloc, &regex, text, 0),
+        ),
+        Err(error) => report.compare("^(?:..)$", "a regex", told_error(alloc, &error)),
+    }
+}
+
 /// What is expected of searches in 16-bit units from a start on.
 #[derive(Drop)]
 struct InUnits<'r> {
@@ -286,7 +309,18 @@ fn try_matches(
     let points = &row.pattern.points;
     let utf16 = told_in_units(alloc, text, items)?;
     let ucs2 = ucs2_list(alloc, text, units, points, items)?;
-    let programs = of_programs(alloc, points, flags, tables);
+    let programs = of_programs(alloc, &row.pattern, flags, tables);
+    if row.pattern.whole && *start == 0 {
+        try_written(
+            report,
+            alloc,
+            &row.pattern,
+            flags,
+            tables,
+            text,
+            list.as_str(),
+        )?;
+    }
     try_text(report, alloc, regex, text, *start, list.as_str())?;
     try_tails(report, alloc, regex, text, *start, items)?;
     try_copies(report, alloc, regex, programs, text, *start, list.as_str())?;
@@ -301,7 +335,7 @@ fn try_matches(
     try_copying_units(
         report,
         alloc,
-        units_program(alloc, points, flags, tables),
+        units_program(alloc, &row.pattern, flags, tables),
         &searched,
     )
 }
@@ -333,7 +367,7 @@ fn try_unit_row(
         utf16,
         ucs2,
     };
-    let program = units_program(alloc, &row.pattern.points, flags, tables);
+    let program = units_program(alloc, &row.pattern, flags, tables);
     try_units(report, alloc, regex, &searched)?;
     try_copying_units(report, alloc, program, &searched)
 }

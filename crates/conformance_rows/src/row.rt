@@ -12,6 +12,8 @@ pub struct Pattern {
     pub points: Vec<u32>,
     /// Its text; `None` where it holds a surrogate.
     pub text: Option<String>,
+    /// Whether it has to match a whole text.
+    pub whole: bool,
 }
 
 /// What a search or compiling comes to.
@@ -108,10 +110,14 @@ fn number(field: &str) -> Result<usize, RowError> {
 }
 
 /// The pattern that a field stands for.
-fn read_pattern(alloc: Global, field: &str) -> Result<Pattern, RowError> {
+fn read_pattern(alloc: Global, field: &str, whole: bool) -> Result<Pattern, RowError> {
     let points = points_of(alloc, field)?;
     let text = as_text(alloc, &points)?;
-    Ok(Pattern { points, text })
+    Ok(Pattern {
+        points,
+        text,
+        whole,
+    })
 }
 
 /// What a field of a search expects.
@@ -166,8 +172,8 @@ fn read_replacing(alloc: Global, fields: &[&str]) -> Result<Replacing, RowError>
 /// What is asked for, by the name of the work and the fields behind the pattern.
 fn read_work(alloc: Global, name: &str, fields: &[&str]) -> Result<Work, RowError> {
     match (name, fields) {
-        ("", [text, list]) => matches(alloc, text, list, "0"),
-        ("", [text, list, start]) => matches(alloc, text, list, start),
+        ("" | "whole", [text, list]) => matches(alloc, text, list, "0"),
+        ("" | "whole", [text, list, start]) => matches(alloc, text, list, start),
         ("units", [text, utf16, ucs2]) => units(alloc, text, utf16, ucs2, "0"),
         ("units", [text, utf16, ucs2, start]) => units(alloc, text, utf16, ucs2, start),
         ("names", [text, names]) => Ok(Work::Names {
@@ -187,7 +193,7 @@ fn read_work(alloc: Global, name: &str, fields: &[&str]) -> Result<Work, RowErro
             limit: number(limit)?,
             parts: text_of(alloc, parts)?,
         }),
-        ("" | "units" | "names" | "split" | "splitn", _) => Err(RowError::Fields),
+        ("" | "whole" | "units" | "names" | "split" | "splitn", _) => Err(RowError::Fields),
         _ => Err(RowError::Work),
     }
 }
@@ -199,7 +205,7 @@ fn escape(alloc: Global, fields: &[&str]) -> Result<Row, RowError> {
     };
     Ok(Row {
         flags: String::new(alloc),
-        pattern: read_pattern(alloc, "")?,
+        pattern: read_pattern(alloc, "", false)?,
         work: Work::Escape {
             text: text_of(alloc, text)?,
             expected: text_of(alloc, expected)?,
@@ -225,7 +231,7 @@ pub fn read_row(alloc: Global, line: &str) -> Result<Row, RowError> {
     let (source, others) = fields.split_first().ok_or(RowError::Fields)?;
     Ok(Row {
         flags: String::from_str(alloc, flags)?,
-        pattern: read_pattern(alloc, source)?,
+        pattern: read_pattern(alloc, source, name == "whole")?,
         work: read_work(alloc, name, others)?,
     })
 }

@@ -16,12 +16,12 @@ ghost use Rattle.regress.specs.Refusing.{MayRefuseRegex};
 ghost use Rattle.regress_errors.specs.Texts.{shown_text};
 ghost use Rattle.regress_pattern_units.specs.PatternUnits.{pattern_points};
 
-use regress_programs::Compiled;
 use crate::matches::Matches;
 use regress_errors::{code_points, text_of};
 use regress_front::{Error, Flags, Tables};
 use regress_match::Match;
 use regress_pattern_units::pattern_points;
+use regress_programs::Compiled;
 use std::alloc::Global;
 use std::fmt;
 use std::sync::ArcStr;

@@ -16,6 +16,7 @@ mod splitting;
 mod sticky;
 mod text;
 mod units;
+mod whole;
 
 pub use api::{Regex, is_start};
 pub use ascii::{AsciiMatches, is_ascii_text};

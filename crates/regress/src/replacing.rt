@@ -83,12 +83,7 @@ impl Regex {
     /// ```rust
     /// let marked = regex.replacen("a1b2c3", 2, "#")?; // for `\d` it is `a#b#c3`
     /// ```
-    pub fn replacen(
-        &self,
-        text: &str,
-        limit: usize,
-        replacement: &str,
-    ) -> Result<String, Error>
+    pub fn replacen(&self, text: &str, limit: usize, replacement: &str) -> Result<String, Error>
         ensures replaced { (t : Table) → (o : Options) → (p : Pattern) → StandsFor self.now t o p →
             let items = take limit (map (told (of_utf8 text.now)) (match_list t o p (chars text.now) 0)) in
             IfOk result (λ s. string_bytes s ≡ replaced text.now items (map (expansion (names_of_regex self.now) replacement.now text.now) items)) }

@@ -5,12 +5,11 @@ use Rattle.regress_meaning.specs.Table.{Table}
 use Rattle.regress_meaning.specs.Pattern.{Pattern, names_of}
 use Rattle.regress_meaning.specs.Flags.{Options, is_unicode}
 use Rattle.regress_front_core.specs.declared.error.Error.{Error}
-use Rattle.regress_front_core.specs.declared.error.Error.TheVariants.{Syntax, TooDeep, TooManyGroups, TooManyLoops, TooLarge, OutOfMemory}
+use Rattle.regress_front_core.specs.declared.error.Error.TheVariants.{TooLarge}
 use Rattle.regress_front.specs.FlagWords.{options}
-use Rattle.regress_front.specs.Parsed.{IsTreeOf}
+use Rattle.regress_front.specs.Parsed.{IsTreeMade}
 use Rattle.regress_front.specs.RewritingLaws.{IsRewritten}
 use Rattle.regress_front.specs.Rules.{stays}
-use Rattle.regress_front.specs.Refusals as reading
 use Rattle.regress_front.specs.Names.{names_in}
 use Rattle.regress_front.specs.Sizes.{loops}
 use Rattle.regress_front.specs.TableViews.{table, table_known}
@@ -27,60 +26,56 @@ use Rattle.regress_engine_code.specs.Standing.{target_of}
 use Rattle.regress_engine_code.specs.Written as code_refusals
 use Rattle.regress_engine_code.specs.Written.{AreTooMany}
 use Rattle.regress_engine_runs.proofs.SizeLemmas.{count-bounded}
-use Rattle.regress_programs.specs.Programs.{IsTreeFor, IsProgramOf}
-use Rattle.regress_programs.specs.Refusing.{PassesCount, MayRefuseRegex}
+use Rattle.regress_programs.specs.Programs.{IsTreeFor, IsReadFrom, IsProgramOf}
+use Rattle.regress_programs.specs.Refusing.{PassesCount, MayRefuseMade}
 
--- a tree as it is parsed is one for the pattern
-pub parsed-for : (t : Table) (o : Options) (text : List ℕ) (p : Pattern) (regex : ir.Regex) → IsTreeOf t o text p (tree regex.node) → IsTreeFor t o text p (tree regex.node)
-parsed-for t o text p regex of_text = record {
+-- a tree as it is parsed is one for what is made of the pattern
+pub parsed-for : (made : Pattern → Pattern) (t : Table) (o : Options) (text : List ℕ) (p : Pattern) (regex : ir.Regex) → IsTreeMade made t o text p (tree regex.node)
+    → IsTreeFor made t o text p (tree regex.node)
+parsed-for made t o text p regex of_text = record {
   parsed = tree regex.node;
   of_text = of_text;
-  rewritten = wholes-right (length (names_of p)) (tree regex.node) (tree regex.node) stays of_text.whole.well_formed;
+  rewritten = wholes-right (length (names_of (made p))) (tree regex.node) (tree regex.node) stays of_text.whole.well_formed;
 }
 
--- A tree was read from a text under a table and flags, and rewritten or not: it is a tree of a pattern that the text spells.
-pub record IsReadAs (t : Table) (o : Options) (text : List ℕ) (p : Pattern) (regex : ir.Regex) : Type 0 where
-  pub of_text : IsTreeFor t o text p (tree regex.node)
+-- A tree was read from a text under a table and flags, and rewritten or not: it is a tree of what is made of a pattern that the
+-- text spells.
+pub record IsReadAs (made : Pattern → Pattern) (t : Table) (o : Options) (text : List ℕ) (p : Pattern) (regex : ir.Regex) : Type 0 where
+  pub of_text : IsTreeFor made t o text p (tree regex.node)
   pub flags : options regex.flags ≡ o
   pub table : table regex.tables.now ≡ t
 
--- so it is as it is parsed
-pub as-parsed : (t : Table) (o : Options) (text : List ℕ) (p : Pattern) (regex : ir.Regex) → IsTreeOf t o text p (tree regex.node)
-    → options regex.flags ≡ o → table regex.tables.now ≡ t → IsReadAs t o text p regex
-as-parsed t o text p regex of_text flags of_table = record {
-  of_text = parsed-for t o text p regex of_text;
-  flags = flags;
-  table = of_table;
-}
+module _ (made : Pattern → Pattern) (t : Table) (o : Options) (text : List ℕ) (p : Pattern) (parsed : ir.Regex) (from : IsReadFrom made t o text p parsed) where
+  -- so it is as it is parsed
+  pub as-parsed : IsReadAs made t o text p parsed
+  as-parsed = record {
+    of_text = parsed-for made t o text p parsed from.0;
+    flags = from.2;
+    table = from.1;
+  }
 
--- and as it is rewritten then
-pub as-rewritten : (t : Table) (o : Options) (text : List ℕ) (p : Pattern) (parsed regex : ir.Regex) → IsTreeOf t o text p (tree parsed.node)
-    → options parsed.flags ≡ o → table parsed.tables.now ≡ t
-    → ((n : ℕ) → IsWellFormed n (tree parsed.node) → IsRewritten n (tree parsed.node) (tree regex.node))
-    → regex.flags ≡ parsed.flags → regex.tables ≡ parsed.tables → IsReadAs t o text p regex
-as-rewritten t o text p parsed regex of_text flags of_table rewritten same_flags same_tables = record {
-  of_text = record {
-    parsed = tree parsed.node;
-    of_text = of_text;
-    rewritten = rewritten (length (names_of p)) of_text.whole.well_formed;
-  };
-  flags = ap options same_flags ∙ flags;
-  table = ap (λ tables. table tables.now) same_tables ∙ of_table;
-}
+  -- and as it is rewritten then
+  pub as-rewritten : (regex : ir.Regex) → ((n : ℕ) → IsWellFormed n (tree parsed.node) → IsRewritten n (tree parsed.node) (tree regex.node))
+      → regex.flags ≡ parsed.flags → regex.tables ≡ parsed.tables → IsReadAs made t o text p regex
+  as-rewritten regex rewritten same_flags same_tables = record {
+    of_text = record {
+      parsed = tree parsed.node;
+      of_text = from.0;
+      rewritten = rewritten (length (names_of (made p))) from.0.whole.well_formed;
+    };
+    flags = ap options same_flags ∙ from.2;
+    table = ap (λ tables. table tables.now) same_tables ∙ from.1;
+  }
 
-module _ (t : Table) (o : Options) (text : List ℕ) (p : Pattern) (regex : ir.Regex) (read : IsReadAs t o text p regex) where
+module _ (made : Pattern → Pattern) (t : Table) (o : Options) (text : List ℕ) (p : Pattern) (regex : ir.Regex) (read : IsReadAs made t o text p regex) where
   -- the names of its groups are those of the pattern
-  named : names_in (tree regex.node) ≡ names_of p
+  named : names_in (tree regex.node) ≡ names_of (made p)
   named =
-      names-are (length (names_of p)) (tree regex.node) (names_of p) read.of_text.rewritten.well_formed.numbered
+      names-are (length (names_of (made p))) (tree regex.node) (names_of (made p)) read.of_text.rewritten.well_formed.numbered
       (λ k. read.of_text.rewritten.named k ∙ read.of_text.of_text.whole.named k)
 
-  -- it is well formed, so that programs are made of it
-  pub read-formed : (n : ℕ) × IsWellFormed n (tree regex.node)
-  read-formed = (length (names_of p), read.of_text.rewritten.well_formed)
-
-  -- a program that stands for it is one of the pattern
-  pub read-program : (compiled : CompiledRegex) → code.StandsFor regex compiled → IsProgramOf compiled t o p
+  -- a program that stands for it is one of what is made of the pattern
+  pub read-program : (compiled : CompiledRegex) → code.StandsFor regex compiled → IsProgramOf compiled t o (made p)
   read-program compiled stands = record {
     table = stands.table ∙ read.table;
     flags = ap options stands.flags ∙ read.flags;
@@ -93,9 +88,9 @@ module _ (t : Table) (o : Options) (text : List ℕ) (p : Pattern) (regex : ir.R
   }
 
   -- a refusal of a program is one of the pattern
-  pub program-refused : (units : Bool) (e : Error) → code_refusals.MayRefuse (code.length_for units regex) (loops (tree regex.node)) e → MayRefuseRegex t o text e
-  program-refused units e (inl memory) = subst (MayRefuseRegex t o text) (sym memory) tt
-  program-refused units e (inr (large, many)) = subst (MayRefuseRegex t o text) (sym large) record {
+  pub program-refused : (units : Bool) (e : Error) → code_refusals.MayRefuse (code.length_for units regex) (loops (tree regex.node)) e → MayRefuseMade made t o text e
+  program-refused units e (inl memory) = subst (MayRefuseMade made t o text) (sym memory) tt
+  program-refused units e (inr (large, many)) = subst (MayRefuseMade made t o text) (sym large) record {
     pattern = p;
     node = tree regex.node;
     units = units;
@@ -106,24 +101,15 @@ module _ (t : Table) (o : Options) (text : List ℕ) (p : Pattern) (regex : ir.R
       same : code.length_for units regex ≡ count units t (is_unicode o) (tree regex.node)
       same = λ i. count units (read.table i) (is_unicode (read.flags i)) (tree regex.node)
 
--- a refusal of reading is one of the pattern
-pub reading-refused : (t : Table) (o : Options) (text : List ℕ) (e : Error) → reading.MayRefuse t o text e → MayRefuseRegex t o text e
-reading-refused t o text (Syntax message) refused = refused
-reading-refused t o text TooDeep refused = refused
-reading-refused t o text TooManyGroups refused = refused
-reading-refused t o text TooManyLoops refused = refused
-reading-refused t o text TooLarge refused = absurd refused
-reading-refused t o text OutOfMemory refused = refused
-
 -- without `v` no program of a short text passes its count
-short-passes-none : (t : Table) (o : Options) (text : List ℕ) → o.sets ≡ false → length text ≤ 10000 → PassesCount t o text → ⊥
-short-passes-none t o text plain short passes = few passes.many
+short-passes-none : (made : Pattern → Pattern) (t : Table) (o : Options) (text : List ℕ) → o.sets ≡ false → length text ≤ 10000 → PassesCount made t o text → ⊥
+short-passes-none made t o text plain short passes = few passes.many
   where
     node : Tree
     node = passes.node
 
     groups : ℕ
-    groups = length (names_of passes.pattern)
+    groups = length (names_of (made passes.pattern))
 
     square : (length text + 4) * (length text + 4) ≤ 10004 * 10004
     square = let room : length text + 4 ≤ 10004 = omega (arith, short) in mul-le-mul room room
@@ -134,8 +120,11 @@ short-passes-none t o text plain short passes = few passes.many
         let fewer = passes.of_text.rewritten.few_loops in
         omega (arith, before, fewer, short)
 
-    looped : loops node * groups ≤ 10000 * 65535
-    looped = mul-le-mul few_loops passes.of_text.of_text.within.groups
+    few_groups : groups ≤ 10000
+    few_groups = let before = passes.of_text.of_text.whole.few_groups in omega (arith, before, short)
+
+    looped : loops node * groups ≤ 10000 * 10000
+    looped = mul-le-mul few_loops few_groups
 
     few : AreTooMany (count passes.units t (is_unicode o) node) (loops node) → ⊥
     few (inl more) =
@@ -147,8 +136,8 @@ short-passes-none t o text plain short passes = few passes.many
     few (inr more) = absurd (omega (arith, more, few_loops))
 
 -- so it is not refused as too large
-pub refused-fits : (t : Table) (o : Options) (text : List ℕ) (e : Error) → MayRefuseRegex t o text e → o.sets ≡ false → length text ≤ 10000 → e ≢ TooLarge
-refused-fits t o text e refused plain short large = short-passes-none t o text plain short (subst (MayRefuseRegex t o text) large refused)
+pub refused-fits : (made : Pattern → Pattern) (t : Table) (o : Options) (text : List ℕ) (e : Error) → MayRefuseMade made t o text e → o.sets ≡ false → length text ≤ 10000 → e ≢ TooLarge
+refused-fits made t o text e refused plain short large = short-passes-none made t o text plain short (subst (MayRefuseMade made t o text) large refused)
 
 -- a copy of a program is made for the same
 pub copied-target : (compiled copy : CompiledRegex) → code.IsCopyOf compiled copy → target_of copy ≡ target_of compiled
