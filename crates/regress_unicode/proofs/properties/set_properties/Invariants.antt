@@ -5,7 +5,7 @@ use Rattle.regress_front_sets.specs.Intervals.{ends_of}
 use Rattle.regress_front_tables.specs.Entries.{entry_of}
 use Rattle.regress_unicode.specs.Keys.{shown}
 use Rattle.regress_unicode.proofs.KeyLemmas.{IsRead}
-use Rattle.regress_unicode.proofs.properties.properties.Given as goal
+use Rattle.regress_unicode.proofs.properties.set_properties.Given as goal
 
 abbrev pub invariant-loop-key : goal.invariant-loop-key
 invariant-loop-key l = record {
