@@ -1,29 +1,10 @@
 //! Long patterns, rewritten.
-ghost use Rattle.std.specs.Prelude.{ℕ, IfOk};
-ghost use Rattle.regress_front_nodes.specs.Trees.{tree};
-ghost use Rattle.regress_front_nodes.specs.WellFormed.{IsWellFormed};
 
-use regress_front_bytes::are_code_points;
+use crate::parsed::rewritten;
 use regress_front_nodes::Node;
-use regress_front_nodes::ir::Regex;
-use regress_front_opt::optimize;
-use regress_front_tables::{CodePoint, Error, Flags, Tables};
-use regress_front_tree::try_parse;
+use regress_front_tables::Tables;
 use std::alloc::Global;
 use std::test::Fail;
-
-/// The tree of a pattern as the parser gives it.
-fn parsed<'t>(alloc: Global, pattern: &str, tables: &'t Tables) -> Result<Regex<'t>, Error>
-    ensures { IfOk result (λ re. (n : ℕ) × IsWellFormed n (tree re.node)) }
-{
-    let points: Vec<CodePoint> = pattern.chars().map(CodePoint::from).collect(alloc)?;
-    if !are_code_points(&points) {
-        return Err(Error::Syntax {
-            text: "a character is no code point",
-        });
-    }
-    try_parse(alloc, &points, Flags::default(), tables)
-}
 
 /// How many bytes the literals among some parts have.
 fn byte_count(parts: &[Node]) -> usize {
@@ -40,8 +21,7 @@ fn byte_count(parts: &[Node]) -> usize {
 fn parts_and_bytes(alloc: Global, piece: &str, count: usize) -> Result<(usize, usize), Fail> {
     let tables = Tables::small(alloc)?;
     let pattern = piece.repeat(alloc, count)?;
-    let mut regex = parsed(alloc, pattern.as_str(), &tables)?;
-    optimize(alloc, &mut regex)?;
+    let regex = rewritten(alloc, pattern.as_str(), "", &tables)?;
     match &regex.node {
         Node::Cat(parts) => Ok((parts.len(), byte_count(parts))),
         _ => Err("no sequence".into()),
