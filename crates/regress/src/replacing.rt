@@ -119,6 +119,24 @@ impl Regex {
         ensures refused { IsOkUnless result Error.OutOfMemory }
     {
         let read = AnyReplacement::new(self.alloc, replacement, syntax)?;
+        self.replace_first(text, limit, &read)
+    }
+
+    /// A text with its first matches, at most `limit`, replaced by what a replacement text that was read stands for there.
+    fn replace_first(
+        &self,
+        text: &str,
+        limit: usize,
+        read: &AnyReplacement<'_>,
+    ) -> Result<String, Error>
+        ensures replaced { (t : Table) → (o : Options) → (p : Pattern) → StandsFor self.now t o p →
+            let items = take limit (map (told (of_utf8 text.now)) (match_list t o p (chars text.now) 0)) in
+            IfOk result (λ s. string_bytes s ≡ replaced text.now items (map (replacement_text (syntax_of read.now) (names_of_regex self.now) (text_of read.now) text.now) items)) }
+        ensures replaced_of_tree { (n : ℕ) → (t : Tree) → HasTree self.now n t →
+            let items = take limit (map (told (of_utf8 text.now)) (tree_list self.now n t (chars text.now) 0)) in
+            IfOk result (λ s. string_bytes s ≡ replaced text.now items (map (replacement_text (syntax_of read.now) (names_of_regex self.now) (text_of read.now) text.now) items)) }
+        ensures refused { IsOkUnless result Error.OutOfMemory }
+    {
         let mut matches = self.find_iter(text)?;
         let mut written = String::new(self.alloc);
         let mut behind = 0;

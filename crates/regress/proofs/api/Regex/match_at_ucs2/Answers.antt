@@ -11,8 +11,8 @@ use Rattle.regress.proofs.ToldLemmas.{told-shown, inside-shown, lies-in_units}
 use Rattle.regress.proofs.UnitLemmas.{begins-anywhere}
 use Rattle.regress.proofs.api.Regex.match_at_ucs2.Goals as goal
 
-pub outcome-requires-clause-start : goal.outcome-requires-clause-start
-outcome-requires-clause-start c = subst (λ (x : View). (place : ℕ) × Begins (reading_of x) c.args.start place) (sym c.new-input.ensures) (begins-anywhere c.args.units.now c.args.start)
+pub match_at-requires-clause-start : goal.match_at-requires-clause-start
+match_at-requires-clause-start c = subst (λ (x : View). (place : ℕ) × Begins (reading_of x) c.args.start place) (sym c.new-input.ensures) (begins-anywhere c.args.units.now c.args.start)
 
 pub returns-clause-found_of_tree : goal.returns-clause-found_of_tree
 returns-clause-found_of_tree c = λ n t laid.
