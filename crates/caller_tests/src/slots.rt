@@ -32,6 +32,27 @@ fn found_into_utf16(
     regex.find_into_utf16(scratch, units, 0, slots)
 }
 
+/// The first match in units that are each one character.
+fn found_into_ucs2(
+    regex: &Regex,
+    scratch: &mut Scratch,
+    units: &[u16],
+    slots: &mut [Option<Range>],
+) -> Result<Option<Range>, Error> {
+    regex.find_into_ucs2(scratch, units, 0, slots)
+}
+
+/// The match that begins at one of them.
+fn matched_into_ucs2(
+    regex: &Regex,
+    scratch: &mut Scratch,
+    units: &[u16],
+    start: usize,
+    slots: &mut [Option<Range>],
+) -> Result<Option<Range>, Error> {
+    regex.match_into_ucs2(scratch, units, start, slots)
+}
+
 #[test]
 fn slots_are_filled_as_far_as_there_is_room(rt: HostRuntime) -> Result<(), Fail> {
     let tables = Tables::small(rt.alloc())?;
@@ -57,9 +78,9 @@ fn slots_hold_units(rt: HostRuntime) -> Result<(), Fail> {
     let mut slots = [None, None];
     let found = found_into_utf16(&regex, &mut scratch, units, &mut slots)?;
     assert!(rt; found == Some(1..3) && slots == [Some(1..3), None]);
-    let found = regex.find_into_ucs2(&mut scratch, units, 0, &mut slots)?;
+    let found = found_into_ucs2(&regex, &mut scratch, units, &mut slots)?;
     assert!(rt; found == Some(1..3) && slots == [Some(1..3), Some(2..3)]);
-    let found = regex.match_into_ucs2(&mut scratch, units, 2, &mut slots)?;
+    let found = matched_into_ucs2(&regex, &mut scratch, units, 2, &mut slots)?;
     assert!(rt; found == Some(2..3) && slots == [Some(2..3), None]);
     Ok(())
 }
