@@ -5,6 +5,11 @@ use regress::{Error, Regex, ReplacementSyntax, Tables, expand};
 use std::alloc::Global;
 use std::test::Fail;
 
+/// A text with its first match replaced by a template of the standard.
+fn templated_once(regex: &Regex, text: &str, template: &str) -> Result<String, Error> {
+    regex.replace_as(text, template, ReplacementSyntax::EcmaScript)
+}
+
 /// A template at the first match in a text, if there is one.
 fn expanded(
     alloc: Global,
@@ -28,7 +33,7 @@ fn one_match_is_expanded(rt: HostRuntime) -> Result<(), Fail> {
     let Some(told) = expanded(rt.alloc(), &regex, "xaby", "$`$2$1$'")? else {
         return Err(Fail::new("no match"));
     };
-    let once = regex.replace_as("xaby", "$2$1", ReplacementSyntax::EcmaScript)?;
+    let once = templated_once(&regex, "xaby", "$2$1")?;
     assert!(rt; told.as_str() == "xbay" && once.as_str() == "xbay");
     Ok(())
 }
