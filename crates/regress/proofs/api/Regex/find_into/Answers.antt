@@ -1,4 +1,4 @@
-use Rattle.std.proofs.Common.{length, chars}
+use Rattle.std.proofs.Common.{length}
 use Rattle.regress_meaning.specs.Pattern.{names_of}
 use Rattle.regress_programs.specs.declared.slots.Anchored.TheVariants.{No}
 use Rattle.regress.proofs.ListedLemmas.{pattern-in_text}

@@ -1,4 +1,4 @@
-use Rattle.std.proofs.Common.{◌≡◌, ℕ, ◌<◌, All, length, arith, sym, subst}
+use Rattle.std.proofs.Common.{ℕ, ◌<◌, All, length, arith, sym, subst}
 use Rattle.std.proofs.lemmas.List.{get_or_default}
 use Rattle.regress_meaning.specs.Offsets.{Begins, of_ucs2}
 use Rattle.regress_meaning.specs.Pattern.{names_of}

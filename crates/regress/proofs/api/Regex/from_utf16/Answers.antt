@@ -1,7 +1,5 @@
 use Rattle.std.specs.Prelude.{IfOk, IfErr, false}
-use Rattle.std.proofs.Common.{◌≡◌, ◌≢◌, ◌<◌, ◌≤◌, ℕ, List, All, length, subst, ◌∙◌, arith}
-use Rattle.std.proofs.lemmas.List.{get_or_default}
-use Rattle.regress_meaning.specs.Flags.{is_unicode}
+use Rattle.std.proofs.Common.{◌≡◌, ◌≢◌, ◌≤◌, ℕ, List, length, subst, ◌∙◌}
 use Rattle.regress_meaning.specs.Grammar.{Spells}
 use Rattle.regress_meaning.specs.Limits.{WithinLimits}
 use Rattle.regress_meaning.specs.Pattern.{Pattern}

@@ -1,5 +1,4 @@
 use Rattle.std.proofs.Common.{ℕ, List, length, chars, option_map, refl, sym, ap, ◌∙◌, subst}
-use Rattle.std.proofs.lemmas.Str.{IsUtf8-from_ascii}
 use Rattle.regress_meaning.specs.Matches.{Item}
 use Rattle.regress_meaning.specs.Offsets.{Begins, of_ascii, of_utf8, told}
 use Rattle.regress_meaning.specs.Pattern.{names_of}
