@@ -34,6 +34,21 @@ fn names_are_told_and_counted(rt: HostRuntime) -> Result<(), Fail> {
     // A name alone means the first group that has it.
     let other = first(&regex, "c")?.ok_or("no match")?;
     assert!(rt; other.named_group("n").is_none() && other.group(3) == Some(0..1));
+    assert!(rt;
+        other.name("n") == Some(0..1) && other.name("m").is_none() && other.name("").is_none()
+    );
+    Ok(())
+}
+
+#[test]
+fn matches_are_compared(rt: HostRuntime) -> Result<(), Fail> {
+    let tables = Tables::small(rt.alloc())?;
+    let regex = compiled(rt.alloc(), "a*", "", &tables)?;
+    let some = first(&regex, "aa")?.ok_or("no match")?;
+    let none = first(&regex, "b")?.ok_or("no match")?;
+    assert!(rt; some.len() == 2 && !some.is_empty() && none.len() == 0 && none.is_empty());
+    let same = some.try_clone()?;
+    assert!(rt; same == some && some != none && some.group_names().is_empty());
     Ok(())
 }
 

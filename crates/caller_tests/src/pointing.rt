@@ -1,6 +1,6 @@
 //! Syntax errors as they are shown: the line, and a caret under the place.
 
-use regress::{CompileError, Flags, Tables, syntax_error};
+use regress::{CompileError, Flags, Tables, syntax_error, syntax_error_in_units};
 use std::alloc::Global;
 use std::test::Fail;
 
@@ -31,6 +31,21 @@ fn a_caret_stands_under_the_place(rt: HostRuntime) -> Result<(), Fail> {
             _ => return Err(Fail::new(*pattern)),
         }
     }
+    Ok(())
+}
+
+/// The places in code points and in units at which reading units stops; `None` where they are a pattern.
+fn places(alloc: Global, units: &[u16]) -> Result<Option<(usize, usize)>, CompileError> {
+    let tables = Tables::small(alloc)?;
+    let script = Flags::parse("u")?;
+    let refused = syntax_error_in_units(alloc, units, script.flags, &tables)?;
+    Ok(refused.map(|refused| (refused.place, refused.unit_offset)))
+}
+
+#[test]
+fn places_are_told_in_units(rt: HostRuntime) -> Result<(), Fail> {
+    let told = places(rt.alloc(), &[0xD83D, 0xDE00, 0x29])?; // an astral character and `)`
+    assert!(rt; told == Some((1, 2)));
     Ok(())
 }
 

@@ -53,6 +53,19 @@ fn matched_into_ucs2(
     regex.match_into_ucs2(scratch, units, start, slots)
 }
 
+/// The match that begins at the start of units of UTF-16.
+fn matched_into_utf16(
+    regex: &Regex,
+    scratch: &mut Scratch,
+    units: &[u16],
+    slots: &mut [Option<Range>],
+) -> Result<Option<Range>, Error> {
+    if !is_unit_start(units, 0) {
+        return Ok(None);
+    }
+    regex.match_into_utf16(scratch, units, 0, slots)
+}
+
 #[test]
 fn slots_are_filled_as_far_as_there_is_room(rt: HostRuntime) -> Result<(), Fail> {
     let tables = Tables::small(rt.alloc())?;
@@ -78,6 +91,9 @@ fn slots_hold_units(rt: HostRuntime) -> Result<(), Fail> {
     let mut slots = [None, None];
     let found = found_into_utf16(&regex, &mut scratch, units, &mut slots)?;
     assert!(rt; found == Some(1..3) && slots == [Some(1..3), None]);
+    assert!(rt; matched_into_utf16(&regex, &mut scratch, units, &mut slots)?.is_none());
+    let found = matched_into_utf16(&regex, &mut scratch, &units[1..], &mut slots)?;
+    assert!(rt; found == Some(0..2) && slots == [Some(0..2), None]);
     let found = found_into_ucs2(&regex, &mut scratch, units, &mut slots)?;
     assert!(rt; found == Some(1..3) && slots == [Some(1..3), Some(2..3)]);
     let found = matched_into_ucs2(&regex, &mut scratch, units, 2, &mut slots)?;

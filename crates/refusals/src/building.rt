@@ -85,6 +85,7 @@ enum Built {
     Regex,
     RegexOfPoints,
     RegexOfUnits,
+    WholeText,
     SyntaxError,
 }
 
@@ -98,6 +99,7 @@ fn built_by(name: &str) -> Option<Built> {
         "with_flags" => Some(Built::Regex),
         "from_unicode" => Some(Built::RegexOfPoints),
         "from_utf16" => Some(Built::RegexOfUnits),
+        "whole_text" => Some(Built::WholeText),
         "syntax_error" => Some(Built::SyntaxError),
         _ => None,
     }
@@ -170,6 +172,16 @@ fn of_units(work: &Building<'_>) -> Result<Regex, Error> {
     Regex::from_utf16(work.alloc, &work.units, work.row.flags(), work.tables)
 }
 
+/// A regex of a pattern over a whole text.
+fn of_whole_text(work: &Building<'_>) -> Result<Regex, Error> {
+    Regex::whole_text(
+        work.alloc,
+        work.row.pattern.as_str(),
+        work.row.flags(),
+        work.tables,
+    )
+}
+
 /// Tells where reading stops in a text that is no pattern.
 fn tell_stop(told: &mut String, work: &Building<'_>) -> Result<(), Refusal> {
     let pattern = work.row.pattern.as_str();
@@ -188,6 +200,7 @@ impl Work for Building<'_> {
             Built::Rewritten => tell_rewritten(told, self),
             Built::Regex => tell_regex(told, &compiled(self.alloc, self.row, self.tables)?),
             Built::RegexOfPoints => tell_regex(told, &of_points(self)?),
+            Built::WholeText => tell_regex(told, &of_whole_text(self)?),
             Built::RegexOfUnits => tell_regex(told, &of_units(self)?),
             Built::SyntaxError => tell_stop(told, self),
         }

@@ -1,12 +1,12 @@
-//! The match at the start of a text, with no search.
+//! The match at the start of a text, with no search, and the first match in slots.
 
 use crate::asking::{Work, try_work};
 use crate::building::{compiled, program_of};
 use crate::refusal::Refusal;
 use crate::row::{Row, units_of};
-use crate::telling::tell_match;
+use crate::telling::{tell_match, tell_slots};
 use regress::backends::{BacktrackExecutor, PikeVMExecutor, Utf8Input};
-use regress::{Match, Regex, Tables, is_ascii_text, is_start, is_unit_start};
+use regress::{Match, Range, Regex, Scratch, Tables, is_ascii_text, is_start, is_unit_start};
 use std::alloc::Global;
 
 /// The executor that undoes, over a text.
@@ -121,10 +121,60 @@ fn try_call(alloc: Global, row: &Row, call: Call, told: &mut String) -> Result<b
     try_work(alloc, row, work, told)
 }
 
+/// The first match in slots, over a scratch that is kept.
+#[derive(Drop)]
+struct Filling<'t> {
+    regex: &'t Regex,
+    text: &'t str,
+    scratch: Scratch,
+    slots: Vec<Option<Range>>,
+}
+
+/// The first match of a text, in slots.
+fn filled(
+    regex: &Regex,
+    text: &str,
+    scratch: &mut Scratch,
+    slots: &mut [Option<Range>],
+) -> Result<bool, Refusal> {
+    if !is_start(text, 0) {
+        return Err(Refusal::Other);
+    }
+    Ok(regex.find_into(scratch, text, 0, slots)?.is_some())
+}
+
+impl Work for Filling<'_> {
+    fn work(&mut self, told: &mut String) -> Result<(), Refusal> {
+        if filled(self.regex, self.text, &mut self.scratch, &mut self.slots)? {
+            tell_slots(told, &self.slots)?;
+        }
+        Ok(())
+    }
+}
+
+/// Does a row's work in slots, two of them.
+fn try_filling(alloc: Global, row: &Row, told: &mut String) -> Result<bool, Refusal> {
+    let tables = Tables::small(alloc)?;
+    let regex = compiled(alloc, row, &tables)?;
+    let mut slots = Vec::new(alloc);
+    slots.push(None)?;
+    slots.push(None)?;
+    let work = Filling {
+        regex: &regex,
+        text: row.text.as_str(),
+        scratch: Scratch::new(alloc),
+        slots,
+    };
+    try_work(alloc, row, work, told)
+}
+
 /// Does a row's work, if it is one of these.
 pub(crate) fn try_row(alloc: Global, row: &Row, told: &mut String) -> Result<bool, Refusal> {
     if let Some(call) = call_by(row.work.as_str()) {
         return try_call(alloc, row, call, told);
+    }
+    if row.work.as_str() == "find_into" {
+        return try_filling(alloc, row, told);
     }
     let is_copying = match row.work.as_str() {
         "undoing_at" => false,

@@ -6,7 +6,7 @@ use regress::{Error, Match, Range};
 use std::alloc::AllocError;
 
 /// Tells the range of a group, or `-`.
-fn tell_group(told: &mut String, group: Option<Range>) -> Result<(), AllocError> {
+fn tell_group(told: &mut String, group: &Option<Range>) -> Result<(), AllocError> {
     match group {
         Some(range) => write!(told, "{}..{}", range.start, range.end),
         None => told.push('-'),
@@ -16,7 +16,16 @@ fn tell_group(told: &mut String, group: Option<Range>) -> Result<(), AllocError>
 /// Tells a match: its range and that of each group, with a space behind each.
 pub(crate) fn tell_match(told: &mut String, found: &Match) -> Result<(), AllocError> {
     for group in found.groups() {
-        tell_group(told, group)?;
+        tell_group(told, &group)?;
+        told.push(' ')?;
+    }
+    Ok(())
+}
+
+/// Tells what slots hold, with a space behind each.
+pub(crate) fn tell_slots(told: &mut String, slots: &[Option<Range>]) -> Result<(), AllocError> {
+    for slot in slots {
+        tell_group(told, slot)?;
         told.push(' ')?;
     }
     Ok(())
