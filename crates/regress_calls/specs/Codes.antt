@@ -4,6 +4,8 @@ use Rattle.regress_front_core.specs.declared.error.Error.{Error}
 use Rattle.regress_front_core.specs.declared.error.Error.TheVariants as pattern
 use Rattle.regress_front_core.specs.declared.script_flags.FlagError.{FlagError}
 use Rattle.regress_front_core.specs.declared.script_flags.FlagError.TheVariants as flag
+use Rattle.regress_front_tables.specs.declared.tables.TableError.{TableError}
+use Rattle.regress_front_tables.specs.declared.tables.TableError.TheVariants as tables
 use Rattle.regress_calls.specs.declared.call_error.CallError.{CallError}
 use Rattle.regress_calls.specs.declared.call_error.CallError.TheVariants.{OutOfMemory, WrongHandle, Null, NotUtf8, BadStart, NoRoom, Syntax, TooDeep, TooManyGroups, TooManyLoops, TooLarge, UnknownFlag, RepeatedFlag, BothUnicodeFlags, NoGroup, BrokenTables, SameHandle}
 
@@ -41,6 +43,11 @@ abbrev pub of_flag_error : FlagError → CallError
 of_flag_error (flag.Unknown letter) = UnknownFlag
 of_flag_error (flag.Repeated letter) = RepeatedFlag
 of_flag_error flag.BothUnicodeModes = BothUnicodeFlags
+
+-- what an error of tables is called
+abbrev pub of_table_error : TableError → CallError
+of_table_error (tables.Broken law c) = BrokenTables
+of_table_error tables.OutOfMemory = OutOfMemory
 
 -- what a call answers as a number: a count, or the code of an error
 abbrev pub code_of : Result ℕ CallError → ℤ

@@ -1,5 +1,5 @@
 -- Ranges as they stand in a caller's memory.
-use Rattle.std.specs.Prelude.{◌≡◌, ℕ, ◌-◌, ◌^◌, ◌+◌, ◌<◌, List, ◌∷◌, length, Option, Some, None, map, option_map, slice_get, unwrap_or}
+use Rattle.std.specs.Prelude.{◌≡◌, ℕ, ◌-◌, ◌^◌, ◌+◌, ◌<◌, ◌≤◌, List, ◌∷◌, length, Option, Some, None, map, option_map, slice_get, unwrap_or}
 use Rattle.std.specs.declared.ops.Range.{Range}
 use Rattle.regress_meaning.specs.Matches.{Item}
 use Rattle.regress_match.specs.Views.{ends}
@@ -26,12 +26,14 @@ ranges_of_item i = Some (i.start, i.end) ∷ i.groups
 abbrev pub group_numbered : Item → ℕ → Option (ℕ × ℕ)
 group_numbered i k = unwrap_or (slice_get (ranges_of_item i) k) None
 
--- Memory shows a match: its range and those of its groups, as many as there is room for.
-abbrev pub ShowsItem : Item → List TextRange → Type 0
-ShowsItem i ranges = (k : ℕ) → k < length ranges → slice_get ranges k ≡ Some (shown_range (group_numbered i k))
+-- Memory shows a match of a pattern with so many groups: its range and those of its groups, as many as there is room for, and
+-- unset ones past the last.
+pub record ShowsItem (groups : ℕ) (i : Item) (ranges : List TextRange) : Type 0 where
+  pub set : (k : ℕ) → k < length ranges → k ≤ groups → slice_get ranges k ≡ Some (shown_range (group_numbered i k))
+  pub past : (k : ℕ) → k < length ranges → groups < k → slice_get ranges k ≡ Some (shown_range None)
 
--- What a search answers to the match that there is, if any, with so many groups: how many ranges a match has, which are shown;
--- and 0, with memory as it was, where there is none.
+-- What a search answers to the match that there is, if any: how many ranges a match has, which are shown; and 0, with memory as it
+-- was, where there is none.
 abbrev pub IsAnswerTo : (groups : ℕ) → Option Item → (old : List TextRange) → (count : ℕ) → (new : List TextRange) → Type 0
 IsAnswerTo groups None old count new = (count ≡ 0) × (new ≡ old)
-IsAnswerTo groups (Some i) old count new = (count ≡ groups + 1) × ShowsItem i new
+IsAnswerTo groups (Some i) old count new = (count ≡ groups + 1) × ShowsItem groups i new

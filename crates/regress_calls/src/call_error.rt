@@ -1,7 +1,7 @@
 //! Why a call is refused.
 ghost use Rattle.std.specs.Prelude.{◌≡◌};
 
-use regress::{Error, FlagError};
+use regress::{Error, FlagError, TableError};
 use std::alloc::{AllocError, AllocFailed};
 use std::fmt;
 
@@ -166,6 +166,19 @@ impl From<FlagError> for CallError {
             FlagError::Unknown { .. } => CallError::UnknownFlag,
             FlagError::Repeated { .. } => CallError::RepeatedFlag,
             FlagError::BothUnicodeModes => CallError::BothUnicodeFlags,
+        }
+    }
+}
+
+impl From<TableError> for CallError {
+    ghost use Rattle.regress_calls.specs.Codes.{of_table_error};
+
+    ghost from_gives = { λ refused e. e ≡ of_table_error refused };
+
+    fn from(refused: TableError) -> CallError {
+        match refused {
+            TableError::Broken { .. } => CallError::BrokenTables,
+            TableError::OutOfMemory => CallError::OutOfMemory,
         }
     }
 }
