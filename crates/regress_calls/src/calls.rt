@@ -43,8 +43,8 @@ pub fn find(
     ensures found { (r : RegexValue) → content slot.old.held ≡ OfSearch r → (t : Table) → (o : Options) → (p : Pattern) → StandsIn text.entry r t o p →
         (place : ℕ) → Begins (reading_of_text text.entry) start place →
         IfOk result (λ count. IsAnswerTo (length (names_of_regex r))
-            (option_map (told (reading_of_text text.entry)) (slice_get (match_list t o p (reading_of_text text.entry).points place) 0))
-            ranges.old count ranges.new) }
+        (option_map (told (reading_of_text text.entry)) (slice_get (match_list t o p (reading_of_text text.entry).points place) 0))
+        ranges.old count ranges.new) }
     ensures few { IfOk result (λ count. count ≤ 65536) }
     ensures kept { content slot.new.held ≡ content slot.old.held }
     ensures refused { IfErr result (MayRefuseSearch (content slot.old.held) (reading_of_text text.entry) start) }

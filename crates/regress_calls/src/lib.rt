@@ -28,3 +28,6 @@ pub use search::Search;
 pub use slot::Slot;
 pub use text::{Text, utf8};
 pub use text_range::TextRange;
+
+#[cfg(test)]
+mod tests;

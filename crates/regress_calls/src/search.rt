@@ -78,8 +78,8 @@ impl Search {
         ensures found { (t : Table) → (o : Options) → (p : Pattern) → StandsIn text.entry (arc_value self.old.regex) t o p →
             (place : ℕ) → Begins (reading_of_text text.entry) start place →
             IfOk result (λ count. IsAnswerTo (length (names_of_regex (arc_value self.old.regex)))
-                (option_map (told (reading_of_text text.entry)) (slice_get (match_list t o p (reading_of_text text.entry).points place) 0))
-                ranges.old count ranges.new) }
+            (option_map (told (reading_of_text text.entry)) (slice_get (match_list t o p (reading_of_text text.entry).points place) 0))
+            ranges.old count ranges.new) }
         ensures few { IfOk result (λ count. count ≤ 65536) }
         ensures kept { arc_value self.new.regex ≡ arc_value self.old.regex }
         ensures refused { IsOkUnless result Error.OutOfMemory }
@@ -105,8 +105,8 @@ impl Search {
         ensures found { (t : Table) → (o : Options) → (p : Pattern) → StandsIn text.entry (arc_value self.old.regex) t o p →
             (place : ℕ) → Begins (reading_of_text text.entry) start place →
             IfOk result (λ count. IsAnswerTo (length (names_of_regex (arc_value self.old.regex)))
-                (option_map (told (reading_of_text text.entry)) (outcome_at t o p (reading_of_text text.entry).points place))
-                ranges.old count ranges.new) }
+            (option_map (told (reading_of_text text.entry)) (outcome_at t o p (reading_of_text text.entry).points place))
+            ranges.old count ranges.new) }
         ensures few { IfOk result (λ count. count ≤ 65536) }
         ensures kept { arc_value self.new.regex ≡ arc_value self.old.regex }
         ensures refused { IsOkUnless result Error.OutOfMemory }
