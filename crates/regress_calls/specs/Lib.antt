@@ -8,3 +8,4 @@ pub mod Handles
 pub mod Refusals
 pub mod Compiling
 pub mod Slots
+pub mod Many

@@ -34,6 +34,11 @@ MayRefuseSearch c reading start BadStart = IsNoStart reading start
 MayRefuseSearch c reading start OutOfMemory = Unit {0}
 MayRefuseSearch c reading start _ = ⊥
 
+-- The same of a search for many matches: a match takes no range, or more than there are.
+abbrev pub MayRefuseMany : Content → Reading → (start room width : ℕ) → CallError → Type 0
+MayRefuseMany c reading start room width NoRoom = (width ≡ 0) ⊎ (room < width)
+MayRefuseMany c reading start room width e = MayRefuseSearch c reading start e
+
 -- Why a call on a pattern may be refused: none is held, or memory is refused.
 abbrev pub MayRefusePattern : Content → CallError → Type 0
 MayRefusePattern c WrongHandle = HoldsNoPattern c

@@ -1,5 +1,5 @@
 //! A search of a pattern, with the memory that it keeps.
-ghost use Rattle.std.specs.Prelude.{◌≡◌, ◌+◌, ◌≤◌, length, vec_len};
+ghost use Rattle.std.specs.Prelude.{◌≡◌, ◌+◌, ◌<◌, ◌≤◌, length, vec_len};
 ghost use Rattle.std.specs.Arc.{arc_value};
 ghost use Rattle.regress.specs.Standing.{names_of_regex};
 
@@ -26,7 +26,7 @@ pub struct Search {
 }
 
 impl Search {
-    ghost use Rattle.std.specs.Prelude.{ℕ, List, Option, IfOk, IfErr, OnErr, IsOkUnless, option_map, slice_get};
+    ghost use Rattle.std.specs.Prelude.{ℕ, List, Option, IfOk, IfErr, OnErr, OnOk, IsOkUnless, option_map, slice_get};
     ghost use Rattle.regress_meaning.specs.Table.{Table};
     ghost use Rattle.regress_meaning.specs.Pattern.{Pattern};
     ghost use Rattle.regress_meaning.specs.Flags.{Options};
@@ -37,6 +37,7 @@ impl Search {
     ghost use Rattle.regress_calls.specs.Ranges.{IsAnswerTo};
     ghost use Rattle.regress_calls.specs.Slotted.{IsInSlots};
     ghost use Rattle.regress_calls.specs.Handles.{OfPattern};
+    ghost use Rattle.regress_calls.specs.Many.{FoundAsManyAsFit, FoundMany};
     ghost use Rattle.regress_calls.specs.Refusals.{MayRefuseNewSearch};
     ghost use Rattle.std.specs.declared.ops.Range.{Range as Ends};
 
@@ -114,6 +115,53 @@ impl Search {
     {
         let found = match_into(&self.regex, &mut self.scratch, text, start, &mut self.slots)?;
         Ok(self.show(found, ranges))
+    }
+
+    /// Finds matches one after another from `*start` on, as many as there is room for, each as `find` finds it: the ranges of match
+    /// `k` stand from `ranges[k * width]` on.
+    ///
+    /// `*found` tells how many there are, and `*start` then tells where the search goes on: past the end where there is no other
+    /// match. Asks that a search may begin at `*start`, and that `width` is not 0. Errs with `OutOfMemory` alone; then both tell of
+    /// the matches before.
+    ///
+    /// ```rust
+    /// search.find_many(Text::Utf8("aab ab"), &mut start, &mut ranges, 1, &mut found)?; // for `a+b` at 0..3 and 4..6
+    /// ```
+    pub fn find_many(
+        &mut self,
+        text: Text<'_>,
+        start: &mut usize,
+        ranges: &mut [TextRange],
+        width: usize,
+        found: &mut usize,
+    ) -> Result<(), Error>
+        requires kind { IsOfItsKind text.entry }
+        requires start { (place : ℕ) × Begins (reading_of_text text.entry) start.old place }
+        requires width { 0 < width }
+        ensures found { (t : Table) → (o : Options) → (p : Pattern) → StandsIn text.entry (arc_value self.old.regex) t o p →
+            (place : ℕ) → Begins (reading_of_text text.entry) start.old place →
+            OnOk result (FoundAsManyAsFit (reading_of_text text.entry) (match_list t o p (reading_of_text text.entry).points)
+            (length (names_of_regex (arc_value self.old.regex))) width place found.new start.new ranges.new) }
+        ensures before { (t : Table) → (o : Options) → (p : Pattern) → StandsIn text.entry (arc_value self.old.regex) t o p →
+            (place : ℕ) → Begins (reading_of_text text.entry) start.old place →
+            FoundMany (reading_of_text text.entry) (match_list t o p (reading_of_text text.entry).points)
+            (length (names_of_regex (arc_value self.old.regex))) width place found.new start.new ranges.new }
+        ensures kept { arc_value self.new.regex ≡ arc_value self.old.regex }
+        ensures refused { IsOkUnless result Error.OutOfMemory }
+    {
+        *found = 0;
+        let room = ranges.len() / width;
+        while *found < room {
+            let at = *found * width;
+            let shown = &mut ranges[at..at + width];
+            if self.find(text, *start, shown)? == 0 {
+                *start = usize::MAX;
+                return Ok(());
+            }
+            *start = text.start_behind(shown[0]);
+            *found += 1;
+        }
+        Ok(())
     }
 
     /// Shows the ranges of the match that stand in the slots, if one was found, and tells how many it has.

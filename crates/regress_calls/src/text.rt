@@ -5,6 +5,7 @@ ghost use Rattle.regress_meaning.specs.Offsets.{Begins};
 ghost use Rattle.regress_calls.specs.Texts.{reading_of_text};
 
 use crate::call_error::CallError;
+use crate::text_range::TextRange;
 use regress::{is_start, is_unit_start};
 
 /// A text to be searched, of one of four kinds.
@@ -49,5 +50,25 @@ impl Text<'_> {
             Text::Utf16(units) => is_unit_start(units, start),
             Text::Ucs2(_) => true,
         }
+    }
+
+    /// How many bytes or units it has.
+    fn len(&self) -> usize {
+        match self {
+            Text::Utf8(text) | Text::Ascii(text) => text.len(),
+            Text::Utf16(units) | Text::Ucs2(units) => units.len(),
+        }
+    }
+
+    /// Where a search goes on behind a match ("AdvanceStringIndex"): at its end, and where it is empty, at the next start.
+    pub(crate) fn start_behind(&self, found: TextRange) -> usize {
+        if found.start != found.end {
+            return found.end;
+        }
+        let mut start = found.end.saturating_add(1);
+        while !self.is_start(start) && start < self.len() {
+            start += 1;
+        }
+        start
     }
 }
