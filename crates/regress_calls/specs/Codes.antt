@@ -1,5 +1,5 @@
 -- The numbers of errors, and what calls answer as numbers.
-use Rattle.std.specs.Prelude.{ℕ, ℤ, pos, negsuc, List, [], ◌∷◌, Option, Some, None, Result, Ok, Err, slice_get}
+use Rattle.std.specs.Prelude.{ℕ, ℤ, Bool, true, false, pos, negsuc, List, [], ◌∷◌, Option, Some, None, Result, Ok, Err, slice_get}
 use Rattle.regress_front_core.specs.declared.error.Error.{Error}
 use Rattle.regress_front_core.specs.declared.error.Error.TheVariants as pattern
 use Rattle.regress_front_core.specs.declared.script_flags.FlagError.{FlagError}
@@ -53,6 +53,17 @@ of_table_error tables.OutOfMemory = OutOfMemory
 abbrev pub code_of : Result ℕ CallError → ℤ
 code_of (Ok n) = pos n
 code_of (Err e) = negsuc (number_of e)
+
+-- the same of a call that tells whether something holds
+abbrev pub truth_code : Result Bool CallError → ℤ
+truth_code (Ok true) = pos 1
+truth_code (Ok false) = pos 0
+truth_code (Err e) = negsuc (number_of e)
+
+-- the same of a call that only does something
+abbrev pub done_code : Result Unit CallError → ℤ
+done_code (Ok u) = pos 0
+done_code (Err e) = negsuc (number_of e)
 
 -- the fact holds of the count, where a number is one
 abbrev pub IfCount : ℤ → (ℕ → Type 0) → Type 0

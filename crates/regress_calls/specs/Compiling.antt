@@ -1,5 +1,5 @@
 -- What is compiled, and why nothing is.
-use Rattle.std.specs.Prelude.{◌≡◌, ℕ, ◌⊎◌, List, Option, Some, chars}
+use Rattle.std.specs.Prelude.{◌≡◌, ℕ, List, Some, chars}
 use Rattle.std.specs.Str.{IsUtf8}
 use Rattle.regress_meaning.specs.Flags.{Options, options_of, is_unicode}
 use Rattle.regress_meaning.specs.Grammar.{Spells}
@@ -15,7 +15,7 @@ use Rattle.regress.specs.PatternUnits.{pattern_points}
 use Rattle.regress.specs.Refusing.{MayRefuseRegex}
 use Rattle.regress.specs.Standing.{StandsFor, StandsInUnits}
 use Rattle.regress_calls.specs.declared.call_error.CallError.{CallError}
-use Rattle.regress_calls.specs.declared.call_error.CallError.TheVariants.{OutOfMemory, NotUtf8}
+use Rattle.regress_calls.specs.declared.call_error.CallError.TheVariants.{NotUtf8}
 use Rattle.regress_calls.specs.declared.compiling.Source.{Source}
 use Rattle.regress_calls.specs.declared.compiling.Source.TheVariants.{Utf8, Units}
 use Rattle.regress_calls.specs.Codes.{of_error, of_flag_error}
@@ -27,10 +27,10 @@ abbrev pub points_of_source : Source → Options → List ℕ
 points_of_source (Utf8 text) o = chars text.now
 points_of_source (Units units) o = pattern_points (is_unicode o) units.now
 
--- A regex is compiled from a source: it stands for the pattern that the source spells within the limits, in texts and in units.
-pub record IsCompiled (source : Source) (t : Table) (o : Options) (r : Regex) : Type 0 where
+-- A regex is compiled from code points: it stands for the pattern that they spell within the limits, in texts and in units.
+pub record IsCompiled (points : List ℕ) (t : Table) (o : Options) (r : Regex) : Type 0 where
   pub pattern : Pattern
-  pub spelt : Spells t o (points_of_source source o) pattern
+  pub spelt : Spells t o points pattern
   pub within : WithinLimits pattern
   pub stands : StandsFor r t o pattern
   pub stands_in_units : StandsInUnits r t o pattern
@@ -39,13 +39,15 @@ pub record IsCompiled (source : Source) (t : Table) (o : Options) (r : Regex) : 
 abbrev pub MayRefuseFlags : List ℕ → CallError → Type 0
 MayRefuseFlags letters e = (f : FlagError) × (word_error (chars letters) ≡ Some f) × (e ≡ of_flag_error f)
 
--- why a pattern is not compiled with tables
-abbrev pub MayRefuseSource : Table → Options → Source → CallError → Type 0
-MayRefuseSource t o source e = (x : Error) × MayRefuseRegex t o (points_of_source source o) x × (e ≡ of_error x)
+-- why code points are not compiled with tables
+abbrev pub MayRefusePoints : Table → Options → List ℕ → CallError → Type 0
+MayRefusePoints t o points e = (x : Error) × MayRefuseRegex t o points x × (e ≡ of_error x)
 
--- Why nothing is compiled: no tables are held, or can be shared; the letters are not UTF-8, or no flags; or the pattern is refused.
-data pub MayRefuseCompile (c : Content) (source : Source) (letters : List ℕ) (e : CallError) : Type 0 where
-  tables : MayRefuseTables c e → MayRefuseCompile c source letters e
-  bytes : e ≡ NotUtf8 → ¬ (IsUtf8 letters) → MayRefuseCompile c source letters e
-  flags : MayRefuseFlags letters e → MayRefuseCompile c source letters e
-  pattern : (ps : TableParts) → c ≡ OfTables ps → MayRefuseSource (table_of ps) (options_of (chars letters)) source e → MayRefuseCompile c source letters e
+-- Why nothing is compiled: no tables are held, or can be shared; the letters are not UTF-8, or no flags; or the pattern is refused,
+-- whose code points may depend on the flags.
+data pub MayRefuseCompile (c : Content) (points : Options → List ℕ) (letters : List ℕ) (e : CallError) : Type 0 where
+  tables : MayRefuseTables c e → MayRefuseCompile c points letters e
+  bytes : e ≡ NotUtf8 → ¬ (IsUtf8 letters) → MayRefuseCompile c points letters e
+  flags : MayRefuseFlags letters e → MayRefuseCompile c points letters e
+  pattern : (ps : TableParts) → c ≡ OfTables ps → MayRefusePoints (table_of ps) (options_of (chars letters)) (points (options_of (chars letters))) e
+      → MayRefuseCompile c points letters e

@@ -1,12 +1,13 @@
 //! Patterns that are compiled for a caller.
 ghost use Rattle.std.specs.Prelude.{◌≡◌, IfOk, IfErr, OnOk, OnErr, chars};
-ghost use Rattle.regress_meaning.specs.Flags.{Options, options_of};
+ghost use Rattle.regress_meaning.specs.Flags.{options_of};
 ghost use Rattle.regress_meaning.specs.TableParts.{TableParts as Parts, table_of};
 ghost use Rattle.regress_front.specs.FlagWords.{options};
 ghost use Rattle.regress_front.specs.TableViews.{table};
 ghost use Rattle.regress.specs.declared.api.Regex.{Regex as RegexValue};
 ghost use Rattle.regress.specs.Refusing.{MayRefuseRegex};
-ghost use Rattle.regress_calls.specs.Compiling.{IsCompiled, MayRefuseFlags, MayRefuseCompile, points_of_source};
+ghost use Rattle.regress_calls.specs.Codes.{of_error};
+ghost use Rattle.regress_calls.specs.Compiling.{IsCompiled, MayRefuseFlags, MayRefuseCompile, MayRefusePoints, points_of_source};
 ghost use Rattle.regress_calls.specs.Handles.{OfPattern, OfTables, content};
 
 use crate::call_error::CallError;
@@ -97,7 +98,7 @@ fn read_flags(letters: &str) -> Result<Flags, Refusal>
 impl Source<'_> {
     /// Compiles it.
     fn compile(&self, alloc: Global, flags: Flags, tables: &Tables) -> Result<Regex, Error>
-        ensures compiled { IfOk result (λ r. IsCompiled self.now (table tables.now) (options flags) r) }
+        ensures compiled { IfOk result (λ r. IsCompiled (points_of_source self.now (options flags)) (table tables.now) (options flags) r) }
         ensures refused { IfErr result (MayRefuseRegex (table tables.now) (options flags) (points_of_source self.now (options flags))) }
     {
         match self {
@@ -151,8 +152,8 @@ fn compiled(
     flags: Flags,
     tables: &Tables,
 ) -> Result<Box<Held>, Refusal>
-    ensures compiled { IfOk result (λ held. (r : RegexValue) × (content (Some held.value) ≡ OfPattern r) × IsCompiled source.now (table tables.now) (options flags) r) }
-    ensures refused { IfErr result (λ e. (x : ErrorValue) × MayRefuseRegex (table tables.now) (options flags) (points_of_source source.now (options flags)) x × (e.error ≡ of_error x)) }
+    ensures compiled { IfOk result (λ held. (r : RegexValue) × (content (Some held.value) ≡ OfPattern r) × IsCompiled (points_of_source source.now (options flags)) (table tables.now) (options flags) r) }
+    ensures refused { IfErr result (λ e. MayRefusePoints (table tables.now) (options flags) (points_of_source source.now (options flags)) e.error) }
 {
     match source.compile(alloc, flags, tables) {
         Ok(regex) => Ok(boxed(alloc, regex)?),
@@ -183,9 +184,9 @@ pub fn compile(
     out: &mut Slot,
 ) -> Result<(), Refusal>
     ensures compiled { (ps : Parts) → content tables.old.held ≡ OfTables ps →
-        OnOk result ((r : RegexValue) × (content out.new.held ≡ OfPattern r) × IsCompiled source.entry (table_of ps) (options_of (chars letters.now)) r) }
+        OnOk result ((r : RegexValue) × (content out.new.held ≡ OfPattern r) × IsCompiled (points_of_source source.entry (options_of (chars letters.now))) (table_of ps) (options_of (chars letters.now)) r) }
     ensures kept { content tables.new.held ≡ content tables.old.held }
-    ensures refused { IfErr result (λ e. MayRefuseCompile (content tables.old.held) source.entry letters.now e.error) }
+    ensures refused { IfErr result (λ e. MayRefuseCompile (content tables.old.held) (points_of_source source.entry) letters.now e.error) }
     ensures untouched { OnErr result (content out.new.held ≡ content out.old.held) }
 {
     let known = tables_in(alloc, tables)?;

@@ -1,0 +1,59 @@
+//! Exports that compile patterns.
+ghost use Rattle.std.specs.Prelude.{◌≡◌, chars};
+ghost use Rattle.regress_meaning.specs.Flags.{is_unicode, options_of};
+ghost use Rattle.regress_meaning.specs.TableParts.{TableParts as Parts, table_of};
+ghost use Rattle.regress.specs.PatternUnits.{pattern_points};
+ghost use Rattle.regress.specs.declared.api.Regex.{Regex as RegexValue};
+ghost use Rattle.regress_calls.specs.Codes.{IfCount, IfError};
+ghost use Rattle.regress_calls.specs.Compiling.{IsCompiled, MayRefuseCompile};
+ghost use Rattle.regress_calls.specs.Handles.{OfPattern, OfTables, content};
+ghost use Rattle.regress_c.specs.Compiled.{MayRefuseText};
+
+use crate::pattern_error::PatternError;
+use regress_calls::{Refusal, Slot, Source, compile, utf8};
+use std::alloc::Global;
+
+/// Compiles a pattern that is given in UTF-8.
+#[unsafe(no_mangle)]
+pub extern "C" fn regress_raw_compile(
+    alloc: Global,
+    pattern: &[u8],
+    flags: &[u8],
+    tables: &mut Slot,
+    out: &mut Slot,
+    error: &mut PatternError,
+) -> i32
+    ensures compiled { (ps : Parts) → content tables.old.held ≡ OfTables ps →
+        IfCount result (λ _. (r : RegexValue) × (content out.new.held ≡ OfPattern r) × IsCompiled (chars pattern.now) (table_of ps) (options_of (chars flags.now)) r) }
+    ensures kept { content tables.new.held ≡ content tables.old.held }
+    ensures refused { IfError result (MayRefuseText (content tables.old.held) pattern.now flags.now) }
+    ensures told { error.new.code ≡ result }
+    ensures untouched { IfError result (λ _. content out.new.held ≡ content out.old.held) }
+{
+    let done = match utf8(pattern) {
+        Ok(text) => compile(alloc, Source::Utf8(text), flags, tables, out),
+        Err(refused) => Err(Refusal::from(refused)),
+    };
+    error.tell(done)
+}
+
+/// Compiles a pattern that is given in 16-bit units.
+#[unsafe(no_mangle)]
+pub extern "C" fn regress_raw_compile_units(
+    alloc: Global,
+    pattern: &[u16],
+    flags: &[u8],
+    tables: &mut Slot,
+    out: &mut Slot,
+    error: &mut PatternError,
+) -> i32
+    ensures compiled { (ps : Parts) → content tables.old.held ≡ OfTables ps →
+        IfCount result (λ _. (r : RegexValue) × (content out.new.held ≡ OfPattern r) × IsCompiled (pattern_points (is_unicode (options_of (chars flags.now))) pattern.now) (table_of ps) (options_of (chars flags.now)) r) }
+    ensures kept { content tables.new.held ≡ content tables.old.held }
+    ensures refused { IfError result (MayRefuseCompile (content tables.old.held) (λ o. pattern_points (is_unicode o) pattern.now) flags.now) }
+    ensures told { error.new.code ≡ result }
+    ensures untouched { IfError result (λ _. content out.new.held ≡ content out.old.held) }
+{
+    let done = compile(alloc, Source::Units(pattern), flags, tables, out);
+    error.tell(done)
+}
