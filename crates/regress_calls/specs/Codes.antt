@@ -4,8 +4,8 @@ use Rattle.regress_front_core.specs.declared.error.Error.{Error}
 use Rattle.regress_front_core.specs.declared.error.Error.TheVariants as pattern
 use Rattle.regress_front_core.specs.declared.script_flags.FlagError.{FlagError}
 use Rattle.regress_front_core.specs.declared.script_flags.FlagError.TheVariants as flag
-use Rattle.regress_front_tables.specs.declared.tables.TableError.{TableError}
-use Rattle.regress_front_tables.specs.declared.tables.TableError.TheVariants as tables
+use Rattle.regress_front_tables.specs.declared.tables.law.TableError.{TableError}
+use Rattle.regress_front_tables.specs.declared.tables.law.TableError.TheVariants as tables
 use Rattle.regress_calls.specs.declared.call_error.CallError.{CallError}
 use Rattle.regress_calls.specs.declared.call_error.CallError.TheVariants.{OutOfMemory, WrongHandle, Null, NotUtf8, BadStart, NoRoom, Syntax, TooDeep, TooManyGroups, TooManyLoops, TooLarge, UnknownFlag, RepeatedFlag, BothUnicodeFlags, NoGroup, BrokenTables, SameHandle}
 

@@ -1,5 +1,5 @@
 //! What is asked of the pattern that a handle holds, and texts that are copied to a caller.
-ghost use Rattle.std.specs.Prelude.{◌≡◌, ℕ, List, IfOk, IfErr, OnErr, chars, encode_utf8_all, length, map, slice_set, string_bytes, take};
+ghost use Rattle.std.specs.Prelude.{◌≡◌, ℕ, List, IfOk, IfErr, OnErr, chars, encode_utf8_all, length, map, take};
 ghost use Rattle.regress_meaning.specs.Flags.{Options};
 ghost use Rattle.regress_meaning.specs.Literal.{escaped_text};
 ghost use Rattle.regress_meaning.specs.Matches.{match_list};
@@ -17,9 +17,10 @@ ghost use Rattle.regress_calls.specs.Refusals.{MayRefuseCopy, MayRefuseCopyOf, M
 
 use crate::buffer::copy_text;
 use crate::call_error::{CallError, text_of_code};
+use crate::numbers::write_numbers;
 use crate::sharing::pattern_in;
 use crate::slot::Slot;
-use regress::{CaptureGroupName, ReplacementSyntax};
+use regress::ReplacementSyntax;
 use std::alloc::Global;
 
 /// How many capturing groups the pattern has that a handle holds.
@@ -68,33 +69,6 @@ pub fn group_name(
     match names.get(number - 1) {
         Some(name) => copy_text(name.as_bytes(), buffer, written),
         None => Err(CallError::NoGroup),
-    }
-}
-
-/// Writes the numbers of the groups that have a name, in order, as many as there is room for, and tells how many have it. No group
-/// has the empty name.
-fn write_numbers(names: &[CaptureGroupName], name: &str, numbers: &mut [usize]) -> usize
-    ensures { AreWritten (map string_bytes names.now) name.now numbers.old result numbers.new }
-{
-    if name.is_empty() {
-        return 0;
-    }
-    let mut count = 0;
-    for (k, other) in names.iter().enumerate() {
-        if other.as_str() == name {
-            write_number(numbers, count, k + 1);
-            count += 1;
-        }
-    }
-    count
-}
-
-/// Writes a number at a place, where there is room.
-fn write_number(numbers: &mut [usize], at: usize, number: usize)
-    ensures { numbers.new ≡ slice_set numbers.old at number }
-{
-    if at < numbers.len() {
-        numbers[at] = number;
     }
 }
 

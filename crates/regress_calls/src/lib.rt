@@ -9,6 +9,7 @@ mod compiling;
 mod finding;
 mod held;
 mod making;
+mod numbers;
 mod search;
 mod sharing;
 mod slot;
