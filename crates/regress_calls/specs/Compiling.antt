@@ -45,7 +45,7 @@ MayRefusePoints t o points e = (x : Error) × MayRefuseRegex t o points x × (e 
 
 -- Why nothing is compiled: no tables are held, or can be shared; the letters are not UTF-8, or no flags; or the pattern is refused,
 -- whose code points may depend on the flags.
-data pub MayRefuseCompile (c : Content) (points : Options → List ℕ) (letters : List ℕ) (e : CallError) : Type 0 where
+pub data MayRefuseCompile (c : Content) (points : Options → List ℕ) (letters : List ℕ) (e : CallError) : Type 0 where
   tables : MayRefuseTables c e → MayRefuseCompile c points letters e
   bytes : e ≡ NotUtf8 → ¬ (IsUtf8 letters) → MayRefuseCompile c points letters e
   flags : MayRefuseFlags letters e → MayRefuseCompile c points letters e

@@ -8,7 +8,7 @@ use Rattle.regress_calls.specs.declared.held.Held.{Held}
 use Rattle.regress_calls.specs.declared.held.Held.TheVariants as held
 
 -- What a handle holds: nothing, tables with these parts, a compiled pattern, or a search of one.
-data pub Content : Type 0 where
+pub data Content : Type 0 where
   Nothing : Content
   OfTables : TableParts → Content
   OfPattern : Regex → Content

@@ -2,10 +2,13 @@
 use Rattle.std.specs.Prelude.{◌≡◌, ◌<◌, ◌⊎◌, ℕ, length}
 use Rattle.regress_meaning.specs.Offsets.{Reading, Begins}
 use Rattle.regress_meaning.specs.TableParts.{TableParts}
+use Rattle.regress_front_tables.specs.declared.tables.law.TableError.{TableError}
+use Rattle.regress_unicode.specs.Unicode.{IsRefusal}
 use Rattle.regress.specs.declared.api.Regex.{Regex}
 use Rattle.regress.specs.Standing.{names_of_regex}
 use Rattle.regress_calls.specs.declared.call_error.CallError.{CallError}
-use Rattle.regress_calls.specs.declared.call_error.CallError.TheVariants.{OutOfMemory, WrongHandle, BadStart, NoRoom, NoGroup, TooManyGroups, BrokenTables}
+use Rattle.regress_calls.specs.declared.call_error.CallError.TheVariants.{OutOfMemory, WrongHandle, BadStart, NoRoom, NoGroup, TooManyGroups}
+use Rattle.regress_calls.specs.Codes.{of_table_error}
 use Rattle.regress_calls.specs.Handles.{Content, Nothing, OfTables, OfPattern, OfSearch}
 
 -- the handle holds no search
@@ -64,11 +67,9 @@ MayRefuseSharing c WrongHandle = HoldsNoTables c × HoldsNoPattern c
 MayRefuseSharing c OutOfMemory = Unit {0}
 MayRefuseSharing c _ = ⊥
 
--- Why tables are not made: memory is refused, or Unicode's data breaks a law.
+-- Why Unicode's tables are not made: memory is refused, or Unicode's data breaks a law.
 abbrev pub MayRefuseMaking : CallError → Type 0
-MayRefuseMaking OutOfMemory = Unit {0}
-MayRefuseMaking BrokenTables = Unit {0}
-MayRefuseMaking _ = ⊥
+MayRefuseMaking e = (x : TableError) × IsRefusal x × (e ≡ of_table_error x)
 
 -- Why a text is not copied: there is no room, or memory is refused.
 abbrev pub MayRefuseCopy : CallError → Type 0

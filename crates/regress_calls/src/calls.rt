@@ -38,7 +38,7 @@ pub fn find(
     start: usize,
     ranges: &mut [TextRange],
 ) -> Result<usize, CallError>
-    requires { IsOfItsKind text.entry }
+    requires { IsOfItsKind text }
     ensures found { (r : RegexValue) → content slot.old.held ≡ OfSearch r → (t : Table) → (o : Options) → (p : Pattern) → StandsIn text.entry r t o p →
         (place : ℕ) → Begins (reading_of_text text.entry) start place →
         IfOk result (λ count. IsAnswerTo (length (names_of_regex r))
@@ -69,7 +69,7 @@ pub fn match_at(
     start: usize,
     ranges: &mut [TextRange],
 ) -> Result<usize, CallError>
-    requires { IsOfItsKind text.entry }
+    requires { IsOfItsKind text }
     ensures found { (r : RegexValue) → content slot.old.held ≡ OfSearch r → (t : Table) → (o : Options) → (p : Pattern) → StandsIn text.entry r t o p →
         (place : ℕ) → Begins (reading_of_text text.entry) start place →
         IfOk result (λ count. IsAnswerTo (length (names_of_regex r))
@@ -101,7 +101,7 @@ pub fn is_match(
     text: Text<'_>,
     start: usize,
 ) -> Result<bool, CallError>
-    requires { IsOfItsKind text.entry }
+    requires { IsOfItsKind text }
     ensures found { (r : RegexValue) → content slot.old.held ≡ OfSearch r → (t : Table) → (o : Options) → (p : Pattern) → StandsIn text.entry r t o p →
         (place : ℕ) → Begins (reading_of_text text.entry) start place →
         IfOk result (λ found. IsTrue found ↔ (match_list t o p (reading_of_text text.entry).points place ≢ [])) }
@@ -124,7 +124,7 @@ pub fn find_many(
     width: usize,
     found: &mut usize,
 ) -> Result<(), CallError>
-    requires { IsOfItsKind text.entry }
+    requires { IsOfItsKind text }
     ensures found { (r : RegexValue) → content slot.old.held ≡ OfSearch r → (t : Table) → (o : Options) → (p : Pattern) → StandsIn text.entry r t o p →
         (place : ℕ) → Begins (reading_of_text text.entry) start.old place →
         OnOk result (FoundAsManyAsFit (reading_of_text text.entry) (match_list t o p (reading_of_text text.entry).points)

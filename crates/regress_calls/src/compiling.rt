@@ -15,7 +15,7 @@ use crate::held::Held;
 use crate::sharing::tables_in;
 use crate::slot::Slot;
 use crate::text::utf8;
-use regress::{Error, FlagError, Flags, Regex, SyntaxError, Tables, syntax_error};
+use regress::{Error, FlagError, Flags, Regex, Tables, syntax_error, syntax_error_in_units};
 use std::alloc::{AllocError, Global};
 use std::sync::Arc;
 
@@ -107,22 +107,20 @@ impl Source<'_> {
         }
     }
 
-    /// Where reading it stops, if it is no pattern.
-    fn syntax_error(
-        &self,
-        alloc: Global,
-        flags: Flags,
-        tables: &Tables,
-    ) -> Result<Option<SyntaxError>, Error> {
-        match self {
-            Source::Utf8(text) => syntax_error(alloc, text, flags, tables),
-            Source::Units(_) => Ok(None),
-        }
+    /// Where reading it stops, if it is no pattern: in bytes of a text, and in units.
+    fn place(&self, alloc: Global, flags: Flags, tables: &Tables) -> Result<usize, Error> {
+        let found = match self {
+            Source::Utf8(text) => syntax_error(alloc, text, flags, tables)?.map(|found| found.offset),
+            Source::Units(units) => {
+                syntax_error_in_units(alloc, units, flags, tables)?.map(|found| found.unit_offset)
+            }
+        };
+        Ok(found.unwrap_or(0))
     }
 }
 
 /// The refusal of a pattern that was not compiled, with its place. Where memory is refused while that is sought, it is 0.
-fn refusal(
+fn refused(
     alloc: Global,
     source: &Source<'_>,
     flags: Flags,
@@ -134,13 +132,9 @@ fn refusal(
     let Error::Syntax { text } = error else {
         return Refusal::new(CallError::from(error), 0);
     };
-    let place = match source.syntax_error(alloc, flags, tables) {
-        Ok(Some(found)) => found.offset,
-        _ => 0,
-    };
     Refusal {
         error: CallError::Syntax,
-        place,
+        place: source.place(alloc, flags, tables).unwrap_or(0),
         text,
     }
 }
@@ -157,7 +151,7 @@ fn compiled(
 {
     match source.compile(alloc, flags, tables) {
         Ok(regex) => Ok(boxed(alloc, regex)?),
-        Err(error) => Err(refusal(alloc, source, flags, tables, error)),
+        Err(error) => Err(refused(alloc, source, flags, tables, error)),
     }
 }
 

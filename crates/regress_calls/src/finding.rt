@@ -45,8 +45,8 @@ pub(crate) fn find_into(
     start: usize,
     slots: &mut [Option<Range>],
 ) -> Result<Option<Range>, Error>
-    requires kind { IsOfItsKind text.entry }
-    requires start { (place : ℕ) × Begins (reading_of_text text.entry) start place }
+    requires kind { IsOfItsKind text }
+    requires start { (place : ℕ) × Begins (reading_of_text text) start place }
     ensures found { (t : Table) → (o : Options) → (p : Pattern) → StandsIn text.entry regex.now t o p →
         (place : ℕ) → Begins (reading_of_text text.entry) start place →
         IfOk result (λ found. IsInSlots (option_map (told (reading_of_text text.entry)) (slice_get (match_list t o p (reading_of_text text.entry).points place) 0)) slots.old found slots.new) }
@@ -69,8 +69,8 @@ pub(crate) fn match_into(
     start: usize,
     slots: &mut [Option<Range>],
 ) -> Result<Option<Range>, Error>
-    requires kind { IsOfItsKind text.entry }
-    requires start { (place : ℕ) × Begins (reading_of_text text.entry) start place }
+    requires kind { IsOfItsKind text }
+    requires start { (place : ℕ) × Begins (reading_of_text text) start place }
     ensures found { (t : Table) → (o : Options) → (p : Pattern) → StandsIn text.entry regex.now t o p →
         (place : ℕ) → Begins (reading_of_text text.entry) start place →
         IfOk result (λ found. IsInSlots (option_map (told (reading_of_text text.entry)) (outcome_at t o p (reading_of_text text.entry).points place)) slots.old found slots.new) }

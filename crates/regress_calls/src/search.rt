@@ -74,8 +74,8 @@ impl Search {
         start: usize,
         ranges: &mut [TextRange],
     ) -> Result<usize, Error>
-        requires kind { IsOfItsKind text.entry }
-        requires start { (place : ℕ) × Begins (reading_of_text text.entry) start place }
+        requires kind { IsOfItsKind text }
+        requires start { (place : ℕ) × Begins (reading_of_text text) start place }
         ensures found { (t : Table) → (o : Options) → (p : Pattern) → StandsIn text.entry (arc_value self.old.regex) t o p →
             (place : ℕ) → Begins (reading_of_text text.entry) start place →
             IfOk result (λ count. IsAnswerTo (length (names_of_regex (arc_value self.old.regex)))
@@ -101,8 +101,8 @@ impl Search {
         start: usize,
         ranges: &mut [TextRange],
     ) -> Result<usize, Error>
-        requires kind { IsOfItsKind text.entry }
-        requires start { (place : ℕ) × Begins (reading_of_text text.entry) start place }
+        requires kind { IsOfItsKind text }
+        requires start { (place : ℕ) × Begins (reading_of_text text) start place }
         ensures found { (t : Table) → (o : Options) → (p : Pattern) → StandsIn text.entry (arc_value self.old.regex) t o p →
             (place : ℕ) → Begins (reading_of_text text.entry) start place →
             IfOk result (λ count. IsAnswerTo (length (names_of_regex (arc_value self.old.regex)))
@@ -135,8 +135,8 @@ impl Search {
         width: usize,
         found: &mut usize,
     ) -> Result<(), Error>
-        requires kind { IsOfItsKind text.entry }
-        requires start { (place : ℕ) × Begins (reading_of_text text.entry) start.old place }
+        requires kind { IsOfItsKind text }
+        requires start { (place : ℕ) × Begins (reading_of_text text) start.old place }
         requires width { 0 < width }
         ensures found { (t : Table) → (o : Options) → (p : Pattern) → StandsIn text.entry (arc_value self.old.regex) t o p →
             (place : ℕ) → Begins (reading_of_text text.entry) start.old place →

@@ -1,6 +1,8 @@
 //! What a caller in C holds of the library.
 ghost use Rattle.std.specs.Prelude.{◌≡◌, Option, None, Some, option_map};
 ghost use Rattle.regress_calls.specs.Slots.{slot_owns};
+ghost use Rattle.std.specs.Coded.{coded_option};
+ghost use Rattle.regress_calls.specs.contracts.held.Held.{the_row as held_row};
 ghost use Rattle.regress_calls.specs.declared.held.Held.{Held as HeldValue};
 
 mod parts;
@@ -15,7 +17,7 @@ use std::ptr::null_mut;
 #[repr(C)]
 pub struct Slot {
     ptr: *mut u8,
-    pub ghost held: { Option HeldValue },
+    pub ghost held: { Option HeldValue } by { coded_option held_row.coded },
 }
 
 impl Model for Slot {
