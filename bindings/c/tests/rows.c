@@ -2,7 +2,7 @@
  *
  *   rows small|unicode < rows
  *
- * It writes a line for each answer that differs from its row, and then `N rows, K wrong, S not tried`. Not tried are rows of works
+ * It writes a line for each answer that differs from its row, and then `N rows, S not tried` and `N passed, M failed`. Not tried are rows of works
  * that the interface does not have (splitting, and replacing in the library's own language), those with flags that no script has,
  * and patterns with halves of pairs that UTF-8 can't hold. */
 #include <regress.h>
@@ -13,7 +13,7 @@
 
 enum { FIELDS = 8, GROUPS = 65536, LIST = 1 << 22 };
 
-static unsigned long line_number, rows, wrong, skipped;
+static unsigned long line_number, rows, answers, wrong, skipped;
 
 /* A text: its bytes, its 16-bit units, and what the bytes can't hold. */
 typedef struct {
@@ -33,10 +33,15 @@ static void *room_for(size_t size) {
   return room;
 }
 
-static void fails(const char *road, const char *expected, const char *told) {
+/* Counts an answer, and tells of a wrong one. */
+static void tell(int is_right, const char *road, const char *expected, const char *told) {
+  answers++;
+  if (is_right) return;
   wrong++;
   printf("line %lu, %s: expected %s, told %s\n", line_number, road, expected, told);
 }
+
+static void fails(const char *road, const char *expected, const char *told) { tell(0, road, expected, told); }
 
 static void push_point(text_of_field *text, uint32_t point) {
   if (point >= 0xD800 && point < 0xE000) text->has_half = 1;
@@ -199,24 +204,23 @@ static void try_kind(kind k, regress_search *search, size_t width, const text_of
   while ((code = find_many(k, search, text, &next, ranges, 3 * width, width, &found)) == REGRESS_OK && found > 0) {
     for (size_t m = 0; m < found; m++) to = push_match(to, list, ranges + m * width, width);
   }
-  if (code != REGRESS_OK || strcmp(list, expected) != 0) fails(names[k], expected, list);
+  tell(code == REGRESS_OK && strcmp(list, expected) == 0, names[k], expected, list);
   code = find(k, search, text, start, ranges, width);
   if (code > 0) first = ranges[0].start;
   to = list;
   *to = 0;
   if (code > 0) push_match(to, list, ranges, width);
   size_t length = strcspn(expected, "|");
-  if (code < 0 || (*expected == 0) != (code == 0) || (code > 0 && (strlen(list) != length || memcmp(list, expected, length) != 0)))
-    fails("find", expected, list);
+  int is_first = strlen(list) == length && memcmp(list, expected, length) == 0;
+  tell(code >= 0 && (code > 0) == (*expected != 0) && is_first, "find", expected, list);
   code = is_match(k, search, text, start);
-  if (code != (*expected == 0 ? 0 : 1)) fails("is_match", expected, code == 1 ? "1" : code == 0 ? "0" : "an error");
+  tell(code == (*expected != 0), "is_match", expected, code == 1 ? "1" : code == 0 ? "0" : "an error");
   code = match_at(k, search, text, start, ranges, width);
   to = list;
   *to = 0;
   if (code > 0) push_match(to, list, ranges, width);
-  if (code < 0 || (code > 0) != (first == start) ||
-      (code > 0 && (strlen(list) != length || memcmp(list, expected, length) != 0)))
-    fails("match_at", expected, list);
+  is_first = strlen(list) == length && memcmp(list, expected, length) == 0;
+  tell(code >= 0 && (code > 0) == (first == start) && (code == 0 || is_first), "match_at", expected, list);
 }
 
 static int is_script_flags(const char *flags) {
@@ -239,12 +243,10 @@ static const char *name_of(int32_t code) {
 
 static void try_refusal(const char *expected, int32_t code, const regress_error *error, size_t length) {
   size_t name = strcspn(expected, " ");
-  if (strncmp(name_of(code), expected, name) != 0 || name_of(code)[name] != 0 || error->code != code)
-    fails("refusal", expected, name_of(code));
-  else if (expected[name] == ' ' && strcmp(expected + name + 1, error->text) != 0)
-    fails("refusal", expected, error->text);
-  else if (error->place > length)
-    fails("place", expected, "past the end");
+  int is_named = strncmp(name_of(code), expected, name) == 0 && name_of(code)[name] == 0 && error->code == code;
+  tell(is_named, "refusal", expected, name_of(code));
+  tell(expected[name] != ' ' || strcmp(expected + name + 1, error->text) == 0, "text", expected, error->text);
+  tell(error->place <= length, "place", expected, "past the end");
 }
 
 /* Tries a row of matches over one pattern. */
@@ -364,7 +366,7 @@ static void try_name_row(regress_tables *tables, char **field, int count) {
     size_t groups = (size_t)regress_group_count(&pattern);
     *told = 0;
     if (regress_find(&search, text.bytes, text.length, 0, ranges, groups + 1) > 0) tell_names(&pattern, ranges, groups, told);
-    if (strlen(told) != expected.length || memcmp(told, expected.bytes, expected.length) != 0) fails("names", field[3], told);
+    tell(strlen(told) == expected.length && memcmp(told, expected.bytes, expected.length) == 0, "names", field[3], told);
   }
   regress_free(&search);
   regress_free(&pattern);
@@ -378,8 +380,8 @@ static void try_escape_row(char **field, int count) {
   char *buffer = room_for(text.length * 2);
   size_t written = 0;
   int32_t code = regress_escape(text.bytes, text.length, buffer, text.length * 2 + 1, &written);
-  if (code != REGRESS_OK || written != expected.length || memcmp(buffer, expected.bytes, written) != 0)
-    fails("escape", expected.bytes, buffer);
+  int is_right = code == REGRESS_OK && written == expected.length && memcmp(buffer, expected.bytes, written) == 0;
+  tell(is_right, "escape", field[1], "another pattern");
   free(buffer);
   free_text(&text);
   free_text(&expected);
@@ -423,6 +425,6 @@ int main(int count, char **words) {
     if (*line != '#') try_row(&tables, line);
   }
   regress_free(&tables);
-  printf("%lu rows, %lu wrong, %lu not tried\n", rows, wrong, skipped);
+  printf("%lu rows, %lu not tried\n%lu passed, %lu failed\n", rows, skipped, answers - wrong, wrong);
   return wrong == 0 ? 0 : 1;
 }

@@ -13,7 +13,7 @@ use crate::held::Held;
 use crate::search::Search;
 use crate::sharing::pattern_in;
 use crate::slot::Slot;
-use regress::{TableError, Tables};
+use regress::{Regex, Tables};
 use regress_unicode::unicode_tables;
 use std::alloc::Global;
 use std::sync::Arc;
@@ -70,6 +70,16 @@ pub fn share(alloc: Global, slot: &mut Slot, out: &mut Slot) -> Result<(), CallE
     Ok(())
 }
 
+/// A search of a pattern, as it is held.
+fn searching(alloc: Global, regex: Arc<Regex>) -> Result<Box<Held>, CallError>
+    ensures made { IfOk result (λ held. content (Some held.value) ≡ OfSearch (arc_value regex)) }
+    ensures refused { IfErr result (MayRefuseNewSearch (OfPattern (arc_value regex))) }
+{
+    let search = Search::new(alloc, regex)?;
+    let held = Box::new(alloc, Held::Search(search))?;
+    Ok(held)
+}
+
 /// Puts a search of the pattern that a handle holds into another. Errs with `WrongHandle` where it holds none, and with
 /// `OutOfMemory`; with `TooManyGroups` only where a pattern had more than 65535 groups, and no compiled one has.
 pub fn put_search(alloc: Global, pattern: &mut Slot, out: &mut Slot) -> Result<(), CallError>
@@ -79,8 +89,7 @@ pub fn put_search(alloc: Global, pattern: &mut Slot, out: &mut Slot) -> Result<(
     ensures untouched { OnErr result (content out.new.held ≡ content out.old.held) }
 {
     let regex = pattern_in(alloc, pattern)?;
-    let search = Search::new(alloc, regex)?;
-    let held = Box::new(alloc, Held::Search(search))?;
+    let held = searching(alloc, regex)?;
     out.put(alloc, held);
     Ok(())
 }
