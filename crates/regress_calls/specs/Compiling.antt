@@ -46,8 +46,8 @@ MayRefusePoints t o points e = (x : Error) × MayRefuseRegex t o points x × (e 
 -- Why nothing is compiled: no tables are held, or can be shared; the letters are not UTF-8, or no flags; or the pattern is refused,
 -- whose code points may depend on the flags.
 pub data MayRefuseCompile (c : Content) (points : Options → List ℕ) (letters : List ℕ) (e : CallError) : Type 0 where
-  tables : MayRefuseTables c e → MayRefuseCompile c points letters e
-  bytes : e ≡ NotUtf8 → ¬ (IsUtf8 letters) → MayRefuseCompile c points letters e
-  flags : MayRefuseFlags letters e → MayRefuseCompile c points letters e
-  pattern : (ps : TableParts) → c ≡ OfTables ps → MayRefusePoints (table_of ps) (options_of (chars letters)) (points (options_of (chars letters))) e
+  of_tables : MayRefuseTables c e → MayRefuseCompile c points letters e
+  of_bytes : e ≡ NotUtf8 → ¬ (IsUtf8 letters) → MayRefuseCompile c points letters e
+  of_flags : MayRefuseFlags letters e → MayRefuseCompile c points letters e
+  of_pattern : (ps : TableParts) → c ≡ OfTables ps → MayRefusePoints (table_of ps) (options_of (chars letters)) (points (options_of (chars letters))) e
       → MayRefuseCompile c points letters e
