@@ -28,7 +28,7 @@ pub shows-more : (groups width : ℕ) (items : List Item) (i : Item) (xs ys : Li
     → ShowsItems groups width items xs → ShowsItem groups i ys → length ys ≡ width → length items * width + width ≤ length xs
     → ShowsItems groups width (items ++ i ∷ []) (put_mid (length items * width) width xs ys)
 shows-more groups width items i xs ys shown here long room k j e = elim (last_or_before items i j k e) [
-    inl before ↦
+  | inl before ↦
       let below : k < length items = slice_get_within items k j before in
       let ends : k * width + width ≤ length items * width = omega (arith, suc-mul k width, mul-le-mul_right {m = suc k} {n = length items} width (omega arith)) in
       subst (λ (part : List TextRange). ShowsItem groups j part)
@@ -36,7 +36,7 @@ shows-more groups width items i xs ys shown here long room k j e = elim (last_or
       (shown k j before)
   | inr (at, is) ↦
       let part : slice_range (put_mid (length items * width) width xs ys) (length items * width) (length items * width + width) ≡ ys
-            = between-put_mid (length items * width) width xs ys (length items * width + width) (omega arith) (omega (arith, long)) in
+      = between-put_mid (length items * width) width xs ys (length items * width + width) (omega arith) (omega (arith, long)) in
       subst (λ (n : ℕ). ShowsItem groups j (slice_range (put_mid (length items * width) width xs ys) (n * width) (n * width + width))) (sym at)
       (subst (λ (part : List TextRange). ShowsItem groups j part) (sym part) (subst (λ (m : Item). ShowsItem groups m ys) is here))
-  ]
+]

@@ -28,6 +28,31 @@ pub fn free(alloc: Global, slot: &mut Slot)
     drop(slot.take(alloc));
 }
 
+/// Finds the first match from `start` on, by the search that is held.
+fn find_held(
+    held: &mut Held,
+    text: Text<'_>,
+    start: usize,
+    ranges: &mut [TextRange],
+) -> Result<usize, CallError>
+    requires kind { IsOfItsKind text }
+    requires start { (place : ℕ) × Begins (reading_of_text text) start place }
+    ensures found { (r : RegexValue) → content (Some held.old) ≡ OfSearch r → (t : Table) → (o : Options) → (p : Pattern) → StandsIn text.entry r t o p →
+        (place : ℕ) → Begins (reading_of_text text.entry) start place →
+        IfOk result (λ count. IsAnswerTo (length (names_of_regex r))
+        (option_map (told (reading_of_text text.entry)) (slice_get (match_list t o p (reading_of_text text.entry).points place) 0))
+        ranges.old count ranges.new) }
+    ensures few { IfOk result (λ count. count ≤ 65536) }
+    ensures kept { content (Some held.new) ≡ content (Some held.old) }
+    ensures refused { IfErr result (MayRefuseSearch (content (Some held.old)) (reading_of_text text.entry) start) }
+    ensures untouched { OnErr result (ranges.new ≡ ranges.old) }
+{
+    match held {
+        Held::Search(search) => Ok(search.find(text, start, ranges)?),
+        _ => Err(CallError::WrongHandle),
+    }
+}
+
 /// Finds the first match in a text from `start` on, by the search that a handle holds, as `Search::find` does.
 ///
 /// Refused as `WrongHandle` where it holds no search, as `BadStart` where no search may begin there, and as `OutOfMemory`.
@@ -53,12 +78,34 @@ pub fn find(
         return Err(CallError::BadStart);
     }
     let mut held = slot.take(alloc).ok_or(CallError::WrongHandle)?;
-    let found = match &mut *held {
-        Held::Search(search) => search.find(text, start, ranges).map_err(CallError::from),
-        _ => Err(CallError::WrongHandle),
-    };
+    let found = find_held(&mut held, text, start, ranges);
     slot.put(alloc, held);
     found
+}
+
+/// Finds the match that begins at `start`, by the search that is held.
+fn match_at_held(
+    held: &mut Held,
+    text: Text<'_>,
+    start: usize,
+    ranges: &mut [TextRange],
+) -> Result<usize, CallError>
+    requires kind { IsOfItsKind text }
+    requires start { (place : ℕ) × Begins (reading_of_text text) start place }
+    ensures found { (r : RegexValue) → content (Some held.old) ≡ OfSearch r → (t : Table) → (o : Options) → (p : Pattern) → StandsIn text.entry r t o p →
+        (place : ℕ) → Begins (reading_of_text text.entry) start place →
+        IfOk result (λ count. IsAnswerTo (length (names_of_regex r))
+        (option_map (told (reading_of_text text.entry)) (outcome_at t o p (reading_of_text text.entry).points place))
+        ranges.old count ranges.new) }
+    ensures few { IfOk result (λ count. count ≤ 65536) }
+    ensures kept { content (Some held.new) ≡ content (Some held.old) }
+    ensures refused { IfErr result (MayRefuseSearch (content (Some held.old)) (reading_of_text text.entry) start) }
+    ensures untouched { OnErr result (ranges.new ≡ ranges.old) }
+{
+    match held {
+        Held::Search(search) => Ok(search.match_at(text, start, ranges)?),
+        _ => Err(CallError::WrongHandle),
+    }
 }
 
 /// Finds the match that begins at `start`, by the search that a handle holds, as `Search::match_at` does. Refused as `find` is.
@@ -84,12 +131,7 @@ pub fn match_at(
         return Err(CallError::BadStart);
     }
     let mut held = slot.take(alloc).ok_or(CallError::WrongHandle)?;
-    let found = match &mut *held {
-        Held::Search(search) => search
-            .match_at(text, start, ranges)
-            .map_err(CallError::from),
-        _ => Err(CallError::WrongHandle),
-    };
+    let found = match_at_held(&mut held, text, start, ranges);
     slot.put(alloc, held);
     found
 }

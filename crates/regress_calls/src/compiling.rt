@@ -110,7 +110,9 @@ impl Source<'_> {
     /// Where reading it stops, if it is no pattern: in bytes of a text, and in units.
     fn place(&self, alloc: Global, flags: Flags, tables: &Tables) -> Result<usize, Error> {
         let found = match self {
-            Source::Utf8(text) => syntax_error(alloc, text, flags, tables)?.map(|found| found.offset),
+            Source::Utf8(text) => syntax_error(alloc, text, flags, tables)?.map(
+                |found| found.offset,
+            ),
             Source::Units(units) => {
                 syntax_error_in_units(alloc, units, flags, tables)?.map(|found| found.unit_offset)
             }
@@ -185,7 +187,11 @@ pub fn compile(
 {
     let known = tables_in(alloc, tables)?;
     let flags = read_flags(utf8(letters)?)?;
-    let held = compiled(alloc, &source, flags, &known)?;
-    out.put(alloc, held);
-    Ok(())
+    match compiled(alloc, &source, flags, &known) {
+        Ok(held) => {
+            out.put(alloc, held);
+            Ok(())
+        }
+        Err(refused) => Err(refused),
+    }
 }
