@@ -21,6 +21,19 @@ fn what_is_asked_of_a_regex(rt: HostRuntime) -> Result<(), Fail> {
     Ok(())
 }
 
+#[test]
+fn debug_tells_a_regex_by_its_pattern_and_sizes(rt: HostRuntime) -> Result<(), Fail> {
+    let tables = Tables::small(rt.alloc())?;
+    let regex = compiled(rt.alloc(), "(a)|b", "i", &tables)?;
+    let told = format!(in rt.alloc(); "{regex:?}")?;
+    is_same(
+        rt.alloc(),
+        "Debug",
+        told.as_str(),
+        "Regex { source: \"(a)|b\", flags: Flags { icase: true, multiline: false, dot_all: false, no_opt: false, unicode: false, unicode_sets: false }, groups: 1, byte_insns: 7, unit_insns: 7 }",
+    )
+}
+
 /// A pattern that is given as code points, as it is shown.
 fn shown(alloc: Global, points: &[u32], tables: &Tables) -> Result<String, Fail> {
     if !regress::are_code_points(points) {

@@ -25,6 +25,8 @@ mod refusals;
 #[cfg(test)]
 mod sizes;
 #[cfg(test)]
+mod slots;
+#[cfg(test)]
 mod sticky;
 #[cfg(test)]
 mod tables;
@@ -34,3 +36,5 @@ mod templates;
 mod told;
 #[cfg(test)]
 mod units;
+#[cfg(test)]
+mod whole;

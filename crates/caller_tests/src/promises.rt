@@ -10,6 +10,7 @@ ghost use Rattle.regress_meaning.specs.Limits.{SpellsNone, WithinLimits};
 ghost use Rattle.regress_meaning.specs.Literal.{occurrences};
 ghost use Rattle.regress_meaning.specs.Matches.{match_list};
 ghost use Rattle.regress_meaning.specs.Offsets.{of_utf8, of_utf16, of_ucs2, characters, told, Begins};
+ghost use Rattle.regress_meaning.specs.WholeText.{whole_text};
 ghost use Rattle.regress_meaning.specs.Parts.{parts, first_parts};
 ghost use Rattle.regress_front.specs.TableViews.{table};
 ghost use Rattle.regress_front.specs.Trees.{Tree};
@@ -24,7 +25,7 @@ ghost use Rattle.regress.specs.Answering.{AnswersEach};
 ghost use Rattle.regress.specs.Coming.{HasEnded, coming, searched, searched_names};
 ghost use Rattle.regress.specs.Outcomes.{outcome_at};
 ghost use Rattle.regress.specs.Programs.{IsProgramOf};
-ghost use Rattle.regress.specs.Refusing.{MayRefuseRegex};
+ghost use Rattle.regress.specs.Refusing.{MayRefuseRegex, MayRefuseWholeText};
 ghost use Rattle.regress.specs.Splitting.{parts_left, first_parts_left, GivesPart, GivesSplit};
 ghost use Rattle.regress.specs.Standing.{StandsFor, StandsInUnits, HasTree, HasTreeInUnits, byte_target, unit_target, tree_list, tree_list_in_units, names_of_regex, source_of};
 ghost use Rattle.regress.specs.Units.{coming_in_utf16, coming_in_ucs2};
@@ -71,6 +72,21 @@ fn of_text_under(
     ensures refused { IfErr result (MayRefuseRegex (table tables.now) (options flags) (chars pattern.now)) }
 {
     Regex::with_flags(alloc, pattern, flags, tables)
+}
+
+/// What a text is compiled to that has to match whole texts.
+fn of_whole_texts(
+    alloc: Global,
+    pattern: &str,
+    flags: Flags,
+    tables: &Tables,
+) -> Result<Regex, Error>
+    ensures accepted { IfOk result (λ r. (p : Pattern) × Spells (table tables.now) (options flags) (chars pattern.now) p
+        × WithinLimits p × StandsFor r (table tables.now) (options flags) (whole_text p) × StandsInUnits r (table tables.now) (options flags) (whole_text p)) }
+    ensures text { IfOk result (λ r. source_of r ≡ pattern.now) }
+    ensures refused { IfErr result (MayRefuseWholeText (table tables.now) (options flags) (chars pattern.now)) }
+{
+    Regex::whole_text(alloc, pattern, flags, tables)
 }
 
 /// The same of code points.

@@ -1,19 +1,20 @@
 //! Matches that begin at one place: a tokeniser, and 16-bit units.
 
 use crate::told::{compiled, ends};
-use regress::{Error, Regex, Tables, is_unit_start};
+use regress::{Error, Regex, Scratch, Tables, is_unit_start};
 use std::alloc::Global;
 use std::test::Fail;
 
 /// Where the tokens of a text end, one behind another, up to where none begins.
 fn token_ends(alloc: Global, token: &Regex, text: &str) -> Result<Vec<usize>, Error> {
+    let mut scratch = Scratch::new(alloc);
     let mut ends = Vec::new(alloc);
     let mut at = 0;
-    'tokens: while let Some(found) = token.match_at(text, at)? {
-        if found.end() == at {
+    'tokens: while let Some(found) = token.match_into(&mut scratch, text, at, &mut [])? {
+        if found.end == at {
             break;
         }
-        at = found.end();
+        at = found.end;
         ends.push(at)?;
     }
     Ok(ends)
@@ -36,6 +37,15 @@ fn ends_at(regex: &Regex, units: &[u16], start: usize) -> Result<Option<(usize, 
     Ok(ends(regex.match_at_utf16(units, start)?))
 }
 
+/// The same where each unit is a character.
+fn ucs2_ends_at(
+    regex: &Regex,
+    units: &[u16],
+    start: usize,
+) -> Result<Option<(usize, usize)>, Error> {
+    Ok(ends(regex.match_at_ucs2(units, start)?))
+}
+
 #[test]
 fn matches_begin_at_a_unit(rt: HostRuntime) -> Result<(), Fail> {
     let tables = Tables::small(rt.alloc())?;
@@ -43,8 +53,8 @@ fn matches_begin_at_a_unit(rt: HostRuntime) -> Result<(), Fail> {
     let other = compiled(rt.alloc(), "[^a]", "", &tables)?;
     assert!(rt; ends_at(&other, units, 0)?.is_none());
     assert!(rt; ends_at(&other, units, 1)? == Some((1, 3)));
-    assert!(rt; ends(other.match_at_ucs2(units, 0)?).is_none());
-    assert!(rt; ends(other.match_at_ucs2(units, 1)?) == Some((1, 2)));
-    assert!(rt; ends(other.match_at_ucs2(units, 4)?).is_none());
+    assert!(rt; ucs2_ends_at(&other, units, 0)?.is_none());
+    assert!(rt; ucs2_ends_at(&other, units, 1)? == Some((1, 2)));
+    assert!(rt; ucs2_ends_at(&other, units, 4)?.is_none());
     Ok(())
 }

@@ -2,11 +2,11 @@
 //! Where memory is refused they err with `AllocError`.
 ghost use Rattle.std.specs.Iterator.{IsFinite};
 
-use conformance_rows::push_span;
+use conformance_rows::{Pattern, push_span};
 use regress::backends::{self, DefaultExecutor, PikeVMExecutor, Utf8Input};
 use regress::{
-    CompiledRegex, Error, Flags, Match, Regex, Tables, are_code_points, is_ascii_text, is_start,
-    is_unit_start,
+    CompiledRegex, Error, Flags, Match, Range, Regex, Scratch, Tables, are_code_points,
+    is_ascii_text, is_start, is_unit_start,
 };
 use regress_engine_inputs::{Ucs2Input, Utf16Input};
 use std::alloc::{AllocError, Global};
@@ -60,6 +60,27 @@ pub(crate) fn compiled(
     Regex::with_flags(alloc, pattern, flags, tables)
 }
 
+/// A pattern that has to match a whole text.
+pub(crate) fn whole_text(
+    alloc: Global,
+    pattern: &str,
+    flags: Flags,
+    tables: &Tables,
+) -> Result<Regex, Error> {
+    Regex::whole_text(alloc, pattern, flags, tables)
+}
+
+/// The same, written as a pattern.
+pub(crate) fn between_ends(
+    alloc: Global,
+    pattern: &str,
+    flags: Flags,
+    tables: &Tables,
+) -> Result<Regex, Error> {
+    let written = format!(in alloc; "(?-m:^)(?:{pattern})(?-m:$)")?;
+    compiled(alloc, written.as_str(), flags, tables)
+}
+
 /// A pattern that is given as code points.
 pub(crate) fn compiled_points(
     alloc: Global,
@@ -76,12 +97,19 @@ pub(crate) fn compiled_points(
 /// The regex of the programs that a pattern's tree becomes as it is read.
 pub(crate) fn of_programs(
     alloc: Global,
-    points: &[u32],
+    pattern: &Pattern,
     flags: Flags,
     tables: &Tables,
 ) -> Result<Regex, Error> {
+    let points = &pattern.points;
     if !are_code_points(points) {
         return Err(Error::OutOfMemory);
+    }
+    if pattern.whole {
+        let tree = backends::try_parse_whole_text(alloc, points, flags, tables)?;
+        let of_bytes = backends::emit(alloc, &tree)?;
+        let of_units = backends::emit_units(alloc, &tree)?;
+        return Ok(Regex::from_programs(alloc, of_bytes, of_units));
     }
     let tree = backends::try_parse(alloc, points, flags, tables)?;
     let of_bytes = backends::emit(alloc, &tree)?;
@@ -205,7 +233,96 @@ pub(crate) fn ucs2_matches(
     }
 }
 
-/// The match that begins at a place, by `match_at`, and in a text of ASCII also by `match_at_ascii`.
+/// Adds what slots hold: the range of a match, and that of each group.
+fn push_slots(told: &mut String, slots: &[Option<Range>]) -> Result<(), AllocError> {
+    for (index, slot) in slots.iter().enumerate() {
+        if index > 0 {
+            told.push(' ')?;
+        }
+        match slot {
+            Some(range) => push_span(told, range.start, range.end)?,
+            None => told.push('-')?,
+        }
+    }
+    Ok(())
+}
+
+/// As many slots as a match has groups, the whole match among them.
+fn empty_slots(alloc: Global, regex: &Regex) -> Result<Vec<Option<Range>>, AllocError> {
+    let count = regex.captures_len();
+    let mut slots = Vec::with_capacity(alloc, count)?;
+    for _ in 0..count {
+        slots.push(None)?;
+    }
+    Ok(slots)
+}
+
+/// The match that begins at a place, by `match_into`.
+fn match_in_slots(
+    alloc: Global,
+    regex: &Regex,
+    text: &str,
+    place: usize,
+) -> Result<String, AllocError> {
+    let mut told = String::new(alloc);
+    if !is_start(text, place) {
+        return Ok(told);
+    }
+    let mut scratch = Scratch::new(alloc);
+    let mut slots = empty_slots(alloc, regex)?;
+    match regex.match_into(&mut scratch, text, place, &mut slots) {
+        Ok(Some(_)) => push_slots(&mut told, &slots)?,
+        Ok(None) => {}
+        Err(_) => return Err(AllocError),
+    }
+    Ok(told)
+}
+
+/// The first match from a place on, by `find_into`.
+fn first_in_slots(
+    alloc: Global,
+    regex: &Regex,
+    text: &str,
+    place: usize,
+) -> Result<String, AllocError> {
+    let mut told = String::new(alloc);
+    if !is_start(text, place) {
+        return Ok(told);
+    }
+    let mut scratch = Scratch::new(alloc);
+    let mut slots = empty_slots(alloc, regex)?;
+    match regex.find_into(&mut scratch, text, place, &mut slots) {
+        Ok(Some(_)) => push_slots(&mut told, &slots)?,
+        Ok(None) => {}
+        Err(_) => return Err(AllocError),
+    }
+    Ok(told)
+}
+
+/// The first match from a place on, by `find_from`.
+fn first_match(
+    alloc: Global,
+    regex: &Regex,
+    text: &str,
+    place: usize,
+) -> Result<String, AllocError> {
+    let mut told = String::new(alloc);
+    if !is_start(text, place) {
+        return Ok(told);
+    }
+    let Ok(mut matches) = regex.find_from(text, place) else {
+        return Err(AllocError);
+    };
+    match matches.next() {
+        Some(Ok(found)) => push_match(&mut told, &found)?,
+        Some(Err(_)) => return Err(AllocError),
+        None => {}
+    }
+    Ok(told)
+}
+
+/// The match that begins at a place, by `match_at` and `match_into`, and in a text of ASCII also by `match_at_ascii`; and whether
+/// `find_into` finds from there what `find_from` does.
 pub(crate) fn match_at(
     alloc: Global,
     regex: &Regex,
@@ -224,6 +341,12 @@ pub(crate) fn match_at(
     }
     if is_ascii_text(text) && ascii_match_at(alloc, regex, text, place)? != told {
         told.push_str(" and another by match_at_ascii")?;
+    }
+    if match_in_slots(alloc, regex, text, place)? != told {
+        told.push_str(" and another by match_into")?;
+    }
+    if first_in_slots(alloc, regex, text, place)? != first_match(alloc, regex, text, place)? {
+        told.push_str(" and another by find_into")?;
     }
     Ok(told)
 }
@@ -270,12 +393,17 @@ pub(crate) fn is_match(
 /// The program of units that a pattern's tree becomes as it is read.
 pub(crate) fn units_program(
     alloc: Global,
-    points: &[u32],
+    pattern: &Pattern,
     flags: Flags,
     tables: &Tables,
 ) -> Result<CompiledRegex, Error> {
+    let points = &pattern.points;
     if !are_code_points(points) {
         return Err(Error::OutOfMemory);
+    }
+    if pattern.whole {
+        let tree = backends::try_parse_whole_text(alloc, points, flags, tables)?;
+        return backends::emit_units(alloc, &tree);
     }
     let tree = backends::try_parse(alloc, points, flags, tables)?;
     backends::emit_units(alloc, &tree)

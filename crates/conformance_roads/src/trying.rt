@@ -1,17 +1,18 @@
 //! Rows, tried by every road.
 
 use crate::calls::{
-    ascii_matches, compiled, compiled_points, copying_ascii_matches, copying_matches,
+    ascii_matches, between_ends, compiled, compiled_points, copying_ascii_matches, copying_matches,
     copying_ucs2_matches, copying_utf16_matches, default_matches, is_match, match_at, of_programs,
-    ucs2_matches, undoing_matches, units_program, utf16_matches,
+    ucs2_matches, undoing_matches, units_program, utf16_matches, whole_text,
 };
 use crate::report::{Report, told_error};
 use crate::works::{
-    all_replaced, all_replaced_with, escaped, first_parts, names, parts, refusal, replaced,
-    replaced_with, syntax_refusal,
+    all_expanded, all_replaced, all_replaced_with, all_templated, escaped, expanded, first_parts,
+    names, parts, refusal, replaced, replaced_with, syntax_refusal, templated,
 };
 use conformance_rows::{
-    Expected, Item, Pattern, Row, RowError, Work, read_row, tail, told, told_in_units, units_before,
+    Expected, Item, Pattern, Replacing, Row, RowError, Work, read_row, tail, told, told_in_units,
+    units_before,
 };
 use regress::{CompiledRegex, Error, Flags, Regex, Tables, is_ascii_text, is_start};
 use std::alloc::{AllocError, Global};
@@ -27,6 +28,7 @@ fn compiled_pattern(
     tables: &Tables,
 ) -> Result<Regex, Error> {
     match &pattern.text {
+        Some(text) if pattern.whole => whole_text(alloc, text.as_str(), flags, tables),
         Some(text) => compiled(alloc, text.as_str(), flags, tables),
         None => compiled_points(alloc, &pattern.points, flags, tables),
     }
@@ -44,17 +46,16 @@ fn try_refused(
     let points = &pattern.points;
     let outcome = compiled_points(alloc, points, flags, tables);
     report.compare("from_unicode", expected, refusal(alloc, outcome))?;
-    let outcome = of_programs(alloc, points, flags, tables);
+    let outcome = of_programs(alloc, pattern, flags, tables);
     report.compare("try_parse and emit", expected, refusal(alloc, outcome))?;
     let Some(text) = &pattern.text else {
         return Ok(());
     };
     let text = text.as_str();
-    report.compare(
-        "with_flags",
-        expected,
-        refusal(alloc, compiled(alloc, text, flags, tables)),
-    )?;
+    let outcome = compiled(alloc, text, flags, tables);
+    report.compare("with_flags", expected, refusal(alloc, outcome))?;
+    let outcome = whole_text(alloc, text, flags, tables);
+    report.compare("whole_text", expected, refusal(alloc, outcome))?;
     if expected == "!TooLarge" {
         return Ok(());
     }
@@ -187,6 +188,29 @@ fn try_copies(
     }
 }
 
+/// Tries what a pattern over a whole text is written as.
+fn try_written(
+    report: &mut Report,
+    alloc: Global,
+    pattern: &Pattern,
+    flags: Flags,
+    tables: &Tables,
+    text: &str,
+    expected: &str,
+) -> Result<(), AllocError> {
+    let Some(source) = &pattern.text else {
+        return Ok(());
+    };
+    match between_ends(alloc, source.as_str(), flags, tables) {
+        Ok(regex) => report.compare(
+            "^(?:..)$",
+            expected,
+            default_matches(alloc, &regex, text, 0),
+        ),
+        Err(error) => report.compare("^(?:..)$", "a regex", told_error(alloc, &error)),
+    }
+}
+
 /// What is expected of searches in 16-bit units from a start on.
 #[derive(Drop)]
 struct InUnits<'r> {
@@ -285,7 +309,18 @@ fn try_matches(
     let points = &row.pattern.points;
     let utf16 = told_in_units(alloc, text, items)?;
     let ucs2 = ucs2_list(alloc, text, units, points, items)?;
-    let programs = of_programs(alloc, points, flags, tables);
+    let programs = of_programs(alloc, &row.pattern, flags, tables);
+    if row.pattern.whole && *start == 0 {
+        try_written(
+            report,
+            alloc,
+            &row.pattern,
+            flags,
+            tables,
+            text,
+            list.as_str(),
+        )?;
+    }
     try_text(report, alloc, regex, text, *start, list.as_str())?;
     try_tails(report, alloc, regex, text, *start, items)?;
     try_copies(report, alloc, regex, programs, text, *start, list.as_str())?;
@@ -300,7 +335,7 @@ fn try_matches(
     try_copying_units(
         report,
         alloc,
-        units_program(alloc, points, flags, tables),
+        units_program(alloc, &row.pattern, flags, tables),
         &searched,
     )
 }
@@ -332,27 +367,36 @@ fn try_unit_row(
         utf16,
         ucs2,
     };
-    let program = units_program(alloc, &row.pattern.points, flags, tables);
+    let program = units_program(alloc, &row.pattern, flags, tables);
     try_units(report, alloc, regex, &searched)?;
     try_copying_units(report, alloc, program, &searched)
 }
 
-/// Tries a text with its first match replaced. A closure puts in the same text where it holds no `$`, and else the match itself.
+/// What closures come to, which put in the replacement text where it holds no `$`, and else the match itself.
+fn by_closure(replacing: &Replacing) -> &str {
+    if replacing.replacement.contains('$') {
+        replacing.text.as_str()
+    } else {
+        replacing.expected.as_str()
+    }
+}
+
+/// Tries a text with its first match replaced by a text of the library's own language, and by a closure.
 fn try_replaced(
     report: &mut Report,
     alloc: Global,
     regex: &Regex,
-    text: &str,
-    new: &str,
-    expected: &str,
+    replacing: &Replacing,
 ) -> Result<(), AllocError> {
-    report.compare("replace", expected, replaced(regex, text, new))?;
-    let by_closure = if new.contains('$') { text } else { expected };
+    let text = replacing.text.as_str();
+    let new = replacing.replacement.as_str();
     report.compare(
-        "replace_with",
-        by_closure,
-        replaced_with(alloc, regex, text, new),
-    )
+        "replace",
+        replacing.expected.as_str(),
+        replaced(regex, text, new),
+    )?;
+    let told = replaced_with(alloc, regex, text, new);
+    report.compare("replace_with", by_closure(replacing), told)
 }
 
 /// Tries a text with all its matches replaced, in the same way.
@@ -360,16 +404,52 @@ fn try_all_replaced(
     report: &mut Report,
     alloc: Global,
     regex: &Regex,
-    text: &str,
-    new: &str,
-    expected: &str,
+    replacing: &Replacing,
 ) -> Result<(), AllocError> {
-    report.compare("replace_all", expected, all_replaced(regex, text, new))?;
-    let by_closure = if new.contains('$') { text } else { expected };
+    let text = replacing.text.as_str();
+    let new = replacing.replacement.as_str();
     report.compare(
-        "replace_all_with",
-        by_closure,
-        all_replaced_with(alloc, regex, text, new),
+        "replace_all",
+        replacing.expected.as_str(),
+        all_replaced(regex, text, new),
+    )?;
+    let told = all_replaced_with(alloc, regex, text, new);
+    report.compare("replace_all_with", by_closure(replacing), told)
+}
+
+/// Tries a text with its first match replaced by a template of the standard, and what the template is at that match.
+fn try_templated(
+    report: &mut Report,
+    alloc: Global,
+    regex: &Regex,
+    replacing: &Replacing,
+) -> Result<(), AllocError> {
+    let text = replacing.text.as_str();
+    let template = replacing.replacement.as_str();
+    let expected = replacing.expected.as_str();
+    report.compare("replace_as", expected, templated(regex, text, template))?;
+    report.compare("expand", expected, expanded(alloc, regex, text, template))
+}
+
+/// Tries a text with all its matches replaced, in the same way.
+fn try_all_templated(
+    report: &mut Report,
+    alloc: Global,
+    regex: &Regex,
+    replacing: &Replacing,
+) -> Result<(), AllocError> {
+    let text = replacing.text.as_str();
+    let template = replacing.replacement.as_str();
+    let expected = replacing.expected.as_str();
+    report.compare(
+        "replace_all_as",
+        expected,
+        all_templated(regex, text, template),
+    )?;
+    report.compare(
+        "expand",
+        expected,
+        all_expanded(alloc, regex, text, template),
     )
 }
 
@@ -404,34 +484,10 @@ fn try_made(
                 names(alloc, regex, text.as_str()),
             )
         }
-        Work::Replace {
-            text,
-            replacement,
-            expected,
-        } => {
-            try_replaced(
-                report,
-                alloc,
-                regex,
-                text.as_str(),
-                replacement.as_str(),
-                expected.as_str(),
-            )
-        }
-        Work::ReplaceAll {
-            text,
-            replacement,
-            expected,
-        } => {
-            try_all_replaced(
-                report,
-                alloc,
-                regex,
-                text.as_str(),
-                replacement.as_str(),
-                expected.as_str(),
-            )
-        }
+        Work::Replace(replacing) => try_replaced(report, alloc, regex, replacing),
+        Work::ReplaceAll(replacing) => try_all_replaced(report, alloc, regex, replacing),
+        Work::ReplaceAs(replacing) => try_templated(report, alloc, regex, replacing),
+        Work::ReplaceAllAs(replacing) => try_all_templated(report, alloc, regex, replacing),
         Work::Split {
             text,
             parts: expected,

@@ -1,7 +1,9 @@
 //! What is made of matches, each call in a function of its own, as in `calls`.
 
 use crate::report::told_error;
-use regress::{Error, Flags, Match, Range, Regex, Tables, escape, syntax_error};
+use regress::{
+    Error, Flags, Match, Range, Regex, ReplacementSyntax, Tables, escape, expand, syntax_error,
+};
 use std::alloc::{AllocError, Global};
 
 /// What a call answers that errs where memory is refused alone.
@@ -102,6 +104,66 @@ pub(crate) fn all_replaced_with(
     new: &str,
 ) -> Result<String, AllocError> {
     unless_refused(regex.replace_all_with(text, |found| answer(alloc, text, new, found)))
+}
+
+/// A text with its first match replaced by a template of the standard.
+pub(crate) fn templated(regex: &Regex, text: &str, template: &str) -> Result<String, AllocError> {
+    unless_refused(regex.replace_as(text, template, ReplacementSyntax::EcmaScript))
+}
+
+/// A text with all its matches replaced by a template of the standard.
+pub(crate) fn all_templated(
+    regex: &Regex,
+    text: &str,
+    template: &str,
+) -> Result<String, AllocError> {
+    unless_refused(regex.replace_all_as(text, template, ReplacementSyntax::EcmaScript))
+}
+
+/// A text with its first match replaced by what `expand` makes there of a template of the standard.
+pub(crate) fn expanded(
+    alloc: Global,
+    regex: &Regex,
+    text: &str,
+    template: &str,
+) -> Result<String, AllocError> {
+    let Ok(found) = regex.find(text) else {
+        return Err(AllocError);
+    };
+    let Some(found) = found else {
+        return String::from_str(alloc, text);
+    };
+    let new = expand(alloc, &found, text, template, ReplacementSyntax::EcmaScript);
+    let new = unless_refused(new)?;
+    let before = text.get(..found.start()).unwrap_or("");
+    let behind = text.get(found.end()..).unwrap_or("");
+    format!(in alloc; "{before}{new}{behind}")
+}
+
+/// A text with all its matches replaced in the same way.
+pub(crate) fn all_expanded(
+    alloc: Global,
+    regex: &Regex,
+    text: &str,
+    template: &str,
+) -> Result<String, AllocError> {
+    let Ok(matches) = regex.find_iter(text) else {
+        return Err(AllocError);
+    };
+    let mut told = String::new(alloc);
+    let mut behind = 0;
+    for found in matches {
+        let Ok(found) = found else {
+            return Err(AllocError);
+        };
+        let new = expand(alloc, &found, text, template, ReplacementSyntax::EcmaScript);
+        let new = unless_refused(new)?;
+        let between = text.get(behind..found.start()).unwrap_or("");
+        write!(told, "{between}{new}")?;
+        behind = found.end();
+    }
+    told.push_str(text.get(behind..).unwrap_or(""))?;
+    Ok(told)
 }
 
 /// The parts between the matches of a text, each as `<part>`.

@@ -12,6 +12,8 @@ pub struct Pattern {
     pub points: Vec<u32>,
     /// Its text; `None` where it holds a surrogate.
     pub text: Option<String>,
+    /// Whether it has to match a whole text.
+    pub whole: bool,
 }
 
 /// What a search or compiling comes to.
@@ -21,6 +23,17 @@ pub enum Expected {
     List(Vec<Item>),
     /// The error of this name, with an `!` before it, and behind `!Syntax` its text where the row tells one.
     Refused(String),
+}
+
+/// A text, what is put in the place of its matches, and what comes of it.
+#[derive(Drop)]
+pub struct Replacing {
+    /// The text that is searched.
+    pub text: String,
+    /// The replacement text.
+    pub replacement: String,
+    /// The text that is expected.
+    pub expected: String,
 }
 
 /// What a row asks for.
@@ -45,18 +58,14 @@ pub enum Work {
         text: String,
         expected: String,
     },
-    /// A text with its first match replaced.
-    Replace {
-        text: String,
-        replacement: String,
-        expected: String,
-    },
-    /// A text with all its matches replaced.
-    ReplaceAll {
-        text: String,
-        replacement: String,
-        expected: String,
-    },
+    /// A text with its first match replaced, by a text of the library's own language.
+    Replace(Replacing),
+    /// The same with all its matches.
+    ReplaceAll(Replacing),
+    /// A text with its first match replaced, by a template of the standard.
+    ReplaceAs(Replacing),
+    /// The same with all its matches.
+    ReplaceAllAs(Replacing),
     /// The parts between the matches, as `<a><b>`.
     Split {
         text: String,
@@ -101,10 +110,14 @@ fn number(field: &str) -> Result<usize, RowError> {
 }
 
 /// The pattern that a field stands for.
-fn read_pattern(alloc: Global, field: &str) -> Result<Pattern, RowError> {
+fn read_pattern(alloc: Global, field: &str, whole: bool) -> Result<Pattern, RowError> {
     let points = points_of(alloc, field)?;
     let text = as_text(alloc, &points)?;
-    Ok(Pattern { points, text })
+    Ok(Pattern {
+        points,
+        text,
+        whole,
+    })
 }
 
 /// What a field of a search expects.
@@ -144,27 +157,33 @@ fn units(
     })
 }
 
+/// What is replaced, by the fields behind the pattern.
+fn read_replacing(alloc: Global, fields: &[&str]) -> Result<Replacing, RowError> {
+    let [text, replacement, expected] = fields else {
+        return Err(RowError::Fields);
+    };
+    Ok(Replacing {
+        text: text_of(alloc, text)?,
+        replacement: text_of(alloc, replacement)?,
+        expected: text_of(alloc, expected)?,
+    })
+}
+
 /// What is asked for, by the name of the work and the fields behind the pattern.
 fn read_work(alloc: Global, name: &str, fields: &[&str]) -> Result<Work, RowError> {
     match (name, fields) {
-        ("", [text, list]) => matches(alloc, text, list, "0"),
-        ("", [text, list, start]) => matches(alloc, text, list, start),
+        ("" | "whole", [text, list]) => matches(alloc, text, list, "0"),
+        ("" | "whole", [text, list, start]) => matches(alloc, text, list, start),
         ("units", [text, utf16, ucs2]) => units(alloc, text, utf16, ucs2, "0"),
         ("units", [text, utf16, ucs2, start]) => units(alloc, text, utf16, ucs2, start),
         ("names", [text, names]) => Ok(Work::Names {
             text: text_of(alloc, text)?,
             expected: text_of(alloc, names)?,
         }),
-        ("replace", [text, replacement, expected]) => Ok(Work::Replace {
-            text: text_of(alloc, text)?,
-            replacement: text_of(alloc, replacement)?,
-            expected: text_of(alloc, expected)?,
-        }),
-        ("replace_all", [text, replacement, expected]) => Ok(Work::ReplaceAll {
-            text: text_of(alloc, text)?,
-            replacement: text_of(alloc, replacement)?,
-            expected: text_of(alloc, expected)?,
-        }),
+        ("replace", others) => Ok(Work::Replace(read_replacing(alloc, others)?)),
+        ("replace_all", others) => Ok(Work::ReplaceAll(read_replacing(alloc, others)?)),
+        ("replace_as", others) => Ok(Work::ReplaceAs(read_replacing(alloc, others)?)),
+        ("replace_all_as", others) => Ok(Work::ReplaceAllAs(read_replacing(alloc, others)?)),
         ("split", [text, parts]) => Ok(Work::Split {
             text: text_of(alloc, text)?,
             parts: text_of(alloc, parts)?,
@@ -174,9 +193,7 @@ fn read_work(alloc: Global, name: &str, fields: &[&str]) -> Result<Work, RowErro
             limit: number(limit)?,
             parts: text_of(alloc, parts)?,
         }),
-        ("" | "units" | "names" | "replace" | "replace_all" | "split" | "splitn", _) => Err(
-            RowError::Fields,
-        ),
+        ("" | "whole" | "units" | "names" | "split" | "splitn", _) => Err(RowError::Fields),
         _ => Err(RowError::Work),
     }
 }
@@ -188,7 +205,7 @@ fn escape(alloc: Global, fields: &[&str]) -> Result<Row, RowError> {
     };
     Ok(Row {
         flags: String::new(alloc),
-        pattern: read_pattern(alloc, "")?,
+        pattern: read_pattern(alloc, "", false)?,
         work: Work::Escape {
             text: text_of(alloc, text)?,
             expected: text_of(alloc, expected)?,
@@ -214,7 +231,7 @@ pub fn read_row(alloc: Global, line: &str) -> Result<Row, RowError> {
     let (source, others) = fields.split_first().ok_or(RowError::Fields)?;
     Ok(Row {
         flags: String::from_str(alloc, flags)?,
-        pattern: read_pattern(alloc, source)?,
+        pattern: read_pattern(alloc, source, name == "whole")?,
         work: read_work(alloc, name, others)?,
     })
 }

@@ -21,4 +21,6 @@ mod parsed;
 #[cfg(test)]
 mod positions;
 #[cfg(test)]
+mod rewriting;
+#[cfg(test)]
 mod singles;

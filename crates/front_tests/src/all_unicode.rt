@@ -139,10 +139,9 @@ fn has(
 }
 
 /// Fails at the first property with other figures.
-fn have_figures(alloc: Global, tables: &Tables) -> Result<(), Fail> {
-    let unknown = unknown(alloc)?;
+fn have_figures(tables: &Tables, unknown: &CodePointSet) -> Result<(), Fail> {
     for figures in &FIGURES {
-        if !has(tables, &unknown, figures)? {
+        if !has(tables, unknown, figures)? {
             return Err(Fail::new(figures.0));
         }
     }
@@ -163,19 +162,51 @@ const KEYS: &[(&str, bool)] = &[
     ("Hyphen", false),
     ("Other_Math", false),
     ("Line_Break=AL", false),
-    ("Changes_When_NFKC_Casefolded", false),
+    ("Changes_When_NFKC_Casefolded", true),
     ("Emoji_Keycap_Sequence", false),
 ];
 
-/// Whether the keys are known that the standard has, and the twelve keycaps are the only strings.
+/// Properties of strings, each with how many strings of code points it has that Unicode 17.0 knows. The first figure is told by
+/// Node.js 20.20, the others by Unicode's files of version 15.0; the last is their sum.
+const STRINGS: &[(&str, usize)] = &[
+    ("Basic_Emoji", 1400),
+    ("Emoji_Keycap_Sequence", 12),
+    ("RGI_Emoji_Modifier_Sequence", 655),
+    ("RGI_Emoji_Flag_Sequence", 258),
+    ("RGI_Emoji_Tag_Sequence", 3),
+    ("RGI_Emoji_ZWJ_Sequence", 1350),
+    ("RGI_Emoji", 3678),
+];
+
+/// Whether the keys are known that the standard has.
 fn are_known(tables: &Tables) -> bool {
     for (key, is_known) in KEYS {
         if tables.property(key).is_some() != *is_known {
             return false;
         }
     }
-    let keycaps = tables.sequences("Emoji_Keycap_Sequence");
-    keycaps.is_some_and(|strings| strings.len() == 12) && tables.sequences("RGI_Emoji").is_none()
+    true
+}
+
+/// How many strings have no code point of a set.
+fn count_without(strings: &[Vec<CodePoint>], set: &CodePointSet) -> usize {
+    let strings_without = strings
+        .iter()
+        .filter(|string| !string.iter().any(|c| set.contains(*c)));
+    strings_without.count()
+}
+
+/// Fails at the first property of strings with another count.
+fn have_strings(tables: &Tables, unknown: &CodePointSet) -> Result<(), Fail> {
+    for (key, expected) in STRINGS {
+        let Some(strings) = tables.sequences(key) else {
+            return Err(Fail::new(*key));
+        };
+        if count_without(strings, unknown) != *expected {
+            return Err(Fail::new(*key));
+        }
+    }
+    Ok(())
 }
 
 // One test, since the table takes long to make.
@@ -184,5 +215,7 @@ fn the_table_is_that_of_unicode(rt: HostRuntime) -> Result<(), Fail> {
     let tables = unicode_tables(rt.alloc())?;
     assert!(rt; have_canons(&tables) && are_known(&tables));
     are_alike(rt.alloc(), &tables)?;
-    have_figures(rt.alloc(), &tables)
+    let unknown = unknown(rt.alloc())?;
+    have_strings(&tables, &unknown)?;
+    have_figures(&tables, &unknown)
 }

@@ -3,7 +3,7 @@
 //! 18.0 gives to more of these code points.
 use regress_front_tables::CodePoint;
 
-pub(crate) static FIGURES: [(&str, usize, CodePoint, CodePoint); 161] = [
+pub(crate) static FIGURES: [(&str, usize, CodePoint, CodePoint); 162] = [
     ("Lu", 1886, 0x41, 0x1E921),
     ("Ll", 2283, 0x61, 0x1E943),
     ("Lt", 31, 0x1C5, 0x1FFC),
@@ -128,6 +128,7 @@ pub(crate) static FIGURES: [(&str, usize, CodePoint, CodePoint); 161] = [
     ("Bidi_M", 554, 0x28, 0x1D7C3),
     ("CI", 2794, 0x27, 0xE01EF),
     ("CWCF", 1561, 0x41, 0x1E921),
+    ("CWKCF", 6814, 0x41, 0xE01EF),
     ("CWL", 1488, 0x41, 0x1E921),
     ("DI", 405, 0xAD, 0xE01EF),
     ("Dep", 15, 0x149, 0xE0001),

@@ -13,8 +13,6 @@ mod flags;
 #[cfg(test)]
 mod nodes;
 #[cfg(test)]
-mod rewriting;
-#[cfg(test)]
 mod sets;
 #[cfg(test)]
 mod shown;

@@ -5,7 +5,7 @@ ghost use Rattle.regress_front_nodes.specs.WellFormed.{IsWellFormed};
 
 use crate::asking::{Work, try_work};
 use crate::refusal::Refusal;
-use crate::row::Row;
+use crate::row::{Row, units_of};
 use crate::searching::tell_all;
 use regress::backends::{emit, emit_units};
 use regress::{
@@ -84,6 +84,7 @@ enum Built {
     Rewritten,
     Regex,
     RegexOfPoints,
+    RegexOfUnits,
     SyntaxError,
 }
 
@@ -96,6 +97,7 @@ fn built_by(name: &str) -> Option<Built> {
         "optimize" => Some(Built::Rewritten),
         "with_flags" => Some(Built::Regex),
         "from_unicode" => Some(Built::RegexOfPoints),
+        "from_utf16" => Some(Built::RegexOfUnits),
         "syntax_error" => Some(Built::SyntaxError),
         _ => None,
     }
@@ -108,6 +110,7 @@ struct Building<'t> {
     built: Built,
     row: &'t Row,
     points: Vec<u32>,
+    units: Vec<u16>,
     tables: &'t Tables,
 }
 
@@ -162,6 +165,11 @@ fn of_points(work: &Building<'_>) -> Result<Regex, Refusal> {
     Ok(Regex::from_unicode(work.alloc, &work.points, work.row.flags(), work.tables)?)
 }
 
+/// A regex of 16-bit units.
+fn of_units(work: &Building<'_>) -> Result<Regex, Error> {
+    Regex::from_utf16(work.alloc, &work.units, work.row.flags(), work.tables)
+}
+
 /// Tells where reading stops in a text that is no pattern.
 fn tell_stop(told: &mut String, work: &Building<'_>) -> Result<(), Refusal> {
     let pattern = work.row.pattern.as_str();
@@ -180,6 +188,7 @@ impl Work for Building<'_> {
             Built::Rewritten => tell_rewritten(told, self),
             Built::Regex => tell_regex(told, &compiled(self.alloc, self.row, self.tables)?),
             Built::RegexOfPoints => tell_regex(told, &of_points(self)?),
+            Built::RegexOfUnits => tell_regex(told, &of_units(self)?),
             Built::SyntaxError => tell_stop(told, self),
         }
     }
@@ -192,11 +201,13 @@ pub(crate) fn try_row(alloc: Global, row: &Row, told: &mut String) -> Result<boo
     };
     let tables = Tables::small(alloc)?;
     let points = row.points(alloc)?;
+    let units = units_of(alloc, row.pattern.as_str())?;
     let work = Building {
         alloc,
         built,
         row,
         points,
+        units,
         tables: &tables,
     };
     try_work(alloc, row, work, told)

@@ -4,7 +4,7 @@ use crate::asking::{Work, tell_refusal, try_work};
 use crate::building::compiled;
 use crate::refusal::Refusal;
 use crate::row::Row;
-use regress::{Error, Match, Regex, Tables, escape};
+use regress::{Error, Match, Regex, ReplacementSyntax, Tables, escape, expand};
 use std::alloc::{AllocError, Global};
 
 /// The start of a match, told in decimal.
@@ -30,6 +30,24 @@ fn replaced(regex: &Regex, text: &str, replacement: &str) -> Result<String, Erro
 /// A text with all its matches replaced.
 fn all_replaced(regex: &Regex, text: &str, replacement: &str) -> Result<String, Error> {
     regex.replace_all(text, replacement)
+}
+
+/// A text with its first match replaced by a template of the standard.
+fn templated(regex: &Regex, text: &str, template: &str) -> Result<String, Error> {
+    regex.replace_as(text, template, ReplacementSyntax::EcmaScript)
+}
+
+/// A text with all its matches replaced by a template of the standard.
+fn all_templated(regex: &Regex, text: &str, template: &str) -> Result<String, Error> {
+    regex.replace_all_as(text, template, ReplacementSyntax::EcmaScript)
+}
+
+/// What a template of the standard is at the first match; the text where there is none.
+fn expanded(alloc: Global, regex: &Regex, text: &str, template: &str) -> Result<String, Error> {
+    match regex.find(text)? {
+        Some(found) => expand(alloc, &found, text, template, ReplacementSyntax::EcmaScript),
+        None => Ok(String::from_str(alloc, text)?),
+    }
 }
 
 /// A pattern for a text as it is written.
@@ -67,6 +85,9 @@ fn tell_two_parts(told: &mut String, regex: &Regex, text: &str) -> Result<(), Re
 enum Change {
     Replace,
     ReplaceAll,
+    ReplaceAs,
+    ReplaceAllAs,
+    Expand,
     ReplaceWith,
     ReplaceAllWith,
     Split,
@@ -79,6 +100,9 @@ fn change_by(name: &str) -> Option<Change> {
     match name {
         "replace" => Some(Change::Replace),
         "replace_all" => Some(Change::ReplaceAll),
+        "replace_as" => Some(Change::ReplaceAs),
+        "replace_all_as" => Some(Change::ReplaceAllAs),
+        "expand" => Some(Change::Expand),
         "replace_with" => Some(Change::ReplaceWith),
         "replace_all_with" => Some(Change::ReplaceAllWith),
         "split" => Some(Change::Split),
@@ -101,12 +125,22 @@ struct Changing<'t> {
 impl Changing<'_> {
     /// The text that is made.
     fn made(&self) -> Result<String, Error> {
+        let Changing {
+            alloc,
+            regex,
+            text,
+            replacement,
+            ..
+        } = *self;
         match self.change {
-            Change::Replace => replaced(self.regex, self.text, self.replacement),
-            Change::ReplaceAll => all_replaced(self.regex, self.text, self.replacement),
-            Change::ReplaceWith => replaced_with(self.alloc, self.regex, self.text),
-            Change::ReplaceAllWith => all_replaced_with(self.alloc, self.regex, self.text),
-            _ => escaped(self.alloc, self.text),
+            Change::Replace => replaced(regex, text, replacement),
+            Change::ReplaceAll => all_replaced(regex, text, replacement),
+            Change::ReplaceAs => templated(regex, text, replacement),
+            Change::ReplaceAllAs => all_templated(regex, text, replacement),
+            Change::Expand => expanded(alloc, regex, text, replacement),
+            Change::ReplaceWith => replaced_with(alloc, regex, text),
+            Change::ReplaceAllWith => all_replaced_with(alloc, regex, text),
+            _ => escaped(alloc, text),
         }
     }
 }

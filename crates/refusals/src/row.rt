@@ -23,6 +23,11 @@ fn said(alloc: Global, word: Option<String>) -> String {
     word.unwrap_or(String::new(alloc))
 }
 
+/// The 16-bit units of a text.
+pub(crate) fn units_of(alloc: Global, text: &str) -> Result<Vec<u16>, AllocError> {
+    text.encode_utf16().collect(alloc)
+}
+
 /// A number in decimal, and 0 for what is none.
 fn number(word: &str) -> usize {
     word.parse::<usize>().unwrap_or(0)
@@ -63,10 +68,5 @@ impl Row {
     /// The code points of the pattern.
     pub(crate) fn points(&self, alloc: Global) -> Result<Vec<u32>, AllocError> {
         self.pattern.as_str().chars().map(u32::from).collect(alloc)
-    }
-
-    /// The 16-bit units of the text.
-    pub(crate) fn units(&self, alloc: Global) -> Result<Vec<u16>, AllocError> {
-        self.text.as_str().encode_utf16().collect(alloc)
     }
 }

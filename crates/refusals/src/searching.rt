@@ -4,7 +4,7 @@ ghost use Rattle.std.specs.Iterator.{IsFinite};
 use crate::asking::{Work, try_work};
 use crate::building::compiled;
 use crate::refusal::Refusal;
-use crate::row::Row;
+use crate::row::{Row, units_of};
 use crate::telling::{tell_first, tell_item};
 use regress::backends::{self, DefaultExecutor, PikeVMExecutor, Utf8Input};
 use regress::{Error, Match, Regex, Tables, is_ascii_text, is_unit_start};
@@ -161,7 +161,7 @@ pub(crate) fn try_row(alloc: Global, row: &Row, told: &mut String) -> Result<boo
     };
     let tables = Tables::small(alloc)?;
     let regex = compiled(alloc, row, &tables)?;
-    let units = row.units(alloc)?;
+    let units = units_of(alloc, row.text.as_str())?;
     let work = Searching {
         road,
         regex: &regex,

@@ -25,7 +25,7 @@ first-given IsInside before after (Some (Ok m)) tell (i ∷ items) first same = 
 first-given IsInside before after (Some (Err e)) tell items first same = tt
 
 -- where a text may be cut, a search in it may begin
-start_of_boundary : (bytes : List ℕ) → IsUtf8 bytes → (at : ℕ) → IsCharBoundary bytes at → IsStart bytes at
+pub start_of_boundary : (bytes : List ℕ) → IsUtf8 bytes → (at : ℕ) → IsCharBoundary bytes at → IsStart bytes at
 start_of_boundary bytes utf8 at cut = let (place, within, here) = place_of_boundary bytes utf8 at cut in (place, inl (within, here))
 
 -- a match that lies in a text begins and ends where a search may begin

@@ -1,14 +1,11 @@
-pub mod AlikeMatches
 pub mod IterationLemmas
 pub mod RisingLemmas
 pub mod ReplacingLemmas
 pub mod LawLemmas
 pub mod AskingLemmas
 pub mod SplittingLemmas
-pub mod ProgramLemmas
 pub mod ShownLemmas
 pub mod ListedLemmas
-pub mod OutcomeLemmas
+pub mod ToldLemmas
 pub mod StepLemmas
 pub mod UnitLemmas
-pub mod PatternLemmas

@@ -17,7 +17,7 @@ use Rattle.regress_meaning.specs.Matches.{Item, match_list}
 use Rattle.regress_meaning.specs.Offsets.{Reading, of_utf8, told, Begins}
 use Rattle.regress_front.specs.NodeMatches.{node_match_list}
 use Rattle.regress_front.specs.Trees.{Tree}
-use Rattle.regress.proofs.AlikeMatches.{match_list-same}
+use Rattle.regress_programs.proofs.AlikeMatches.{match_list-same}
 use Rattle.regress_front_nodes.proofs.MatchLemmas.{matches_rise, matches_lie}
 use Rattle.regress_match.specs.declared.found.Match.{Match}
 use Rattle.regress_match.specs.Iterating.{coming_on}

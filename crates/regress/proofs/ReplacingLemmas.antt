@@ -1,5 +1,6 @@
 -- A text is written with others in the place of its matches, one match after another.
-use Rattle.std.proofs.Common.{◌≡◌, ℕ, ◌≤◌, List, [], ◌∷◌, ◌++◌, drop, take, map, Option, Some, None, option_map, Result, Ok, Err, slice_range, inl, inr, refl, sym, ap, subst, ◌∙◌, append_assoc}
+use Rattle.std.specs.Option.{option_transpose}
+use Rattle.std.proofs.Common.{◌≡◌, ℕ, zero, suc, ◌+◌, ◌-◌, ◌<◌, ◌≤◌, arith, List, [], ◌∷◌, ◌++◌, drop, take, map, Option, Some, None, option_map, Result, Ok, Err, slice_range, inl, inr, refl, sym, ap, subst, ◌∙◌, append_assoc}
 use Rattle.std.proofs.lemmas.Str.{IsCharBoundary-start}
 use Rattle.std.specs.Option.{option_to_list}
 use Rattle.std.specs.Prelude.{slice_get}
@@ -138,3 +139,31 @@ module _ {E : Type 0} (Answers : Answering E) (names : List (List ℕ)) where
   refuses-here items i before after e earlier first refused =
       let at_first : RefusesOf items (i ∷ after) = subst (λ (left : List Item). RefusesOf items left) first earlier in
       at_first e (inl refused)
+
+-- ---- the first matches alone
+
+-- what a step gave, told as a result
+pub given-some : (r : Option (Result Match Error)) (m : Match) → option_transpose r ≡ Ok (Some m) → r ≡ Some (Ok m)
+given-some None m told = absurd (cc)
+given-some (Some (Ok n)) m told = let same : n ≡ m = cc in ap (λ x. Some (Ok x)) same
+given-some (Some (Err e)) m told = absurd (cc)
+
+pub given-nothing : (r : Option (Result Match Error)) → option_transpose r ≡ Ok None → r ≡ None
+given-nothing None told = refl
+given-nothing (Some (Ok m)) told = absurd (cc)
+given-nothing (Some (Err e)) told = absurd (cc)
+
+-- one of the first items, and then the others
+pub first-of : (limit count : ℕ) (before after : List Item) (i : Item) → count < limit → before ≡ i ∷ after
+    → take (limit - count) before ≡ i ∷ take (limit - (count + 1)) after
+first-of limit count before after i less first =
+    let more : limit - count ≡ suc (limit - (count + 1)) = omega (arith, less) in
+    rw (more, first) refl
+
+-- none is left where none comes, or where as many were replaced as may be
+pub none-of : (n : ℕ) (items : List Item) → items ≡ [] → take n items ≡ []
+none-of zero items none = refl
+none-of (suc n) items none = rw none refl
+
+pub no-more : (limit count : ℕ) (items : List Item) → limit ≤ count → take (limit - count) items ≡ []
+no-more limit count items all = let zero_left : limit - count ≡ 0 = omega (arith, all) in rw zero_left refl

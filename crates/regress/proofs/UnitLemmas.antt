@@ -25,7 +25,7 @@ begins-anywhere units at = by_room (cases_lt (length units) at)
 
 module _ (reading : Reading) (units : List ℕ) (end : offset reading (length reading.points) ≡ length units) where
   -- a range between places lies in the units
-  range-in : (r : Range ℕ) → AreAtPlaces reading (ends r) → LiesInUnits reading units r
+  pub range-in : (r : Range ℕ) → AreAtPlaces reading (ends r) → LiesInUnits reading units r
   range-in r inside =
       let (p, before, start) = inside.0 in
       let (q, room, there) = inside.1 in

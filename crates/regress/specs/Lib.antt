@@ -1,13 +1,13 @@
-pub mod Programs
+pub use Rattle.regress_programs.specs.Programs
 pub mod SearchFor
-pub mod Refusing
+pub use Rattle.regress_programs.specs.Refusing
 pub mod Positions
 pub mod Standing
-pub mod Outcomes
+pub use Rattle.regress_programs.specs.Outcomes
 pub mod Coming
 pub mod Answering
 pub mod Behind
 pub mod Splitting
 pub mod Units
+pub mod Slotted
 pub mod Ascii
-pub mod PatternUnits

@@ -1,5 +1,5 @@
 -- What a compiled pattern stands for.
-use Rattle.std.specs.Prelude.{ℕ, List, []}
+use Rattle.std.specs.Prelude.{ℕ, List, [], Option}
 use Rattle.std.specs.Arc.{arc_str_bytes}
 use Rattle.std.specs.Option.{option_map_or}
 use Rattle.regress_meaning.specs.Table.{Table}
@@ -10,7 +10,8 @@ use Rattle.regress_front.specs.Trees.{Tree}
 use Rattle.regress_engine.specs.Layout.{Target}
 use Rattle.regress_engine.specs.Standing.{names_of, target_of}
 use Rattle.regress.specs.declared.api.Regex.{Regex}
-use Rattle.regress.specs.Programs.{IsProgramOf, IsLaidOutFrom, items_of_tree}
+use Rattle.regress_programs.specs.Outcomes.{outcome_of_tree}
+use Rattle.regress_programs.specs.Programs.{IsProgramOf, IsLaidOutFrom, items_of_tree}
 
 -- the bytes of the pattern's text; none where it was made of programs
 abbrev pub source_of : Regex → List ℕ
@@ -51,3 +52,11 @@ tree_list r n t text place = items_of_tree (byte_target r) n t text place
 -- And of one that it goes by in 16-bit units.
 abbrev pub tree_list_in_units : Regex → ℕ → Tree → List ℕ → ℕ → List Item
 tree_list_in_units r n t text place = items_of_tree (unit_target r) n t text place
+
+-- The outcome of a tree that it goes by in texts, at a place of a text.
+abbrev pub tree_outcome : Regex → ℕ → Tree → List ℕ → ℕ → Option Item
+tree_outcome r n t text place = outcome_of_tree (byte_target r) n t text place
+
+-- And of one that it goes by in 16-bit units.
+abbrev pub tree_outcome_in_units : Regex → ℕ → Tree → List ℕ → ℕ → Option Item
+tree_outcome_in_units r n t text place = outcome_of_tree (unit_target r) n t text place

@@ -3,7 +3,7 @@ ghost use Rattle.std.specs.Iterator.{HoldsAfterAnyCalls};
 ghost use Rattle.std.specs.Prelude.{◌≡◌, ◌≢◌, ◌≤◌, ◌↔◌, ℕ, false, All, IsTrue, IfOk, IfErr, IfSome, Some, Err, IsOkUnless, IsCharBoundary, chars, length, map, slice_get, option_map};
 ghost use Rattle.regress_meaning.specs.Table.{Table};
 ghost use Rattle.regress_meaning.specs.Pattern.{Pattern};
-ghost use Rattle.regress_meaning.specs.Flags.{Options, no_flags};
+ghost use Rattle.regress_meaning.specs.Flags.{Options, is_unicode, no_flags};
 ghost use Rattle.regress_meaning.specs.Grammar.{Spells};
 ghost use Rattle.regress_meaning.specs.Limits.{WithinLimits};
 ghost use Rattle.regress_meaning.specs.Matches.{match_list};
@@ -14,12 +14,14 @@ ghost use Rattle.regress_match.specs.Views.{item_of};
 ghost use Rattle.regress_front.specs.FlagWords.{options};
 ghost use Rattle.regress.specs.Refusing.{MayRefuseRegex};
 ghost use Rattle.regress_errors.specs.Texts.{shown_text};
+ghost use Rattle.regress_pattern_units.specs.PatternUnits.{pattern_points};
 
-use crate::compiled::Compiled;
 use crate::matches::Matches;
 use regress_errors::{code_points, text_of};
 use regress_front::{Error, Flags, Tables};
 use regress_match::Match;
+use regress_pattern_units::pattern_points;
+use regress_programs::Compiled;
 use std::alloc::Global;
 use std::fmt;
 use std::sync::ArcStr;
@@ -74,7 +76,7 @@ impl Regex {
     /// `v` no pattern of at most 10000 characters has, and as `OutOfMemory`.
     ///
     /// ```rust
-    /// let regex = Regex::with_flags(alloc, "a+b", Flags::from("im"), &tables)?;
+    /// let regex = Regex::with_flags(alloc, "a+b", Flags::parse("im")?.flags, &tables)?;
     /// ```
     pub fn with_flags(
         alloc: Global,
@@ -118,6 +120,32 @@ impl Regex {
             source: Some(source),
             compiled,
         })
+    }
+
+    /// Compiles a pattern that is given in 16-bit units, as script interpreters have it ("RegExpInitialize").
+    ///
+    /// In Unicode mode a high unit before a low one is one character. Else each unit is one, but in the name of a group such a
+    /// pair is one there too ("RegExpIdentifierName"): so `find_from_ucs2` finds what the standard finds, whatever the units.
+    /// In its text, as `as_str` has it, U+FFFD stands for each unit of a pair that is not joined, and for each that is in none.
+    ///
+    /// Refused as `with_flags` says.
+    ///
+    /// ```rust
+    /// let regex = Regex::from_utf16(alloc, &[0xD83D, 0xDE00, 0x2B], flags, &tables)?; // `😀+` under `u`
+    /// ```
+    pub fn from_utf16(
+        alloc: Global,
+        units: &[u16],
+        flags: Flags,
+        tables: &Tables,
+    ) -> Result<Regex, Error>
+        ensures accepted { IfOk result (λ r. (p : Pattern) × Spells (table tables.now) (options flags) (pattern_points (is_unicode (options flags)) units.now) p × WithinLimits p × StandsFor r (table tables.now) (options flags) p × StandsInUnits r (table tables.now) (options flags) p) }
+        ensures text { IfOk result (λ r. source_of r ≡ shown_text (pattern_points (is_unicode (options flags)) units.now)) }
+        ensures refused { IfErr result (MayRefuseRegex (table tables.now) (options flags) (pattern_points (is_unicode (options flags)) units.now)) }
+        ensures fits { (options flags).sets ≡ false → length (pattern_points (is_unicode (options flags)) units.now) ≤ 10000 → IfErr result (λ e. e ≢ Error.TooLarge) }
+    {
+        let points = pattern_points(alloc, units, flags, tables)?;
+        Regex::from_unicode(alloc, &points, flags, tables)
     }
 
     /// The first match in a text, its ranges told in bytes ("RegExpBuiltinExec").

@@ -17,7 +17,7 @@ pub use regress_engine::{
     AnyText, AsciiInput, AsciiText, BacktrackExecutor, Executor, PikeVMExecutor, TextKind,
     Utf8Input, emit, emit_units,
 };
-pub use regress_front::{optimize, try_parse};
+pub use regress_front::{optimize, try_parse, try_parse_whole_text};
 pub use regress_match::{MatchProducer, Matches};
 use std::alloc::AllocError;
 

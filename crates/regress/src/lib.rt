@@ -7,16 +7,16 @@ mod api;
 mod ascii;
 mod asking;
 pub mod backends;
-mod compiled;
 mod laws;
 mod matches;
-mod pattern_units;
 mod programs;
 mod replacing;
+mod slots;
 mod splitting;
 mod sticky;
 mod text;
 mod units;
+mod whole;
 
 pub use api::{Regex, is_start};
 pub use ascii::{AsciiMatches, is_ascii_text};
@@ -25,16 +25,17 @@ pub use laws::{
     parts_stand_between_the_matches, whole_matches_give_the_text_back,
 };
 pub use matches::Matches;
-pub use programs::programs_of_trees_are_of_patterns;
-pub use regress_engine::{CompiledRegex, is_unit_start, is_well_formed_utf16};
+pub use regress_engine::{CompiledRegex, Scratch, is_unit_start, is_well_formed_utf16};
 pub use regress_errors::{
     CompileError, SyntaxError, SyntaxErrorDisplay, syntax_error, syntax_error_in_points,
+    syntax_error_in_units,
 };
 pub use regress_front::{
     CaptureGroupName, CodePoint, Error, FlagError, Flags, Interval, ScriptFlags, TableError,
     TableLaw, TableParts, Tables, are_code_points, flags_are_read_back,
 };
 pub use regress_match::{Groups, Match, NamedGroups, Range};
+pub use regress_programs::programs_of_trees_are_of_patterns;
 pub use regress_replacing::{ReplacementSyntax, escape, expand};
 pub use splitting::{Split, SplitN};
 pub use units::{Ucs2Matches, Utf16Matches};

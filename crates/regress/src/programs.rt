@@ -1,22 +1,15 @@
 //! A regex of programs that were emitted.
-ghost use Rattle.std.specs.Prelude.{◌≡◌, ℕ, List, [], true, false};
+ghost use Rattle.std.specs.Prelude.{◌≡◌, [], true, false};
 ghost use Rattle.regress_meaning.specs.Table.{Table};
 ghost use Rattle.regress_meaning.specs.Pattern.{Pattern};
 ghost use Rattle.regress_meaning.specs.Flags.{Options};
-ghost use Rattle.regress_front.specs.FlagWords.{options};
-ghost use Rattle.regress_front.specs.Parsed.{IsTreeOf};
-ghost use Rattle.regress_front.specs.TableViews.{table};
-ghost use Rattle.regress_front.specs.Trees.{tree};
-ghost use Rattle.regress_front_nodes.specs.declared.ir.Regex as ir;
-ghost use Rattle.regress_engine.specs.Standing as code;
 ghost use Rattle.regress_engine.specs.Standing.{names_of, target_of};
-ghost use Rattle.regress_engine_code.specs.declared.compiled.CompiledRegex.{CompiledRegex};
-ghost use Rattle.regress.specs.Programs.{IsProgramOf, IsTreeFor};
+ghost use Rattle.regress.specs.Programs.{IsProgramOf};
 ghost use Rattle.regress.specs.Standing.{StandsFor, StandsInUnits, byte_target, unit_target, source_of, names_of_regex};
 
 use crate::api::Regex;
-use crate::compiled::Compiled;
 use regress_engine::CompiledRegex;
+use regress_programs::Compiled;
 use std::alloc::Global;
 
 impl Regex {
@@ -53,12 +46,3 @@ impl Regex {
         }
     }
 }
-
-/// A program that stands for the tree of a pattern is one of that pattern: what `emit` and `emit_units` make of what `try_parse`
-/// reads, as it is or rewritten.
-pub fn programs_of_trees_are_of_patterns()
-    ensures parsed { (t : Table) → (o : Options) → (text : List ℕ) → (p : Pattern) → (regex : ir.Regex) → IsTreeOf t o text p (tree regex.node) → IsTreeFor t o text p (tree regex.node) }
-    ensures emitted { (t : Table) → (o : Options) → (text : List ℕ) → (p : Pattern) → (regex : ir.Regex) → IsTreeFor t o text p (tree regex.node) →
-        options regex.flags ≡ o → table regex.tables.now ≡ t →
-        (compiled : CompiledRegex) → code.StandsFor regex compiled → IsProgramOf compiled t o p }
-{}

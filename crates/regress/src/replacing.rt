@@ -72,15 +72,83 @@ impl Regex {
             IfOk result (λ s. string_bytes s ≡ replaced text.now items (map (replacement_text syntax (names_of_regex self.now) replacement.now text.now) items)) }
         ensures refused { IsOkUnless result Error.OutOfMemory }
     {
+        self.replacen_as(text, 1, replacement, syntax)
+    }
+
+    /// A text with its first matches replaced by a replacement text, which is read as `replace` says: at most `limit` of them,
+    /// so none where that is 0.
+    ///
+    /// Errs with `OutOfMemory` alone.
+    ///
+    /// ```rust
+    /// let marked = regex.replacen("a1b2c3", 2, "#")?; // for `\d` it is `a#b#c3`
+    /// ```
+    pub fn replacen(&self, text: &str, limit: usize, replacement: &str) -> Result<String, Error>
+        ensures replaced { (t : Table) → (o : Options) → (p : Pattern) → StandsFor self.now t o p →
+            let items = take limit (map (told (of_utf8 text.now)) (match_list t o p (chars text.now) 0)) in
+            IfOk result (λ s. string_bytes s ≡ replaced text.now items (map (expansion (names_of_regex self.now) replacement.now text.now) items)) }
+        ensures replaced_of_tree { (n : ℕ) → (t : Tree) → HasTree self.now n t →
+            let items = take limit (map (told (of_utf8 text.now)) (tree_list self.now n t (chars text.now) 0)) in
+            IfOk result (λ s. string_bytes s ≡ replaced text.now items (map (expansion (names_of_regex self.now) replacement.now text.now) items)) }
+        ensures refused { IsOkUnless result Error.OutOfMemory }
+    {
+        self.replacen_as(text, limit, replacement, ReplacementSyntax::Regress)
+    }
+
+    /// A text with its first matches, at most `limit`, replaced by a replacement text that is written in a language, as
+    /// `replace_as` has it.
+    ///
+    /// Errs with `OutOfMemory` alone.
+    ///
+    /// ```rust
+    /// let marked = regex.replacen_as("a1b2c3", 2, "<$&>", ReplacementSyntax::EcmaScript)?; // for `\d` it is `a<1>b<2>c3`
+    /// ```
+    pub fn replacen_as(
+        &self,
+        text: &str,
+        limit: usize,
+        replacement: &str,
+        syntax: ReplacementSyntax,
+    ) -> Result<String, Error>
+        ensures replaced { (t : Table) → (o : Options) → (p : Pattern) → StandsFor self.now t o p →
+            let items = take limit (map (told (of_utf8 text.now)) (match_list t o p (chars text.now) 0)) in
+            IfOk result (λ s. string_bytes s ≡ replaced text.now items (map (replacement_text syntax (names_of_regex self.now) replacement.now text.now) items)) }
+        ensures replaced_of_tree { (n : ℕ) → (t : Tree) → HasTree self.now n t →
+            let items = take limit (map (told (of_utf8 text.now)) (tree_list self.now n t (chars text.now) 0)) in
+            IfOk result (λ s. string_bytes s ≡ replaced text.now items (map (replacement_text syntax (names_of_regex self.now) replacement.now text.now) items)) }
+        ensures refused { IsOkUnless result Error.OutOfMemory }
+    {
+        let read = AnyReplacement::new(self.alloc, replacement, syntax)?;
+        self.replace_first(text, limit, &read)
+    }
+
+    /// A text with its first matches, at most `limit`, replaced by what a replacement text that was read stands for there.
+    fn replace_first(
+        &self,
+        text: &str,
+        limit: usize,
+        read: &AnyReplacement<'_>,
+    ) -> Result<String, Error>
+        ensures replaced { (t : Table) → (o : Options) → (p : Pattern) → StandsFor self.now t o p →
+            let items = take limit (map (told (of_utf8 text.now)) (match_list t o p (chars text.now) 0)) in
+            IfOk result (λ s. string_bytes s ≡ replaced text.now items (map (replacement_text (syntax_of read.now) (names_of_regex self.now) (text_of read.now) text.now) items)) }
+        ensures replaced_of_tree { (n : ℕ) → (t : Tree) → HasTree self.now n t →
+            let items = take limit (map (told (of_utf8 text.now)) (tree_list self.now n t (chars text.now) 0)) in
+            IfOk result (λ s. string_bytes s ≡ replaced text.now items (map (replacement_text (syntax_of read.now) (names_of_regex self.now) (text_of read.now) text.now) items)) }
+        ensures refused { IsOkUnless result Error.OutOfMemory }
+    {
+        let mut matches = self.find_iter(text)?;
         let mut written = String::new(self.alloc);
-        let Some(found) = self.find(text)? else {
-            written.push_str(text)?;
-            return Ok(written);
-        };
-        let once = AnyReplacement::new(self.alloc, replacement, syntax)?;
-        written.push_str(&text[..found.start()])?;
-        once.write(&found, text, &mut written)?;
-        written.push_str(&text[found.end()..])?;
+        let mut behind = 0;
+        for _ in 0..limit {
+            let Some(found) = matches.next().transpose()? else {
+                break;
+            };
+            written.push_str(&text[behind..found.start()])?;
+            read.write(&found, text, &mut written)?;
+            behind = found.end();
+        }
+        written.push_str(&text[behind..])?;
         Ok(written)
     }
 

@@ -8,46 +8,17 @@ ghost use Rattle.regress_meaning.specs.Offsets.{Begins, characters, of_ucs2, of_
 ghost use Rattle.regress_front.specs.Trees.{Tree};
 ghost use Rattle.regress_match.specs.GroupViews.{names_of_match};
 ghost use Rattle.regress_match.specs.Views.{item_of};
-ghost use Rattle.regress_engine.specs.Search.{IsMadeOf, IsItemAtPlaces};
-ghost use Rattle.regress_engine.specs.Standing.{names_of, target_of};
-ghost use Rattle.regress_engine.specs.Views.{reading_of};
-ghost use Rattle.regress.specs.Programs.{IsLaidOutFrom};
-ghost use Rattle.regress.specs.Outcomes.{outcome_at, outcome_of_tree, tree_outcome, tree_outcome_in_units};
+ghost use Rattle.regress.specs.Outcomes.{outcome_at};
 
 use crate::api::Regex;
-use regress_engine::{
-    AsciiInput, BacktrackExecutor, CompiledRegex, ExecutorInput, Ucs2Input, Utf8Input, Utf16Input,
-};
+use regress_engine::{AsciiInput, Ucs2Input, Utf8Input, Utf16Input};
 use regress_front::Error;
 use regress_match::Match;
-use std::alloc::{AllocError, Global};
-
-/// The match of a program's run at an offset of an input; `None` past its end.
-fn outcome<Input: ExecutorInput>(
-    alloc: Global,
-    program: &CompiledRegex,
-    input: Input,
-    start: usize,
-) -> Result<Option<Match>, AllocError>
-    requires made { IsMadeOf program.now (Input.view input) }
-    requires start { (place : ℕ) × Begins (reading_of (Input.view input)) start place }
-    ensures of_tree { (n : ℕ) → (t : Tree) → IsLaidOutFrom (target_of program.now) n t →
-        (place : ℕ) → Begins (reading_of (Input.view input)) start place →
-        IfOk result (λ found. option_map item_of found ≡ option_map (told (reading_of (Input.view input))) (outcome_of_tree (target_of program.now) n t (reading_of (Input.view input)).points place)) }
-    ensures begins { IfOk result (λ found. IfSome found (λ m. m.range.start ≡ start)) }
-    ensures inside { IfOk result (λ found. IfSome found (λ m. IsItemAtPlaces (reading_of (Input.view input)) (item_of m))) }
-    ensures named { IfOk result (λ found. IfSome found (λ m. names_of_match m ≡ names_of program.now)) }
-{
-    if start > input.pos_to_offset(input.right_end()) {
-        return Ok(None);
-    }
-    let mut executor = BacktrackExecutor::with_input(alloc, program, input);
-    executor.match_at(start)
-}
+use regress_programs::match_at;
 
 impl Regex {
     ghost use Rattle.regress_match.specs.TextRanges.{LiesInText};
-    ghost use Rattle.regress.specs.Standing.{StandsFor, StandsInUnits, HasTree, HasTreeInUnits, names_of_regex};
+    ghost use Rattle.regress.specs.Standing.{StandsFor, StandsInUnits, HasTree, HasTreeInUnits, names_of_regex, tree_outcome, tree_outcome_in_units};
     ghost use Rattle.regress.specs.Coming.{BeginsAndEndsAtStarts};
     ghost use Rattle.regress.specs.Units.{IsMatchInUnits};
 
@@ -76,7 +47,7 @@ impl Regex {
     {
         let program = &self.compiled.byte_program;
         let input = Utf8Input::new(text, program.flags().is_unicode(), program.tables());
-        let found = outcome(self.alloc, program, input, start)?;
+        let found = match_at(self.alloc, program, input, start)?;
         Ok(found)
     }
 
@@ -103,7 +74,7 @@ impl Regex {
     {
         let program = &self.compiled.byte_program;
         let input = AsciiInput::new(text, program.flags().is_unicode(), program.tables());
-        let found = outcome(self.alloc, program, input, start)?;
+        let found = match_at(self.alloc, program, input, start)?;
         Ok(found)
     }
 
@@ -129,7 +100,7 @@ impl Regex {
     {
         let program = &self.compiled.unit_program;
         let input = Utf16Input::new(units, program.flags().is_unicode(), program.tables());
-        let found = outcome(self.alloc, program, input, start)?;
+        let found = match_at(self.alloc, program, input, start)?;
         Ok(found)
     }
 
@@ -152,7 +123,7 @@ impl Regex {
     {
         let program = &self.compiled.unit_program;
         let input = Ucs2Input::new(units, program.flags().is_unicode(), program.tables());
-        let found = outcome(self.alloc, program, input, start)?;
+        let found = match_at(self.alloc, program, input, start)?;
         Ok(found)
     }
 }

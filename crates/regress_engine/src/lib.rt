@@ -15,7 +15,7 @@
 
 pub use regress_engine_code::{CompiledRegex, emit, emit_units};
 pub use regress_engine_copying::PikeVMExecutor;
-pub use regress_engine_exec::BacktrackExecutor;
+pub use regress_engine_exec::{BacktrackExecutor, Scratch};
 pub use regress_engine_input::{
     Backward, CodeUnit, Direction, ElementType, Forward, InputIndexer, PositionType,
     ascii_tests_see_bytes, cursor, inputs_go_back, inputs_tell_bytes, inputs_tell_texts,
@@ -40,5 +40,5 @@ pub use regress_engine_runs::{
 };
 pub use regress_engine_search::{
     AnyText, AsciiText, Executor, ExecutorInput, SearchContext, Shown, TextKind, executors_agree,
-    executors_list_matches, executors_match_as_trees, start_predicates_may_skip,
+    executors_list_matches, executors_match_as_trees, fill_slots, start_predicates_may_skip,
 };

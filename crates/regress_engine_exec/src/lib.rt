@@ -5,6 +5,7 @@ mod attempt;
 mod back;
 mod executor;
 mod producer;
+mod scratch;
 mod search;
 mod singles;
 mod step;
@@ -12,4 +13,5 @@ mod turns;
 mod ways;
 
 pub use regress_engine_search::{ExecutorInput, Shown};
+pub use scratch::Scratch;
 pub use search::BacktrackExecutor;

@@ -1,5 +1,5 @@
 //! The search for the first place from which a run has an answer.
-ghost use Rattle.std.specs.Prelude.{◌≡◌, false, option_map, IfOk, IfSome};
+ghost use Rattle.std.specs.Prelude.{◌≡◌, false, option_map, IfOk, IfSome, OnErr};
 ghost use Rattle.regress_match.specs.GroupViews.{names_of_match};
 ghost use Rattle.regress_match.specs.Views.{item_of};
 ghost use Rattle.regress_engine_code.specs.Standing.{names_of, program_of};
@@ -9,29 +9,27 @@ ghost use Rattle.regress_front_tables.specs.TableViews.{table};
 ghost use Rattle.regress_engine_input.specs.Views.{input_of, reading_of, utf8};
 ghost use Rattle.regress_engine_runs.specs.Items.{Finds};
 ghost use Rattle.regress_engine_runs.specs.Meets.{IsAtPlace};
-ghost use Rattle.regress_engine_search.specs.Answering.{IsFound, IsOutcome};
+ghost use Rattle.regress_engine_search.specs.Answering.{IsAnswer, IsFound, IsOutcome};
 ghost use Rattle.regress_engine_undo.specs.Held.{held};
-ghost use Rattle.regress_engine_search.specs.Search.{IsMadeOf, IsItemAtPlaces};
+ghost use Rattle.regress_engine_search.specs.Search.{IsMadeOf, IsItemAtPlaces, IsWritten};
 
 use crate::attempt::Attempt;
+use crate::scratch::Scratch;
 use regress_engine_advance::beside;
 use regress_engine_code::CompiledRegex;
 use regress_engine_inputs::Utf8Input;
 use regress_engine_leading::{Beginning, known_at};
-use regress_engine_search::{ExecutorInput, SearchContext, Shown};
-use regress_engine_undo::Memory;
-use regress_front_core::GroupData;
-use regress_match::{Match, MatchProducer};
+use regress_engine_search::{ExecutorInput, SearchContext, Shown, fill_slots};
+use regress_match::{Match, MatchProducer, Range};
 use std::alloc::{AllocError, Global};
 
-/// Finds the matches of a program in a text. It holds one state and one stack of what is to be undone, which it keeps from one
-/// search to the next, and no call of it calls it again.
+/// Finds the matches of a program in a text. It holds one state and one stack of what is to be undone, its scratch, which it keeps
+/// from one search to the next, and no call of it calls it again.
 #[derive(Debug, Drop)]
 pub struct BacktrackExecutor<'r, Input: Shown> {
     alloc: Global,
     pub(crate) context: SearchContext<'r, Input>,
-    memory: Memory,
-    answer: Vec<GroupData<usize>>,
+    scratch: Scratch,
 }
 
 impl<'r, Input: ExecutorInput> BacktrackExecutor<'r, Input> {
@@ -48,19 +46,48 @@ impl<'r, Input: ExecutorInput> BacktrackExecutor<'r, Input> {
         ensures program { (⟦<BacktrackExecutor<'r, Input> as MatchProducer>⟧.search_of result).compiled ≡ program.entry.now }
         ensures text { (⟦<BacktrackExecutor<'r, Input> as MatchProducer>⟧.search_of result).view ≡ Input.view input }
     {
+        BacktrackExecutor::with_scratch(alloc, program, input, Scratch::new(alloc))
+    }
+
+    /// The executor of a program over a text, as `with_input` makes it, with room that other searches have left.
+    ///
+    /// Asks that the program is made for the text: of units over UTF-16 and UCS-2, else of bytes, with the text's tables and
+    /// mode.
+    ///
+    /// ```rust
+    /// let mut executor = BacktrackExecutor::with_scratch(alloc, &program, input, scratch);
+    /// ```
+    pub fn with_scratch(
+        alloc: Global,
+        program: &'r CompiledRegex,
+        input: Input,
+        scratch: Scratch,
+    ) -> Self
+        requires made { IsMadeOf program.now (Input.view input) }
+        ensures program { (⟦<BacktrackExecutor<'r, Input> as MatchProducer>⟧.search_of result).compiled ≡ program.entry.now }
+        ensures text { (⟦<BacktrackExecutor<'r, Input> as MatchProducer>⟧.search_of result).view ≡ Input.view input }
+    {
         BacktrackExecutor {
             alloc,
             context: SearchContext::new(program, input),
-            memory: Memory::new(alloc),
-            answer: Vec::new(alloc),
+            scratch,
         }
+    }
+
+    /// The room that its searches leave to others.
+    ///
+    /// ```rust
+    /// let scratch = executor.into_scratch();
+    /// ```
+    pub fn into_scratch(self) -> Scratch {
+        self.scratch
     }
 
     /// Searches from an offset on, where the text goes on as the program's start predicate says. It answers the offset from
     /// which the first run has an answer, and where that ends; the answer's groups are then held.
     fn search(&mut self, offset: usize) -> Result<Option<(usize, usize)>, AllocError>
         requires { IsAtPlace (reading_of (Input.view self.old.context.input)) offset }
-        ensures found { IfOk result (λ found. IsFound (program_of self.old.context.program.now) (input_of (Input.view self.old.context.input)) offset found (held self.new.memory).groups) }
+        ensures found { IfOk result (λ found. IsFound (program_of self.old.context.program.now) (input_of (Input.view self.old.context.input)) offset found (held self.new.scratch.memory).groups) }
         ensures kept { self.new.context ≡ self.old.context }
     {
         let context = &self.context;
@@ -81,7 +108,11 @@ impl<'r, Input: ExecutorInput> BacktrackExecutor<'r, Input> {
                 input: context.input,
                 start,
             };
-            if let Some(end) = attempt.run(first, &mut self.memory, &mut self.answer)? {
+            if let Some(end) = attempt.run(
+                first,
+                &mut self.scratch.memory,
+                &mut self.scratch.answer,
+            )? {
                 return Ok(Some((start, end)));
             }
             let Some((_, behind)) = beside(&context.input, true, start) else {
@@ -89,6 +120,20 @@ impl<'r, Input: ExecutorInput> BacktrackExecutor<'r, Input> {
             };
             from = behind;
         }
+    }
+
+    /// Runs the program from an offset. It answers where the run's answer ends, whose groups are then held.
+    fn run_at(&mut self, offset: usize) -> Result<Option<usize>, AllocError>
+        requires { IsAtPlace (reading_of (Input.view self.old.context.input)) offset }
+        ensures answer { IfOk result (λ end. IsAnswer (program_of self.old.context.program.now) (input_of (Input.view self.old.context.input)) offset end (held self.new.scratch.memory).groups) }
+        ensures kept { self.new.context ≡ self.old.context }
+    {
+        let attempt = Attempt {
+            program: self.context.program,
+            input: self.context.input,
+            start: offset,
+        };
+        attempt.run(0, &mut self.scratch.memory, &mut self.scratch.answer)
     }
 
     /// The match at the least place from an offset on: that of the program's run from there, begun at the first instruction
@@ -112,8 +157,35 @@ impl<'r, Input: ExecutorInput> BacktrackExecutor<'r, Input> {
         };
         let found = self
             .context
-            .match_of(self.alloc, start..end, &self.memory.groups)?;
+            .match_of(self.alloc, start..end, &self.scratch.memory.groups)?;
         Ok(Some(found))
+    }
+
+    /// Finds what `find_from` does, and writes it to `slots`: the range of the match, then that of each group, as many as there is
+    /// room for, and behind the last group `None`. It answers the range of the match; where there is none it answers `None`, and
+    /// the slots stay as they were, as they do where memory is refused. Only the scratch may grow: it asks for no other memory.
+    ///
+    /// Asks that the offset is that of a place of the text.
+    ///
+    /// ```rust
+    /// let mut slots = [None, None];
+    /// let range = executor.find_into(0, &mut slots)?;
+    /// ```
+    pub fn find_into(
+        &mut self,
+        offset: usize,
+        slots: &mut [Option<Range>],
+    ) -> Result<Option<Range>, AllocError>
+        requires { IsAtPlace (reading_of (Input.view self.old.context.input)) offset }
+        ensures found { IfOk result (λ found. IsWritten (Finds (program_of self.old.context.program.now) (input_of (Input.view self.old.context.input)) offset) (reading_of (Input.view self.old.context.input)) found slots.old slots.new) }
+        ensures untouched { OnErr result (slots.new ≡ slots.old) }
+        ensures kept { self.new.context ≡ self.old.context }
+    {
+        let Some((start, end)) = self.search(offset)? else {
+            return Ok(None);
+        };
+        fill_slots(start..end, &self.scratch.memory.groups, slots);
+        Ok(Some(start..end))
     }
 
     /// The match that begins at an offset: that of the program's run from there, begun at the first instruction with nothing
@@ -132,18 +204,38 @@ impl<'r, Input: ExecutorInput> BacktrackExecutor<'r, Input> {
         ensures named { IfOk result (λ found. IfSome found (λ m. names_of_match m ≡ names_of self.old.context.program.now)) }
         ensures kept { self.new.context ≡ self.old.context }
     {
-        let attempt = Attempt {
-            program: self.context.program,
-            input: self.context.input,
-            start: offset,
-        };
-        let Some(end) = attempt.run(0, &mut self.memory, &mut self.answer)? else {
+        let Some(end) = self.run_at(offset)? else {
             return Ok(None);
         };
         let found = self
             .context
-            .match_of(self.alloc, offset..end, &self.memory.groups)?;
+            .match_of(self.alloc, offset..end, &self.scratch.memory.groups)?;
         Ok(Some(found))
+    }
+
+    /// Finds what `match_at` does, and writes it to `slots` as `find_into` does.
+    ///
+    /// Asks that the offset is that of a place of the text.
+    ///
+    /// ```rust
+    /// let mut slots = [None, None];
+    /// let range = executor.match_into(3, &mut slots)?;
+    /// ```
+    pub fn match_into(
+        &mut self,
+        offset: usize,
+        slots: &mut [Option<Range>],
+    ) -> Result<Option<Range>, AllocError>
+        requires { IsAtPlace (reading_of (Input.view self.old.context.input)) offset }
+        ensures outcome { IfOk result (λ found. IsWritten (IsOutcome (program_of self.old.context.program.now) (input_of (Input.view self.old.context.input)) offset) (reading_of (Input.view self.old.context.input)) found slots.old slots.new) }
+        ensures untouched { OnErr result (slots.new ≡ slots.old) }
+        ensures kept { self.new.context ≡ self.old.context }
+    {
+        let Some(end) = self.run_at(offset)? else {
+            return Ok(None);
+        };
+        fill_slots(offset..end, &self.scratch.memory.groups, slots);
+        Ok(Some(offset..end))
     }
 }
 

@@ -5,6 +5,7 @@ pub mod TaskLemmas
 pub mod SubmatchLemmas
 pub mod ReadyLemmas
 pub mod PlaceLemmas
+pub mod SlotLemmas
 pub mod GivenBack
 pub mod SearchLemmas
 pub mod SkipLemmas

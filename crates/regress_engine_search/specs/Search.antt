@@ -1,5 +1,6 @@
 -- What is searched with a program, and what searches find.
 use Rattle.std.specs.Prelude.{◌≡◌, ℕ, zero, suc, ◌-◌, ◌≤◌, not, List, [], ◌∷◌, length, Option, Some, None, Result, Ok, Err, All, IfSome, if◌then◌else◌, nat_le}
+use Rattle.std.specs.declared.ops.Range.{Range}
 use Rattle.std.proofs.Common.{arith}
 use Rattle.std.proofs.lemmas.Bool.{cond_both}
 use Rattle.regress_meaning.specs.Meaning.{Forward}
@@ -8,6 +9,7 @@ use Rattle.regress_meaning.specs.Offsets.{Reading, offset, Begins}
 use Rattle.regress_match.specs.declared.found.Match.{Match}
 use Rattle.regress_match.specs.GroupViews.{names_of_match}
 use Rattle.regress_match.specs.Iterating.{coming_on}
+use Rattle.regress_match.specs.Slots.{Fills}
 use Rattle.regress_match.specs.Views as match
 use Rattle.regress_engine_input.specs.Views.{View, are_bytes, input_of, reading_of}
 use Rattle.regress_engine_insn.specs.Instructions.{Program}
@@ -34,6 +36,10 @@ pub record IsMadeOf (compiled : CompiledRegex) (v : View) : Type 0 where
 -- both ends of an item are at places, and so are those of each range that a group took
 abbrev pub IsItemAtPlaces : Reading → Item → Type 0
 IsItemAtPlaces reading i = AreAtPlaces reading (i.start, i.end) × All (λ g. IfSome g (AreAtPlaces reading)) i.groups
+
+-- An item at places, if any, is the result of a run or of a search, and was written to slots.
+abbrev pub IsWritten : (Option Item → Type 0) → Reading → Option (Range ℕ) → List (Option (Range ℕ)) → List (Option (Range ℕ)) → Type 0
+IsWritten IsResult reading found before after = (i : Option Item) × IsResult i × IfSome i (IsItemAtPlaces reading) × Fills i found before after
 
 -- The items that searches find one behind another from an offset on, all of them at places.
 pub record Listed (program : Program) (v : View) (at : ℕ) : Type 0 where

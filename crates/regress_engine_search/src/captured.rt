@@ -1,5 +1,7 @@
-//! The captures of a match.
-ghost use Rattle.std.specs.Prelude.{◌≡◌, map, option_map, IfOk};
+//! The captures of a match, as a list of its own or in slots of a caller.
+ghost use Rattle.std.specs.Prelude.{◌≡◌, ◌∷◌, length, map, option_map, Some, IfOk};
+ghost use Rattle.regress_match.specs.GroupRanges.{numbered};
+ghost use Rattle.regress_match.specs.Slots.{slots_of};
 ghost use Rattle.regress_match.specs.Views.{ends};
 ghost use Rattle.regress_engine_runs.specs.States.{range_of};
 ghost use Rattle.regress_engine_search.specs.StateViews.{marks_of};
@@ -31,4 +33,28 @@ pub(crate) fn captures(
         found.push(taken(group))?;
     }
     Ok(found)
+}
+
+/// The range for the slot of an index: first that of the whole match, then that of each group.
+fn slot(range: &Range, groups: &[GroupData<usize>], index: usize) -> Option<Range>
+    ensures { option_map ends result ≡ numbered (Some (ends range.now) ∷ map (λ g. range_of (marks_of g)) groups.now) index }
+{
+    if index == 0 {
+        return Some(range.start..range.end);
+    }
+    taken(groups.get(index - 1)?)
+}
+
+/// Fills slots with the range of a match, and then with that of each group, as many as there is room for; behind the last group
+/// with `None`.
+///
+/// ```rust
+/// fill_slots(1..3, &groups, &mut slots);
+/// ```
+pub fn fill_slots(range: Range, groups: &[GroupData<usize>], slots: &mut [Option<Range>])
+    ensures { map (option_map ends) slots.new ≡ slots_of (length slots.old) (Some (ends range) ∷ map (λ g. range_of (marks_of g)) groups.now) }
+{
+    for index in 0..slots.len() {
+        slots[index] = slot(&range, groups, index);
+    }
 }

@@ -9,6 +9,7 @@ mod laws;
 mod shown;
 mod submatch;
 
+pub use captured::fill_slots;
 pub use context::SearchContext;
 pub use executor::{AnyText, AsciiText, Executor, TextKind};
 pub use laws::{

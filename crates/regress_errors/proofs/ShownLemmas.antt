@@ -1,5 +1,8 @@
 -- Patterns as texts: characters stand for themselves.
-use Rattle.std.proofs.Common.{◌≡◌, ℕ, Bool, true, false, ◌&&◌, if◌then◌else◌, List, [], ◌∷◌, map, chars, length, take, Option, Some, None, Result, Ok, Err, IfOk, IfSome, refl, sym, ap, ap₂, subst, ◌∙◌}
+use Rattle.std.specs.Prelude.{◌*◌, ◌≤◌, nat_lt, sum_by}
+use Rattle.std.proofs.lemmas.Bool.{cond_both}
+use Rattle.std.proofs.lemmas.List.Sums.{sum_by-cons}
+use Rattle.std.proofs.Common.{◌≡◌, ℕ, arith, Bool, true, false, ◌&&◌, if◌then◌else◌, List, [], ◌∷◌, map, chars, length, take, Option, Some, None, Result, Ok, Err, IfOk, IfSome, refl, sym, ap, ap₂, subst, ◌∙◌}
 use lib.Utf8.{scalar}
 use Rattle.std.proofs.lemmas.List.{take-map}
 use Rattle.std.proofs.lemmas.Str.{encodes-chars, scalars-chars}
@@ -8,7 +11,7 @@ use Rattle.regress_meaning.specs.Offsets.{of_utf8, offset}
 use Rattle.regress_front_core.specs.declared.error.Error.{Error}
 use Rattle.regress_front_bytes.proofs.TextLemmas.{length-encodes, offset_is_boundary}
 use Rattle.regress_errors.specs.declared.refusing.SyntaxError.{SyntaxError}
-use Rattle.regress_errors.specs.Texts.{shown, shown_text}
+use Rattle.regress_errors.specs.Texts.{shown, shown_text, unit_width}
 
 both-pass : (a b : Bool) → (a && b) ≡ true → (a ≡ true) × (b ≡ true)
 both-pass true b e = (refl, e)
@@ -44,3 +47,11 @@ pub stops-between : (found : Result (Option SyntaxError) Error) (bytes : List �
 stops-between (Ok (Some e)) bytes utf8 told = subst (IsCharBoundary bytes) (sym told) (offset_is_boundary bytes utf8 e.place)
 stops-between (Ok None) bytes utf8 told = tt
 stops-between (Err refused) bytes utf8 told = tt
+
+-- a code point takes two units at most
+width-at_most : (c : ℕ) → unit_width c ≤ 2
+width-at_most c = cond_both (nat_lt c 0x1_0000) 1 2 (λ n. n ≤ 2) (λ _. omega arith) (λ _. omega arith)
+
+pub units-at_most : (cs : List ℕ) → sum_by unit_width cs ≤ length cs * 2
+units-at_most [] = omega arith
+units-at_most (c ∷ cs) = omega (arith, sum_by-cons unit_width c cs, width-at_most c, units-at_most cs)

@@ -8,5 +8,5 @@ mod text;
 
 pub use errors::CompileError;
 pub use pointing::SyntaxErrorDisplay;
-pub use refusing::{SyntaxError, syntax_error, syntax_error_in_points};
+pub use refusing::{SyntaxError, syntax_error, syntax_error_in_points, syntax_error_in_units};
 pub use text::{code_points, text_of};

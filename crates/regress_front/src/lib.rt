@@ -4,12 +4,12 @@
 //! ```rust
 //! use regress_front::{CodePoint, Error, Flags, Tables, are_code_points, optimize, try_parse};
 //!
-//! fn print(alloc: Global, pattern: &[CodePoint]) -> Result<String, Error> {
+//! fn print(alloc: Global, pattern: &[CodePoint], flags: Flags) -> Result<String, Error> {
 //!     if !are_code_points(pattern) {
 //!         return Err(Error::Syntax { text: "no code point" });
 //!     }
 //!     let tables = Tables::small(alloc).map_err(|_| Error::OutOfMemory)?;
-//!     let mut regex = try_parse(alloc, pattern, Flags::from("i"), &tables)?;
+//!     let mut regex = try_parse(alloc, pattern, flags, &tables)?;
 //!     optimize(alloc, &mut regex)?;
 //!     Ok(regex.to_string(alloc)?)
 //! }
@@ -50,4 +50,4 @@ pub use regress_front_tables::{
     TableError, TableLaw, TableParts, Tables, add_icase_code_points, closure, expand_code_point,
     fold, fold_is_idempotent, lawful_parts_break_no_law, unfold_char,
 };
-pub use regress_front_tree::try_parse;
+pub use regress_front_tree::{try_parse, try_parse_whole_text};

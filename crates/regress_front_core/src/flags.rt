@@ -74,7 +74,8 @@ impl Flags {
         Ok(script)
     }
 
-    /// Whether they set Unicode mode: `u` or `v` ("RegExp Records"). `Flags::from("iv").is_unicode()` is true.
+    /// Whether they set Unicode mode: `u` or `v` ("RegExp Records"). `Flags::parse("iv")?.flags.is_unicode()` is
+    /// true.
     pub fn is_unicode(self) -> bool
         ensures { result ≡ is_unicode (options self) }
     {
@@ -82,7 +83,8 @@ impl Flags {
     }
 }
 
-/// The flags that a word sets, as `Flags::new` reads its code points: `Flags::from("im")` sets `icase` and `multiline`.
+/// The flags that the letters of a word set. What it doesn't know it skips, as the crate does, so no word is an error:
+/// `Flags::from("i, m")` sets `icase` and `multiline`. `Flags::parse` refuses such a word.
 impl From<&str> for Flags {
     ghost from_gives = { λ text flags. flags ≡ flags_of (chars text.now) };
 
@@ -91,8 +93,8 @@ impl From<&str> for Flags {
     }
 }
 
-/// The letters of the flags that are set, in the order `misuv`, as `iv` for `Flags::from("vi")`. Nothing is written for
-/// `no_opt`.
+/// The letters of the flags that are set, in the order `misuv`, as `iv` for those of `Flags::parse("vi")?`. Nothing is
+/// written for `no_opt`.
 impl fmt::Display for Flags {
     ghost output = { λ flags. Some (letters_of flags) };
 

@@ -43,7 +43,7 @@ fn round(alloc: Global, node: &mut Node) -> Result<bool, Error>
 /// `Error::OutOfMemory` alone, and then the tree is rewritten in part: it still matches the same.
 ///
 /// ```rust
-/// let mut regex = try_parse(alloc, &[0x61, 0x2A], Flags::from(""), &tables)?; // /a*/
+/// let mut regex = try_parse(alloc, &[0x61, 0x2A], Flags::default(), &tables)?; // /a*/
 /// optimize(alloc, &mut regex)?; // a `Loop1CharBody` in place of the `Loop`
 /// ```
 pub fn optimize(alloc: Global, regex: &mut Regex) -> Result<(), Error>

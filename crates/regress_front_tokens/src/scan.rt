@@ -67,8 +67,8 @@ fn group_names(
     Ok(names)
 }
 
-/// The mode of a pattern's text with flags ("ParsePattern"): `mode_of(alloc, &points, Flags::from("u"), &tables)?` is a Unicode
-/// mode. `OutOfMemory` is the only error.
+/// The mode of a pattern's text with flags ("ParsePattern"): Unicode mode where these set it. So
+/// `mode_of(alloc, &points, Flags::default(), &tables)?` is none. `OutOfMemory` is the only error.
 pub fn mode_of<'t>(
     alloc: Global,
     points: &[CodePoint],

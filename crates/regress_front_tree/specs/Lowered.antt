@@ -31,11 +31,12 @@ pub record IsLowered (n k : ℕ) (p : Pattern) (t : Tree) (l : ℕ) : Type 0 whe
   -- no repetition is told to be of one character
   pub plain : HoldsNoSingleLoop t
 
--- The whole tree of a pattern: well formed, its groups named as the pattern's, with few loops for its text, and without `v`
--- small for it.
+-- The whole tree of a pattern: well formed, its groups named as the pattern's, with few loops and few groups for its text, and
+-- without `v` small for it.
 pub record IsWhole (o : Options) (text : List ℕ) (p : Pattern) (t : Tree) : Type 0 where
   pub well_formed : IsWellFormed (length (names_of p)) t
   pub named : (k : ℕ) → name_by_number k t ≡ slice_get (names_of p) k
   pub small : o.sets ≡ false → size t ≤ (length text + 4) * (length text + 4)
   pub few_loops : loops t ≤ length text
+  pub few_groups : length (names_of p) ≤ length text
   pub plain : HoldsNoSingleLoop t

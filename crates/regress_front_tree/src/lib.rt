@@ -7,5 +7,6 @@ mod brackets;
 mod lawful;
 mod lowering;
 mod parse;
+mod wholes;
 
-pub use parse::try_parse;
+pub use parse::{try_parse, try_parse_whole_text};

@@ -1,4 +1,5 @@
 pub mod Views
+pub mod Slots
 pub mod GroupNames
 pub mod GroupViews
 pub mod TextRanges

@@ -14,6 +14,11 @@ first_taken name group k [] = None
 first_taken name group k (n ∷ names) =
     if same_text n name then option_or (group k) (first_taken name group (k + 1) names) else first_taken name group (k + 1) names
 
+-- what the first group took that has the name and took part, and nothing for the empty name
+abbrev pub named_taken : {A : Type 0} → List (List ℕ) → List (Option A) → List ℕ → Option A
+named_taken names groups [] = None
+named_taken names groups (c ∷ name) = first_taken (c ∷ name) (numbered groups) 0 names
+
 -- a name that is not empty, and none of these
 abbrev pub is_new : List (List ℕ) → List ℕ → Bool
 is_new seen [] = false

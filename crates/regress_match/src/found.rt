@@ -1,10 +1,10 @@
 //! A match, and what is read from it.
-ghost use Rattle.std.specs.Prelude.{◌≡◌, ◌≢◌, ◌<◌, ◌≤◌, ◌-◌, ℕ, List, [], Some, None, IfSome, IfNone, length, map, unwrap_or, vec_len, slice_get, slice_range, option_map, option_copied, IfOk, IsOkUnless};
+ghost use Rattle.std.specs.Prelude.{◌≡◌, ◌≢◌, ◌<◌, ◌≤◌, ◌-◌, ◌↔◌, ℕ, List, IsTrue, [], Some, None, IfSome, IfNone, length, map, unwrap_or, vec_len, slice_get, slice_range, option_map, option_copied, IfOk, IsOkUnless};
 ghost use Rattle.std.specs.Str.{IsCharBoundary};
 ghost use Rattle.std.specs.String.{string_bytes};
 
 use crate::groups::Groups;
-use crate::named::NamedGroups;
+use crate::named::{NamedGroups, taken};
 use regress_front_core::{CaptureGroupName, Error};
 use std::sync::ArcSlice;
 
@@ -12,7 +12,9 @@ use std::sync::ArcSlice;
 pub type Range = std::ops::Range<usize>;
 
 /// A match.
-#[derive(Debug, Drop)]
+///
+/// Two matches are equal where their ranges are, those of all groups, and the names of the groups.
+#[derive(Debug, Drop, PartialEq, Eq)]
 pub struct Match {
     /// Where the match lies, in bytes of the text that was searched.
     pub range: Range,
@@ -43,7 +45,7 @@ fn copied(range: &Option<Range>) -> Option<Range>
 impl Match {
     ghost use Rattle.regress_match.specs.GroupViews.{groups_of, groups_left, names_of_match};
     ghost use Rattle.regress_match.specs.GroupNames.{IsFirstNamed, shared_names};
-    ghost use Rattle.regress_match.specs.NamedRanges.{named_from};
+    ghost use Rattle.regress_match.specs.NamedRanges.{named_from, named_taken};
     ghost use Rattle.regress_match.specs.NamedGroupViews.{named_left};
     ghost use Rattle.regress_match.specs.GroupRanges.{range_numbered, range_named, part_of};
     ghost use Rattle.regress_match.specs.TextRanges.{LiesBetween, LiesInText};
@@ -113,8 +115,31 @@ impl Match {
         self.group(first_named(&self.group_names, name)? + 1)
     }
 
-    /// The name of each capturing group in order of its number.
-    pub(crate) fn names(&self) -> &[CaptureGroupName]
+    /// The range of the group with a name, in bytes of the text that was searched: of several groups with the name, the first
+    /// that took part, as `groups` of a match has it in ECMAScript ("RegExpBuiltinExec"). `None` where no such group took part,
+    /// where no group has the name, and for the empty name.
+    ///
+    /// ```rust
+    /// let digits = found.name("n"); // for `(?<n>a)|(?<n>b)` on `b` `Some(0..1)`
+    /// ```
+    pub fn name(&self, name: &str) -> Option<Range>
+        ensures value { result ≡ named_taken (names_of_match self.now) self.now.captures.items name.now }
+        ensures inside { (bytes : List ℕ) → LiesInText bytes self.now → IfSome result (LiesBetween bytes) }
+    {
+        if name.is_empty() {
+            return None;
+        }
+        taken(self, name)
+    }
+
+    /// The name of each capturing group in order of its number, empty where it has none.
+    ///
+    /// ```rust
+    /// for (index, name) in found.group_names().iter().enumerate() {
+    ///     let range = found.group(index + 1);
+    /// }
+    /// ```
+    pub fn group_names(&self) -> &[CaptureGroupName]
         ensures { map string_bytes result.now ≡ names_of_match self.now }
     {
         &self.group_names
@@ -178,6 +203,28 @@ impl Match {
         ensures { result ≡ self.now.range.end }
     {
         self.range.end
+    }
+
+    /// How many bytes of the text that was searched the match takes.
+    ///
+    /// ```rust
+    /// let len = found.len(); // for the match at 1..4 it is 3
+    /// ```
+    pub fn len(&self) -> usize
+        ensures { result ≡ self.now.range.end - self.now.range.start }
+    {
+        self.end().saturating_sub(self.start())
+    }
+
+    /// Whether the match takes nothing.
+    ///
+    /// ```rust
+    /// let empty = found.is_empty(); // for the match at 2..2 true
+    /// ```
+    pub fn is_empty(&self) -> bool
+        ensures { IsTrue result ↔ (self.now.range.end ≤ self.now.range.start) }
+    {
+        self.end() <= self.start()
     }
 
     /// The part of `text` at which the match lies, where `text` is the text that was searched. In any other text both ends

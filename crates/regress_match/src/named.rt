@@ -1,9 +1,10 @@
 //! The named groups of a match, one name after another.
-ghost use Rattle.std.specs.Prelude.{◌≡◌, ◌+◌, ◌<◌, ◌≤◌, [], ◌∷◌, length, map, take, drop, string_bytes, IfSome, IfNone, Some, slice_index_or};
+ghost use Rattle.std.specs.Prelude.{◌≡◌, ◌+◌, ◌<◌, ◌≤◌, ℕ, List, [], ◌∷◌, length, map, take, drop, string_bytes, IfSome, IfNone, Some, slice_index_or};
 ghost use Rattle.std.specs.Iterator.{UpTo, item_count};
 ghost use Rattle.std.specs.Iterator.SizeHint.{IsWithinCount};
 ghost use Rattle.regress_match.specs.GroupViews.{names_of_match};
 ghost use Rattle.regress_match.specs.NamedRanges.{is_new, new_names, taken_by};
+ghost use Rattle.regress_match.specs.TextRanges.{LiesBetween, LiesInText};
 
 use crate::found::{Match, Range, first_named};
 use regress_front_core::CaptureGroupName;
@@ -47,10 +48,11 @@ fn next_first(names: &[CaptureGroupName], start: usize) -> Option<usize>
 }
 
 /// What the first group of a name took that took part.
-fn taken(found: &Match, name: &str) -> Option<Range>
-    ensures { result ≡ taken_by found.now name.now }
+pub(crate) fn taken(found: &Match, name: &str) -> Option<Range>
+    ensures value { result ≡ taken_by found.now name.now }
+    ensures inside { (bytes : List ℕ) → LiesInText bytes found.now → IfSome result (LiesBetween bytes) }
 {
-    for (index, other) in found.names().iter().enumerate() {
+    for (index, other) in found.group_names().iter().enumerate() {
         if other.as_str() == name {
             if let Some(range) = found.group(index + 1) {
                 return Some(range);
@@ -103,7 +105,7 @@ impl<'m> Iterator for NamedGroups<'m> {
     /// let first = found.named_groups().next(); // `Some(("year", Some(range)))`
     /// ```
     fn next(&mut self) -> Option<(&'m str, Option<Range>)> {
-        let names = self.found.names();
+        let names = self.found.group_names();
         let Some(index) = next_first(names, self.index) else {
             self.index = names.len();
             return None;
@@ -135,7 +137,7 @@ impl<'m> ExactSizeIterator for NamedGroups<'m> {
     /// let count = found.named_groups().len();
     /// ```
     fn len(&self) -> usize {
-        let names = self.found.names();
+        let names = self.found.group_names();
         let mut count = 0;
         for index in self.index..names.len() {
             if is_first(names, index) {

@@ -1,10 +1,10 @@
 -- A pattern in `(?:..)` or in `(?>..)`: the text that spells it, and what it matches.
-use Rattle.std.proofs.Common.{◌≡◌, ℕ, ◌+◌, take, ◌-◌, Bool, true, false, not, ◌&&◌, ◌||◌, ◌==◌, nat_eq, eqb-true, List, [], ◌∷◌, length, append-nil, map-id, Option, codes, refl, sym, ap, ap₂, subst₂, ◌∙◌}
+use Rattle.std.proofs.Common.{◌≡◌, ℕ, ◌+◌, take, drop, ◌-◌, Bool, true, false, not, ◌&&◌, ◌||◌, ◌==◌, nat_eq, eqb-true, List, [], ◌∷◌, length, append-nil, map-id, Option, codes, refl, sym, ap, ap₂, subst₂, ◌∙◌}
 use Rattle.std.proofs.lemmas.List.Concat.{flat_map_single}
 use Rattle.std.specs.List.{flat_map}
 use Rattle.std.proofs.lemmas.Bool.{and_right}
 use Rattle.std.specs.List.{starts_with}
-use Rattle.regress_meaning.specs.Text.{◌∈◌}
+use Rattle.regress_meaning.specs.Text.{◌∈◌, is_at}
 use Rattle.regress_meaning.specs.Table.{Table}
 use Rattle.regress_meaning.specs.Class.{Class}
 use Rattle.regress_meaning.specs.Pattern.{Pattern, Settings, names_of, nothing, sequence, grouped, atomic, repeated}
@@ -201,25 +201,38 @@ module _ (w : List ℕ) where
           modifiers_off (span_more w is_flag refl t ∙ ap (closed_rest w) e)
           (span_more w is_flag refl u ∙ ap (closed_rest w) f) h k (disjunction_more a)
 
--- a `)` at the end makes no opening of a name, and unmakes none
-opens_name_more : (c : ℕ) (t : List ℕ) → opens_name (closed [] (c ∷ t)) ≡ opens_name (c ∷ t)
-opens_name_more c [] = refl
-opens_name_more c (d ∷ []) = refl
-opens_name_more c (d ∷ e ∷ t) = ap (λ b. starts_with nat_eq (c ∷ d ∷ e ∷ []) (codes "(?<") && not b) (is_at_more [] (λ c. c ∈ "=!") refl t)
+-- where the mark is not there, what follows it is not asked
+lost : (a b c d : Bool) → ((a && (b && false)) && c) ≡ ((a && (b && false)) && d)
+lost true true c d = refl
+lost true false c d = refl
+lost false b c d = refl
 
-holds_a_name_more : (in_class passed : Bool) (t : List ℕ) → holds_a_name in_class passed (closed [] t) ≡ holds_a_name in_class passed t
+-- a `)` behind a text makes no opening of a name, and unmakes none
+opens_name_more : (w : List ℕ) (c : ℕ) (t : List ℕ) → opens_name (closed w (c ∷ t)) ≡ opens_name (c ∷ t)
+opens_name_more w c [] = lost (nat_eq 0x28 c) false (not (is_at (λ d. d ∈ "=!") (drop 1 w))) true
+opens_name_more w c (d ∷ []) = lost (nat_eq 0x28 c) (nat_eq 0x3F d) (not (is_at (λ d. d ∈ "=!") w)) true
+opens_name_more w c (d ∷ e ∷ t) = ap (λ b. starts_with nat_eq (c ∷ d ∷ e ∷ []) (codes "(?<") && not b) (is_at_more w (λ c. c ∈ "=!") refl t)
+
+-- nor does what follows it, where that opens none
+module _ (w : List ℕ) (none : (in_class : Bool) → holds_a_name in_class false w ≡ false) where
+  pub holds_a_name_more : (in_class passed : Bool) (t : List ℕ) → holds_a_name in_class passed (closed w t) ≡ holds_a_name in_class passed t
+  unfolding holds_a_name
+  holds_a_name_more in_class true [] = none in_class
+  holds_a_name_more true false [] = none true
+  holds_a_name_more false false [] = none false
+  holds_a_name_more in_class true (c ∷ t) = holds_a_name_more in_class false t
+  holds_a_name_more true false (c ∷ t) = holds_a_name_more (not (c == 0x5D)) (c == 0x5C) t
+  holds_a_name_more false false (c ∷ t) = ap₂ ◌||◌ (opens_name_more w c t) (holds_a_name_more (c == 0x5B) (c == 0x5C) t)
+
+-- nothing follows a group around all
+none-behind : (in_class : Bool) → holds_a_name in_class false [] ≡ false
 unfolding holds_a_name
-holds_a_name_more in_class true [] = refl
-holds_a_name_more true false [] = refl
-holds_a_name_more false false [] = refl
-holds_a_name_more in_class true (c ∷ t) = holds_a_name_more in_class false t
-holds_a_name_more true false (c ∷ t) = holds_a_name_more (not (c == 0x5D)) (c == 0x5C) t
-holds_a_name_more false false (c ∷ t) = ap₂ ◌||◌ (opens_name_more c t) (holds_a_name_more (c == 0x5B) (c == 0x5C) t)
+none-behind in_class = refl
 
 -- `(?:` and `)` open no name
 names-in_group : (source : List ℕ) → holds_a_name false false (in_group source) ≡ holds_a_name false false source
 unfolding holds_a_name
-names-in_group source = holds_a_name_more false false source
+names-in_group source = holds_a_name_more [] none-behind false false source
 
 -- the mode is that of the source
 mode-grouped : (table : Table) (o : Options) (source : List ℕ) (p : Pattern) →
@@ -227,7 +240,7 @@ mode-grouped : (table : Table) (o : Options) (source : List ℕ) (p : Pattern) �
 mode-grouped table o source p = rw (names-in_group source, names-grouped p)
 
 -- no name is shared with a tree that has none
-shares-no_name : (names : List (List ℕ)) → share_a_name names [] ≡ false
+pub shares-no_name : (names : List (List ℕ)) → share_a_name names [] ≡ false
 shares-no_name [] = refl
 shares-no_name (name ∷ names) = rw (and_right (is_name name) false refl) (shares-no_name names)
 
@@ -254,7 +267,7 @@ transparent table o source p q one_tree s t text place =
 -- `(?>` and `)` open no name
 names-in_atomic_group : (source : List ℕ) → holds_a_name false false (in_atomic_group source) ≡ holds_a_name false false source
 unfolding holds_a_name
-names-in_atomic_group source = holds_a_name_more false false source
+names-in_atomic_group source = holds_a_name_more [] none-behind false false source
 
 -- the mode is that of the source
 mode-atomic : (table : Table) (o : Options) (source : List ℕ) (p : Pattern) →

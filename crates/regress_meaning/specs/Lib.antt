@@ -9,6 +9,7 @@ pub mod Grammar
 pub mod Limits
 pub mod Meaning
 pub mod Matches
+pub mod WholeText
 pub mod Literal
 pub mod Parts
 pub mod Offsets

@@ -3,7 +3,8 @@
 //! The definitions stand in `specs/`. Nothing here runs: each function below is a law of theirs, stated by its contract.
 #![tactic(auto)]
 
-ghost use Rattle.std.specs.Prelude.{◌≡◌, ◌-◌, ◌+◌, ◌*◌, ◌≤◌, ◌↔◌, ℕ, Bool, true, false, List, [], ◌∷◌, length, Some, None, All};
+ghost use Rattle.std.specs.Prelude.{◌≡◌, ◌≢◌, ◌-◌, ◌+◌, ◌*◌, ◌<◌, ◌≤◌, ◌↔◌, ℕ, Bool, true, false, List, [], ◌∷◌, length, Some, None, All};
+ghost use Rattle.std.specs.Option.{option_map_or};
 ghost use Rattle.regress_meaning.specs.Table.{Table, last_code_point, closure};
 ghost use Rattle.regress_meaning.specs.TableParts.{IsLawful, small_parts};
 ghost use Rattle.regress_meaning.specs.Class.{Class, value_of};
@@ -20,6 +21,7 @@ ghost use Rattle.regress_meaning.specs.Limits.{quantifiers, WithinLimits};
 ghost use Rattle.regress_meaning.specs.Weights.{weight};
 ghost use Rattle.regress_meaning.specs.Meaning.{State, Direction, Context, outcomes};
 ghost use Rattle.regress_meaning.specs.Matches.{Item, first_match, match_list, next_place};
+ghost use Rattle.regress_meaning.specs.WholeText.{whole_text, in_whole_text, whole_item, MatchesWhole};
 ghost use Rattle.regress_meaning.specs.Literal.{escaped_text, literal_pattern, occurrences};
 ghost use Rattle.regress_meaning.specs.Offsets.{of_utf8, of_ascii, of_utf16, of_ucs2};
 ghost use Rattle.regress_meaning.specs.Laws.{IsInside, IsItemInside, IsAhead, ItemsRise, OffsetsRise, in_group, in_atomic_group, LeavesLess, ContentsBySteps};
@@ -141,6 +143,19 @@ pub fn group_without_capture_is_transparent()
 /// A pattern and the same in `(?>..)` have the same matches, groups included.
 pub fn atomic_group_around_all_is_transparent()
     ensures { (table : Table) → (o : Options) → (source : List ℕ) → (p : Pattern) → (q : Pattern) → Spells table o source p → Spells table o (in_atomic_group source) q → (text : List ℕ) → (place : ℕ) → match_list table o q text place ≡ match_list table o p text place }
+{}
+
+/// The pattern over a whole text matches a text where some outcome of the pattern ends at its end, preferred or not. It then has
+/// one match, the whole text, with the groups of the first such outcome.
+pub fn whole_texts_match_by_some_outcome()
+    ensures found { (table : Table) → (o : Options) → (p : Pattern) → (text : List ℕ) → (match_list table o (whole_text p) text 0 ≢ []) ↔ MatchesWhole table o p text }
+    ensures items { (table : Table) → (o : Options) → (p : Pattern) → (text : List ℕ) → match_list table o (whole_text p) text 0 ≡ option_map_or (λ i. i ∷ []) (whole_item table o p text) [] }
+    ensures later { (table : Table) → (o : Options) → (p : Pattern) → (text : List ℕ) → (place : ℕ) → 0 < place → match_list table o (whole_text p) text place ≡ [] }
+{}
+
+/// Where a text spells a pattern, `(?-m:^)(?:` and `)(?-m:$)` around it spell the pattern over a whole text.
+pub fn whole_texts_are_spelled()
+    ensures { (table : Table) → (o : Options) → (source : List ℕ) → (p : Pattern) → Spells table o source p → Spells table o (in_whole_text source) (whole_text p) }
 {}
 
 /// An escaped text spells the tree of its characters one after another, whatever the table, and that passes no limit.

@@ -10,7 +10,8 @@ use Rattle.std.proofs.lemmas.Bool.{lt-ltb, le-ltb}
 use Rattle.std.proofs.lemmas.Str.{IsCharBoundary-after_ascii}
 use Rattle.regress_meaning.specs.Matches.{Item}
 use Rattle.regress_replacing.specs.Replacing.{part_at}
-use Rattle.regress_replacing.specs.Substitution.{is_some_named, named_taken, at_digit, at_bracket, at_mark, substituted_behind, substitution}
+use Rattle.regress_match.specs.NamedRanges.{named_taken}
+use Rattle.regress_replacing.specs.Substitution.{is_some_named, at_digit, at_bracket, at_mark, substituted_behind, substitution}
 use Rattle.regress_replacing.specs.TemplateParts.{mark_gives}
 
 module _ (names : List (List ℕ)) (text : List ℕ) (i : Item) where

@@ -1,22 +1,16 @@
 -- Replacement templates of the standard ("GetSubstitution"). Texts, and the offsets of items, are told in bytes of UTF-8, or both
 -- in code points.
-use Rattle.std.specs.Prelude.{ℕ, zero, suc, ◌+◌, ◌==◌, ◌&&◌, Bool, not, nat_le, nat_lt, List, [], ◌∷◌, ◌++◌, length, take, drop, Option, None, slice_range, codes, if◌then◌else◌}
+use Rattle.std.specs.Prelude.{ℕ, zero, suc, ◌+◌, ◌==◌, ◌&&◌, Bool, not, nat_le, nat_lt, List, [], ◌∷◌, ◌++◌, length, take, drop, slice_range, codes, if◌then◌else◌}
 use Rattle.std.specs.Char.{is_ascii_digit}
 use Rattle.std.specs.List.{list_any, position_or_len}
 use Rattle.regress_meaning.specs.Text.{same_text}
 use Rattle.regress_meaning.specs.Matches.{Item}
-use Rattle.regress_match.specs.GroupRanges.{numbered}
-use Rattle.regress_match.specs.NamedRanges.{first_taken}
+use Rattle.regress_match.specs.NamedRanges.{named_taken}
 use Rattle.regress_replacing.specs.Replacing.{number_after, range_of_number, part_at}
 
 -- some group has a name
 abbrev pub is_some_named : List (List ℕ) → Bool
 is_some_named names = list_any (λ name. not (same_text name [])) names
-
--- what the first group took that has the name and took part, and nothing for the empty name
-abbrev pub named_taken : {A : Type 0} → List (List ℕ) → List (Option A) → List ℕ → Option A
-named_taken names groups [] = None
-named_taken names groups (c ∷ name) = first_taken (c ∷ name) (numbered groups) 0 names
 
 -- The number that two digits at the front write, or the first digit alone where no second stands there or both write a number
 -- past the last of m groups; and how many digits these are.

@@ -2,7 +2,8 @@
 use Rattle.std.specs.Prelude.{◌≡◌, ℕ, ◌==◌, Bool, List, ◌++◌, take, drop, flat_map, slice_range, codes, Option, Some, None, if◌then◌else◌}
 use Rattle.regress_meaning.specs.Matches.{Item}
 use Rattle.regress_replacing.specs.Replacing.{part_at}
-use Rattle.regress_replacing.specs.Substitution.{is_some_named, named_taken, substitution}
+use Rattle.regress_match.specs.NamedRanges.{named_taken}
+use Rattle.regress_replacing.specs.Substitution.{is_some_named, substitution}
 use Rattle.regress_replacing.specs.Digits.{digits_give}
 use Rattle.regress_replacing.specs.declared.template.Part.{Part}
 use Rattle.regress_replacing.specs.declared.template.Part.TheVariants.{Text, Before, Matched, Behind, Numbered, Named}

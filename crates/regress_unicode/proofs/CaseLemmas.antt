@@ -1,4 +1,4 @@
--- Case of characters and surrogates, and the pairs of a map.
+-- What holds of characters, and of surrogates; and the pairs of a map.
 use Rattle.std.proofs.Common.{◌≡◌, ◌≢◌, ℕ, ◌+◌, ◌<◌, true, false, ◌==◌, [], ◌∷◌, ◌++◌, refl, inl, inr, arith, add-one}
 use Rattle.std.specs.Char.{InScalarRange, OutOfScalarRange}
 use Rattle.std.specs.Char.Unicode.ToUppercase.{to_uppercase}
@@ -10,6 +10,8 @@ use Rattle.regress_meaning.specs.Table.{code_points}
 use Rattle.regress_meaning.specs.TableParts.{is_surrogate}
 use Rattle.regress_front_sets.proofs.IntervalLemmas.{between-within, between-outside}
 use Rattle.regress_unicode.specs.Case.{fold_of, upper_of, single_upper, moved}
+use Rattle.regress_unicode.specs.Casefold.{is_moved, changes_when_nfkc_casefolded}
+use Rattle.regress_unicode.specs.Sequences.{emoji_of, basic_of}
 
 scalar-outside : (c : ℕ) → InScalarRange c → is_surrogate c ≡ false
 scalar-outside c (inl below) = between-outside 0xD800 0xDFFF c (inl below)
@@ -34,6 +36,22 @@ upper_of-scalar c h = rw (scalar-outside c h)
 pub upper_of-surrogate : (c : ℕ) → c < code_points → OutOfScalarRange c → upper_of c ≡ c
 unfolding upper_of
 upper_of-surrogate c small h = rw (surrogate-inside c small h)
+
+pub casefolded-scalar : (c : ℕ) → InScalarRange c → changes_when_nfkc_casefolded c ≡ is_moved c
+unfolding changes_when_nfkc_casefolded
+casefolded-scalar c h = rw (scalar-outside c h)
+
+pub casefolded-surrogate : (c : ℕ) → c < code_points → OutOfScalarRange c → changes_when_nfkc_casefolded c ≡ false
+unfolding changes_when_nfkc_casefolded
+casefolded-surrogate c small h = rw (surrogate-inside c small h)
+
+pub basic_of-scalar : (c : ℕ) → InScalarRange c → basic_of c ≡ emoji_of c
+unfolding basic_of
+basic_of-scalar c h = rw (scalar-outside c h)
+
+pub basic_of-surrogate : (c : ℕ) → c < code_points → OutOfScalarRange c → basic_of c ≡ []
+unfolding basic_of
+basic_of-surrogate c small h = rw (surrogate-inside c small h)
 
 -- ---- the pairs of a map
 

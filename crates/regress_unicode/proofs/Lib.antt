@@ -1,3 +1,4 @@
 pub mod CaseLemmas
+pub mod CountLemmas
 pub mod KeyLemmas
 pub mod SetLemmas

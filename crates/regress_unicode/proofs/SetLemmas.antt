@@ -1,10 +1,9 @@
 -- Ranges of Unicode's data as intervals.
-use Rattle.std.proofs.Common.{◌≡◌, ℕ, ◌+◌, ◌<◌, ◌≤◌, Bool, false, ◌&&◌, ◌||◌, nat_le, List, [], ◌∷◌, ◌++◌, length, take, get_or, refl, sym, ◌∙◌}
+use Rattle.std.proofs.Common.{◌≡◌, ℕ, ◌+◌, ◌<◌, Bool, false, ◌&&◌, ◌||◌, nat_le, List, [], ◌∷◌, ◌++◌, length, take, get_or, refl, sym, ◌∙◌}
 use Rattle.std.proofs.lemmas.List.{take_more}
-use Rattle.std.proofs.lemmas.List.Recursion.{or_push, and_at}
+use Rattle.std.proofs.lemmas.List.Recursion.{or_push}
 use Rattle.std.proofs.lemmas.Bool.{and_parts, and_from, leb-true, le-leb}
-use Rattle.ucd_table.specs.Rows.{in_ranges, HasExactly, AreRanges, is_range}
-use Rattle.std.specs.List.{list_all}
+use Rattle.ucd_table.specs.Rows.{in_ranges, HasExactly}
 use Rattle.regress_meaning.specs.Text.{between}
 use Rattle.regress_meaning.specs.Table.{last_code_point}
 use Rattle.regress_meaning.specs.TableParts.{in_intervals, IntervalsRise}

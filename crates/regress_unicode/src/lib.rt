@@ -7,6 +7,8 @@ ghost use Rattle.regress_front_tables.specs.TableViews.{parts};
 ghost use Rattle.regress_unicode.specs.Unicode.{IsUnicode, IsRefusal};
 
 mod case;
+mod casefold;
+mod emoji;
 mod keys;
 mod names;
 mod properties;
@@ -17,8 +19,9 @@ use regress_front_tables::{TableError, TableParts, Tables};
 use std::alloc::Global;
 use unicode::sets::{BinaryProperty, Set};
 
-/// The parts of Unicode's own table: simple case folding, upper case, the characters of identifiers, the properties that the
-/// standard lists ("Binary Unicode property aliases", "UnicodeMatchProperty"), and the keycaps. The only error is
+/// The parts of Unicode's own table, of version 18.0: simple case folding, upper case, the characters of identifiers, the properties
+/// that the standard lists ("Binary Unicode property aliases", "UnicodeMatchProperty"), and the properties of strings ("Binary Unicode
+/// properties of strings"). Of these the strings of several emoji, but for the keycaps, are of version 15.0. The only error is
 /// `OutOfMemory`. `unicode_parts(alloc)?.fold` has the pair of 395 and 3B5 (hexadecimal).
 pub fn unicode_parts(alloc: Global) -> Result<TableParts, TableError>
     ensures unicode { IfOk result (λ parts. IsUnicode (parts_of parts)) }

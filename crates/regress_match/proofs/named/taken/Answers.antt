@@ -1,4 +1,4 @@
-use Rattle.std.proofs.Common.{◌≡◌, ◌≢◌, ◌+◌, ◌<◌, ◌≤◌, [], Some, None, length, drop, map, get_or, string_bytes, refl, sym, ap, ◌∙◌, add-one, true≢false, arith}
+use Rattle.std.proofs.Common.{◌≡◌, ◌≢◌, ◌+◌, ◌<◌, ◌≤◌, [], Some, None, length, drop, get_or, string_bytes, refl, sym, ap, ◌∙◌, add-one, true≢false, arith}
 use Rattle.std.specs.Option.{option_or}
 use Rattle.std.proofs.lemmas.Bool.Decides.{Decides-eqb}
 use Rattle.std.proofs.lemmas.List.{length-map, get_or-map}
@@ -10,16 +10,16 @@ use Rattle.regress_match.proofs.NamedLemmas.{taken-other, taken-here, taken-end}
 use Rattle.regress_match.proofs.named.taken.Goals as goal
 use Rattle.regress_match.proofs.named.taken.Goals.{then-eq+in_default, else-eq}
 
-pub returns-in-Some : goal.returns-in-Some
-returns-in-Some c =
+pub returns-in-Some-clause-value : goal.returns-in-Some-clause-value
+returns-in-Some-clause-value c =
     let m = c.args.found.now in
     let all = names_of_match m in
     let name = c.args.name.now in
     let i = c.loop-index.index in
     let group = numbered m.captures.items in
-    let inside : i < length all = omega (arith, length-map c.names-other-items.result.now string_bytes, ap length c.names-other-items.ensures, c.loop-index-test.true) in
+    let inside : i < length all = omega (arith, length-map c.group_names-other-items.result.now string_bytes, ap length c.group_names-other-items.ensures, c.loop-index-test.true) in
     let read : get_or all i [] ≡ c.as_str.result.now =
-    ap (λ names. get_or names i []) (sym c.names-other-items.ensures) ∙ get_or-map string_bytes c.names-other-items.result.now i c.other-item.result [] c.loop-index-test.true
+    ap (λ names. get_or names i []) (sym c.group_names-other-items.ensures) ∙ get_or-map string_bytes c.group_names-other-items.result.now i c.other-item.result [] c.loop-index-test.true
     ∙ ap string_bytes (sym c.other-item.is) ∙ sym c.as_str.ensures.value in
     let same : c.as_str.result.now ≡ name = (slice_eq-Decides Decides-eqb c.as_str.result.now name c.eq.result c.eq.ensures).0 c.if-eq.true in
     let here : range_numbered m (i + 1) ≡ group i = rw (add-one i) refl in
@@ -33,9 +33,9 @@ loop-index-preserved c =
     let name = c.args.name.now in
     let i = c.loop-index.index in
     let group = numbered m.captures.items in
-    let inside : i < length all = omega (arith, length-map c.names-other-items.result.now string_bytes, ap length c.names-other-items.ensures, c.loop-index-test.true) in
+    let inside : i < length all = omega (arith, length-map c.group_names-other-items.result.now string_bytes, ap length c.group_names-other-items.ensures, c.loop-index-test.true) in
     let read : get_or all i [] ≡ c.as_str.result.now =
-    ap (λ names. get_or names i []) (sym c.names-other-items.ensures) ∙ get_or-map string_bytes c.names-other-items.result.now i c.other-item.result [] c.loop-index-test.true
+    ap (λ names. get_or names i []) (sym c.group_names-other-items.ensures) ∙ get_or-map string_bytes c.group_names-other-items.result.now i c.other-item.result [] c.loop-index-test.true
     ∙ ap string_bytes (sym c.other-item.is) ∙ sym c.as_str.ensures.value in
     let decides = slice_eq-Decides Decides-eqb c.as_str.result.now name c.eq.result c.eq.ensures in
     let here : range_numbered m (i + 1) ≡ group i = rw (add-one i) refl in
@@ -49,10 +49,10 @@ loop-index-preserved c =
           taken-other name group all i inside apart
     ]
 
-pub returns : goal.returns
-returns c =
+pub returns-clause-value : goal.returns-clause-value
+returns-clause-value c =
     let m = c.args.found.now in
     let all = names_of_match m in
     let past : length all ≤ c.loop-index.index =
-    omega (arith, length-map c.names-other-items.result.now string_bytes, ap length c.names-other-items.ensures, c.loop-index-test.false) in
+    omega (arith, length-map c.group_names-other-items.result.now string_bytes, ap length c.group_names-other-items.ensures, c.loop-index-test.false) in
     sym (c.loop-index.invariant ∙ taken-end c.args.name.now (numbered m.captures.items) all c.loop-index.index past)

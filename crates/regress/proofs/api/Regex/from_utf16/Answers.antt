@@ -1,7 +1,5 @@
 use Rattle.std.specs.Prelude.{IfOk, IfErr, false}
-use Rattle.std.proofs.Common.{◌≡◌, ◌≢◌, ◌<◌, ◌≤◌, ℕ, List, All, length, subst, ◌∙◌, arith}
-use Rattle.std.proofs.lemmas.List.{get_or_default}
-use Rattle.regress_meaning.specs.Flags.{is_unicode}
+use Rattle.std.proofs.Common.{◌≡◌, ◌≢◌, ◌≤◌, ℕ, List, length, subst, ◌∙◌}
 use Rattle.regress_meaning.specs.Grammar.{Spells}
 use Rattle.regress_meaning.specs.Limits.{WithinLimits}
 use Rattle.regress_meaning.specs.Pattern.{Pattern}
@@ -11,14 +9,10 @@ use Rattle.regress_front.specs.TableViews.{table}
 use Rattle.regress.specs.Refusing.{MayRefuseRegex}
 use Rattle.regress.specs.Standing.{StandsFor, StandsInUnits, source_of}
 use Rattle.regress_errors.specs.Texts.{shown_text}
-use Rattle.regress.proofs.PatternLemmas.{pattern-within}
 use Rattle.regress.proofs.api.Regex.from_utf16.Goals as goal
 
 pub from_unicode-requires : goal.from_unicode-requires
-from_unicode-requires c =
-    let units = c.args.units.now in
-    let short : All (λ u. u < 0x1_0000) units = λ k d room. let same = get_or_default units k d 0 room in let fits = c.type_inv.units k in omega (arith, same, fits) in
-    rw (c.deref.ensures.value, c.in_ok-points.ensures.points) (pattern-within (is_unicode (options c.args.flags)) units short)
+from_unicode-requires c = rw c.deref.ensures.value c.in_ok-points.ensures.within
 
 pub returns-clause-accepted : goal.returns-clause-accepted
 returns-clause-accepted c =

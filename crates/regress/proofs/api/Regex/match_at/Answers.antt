@@ -3,7 +3,8 @@ use Rattle.regress_meaning.specs.Pattern.{names_of}
 use Rattle.regress_front_bytes.proofs.TextLemmas.{chars-code_points}
 use Rattle.regress_engine_input.specs.Views.{utf8}
 use Rattle.regress.specs.Standing.{byte_target}
-use Rattle.regress.proofs.OutcomeLemmas.{pattern-outcome, told-shown, inside-shown, lies-in_text}
+use Rattle.regress_programs.proofs.OutcomeLemmas.{pattern-outcome}
+use Rattle.regress.proofs.ToldLemmas.{told-shown, inside-shown, lies-in_text}
 use Rattle.regress.proofs.api.Regex.match_at.Goals as goal
 
 pub returns-clause-found_of_tree : goal.returns-clause-found_of_tree

@@ -1,5 +1,4 @@
 use Rattle.std.proofs.Common.{ℕ, List, length, chars, option_map, refl, sym, ap, ◌∙◌, subst}
-use Rattle.std.proofs.lemmas.Str.{IsUtf8-from_ascii}
 use Rattle.regress_meaning.specs.Matches.{Item}
 use Rattle.regress_meaning.specs.Offsets.{Begins, of_ascii, of_utf8, told}
 use Rattle.regress_meaning.specs.Pattern.{names_of}
@@ -7,13 +6,14 @@ use Rattle.regress_front_bytes.proofs.TextLemmas.{chars-code_points}
 use Rattle.regress_engine_input.specs.Views.{View, ascii, reading_of}
 use Rattle.regress_engine_search.proofs.ByteTexts.{begins-alike, told-alike, bytes-alike}
 use Rattle.regress.specs.Standing.{byte_target}
-use Rattle.regress.specs.Outcomes.{tree_outcome}
-use Rattle.regress.proofs.OutcomeLemmas.{pattern-outcome, told-shown, inside-shown, lies-in_text, starts-in_text}
+use Rattle.regress.specs.Standing.{tree_outcome}
+use Rattle.regress_programs.proofs.OutcomeLemmas.{pattern-outcome}
+use Rattle.regress.proofs.ToldLemmas.{told-shown, inside-shown, lies-in_text, starts-in_text}
 use Rattle.regress.proofs.UnitLemmas.{begins-anywhere}
 use Rattle.regress.proofs.api.Regex.match_at_ascii.Goals as goal
 
-pub outcome-requires-clause-start : goal.outcome-requires-clause-start
-outcome-requires-clause-start c = subst (λ (x : View). (place : ℕ) × Begins (reading_of x) c.args.start place) (sym c.new-input.ensures) (begins-anywhere c.args.text.now c.args.start)
+pub match_at-requires-clause-start : goal.match_at-requires-clause-start
+match_at-requires-clause-start c = subst (λ (x : View). (place : ℕ) × Begins (reading_of x) c.args.start place) (sym c.new-input.ensures) (begins-anywhere c.args.text.now c.args.start)
 
 pub returns-clause-found_of_tree : goal.returns-clause-found_of_tree
 returns-clause-found_of_tree c = λ n t laid place begins.

@@ -1,4 +1,4 @@
-use Rattle.std.proofs.Common.{◌≡◌, ℕ, ◌<◌, All, length, arith, sym, subst}
+use Rattle.std.proofs.Common.{ℕ, ◌<◌, All, length, arith, sym, subst}
 use Rattle.std.proofs.lemmas.List.{get_or_default}
 use Rattle.regress_meaning.specs.Offsets.{Begins, of_ucs2}
 use Rattle.regress_meaning.specs.Pattern.{names_of}
@@ -6,12 +6,13 @@ use Rattle.regress_engine_input.proofs.UnitTexts.{single_offset}
 use Rattle.regress_engine_input.specs.Views.{View, reading_of, ucs2}
 use Rattle.regress_engine_input.proofs.KindLemmas.{tells}
 use Rattle.regress.specs.Standing.{unit_target}
-use Rattle.regress.proofs.OutcomeLemmas.{pattern-outcome, told-shown, inside-shown, lies-in_units}
+use Rattle.regress_programs.proofs.OutcomeLemmas.{pattern-outcome}
+use Rattle.regress.proofs.ToldLemmas.{told-shown, inside-shown, lies-in_units}
 use Rattle.regress.proofs.UnitLemmas.{begins-anywhere}
 use Rattle.regress.proofs.api.Regex.match_at_ucs2.Goals as goal
 
-pub outcome-requires-clause-start : goal.outcome-requires-clause-start
-outcome-requires-clause-start c = subst (λ (x : View). (place : ℕ) × Begins (reading_of x) c.args.start place) (sym c.new-input.ensures) (begins-anywhere c.args.units.now c.args.start)
+pub match_at-requires-clause-start : goal.match_at-requires-clause-start
+match_at-requires-clause-start c = subst (λ (x : View). (place : ℕ) × Begins (reading_of x) c.args.start place) (sym c.new-input.ensures) (begins-anywhere c.args.units.now c.args.start)
 
 pub returns-clause-found_of_tree : goal.returns-clause-found_of_tree
 returns-clause-found_of_tree c = λ n t laid.

@@ -1,4 +1,4 @@
-use Rattle.std.proofs.Common.{◌≡◌, ℕ, ◌<◌, All, length, arith}
+use Rattle.std.proofs.Common.{◌<◌, All, length, arith}
 use Rattle.std.proofs.lemmas.List.{get_or_default}
 use Rattle.regress_meaning.specs.Offsets.{of_utf16}
 use Rattle.regress_meaning.specs.Pattern.{names_of}
@@ -6,7 +6,8 @@ use Rattle.regress_engine_input.proofs.Utf16Texts.{utf16_end}
 use Rattle.regress_engine_input.specs.Views.{utf16}
 use Rattle.regress_engine_input.proofs.KindLemmas.{tells}
 use Rattle.regress.specs.Standing.{unit_target}
-use Rattle.regress.proofs.OutcomeLemmas.{pattern-outcome, told-shown, inside-shown, lies-in_units}
+use Rattle.regress_programs.proofs.OutcomeLemmas.{pattern-outcome}
+use Rattle.regress.proofs.ToldLemmas.{told-shown, inside-shown, lies-in_units}
 use Rattle.regress.proofs.api.Regex.match_at_utf16.Goals as goal
 
 pub returns-clause-found_of_tree : goal.returns-clause-found_of_tree

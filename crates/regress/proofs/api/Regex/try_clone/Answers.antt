@@ -1,4 +1,4 @@
-use Rattle.regress.proofs.ProgramLemmas.{copied-program, copied-target}
+use Rattle.regress_programs.proofs.ProgramLemmas.{copied-program, copied-target}
 use Rattle.regress.proofs.api.Regex.try_clone.Goals as goal
 
 pub returns-clause-stands : goal.returns-clause-stands

@@ -13,8 +13,8 @@ pub returns-clause-found : goal.returns-clause-found
 returns-clause-found g c =
     let program = program_of c.args.self.now.context.program.now in
     let input = input_of (g.Input.InputIndexer.view c.args.self.now.context.input) in
-    found-item program input c.args.offset c.in-Some.start c.in-Some.end (held c.search.new.self.memory).groups (item_of c.in_ok-found.found) c.search.new.self.memory.groups.items
-    (subst (λ x. IsFound program input c.args.offset x (held c.search.new.self.memory).groups) c.in-Some.is c.in_ok-start.ensures.found)
+    found-item program input c.args.offset c.in-Some.start c.in-Some.end (held c.search.new.self.scratch.memory).groups (item_of c.in_ok-found.found) c.search.new.self.scratch.memory.groups.items
+    (subst (λ x. IsFound program input c.args.offset x (held c.search.new.self.scratch.memory).groups) c.in-Some.is c.in_ok-start.ensures.found)
     refl (c.in_ok-found.ensures.item ∙ ap (item_with c.in-Some.start c.in-Some.end) c.deref.ensures.value)
 
 pub returns-clause-inside : goal.returns-clause-inside

@@ -1,4 +1,4 @@
-use Rattle.std.proofs.Common.{ap, ◌∙◌, subst, refl, inl}
+use Rattle.std.proofs.Common.{ap, ◌∙◌, subst, refl}
 use Rattle.regress_match.specs.Views.{item_of}
 use Rattle.regress_engine_code.specs.Standing.{program_of}
 use Rattle.regress_engine_input.specs.Views.{input_of}
@@ -9,39 +9,18 @@ use Rattle.regress_engine_search.specs.Search.{IsSearchable}
 use Rattle.regress_engine_search.proofs.SearchLemmas.{outcome-inside, outcome-item}
 use Rattle.regress_engine_exec.proofs.search.BacktrackExecutor.match_at.Goals as goal
 
-pub invariant_of-attempt : goal.invariant_of-attempt
-invariant_of-attempt g c =
-    let context = c.args.self.now.context in
-    let searchable = subst (IsSearchable (program_of context.program.now)) (g.met.Input.ExecutorInput.shows context.input) context.searchable in
-    record { ends = searchable.ends c.args.offset c.requires }
-
-pub run-requires-clause-suits : goal.run-requires-clause-suits
-run-requires-clause-suits g c =
-    let context = c.args.self.now.context in
-    let searchable = subst (IsSearchable (program_of context.program.now)) (g.met.Input.ExecutorInput.shows context.input) context.searchable in
-    searchable.suits
-
-pub run-requires-clause-begun : goal.run-requires-clause-begun
-run-requires-clause-begun g c = λ h. inl refl
-
-pub run-requires-clause-reads : goal.run-requires-clause-reads
-run-requires-clause-reads g c =
-    let context = c.args.self.now.context in
-    let searchable = subst (IsSearchable (program_of context.program.now)) (g.met.Input.ExecutorInput.shows context.input) context.searchable in
-    searchable.reads c.args.offset c.requires
-
 pub returns-in_default-clause-outcome : goal.returns-in_default-clause-outcome
 returns-in_default-clause-outcome g c =
     let program = program_of c.args.self.now.context.program.now in
     let input = input_of (g.Input.InputIndexer.view c.args.self.now.context.input) in
-    subst (λ x. IsAnswer program input c.args.offset x (held c.run.new.memory).groups) c.in_default.is c.in_ok-end.ensures
+    subst (λ x. IsAnswer program input c.args.offset x (held c.run_at.new.self.scratch.memory).groups) c.in_default.is c.in_ok-end.ensures.answer
 
 pub returns-clause-outcome : goal.returns-clause-outcome
 returns-clause-outcome g c =
     let program = program_of c.args.self.now.context.program.now in
     let input = input_of (g.Input.InputIndexer.view c.args.self.now.context.input) in
-    outcome-item program input c.args.offset c.in-Some.end (held c.run.new.memory).groups (item_of c.in_ok-found.found) c.run.new.memory.groups.items
-    (subst (λ x. IsAnswer program input c.args.offset x (held c.run.new.memory).groups) c.in-Some.is c.in_ok-end.ensures)
+    outcome-item program input c.args.offset c.in-Some.end (held c.run_at.new.self.scratch.memory).groups (item_of c.in_ok-found.found) c.run_at.new.self.scratch.memory.groups.items
+    (subst (λ x. IsAnswer program input c.args.offset x (held c.run_at.new.self.scratch.memory).groups) c.in-Some.is c.in_ok-end.ensures.answer)
     refl (c.in_ok-found.ensures.item ∙ ap (item_with c.args.offset c.in-Some.end) c.deref.ensures.value)
 
 pub returns-clause-inside : goal.returns-clause-inside

@@ -1,0 +1,35 @@
+use Rattle.std.proofs.Common.{ℕ, ◌<◌, All, length, arith, sym, subst}
+use Rattle.std.proofs.lemmas.List.{get_or_default}
+use Rattle.regress_meaning.specs.Offsets.{Begins, of_ucs2}
+use Rattle.regress_meaning.specs.Pattern.{names_of}
+use Rattle.regress_engine_input.specs.Views.{View, reading_of, ucs2}
+use Rattle.regress_engine_input.proofs.KindLemmas.{tells}
+use Rattle.regress_engine_input.proofs.UnitTexts.{single_offset}
+use Rattle.regress_programs.specs.declared.slots.Anchored.TheVariants.{No}
+use Rattle.regress.specs.Standing.{unit_target}
+use Rattle.regress.proofs.ListedLemmas.{pattern-listed}
+use Rattle.regress.proofs.ToldLemmas.{fills-shown, slots-shown, slots-in_units}
+use Rattle.regress.proofs.UnitLemmas.{begins-anywhere}
+use Rattle.regress.proofs.api.Regex.find_into_ucs2.Goals as goal
+
+pub find_into-requires-clause-start : goal.find_into-requires-clause-start
+find_into-requires-clause-start c = subst (λ (x : View). (place : ℕ) × Begins (reading_of x) c.args.start place) (sym c.new-input.ensures) (begins-anywhere c.args.units.now c.args.start)
+
+pub returns-clause-found_of_tree : goal.returns-clause-found_of_tree
+returns-clause-found_of_tree c = λ n t laid.
+    fills-shown _ _ c.new-input.ensures No c.args.self.now.compiled.unit_program n t c.args.start c.in_ok-found.found c.args.slots.now c.find_into.new.slots
+    (c.in_ok-found.ensures.of_tree n t laid)
+
+pub returns-clause-found : goal.returns-clause-found
+returns-clause-found c = λ t o p stands place begins.
+    let units = c.args.units.now in
+    let short : All (λ u. u < 0x1_0000) units = λ k d room. let same = get_or_default units k d 0 room in let fits = c.type_inv.units k in omega (arith, same, fits) in
+    let target = unit_target c.args.self.now in
+    rw (pattern-listed c.args.self.now.compiled.unit_program t o p stands units (tells ucs2 target.table target.unicode units short).points place)
+    (returns-clause-found_of_tree c (length (names_of p)) stands.node (stands.well_formed, stands.layout) place begins)
+
+pub returns-clause-inside : goal.returns-clause-inside
+returns-clause-inside c =
+    let units = c.args.units.now in
+    slots-in_units (of_ucs2 units) units (single_offset units (length units) (omega arith)) c.in_ok-found.found c.find_into.new.slots
+    (slots-shown _ _ c.new-input.ensures c.in_ok-found.found c.find_into.new.slots c.in_ok-found.ensures.inside)

@@ -1,9 +1,0 @@
-use Rattle.regress.proofs.ProgramLemmas.{parsed-for, read-program}
-use Rattle.regress.proofs.programs.programs_of_trees_are_of_patterns.Goals as goal
-
-pub returns-clause-parsed : goal.returns-clause-parsed
-returns-clause-parsed c = λ t o text p regex of_text. parsed-for t o text p regex of_text
-
-pub returns-clause-emitted : goal.returns-clause-emitted
-returns-clause-emitted c = λ t o text p regex of_text flags of_table.
-    read-program t o text p regex (record { of_text = of_text; flags = flags; table = of_table })

@@ -1,0 +1,4 @@
+pub mod AlikeMatches
+pub mod ProgramLemmas
+pub mod OutcomeLemmas
+pub mod SlotLemmas

@@ -1,0 +1,4 @@
+pub mod Programs
+pub mod Refusing
+pub mod Outcomes
+pub mod Filling

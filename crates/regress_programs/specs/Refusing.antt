@@ -1,0 +1,36 @@
+-- Why a pattern is not compiled.
+use Rattle.std.specs.Prelude.{ℕ, Bool, List}
+use Rattle.regress_meaning.specs.Table.{Table}
+use Rattle.regress_meaning.specs.Flags.{Options, is_unicode}
+use Rattle.regress_meaning.specs.Pattern.{Pattern}
+use Rattle.regress_meaning.specs.WholeText.{whole_text}
+use Rattle.regress_front_core.specs.declared.error.Error.{Error}
+use Rattle.regress_front_core.specs.declared.error.Error.TheVariants.{TooLarge}
+use Rattle.regress_front.specs.Refusals as reading
+use Rattle.regress_front.specs.Trees.{Tree}
+use Rattle.regress_front.specs.Sizes.{loops}
+use Rattle.regress_engine.specs.Counts.{count}
+use Rattle.regress_engine.specs.Written.{AreTooMany}
+use Rattle.regress_programs.specs.Programs.{IsTreeFor}
+
+-- A program of what is made of the pattern that the text spells, in bytes or in units, passes its count of instructions or of
+-- loops.
+pub record PassesCount (made : Pattern → Pattern) (table : Table) (o : Options) (text : List ℕ) : Type 0 where
+  pub pattern : Pattern
+  pub node : Tree
+  pub units : Bool
+  pub of_text : IsTreeFor made table o text pattern node
+  pub many : AreTooMany (count units table (is_unicode o) node) (loops node)
+
+-- A refusal that may be met when what is made of a pattern is compiled: one of its reading, or that a program passes its count.
+abbrev pub MayRefuseMade : (Pattern → Pattern) → Table → Options → List ℕ → Error → Type 0
+MayRefuseMade made table o text TooLarge = PassesCount made table o text
+MayRefuseMade made table o text e = reading.MayRefuse table o text e
+
+-- one that the pattern itself may meet
+abbrev pub MayRefuseRegex : Table → Options → List ℕ → Error → Type 0
+MayRefuseRegex = MayRefuseMade (λ p. p)
+
+-- one that the pattern over a whole text may meet
+abbrev pub MayRefuseWholeText : Table → Options → List ℕ → Error → Type 0
+MayRefuseWholeText = MayRefuseMade whole_text

@@ -1,0 +1,84 @@
+//! Matches that are written to slots of the caller.
+ghost use Rattle.std.specs.Prelude.{◌≡◌, ℕ, IfOk, IfSome, OnErr};
+ghost use Rattle.regress_meaning.specs.Offsets.{Begins};
+ghost use Rattle.regress_front.specs.Trees.{Tree};
+ghost use Rattle.regress_match.specs.Slots.{Fills};
+ghost use Rattle.regress_engine.specs.Search.{IsMadeOf};
+ghost use Rattle.regress_engine.specs.Standing.{target_of};
+ghost use Rattle.regress_engine.specs.Views.{reading_of};
+ghost use Rattle.regress_programs.specs.declared.slots.Anchored.TheVariants.{Yes};
+ghost use Rattle.regress_programs.specs.Programs.{IsLaidOutFrom};
+ghost use Rattle.regress_programs.specs.Filling.{SlotsAreAtPlaces, first_told};
+
+use regress_engine::{BacktrackExecutor, CompiledRegex, ExecutorInput, Scratch};
+use regress_match::{MatchProducer, Range};
+use std::alloc::{AllocError, Global};
+use std::mem;
+
+/// Whether a match has to begin where the search does.
+#[derive(Debug, Clone, Copy)]
+pub enum Anchored {
+    /// It may begin at any place from there on.
+    No,
+    /// It has to, as under the flag `y`.
+    Yes,
+}
+
+/// The first match that an executor finds from an offset on, or the one that begins there, written to slots; none past the end.
+fn next_into<Input: ExecutorInput>(
+    executor: &mut BacktrackExecutor<'_, Input>,
+    anchored: Anchored,
+    start: usize,
+    slots: &mut [Option<Range>],
+) -> Result<Option<Range>, AllocError>
+    requires made { IsMadeOf executor.old.context.program.now (Input.view executor.old.context.input) }
+    requires start { (place : ℕ) × Begins (reading_of (Input.view executor.old.context.input)) start place }
+    ensures of_tree { (n : ℕ) → (t : Tree) → IsLaidOutFrom (target_of executor.old.context.program.now) n t →
+        (place : ℕ) → Begins (reading_of (Input.view executor.old.context.input)) start place →
+        IfOk result (λ found. Fills (first_told anchored executor.old.context.program.now (reading_of (Input.view executor.old.context.input)) n t place) found slots.old slots.new) }
+    ensures begins { anchored ≡ Yes → IfOk result (λ found. IfSome found (λ r. r.start ≡ start)) }
+    ensures inside { IfOk result (λ found. SlotsAreAtPlaces (reading_of (Input.view executor.old.context.input)) found slots.new) }
+    ensures untouched { OnErr result (slots.new ≡ slots.old) }
+{
+    let Some(position) = executor.initial_position(start) else {
+        return Ok(None);
+    };
+    match anchored {
+        Anchored::No => executor.find_into(position, slots),
+        Anchored::Yes => executor.match_into(position, slots),
+    }
+}
+
+/// The first match of a program from an offset of an input on, or the one that begins there, written to slots; none past the
+/// input's end. The room that the search needs is that of the scratch.
+///
+/// Asks that the program is made for the input, and that a search may begin at the offset. Errs where memory is refused alone.
+///
+/// ```rust
+/// let input = Utf8Input::new("aab", false, program.tables());
+/// let found = find_into(alloc, &mut scratch, &program, input, Anchored::No, 0, &mut slots)?;
+/// ```
+pub fn find_into<Input: ExecutorInput>(
+    alloc: Global,
+    scratch: &mut Scratch,
+    program: &CompiledRegex,
+    input: Input,
+    anchored: Anchored,
+    start: usize,
+    slots: &mut [Option<Range>],
+) -> Result<Option<Range>, AllocError>
+    requires made { IsMadeOf program.now (Input.view input) }
+    requires start { (place : ℕ) × Begins (reading_of (Input.view input)) start place }
+    ensures of_tree { (n : ℕ) → (t : Tree) → IsLaidOutFrom (target_of program.now) n t →
+        (place : ℕ) → Begins (reading_of (Input.view input)) start place →
+        IfOk result (λ found. Fills (first_told anchored program.now (reading_of (Input.view input)) n t place) found slots.old slots.new) }
+    ensures begins { anchored ≡ Yes → IfOk result (λ found. IfSome found (λ r. r.start ≡ start)) }
+    ensures inside { IfOk result (λ found. SlotsAreAtPlaces (reading_of (Input.view input)) found slots.new) }
+    ensures untouched { OnErr result (slots.new ≡ slots.old) }
+{
+    let lent = mem::replace(scratch, Scratch::new(alloc));
+    let mut executor = BacktrackExecutor::with_scratch(alloc, program, input, lent);
+    let found = next_into(&mut executor, anchored, start, slots);
+    *scratch = executor.into_scratch();
+    found
+}
