@@ -2,7 +2,7 @@
 ghost use Rattle.std.specs.Prelude.{◌≡◌, chars};
 ghost use Rattle.regress_meaning.specs.Flags.{is_unicode, options_of};
 ghost use Rattle.regress_meaning.specs.TableParts.{TableParts as Parts, table_of};
-ghost use Rattle.regress.specs.PatternUnits.{pattern_points};
+ghost use Rattle.regress_pattern_units.specs.PatternUnits.{pattern_points};
 ghost use Rattle.regress.specs.declared.api.Regex.{Regex as RegexValue};
 ghost use Rattle.regress_calls.specs.Codes.{IfCount, IfError};
 ghost use Rattle.regress_calls.specs.Compiling.{IsCompiled, MayRefuseCompile};

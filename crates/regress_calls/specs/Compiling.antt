@@ -11,7 +11,7 @@ use Rattle.regress_front_core.specs.FlagWords.{word_error}
 use Rattle.regress_front_core.specs.declared.error.Error.{Error}
 use Rattle.regress_front_core.specs.declared.script_flags.FlagError.{FlagError}
 use Rattle.regress.specs.declared.api.Regex.{Regex}
-use Rattle.regress.specs.PatternUnits.{pattern_points}
+use Rattle.regress_pattern_units.specs.PatternUnits.{pattern_points}
 use Rattle.regress.specs.Refusing.{MayRefuseRegex}
 use Rattle.regress.specs.Standing.{StandsFor, StandsInUnits}
 use Rattle.regress_calls.specs.declared.call_error.CallError.{CallError}

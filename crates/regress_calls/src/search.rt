@@ -4,10 +4,10 @@ ghost use Rattle.std.specs.Arc.{arc_value};
 ghost use Rattle.regress.specs.Standing.{names_of_regex};
 
 use crate::call_error::CallError;
-use crate::finding::{Scratch, find_into, match_into};
+use crate::finding::{find_into, match_into};
 use crate::text::Text;
 use crate::text_range::{TextRange, write_ranges};
-use regress::{Error, Range, Regex};
+use regress::{Error, Range, Regex, Scratch};
 use std::alloc::Global;
 use std::sync::Arc;
 

@@ -1,0 +1,36 @@
+-- Slots that a match fills hold its ranges.
+use Rattle.std.specs.Prelude.{◌≡◌, ℕ, zero, suc, ◌<◌, List, [], ◌∷◌, length, map, Option, Some, None, option_map, slice_get, unwrap_or}
+use Rattle.std.specs.declared.ops.Range.{Range}
+use Rattle.std.proofs.Common.{refl, sym, ap, ◌∙◌, arith}
+use Rattle.std.proofs.lemmas.List.{length-map}
+use Rattle.std.proofs.lemmas.Option.{slice_get-map}
+use Rattle.regress_meaning.specs.Matches.{Item}
+use Rattle.regress_match.specs.Slots.{Fills, slots_of}
+use Rattle.regress_match.specs.Views.{ends}
+use Rattle.regress_calls.specs.Ranges.{ranges_of_item, group_numbered}
+use Rattle.regress_calls.specs.Slotted.{IsInSlots}
+
+-- as many slots as there are hold the groups by their numbers
+slot-at : {A : Type 0} (n : ℕ) (groups : List (Option A)) (k : ℕ) → k < n → unwrap_or (slice_get (slots_of n groups) k) None ≡ unwrap_or (slice_get groups k) None
+unfolding slots_of
+slot-at zero groups k h = absurd (omega arith)
+slot-at (suc n) [] zero h = refl
+slot-at (suc n) [] (suc k) h = slot-at n [] k (omega arith)
+slot-at (suc n) (g ∷ groups) zero h = refl
+slot-at (suc n) (g ∷ groups) (suc k) h = slot-at n groups k (omega arith)
+
+slots-long : {A : Type 0} (n : ℕ) (groups : List (Option A)) → length (slots_of n groups) ≡ n
+unfolding slots_of
+slots-long zero groups = refl
+slots-long (suc n) [] = ap (λ (m : ℕ). suc m) (slots-long n [])
+slots-long (suc n) (g ∷ groups) = ap (λ (m : ℕ). suc m) (slots-long n groups)
+
+pub fills-slots : (i : Option Item) (old : List (Option (Range ℕ))) (found : Option (Range ℕ)) (new : List (Option (Range ℕ))) → Fills i found old new → IsInSlots i old found new
+fills-slots None old found new fills = fills
+fills-slots (Some i) old found new fills = (
+  fills.0,
+  λ k within.
+      let long : length new ≡ length old = sym (length-map new (option_map ends)) ∙ ap length fills.1 ∙ slots-long (length old) (ranges_of_item i) in
+      ap (λ (g : Option (Option (ℕ × ℕ))). unwrap_or g None) (sym (slice_get-map (option_map ends) new k) ∙ ap (λ (l : List (Option (ℕ × ℕ))). slice_get l k) fills.1)
+      ∙ slot-at (length old) (ranges_of_item i) k (omega (arith, long, within)),
+)
