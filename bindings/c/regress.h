@@ -295,8 +295,8 @@ static inline int32_t regress_compile_units(const uint16_t *pattern, size_t leng
                                    error == NULL ? &unread : error);
 }
 
-/* The same of a pattern in UTF-8 that is to match a whole text, from its beginning to its end, whatever the flag `m` says: of its
- * alternatives the first one that takes the whole text is the match. A validator asks so. */
+/* The same of a pattern in UTF-8 that is to match a whole text, from its beginning to its end, also with the flag `m`. It matches
+ * where some way to match ends at the text's end, if not the preferred one: `a|ab` matches `ab`. A validator asks so. */
 static inline int32_t regress_compile_whole(const char *pattern, size_t length, const char *flags, regress_tables *tables,
                                             regress_pattern *out, regress_error *error) {
   regress_error unread;

@@ -1,5 +1,5 @@
 -- What exports that compile answer, and why they refuse.
-use Rattle.std.specs.Prelude.{◌≡◌, ℕ, ℤ, ◌⊎◌, List, Result, Ok, Err, pos, negsuc, chars}
+use Rattle.std.specs.Prelude.{◌≡◌, Bool, ℕ, ℤ, ◌⊎◌, List, Result, Ok, Err, pos, negsuc, chars}
 use Rattle.std.specs.Str.{IsUtf8}
 use Rattle.regress_calls.specs.declared.call_error.CallError.{CallError}
 use Rattle.regress_calls.specs.declared.call_error.CallError.TheVariants.{NotUtf8}
@@ -14,5 +14,5 @@ refusal_code (Ok u) = pos 0
 refusal_code (Err r) = negsuc (number_of r.error)
 
 -- Why a pattern in bytes is not compiled: they are not UTF-8, or as any.
-abbrev pub MayRefuseText : Content → (bytes letters : List ℕ) → CallError → Type 0
-MayRefuseText c bytes letters e = ((e ≡ NotUtf8) × ¬ (IsUtf8 bytes)) ⊎ MayRefuseCompile c (λ o. chars bytes) letters e
+abbrev pub MayRefuseText : Content → (whole : Bool) → (bytes letters : List ℕ) → CallError → Type 0
+MayRefuseText c whole bytes letters e = ((e ≡ NotUtf8) × ¬ (IsUtf8 bytes)) ⊎ MayRefuseCompile c whole (λ o. chars bytes) letters e

@@ -1,5 +1,5 @@
 //! Exports that compile patterns.
-ghost use Rattle.std.specs.Prelude.{◌≡◌, chars};
+ghost use Rattle.std.specs.Prelude.{◌≡◌, false, true, chars};
 ghost use Rattle.regress_meaning.specs.Flags.{is_unicode, options_of};
 ghost use Rattle.regress_meaning.specs.TableParts.{TableParts as Parts, table_of};
 ghost use Rattle.regress_pattern_units.specs.PatternUnits.{pattern_points};
@@ -24,9 +24,9 @@ pub extern "C" fn regress_raw_compile(
     error: &mut PatternError,
 ) -> i32
     ensures compiled { (ps : Parts) → content tables.old.held ≡ OfTables ps →
-        IfCount result (λ _. (r : RegexValue) × (content out.new.held ≡ OfPattern r) × IsCompiled (chars pattern.now) (table_of ps) (options_of (chars flags.now)) r) }
+        IfCount result (λ _. (r : RegexValue) × (content out.new.held ≡ OfPattern r) × IsCompiled false (chars pattern.now) (table_of ps) (options_of (chars flags.now)) r) }
     ensures kept { content tables.new.held ≡ content tables.old.held }
-    ensures refused { IfError result (MayRefuseText (content tables.old.held) pattern.now flags.now) }
+    ensures refused { IfError result (MayRefuseText (content tables.old.held) false pattern.now flags.now) }
     ensures told { error.new.code ≡ result }
     ensures untouched { IfError result (λ _. content out.new.held ≡ content out.old.held) }
 {
@@ -48,12 +48,36 @@ pub extern "C" fn regress_raw_compile_units(
     error: &mut PatternError,
 ) -> i32
     ensures compiled { (ps : Parts) → content tables.old.held ≡ OfTables ps →
-        IfCount result (λ _. (r : RegexValue) × (content out.new.held ≡ OfPattern r) × IsCompiled (pattern_points (is_unicode (options_of (chars flags.now))) pattern.now) (table_of ps) (options_of (chars flags.now)) r) }
+        IfCount result (λ _. (r : RegexValue) × (content out.new.held ≡ OfPattern r) × IsCompiled false (pattern_points (is_unicode (options_of (chars flags.now))) pattern.now) (table_of ps) (options_of (chars flags.now)) r) }
     ensures kept { content tables.new.held ≡ content tables.old.held }
-    ensures refused { IfError result (MayRefuseCompile (content tables.old.held) (λ o. pattern_points (is_unicode o) pattern.now) flags.now) }
+    ensures refused { IfError result (MayRefuseCompile (content tables.old.held) false (λ o. pattern_points (is_unicode o) pattern.now) flags.now) }
     ensures told { error.new.code ≡ result }
     ensures untouched { IfError result (λ _. content out.new.held ≡ content out.old.held) }
 {
     let done = compile(alloc, Source::Units(pattern), flags, tables, out);
+    error.tell(done)
+}
+
+/// Compiles a pattern that is given in UTF-8, and is to match whole texts alone.
+#[unsafe(no_mangle)]
+pub extern "C" fn regress_raw_compile_whole(
+    alloc: Global,
+    pattern: &[u8],
+    flags: &[u8],
+    tables: &mut Slot,
+    out: &mut Slot,
+    error: &mut PatternError,
+) -> i32
+    ensures compiled { (ps : Parts) → content tables.old.held ≡ OfTables ps →
+        IfCount result (λ _. (r : RegexValue) × (content out.new.held ≡ OfPattern r) × IsCompiled true (chars pattern.now) (table_of ps) (options_of (chars flags.now)) r) }
+    ensures kept { content tables.new.held ≡ content tables.old.held }
+    ensures refused { IfError result (MayRefuseText (content tables.old.held) true pattern.now flags.now) }
+    ensures told { error.new.code ≡ result }
+    ensures untouched { IfError result (λ _. content out.new.held ≡ content out.old.held) }
+{
+    let done = match utf8(pattern) {
+        Ok(text) => compile(alloc, Source::Whole(text), flags, tables, out),
+        Err(refused) => Err(Refusal::from(refused)),
+    };
     error.tell(done)
 }

@@ -5,9 +5,8 @@ ghost use Rattle.regress_meaning.specs.TableParts.{TableParts as Parts, table_of
 ghost use Rattle.regress_front.specs.FlagWords.{options};
 ghost use Rattle.regress_front.specs.TableViews.{table};
 ghost use Rattle.regress.specs.declared.api.Regex.{Regex as RegexValue};
-ghost use Rattle.regress.specs.Refusing.{MayRefuseRegex};
 ghost use Rattle.regress_calls.specs.Codes.{of_error};
-ghost use Rattle.regress_calls.specs.Compiling.{IsCompiled, MayRefuseFlags, MayRefuseCompile, MayRefusePoints, points_of_source};
+ghost use Rattle.regress_calls.specs.Compiling.{IsCompiled, MayRefuseFlags, MayRefuseCompile, MayRefuseMeant, MayRefusePoints, is_whole, points_of_source};
 ghost use Rattle.regress_calls.specs.Handles.{OfPattern, OfTables, content};
 
 use crate::call_error::CallError;
@@ -26,6 +25,8 @@ pub enum Source<'p> {
     Utf8(&'p str),
     /// 16-bit units, as script interpreters have them; places are in units.
     Units(&'p [u16]),
+    /// UTF-8, of a pattern that is to match whole texts alone; places are in bytes.
+    Whole(&'p str),
 }
 
 /// Why a pattern is not compiled.
@@ -98,21 +99,22 @@ fn read_flags(letters: &str) -> Result<Flags, Refusal>
 impl Source<'_> {
     /// Compiles it.
     fn compile(&self, alloc: Global, flags: Flags, tables: &Tables) -> Result<Regex, Error>
-        ensures compiled { IfOk result (λ r. IsCompiled (points_of_source self.now (options flags)) (table tables.now) (options flags) r) }
-        ensures refused { IfErr result (MayRefuseRegex (table tables.now) (options flags) (points_of_source self.now (options flags))) }
+        ensures compiled { IfOk result (λ r. IsCompiled (is_whole self.now) (points_of_source self.now (options flags)) (table tables.now) (options flags) r) }
+        ensures refused { IfErr result (MayRefuseMeant (is_whole self.now) (table tables.now) (options flags) (points_of_source self.now (options flags))) }
     {
         match self {
             Source::Utf8(text) => Regex::with_flags(alloc, text, flags, tables),
             Source::Units(units) => Regex::from_utf16(alloc, units, flags, tables),
+            Source::Whole(text) => Regex::whole_text(alloc, text, flags, tables),
         }
     }
 
     /// Where reading it stops, if it is no pattern: in bytes of a text, and in units.
     fn place(&self, alloc: Global, flags: Flags, tables: &Tables) -> Result<usize, Error> {
         let found = match self {
-            Source::Utf8(text) => syntax_error(alloc, text, flags, tables)?.map(
-                |found| found.offset,
-            ),
+            Source::Utf8(text) | Source::Whole(text) => {
+                syntax_error(alloc, text, flags, tables)?.map(|found| found.offset)
+            }
             Source::Units(units) => {
                 syntax_error_in_units(alloc, units, flags, tables)?.map(|found| found.unit_offset)
             }
@@ -148,8 +150,8 @@ fn compiled(
     flags: Flags,
     tables: &Tables,
 ) -> Result<Box<Held>, Refusal>
-    ensures compiled { IfOk result (λ held. (r : RegexValue) × (content (Some held.value) ≡ OfPattern r) × IsCompiled (points_of_source source.now (options flags)) (table tables.now) (options flags) r) }
-    ensures refused { IfErr result (λ e. MayRefusePoints (table tables.now) (options flags) (points_of_source source.now (options flags)) e.error) }
+    ensures compiled { IfOk result (λ held. (r : RegexValue) × (content (Some held.value) ≡ OfPattern r) × IsCompiled (is_whole source.now) (points_of_source source.now (options flags)) (table tables.now) (options flags) r) }
+    ensures refused { IfErr result (λ e. MayRefusePoints (is_whole source.now) (table tables.now) (options flags) (points_of_source source.now (options flags)) e.error) }
 {
     match source.compile(alloc, flags, tables) {
         Ok(regex) => Ok(boxed(alloc, regex)?),
@@ -180,9 +182,9 @@ pub fn compile(
     out: &mut Slot,
 ) -> Result<(), Refusal>
     ensures compiled { (ps : Parts) → content tables.old.held ≡ OfTables ps →
-        OnOk result ((r : RegexValue) × (content out.new.held ≡ OfPattern r) × IsCompiled (points_of_source source.entry (options_of (chars letters.now))) (table_of ps) (options_of (chars letters.now)) r) }
+        OnOk result ((r : RegexValue) × (content out.new.held ≡ OfPattern r) × IsCompiled (is_whole source.entry) (points_of_source source.entry (options_of (chars letters.now))) (table_of ps) (options_of (chars letters.now)) r) }
     ensures kept { content tables.new.held ≡ content tables.old.held }
-    ensures refused { IfErr result (λ e. MayRefuseCompile (content tables.old.held) (points_of_source source.entry) letters.now e.error) }
+    ensures refused { IfErr result (λ e. MayRefuseCompile (content tables.old.held) (is_whole source.entry) (points_of_source source.entry) letters.now e.error) }
     ensures untouched { OnErr result (content out.new.held ≡ content out.old.held) }
 {
     let known = tables_in(alloc, tables)?;
