@@ -25,9 +25,9 @@ slots-long zero groups = refl
 slots-long (suc n) [] = ap (λ (m : ℕ). suc m) (slots-long n [])
 slots-long (suc n) (g ∷ groups) = ap (λ (m : ℕ). suc m) (slots-long n groups)
 
-pub fills-slots : (i : Option Item) (old : List (Option (Range ℕ))) (found : Option (Range ℕ)) (new : List (Option (Range ℕ))) → Fills i found old new → IsInSlots i old found new
-fills-slots None old found new fills = fills
-fills-slots (Some i) old found new fills = (
+pub fills_slots : (i : Option Item) (old : List (Option (Range ℕ))) (found : Option (Range ℕ)) (new : List (Option (Range ℕ))) → Fills i found old new → IsInSlots i old found new
+fills_slots None old found new fills = fills
+fills_slots (Some i) old found new fills = (
   fills.0,
   λ k within.
       let long : length new ≡ length old = sym (length-map new (option_map ends)) ∙ ap length fills.1 ∙ slots-long (length old) (ranges_of_item i) in

@@ -13,7 +13,7 @@ use crate::text::Text;
 use regress::{Error, Range, Regex, Scratch};
 
 /// The first match from `start` on.
-#[tactic(auto, using(crate::proofs::SlotLemmas::fills-slots))]
+#[tactic(auto, using(crate::proofs::SlotLemmas::fills_slots))]
 pub(crate) fn find_into(
     regex: &Regex,
     scratch: &mut Scratch,
@@ -36,7 +36,7 @@ pub(crate) fn find_into(
 }
 
 /// The match that begins at `start`.
-#[tactic(auto, using(crate::proofs::SlotLemmas::fills-slots))]
+#[tactic(auto, using(crate::proofs::SlotLemmas::fills_slots))]
 pub(crate) fn match_into(
     regex: &Regex,
     scratch: &mut Scratch,

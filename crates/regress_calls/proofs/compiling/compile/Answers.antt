@@ -5,8 +5,8 @@ use Rattle.regress_calls.specs.Handles.{content}
 use Rattle.regress_calls.proofs.CompileLemmas.{compiled-with, refused-source}
 use Rattle.regress_calls.proofs.compiling.compile.Goals as goal
 
-pub returns-in-Err-clause-refused : goal.returns-in-Err-clause-refused
-returns-in-Err-clause-refused c =
+pub returns-clause-refused : goal.returns-clause-refused
+returns-clause-refused c =
     let set : options c.in_ok-flags.flags ≡ options_of (chars c.args.letters.now)
     = c.in_ok-flags.ensures.read ∙ ap (λ (l : List ℕ). options_of (chars l)) c.in_ok-utf8.ensures.text in
     refused-source (content c.args.tables.now.held) c.args.source c.args.letters.now c.in_ok-known.known (options c.in_ok-flags.flags) c.in-Err.refused.error
