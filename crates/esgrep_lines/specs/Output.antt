@@ -1,0 +1,35 @@
+-- What is put out for one text.
+use Rattle.std.specs.Prelude.{ℕ, ◌+◌, Bool, not, nat_lt, List, [], ◌∷◌, ◌++◌, length, decimal, codes, if◌then◌else◌, min}
+use Rattle.esgrep_lines.specs.declared.options.Options.{Options}
+use Rattle.esgrep_lines.specs.declared.options.Mode.{Mode}
+use Rattle.esgrep_lines.specs.declared.options.Mode.TheVariants.{Lines, Matches, Count, WithMatch, WithoutMatch, Quiet}
+use Rattle.esgrep_lines.specs.Lines.{numbered_lines}
+use Rattle.esgrep_lines.specs.Found.{Find}
+use Rattle.esgrep_lines.specs.Rows.{painted, name_field, selected_lines, rows, beginning}
+
+-- the name of what is searched, on a line of its own
+abbrev pub name_row : Options → List ℕ → List ℕ
+name_row o name = painted o (codes "35") name ++ (if o.nul_behind_names then 0 ∷ [] else codes "\n")
+
+-- how many lines were selected, in a row
+abbrev pub count_row : Options → List ℕ → ℕ → List ℕ
+count_row o name count = (if o.names then name_field o (codes ":") name else []) ++ decimal count ++ codes "\n"
+
+-- What is put out for a text of this name: the rows of its lines, how many are selected, its name where some or none are, or
+-- nothing.
+abbrev pub output : Options → Mode → Find → List ℕ → List ℕ → List ℕ
+output o Lines find name text = rows o find name o.most beginning (numbered_lines o.ending text)
+output o Matches find name text = rows o find name o.most beginning (numbered_lines o.ending text)
+output o Count find name text = count_row o name (length (selected_lines o find text))
+output o WithMatch find name text = if nat_lt 0 (length (selected_lines o find text)) then name_row o name else []
+output o WithoutMatch find name text = if nat_lt 0 (length (selected_lines o find text)) then [] else name_row o name
+output o Quiet find name text = []
+
+-- how many selected lines are told of: all, or where only that there is one matters, at most one
+abbrev pub told_count : Mode → ℕ → ℕ
+told_count Lines n = n
+told_count Matches n = n
+told_count Count n = n
+told_count WithMatch n = min 1 n
+told_count WithoutMatch n = min 1 n
+told_count Quiet n = min 1 n

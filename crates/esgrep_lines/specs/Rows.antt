@@ -1,0 +1,94 @@
+-- The rows that are put out for lines.
+use Rattle.std.specs.Prelude.{ℕ, ◌+◌, ◌-◌, ◌==◌, ◌&&◌, ◌||◌, Bool, true, false, not, nat_lt, List, [], ◌∷◌, ◌++◌, length, drop, flat_map, filter, take, decimal, codes, if◌then◌else◌}
+use Rattle.esgrep_lines.specs.declared.options.Options.{Options}
+use Rattle.esgrep_lines.specs.declared.options.Mode.TheVariants.{Matches}
+use Rattle.esgrep_lines.specs.Lines.{Line, body, tail, byte_of, numbered_lines}
+use Rattle.esgrep_lines.specs.Found.{Found, Find, rewritten}
+use Rattle.esgrep_lines.specs.Views.{puts_matches}
+
+-- a text between the codes that a terminal shows it in a colour by, where colours are wanted
+abbrev pub painted : Options → List ℕ → List ℕ → List ℕ
+painted o colour text = if o.colored then codes "\u{1b}[" ++ colour ++ codes "m" ++ text ++ codes "\u{1b}[m" else text
+
+-- a mark behind a field
+abbrev pub marked : Options → List ℕ → List ℕ
+marked o mark = painted o (codes "36") mark
+
+-- a number, and the mark behind it
+abbrev pub number_field : Options → List ℕ → ℕ → List ℕ
+number_field o mark n = painted o (codes "32") (decimal n) ++ marked o mark
+
+-- the name of what is searched, and the mark behind it, or a NUL
+abbrev pub name_field : Options → List ℕ → List ℕ → List ℕ
+name_field o mark name = painted o (codes "35") name ++ (if o.nul_behind_names then 0 ∷ [] else marked o mark)
+
+-- What stands in front of a row: a name, the number of a line and an offset, as far as they are wanted.
+abbrev pub front : Options → List ℕ → List ℕ → ℕ → ℕ → List ℕ
+front o mark name number offset =
+    (if o.names then name_field o mark name else []) ++ (if o.numbers then number_field o mark number else [])
+    ++ (if o.offsets then number_field o mark offset else [])
+
+-- A line is selected: it has a match, or by `-v` none.
+abbrev pub is_selected : Options → Find → List ℕ → Bool
+is_selected o find line = not (nat_lt 0 (length (find (body o.ending line)))) == o.invert
+
+-- The lines of a text that are selected, at most so many as are wanted.
+abbrev pub selected_lines : Options → Find → List ℕ → List Line
+selected_lines o find text = take o.most (filter (λ line. is_selected o find line.bytes) (numbered_lines o.ending text))
+
+-- what is shown of a selected line
+abbrev pub shown_body : Options → Find → List ℕ → List ℕ
+shown_body o find text = if o.rewrites then rewritten text (find text) else text
+
+-- the row of a match of a line, by `-o`; an empty match has none
+abbrev pub match_row : Options → List ℕ → Line → Found → List ℕ
+match_row o name line f =
+    if f.item.start == f.item.end then []
+    else front o (codes ":") name line.number (line.start + f.item.start) ++ f.shown ++ byte_of o.ending ∷ []
+
+-- what is put out for a selected line: the line, or by `-o` its matches
+abbrev pub selected_row : Options → Find → List ℕ → Line → List ℕ
+selected_row o find name line =
+    if puts_matches o.mode then flat_map (match_row o name line) (find (body o.ending line.bytes))
+    else front o (codes ":") name line.number line.start ++ shown_body o find (body o.ending line.bytes) ++ tail o.ending line.bytes
+
+-- what is put out for a line near a selected one
+abbrev pub near_row : Options → List ℕ → Line → List ℕ
+near_row o name line =
+    if puts_matches o.mode then []
+    else front o (codes "-") name line.number line.start ++ body o.ending line.bytes ++ tail o.ending line.bytes
+
+-- How far the rows are: how many lines behind a selected one are still to be put out, the lines that may stand before the next
+-- selected one, whether any was put out, and whether lines were left out since.
+pub record Progress : Type 0 where
+  pub behind : ℕ
+  pub held : List Line
+  pub is_begun : Bool
+  pub has_gap : Bool
+
+-- before the first line
+abbrev pub beginning : Progress
+beginning = record { behind = 0; held = []; is_begun = false; has_gap = false }
+
+-- so many lines are to be put out behind one that was
+abbrev pub following : ℕ → Progress
+following behind = record { behind = behind; held = []; is_begun = true; has_gap = false }
+
+-- a line is held back; of those that are, so many as may stand before a selected one stay
+abbrev pub held_back : Options → Progress → Line → Progress
+held_back o p line =
+    let held = p.held ++ line ∷ [] in
+    record { behind = 0; held = drop (length held - o.before) held; is_begun = p.is_begun; has_gap = p.has_gap || nat_lt o.before (length held) }
+
+-- `--` between groups of lines
+abbrev pub separator : Options → Progress → List ℕ
+separator o p = if o.parts_groups && p.is_begun && p.has_gap then marked o (codes "--") ++ codes "\n" else []
+
+-- The rows of lines from where they are on, of which so many may still be selected.
+unfoldable pub rows : Options → Find → List ℕ → ℕ → Progress → List Line → List ℕ
+rows o find name most p [] = []
+rows o find name most p (line ∷ lines) =
+    if nat_lt 0 most && is_selected o find line.bytes
+    then separator o p ++ flat_map (near_row o name) p.held ++ selected_row o find name line ++ rows o find name (most - 1) (following o.after) lines
+    else if nat_lt 0 p.behind then near_row o name line ++ rows o find name most (following (p.behind - 1)) lines
+    else rows o find name most (held_back o p line) lines
