@@ -8,8 +8,8 @@ use crate::patterns::regexes;
 use crate::refusal::Refusal;
 use crate::settings::{Coloring, Settings};
 use crate::stdout::Stdout;
-use crate::texts::{Content, content};
-use esgrep_lines::{Mode, Options, Output, Patterns, SearchError, search};
+use crate::texts::{Content, content_of};
+use esgrep_lines::{Mode, Options, Output, Patterns, SearchError, Shown, search};
 use regress_program::Failed;
 use regress_replacing::Template;
 use regress_unicode::unicode_tables;
@@ -83,7 +83,7 @@ impl From<Refusal> for Stop {
 
 /// A search of files.
 #[derive(Drop)]
-struct Run<'r, R: Runtime + AllocGlobal, W: Write + Drop> {
+struct Search<'r, R: Runtime + AllocGlobal, W: Write + Drop> {
     rt: &'r R,
     settings: &'r Settings<'r>,
     options: Options,
@@ -174,9 +174,9 @@ fn with_settings<R: Runtime + AllocGlobal>(
     let regexes = regexes(rt, settings, &tables)?;
     let colored = is_colored(rt, settings.coloring, is_terminal);
     let shown = template_text(alloc, settings, colored)?;
-    let template = match &shown {
-        Some(text) => Some(Template::new(alloc, text.as_str())?),
-        None => None,
+    let shown_text = match &shown {
+        Some(text) => Shown::by(Template::new(alloc, text.as_str())?),
+        None => Shown::itself(),
     };
     let options = Options {
         names: settings.named.unwrap_or(has_several(settings)),
@@ -184,11 +184,11 @@ fn with_settings<R: Runtime + AllocGlobal>(
         colored,
         ..settings.options
     };
-    let mut run = Run {
+    let mut files = Search {
         rt,
         settings,
         options,
-        patterns: Patterns::new(regexes, template),
+        patterns: Patterns::new(regexes, shown_text),
         chosen: Chosen {
             include: Globs::new(alloc, &settings.include, &tables)?,
             exclude: Globs::new(alloc, &settings.exclude, &tables)?,
@@ -196,11 +196,11 @@ fn with_settings<R: Runtime + AllocGlobal>(
         output: Output::new(alloc, Stdout::new(io::writer(rt)), settings.by_row),
         tally: Tally::default(),
     };
-    let stop = run.search_all();
-    Ok(run.finished(stop))
+    let stop = files.search_all();
+    Ok(files.finished(stop))
 }
 
-impl<'r, R: Runtime + AllocGlobal, W: Write + Drop> Run<'r, R, W> {
+impl<'r, R: Runtime + AllocGlobal, W: Write + Drop> Search<'r, R, W> {
     /// Tells of a file that can't be searched.
     fn tell(&mut self, path: &str, message: &(impl Display + Drop)) {
         self.tally.has_trouble = true;
@@ -317,7 +317,7 @@ impl<'r, R: Runtime + AllocGlobal, W: Write + Drop> Run<'r, R, W> {
         let alloc = self.rt.alloc();
         self.tally.texts = self.tally.texts.saturating_add(1);
         self.tally.bytes = self.tally.bytes.saturating_add(bytes.len());
-        match content(alloc, bytes, self.options.ending, self.settings.no_text)? {
+        match content_of(alloc, bytes, self.options.ending, self.settings.no_text)? {
             Content::Text(text) => self.search_text(name, text)?,
             Content::Lossy(text) => self.search_text(name, text.as_str())?,
             Content::Binary(text) => self.search_binary(name, text.as_str())?,

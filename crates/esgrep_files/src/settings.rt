@@ -114,7 +114,7 @@ fn options(matches: &ArgMatches<'_>) -> Options {
 }
 
 /// When rows are in colours.
-fn coloring(matches: &ArgMatches<'_>) -> Coloring {
+fn coloring_of(matches: &ArgMatches<'_>) -> Coloring {
     match matches.get_str("color") {
         Some("always") => Coloring::Always,
         Some("never") => Coloring::Never,
@@ -161,7 +161,7 @@ impl<'a> Settings<'a> {
             replacement: matches.get_str("replace"),
             groups: matches.get_flag("groups"),
             named: named(matches),
-            coloring: coloring(matches),
+            coloring: coloring_of(matches),
             recursive: matches.get_flag("recursive"),
             include: values(alloc, matches, "include")?,
             exclude: values(alloc, matches, "exclude")?,

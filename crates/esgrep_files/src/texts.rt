@@ -30,7 +30,7 @@ fn is_binary(bytes: &[u8], ending: Ending) -> bool {
 }
 
 /// What a file of these bytes holds.
-pub(crate) fn content<'b>(
+pub(crate) fn content_of<'b>(
     alloc: Global,
     bytes: &'b [u8],
     ending: Ending,

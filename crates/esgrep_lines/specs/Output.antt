@@ -1,19 +1,11 @@
 -- What is put out for one text.
-use Rattle.std.specs.Prelude.{ℕ, ◌+◌, Bool, not, nat_lt, List, [], ◌∷◌, ◌++◌, length, decimal, codes, if◌then◌else◌, min}
-use Rattle.esgrep_lines.specs.declared.options.Options.{Options}
-use Rattle.esgrep_lines.specs.declared.options.Mode.{Mode}
-use Rattle.esgrep_lines.specs.declared.options.Mode.TheVariants.{Lines, Matches, Count, WithMatch, WithoutMatch, Quiet}
-use Rattle.esgrep_lines.specs.Lines.{numbered_lines}
-use Rattle.esgrep_lines.specs.Found.{Find}
-use Rattle.esgrep_lines.specs.Rows.{painted, name_field, selected_lines, rows, beginning}
-
--- the name of what is searched, on a line of its own
-abbrev pub name_row : Options → List ℕ → List ℕ
-name_row o name = painted o (codes "35") name ++ (if o.nul_behind_names then 0 ∷ [] else codes "\n")
-
--- how many lines were selected, in a row
-abbrev pub count_row : Options → List ℕ → ℕ → List ℕ
-count_row o name count = (if o.names then name_field o (codes ":") name else []) ++ decimal count ++ codes "\n"
+use Rattle.std.specs.Prelude.{ℕ, nat_lt, min, List, [], length, if◌then◌else◌}
+use Rattle.esgrep_rows.specs.declared.options.Options.{Options}
+use Rattle.esgrep_rows.specs.declared.options.Mode.{Mode}
+use Rattle.esgrep_rows.specs.declared.options.Mode.TheVariants.{Lines, Matches, Count, WithMatch, WithoutMatch, Quiet}
+use Rattle.esgrep_rows.specs.Lines.{numbered_lines}
+use Rattle.esgrep_rows.specs.Found.{Find}
+use Rattle.esgrep_rows.specs.Rows.{name_row, count_row, selected_lines, rows, beginning}
 
 -- What is put out for a text of this name: the rows of its lines, how many are selected, its name where some or none are, or
 -- nothing.

@@ -1,26 +1,31 @@
 //! The patterns that are searched for.
-ghost use Rattle.std.specs.Prelude.{◌≡◌};
+ghost use Rattle.std.specs.Prelude.{◌≡◌, ◌≢◌, ◌↔◌, [], map, IsTrue, IfOk, OnOk, IsOkUnless};
 
+use esgrep_rows::Shown;
 use regress::{Error, Match, Regex, is_start};
-use regress_replacing::Template;
-use std::alloc::AllocError;
 
 /// Patterns, each searched for alone, and what is shown of a match.
 #[derive(Debug, Drop)]
 pub struct Patterns<'t> {
-    regexes: Vec<Regex>,
-    /// What is shown of a match, in the standard's language of replacement texts; its own text where there is none.
-    template: Option<Template<'t>>,
+    pub(crate) regexes: Vec<Regex>,
+    pub(crate) shown: Shown<'t>,
 }
 
 impl<'t> Patterns<'t> {
-    /// Patterns, and what is shown of a match: its text, or what a replacement text of the standard's language gives.
+    ghost use Rattle.esgrep_rows.specs.Found.{Find, found_of, LieInOrder};
+    ghost use Rattle.esgrep_rows.specs.Views.{template_text};
+    ghost use Rattle.esgrep_lines.specs.Seeking.{FindsOne, regexes_of, shown_of};
+
+    /// Patterns, and what is shown of a match.
     ///
     /// ```rust
-    /// let patterns = Patterns::new(vec![in alloc; regex]?, None);
+    /// let patterns = Patterns::new(vec![in alloc; regex]?, Shown::itself());
     /// ```
-    pub fn new(regexes: Vec<Regex>, template: Option<Template<'t>>) -> Patterns<'t> {
-        Patterns { regexes, template }
+    pub fn new(regexes: Vec<Regex>, shown: Shown<'t>) -> Patterns<'t>
+        ensures regexes { regexes_of result ≡ regexes.items }
+        ensures shown { shown_of result ≡ shown }
+    {
+        Patterns { regexes, shown }
     }
 
     /// Whether one of the patterns has a match in a text. Errs with `OutOfMemory` alone.
@@ -28,7 +33,10 @@ impl<'t> Patterns<'t> {
     /// ```rust
     /// let is_there = patterns.is_match("a line")?;
     /// ```
-    pub fn is_match(&self, text: &str) -> Result<bool, Error> {
+    pub fn is_match(&self, text: &str) -> Result<bool, Error>
+        ensures found { (find : Find) → FindsOne self.now find → IfOk result (λ found. IsTrue found ↔ (find text.now ≢ [])) }
+        ensures refused { IsOkUnless result Error.OutOfMemory }
+    {
         for regex in &self.regexes {
             if regex.is_match(text)? {
                 return Ok(true);
@@ -43,23 +51,15 @@ impl<'t> Patterns<'t> {
     /// ```rust
     /// patterns.find_into("a line", &mut founds)?;
     /// ```
-    pub fn find_into(&self, text: &str, founds: &mut Vec<Match>) -> Result<(), Error> {
+    pub fn find_into(&self, text: &str, founds: &mut Vec<Match>) -> Result<(), Error>
+        ensures found { (find : Find) → FindsOne self.now find → OnOk result (map (found_of (template_text (shown_of self.now)) text.now) founds.new.items ≡ find text.now) }
+        ensures order { OnOk result (LieInOrder text.now 0 founds.new.items) }
+        ensures refused { IsOkUnless result Error.OutOfMemory }
+    {
         founds.clear();
         match self.regexes.as_slice() {
             [regex] => find_one_into(regex, text, founds),
             _ => self.find_several_into(text, founds),
-        }
-    }
-
-    /// Appends what is shown of a match. Errs where memory is refused alone.
-    ///
-    /// ```rust
-    /// patterns.push_shown(&found, "a line", &mut row)?;
-    /// ```
-    pub fn push_shown(&self, found: &Match, text: &str, row: &mut String) -> Result<(), Error> {
-        match &self.template {
-            Some(template) => template.write(found, text, row),
-            None => Ok(row.push_str(found.as_str(text))?),
         }
     }
 

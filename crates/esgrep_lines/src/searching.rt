@@ -1,11 +1,8 @@
 //! A search of one text.
 
-use crate::line::{Line, body_of, first_line};
-use crate::options::{Mode, Options};
 use crate::output::Output;
 use crate::patterns::Patterns;
-use crate::progress::Progress;
-use crate::rows::Rows;
+use esgrep_rows::{Line, Mode, Options, Progress, Rows, body_of, first_line};
 use regress::{Error, Match};
 use regress_program::{Failed, Sink};
 use std::alloc::{AllocError, Global};
@@ -167,17 +164,12 @@ fn push_selected(
     row: &mut String,
     line: Line<'_>,
     founds: &mut Vec<Match>,
-) -> Result<(), SearchError> {
-    let options = &rows.options;
-    if !options.mode.puts_matches() && !options.rewrites {
+) -> Result<(), Error> {
+    if !rows.options.mode.puts_matches() && !rows.options.rewrites {
         rows.push_line(row, line)?;
         return Ok(());
     }
-    patterns.find_into(body_of(line.text, options.ending), founds)?;
-    if options.mode.puts_matches() {
-        rows.push_matches(row, patterns, line, founds)?;
-    } else {
-        rows.push_rewritten(row, patterns, line, founds)?;
-    }
-    Ok(())
+    let body = body_of(line.text, rows.options.ending);
+    patterns.find_into(body, founds)?;
+    rows.push_selected(row, &patterns.shown, line, founds)
 }

@@ -21,10 +21,14 @@ pub enum Mode {
 }
 
 impl Mode {
-    ghost use Rattle.esgrep_lines.specs.Views.{puts_matches};
+    ghost use Rattle.esgrep_rows.specs.Views.{puts_matches};
 
     /// Whether matches are put out, not lines.
-    pub(crate) fn puts_matches(self) -> bool
+    ///
+    /// ```rust
+    /// let by_match = Mode::Matches.puts_matches(); // true
+    /// ```
+    pub fn puts_matches(self) -> bool
         ensures { result ≡ puts_matches self }
     {
         matches!(self, Mode::Matches)

@@ -1,7 +1,7 @@
 -- The lines of a text.
 use Rattle.std.specs.Prelude.{ℕ, ◌+◌, ◌-◌, ◌==◌, ◌&&◌, Bool, nat_lt, List, [], ◌∷◌, ◌++◌, length, take, drop, slice_index, if◌then◌else◌}
-use Rattle.esgrep_lines.specs.declared.ending.Ending.{Ending}
-use Rattle.esgrep_lines.specs.declared.ending.Ending.TheVariants.{Newline, Nul}
+use Rattle.esgrep_rows.specs.declared.ending.Ending.{Ending}
+use Rattle.esgrep_rows.specs.declared.ending.Ending.TheVariants.{Newline, Nul}
 
 -- the byte that ends a line
 abbrev pub byte_of : Ending → ℕ
@@ -22,18 +22,19 @@ lines end (b ∷ text) = if b == end then (b ∷ []) ∷ lines end text else in_
 abbrev pub is_last : ℕ → List ℕ → Bool
 is_last b text = nat_lt 0 (length text) && (slice_index text (length text - 1) == b)
 
--- a text without this byte at its end
-abbrev pub without : ℕ → List ℕ → List ℕ
-without b text = if is_last b text then take (length text - 1) text else text
+-- how many bytes of a line are searched: all but the byte that ends it, and but a `\r` before a `\n`
+abbrev pub body_len : Ending → List ℕ → ℕ
+body_len Newline line =
+    if is_last 0x0A line then (if is_last 0x0D (take (length line - 1) line) then length line - 2 else length line - 1) else length line
+body_len Nul line = if is_last 0 line then length line - 1 else length line
 
--- What is searched of a line: all but the byte that ends it, and but a `\r` before a `\n`.
-unfoldable pub body : Ending → List ℕ → List ℕ
-body Newline line = if is_last 0x0A line then without 0x0D (without 0x0A line) else line
-body Nul line = without 0 line
+-- What is searched of a line.
+abbrev pub body : Ending → List ℕ → List ℕ
+body ending line = take (body_len ending line) line
 
 -- how a line ends where it is put out: as in the text, and the last one with the byte too
-unfoldable pub tail : Ending → List ℕ → List ℕ
-tail ending line = drop (length (body ending line)) line ++ (if is_last (byte_of ending) line then [] else byte_of ending ∷ [])
+abbrev pub tail : Ending → List ℕ → List ℕ
+tail ending line = drop (body_len ending line) line ++ (if is_last (byte_of ending) line then [] else byte_of ending ∷ [])
 
 -- A line of a text: its number, from 1, the offset of its first byte, and its bytes with the one that ends it.
 pub record Line : Type 0 where

@@ -11,7 +11,7 @@ pub enum Ending {
 }
 
 impl Ending {
-    ghost use Rattle.esgrep_lines.specs.Lines.{byte_of};
+    ghost use Rattle.esgrep_rows.specs.Lines.{byte_of};
 
     /// The byte that ends a line.
     ///
