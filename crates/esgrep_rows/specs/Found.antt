@@ -1,5 +1,5 @@
 -- What is found in a text, and what is shown of it.
-use Rattle.std.specs.Prelude.{ℕ, ◌≤◌, List, [], ◌∷◌, All, map, slice_range, option_map, Option, Some, None}
+use Rattle.std.specs.Prelude.{ℕ, ◌≤◌, List, [], ◌∷◌, map, slice_range, Option, Some, None}
 use Rattle.regress_meaning.specs.Matches.{Item}
 use Rattle.regress_replacing.specs.Replacing.{replaced}
 use Rattle.regress_replacing.specs.Substitution.{substitution}

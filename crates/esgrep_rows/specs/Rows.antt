@@ -1,7 +1,6 @@
 -- The rows that are put out for lines.
-use Rattle.std.specs.Prelude.{ℕ, ◌+◌, ◌-◌, ◌==◌, ◌&&◌, ◌||◌, Bool, true, false, not, nat_lt, List, [], ◌∷◌, ◌++◌, length, drop, flat_map, filter, take, decimal, codes, if◌then◌else◌}
+use Rattle.std.specs.Prelude.{ℕ, ◌+◌, ◌-◌, ◌&&◌, ◌||◌, Bool, true, false, not, nat_lt, List, [], ◌∷◌, ◌++◌, length, drop, flat_map, filter, take, decimal, codes, if◌then◌else◌}
 use Rattle.esgrep_rows.specs.declared.options.Options.{Options}
-use Rattle.esgrep_rows.specs.declared.options.Mode.TheVariants.{Matches}
 use Rattle.esgrep_rows.specs.Lines.{Line, body, tail, byte_of, numbered_lines}
 use Rattle.esgrep_rows.specs.Found.{Found, Find, rewritten}
 use Rattle.esgrep_rows.specs.Views.{puts_matches}
@@ -30,7 +29,8 @@ front o mark name number offset =
 
 -- A line is selected: it has a match, or by `-v` none.
 abbrev pub is_selected : Options → Find → List ℕ → Bool
-is_selected o find line = not (nat_lt 0 (length (find (body o.ending line)))) == o.invert
+is_selected o find line =
+    let has_match = nat_lt 0 (length (find (body o.ending line))) in if o.invert then not has_match else has_match
 
 -- The lines of a text that are selected, at most so many as are wanted.
 abbrev pub selected_lines : Options → Find → List ℕ → List Line

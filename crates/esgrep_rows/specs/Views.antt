@@ -1,8 +1,8 @@
 -- How the values of the calls stand to the definitions.
-use Rattle.std.specs.Prelude.{ℕ, Bool, true, false, List, map, Option, option_map}
+use Rattle.std.specs.Prelude.{ℕ, Bool, true, false, List, Option, option_map}
 use Rattle.regress_replacing.specs.TemplateViews.{template_of}
 use Rattle.esgrep_rows.specs.declared.options.Mode.{Mode}
-use Rattle.esgrep_rows.specs.declared.options.Mode.TheVariants.{Lines, Matches, Count, WithMatch, WithoutMatch, Quiet}
+use Rattle.esgrep_rows.specs.declared.options.Mode.TheVariants.{Matches}
 use Rattle.esgrep_rows.specs.declared.shown.Shown.{Shown}
 
 -- matches are put out, not lines

@@ -28,11 +28,10 @@ pub fn first_line(text: &str, ending: Ending) -> (&str, &str)
     ensures whole { text.now ≡ result.0.now ++ result.1.now }
     ensures some { 0 < length result.0.now }
 {
-    let length = match memchr(ending.byte(), text.as_bytes()) {
-        Some(at) => at + 1,
-        None => text.len(),
-    };
-    text.split_at(length)
+    match memchr(ending.byte(), text.as_bytes()) {
+        Some(at) => text.split_at(at + 1),
+        None => (text, ""),
+    }
 }
 
 /// Whether the last of some bytes is this one.

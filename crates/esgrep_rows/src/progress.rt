@@ -1,9 +1,8 @@
 //! Which lines near a selected one are put out.
-ghost use Rattle.std.specs.Prelude.{◌≡◌, ◌≤◌, length, OnOk};
+ghost use Rattle.std.specs.Prelude.{◌≡◌, ◌≤◌, vec_len, OnOk};
 
 use crate::line::Line;
 use std::alloc::{AllocError, Global};
-use std::collections::VecDeque;
 
 /// How far the rows of a text are.
 #[derive(Drop)]
@@ -11,7 +10,7 @@ pub struct Progress<'t> {
     /// How many lines behind a selected one are still to be put out.
     pub behind: usize,
     /// The lines that may stand before the next selected one.
-    pub held: VecDeque<Line<'t>>,
+    pub held: Vec<Line<'t>>,
     /// Whether a line was put out.
     pub is_begun: bool,
     /// Whether lines were left out since.
@@ -32,7 +31,7 @@ impl<'t> Progress<'t> {
     {
         Progress {
             behind: 0,
-            held: VecDeque::new(alloc),
+            held: Vec::new(alloc),
             is_begun: false,
             has_gap: false,
         }
@@ -60,13 +59,13 @@ impl<'t> Progress<'t> {
     /// progress.hold(line, 2)?;
     /// ```
     pub fn hold(&mut self, line: Line<'t>, before: usize) -> Result<(), AllocError>
-        requires few { length self.old.held.items ≤ before }
+        requires few { vec_len self.old.held ≤ before }
         requires behind { self.old.behind ≡ 0 }
-        ensures { OnOk result (progress_of self.new ≡ held_back before (progress_of self.old) (line_of line)) }
+        ensures { OnOk result (progress_of self.new ≡ held_back before (progress_of self.old) (line_of line.entry)) }
     {
-        self.held.push_back(line)?;
+        self.held.push(line)?;
         if self.held.len() > before {
-            self.held.pop_front();
+            self.held.remove(0);
             self.has_gap = true;
         }
         Ok(())

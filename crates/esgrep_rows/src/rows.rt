@@ -17,7 +17,9 @@ use std::alloc::AllocError;
 
 /// The colours of a terminal: of names, of numbers, and of the marks behind them.
 const NAME: &str = "35";
+
 const NUMBER: &str = "32";
+
 const MARK: &str = "36";
 
 /// Where rows are made: what is asked of them, and the name of the text.
@@ -172,11 +174,7 @@ impl Rows<'_> {
     /// ```rust
     /// rows.push_before(&mut row, &progress)?;
     /// ```
-    pub fn push_before(
-        &self,
-        row: &mut String,
-        progress: &Progress<'_>,
-    ) -> Result<(), AllocError>
+    pub fn push_before(&self, row: &mut String, progress: &Progress<'_>) -> Result<(), AllocError>
         ensures { OnOk result (string_bytes row.new ≡ string_bytes row.old ++ before_row self.now.options self.now.name.now (progress_of progress.now)) }
     {
         let has_gap = self.options.parts_groups && progress.is_begun && progress.has_gap;
@@ -214,7 +212,7 @@ impl Rows<'_> {
         requires inside { LiesInText (body self.now.options.ending line.text.now) found.now }
         ensures pushed { OnOk result (string_bytes row.new ≡ string_bytes row.old
             ++ match_row self.now.options self.now.name.now (line_of line.entry)
-            (found_of (template_text shown.now) (body self.now.options.ending line.text.now) found.now)) }
+            (found_of (template_text shown.now) (body self.now.options.ending line.entry.text.now) found.now)) }
         ensures refused { IsOkUnless result Error.OutOfMemory }
     {
         let body = body_of(line.text, self.options.ending);
@@ -238,7 +236,7 @@ impl Rows<'_> {
         requires inside { All (LiesInText (body self.now.options.ending line.text.now)) founds.now }
         ensures pushed { OnOk result (string_bytes row.new ≡ string_bytes row.old
             ++ flat_map (match_row self.now.options self.now.name.now (line_of line.entry))
-            (map (found_of (template_text shown.now) (body self.now.options.ending line.text.now)) founds.now)) }
+            (map (found_of (template_text shown.now) (body self.now.options.ending line.entry.text.now)) founds.now)) }
         ensures refused { IsOkUnless result Error.OutOfMemory }
     {
         for found in founds {
@@ -266,7 +264,7 @@ impl Rows<'_> {
         requires order { LieInOrder (body self.now.options.ending line.text.now) 0 founds.now }
         ensures pushed { OnOk result (string_bytes row.new ≡ string_bytes row.old
             ++ selected_row self.now.options self.now.name.now (line_of line.entry)
-            (map (found_of (template_text shown.now) (body self.now.options.ending line.text.now)) founds.now)) }
+            (map (found_of (template_text shown.now) (body self.now.options.ending line.entry.text.now)) founds.now)) }
         ensures refused { IsOkUnless result Error.OutOfMemory }
     {
         if self.options.mode.puts_matches() {

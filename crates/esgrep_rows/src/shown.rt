@@ -34,7 +34,7 @@ impl<'t> Shown<'t> {
     /// let shown = Shown::by(Template::new(alloc, "<$&>")?);
     /// ```
     pub fn by(template: Template<'t>) -> Shown<'t>
-        ensures { template_text result ≡ Some (template_of template) }
+        ensures { template_text result ≡ Some (template_of template.entry) }
     {
         Shown {
             template: Some(template),
