@@ -1,27 +1,38 @@
 -- What is put out for one text.
-use Rattle.std.specs.Prelude.{ℕ, nat_lt, min, List, [], length, if◌then◌else◌}
+use Rattle.std.specs.Prelude.{ℕ, zero, suc, ◌+◌, nat_lt, min, List, [], ◌∷◌, length, if◌then◌else◌}
 use Rattle.esgrep_rows.specs.declared.options.Options.{Options}
 use Rattle.esgrep_rows.specs.declared.options.Mode.{Mode}
 use Rattle.esgrep_rows.specs.declared.options.Mode.TheVariants.{Lines, Matches, Count, WithMatch, WithoutMatch, Quiet}
 use Rattle.esgrep_rows.specs.Lines.{numbered_lines}
 use Rattle.esgrep_rows.specs.Found.{Find}
-use Rattle.esgrep_rows.specs.Rows.{name_row, count_row, selected_lines, rows, beginning}
+use Rattle.esgrep_rows.specs.Rows.{name_row, count_row, is_selected, selected_lines, rows, beginning}
 
--- What is put out for a text of this name: the rows of its lines, how many are selected, its name where some or none are, or
--- nothing.
-abbrev pub output : Options → Mode → Find → List ℕ → List ℕ → List ℕ
-output o Lines find name text = rows o find name o.most beginning (numbered_lines o.ending text)
-output o Matches find name text = rows o find name o.most beginning (numbered_lines o.ending text)
-output o Count find name text = count_row o name (length (selected_lines o find text))
-output o WithMatch find name text = if nat_lt 0 (length (selected_lines o find text)) then name_row o name else []
-output o WithoutMatch find name text = if nat_lt 0 (length (selected_lines o find text)) then [] else name_row o name
-output o Quiet find name text = []
+-- what is put out where so many lines are selected and none is shown: their number, or a name where some or none are
+abbrev pub summary : Options → List ℕ → Mode → ℕ → List ℕ
+summary o name Count n = count_row o name n
+summary o name WithMatch n = if nat_lt 0 n then name_row o name else []
+summary o name WithoutMatch n = if nat_lt 0 n then [] else name_row o name
+summary o name mode n = []
+
+-- the rows of all lines of a text
+abbrev pub all_rows : Options → Find → List ℕ → List ℕ → List ℕ
+all_rows o find name text = rows o find name o.most beginning (numbered_lines o.ending text)
+
+-- What is put out for a text of this name: the rows of its lines, or a summary.
+abbrev pub output_of : Options → Mode → Find → List ℕ → List ℕ → List ℕ
+output_of o Lines find name text = all_rows o find name text
+output_of o Matches find name text = all_rows o find name text
+output_of o mode find name text = summary o name mode (length (selected_lines o find text))
 
 -- how many selected lines are told of: all, or where only that there is one matters, at most one
 abbrev pub told_count : Mode → ℕ → ℕ
 told_count Lines n = n
 told_count Matches n = n
 told_count Count n = n
-told_count WithMatch n = min 1 n
-told_count WithoutMatch n = min 1 n
-told_count Quiet n = min 1 n
+told_count mode n = min 1 n
+
+-- how many of some lines are selected, counted up to so many
+unfoldable pub count_from : Options → Find → ℕ → List (List ℕ) → ℕ
+count_from o find zero lines = 0
+count_from o find (suc n) [] = 0
+count_from o find (suc n) (line ∷ lines) = if is_selected o find line then count_from o find n lines + 1 else count_from o find (suc n) lines

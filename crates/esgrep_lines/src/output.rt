@@ -1,51 +1,44 @@
 //! Where rows are put out.
-ghost use Rattle.std.specs.Prelude.{◌≡◌, ◌<◌, ◌≤◌, Bool, false, [], length, is_err, OnOk, OnErr};
+ghost use Rattle.std.specs.Prelude.{◌≡◌, false, [], is_err, OnOk, OnErr};
 ghost use Rattle.std.specs.Io.KnownBytes.{Appends, append_known};
-ghost use Rattle.regress_program.specs.Running.{AppendsFront};
 
-use regress_program::{Failed, Sink};
 use std::alloc::Global;
+use std::io::{ErrorKind, Write};
 
 /// With how many bytes that wait to be written no row waits any more.
 const PENDING: usize = 65536;
 
-/// Rows on their way to a sink. They wait until there are many, and are then written at once, whole rows always.
+/// A write failed.
+#[derive(Clone, Copy, Debug, PartialEq, Eq)]
+pub struct Unwritten;
+
+/// Rows on their way to a writer. They wait until there are many, and are then written at once, whole rows always.
 #[derive(Drop)]
-pub struct Output<W: Sink + Drop> {
-    sink: W,
+pub struct Output<W: Write + Drop> {
+    writer: W,
     pending: Vec<u8>,
     room: usize,
+    failure: Option<ErrorKind>,
 }
 
-impl<W: Sink + Drop> Output<W> {
-    ghost use Rattle.esgrep_lines.specs.Putting.{sink_of, put_out, IsBeginning};
+impl<W: Write + Drop> Output<W> {
+    ghost use Rattle.esgrep_lines.specs.Putting.{has_failed, written, put_out, IsBeginning};
 
-    /// Rows on their way to a sink. None waits yet. Each row is written at once where `by_row` says so.
+    /// Rows on their way to a writer. None waits yet. Each row is written at once where `by_row` says so.
     ///
     /// ```rust
-    /// let mut output = Output::new(rt.alloc(), StdSink::new(rt.stdout()), false);
+    /// let mut output = Output::new(rt.alloc(), rt.stdout(), false);
     /// ```
-    pub fn new(alloc: Global, sink: W, by_row: bool) -> Output<W>
-        ensures sink { sink_of result ≡ sink }
-        ensures nothing { put_out W.written result ≡ append_known (W.written sink) [] }
+    pub fn new(alloc: Global, writer: W, by_row: bool) -> Output<W>
+        ensures nothing { put_out W.contents result ≡ append_known (W.contents writer) [] }
+        ensures sound { has_failed result ≡ false }
     {
-        let room = if by_row { 0 } else { PENDING };
         Output {
-            sink,
+            writer,
             pending: Vec::new(alloc),
-            room,
+            room: if by_row { 0 } else { PENDING },
+            failure: None,
         }
-    }
-
-    /// Where rows are written.
-    ///
-    /// ```rust
-    /// let sink = output.sink();
-    /// ```
-    pub fn sink(&self) -> &W
-        ensures { result.now ≡ sink_of self.now }
-    {
-        &self.sink
     }
 
     /// Whether a write has failed.
@@ -54,28 +47,52 @@ impl<W: Sink + Drop> Output<W> {
     /// let is_lost = output.failed(); // nothing can be put out any more
     /// ```
     pub fn failed(&self) -> bool
-        ensures { result ≡ W.failed (sink_of self.now) }
+        ensures { result ≡ has_failed self.now }
     {
-        self.sink.failed()
+        self.failure.is_some()
     }
 
-    /// Puts out a row. Asks that no write has failed. Errs where one fails now; then a beginning of all that was put out, this row
-    /// too, was written.
+    /// With what a write failed.
+    ///
+    /// ```rust
+    /// let is_closed = output.failure() == Some(ErrorKind::BrokenPipe);
+    /// ```
+    pub fn failure(&self) -> Option<ErrorKind> {
+        self.failure
+    }
+
+    /// Puts out a row. Asks that no write has failed. Errs where one fails now; then a beginning of all that was put out, this
+    /// row too, was written.
     ///
     /// ```rust
     /// output.put(b"a line\n")?;
     /// ```
-    pub fn put(&mut self, row: &[u8]) -> Result<(), Failed>
-        requires { W.failed (sink_of self.old) ≡ false }
-        ensures ok { OnOk result (Appends (put_out W.written self.old) (put_out W.written self.new) row.now) }
-        ensures err { OnErr result (IsBeginning (W.written (sink_of self.new)) (append_known (put_out W.written self.old) row.now)) }
-        ensures failure { W.failed (sink_of self.new) ≡ is_err result }
+    pub fn put(&mut self, row: &[u8]) -> Result<(), Unwritten>
+        requires { has_failed self.old ≡ false }
+        ensures ok { OnOk result (Appends (put_out W.contents self.old) (put_out W.contents self.new) row.now) }
+        ensures err { OnErr result (IsBeginning (written W.contents self.new) (append_known (put_out W.contents self.old) row.now)) }
+        ensures failure { has_failed self.new ≡ is_err result }
     {
         if self.pending.len() < self.room && self.pending.extend_from_slice(row).is_ok() {
             return Ok(());
         }
         self.flush()?;
-        write_all(&mut self.sink, row)
+        self.write(row)
+    }
+
+    /// Writes bytes behind those that were written. Asks that none wait.
+    fn write(&mut self, bytes: &[u8]) -> Result<(), Unwritten>
+        requires none { self.old.pending.items ≡ [] }
+        requires sound { has_failed self.old ≡ false }
+        ensures ok { OnOk result (Appends (put_out W.contents self.old) (put_out W.contents self.new) bytes.now) }
+        ensures err { OnErr result (IsBeginning (written W.contents self.new) (append_known (put_out W.contents self.old) bytes.now)) }
+        ensures failure { has_failed self.new ≡ is_err result }
+    {
+        if let Err(kind) = write_all(&mut self.writer, bytes) {
+            self.failure = Some(kind);
+            return Err(Unwritten);
+        }
+        Ok(())
     }
 
     /// Writes all rows that wait. Asks that no write has failed. Errs where one fails now; then a beginning of all that was put
@@ -84,29 +101,36 @@ impl<W: Sink + Drop> Output<W> {
     /// ```rust
     /// output.flush()?;
     /// ```
-    pub fn flush(&mut self) -> Result<(), Failed>
-        requires { W.failed (sink_of self.old) ≡ false }
-        ensures ok { OnOk result (W.written (sink_of self.new) ≡ put_out W.written self.new) }
-        ensures same { OnOk result (Appends (put_out W.written self.old) (put_out W.written self.new) []) }
-        ensures err { OnErr result (IsBeginning (W.written (sink_of self.new)) (put_out W.written self.old)) }
-        ensures failure { W.failed (sink_of self.new) ≡ is_err result }
+    pub fn flush(&mut self) -> Result<(), Unwritten>
+        requires { has_failed self.old ≡ false }
+        ensures none { OnOk result (self.new.pending.items ≡ []) }
+        ensures same { OnOk result (Appends (put_out W.contents self.old) (put_out W.contents self.new) []) }
+        ensures err { OnErr result (IsBeginning (written W.contents self.new) (put_out W.contents self.old)) }
+        ensures failure { has_failed self.new ≡ is_err result }
     {
-        write_all(&mut self.sink, &self.pending)?;
+        if let Err(kind) = write_all(&mut self.writer, &self.pending) {
+            self.failure = Some(kind);
+            return Err(Unwritten);
+        }
         self.pending.clear();
         Ok(())
     }
 }
 
+ghost use Rattle.esgrep_lines.specs.Putting.{AppendsFront};
+
 /// Writes all bytes. On an error, a beginning of them was written.
-fn write_all<W: Sink>(sink: &mut W, bytes: &[u8]) -> Result<(), Failed>
-    requires { W.failed sink.old ≡ false }
-    ensures ok { OnOk result (Appends (W.written sink.old) (W.written sink.new) bytes.now) }
-    ensures err { OnErr result (AppendsFront (W.written sink.old) (W.written sink.new) bytes.now) }
-    ensures failure { W.failed sink.new ≡ is_err result }
+fn write_all<W: Write>(writer: &mut W, bytes: &[u8]) -> Result<(), ErrorKind>
+    ensures ok { OnOk result (Appends (W.contents writer.old) (W.contents writer.new) bytes.now) }
+    ensures err { OnErr result (AppendsFront (W.contents writer.old) (W.contents writer.new) bytes.now) }
 {
     let mut done = 0;
     while done < bytes.len() {
-        done += sink.put(&bytes[done..])?;
+        match writer.write(&bytes[done..]) {
+            Ok(0) => return Err(ErrorKind::WriteZero),
+            Ok(count) => done += count,
+            Err(error) => return Err(error.kind()),
+        }
     }
     Ok(())
 }

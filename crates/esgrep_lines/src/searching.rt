@@ -1,11 +1,24 @@
 //! A search of one text.
+ghost use Rattle.std.specs.Prelude.{◌≡◌, ◌≢◌, ◌≤◌, ◌<◌, ◌^◌, ◌++◌, ◌∷◌, ◌&&◌, ◌-◌, ◌+◌, ℕ, List, Option, [], false, nat_lt, length, vec_len, IfOk, OnOk, IsErrOf, IsOkUnless, string_bytes, if◌then◌else◌};
+ghost use Rattle.std.specs.Io.KnownBytes.{Appends, append_known};
+ghost use Rattle.esgrep_rows.specs.Lines as line_words;
+ghost use Rattle.esgrep_rows.specs.Lines.{byte_of, lines};
+ghost use Rattle.esgrep_rows.specs.Found.{Find};
+ghost use Rattle.esgrep_rows.specs.Rows as row_words;
+ghost use Rattle.esgrep_rows.specs.Rows.{selected_row, selected_lines, rows};
+ghost use Rattle.esgrep_rows.specs.Views.{template_text};
+ghost use Rattle.esgrep_rows.specs.Values.{line_of, progress_of};
+ghost use Rattle.esgrep_rows.specs.Lines.{body};
+ghost use Rattle.esgrep_lines.specs.Output.{output_of, summary, told_count, count_from};
+ghost use Rattle.esgrep_lines.specs.Putting.{has_failed, written, put_out, AppendsFront, IsBeginning};
 
-use crate::output::Output;
-use crate::patterns::Patterns;
-use esgrep_rows::{Line, Mode, Options, Progress, Rows, body_of, first_line};
-use regress::{Error, Match};
-use regress_program::{Failed, Sink};
+use crate::finder::Finder;
+use crate::output::{Output, Unwritten};
+use esgrep_rows::{Line, Mode, Options, Progress, Rows, Shown, body_of, first_line};
+use regress_front_core::Error;
+use regress_match::Match;
 use std::alloc::{AllocError, Global};
+use std::io::Write;
 use std::{error, fmt};
 
 /// Why a search ends without its whole output.
@@ -29,19 +42,31 @@ impl fmt::Display for SearchError {
 impl error::Error for SearchError {}
 
 impl From<Error> for SearchError {
+    ghost use Rattle.esgrep_lines.specs.declared.searching.SearchError.TheVariants.{OutOfMemory};
+
+    ghost from_gives = { λ _ e. e ≡ OutOfMemory };
+
     fn from(_refused: Error) -> SearchError {
         SearchError::OutOfMemory
     }
 }
 
 impl From<AllocError> for SearchError {
+    ghost use Rattle.esgrep_lines.specs.declared.searching.SearchError.TheVariants.{OutOfMemory};
+
+    ghost from_gives = { λ _ e. e ≡ OutOfMemory };
+
     fn from(_refused: AllocError) -> SearchError {
         SearchError::OutOfMemory
     }
 }
 
-impl From<Failed> for SearchError {
-    fn from(_failed: Failed) -> SearchError {
+impl From<Unwritten> for SearchError {
+    ghost use Rattle.esgrep_lines.specs.declared.searching.SearchError.TheVariants.{Write};
+
+    ghost from_gives = { λ _ e. e ≡ Write };
+
+    fn from(_failed: Unwritten) -> SearchError {
         SearchError::Write
     }
 }
@@ -52,58 +77,62 @@ impl From<Failed> for SearchError {
 /// Asks that no write has failed. Errs where one fails, and where memory is refused; then a beginning of this was put out.
 ///
 /// ```rust
-/// let count = search(alloc, &patterns, &options, "notes.txt", text, &mut output)?;
+/// let count = search(alloc, &patterns, &Shown::itself(), &options, "notes.txt", text, &mut output)?;
 /// ```
-pub fn search<W: Sink + Drop>(
+pub fn search<F: Finder, W: Write + Drop>(
     alloc: Global,
-    patterns: &Patterns<'_>,
+    finder: &F,
+    shown: &Shown<'_>,
     options: &Options,
     name: &str,
     text: &str,
     output: &mut Output<W>,
-) -> Result<usize, SearchError> {
+) -> Result<usize, SearchError>
+    requires { has_failed output.old ≡ false }
+    ensures put { (find : Find) → F.finds finder.now (template_text shown.now) find →
+        OnOk result (Appends (put_out W.contents output.old) (put_out W.contents output.new) (output_of options.now options.now.mode find name.now text.now)) }
+    ensures count { (find : Find) → F.finds finder.now (template_text shown.now) find →
+        IfOk result (λ count. count ≡ told_count options.now.mode (length (selected_lines options.now find text.now))) }
+    ensures refused { (find : Find) → F.finds finder.now (template_text shown.now) find → IsErrOf result SearchError.OutOfMemory →
+        AppendsFront (put_out W.contents output.old) (put_out W.contents output.new) (output_of options.now options.now.mode find name.now text.now) }
+    ensures unwritten { (find : Find) → F.finds finder.now (template_text shown.now) find → IsErrOf result SearchError.Write →
+        IsBeginning (written W.contents output.new) (append_known (put_out W.contents output.old) (output_of options.now options.now.mode find name.now text.now)) }
+    ensures failure { (has_failed output.new ≡ true) ↔ IsErrOf result SearchError.Write }
+{
     let rows = Rows {
         options: *options,
         name,
     };
-    let mut row = String::new(alloc);
-    let count = match options.mode {
-        Mode::Lines | Mode::Matches => return put_rows(alloc, patterns, rows, text, output),
-        Mode::Count => {
-            let count = count_selected(patterns, options, text, options.most)?;
-            rows.push_count(&mut row, count)?;
-            count
-        }
-        Mode::WithMatch | Mode::WithoutMatch | Mode::Quiet => {
-            let count = count_selected(patterns, options, text, options.most.min(1))?;
-            if options.mode != Mode::Quiet && (options.mode == Mode::WithMatch) == (count > 0) {
-                rows.push_name_row(&mut row)?;
-            }
-            count
-        }
-    };
-    output.put(row.as_bytes())?;
-    Ok(count)
+    match options.mode {
+        Mode::Lines | Mode::Matches => put_rows(alloc, finder, shown, rows, text, output),
+        _ => put_summary(alloc, finder, rows, text, output),
+    }
 }
 
 /// Whether a line is selected.
-fn is_selected(patterns: &Patterns<'_>, options: &Options, line: &str) -> Result<bool, Error> {
-    let is_match = patterns.is_match(body_of(line, options.ending))?;
+fn is_selected<F: Finder>(finder: &F, options: &Options, line: &str) -> Result<bool, Error>
+    ensures { (template : Option (List ℕ)) → (find : Find) → F.finds finder.now template find →
+        IfOk result (λ selected. selected ≡ row_words.is_selected options.now find line.now) }
+{
+    let is_match = finder.is_match(body_of(line, options.ending))?;
     Ok(is_match != options.invert)
 }
 
 /// How many lines of a text are selected, counted up to `most`.
-fn count_selected(
-    patterns: &Patterns<'_>,
+fn count_selected<F: Finder>(
+    finder: &F,
     options: &Options,
     text: &str,
     most: usize,
-) -> Result<usize, Error> {
+) -> Result<usize, Error>
+    ensures { (template : Option (List ℕ)) → (find : Find) → F.finds finder.now template find →
+        IfOk result (λ count. count ≡ count_from options.now find most (lines (byte_of options.now.ending) text.now)) }
+{
     let mut count = 0;
     let mut rest = text;
     while count < most && !rest.is_empty() {
         let (line, behind) = first_line(rest, options.ending);
-        if is_selected(patterns, options, line)? {
+        if is_selected(finder, options, line)? {
             count += 1;
         }
         rest = behind;
@@ -111,65 +140,129 @@ fn count_selected(
     Ok(count)
 }
 
-/// Puts out the rows of a text, and answers how many lines are selected.
-fn put_rows<W: Sink + Drop>(
+/// Appends what is put out where so many lines are selected and none is shown.
+fn push_summary(row: &mut String, rows: Rows<'_>, count: usize) -> Result<(), AllocError>
+    ensures { OnOk result (string_bytes row.new ≡ string_bytes row.old ++ summary rows.entry.options rows.entry.name.now rows.entry.options.mode count) }
+{
+    match rows.options.mode {
+        Mode::Count => rows.push_count(row, count),
+        Mode::WithMatch if count > 0 => rows.push_name_row(row),
+        Mode::WithoutMatch if count == 0 => rows.push_name_row(row),
+        _ => Ok(()),
+    }
+}
+
+/// Puts out how many lines of a text are selected, or its name where some or none are, and answers how many.
+fn put_summary<F: Finder, W: Write + Drop>(
     alloc: Global,
-    patterns: &Patterns<'_>,
+    finder: &F,
     rows: Rows<'_>,
     text: &str,
     output: &mut Output<W>,
 ) -> Result<usize, SearchError> {
     let options = &rows.options;
-    let mut row = String::new(alloc);
-    let mut founds = Vec::new(alloc);
-    let mut progress = Progress::new(alloc);
-    let mut count = 0;
-    let mut next = Line {
-        number: 1,
-        start: 0,
-        text,
+    let most = match options.mode {
+        Mode::Count => options.most,
+        _ => options.most.min(1),
     };
-    while !next.text.is_empty() && (count < options.most || progress.behind > 0) {
-        let (first, behind) = first_line(next.text, options.ending);
-        let line = Line {
-            text: first,
-            ..next
-        };
-        row.clear();
-        if count < options.most && is_selected(patterns, options, first)? {
-            rows.push_before(&mut row, &progress)?;
-            push_selected(patterns, rows, &mut row, line, &mut founds)?;
-            progress.follow(options.after);
-            count += 1;
-        } else if progress.behind > 0 {
-            rows.push_near(&mut row, line)?;
-            progress.follow(progress.behind - 1);
-        } else {
-            progress.hold(line, options.before)?;
-        }
-        output.put(row.as_bytes())?;
-        next = Line {
-            number: line.number + 1,
-            start: line.start + first.len(),
-            text: behind,
-        };
-    }
+    let count = count_selected(finder, options, text, most)?;
+    let mut row = String::new(alloc);
+    push_summary(&mut row, rows, count)?;
+    output.put(row.as_bytes())?;
     Ok(count)
 }
 
 /// Appends what is put out for a selected line.
-fn push_selected(
-    patterns: &Patterns<'_>,
+fn push_selected<F: Finder>(
+    finder: &F,
+    shown: &Shown<'_>,
     rows: Rows<'_>,
     row: &mut String,
     line: Line<'_>,
     founds: &mut Vec<Match>,
-) -> Result<(), Error> {
+) -> Result<(), Error>
+    requires { line.start + length line.text.now < 2 ^ 64 }
+    ensures { (find : Find) → F.finds finder.now (template_text shown.now) find →
+        OnOk result (string_bytes row.new ≡ string_bytes row.old
+        ++ selected_row rows.entry.options rows.entry.name.now (line_of line.entry) (find (body rows.entry.options.ending line.entry.text.now))) }
+{
     if !rows.options.mode.puts_matches() && !rows.options.rewrites {
         rows.push_line(row, line)?;
         return Ok(());
     }
     let body = body_of(line.text, rows.options.ending);
-    patterns.find_into(body, founds)?;
-    rows.push_selected(row, &patterns.shown, line, founds)
+    finder.find_into(body, founds)?;
+    rows.push_selected(row, shown, line, founds)
+}
+
+/// Appends what is put out for a line, and goes on to the next. Answers whether it is selected, where it may be.
+fn push_step<'t, F: Finder>(
+    finder: &F,
+    shown: &Shown<'_>,
+    rows: Rows<'_>,
+    may_select: bool,
+    row: &mut String,
+    line: Line<'t>,
+    progress: &mut Progress<'t>,
+    founds: &mut Vec<Match>,
+) -> Result<bool, Error>
+    requires fits { line.start + length line.text.now < 2 ^ 64 }
+    requires few { vec_len progress.old.held ≤ rows.options.before }
+    ensures few { OnOk result (vec_len progress.new.held ≤ rows.entry.options.before) }
+    ensures selected { (find : Find) → F.finds finder.now (template_text shown.now) find →
+        IfOk result (λ selected. selected ≡ (may_select && row_words.is_selected rows.entry.options find line.entry.text.now)) }
+    ensures pushed { (find : Find) → F.finds finder.now (template_text shown.now) find → (most : ℕ) → (more : List line_words.Line) → nat_lt 0 most ≡ may_select →
+        IfOk result (λ selected. string_bytes row.new ++ row_words.rows rows.entry.options find rows.entry.name.now (if selected then most - 1 else most) (progress_of progress.new) more
+        ≡ string_bytes row.old ++ row_words.rows rows.entry.options find rows.entry.name.now most (progress_of progress.old) (line_of line.entry ∷ more)) }
+{
+    let options = &rows.options;
+    if may_select && is_selected(finder, options, line.text)? {
+        rows.push_before(row, progress)?;
+        push_selected(finder, shown, rows, row, line, founds)?;
+        progress.follow(options.after);
+        return Ok(true);
+    }
+    if progress.behind > 0 {
+        rows.push_near(row, line)?;
+        progress.follow(progress.behind - 1);
+    } else {
+        progress.hold(line, options.before)?;
+    }
+    Ok(false)
+}
+
+/// Puts out the rows of a text, and answers how many lines are selected.
+fn put_rows<F: Finder, W: Write + Drop>(
+    alloc: Global,
+    finder: &F,
+    shown: &Shown<'_>,
+    rows: Rows<'_>,
+    text: &str,
+    output: &mut Output<W>,
+) -> Result<usize, SearchError> {
+    let mut row = String::new(alloc);
+    let mut founds = Vec::new(alloc);
+    let mut progress = Progress::new(alloc);
+    let mut count = 0;
+    let mut number = 1;
+    let mut start = 0;
+    let mut rest = text;
+    while !rest.is_empty() && (count < rows.options.most || progress.behind > 0) {
+        let (first, behind) = first_line(rest, rows.options.ending);
+        let line = Line {
+            number,
+            start,
+            text: first,
+        };
+        row.clear();
+        let may_select = count < rows.options.most;
+        if push_step(finder, shown, rows, may_select, &mut row, line, &mut progress, &mut founds)? {
+            count += 1;
+        }
+        output.put(row.as_bytes())?;
+        number += 1;
+        start += first.len();
+        rest = behind;
+    }
+    Ok(count)
 }

@@ -27,7 +27,8 @@ impl<'t> Progress<'t> {
     /// let mut progress = Progress::new(alloc);
     /// ```
     pub fn new(alloc: Global) -> Progress<'t>
-        ensures { progress_of result ≡ beginning }
+        ensures value { progress_of result ≡ beginning }
+        ensures none { vec_len result.held ≡ 0 }
     {
         Progress {
             behind: 0,
@@ -43,7 +44,8 @@ impl<'t> Progress<'t> {
     /// progress.follow(2);
     /// ```
     pub fn follow(&mut self, behind: usize)
-        ensures { progress_of self.new ≡ following behind }
+        ensures value { progress_of self.new ≡ following behind }
+        ensures none { vec_len self.new.held ≡ 0 }
     {
         self.behind = behind;
         self.held.clear();
@@ -61,7 +63,8 @@ impl<'t> Progress<'t> {
     pub fn hold(&mut self, line: Line<'t>, before: usize) -> Result<(), AllocError>
         requires few { vec_len self.old.held ≤ before }
         requires behind { self.old.behind ≡ 0 }
-        ensures { OnOk result (progress_of self.new ≡ held_back before (progress_of self.old) (line_of line.entry)) }
+        ensures few { OnOk result (vec_len self.new.held ≤ before) }
+        ensures value { OnOk result (progress_of self.new ≡ held_back before (progress_of self.old) (line_of line.entry)) }
     {
         self.held.push(line)?;
         if self.held.len() > before {
