@@ -1,7 +1,9 @@
 //! Matches with their groups, as lines of JSON.
 
 use crate::refusal::Refusal;
-use esgrep_lines::{Options, Patterns, body_of, first_line};
+use esgrep_lines::Finder;
+use esgrep_patterns::Patterns;
+use esgrep_rows::{Options, body_of, first_line};
 use regress::{Match, Range};
 use serde_json::{Map, Value, json};
 use std::alloc::{AllocError, Global};
@@ -63,7 +65,7 @@ impl Place<'_> {
 /// say.
 pub(crate) fn push_groups(
     alloc: Global,
-    patterns: &Patterns<'_>,
+    patterns: &Patterns,
     options: &Options,
     name: &str,
     text: &str,

@@ -11,7 +11,6 @@ mod patterns;
 mod refusal;
 mod running;
 mod settings;
-mod stdout;
 mod texts;
 
 pub use command::command;

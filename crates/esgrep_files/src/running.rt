@@ -7,10 +7,10 @@ use crate::groups::push_groups;
 use crate::patterns::regexes;
 use crate::refusal::Refusal;
 use crate::settings::{Coloring, Settings};
-use crate::stdout::Stdout;
 use crate::texts::{Content, content_of};
-use esgrep_lines::{Mode, Options, Output, Patterns, SearchError, Shown, search};
-use regress_program::Failed;
+use esgrep_lines::{Output, SearchError, Unwritten, search};
+use esgrep_patterns::Patterns;
+use esgrep_rows::{Mode, Options, Shown};
 use regress_replacing::Template;
 use regress_unicode::unicode_tables;
 use std::alloc::{AllocError, AllocFailed, Global};
@@ -60,8 +60,8 @@ impl<T: Drop> From<AllocFailed<T>> for Stop {
     }
 }
 
-impl From<Failed> for Stop {
-    fn from(_failed: Failed) -> Stop {
+impl From<Unwritten> for Stop {
+    fn from(_failed: Unwritten) -> Stop {
         Stop::Unwritten
     }
 }
@@ -87,9 +87,10 @@ struct Search<'r, R: Runtime + AllocGlobal, W: Write + Drop> {
     rt: &'r R,
     settings: &'r Settings<'r>,
     options: Options,
-    patterns: Patterns<'r>,
+    patterns: Patterns,
+    shown: Shown<'r>,
     chosen: Chosen,
-    output: Output<Stdout<W>>,
+    output: Output<W>,
     tally: Tally,
 }
 
@@ -188,12 +189,13 @@ fn with_settings<R: Runtime + AllocGlobal>(
         rt,
         settings,
         options,
-        patterns: Patterns::new(regexes, shown_text),
+        patterns: Patterns::new(regexes),
+        shown: shown_text,
         chosen: Chosen {
             include: Globs::new(alloc, &settings.include, &tables)?,
             exclude: Globs::new(alloc, &settings.exclude, &tables)?,
         },
-        output: Output::new(alloc, Stdout::new(io::writer(rt)), settings.by_row),
+        output: Output::new(alloc, io::writer(rt), settings.by_row),
         tally: Tally::default(),
     };
     let stop = files.search_all();
@@ -348,6 +350,7 @@ impl<'r, R: Runtime + AllocGlobal, W: Write + Drop> Search<'r, R, W> {
             search(
                 alloc,
                 &self.patterns,
+                &self.shown,
                 &self.options,
                 name,
                 text,
@@ -375,6 +378,7 @@ impl<'r, R: Runtime + AllocGlobal, W: Write + Drop> Search<'r, R, W> {
         let count = search(
             alloc,
             &self.patterns,
+            &self.shown,
             &options,
             name,
             text,
@@ -408,7 +412,7 @@ impl<'r, R: Runtime + AllocGlobal, W: Write + Drop> Search<'r, R, W> {
     fn finished(&mut self, stop: Result<(), Stop>) -> u8 {
         let rt = self.rt;
         let is_written = !self.output.failed() && self.output.flush().is_ok();
-        let failure = self.output.sink().failure();
+        let failure = self.output.failure();
         if !is_written && failure != Some(ErrorKind::BrokenPipe) {
             self.tally.has_trouble = true;
             let _ = eprintln!(rt; "esgrep: write failed");

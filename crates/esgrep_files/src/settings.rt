@@ -1,7 +1,7 @@
 //! What a command line asks for.
 
 use clap::ArgMatches;
-use esgrep_lines::{Ending, Mode, Options};
+use esgrep_rows::{Ending, Mode, Options};
 use std::alloc::{AllocError, Global};
 
 /// When rows are in colours.

@@ -1,7 +1,7 @@
 //! Whether a file is text.
 
 use crate::settings::NoText;
-use esgrep_lines::Ending;
+use esgrep_rows::Ending;
 use memchr::memchr;
 use std::alloc::{AllocError, Global};
 

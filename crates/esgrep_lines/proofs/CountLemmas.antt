@@ -3,6 +3,7 @@ use Rattle.std.proofs.Common.{◌≡◌, ◌≢◌, ◌↔◌, ℕ, zero, suc, �
 use Rattle.std.specs.Prelude.{IsTrue, nat_lt, if◌then◌else◌}
 use Rattle.std.proofs.lemmas.Bool.{lt-ltb}
 use mathlib.Core.Bool.{beq}
+use native.Mathlib.Numerals.{unary_clauses}
 use Rattle.esgrep_rows.specs.declared.options.Options.{Options}
 use Rattle.esgrep_rows.specs.Found.{Found, Find}
 use Rattle.esgrep_rows.specs.Rows.{is_selected}
@@ -26,7 +27,7 @@ pub count-one : (o : Options) (find : Find) (n : ℕ) (line : List ℕ) (lines :
     → count_from o find n (line ∷ lines) ≡ (if is_selected o find line then count_from o find (n - 1) lines + 1 else count_from o find n lines)
 unfolding count_from
 count-one o find zero line lines some = absurd (omega (arith, some))
-count-one o find (suc n) line lines some = refl
+count-one o find (suc n) line lines some = simp unary_clauses refl
 
 pub count-none : (o : Options) (find : Find) (n : ℕ) → count_from o find n [] ≡ 0
 unfolding count_from

@@ -1,2 +1,3 @@
 pub mod PuttingLemmas
 pub mod CountLemmas
+pub mod StepLemmas

@@ -256,7 +256,16 @@ fn put_rows<F: Finder, W: Write + Drop>(
         };
         row.clear();
         let may_select = count < rows.options.most;
-        if push_step(finder, shown, rows, may_select, &mut row, line, &mut progress, &mut founds)? {
+        if push_step(
+            finder,
+            shown,
+            rows,
+            may_select,
+            &mut row,
+            line,
+            &mut progress,
+            &mut founds,
+        )? {
             count += 1;
         }
         output.put(row.as_bytes())?;

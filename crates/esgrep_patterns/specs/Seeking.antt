@@ -1,5 +1,5 @@
 -- What a search for patterns finds.
-use Rattle.std.specs.Prelude.{◌≡◌, ℕ, List, [], ◌∷◌, map, chars, Option, Some, None}
+use Rattle.std.specs.Prelude.{◌≡◌, ℕ, List, [], ◌∷◌, map, chars, Option}
 use Rattle.regress_meaning.specs.Table.{Table}
 use Rattle.regress_meaning.specs.Pattern.{Pattern}
 use Rattle.regress_meaning.specs.Flags.{Options}
@@ -8,9 +8,7 @@ use Rattle.regress_meaning.specs.Offsets.{of_utf8, told}
 use Rattle.regress.specs.declared.api.Regex.{Regex}
 use Rattle.regress.specs.Standing.{StandsFor, names_of_regex}
 use Rattle.esgrep_rows.specs.Found.{Find, found_at}
-use Rattle.esgrep_rows.specs.Views.{template_text}
-use Rattle.esgrep_rows.specs.declared.shown.Shown.{Shown}
-use Rattle.esgrep_lines.specs.declared.patterns.Patterns.{Patterns}
+use Rattle.esgrep_patterns.specs.declared.patterns.Patterns.{Patterns}
 
 -- What is found of a pattern in a text: its match list, told in bytes, with what is shown of each match.
 abbrev pub found_in : Table → Options → Pattern → Option (List ℕ) → List (List ℕ) → Find
@@ -20,16 +18,12 @@ found_in t o p template names text = map (found_at template names text) (map (to
 abbrev pub regexes_of : Patterns → List Regex
 regexes_of patterns = patterns.regexes.items
 
--- what is shown of a match
-abbrev pub shown_of : Patterns → Shown
-shown_of patterns = patterns.shown
-
--- Patterns find this in each text: there is one of them, and it is the pattern's.
-pub record FindsOne (patterns : Patterns) (find : Find) : Type 0 where
+-- Patterns find this in each text: there is one of them, and it is its match list, with what is shown of a match.
+pub record FindsOne (patterns : Patterns) (template : Option (List ℕ)) (find : Find) : Type 0 where
   pub regex : Regex
   pub alone : regexes_of patterns ≡ regex ∷ []
   pub table : Table
   pub options : Options
   pub tree : Pattern
   pub stands : StandsFor regex table options tree
-  pub finds : (text : List ℕ) → find text ≡ found_in table options tree (template_text (shown_of patterns)) (names_of_regex regex) text
+  pub finds : (text : List ℕ) → find text ≡ found_in table options tree template (names_of_regex regex) text

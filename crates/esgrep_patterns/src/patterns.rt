@@ -1,66 +1,27 @@
 //! The patterns that are searched for.
-ghost use Rattle.std.specs.Prelude.{◌≡◌, ◌≢◌, ◌↔◌, [], map, IsTrue, IfOk, OnOk, IsOkUnless};
+ghost use Rattle.std.specs.Prelude.{◌≡◌, List, OnOk, IsOkUnless};
 
-use esgrep_rows::Shown;
+use esgrep_lines::Finder;
 use regress::{Error, Match, Regex, is_start};
 
-/// Patterns, each searched for alone, and what is shown of a match.
+/// Patterns, each searched for alone: what they find of one is its matches, of several from each place on the leftmost.
 #[derive(Debug, Drop)]
-pub struct Patterns<'t> {
-    pub(crate) regexes: Vec<Regex>,
-    pub(crate) shown: Shown<'t>,
+pub struct Patterns {
+    regexes: Vec<Regex>,
 }
 
-impl<'t> Patterns<'t> {
-    ghost use Rattle.esgrep_rows.specs.Found.{Find, found_of, LieInOrder};
-    ghost use Rattle.esgrep_rows.specs.Views.{template_text};
-    ghost use Rattle.esgrep_lines.specs.Seeking.{FindsOne, regexes_of, shown_of};
+impl Patterns {
+    ghost use Rattle.esgrep_patterns.specs.Seeking.{regexes_of};
 
-    /// Patterns, and what is shown of a match.
+    /// Patterns of these regexes.
     ///
     /// ```rust
-    /// let patterns = Patterns::new(vec![in alloc; regex]?, Shown::itself());
+    /// let patterns = Patterns::new(vec![in alloc; regex]?);
     /// ```
-    pub fn new(regexes: Vec<Regex>, shown: Shown<'t>) -> Patterns<'t>
-        ensures regexes { regexes_of result ≡ regexes.items }
-        ensures shown { shown_of result ≡ shown }
+    pub fn new(regexes: Vec<Regex>) -> Patterns
+        ensures { regexes_of result ≡ regexes.items }
     {
-        Patterns { regexes, shown }
-    }
-
-    /// Whether one of the patterns has a match in a text. Errs with `OutOfMemory` alone.
-    ///
-    /// ```rust
-    /// let is_there = patterns.is_match("a line")?;
-    /// ```
-    pub fn is_match(&self, text: &str) -> Result<bool, Error>
-        ensures found { (find : Find) → FindsOne self.now find → IfOk result (λ found. IsTrue found ↔ (find text.now ≢ [])) }
-        ensures refused { IsOkUnless result Error.OutOfMemory }
-    {
-        for regex in &self.regexes {
-            if regex.is_match(text)? {
-                return Ok(true);
-            }
-        }
-        Ok(false)
-    }
-
-    /// Puts all matches in a text into `founds`, in the place of what was there: of one pattern its matches, of several from each
-    /// place on the leftmost. Errs with `OutOfMemory` alone.
-    ///
-    /// ```rust
-    /// patterns.find_into("a line", &mut founds)?;
-    /// ```
-    pub fn find_into(&self, text: &str, founds: &mut Vec<Match>) -> Result<(), Error>
-        ensures found { (find : Find) → FindsOne self.now find → OnOk result (map (found_of (template_text (shown_of self.now)) text.now) founds.new.items ≡ find text.now) }
-        ensures order { OnOk result (LieInOrder text.now 0 founds.new.items) }
-        ensures refused { IsOkUnless result Error.OutOfMemory }
-    {
-        founds.clear();
-        match self.regexes.as_slice() {
-            [regex] => find_one_into(regex, text, founds),
-            _ => self.find_several_into(text, founds),
-        }
+        Patterns { regexes }
     }
 
     /// Appends all matches of several patterns: from each place on the leftmost.
@@ -82,6 +43,29 @@ impl<'t> Patterns<'t> {
             }
         }
         Ok(leftmost)
+    }
+}
+
+impl Finder for Patterns {
+    ghost use Rattle.esgrep_patterns.specs.Seeking.{FindsOne};
+
+    ghost finds = { FindsOne };
+
+    fn is_match(&self, text: &str) -> Result<bool, Error> {
+        for regex in &self.regexes {
+            if regex.is_match(text)? {
+                return Ok(true);
+            }
+        }
+        Ok(false)
+    }
+
+    fn find_into(&self, text: &str, founds: &mut Vec<Match>) -> Result<(), Error> {
+        founds.clear();
+        match self.regexes.as_slice() {
+            [regex] => find_one_into(regex, text, founds),
+            _ => self.find_several_into(text, founds),
+        }
     }
 }
 
