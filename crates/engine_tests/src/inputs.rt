@@ -2,7 +2,7 @@
 ghost use Rattle.regress_engine_input.specs.Views.{CanRead};
 
 use regress_engine_input::cursor::try_match_lit;
-use regress_engine_input::{Backward, ElementType, Forward, InputIndexer, PositionType};
+use regress_engine_input::{Backward, Direction, ElementType, Forward, InputIndexer, PositionType};
 use regress_engine_inputs::{AsciiInput, DefPosition, Ucs2Input, Utf8Input, Utf16Input};
 use regress_front_bytes::{ByteBitmap, ByteSearcher, EmptyString};
 use regress_front_tables::Tables;
@@ -20,13 +20,9 @@ fn is_read<Input: InputIndexer>(
     past: Option<Input::Position>,
     wanted: Read,
 ) -> bool {
-    match (found, past, wanted) {
-        (Some(c), Some(pos), Some((code, end))) => {
-            c.as_u32() == code && pos == <Input::Position as PositionType>::new(end)
-        }
-        (None, None, None) => true,
-        _ => false,
-    }
+    let code = found.map(|c| c.as_u32());
+    let end = wanted.map(|(_, end)| <Input::Position as PositionType>::new(end));
+    code == wanted.map(|(code, _)| code) && past == end
 }
 
 /// Whether the calls that look at characters answer a row.
@@ -198,17 +194,31 @@ fn bytes_are_found_from_a_start(rt: HostRuntime) -> Result<(), Fail> {
     Ok(())
 }
 
+/// Where bytes beside an offset lead to, if they are these.
+fn literal_leads<const N: usize, Input: InputIndexer, Dir: Direction>(
+    input: &Input,
+    dir: Dir,
+    at: usize,
+    literal: &[u8; N],
+) -> Option<Input::Position> {
+    if at > input.pos_to_offset(input.right_end()) {
+        return None;
+    }
+    let mut pos = <Input::Position as PositionType>::new(at);
+    if try_match_lit(input, dir, &mut pos, literal) {
+        Some(pos)
+    } else {
+        None
+    }
+}
+
 #[test]
 fn arrays_are_literals(rt: HostRuntime) -> Result<(), Fail> {
     let tables = Tables::small(rt.alloc())?;
     let input = Utf8Input::new("a\u{E9}a", true, &tables);
-    let mut ahead = DefPosition::new(0);
-    let mut behind = DefPosition::new(4);
-    let mut past = DefPosition::new(4);
-    let first = try_match_lit(&input, Forward, &mut ahead, &[0x61, 0xC3, 0xA9]);
-    let last = try_match_lit(&input, Backward, &mut behind, b"a");
-    let none = !try_match_lit(&input, Forward, &mut past, b"a");
-    let moved = ahead == DefPosition::new(3) && behind == DefPosition::new(3);
-    assert!(rt; first && last && none && moved);
+    let past = Some(DefPosition::new(3));
+    assert!(rt; literal_leads(&input, Forward, 0, &[0x61, 0xC3, 0xA9]) == past);
+    assert!(rt; literal_leads(&input, Backward, 4, b"a") == past);
+    assert!(rt; literal_leads(&input, Forward, 4, b"a").is_none());
     Ok(())
 }
