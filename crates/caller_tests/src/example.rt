@@ -1,5 +1,6 @@
 //! The function of the repository's README, word for word, and one that replaces; a test of both.
 
+use crate::told::plain;
 use regress::{CompileError, Error, Flags, Regex, Tables};
 use std::alloc::Global;
 use std::test::Fail;
@@ -19,7 +20,7 @@ fn years(alloc: Global, text: &str, tables: &Tables) -> Result<Vec<(usize, usize
 
 /// A text whose dates have the month before the year.
 fn month_first(alloc: Global, text: &str, tables: &Tables) -> Result<String, Error> {
-    let regex = Regex::new(alloc, r"(\d{4})-(\d\d)", tables)?;
+    let regex = plain(alloc, r"(\d{4})-(\d\d)", tables)?;
     regex.replace_all(text, "$2/$1")
 }
 

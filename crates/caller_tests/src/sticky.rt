@@ -36,6 +36,15 @@ fn ends_at(regex: &Regex, units: &[u16], start: usize) -> Result<Option<(usize, 
     Ok(ends(regex.match_at_utf16(units, start)?))
 }
 
+/// The same where each unit is a character.
+fn ucs2_ends_at(
+    regex: &Regex,
+    units: &[u16],
+    start: usize,
+) -> Result<Option<(usize, usize)>, Error> {
+    Ok(ends(regex.match_at_ucs2(units, start)?))
+}
+
 #[test]
 fn matches_begin_at_a_unit(rt: HostRuntime) -> Result<(), Fail> {
     let tables = Tables::small(rt.alloc())?;
@@ -43,8 +52,8 @@ fn matches_begin_at_a_unit(rt: HostRuntime) -> Result<(), Fail> {
     let other = compiled(rt.alloc(), "[^a]", "", &tables)?;
     assert!(rt; ends_at(&other, units, 0)?.is_none());
     assert!(rt; ends_at(&other, units, 1)? == Some((1, 3)));
-    assert!(rt; ends(other.match_at_ucs2(units, 0)?).is_none());
-    assert!(rt; ends(other.match_at_ucs2(units, 1)?) == Some((1, 2)));
-    assert!(rt; ends(other.match_at_ucs2(units, 4)?).is_none());
+    assert!(rt; ucs2_ends_at(&other, units, 0)?.is_none());
+    assert!(rt; ucs2_ends_at(&other, units, 1)? == Some((1, 2)));
+    assert!(rt; ucs2_ends_at(&other, units, 4)?.is_none());
     Ok(())
 }

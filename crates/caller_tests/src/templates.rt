@@ -43,6 +43,11 @@ fn templates_are_read_as_the_standard_reads_them(rt: HostRuntime) -> Result<(), 
     Ok(())
 }
 
+/// A text with its first match replaced by a template of the standard.
+fn templated_once(regex: &Regex, text: &str, template: &str) -> Result<String, Error> {
+    regex.replace_as(text, template, ReplacementSyntax::EcmaScript)
+}
+
 /// A template at the first match in a text, if there is one.
 fn expanded(
     alloc: Global,
@@ -66,7 +71,7 @@ fn one_match_is_expanded(rt: HostRuntime) -> Result<(), Fail> {
     let Some(told) = expanded(rt.alloc(), &regex, "xaby", "$`$2$1$'")? else {
         return Err(Fail::new("no match"));
     };
-    let once = regex.replace_as("xaby", "$2$1", ReplacementSyntax::EcmaScript)?;
+    let once = templated_once(&regex, "xaby", "$2$1")?;
     assert!(rt; told.as_str() == "xbay" && once.as_str() == "xbay");
     Ok(())
 }

@@ -24,6 +24,11 @@ pub(crate) fn compiled(
     compiled_under(alloc, pattern, Flags::from(flags), tables)
 }
 
+/// A pattern without flags.
+pub(crate) fn plain(alloc: Global, pattern: &str, tables: &Tables) -> Result<Regex, Error> {
+    Regex::new(alloc, pattern, tables)
+}
+
 /// The first match in a text.
 pub(crate) fn first(regex: &Regex, text: &str) -> Result<Option<Match>, Error> {
     regex.find(text)
