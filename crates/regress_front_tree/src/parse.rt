@@ -108,7 +108,7 @@ pub fn try_parse<'u>(
 /// Asks what `try_parse` asks, and errs as it does: the pattern has to be one by itself, so `a)|(b` is none.
 ///
 /// ```rust
-/// let regex = try_parse_whole_text(alloc, &[0x61], Flags::from("m"), &tables)?; // as /^(?:a)$/
+/// let regex = try_parse_whole_text(alloc, &[0x61], Flags::parse("m")?.flags, &tables)?; // as /^(?:a)$/
 /// ```
 pub fn try_parse_whole_text<'u>(
     alloc: Global,
