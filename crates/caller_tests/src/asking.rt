@@ -21,6 +21,23 @@ fn what_is_asked_of_a_regex(rt: HostRuntime) -> Result<(), Fail> {
     Ok(())
 }
 
+/// Whether these are the bytes that each match begins with.
+fn begins_with(regex: &Regex, front: &[u8]) -> bool {
+    match regex.literal_prefix() {
+        Some(bytes) => bytes == front,
+        None => false,
+    }
+}
+
+#[test]
+fn a_literal_in_front_is_told(rt: HostRuntime) -> Result<(), Fail> {
+    let tables = Tables::small(rt.alloc())?;
+    let literal = compiled(rt.alloc(), "harbour (\\w+)", "", &tables)?;
+    let choice = compiled(rt.alloc(), "ab|cd", "", &tables)?;
+    assert!(rt; begins_with(&literal, b"harbour ") && choice.literal_prefix().is_none());
+    Ok(())
+}
+
 #[test]
 fn debug_tells_a_regex_by_its_pattern_and_sizes(rt: HostRuntime) -> Result<(), Fail> {
     let tables = Tables::small(rt.alloc())?;

@@ -1,7 +1,7 @@
 //! What calls promise, in the words of the definitions: each function states a promise, and its body is the call that keeps it.
 ghost use Rattle.std.specs.Prelude.{◌≡◌, ◌≢◌, ◌+◌, ◌≤◌, ◌↔◌, ℕ, List, [], All, true, false, take, map, chars, length, slice_get, option_map, string_bytes, IfErr, IfNone, IfOk, IfSome, IsOkUnless, IsTrue};
 ghost use Rattle.std.specs.Fn.{FnReturnsAt, FnOnceReturnsAt};
-ghost use Rattle.std.specs.Str.{IsAscii};
+ghost use Rattle.std.specs.Str.{IsAscii, IsUtf8};
 ghost use Rattle.regress_meaning.specs.Table.{Table};
 ghost use Rattle.regress_meaning.specs.Pattern.{Pattern};
 ghost use Rattle.regress_meaning.specs.Flags.{Options, no_flags};
@@ -23,6 +23,7 @@ ghost use Rattle.regress_engine.specs.Standing.{target_of};
 ghost use Rattle.regress.specs.Ascii.{coming_in_ascii};
 ghost use Rattle.regress.specs.Answering.{AnswersEach};
 ghost use Rattle.regress.specs.Coming.{HasEnded, coming, searched, searched_names};
+ghost use Rattle.regress.specs.Literals.{IsNowhereIn};
 ghost use Rattle.regress.specs.Outcomes.{outcome_at};
 ghost use Rattle.regress.specs.Programs.{IsProgramOf};
 ghost use Rattle.regress.specs.Refusing.{MayRefuseRegex, MayRefuseWholeText};
@@ -238,6 +239,16 @@ fn has_match_from(regex: &Regex, text: &str, start: usize) -> Result<bool, Error
         IfOk result (λ found. IsTrue found ↔ (tree_list regex.now n t (chars text.now) place ≢ [])) }
 {
     regex.is_match_from(text, start)
+}
+
+/// The bytes that each match begins with.
+fn front_of<'r>(regex: &'r Regex) -> Option<&'r [u8]>
+    ensures of_pattern { (t : Table) → (o : Options) → (p : Pattern) → StandsFor regex.now t o p → (text : List ℕ) → IsUtf8 text → (place : ℕ) →
+        IfSome result (λ bytes. IsNowhereIn bytes.now text → match_list t o p (chars text) place ≡ []) }
+    ensures of_tree { (n : ℕ) → (t : Tree) → HasTree regex.now n t → (text : List ℕ) → IsUtf8 text → (place : ℕ) →
+        IfSome result (λ bytes. IsNowhereIn bytes.now text → tree_list regex.now n t (chars text) place ≡ []) }
+{
+    regex.literal_prefix()
 }
 
 /// The text of a compiled pattern.

@@ -257,20 +257,26 @@ fn empty_slots(alloc: Global, regex: &Regex) -> Result<Vec<Option<Range>>, Alloc
     Ok(slots)
 }
 
-/// The match that begins at a place, by `match_into`.
-fn match_in_slots(
+/// The first match from a place on, by `find_into`; or, where it has to begin at that place, by `match_into`.
+fn slots_told(
     alloc: Global,
     regex: &Regex,
     text: &str,
     place: usize,
+    sticky: bool,
 ) -> Result<String, AllocError> {
-    let mut told = String::new(alloc);
     if !is_start(text, place) {
-        return Ok(told);
+        return String::from_str(alloc, "no start");
     }
     let mut scratch = Scratch::new(alloc);
     let mut slots = empty_slots(alloc, regex)?;
-    match regex.match_into(&mut scratch, text, place, &mut slots) {
+    let found = if sticky {
+        regex.match_into(&mut scratch, text, place, &mut slots)
+    } else {
+        regex.find_into(&mut scratch, text, place, &mut slots)
+    };
+    let mut told = String::new(alloc);
+    match found {
         Ok(Some(_)) => push_slots(&mut told, &slots)?,
         Ok(None) => {}
         Err(_) => return Err(AllocError),
@@ -279,50 +285,26 @@ fn match_in_slots(
 }
 
 /// The first match from a place on, by `find_into`.
-fn first_in_slots(
+pub(crate) fn find_into(
     alloc: Global,
     regex: &Regex,
     text: &str,
     place: usize,
 ) -> Result<String, AllocError> {
-    let mut told = String::new(alloc);
-    if !is_start(text, place) {
-        return Ok(told);
-    }
-    let mut scratch = Scratch::new(alloc);
-    let mut slots = empty_slots(alloc, regex)?;
-    match regex.find_into(&mut scratch, text, place, &mut slots) {
-        Ok(Some(_)) => push_slots(&mut told, &slots)?,
-        Ok(None) => {}
-        Err(_) => return Err(AllocError),
-    }
-    Ok(told)
+    slots_told(alloc, regex, text, place, false)
 }
 
-/// The first match from a place on, by `find_from`.
-fn first_match(
+/// The match that begins at a place, by `match_into`.
+pub(crate) fn match_into(
     alloc: Global,
     regex: &Regex,
     text: &str,
     place: usize,
 ) -> Result<String, AllocError> {
-    let mut told = String::new(alloc);
-    if !is_start(text, place) {
-        return Ok(told);
-    }
-    let Ok(mut matches) = regex.find_from(text, place) else {
-        return Err(AllocError);
-    };
-    match matches.next() {
-        Some(Ok(found)) => push_match(&mut told, &found)?,
-        Some(Err(_)) => return Err(AllocError),
-        None => {}
-    }
-    Ok(told)
+    slots_told(alloc, regex, text, place, true)
 }
 
-/// The match that begins at a place, by `match_at` and `match_into`, and in a text of ASCII also by `match_at_ascii`; and whether
-/// `find_into` finds from there what `find_from` does.
+/// The match that begins at a place, by `match_at`, and in a text of ASCII also by `match_at_ascii`.
 pub(crate) fn match_at(
     alloc: Global,
     regex: &Regex,
@@ -341,12 +323,6 @@ pub(crate) fn match_at(
     }
     if is_ascii_text(text) && ascii_match_at(alloc, regex, text, place)? != told {
         told.push_str(" and another by match_at_ascii")?;
-    }
-    if match_in_slots(alloc, regex, text, place)? != told {
-        told.push_str(" and another by match_into")?;
-    }
-    if first_in_slots(alloc, regex, text, place)? != first_match(alloc, regex, text, place)? {
-        told.push_str(" and another by find_into")?;
     }
     Ok(told)
 }

@@ -2,8 +2,9 @@
 
 use crate::calls::{
     ascii_matches, between_ends, compiled, compiled_points, copying_ascii_matches, copying_matches,
-    copying_ucs2_matches, copying_utf16_matches, default_matches, is_match, match_at, of_programs,
-    ucs2_matches, undoing_matches, units_program, utf16_matches, whole_text,
+    copying_ucs2_matches, copying_utf16_matches, default_matches, find_into, is_match, match_at,
+    match_into, of_programs, ucs2_matches, undoing_matches, units_program, utf16_matches,
+    whole_text,
 };
 use crate::report::{Report, told_error};
 use crate::works::{
@@ -19,6 +20,10 @@ use std::alloc::{AllocError, Global};
 
 /// How many characters a text has at most that is searched from each of its places.
 const SHORT: usize = 12;
+
+/// How many characters a pattern has at most by which a text is searched from each of its places: the search by a longer one, as
+/// where groups nest as deep as they may, takes long.
+const SHORT_PATTERN: usize = 1000;
 
 /// Compiles the pattern of a row: as a text, where it is one.
 fn compiled_pattern(
@@ -107,15 +112,20 @@ fn try_text(
     )
 }
 
+/// Of what is left of a list, its first item; none where there is none.
+fn first(rest: &[Item]) -> &[Item] {
+    rest.get(..1).unwrap_or(rest)
+}
+
 /// Of what is left of a list from a place on, the match that begins there; none where the first begins later.
 fn beginning(rest: &[Item], place: usize) -> &[Item] {
     match rest.first() {
-        Some(item) if item.range.start == place => rest.get(..1).unwrap_or(rest),
+        Some(item) if item.range.start == place => first(rest),
         _ => &[],
     }
 }
 
-/// Tries a search from a place, and the match that begins there, by what is left of the list.
+/// Tries searches from a place, and for the match that begins there, by what is left of the list.
 fn try_place(
     report: &mut Report,
     alloc: Global,
@@ -125,17 +135,16 @@ fn try_place(
     rest: &[Item],
 ) -> Result<(), AllocError> {
     let list = told(alloc, rest)?;
-    report.compare(
-        "find_from a place",
-        list.as_str(),
-        default_matches(alloc, regex, text, place),
-    )?;
-    let here = told(alloc, beginning(rest, place))?;
-    report.compare(
-        "match_at",
-        here.as_str(),
-        match_at(alloc, regex, text, place),
-    )
+    let found = default_matches(alloc, regex, text, place);
+    report.compare("find_from a place", list.as_str(), found)?;
+    let list = told(alloc, first(rest))?;
+    let found = find_into(alloc, regex, text, place);
+    report.compare("find_into", list.as_str(), found)?;
+    let list = told(alloc, beginning(rest, place))?;
+    let found = match_at(alloc, regex, text, place);
+    report.compare("match_at", list.as_str(), found)?;
+    let found = match_into(alloc, regex, text, place);
+    report.compare("match_into", list.as_str(), found)
 }
 
 /// Tries a short text from each place from which the list tells what is left.
@@ -322,7 +331,9 @@ fn try_matches(
         )?;
     }
     try_text(report, alloc, regex, text, *start, list.as_str())?;
-    try_tails(report, alloc, regex, text, *start, items)?;
+    if points.len() <= SHORT_PATTERN {
+        try_tails(report, alloc, regex, text, *start, items)?;
+    }
     try_copies(report, alloc, regex, programs, text, *start, list.as_str())?;
     let start = units_before(text, *start);
     let searched = InUnits {

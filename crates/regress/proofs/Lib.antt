@@ -9,3 +9,4 @@ pub mod ListedLemmas
 pub mod ToldLemmas
 pub mod StepLemmas
 pub mod UnitLemmas
+pub mod NeededLemmas

@@ -11,3 +11,4 @@ pub mod Splitting
 pub mod Units
 pub mod Slotted
 pub mod Ascii
+pub mod Literals

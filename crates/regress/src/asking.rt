@@ -1,15 +1,18 @@
 //! What is asked of a compiled pattern beside its matches.
-ghost use Rattle.std.specs.Prelude.{◌≡◌, ◌+◌, ◌↔◌, ◌≢◌, ℕ, [], length, map, chars, string_bytes, Some, IfOk, IsTrue, IsOkUnless};
+ghost use Rattle.std.specs.Prelude.{◌≡◌, ◌+◌, ◌↔◌, ◌≢◌, ℕ, List, [], length, map, chars, string_bytes, Some, IfOk, IfSome, IsTrue, IsOkUnless};
+ghost use Rattle.std.specs.Str.{IsUtf8};
 ghost use Rattle.regress_meaning.specs.Table.{Table};
 ghost use Rattle.regress_meaning.specs.Pattern.{Pattern};
 ghost use Rattle.regress_meaning.specs.Flags.{Options};
 ghost use Rattle.regress_meaning.specs.Matches.{match_list};
 ghost use Rattle.regress_meaning.specs.Offsets.{of_utf8, Begins};
 ghost use Rattle.regress_front.specs.Trees.{Tree};
+ghost use Rattle.regress.specs.Literals.{IsNowhereIn};
 ghost use Rattle.regress.specs.Standing.{StandsFor, StandsInUnits, HasTree, byte_target, unit_target, tree_list, source_of, names_of_regex};
 
 use crate::api::Regex;
 use crate::text::shared;
+use regress_engine::StartPredicate;
 use regress_front::{CaptureGroupName, Error};
 use std::fmt;
 
@@ -48,6 +51,24 @@ impl Regex {
         ensures refused { IsOkUnless result Error.OutOfMemory }
     {
         Ok(self.find_from(text, start)?.next().transpose()?.is_some())
+    }
+
+    /// The bytes that each match begins with, where two or more are known. A text in which they stand nowhere has no match, so it
+    /// need not be searched.
+    ///
+    /// ```rust
+    /// let bytes = regex.literal_prefix(); // for `harbour (\w+)` those of `harbour `
+    /// ```
+    pub fn literal_prefix(&self) -> Option<&[u8]>
+        ensures needed { (t : Table) → (o : Options) → (p : Pattern) → StandsFor self.now t o p → (text : List ℕ) → IsUtf8 text → (place : ℕ) →
+            IfSome result (λ bytes. IsNowhereIn bytes.now text → match_list t o p (chars text) place ≡ []) }
+        ensures needed_by_tree { (n : ℕ) → (t : Tree) → HasTree self.now n t → (text : List ℕ) → IsUtf8 text → (place : ℕ) →
+            IfSome result (λ bytes. IsNowhereIn bytes.now text → tree_list self.now n t (chars text) place ≡ []) }
+    {
+        match self.compiled.byte_program.start_pred() {
+            StartPredicate::ByteSeq(bytes) => Some(bytes),
+            _ => None,
+        }
     }
 
     /// The name of each capturing group in order of its number, empty where it has none.

@@ -55,15 +55,8 @@ impl Regex {
     {
         let program = &self.compiled.byte_program;
         let input = Utf8Input::new(text, program.flags().is_unicode(), program.tables());
-        let found = find_into(
-            self.alloc,
-            scratch,
-            program,
-            input,
-            Anchored::No,
-            start,
-            slots,
-        )?;
+        let alloc = self.alloc;
+        let found = find_into(alloc, scratch, program, input, Anchored::No, start, slots)?;
         Ok(found)
     }
 
@@ -100,15 +93,8 @@ impl Regex {
     {
         let program = &self.compiled.byte_program;
         let input = Utf8Input::new(text, program.flags().is_unicode(), program.tables());
-        let found = find_into(
-            self.alloc,
-            scratch,
-            program,
-            input,
-            Anchored::Yes,
-            start,
-            slots,
-        )?;
+        let alloc = self.alloc;
+        let found = find_into(alloc, scratch, program, input, Anchored::Yes, start, slots)?;
         Ok(found)
     }
 
@@ -142,15 +128,8 @@ impl Regex {
     {
         let program = &self.compiled.unit_program;
         let input = Utf16Input::new(units, program.flags().is_unicode(), program.tables());
-        let found = find_into(
-            self.alloc,
-            scratch,
-            program,
-            input,
-            Anchored::No,
-            start,
-            slots,
-        )?;
+        let alloc = self.alloc;
+        let found = find_into(alloc, scratch, program, input, Anchored::No, start, slots)?;
         Ok(found)
     }
 
@@ -185,15 +164,8 @@ impl Regex {
     {
         let program = &self.compiled.unit_program;
         let input = Utf16Input::new(units, program.flags().is_unicode(), program.tables());
-        let found = find_into(
-            self.alloc,
-            scratch,
-            program,
-            input,
-            Anchored::Yes,
-            start,
-            slots,
-        )?;
+        let alloc = self.alloc;
+        let found = find_into(alloc, scratch, program, input, Anchored::Yes, start, slots)?;
         Ok(found)
     }
 
@@ -224,15 +196,8 @@ impl Regex {
     {
         let program = &self.compiled.unit_program;
         let input = Ucs2Input::new(units, program.flags().is_unicode(), program.tables());
-        let found = find_into(
-            self.alloc,
-            scratch,
-            program,
-            input,
-            Anchored::No,
-            start,
-            slots,
-        )?;
+        let alloc = self.alloc;
+        let found = find_into(alloc, scratch, program, input, Anchored::No, start, slots)?;
         Ok(found)
     }
 
@@ -264,15 +229,8 @@ impl Regex {
     {
         let program = &self.compiled.unit_program;
         let input = Ucs2Input::new(units, program.flags().is_unicode(), program.tables());
-        let found = find_into(
-            self.alloc,
-            scratch,
-            program,
-            input,
-            Anchored::Yes,
-            start,
-            slots,
-        )?;
+        let alloc = self.alloc;
+        let found = find_into(alloc, scratch, program, input, Anchored::Yes, start, slots)?;
         Ok(found)
     }
 }
