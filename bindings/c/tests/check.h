@@ -1,0 +1,24 @@
+/* Checks that are counted: `N passed, M failed`. */
+#ifndef CHECK_H
+#define CHECK_H
+
+#include <stdio.h>
+
+static unsigned long passed, failed;
+
+#define CHECK(fact) \
+  do { \
+    if (fact) { \
+      passed++; \
+    } else { \
+      failed++; \
+      printf("%s:%d: not so: %s\n", __FILE__, __LINE__, #fact); \
+    } \
+  } while (0)
+
+static inline int told(void) {
+  printf("%lu passed, %lu failed\n", passed, failed);
+  return failed == 0 ? 0 : 1;
+}
+
+#endif

@@ -1,0 +1,97 @@
+//! Iterators over the matches in a text.
+use crate::found::Match;
+use crate::handle::Text;
+use crate::pool::Taken;
+use crate::sys::{TextRange, UNSET};
+use std::fmt;
+use std::iter::FusedIterator;
+use std::sync::Arc;
+
+/// How many matches are asked for at once, at most, and how many ranges that may take.
+const MATCHES: usize = 16;
+const RANGES: usize = 4096;
+
+/// The matches in a text, one behind another. It borrows the regex and the text:
+///
+/// ```compile_fail
+/// let regex = regress_proved::Regex::new("a").unwrap();
+/// let matches = {
+///     let text = String::from("aa");
+///     regex.find_iter(&text) // the text would go before the iterator
+/// };
+/// matches.count();
+/// ```
+///
+/// ```compile_fail
+/// let matches = {
+///     let regex = regress_proved::Regex::new("a").unwrap();
+///     regex.find_iter("aa") // and so would the regex
+/// };
+/// matches.count();
+/// ```
+///
+/// ```compile_fail
+/// let regex = regress_proved::Regex::new("a").unwrap();
+/// let mut text = String::from("aa");
+/// let matches = regex.find_iter(&text);
+/// text.push('a'); // the text stays as it is while it is searched
+/// matches.count();
+/// ```
+pub struct Matches<'r, 't> {
+    search: Taken<'r>,
+    text: Text<'t>,
+    names: Arc<[Box<str>]>,
+    width: usize,
+    /// Where the search goes on.
+    start: usize,
+    /// Ranges of matches that were found and not handed out, the next one's last.
+    found: Vec<TextRange>,
+    asked: usize,
+}
+
+/// The same, over ASCII.
+pub type AsciiMatches<'r, 't> = Matches<'r, 't>;
+
+impl<'r, 't> Matches<'r, 't> {
+    pub(crate) fn new(search: Taken<'r>, text: Text<'t>, names: &Arc<[Box<str>]>, width: usize, start: usize) -> Self {
+        Matches { search, text, names: names.clone(), width, start, found: Vec::new(), asked: 1 }
+    }
+
+    /// Finds more matches: one at first, and then more at a time.
+    fn find_more(&mut self) {
+        let unset = TextRange { start: UNSET, end: UNSET };
+        let mut ranges = vec![unset; self.asked * self.width];
+        let count = self.search.find_many(self.text, &mut self.start, &mut ranges, self.width);
+        ranges.truncate(count * self.width);
+        ranges.reverse();
+        self.found = ranges;
+        self.asked = (2 * self.asked).min(MATCHES).min((RANGES / self.width).max(1));
+    }
+}
+
+/// A range as it is handed out.
+fn told(range: TextRange) -> Option<crate::Range> {
+    (range.start != UNSET).then_some(range.start..range.end)
+}
+
+impl Iterator for Matches<'_, '_> {
+    type Item = Match;
+
+    fn next(&mut self) -> Option<Match> {
+        if self.found.is_empty() && self.start != UNSET {
+            self.find_more();
+        }
+        let range = self.found.pop().and_then(told)?;
+        let groups = self.found.split_off(self.found.len() + 1 - self.width);
+        let captures = groups.into_iter().rev().map(told).collect();
+        Some(Match { range, captures, names: self.names.clone() })
+    }
+}
+
+impl FusedIterator for Matches<'_, '_> {}
+
+impl fmt::Debug for Matches<'_, '_> {
+    fn fmt(&self, f: &mut fmt::Formatter<'_>) -> fmt::Result {
+        f.debug_struct("Matches").field("text", &self.text).field("start", &self.start).finish_non_exhaustive()
+    }
+}

@@ -1,0 +1,229 @@
+//! Compiled patterns.
+use crate::error::Error;
+use crate::flags::Flags;
+use crate::found::Match;
+use crate::handle::{escaped, Handle, Text};
+use crate::matches::{AsciiMatches, Matches};
+use crate::pool::Pool;
+use crate::replacing::{expand, replaced};
+use std::str::FromStr;
+use std::sync::Arc;
+
+/// A compiled pattern. Threads may share it.
+#[derive(Debug)]
+pub struct Regex {
+    pool: Pool,
+    /// The name of each group, empty where it has none.
+    names: Arc<[Box<str>]>,
+}
+
+/// The same pattern, with a pool of its own; it is not compiled again.
+impl Clone for Regex {
+    fn clone(&self) -> Self {
+        Regex { pool: self.pool.share(), names: self.names.clone() }
+    }
+}
+
+impl FromStr for Regex {
+    type Err = Error;
+
+    fn from_str(pattern: &str) -> Result<Self, Error> {
+        Regex::new(pattern)
+    }
+}
+
+impl Regex {
+    /// Compiles a pattern without flags.
+    pub fn new(pattern: &str) -> Result<Regex, Error> {
+        Regex::with_flags(pattern, Flags::default())
+    }
+
+    /// Compiles a pattern with flags, which may be given as [`Flags`] or by their letters.
+    ///
+    /// ```
+    /// let greek = regress_proved::Regex::with_flags(r"^\p{Script=Greek}+$", "iu")?;
+    /// assert!(greek.find("ΛΌΓΟΣ").is_some());
+    /// # Ok::<(), regress_proved::Error>(())
+    /// ```
+    pub fn with_flags<F>(pattern: &str, flags: F) -> Result<Regex, Error>
+    where
+        F: Into<Flags>,
+    {
+        Handle::of_text(pattern, flags.into()).map(Regex::of)
+    }
+
+    /// Compiles a pattern that is given in code points, among which may be halves of pairs.
+    pub fn from_unicode<I, F>(pattern: I, flags: F) -> Result<Regex, Error>
+    where
+        I: Iterator<Item = u32> + Clone,
+        F: Into<Flags>,
+    {
+        let flags = flags.into();
+        if let Some(text) = pattern.clone().map(char::from_u32).collect::<Option<String>>() {
+            let place_in = |place| text.char_indices().take_while(|(at, _)| *at < place).count();
+            return Handle::of_text(&text, flags).map(Regex::of).map_err(|refused| refused.placed(place_in));
+        }
+        let units = units_of(pattern, flags)?;
+        let place_in = |place| char::decode_utf16(units.iter().copied().take(place)).count();
+        Handle::of_units(&units, flags).map(Regex::of).map_err(|refused| refused.placed(place_in))
+    }
+
+    fn of(mut pattern: Handle) -> Regex {
+        let count = pattern.group_count();
+        let names = (1..=count).map(|number| pattern.group_name(number).into()).collect();
+        Regex { pool: Pool::new(pattern), names }
+    }
+
+    fn matches<'r, 't>(&'r self, text: Text<'t>, start: usize) -> Matches<'r, 't> {
+        Matches::new(self.pool.take(), text, &self.names, self.names.len() + 1, start)
+    }
+
+    /// The first match in a text.
+    pub fn find(&self, text: &str) -> Option<Match> {
+        self.find_iter(text).next()
+    }
+
+    /// The matches in a text, one behind another.
+    ///
+    /// ```
+    /// let words = regress_proved::Regex::new(r"\w+").unwrap();
+    /// let ends: Vec<usize> = words.find_iter("a bc def").map(|found| found.end()).collect();
+    /// assert_eq!(ends, [1, 4, 8]);
+    /// ```
+    pub fn find_iter<'r, 't>(&'r self, text: &'t str) -> Matches<'r, 't> {
+        self.find_from(text, 0)
+    }
+
+    /// The matches from the byte `start` on. What lies before it is still seen by lookbehind, `^` and `\b`. Past the end of the
+    /// text nothing is found.
+    ///
+    /// ```
+    /// let behind = regress_proved::Regex::new("(?<=a)b").unwrap();
+    /// assert_eq!(behind.find_from("abab", 3).next().unwrap().range(), 3..4);
+    /// ```
+    ///
+    /// # Panics
+    ///
+    /// Where `start` lies inside of a character.
+    pub fn find_from<'r, 't>(&'r self, text: &'t str, start: usize) -> Matches<'r, 't> {
+        check_start(text, start);
+        self.matches(Text::Utf8(text), start)
+    }
+
+    /// The first match in a text of ASCII. In any other text it is what [`Regex::find`] finds.
+    pub fn find_ascii(&self, text: &str) -> Option<Match> {
+        self.find_iter_ascii(text).next()
+    }
+
+    /// The matches in a text of ASCII. In any other text they are those of [`Regex::find_iter`].
+    pub fn find_iter_ascii<'r, 't>(&'r self, text: &'t str) -> AsciiMatches<'r, 't> {
+        self.find_from_ascii(text, 0)
+    }
+
+    /// The matches in a text of ASCII from the byte `start` on, as [`Regex::find_from`] tells them.
+    pub fn find_from_ascii<'r, 't>(&'r self, text: &'t str, start: usize) -> AsciiMatches<'r, 't> {
+        check_start(text, start);
+        self.matches(Text::ascii(text), start)
+    }
+
+    /// The matches in a text of UTF-16 from the unit `start` on; ranges are in units. A high unit before a low one is one character.
+    ///
+    /// # Panics
+    ///
+    /// Where `start` lies between two such units.
+    pub fn find_from_utf16<'r, 't>(&'r self, text: &'t [u16], start: usize) -> Matches<'r, 't> {
+        let is_inside = start > 0 && start < text.len() && is_high(text[start - 1]) && is_low(text[start]);
+        assert!(!is_inside, "the start lies inside of a character");
+        self.matches(Text::Utf16(text), start)
+    }
+
+    /// The matches in a text of 16-bit units that are one character each, from the unit `start` on; ranges are in units.
+    ///
+    /// ```
+    /// let regex = regress_proved::Regex::new(".").unwrap();
+    /// let units: Vec<u16> = "😀".encode_utf16().collect();
+    /// assert_eq!(regex.find_from_utf16(&units, 0).count(), 1);
+    /// assert_eq!(regex.find_from_ucs2(&units, 0).count(), 2);
+    /// ```
+    pub fn find_from_ucs2<'r, 't>(&'r self, text: &'t [u16], start: usize) -> Matches<'r, 't> {
+        self.matches(Text::Ucs2(text), start)
+    }
+
+    /// A text with its first match replaced. In the replacement `$0` stands for the match, `$1` for the text of a group, `${name}`
+    /// for that of a named one, and `$$` for a `$`.
+    ///
+    /// ```
+    /// let dates = regress_proved::Regex::new(r"(?<year>\d{4})-(\d\d)").unwrap();
+    /// assert_eq!(dates.replace("2025-06, 2026-07", "$2/${year}"), "06/2025, 2026-07");
+    /// ```
+    pub fn replace(&self, text: &str, replacement: &str) -> String {
+        let first = self.find_iter(text).take(1);
+        replaced(text, first, |found, made| expand(replacement, found, text, made))
+    }
+
+    /// A text with each match replaced, as [`Regex::replace`] does.
+    pub fn replace_all(&self, text: &str, replacement: &str) -> String {
+        replaced(text, self.find_iter(text), |found, made| expand(replacement, found, text, made))
+    }
+
+    /// A text with its first match replaced by what a closure makes of it.
+    pub fn replace_with<F>(&self, text: &str, replacement: F) -> String
+    where
+        F: FnOnce(&Match) -> String,
+    {
+        let mut replacement = Some(replacement);
+        let first = self.find_iter(text).take(1);
+        replaced(text, first, |found, made| made.extend(replacement.take().map(|make| make(found))))
+    }
+
+    /// A text with each match replaced by what a closure makes of it.
+    ///
+    /// ```
+    /// let numbers = regress_proved::Regex::new(r"\d+").unwrap();
+    /// let text = "5 and 10";
+    /// let doubled = numbers.replace_all_with(text, |found| (2 * found.as_str(text).parse::<u32>().unwrap()).to_string());
+    /// assert_eq!(doubled, "10 and 20");
+    /// ```
+    pub fn replace_all_with<F>(&self, text: &str, replacement: F) -> String
+    where
+        F: Fn(&Match) -> String,
+    {
+        replaced(text, self.find_iter(text), |found, made| made.push_str(&replacement(found)))
+    }
+}
+
+fn check_start(text: &str, start: usize) {
+    assert!(start >= text.len() || text.is_char_boundary(start), "the start lies inside of a character");
+}
+
+fn is_high(unit: u16) -> bool {
+    (0xD800..0xDC00).contains(&unit)
+}
+
+fn is_low(unit: u16) -> bool {
+    (0xDC00..0xE000).contains(&unit)
+}
+
+/// Code points, among which are halves of pairs, as 16-bit units. Without Unicode mode each unit of a pattern is a character, so that
+/// none of two units may stand there.
+fn units_of(points: impl Iterator<Item = u32>, flags: Flags) -> Result<Vec<u16>, Error> {
+    let mut units = Vec::new();
+    for (place, point) in points.enumerate() {
+        match (u16::try_from(point), char::from_u32(point)) {
+            (Ok(unit), _) => units.push(unit),
+            (_, Some(pair)) if flags.is_unicode() => units.extend(pair.encode_utf16(&mut [0; 2]).iter()),
+            (_, Some(_)) => return Err(Error::at("A half of a pair beside a character of two units", place)),
+            (_, None) => return Err(Error::at("A number past the last code point", place)),
+        }
+    }
+    Ok(units)
+}
+
+/// A pattern that matches just this text, whatever the flags but `i`.
+///
+/// ```
+/// assert_eq!(regress_proved::escape("1+1 (two)"), r"1\+1 \(two\)");
+/// ```
+pub fn escape(text: &str) -> String {
+    escaped(text)
+}

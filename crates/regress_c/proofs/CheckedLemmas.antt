@@ -1,0 +1,109 @@
+-- Calls that check a text may refuse what those do that do not.
+use Rattle.std.specs.Prelude.{ℕ, List}
+use Rattle.regress_meaning.specs.Offsets.{of_utf8}
+use Rattle.regress_calls.specs.declared.call_error.CallError.{CallError}
+use Rattle.regress_calls.specs.declared.call_error.CallError.TheVariants.{OutOfMemory, WrongHandle, Null, NotUtf8, BadStart, NoRoom, Syntax, TooDeep, TooManyGroups, TooManyLoops, TooLarge, UnknownFlag, RepeatedFlag, BothUnicodeFlags, NoGroup, BrokenTables, SameHandle}
+use Rattle.regress_calls.specs.Handles.{Content}
+use Rattle.regress_calls.specs.Refusals.{MayRefuseCopy, MayRefuseCopyOf, MayRefuseCounted, MayRefuseMany, MayRefuseSearch}
+use Rattle.regress_c.specs.Checked.{MayRefuseChecked, MayRefuseCheckedMany}
+use Rattle.regress_c.specs.Copied.{MayRefuseCheckedCopy, MayRefuseCheckedCopyOf, MayRefuseChecked as MayRefuseCheckedPattern}
+
+-- a search
+pub checked-search : (c : Content) (bytes : List ℕ) (start : ℕ) (x : CallError) → MayRefuseSearch c (of_utf8 bytes) start x → MayRefuseChecked c bytes start x
+checked-search c bytes start OutOfMemory h = h
+checked-search c bytes start WrongHandle h = h
+checked-search c bytes start Null h = h
+checked-search c bytes start NotUtf8 h = absurd h
+checked-search c bytes start BadStart h = h
+checked-search c bytes start NoRoom h = h
+checked-search c bytes start Syntax h = h
+checked-search c bytes start TooDeep h = h
+checked-search c bytes start TooManyGroups h = h
+checked-search c bytes start TooManyLoops h = h
+checked-search c bytes start TooLarge h = h
+checked-search c bytes start UnknownFlag h = h
+checked-search c bytes start RepeatedFlag h = h
+checked-search c bytes start BothUnicodeFlags h = h
+checked-search c bytes start NoGroup h = h
+checked-search c bytes start BrokenTables h = h
+checked-search c bytes start SameHandle h = h
+
+-- one for many matches
+pub checked-many : (c : Content) (bytes : List ℕ) (start room width : ℕ) (x : CallError) → MayRefuseMany c (of_utf8 bytes) start room width x → MayRefuseCheckedMany c bytes start room width x
+checked-many c bytes start room width OutOfMemory h = h
+checked-many c bytes start room width WrongHandle h = h
+checked-many c bytes start room width Null h = h
+checked-many c bytes start room width NotUtf8 h = absurd h
+checked-many c bytes start room width BadStart h = h
+checked-many c bytes start room width NoRoom h = h
+checked-many c bytes start room width Syntax h = h
+checked-many c bytes start room width TooDeep h = h
+checked-many c bytes start room width TooManyGroups h = h
+checked-many c bytes start room width TooManyLoops h = h
+checked-many c bytes start room width TooLarge h = h
+checked-many c bytes start room width UnknownFlag h = h
+checked-many c bytes start room width RepeatedFlag h = h
+checked-many c bytes start room width BothUnicodeFlags h = h
+checked-many c bytes start room width NoGroup h = h
+checked-many c bytes start room width BrokenTables h = h
+checked-many c bytes start room width SameHandle h = h
+
+-- a call that counts groups
+pub checked-counted : (c : Content) (bytes : List ℕ) (x : CallError) → MayRefuseCounted c x → MayRefuseCheckedPattern c bytes x
+checked-counted c bytes OutOfMemory h = h
+checked-counted c bytes WrongHandle h = h
+checked-counted c bytes Null h = h
+checked-counted c bytes NotUtf8 h = absurd h
+checked-counted c bytes BadStart h = h
+checked-counted c bytes NoRoom h = h
+checked-counted c bytes Syntax h = h
+checked-counted c bytes TooDeep h = h
+checked-counted c bytes TooManyGroups h = h
+checked-counted c bytes TooManyLoops h = h
+checked-counted c bytes TooLarge h = h
+checked-counted c bytes UnknownFlag h = h
+checked-counted c bytes RepeatedFlag h = h
+checked-counted c bytes BothUnicodeFlags h = h
+checked-counted c bytes NoGroup h = h
+checked-counted c bytes BrokenTables h = h
+checked-counted c bytes SameHandle h = h
+
+-- a copy
+pub checked-copy : (bytes : List ℕ) (x : CallError) → MayRefuseCopy x → MayRefuseCheckedCopy bytes x
+checked-copy bytes OutOfMemory h = h
+checked-copy bytes WrongHandle h = h
+checked-copy bytes Null h = h
+checked-copy bytes NotUtf8 h = absurd h
+checked-copy bytes BadStart h = h
+checked-copy bytes NoRoom h = h
+checked-copy bytes Syntax h = h
+checked-copy bytes TooDeep h = h
+checked-copy bytes TooManyGroups h = h
+checked-copy bytes TooManyLoops h = h
+checked-copy bytes TooLarge h = h
+checked-copy bytes UnknownFlag h = h
+checked-copy bytes RepeatedFlag h = h
+checked-copy bytes BothUnicodeFlags h = h
+checked-copy bytes NoGroup h = h
+checked-copy bytes BrokenTables h = h
+checked-copy bytes SameHandle h = h
+
+-- a copy of what a pattern makes
+pub checked-copy_of : (c : Content) (text replacement : List ℕ) (x : CallError) → MayRefuseCopyOf c x → MayRefuseCheckedCopyOf c text replacement x
+checked-copy_of c text replacement OutOfMemory h = h
+checked-copy_of c text replacement WrongHandle h = h
+checked-copy_of c text replacement Null h = h
+checked-copy_of c text replacement NotUtf8 h = absurd h
+checked-copy_of c text replacement BadStart h = h
+checked-copy_of c text replacement NoRoom h = h
+checked-copy_of c text replacement Syntax h = h
+checked-copy_of c text replacement TooDeep h = h
+checked-copy_of c text replacement TooManyGroups h = h
+checked-copy_of c text replacement TooManyLoops h = h
+checked-copy_of c text replacement TooLarge h = h
+checked-copy_of c text replacement UnknownFlag h = h
+checked-copy_of c text replacement RepeatedFlag h = h
+checked-copy_of c text replacement BothUnicodeFlags h = h
+checked-copy_of c text replacement NoGroup h = h
+checked-copy_of c text replacement BrokenTables h = h
+checked-copy_of c text replacement SameHandle h = h

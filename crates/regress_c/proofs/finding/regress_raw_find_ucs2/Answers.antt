@@ -1,0 +1,5 @@
+use Rattle.regress_c.proofs.CodeLemmas.{as-given, count-ok}
+use Rattle.regress_c.proofs.finding.regress_raw_find_ucs2.Goals as goal
+
+pub returns-clause-found : goal.returns-clause-found
+returns-clause-found c = rw (as-given c.count_code.result c.count_code.type_inv) (λ r holds t o p stands place begins. count-ok c.find.result c.count_code.result _ c.count_code.ensures (c.find.ensures.found r holds t o p stands place begins))

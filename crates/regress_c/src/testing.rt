@@ -1,0 +1,109 @@
+//! Exports that tell whether there is a match.
+ghost use Rattle.std.specs.Prelude.{◌≡◌, ◌≢◌, ℕ, [], chars};
+ghost use Rattle.std.specs.Str.{IsAscii, IsUtf8};
+ghost use Rattle.regress_meaning.specs.Flags.{Options};
+ghost use Rattle.regress_meaning.specs.Matches.{match_list};
+ghost use Rattle.regress_meaning.specs.Offsets.{Begins, characters, of_ucs2, of_utf8, of_utf16};
+ghost use Rattle.regress_meaning.specs.Pattern.{Pattern};
+ghost use Rattle.regress_meaning.specs.Table.{Table};
+ghost use Rattle.regress.specs.declared.api.Regex.{Regex as RegexValue};
+ghost use Rattle.regress.specs.Standing.{StandsFor, StandsInUnits};
+ghost use Rattle.regress_calls.specs.Codes.{IfCount, IfError};
+ghost use Rattle.regress_calls.specs.Handles.{OfSearch, content};
+ghost use Rattle.regress_calls.specs.Refusals.{MayRefuseSearch};
+ghost use Rattle.regress_c.specs.Checked.{IsTruthOf, MayRefuseChecked};
+
+use crate::codes::truth_code;
+use crate::texts::{ascii, valid};
+use regress_calls::{CallError, Slot, Text, is_match, utf8};
+use std::alloc::Global;
+
+/// Whether there is a match from `start` on, in a text that is checked to be UTF-8: 1, or 0.
+#[unsafe(no_mangle)]
+pub extern "C" fn regress_raw_is_match(
+    alloc: Global,
+    search: &mut Slot,
+    text: &[u8],
+    start: usize,
+) -> i32
+    ensures found { (r : RegexValue) → content search.old.held ≡ OfSearch r → (t : Table) → (o : Options) → (p : Pattern) → StandsFor r t o p →
+        (place : ℕ) → Begins (of_utf8 text.now) start place →
+        IfCount result (λ count. IsTruthOf count (match_list t o p (chars text.now) place ≢ [])) }
+    ensures kept { content search.new.held ≡ content search.old.held }
+    ensures refused { IfError result (MayRefuseChecked (content search.old.held) text.now start) }
+{
+    let Ok(text) = utf8(text) else {
+        return CallError::NotUtf8.code();
+    };
+    truth_code(is_match(alloc, search, Text::Utf8(text), start))
+}
+
+/// Whether there is a match from `start` on, in UTF-8 that the caller vouches for: 1, or 0.
+#[unsafe(no_mangle)]
+pub extern "C" fn regress_raw_is_match_valid(
+    alloc: Global,
+    search: &mut Slot,
+    text: &[u8],
+    start: usize,
+) -> i32
+    requires { IsUtf8 text.now }
+    ensures found { (r : RegexValue) → content search.old.held ≡ OfSearch r → (t : Table) → (o : Options) → (p : Pattern) → StandsFor r t o p →
+        (place : ℕ) → Begins (of_utf8 text.now) start place →
+        IfCount result (λ count. IsTruthOf count (match_list t o p (chars text.now) place ≢ [])) }
+    ensures kept { content search.new.held ≡ content search.old.held }
+    ensures refused { IfError result (MayRefuseSearch (content search.old.held) (of_utf8 text.now) start) }
+{
+    truth_code(is_match(alloc, search, Text::Utf8(valid(text)), start))
+}
+
+/// Whether there is a match from `start` on, in ASCII that the caller vouches for: 1, or 0.
+#[unsafe(no_mangle)]
+pub extern "C" fn regress_raw_is_match_ascii(
+    alloc: Global,
+    search: &mut Slot,
+    text: &[u8],
+    start: usize,
+) -> i32
+    requires { IsAscii text.now }
+    ensures found { (r : RegexValue) → content search.old.held ≡ OfSearch r → (t : Table) → (o : Options) → (p : Pattern) → StandsFor r t o p →
+        (place : ℕ) → Begins (of_utf8 text.now) start place →
+        IfCount result (λ count. IsTruthOf count (match_list t o p (chars text.now) place ≢ [])) }
+    ensures kept { content search.new.held ≡ content search.old.held }
+    ensures refused { IfError result (MayRefuseSearch (content search.old.held) (of_utf8 text.now) start) }
+{
+    truth_code(is_match(alloc, search, Text::Ascii(ascii(text)), start))
+}
+
+/// Whether there is a match from `start` on, in units of UTF-16: 1, or 0.
+#[unsafe(no_mangle)]
+pub extern "C" fn regress_raw_is_match_utf16(
+    alloc: Global,
+    search: &mut Slot,
+    text: &[u16],
+    start: usize,
+) -> i32
+    ensures found { (r : RegexValue) → content search.old.held ≡ OfSearch r → (t : Table) → (o : Options) → (p : Pattern) → StandsInUnits r t o p →
+        (place : ℕ) → Begins (of_utf16 text.now) start place →
+        IfCount result (λ count. IsTruthOf count (match_list t o p (characters text.now) place ≢ [])) }
+    ensures kept { content search.new.held ≡ content search.old.held }
+    ensures refused { IfError result (MayRefuseSearch (content search.old.held) (of_utf16 text.now) start) }
+{
+    truth_code(is_match(alloc, search, Text::Utf16(text), start))
+}
+
+/// Whether there is a match from `start` on, in 16-bit units that are one character each: 1, or 0.
+#[unsafe(no_mangle)]
+pub extern "C" fn regress_raw_is_match_ucs2(
+    alloc: Global,
+    search: &mut Slot,
+    text: &[u16],
+    start: usize,
+) -> i32
+    ensures found { (r : RegexValue) → content search.old.held ≡ OfSearch r → (t : Table) → (o : Options) → (p : Pattern) → StandsInUnits r t o p →
+        (place : ℕ) → Begins (of_ucs2 text.now) start place →
+        IfCount result (λ count. IsTruthOf count (match_list t o p text.now place ≢ [])) }
+    ensures kept { content search.new.held ≡ content search.old.held }
+    ensures refused { IfError result (MayRefuseSearch (content search.old.held) (of_ucs2 text.now) start) }
+{
+    truth_code(is_match(alloc, search, Text::Ucs2(text), start))
+}

@@ -1,0 +1,11 @@
+pub mod Codes
+pub mod Ranges
+pub mod Slotted
+pub mod Buffers
+pub mod Texts
+pub mod Names
+pub mod Handles
+pub mod Refusals
+pub mod Compiling
+pub mod Slots
+pub mod Many

@@ -1,0 +1,41 @@
+-- Texts that are searched, and what a regex stands for in each.
+use Rattle.std.specs.Prelude.{◌≡◌, ℕ, Option, Some, IfSome, option_map}
+use Rattle.std.specs.Str.{IsAscii}
+use Rattle.std.specs.declared.ops.Range.{Range}
+use Rattle.regress_meaning.specs.Table.{Table}
+use Rattle.regress_meaning.specs.Pattern.{Pattern}
+use Rattle.regress_meaning.specs.Flags.{Options}
+use Rattle.regress_meaning.specs.Matches.{Item}
+use Rattle.regress_meaning.specs.Offsets.{Reading, of_utf8, of_utf16, of_ucs2, offset, Begins}
+use Rattle.regress_match.specs.Views.{ends}
+use Rattle.regress.specs.declared.api.Regex.{Regex}
+use Rattle.regress.specs.Standing.{StandsFor, StandsInUnits}
+use Rattle.regress_calls.specs.declared.text.Text.{Text}
+use Rattle.regress_calls.specs.declared.text.Text.TheVariants.{Utf8, Ascii, Utf16, Ucs2}
+
+-- how a text is read
+abbrev pub reading_of_text : Text → Reading
+reading_of_text (Utf8 text) = of_utf8 text.now
+reading_of_text (Ascii text) = of_utf8 text.now
+reading_of_text (Utf16 units) = of_utf16 units.now
+reading_of_text (Ucs2 units) = of_ucs2 units.now
+
+-- a text is what it is said to be: ASCII has no byte past it
+abbrev pub IsOfItsKind : Text → Type 0
+IsOfItsKind (Ascii text) = IsAscii text.now
+IsOfItsKind _ = Unit {0}
+
+-- The regex stands for the pattern in such a text: in bytes, or in 16-bit units.
+abbrev pub StandsIn : Text → Regex → Table → Options → Pattern → Type 0
+StandsIn (Utf8 text) r t o p = StandsFor r t o p
+StandsIn (Ascii text) r t o p = StandsFor r t o p
+StandsIn (Utf16 units) r t o p = StandsInUnits r t o p
+StandsIn (Ucs2 units) r t o p = StandsInUnits r t o p
+
+-- this is the range of the item, told in offsets
+abbrev pub IsRangeOf : Reading → Item → Option (Range ℕ) → Type 0
+IsRangeOf r i found = option_map ends found ≡ Some (offset r i.start, offset r i.end)
+
+-- a search may begin at the end of the range, if there is one
+abbrev pub EndsAtStart : Reading → Option (Range ℕ) → Type 0
+EndsAtStart r found = IfSome found (λ range. (place : ℕ) × Begins r range.end place)

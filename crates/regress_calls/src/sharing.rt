@@ -1,0 +1,60 @@
+//! What handles hold, for one more owner.
+ghost use Rattle.std.specs.Prelude.{◌≡◌, IfOk, IfErr};
+ghost use Rattle.std.specs.Arc.{arc_value};
+ghost use Rattle.regress_front_tables.specs.TableViews.{parts};
+ghost use Rattle.regress_calls.specs.Handles.{OfPattern, OfTables, content};
+ghost use Rattle.regress_calls.specs.Refusals.{MayRefusePattern, MayRefuseTables};
+
+use crate::call_error::CallError;
+use crate::held::Held;
+use crate::slot::Slot;
+use regress::{Regex, Tables};
+use std::alloc::Global;
+use std::sync::Arc;
+
+/// The pattern of what is held, for one more owner.
+fn pattern_of(held: &Held) -> Result<Arc<Regex>, CallError>
+    ensures shared { IfOk result (λ a. content (Some held.now) ≡ OfPattern (arc_value a)) }
+    ensures refused { IfErr result (MayRefusePattern (content (Some held.now))) }
+{
+    match held {
+        Held::Pattern(regex) => Ok(Arc::try_clone(regex)?),
+        _ => Err(CallError::WrongHandle),
+    }
+}
+
+/// The tables of what is held, for one more owner.
+fn tables_of(held: &Held) -> Result<Tables, CallError>
+    ensures shared { IfOk result (λ ts. content (Some held.now) ≡ OfTables (parts ts)) }
+    ensures refused { IfErr result (MayRefuseTables (content (Some held.now))) }
+{
+    match held {
+        Held::Tables(tables) => Ok(tables.try_clone()?),
+        _ => Err(CallError::WrongHandle),
+    }
+}
+
+/// The pattern that a handle holds, for one more owner. Refused as `WrongHandle` where it holds none, and as `OutOfMemory`
+/// where so many share it that they can't be counted.
+pub(crate) fn pattern_in(alloc: Global, slot: &mut Slot) -> Result<Arc<Regex>, CallError>
+    ensures shared { IfOk result (λ a. content slot.old.held ≡ OfPattern (arc_value a)) }
+    ensures kept { content slot.new.held ≡ content slot.old.held }
+    ensures refused { IfErr result (MayRefusePattern (content slot.old.held)) }
+{
+    let held = slot.take(alloc).ok_or(CallError::WrongHandle)?;
+    let shared = pattern_of(&held);
+    slot.put(alloc, held);
+    shared
+}
+
+/// The tables that a handle holds, for one more owner. Refused as `pattern_in` is.
+pub(crate) fn tables_in(alloc: Global, slot: &mut Slot) -> Result<Tables, CallError>
+    ensures shared { IfOk result (λ ts. content slot.old.held ≡ OfTables (parts ts)) }
+    ensures kept { content slot.new.held ≡ content slot.old.held }
+    ensures refused { IfErr result (MayRefuseTables (content slot.old.held)) }
+{
+    let held = slot.take(alloc).ok_or(CallError::WrongHandle)?;
+    let shared = tables_of(&held);
+    slot.put(alloc, held);
+    shared
+}
