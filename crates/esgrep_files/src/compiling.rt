@@ -1,0 +1,157 @@
+//! From texts of the command line to patterns.
+
+use crate::refusal::Refusal;
+use crate::settings::Settings;
+use regress::{Error, Flags, Regex, Tables, escape, syntax_error};
+use regress_unicode::unicode_tables;
+use std::alloc::{AllocError, Global};
+use std::fs;
+use std::rt::Files;
+
+/// The flags of all patterns: those of the command line, and `i` where case is ignored.
+fn flags(alloc: Global, settings: &Settings<'_>) -> Result<Flags, Refusal> {
+    let letters = settings.flags;
+    let mut flags = match Flags::parse(letters) {
+        Ok(script) => script.flags,
+        Err(error) => {
+            return Err(Refusal::Told(format!(in alloc; "--flags {letters}: {error}")?));
+        }
+    };
+    if settings.ignore_case {
+        flags.icase = true;
+    }
+    Ok(flags)
+}
+
+/// Why a pattern is refused: with a caret where it is none.
+fn refusal(
+    alloc: Global,
+    error: Error,
+    pattern: &str,
+    flags: Flags,
+    tables: &Tables,
+) -> Result<Refusal, AllocError> {
+    let told = match syntax_error(alloc, pattern, flags, tables) {
+        Ok(Some(refused)) => refused.display(pattern).to_string(alloc)?,
+        _ => error.to_string(alloc)?,
+    };
+    Ok(Refusal::Told(told))
+}
+
+/// A pattern is compiled.
+fn compile(alloc: Global, pattern: &str, flags: Flags, tables: &Tables) -> Result<Regex, Refusal> {
+    match Regex::with_flags(alloc, pattern, flags, tables) {
+        Ok(regex) => Ok(regex),
+        Err(error) => Err(refusal(alloc, error, pattern, flags, tables)?),
+    }
+}
+
+/// A pattern is compiled for matches that take a whole line.
+fn whole_line(
+    alloc: Global,
+    pattern: &str,
+    flags: Flags,
+    tables: &Tables,
+) -> Result<Regex, Refusal> {
+    match Regex::whole_text(alloc, pattern, flags, tables) {
+        Ok(regex) => Ok(regex),
+        Err(error) => Err(refusal(alloc, error, pattern, flags, tables)?),
+    }
+}
+
+/// A pattern for matches of this one that stand between characters that are no word characters.
+fn whole_word(
+    alloc: Global,
+    pattern: &str,
+    flags: Flags,
+    tables: &Tables,
+) -> Result<Regex, Refusal> {
+    let whole = format!(in alloc; "(?<!\\w)(?:{pattern})(?!\\w)")?;
+    compile(alloc, whole.as_str(), flags, tables)
+}
+
+/// A pattern of the command line, with what the options ask of it.
+fn asked(
+    alloc: Global,
+    settings: &Settings<'_>,
+    text: &str,
+    flags: Flags,
+    tables: &Tables,
+) -> Result<Regex, Refusal> {
+    let pattern = if settings.fixed {
+        escape(alloc, text)?
+    } else {
+        String::from_str(alloc, text)?
+    };
+    if settings.whole_lines {
+        return whole_line(alloc, pattern.as_str(), flags, tables);
+    }
+    // First alone: a text that is no pattern by itself may be one in a group.
+    let alone = compile(alloc, pattern.as_str(), flags, tables)?;
+    if settings.words {
+        whole_word(alloc, pattern.as_str(), flags, tables)
+    } else {
+        Ok(alone)
+    }
+}
+
+/// What stands in each pattern whose meaning depends on tables of Unicode, where it is of ASCII and no flag ignores case: a
+/// property, an escaped character, which may stand in a name, or a modifier, which may ignore case.
+const ASKING: [&str; 6] = ["\\p", "\\P", "\\u", "(?i", "(?m", "(?s"];
+
+/// Whether a pattern asks for tables of Unicode. Small ones serve the others, and are there sooner.
+fn asks_unicode(pattern: &str) -> bool {
+    !pattern.is_ascii() || ASKING.iter().any(|part| pattern.contains(*part))
+}
+
+/// Tables for some patterns.
+fn tables_for(alloc: Global, patterns: &[String], flags: Flags) -> Result<Tables, Refusal> {
+    let asks = flags.icase
+        || patterns
+            .iter()
+            .any(|pattern| asks_unicode(pattern.as_str()));
+    let tables = if asks {
+        unicode_tables(alloc)
+    } else {
+        Tables::small(alloc)
+    };
+    match tables {
+        Ok(tables) => Ok(tables),
+        Err(_) => Err(Refusal::OutOfMemory),
+    }
+}
+
+/// The texts of all patterns that the command line asks for: those of `-e`, and each line of the files of `-f`.
+fn texts<R: Files + AllocGlobal>(rt: &R, settings: &Settings<'_>) -> Result<Vec<String>, Refusal> {
+    let alloc = rt.alloc();
+    let mut texts = Vec::new(alloc);
+    for pattern in &settings.patterns {
+        texts.push(String::from_str(alloc, pattern)?)?;
+    }
+    for path in &settings.pattern_files {
+        let text = match fs::read_to_string(rt, *path) {
+            Ok(text) => text,
+            Err(error) => return Err(Refusal::Told(format!(in alloc; "{path}: {error}")?)),
+        };
+        for pattern in text.as_str().lines() {
+            texts.push(String::from_str(alloc, pattern)?)?;
+        }
+    }
+    Ok(texts)
+}
+
+/// All patterns that the command line asks for.
+pub(crate) fn regexes<R: Files + AllocGlobal>(
+    rt: &R,
+    settings: &Settings<'_>,
+) -> Result<Vec<Regex>, Refusal> {
+    let alloc = rt.alloc();
+    let flags = flags(alloc, settings)?;
+    let texts = texts(rt, settings)?;
+    let tables = tables_for(alloc, &texts, flags)?;
+    let mut regexes = Vec::new(alloc);
+    for text in &texts {
+        regexes.push(asked(alloc, settings, text.as_str(), flags, &tables)?)?;
+    }
+    Ok(regexes)
+}

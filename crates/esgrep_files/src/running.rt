@@ -1,0 +1,478 @@
+//! The whole program.
+
+use crate::command_line::command;
+use crate::compiling::regexes;
+use crate::files::{Chosen, Kind, joined, kind_of, last_name, names_in};
+use crate::globs::Globs;
+use crate::groups::{push_groups, push_groups_of_lines};
+use crate::refusal::Refusal;
+use crate::settings::{Coloring, Settings};
+use crate::texts::{Content, content_of};
+use crate::words::read_contexts;
+use esgrep_lines::{Output, SearchError, Unwritten, search};
+use esgrep_patterns::{Parts, Patterns};
+use esgrep_rows::{Mode, Options, Shown};
+use regress::Error;
+use regress_replacing::Template;
+use std::alloc::{AllocError, AllocFailed, Global};
+use std::fmt::Display;
+use std::io::{ErrorKind, Read, Write};
+use std::process::ExitCode;
+use std::rt::Runtime;
+use std::{env, fs, io};
+
+/// How standard input is named.
+const STANDARD_INPUT: &str = "(standard input)";
+
+/// The exit status on an error.
+const TROUBLE: u8 = 2;
+
+/// How the whole search stands.
+#[derive(Clone, Copy, Debug, Default)]
+struct Tally {
+    /// How many lines were selected.
+    selected: usize,
+    /// How many texts were searched, and of how many bytes.
+    texts: usize,
+    bytes: usize,
+    /// Whether something could not be searched.
+    has_trouble: bool,
+}
+
+/// Why a search ends before its end.
+#[derive(Clone, Copy, Debug, PartialEq, Eq)]
+enum Stop {
+    /// A line is selected, and nothing else is asked.
+    Found,
+    /// Output can't be written.
+    Unwritten,
+    OutOfMemory,
+}
+
+impl From<AllocError> for Stop {
+    fn from(_refused: AllocError) -> Stop {
+        Stop::OutOfMemory
+    }
+}
+
+impl<T: Drop> From<AllocFailed<T>> for Stop {
+    fn from(_refused: AllocFailed<T>) -> Stop {
+        Stop::OutOfMemory
+    }
+}
+
+impl From<Unwritten> for Stop {
+    fn from(_failed: Unwritten) -> Stop {
+        Stop::Unwritten
+    }
+}
+
+impl From<SearchError> for Stop {
+    fn from(error: SearchError) -> Stop {
+        match error {
+            SearchError::Write => Stop::Unwritten,
+            SearchError::OutOfMemory => Stop::OutOfMemory,
+        }
+    }
+}
+
+impl From<Error> for Stop {
+    fn from(_refused: Error) -> Stop {
+        Stop::OutOfMemory
+    }
+}
+
+impl From<Refusal> for Stop {
+    fn from(_refusal: Refusal) -> Stop {
+        Stop::OutOfMemory
+    }
+}
+
+/// A search of files.
+#[derive(Drop)]
+struct Search<'r, 's, 'a, 't, R: Runtime + AllocGlobal, W: Write + Drop> {
+    rt: &'r R,
+    settings: &'s Settings<'a>,
+    options: Options,
+    patterns: Patterns,
+    shown: Shown<'t>,
+    chosen: Chosen,
+    output: Output<W>,
+    tally: Tally,
+}
+
+/// The whole program: searches what the command line asks for, and answers the exit status.
+///
+/// `is_terminal` says whether standard output is a terminal.
+///
+/// ```rust
+/// let status = run(&rt, rt.stdout().is_terminal());
+/// ```
+pub fn run<R: Runtime + AllocGlobal>(rt: &R, is_terminal: bool) -> ExitCode {
+    let status = match with_words(rt, is_terminal) {
+        Ok(status) => status,
+        Err(refusal) => {
+            // Where standard error can't be written either, the status alone tells of the error.
+            let _ = eprintln!(rt; "esgrep: {refusal}");
+            TROUBLE
+        }
+    };
+    ExitCode::from(status)
+}
+
+/// Reads the words of the command line, and does what they ask for.
+fn with_words<R: Runtime + AllocGlobal>(rt: &R, is_terminal: bool) -> Result<u8, Refusal> {
+    let alloc = rt.alloc();
+    let words = read_contexts(alloc, env::args(rt)?.collect(alloc)?)?;
+    with_command_line(rt, &words, is_terminal)
+}
+
+/// Does what the words of a command line ask for.
+fn with_command_line<R: Runtime + AllocGlobal>(
+    rt: &R,
+    words: &[String],
+    is_terminal: bool,
+) -> Result<u8, Refusal> {
+    let alloc = rt.alloc();
+    let matches = match command(alloc)?.try_get_matches_from(words) {
+        Ok(matches) => matches,
+        Err(error) => {
+            error.print(rt)?;
+            return Ok(if error.use_stderr() { TROUBLE } else { 0 });
+        }
+    };
+    match Settings::new(alloc, &matches)? {
+        Some(settings) => with_settings(rt, &settings, is_terminal),
+        None => Err(Refusal::Told(String::from_str(alloc, "no pattern: see esgrep --help")?)),
+    }
+}
+
+/// Whether rows are in colours.
+fn is_colored<R: Runtime + AllocGlobal>(rt: &R, coloring: Coloring, is_terminal: bool) -> bool {
+    match coloring {
+        Coloring::Always => true,
+        Coloring::Never => false,
+        Coloring::Auto => is_terminal && env::var(rt, "NO_COLOR").is_err(),
+    }
+}
+
+/// What is shown of a match: nothing else than its text where neither a replacement text nor colours are asked for.
+fn template_text(
+    alloc: Global,
+    settings: &Settings<'_>,
+    colored: bool,
+) -> Result<Option<String>, AllocError> {
+    let shown = match settings.replacement {
+        Some(text) => text,
+        None if colored => "$&",
+        None => return Ok(None),
+    };
+    Ok(Some(if colored {
+        format!(in alloc; "\u{1b}[1;31m{shown}\u{1b}[m")?
+    } else {
+        String::from_str(alloc, shown)?
+    }))
+}
+
+/// What is shown of a match by the text of a template, if there is one.
+fn shown_by<'t>(alloc: Global, template: &'t Option<String>) -> Result<Shown<'t>, Refusal> {
+    match template {
+        Some(text) => Ok(Shown::by(Template::new(alloc, text.as_str())?)),
+        None => Ok(Shown::itself()),
+    }
+}
+
+/// Whether names stand in front of rows, where the command line does not say so.
+fn has_several(settings: &Settings<'_>) -> bool {
+    settings.recursive || settings.paths.len() > 1
+}
+
+/// Compiles the patterns, and searches.
+fn with_settings<R: Runtime + AllocGlobal>(
+    rt: &R,
+    settings: &Settings<'_>,
+    is_terminal: bool,
+) -> Result<u8, Refusal> {
+    let alloc = rt.alloc();
+    if settings.multiline && settings.replacement.is_some() {
+        return Err(Refusal::Told(String::from_str(alloc, "--replace does not go with -U")?));
+    }
+    let regexes = regexes(rt, settings)?;
+    let colored = is_colored(rt, settings.coloring, is_terminal);
+    let template = template_text(alloc, settings, colored)?;
+    let rewrites = template.is_some();
+    let shown = shown_by(alloc, &template)?;
+    let options = Options {
+        names: settings.named.unwrap_or(has_several(settings)),
+        rewrites,
+        colored,
+        ..settings.options
+    };
+    let mut files = Search {
+        rt,
+        settings,
+        options,
+        patterns: Patterns::new(regexes),
+        shown,
+        chosen: Chosen {
+            include: Globs::new(alloc, &settings.include)?,
+            exclude: Globs::new(alloc, &settings.exclude)?,
+        },
+        output: Output::new(alloc, io::writer(rt), settings.by_row),
+        tally: Tally::default(),
+    };
+    let stop = files.search_all();
+    Ok(files.finished(stop))
+}
+
+impl<'r, 's, 'a, 't, R: Runtime + AllocGlobal, W: Write + Drop> Search<'r, 's, 'a, 't, R, W> {
+    /// Tells of a file that can't be searched.
+    fn tell(&mut self, path: &str, message: &(impl Display + Drop)) {
+        self.tally.has_trouble = true;
+        if !self.settings.silent {
+            let rt = self.rt;
+            let _ = eprintln!(rt; "esgrep: {path}: {message}");
+        }
+    }
+
+    /// Searches all that the command line names.
+    fn search_all(&mut self) -> Result<(), Stop> {
+        let settings = self.settings;
+        if settings.paths.is_empty() {
+            return if settings.recursive {
+                self.search_tree("")
+            } else {
+                self.search_input()
+            };
+        }
+        for path in &settings.paths {
+            if *path == "-" {
+                self.search_input()?;
+            } else {
+                self.search_path(path)?;
+            }
+        }
+        Ok(())
+    }
+
+    /// Searches what the command line names: a file, or by `-r` a folder. Links are followed.
+    fn search_path(&mut self, path: &str) -> Result<(), Stop> {
+        match kind_of(self.rt, path, true) {
+            Ok(Kind::Folder) if self.settings.recursive => self.search_tree(path),
+            Ok(Kind::Folder) => {
+                self.tell(path, &"is a folder: use -r");
+                Ok(())
+            }
+            Ok(_) => self.search_file(path),
+            Err(error) => {
+                self.tell(path, &error);
+                Ok(())
+            }
+        }
+    }
+
+    /// Searches the files in a folder and in those in it, sorted by name. Links are not followed.
+    fn search_tree(&mut self, root: &str) -> Result<(), Stop> {
+        let alloc = self.rt.alloc();
+        let mut waiting = Vec::new(alloc);
+        waiting.push(String::from_str(alloc, root)?)?;
+        for step in 0..u64::MAX {
+            let Some(path) = waiting.pop() else {
+                break;
+            };
+            let kind = if step == 0 {
+                Ok(Kind::Folder)
+            } else {
+                kind_of(self.rt, path.as_str(), false)
+            };
+            match kind {
+                Ok(Kind::Folder) => self.add_names(path.as_str(), &mut waiting)?,
+                Ok(Kind::File) if self.chosen.takes(last_name(path.as_str()))? => {
+                    self.search_file(path.as_str())?;
+                }
+                Ok(_) => {}
+                Err(error) => self.tell(path.as_str(), &error),
+            }
+        }
+        Ok(())
+    }
+
+    /// Adds what is in a folder to the paths that wait, the first by name last.
+    fn add_names(&mut self, folder: &str, waiting: &mut Vec<String>) -> Result<(), Stop> {
+        let alloc = self.rt.alloc();
+        match names_in(self.rt, folder) {
+            Ok((names, unread)) => {
+                if let Some(error) = unread {
+                    self.tell(folder, &error);
+                }
+                for name in names.iter().rev() {
+                    waiting.push(joined(alloc, folder, name.as_str())?)?;
+                }
+            }
+            Err(error) => self.tell(folder, &error),
+        }
+        Ok(())
+    }
+
+    /// Searches a file.
+    fn search_file(&mut self, path: &str) -> Result<(), Stop> {
+        match fs::read(self.rt, path) {
+            Ok(bytes) => self.search_bytes(path, &bytes),
+            Err(error) => {
+                self.tell(path, &error);
+                Ok(())
+            }
+        }
+    }
+
+    /// Searches standard input.
+    fn search_input(&mut self) -> Result<(), Stop> {
+        let mut bytes = Vec::new(self.rt.alloc());
+        match self.rt.reader().read_to_end(&mut bytes) {
+            Ok(_) => self.search_bytes(STANDARD_INPUT, &bytes),
+            Err(error) => {
+                self.tell(STANDARD_INPUT, &error);
+                Ok(())
+            }
+        }
+    }
+
+    /// Searches what was read, as far as it is text.
+    fn search_bytes(&mut self, name: &str, bytes: &[u8]) -> Result<(), Stop> {
+        let alloc = self.rt.alloc();
+        self.tally.texts = self.tally.texts.saturating_add(1);
+        self.tally.bytes = self.tally.bytes.saturating_add(bytes.len());
+        match content_of(alloc, bytes, self.options.ending, self.settings.no_text)? {
+            Content::Text(text) => self.search_text(name, text)?,
+            Content::Lossy(text) => self.search_text(name, text.as_str())?,
+            Content::Binary(text) => self.search_binary(name, text.as_str())?,
+            Content::Skipped => {}
+            Content::NotUtf8(offset) => {
+                self.tell(name, &format_args!("not UTF-8 from byte {offset} on"));
+            }
+        }
+        self.report();
+        if self.options.mode == Mode::Quiet && self.tally.selected > 0 {
+            return Err(Stop::Found);
+        }
+        Ok(())
+    }
+
+    /// Searches a text.
+    fn search_text(&mut self, name: &str, text: &str) -> Result<(), Stop> {
+        let count = if self.settings.groups {
+            self.put_groups(name, text)?
+        } else {
+            self.put_lines(self.options, name, text)?
+        };
+        self.tally.selected = self.tally.selected.saturating_add(count);
+        Ok(())
+    }
+
+    /// Puts out the rows of a text, and answers how many lines are selected.
+    fn put_lines(&mut self, options: Options, name: &str, text: &str) -> Result<usize, Stop> {
+        if self.output.failed() {
+            return Err(Stop::Unwritten);
+        }
+        let alloc = self.rt.alloc();
+        let output = &mut self.output;
+        let count = if self.settings.multiline {
+            let parts = Parts::new(alloc, &self.patterns, text, options.ending)?;
+            search(alloc, &parts, &self.shown, &options, name, text, output)?
+        } else {
+            search(
+                alloc,
+                &self.patterns,
+                &self.shown,
+                &options,
+                name,
+                text,
+                output,
+            )?
+        };
+        Ok(count)
+    }
+
+    /// Puts out a line of JSON for each match in a text, and answers how many lines have one; with `-U` how many matches there are.
+    fn put_groups(&mut self, name: &str, text: &str) -> Result<usize, Stop> {
+        let alloc = self.rt.alloc();
+        let mut rows = String::new(alloc);
+        let count = if self.settings.multiline {
+            push_groups(alloc, &self.patterns, &self.options, name, text, &mut rows)?
+        } else {
+            push_groups_of_lines(alloc, &self.patterns, &self.options, name, text, &mut rows)?
+        };
+        if self.output.failed() {
+            return Err(Stop::Unwritten);
+        }
+        self.output.put(rows.as_bytes())?;
+        Ok(count)
+    }
+
+    /// Searches a binary file, of which no row is put out.
+    fn search_binary(&mut self, name: &str, text: &str) -> Result<(), Stop> {
+        let mode = match self.options.mode {
+            Mode::Lines | Mode::Matches => Mode::Quiet,
+            mode => mode,
+        };
+        let options = Options {
+            mode,
+            ..self.options
+        };
+        let count = self.put_lines(options, name, text)?;
+        self.tally.selected = self.tally.selected.saturating_add(count);
+        if count > 0 && mode != self.options.mode && !self.output.failed() {
+            let row = format!(in self.rt.alloc(); "Binary file {name} matches\n")?;
+            self.output.put(row.as_bytes())?;
+        }
+        Ok(())
+    }
+
+    /// Tells how much was searched, where that is asked for while searching.
+    fn report(&self) {
+        if self.settings.progress {
+            let rt = self.rt;
+            let Tally {
+                texts,
+                bytes,
+                selected,
+                ..
+            } = self.tally;
+            let _ = eprintln!(rt; "esgrep: {texts} files, {bytes} bytes, {selected} lines");
+        }
+    }
+
+    /// Writes what waits, tells of what went wrong, and answers the exit status.
+    fn finished(&mut self, stop: Result<(), Stop>) -> u8 {
+        let rt = self.rt;
+        let is_written = !self.output.failed() && self.output.flush().is_ok();
+        let failure = self.output.failure();
+        if !is_written && failure != Some(ErrorKind::BrokenPipe) {
+            self.tally.has_trouble = true;
+            let _ = eprintln!(rt; "esgrep: write failed");
+        }
+        if stop == Err(Stop::OutOfMemory) {
+            self.tally.has_trouble = true;
+            let _ = eprintln!(rt; "esgrep: out of memory");
+        }
+        let Tally {
+            selected,
+            texts,
+            bytes,
+            has_trouble,
+        } = self.tally;
+        if self.settings.stats {
+            let _ = eprintln!(rt;
+                "{selected} lines selected\n{texts} files searched\n{bytes} bytes searched"
+            );
+        }
+        let is_quiet = self.options.mode == Mode::Quiet && selected > 0;
+        if has_trouble && !is_quiet {
+            TROUBLE
+        } else if selected > 0 {
+            0
+        } else {
+            1
+        }
+    }
+}

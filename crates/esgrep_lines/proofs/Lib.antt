@@ -1,0 +1,4 @@
+pub mod PuttingLemmas
+pub mod CountLemmas
+pub mod StepLemmas
+pub mod RowsLemmas

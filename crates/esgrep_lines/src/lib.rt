@@ -1,0 +1,13 @@
+//! What `esgrep` puts out for one text: the lines with a match of a pattern of ECMAScript, and what is shown of them.
+//!
+//! [`search`] is the whole of it, over any [`Finder`] and any [`Output`]. The definition that its contract cites says what is put
+//! out for a text (`specs/Output`, over `specs/Rows` of `esgrep_rows`).
+#![tactic(auto)]
+
+mod finder;
+mod output;
+mod searching;
+
+pub use finder::Finder;
+pub use output::{Output, Unwritten};
+pub use searching::{SearchError, search};

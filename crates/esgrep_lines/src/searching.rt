@@ -1,0 +1,306 @@
+//! A search of one text.
+ghost use Rattle.std.specs.Prelude.{◌≡◌, ◌≢◌, ◌≤◌, ◌<◌, ◌^◌, ◌++◌, ◌∷◌, ◌&&◌, ◌-◌, ◌+◌, ◌↔◌, ℕ, List, Option, [], true, false, nat_lt, length, vec_len, IfOk, OnOk, IsErrOf, IsOkUnless, string_bytes, if◌then◌else◌};
+ghost use Rattle.std.specs.Io.KnownBytes.{Appends, append_known};
+ghost use Rattle.esgrep_rows.specs.Lines as line_words;
+ghost use Rattle.esgrep_rows.specs.Lines.{byte_of, lines};
+ghost use Rattle.esgrep_rows.specs.Found.{Find};
+ghost use Rattle.esgrep_rows.specs.Rows as row_words;
+ghost use Rattle.esgrep_rows.specs.Rows.{selected_row, selected_lines, found_at_line};
+ghost use Rattle.esgrep_rows.specs.Views.{template_text};
+ghost use Rattle.esgrep_rows.specs.Values.{line_of, progress_of};
+ghost use Rattle.esgrep_lines.specs.Output.{output_of, summary, summary_of, all_rows, told_count, count_of, needed, count_from};
+ghost use Rattle.esgrep_lines.specs.Putting.{has_failed, written, put_out, AppendsFront, IsBeginning};
+
+use crate::finder::Finder;
+use crate::output::{Output, Unwritten};
+use esgrep_rows::{Line, Mode, Options, Progress, Rows, Shown, body_of, first_line};
+use regress_front_core::Error;
+use regress_match::Match;
+use std::alloc::{AllocError, Global};
+use std::io::Write;
+use std::{error, fmt};
+
+/// Why a search ends without its whole output.
+#[derive(Clone, Copy, Debug, PartialEq, Eq)]
+pub enum SearchError {
+    /// Writing the output failed.
+    Write,
+    /// A request for memory was refused.
+    OutOfMemory,
+}
+
+impl fmt::Display for SearchError {
+    fn fmt<W: fmt::Write>(&self, f: &mut fmt::Formatter<W>) -> fmt::Result {
+        match self {
+            SearchError::Write => f.write_str("write failed"),
+            SearchError::OutOfMemory => f.write_str("out of memory"),
+        }
+    }
+}
+
+impl error::Error for SearchError {}
+
+impl From<Error> for SearchError {
+    ghost use Rattle.esgrep_lines.specs.declared.searching.SearchError.TheVariants.{OutOfMemory};
+
+    ghost from_gives = { λ _ e. e ≡ OutOfMemory };
+
+    fn from(_refused: Error) -> SearchError {
+        SearchError::OutOfMemory
+    }
+}
+
+impl From<AllocError> for SearchError {
+    ghost use Rattle.esgrep_lines.specs.declared.searching.SearchError.TheVariants.{OutOfMemory};
+
+    ghost from_gives = { λ _ e. e ≡ OutOfMemory };
+
+    fn from(_refused: AllocError) -> SearchError {
+        SearchError::OutOfMemory
+    }
+}
+
+impl From<Unwritten> for SearchError {
+    ghost use Rattle.esgrep_lines.specs.declared.searching.SearchError.TheVariants.{Write};
+
+    ghost from_gives = { λ _ e. e ≡ Write };
+
+    fn from(_failed: Unwritten) -> SearchError {
+        SearchError::Write
+    }
+}
+
+/// Searches a text, puts out what the options say, and answers how many lines are selected; where only that there is one matters,
+/// at most one.
+///
+/// Asks that no write has failed. Errs where one fails, and where memory is refused; then a beginning of this was put out.
+///
+/// ```rust
+/// let count = search(alloc, &patterns, &Shown::itself(), &options, "notes.txt", text, &mut output)?;
+/// ```
+pub fn search<F: Finder, W: Write + Drop>(
+    alloc: Global,
+    finder: &F,
+    shown: &Shown<'_>,
+    options: &Options,
+    name: &str,
+    text: &str,
+    output: &mut Output<W>,
+) -> Result<usize, SearchError>
+    requires { has_failed output.old ≡ false }
+    ensures put { (find : Find) → F.finds finder.now (template_text shown.now) find →
+        OnOk result (Appends (put_out W.contents output.old) (put_out W.contents output.new) (output_of options.now options.now.mode find name.now text.now)) }
+    ensures count { (find : Find) → F.finds finder.now (template_text shown.now) find →
+        IfOk result (λ count. count ≡ count_of options.now find text.now) }
+    ensures refused { (find : Find) → F.finds finder.now (template_text shown.now) find → IsErrOf result SearchError.OutOfMemory →
+        AppendsFront (put_out W.contents output.old) (put_out W.contents output.new) (output_of options.now options.now.mode find name.now text.now) }
+    ensures unwritten { (find : Find) → F.finds finder.now (template_text shown.now) find → IsErrOf result SearchError.Write →
+        IsBeginning (written W.contents output.new) (append_known (put_out W.contents output.old) (output_of options.now options.now.mode find name.now text.now)) }
+    ensures failure { (has_failed output.new ≡ true) ↔ IsErrOf result SearchError.Write }
+{
+    let rows = Rows {
+        options: *options,
+        name,
+    };
+    match options.mode {
+        Mode::Lines | Mode::Matches => put_rows(alloc, finder, shown, rows, text, output),
+        _ => put_summary(alloc, finder, rows, text, output),
+    }
+}
+
+/// Whether the line that begins at `start` is selected.
+fn is_selected<F: Finder>(
+    finder: &F,
+    options: &Options,
+    start: usize,
+    line: &str,
+) -> Result<bool, Error>
+    ensures { (template : Option (List ℕ)) → (find : Find) → F.finds finder.now template find →
+        IfOk result (λ selected. selected ≡ row_words.is_selected options.now find start line.now) }
+{
+    let is_match = finder.is_match(start, body_of(line, options.ending))?;
+    Ok(is_match != options.invert)
+}
+
+/// How many lines of a text are selected, counted up to `most`.
+fn count_selected<F: Finder>(
+    finder: &F,
+    options: &Options,
+    text: &str,
+    most: usize,
+) -> Result<usize, Error>
+    ensures { (template : Option (List ℕ)) → (find : Find) → F.finds finder.now template find →
+        IfOk result (λ count. count ≡ count_from options.now find most 0 (lines (byte_of options.now.ending) text.now)) }
+{
+    let mut count = 0;
+    let mut start = 0;
+    let mut rest = text;
+    while count < most && !rest.is_empty() {
+        let (line, behind) = first_line(rest, options.ending);
+        let selected = is_selected(finder, options, start, line)?;
+        count += usize::from(selected);
+        start += line.len();
+        rest = behind;
+    }
+    Ok(count)
+}
+
+/// Appends what is put out where so many lines are selected and none is shown.
+fn push_summary(row: &mut String, rows: Rows<'_>, count: usize) -> Result<(), AllocError>
+    ensures { OnOk result (string_bytes row.new ≡ string_bytes row.old ++ summary rows.entry.options rows.entry.name.now rows.entry.options.mode count) }
+{
+    match rows.options.mode {
+        Mode::Count => rows.push_count(row, count),
+        Mode::WithMatch if count > 0 => rows.push_name_row(row),
+        Mode::WithoutMatch if count == 0 => rows.push_name_row(row),
+        _ => Ok(()),
+    }
+}
+
+/// How many lines are counted at most: where only that there is one matters, one.
+fn needed(options: &Options) -> usize
+    ensures { result ≡ needed options.now.mode options.now.most }
+{
+    match options.mode {
+        Mode::Lines | Mode::Matches | Mode::Count => options.most,
+        Mode::WithMatch | Mode::WithoutMatch | Mode::Quiet => options.most.min(1),
+    }
+}
+
+/// Puts out how many lines of a text are selected, or its name where some or none are, and answers how many.
+fn put_summary<F: Finder, W: Write + Drop>(
+    alloc: Global,
+    finder: &F,
+    rows: Rows<'_>,
+    text: &str,
+    output: &mut Output<W>,
+) -> Result<usize, SearchError>
+    requires { has_failed output.old ≡ false }
+    ensures put { (template : Option (List ℕ)) → (find : Find) → F.finds finder.now template find →
+        OnOk result (Appends (put_out W.contents output.old) (put_out W.contents output.new) (summary_of rows.entry.options find rows.entry.name.now text.now)) }
+    ensures count { (template : Option (List ℕ)) → (find : Find) → F.finds finder.now template find →
+        IfOk result (λ count. count ≡ count_of rows.entry.options find text.now) }
+    ensures refused { IsErrOf result SearchError.OutOfMemory → output.new ≡ output.old }
+    ensures unwritten { (template : Option (List ℕ)) → (find : Find) → F.finds finder.now template find → IsErrOf result SearchError.Write →
+        IsBeginning (written W.contents output.new) (append_known (put_out W.contents output.old) (summary_of rows.entry.options find rows.entry.name.now text.now)) }
+    ensures failure { (has_failed output.new ≡ true) ↔ IsErrOf result SearchError.Write }
+{
+    let count = count_selected(finder, &rows.options, text, needed(&rows.options))?;
+    let mut row = String::new(alloc);
+    push_summary(&mut row, rows, count)?;
+    output.put(row.as_bytes())?;
+    Ok(count)
+}
+
+/// Appends what is put out for a selected line.
+fn push_selected<F: Finder>(
+    finder: &F,
+    shown: &Shown<'_>,
+    rows: Rows<'_>,
+    row: &mut String,
+    line: Line<'_>,
+    founds: &mut Vec<Match>,
+) -> Result<(), Error>
+    requires { line.start + length line.text.now < 2 ^ 64 }
+    ensures { (find : Find) → F.finds finder.now (template_text shown.now) find →
+        OnOk result (string_bytes row.new ≡ string_bytes row.old
+        ++ selected_row rows.entry.options rows.entry.name.now (line_of line.entry) (found_at_line rows.entry.options find line.entry.start line.entry.text.now)) }
+{
+    if !rows.options.mode.puts_matches() && !rows.options.rewrites {
+        rows.push_line(row, line)?;
+        return Ok(());
+    }
+    let body = body_of(line.text, rows.options.ending);
+    finder.find_into(line.start, body, founds)?;
+    rows.push_selected(row, shown, line, founds)
+}
+
+/// Appends what is put out for a line, and goes on to the next. Answers whether it is selected, where it may be.
+fn push_step<'t, F: Finder>(
+    finder: &F,
+    shown: &Shown<'_>,
+    rows: Rows<'_>,
+    may_select: bool,
+    row: &mut String,
+    line: Line<'t>,
+    progress: &mut Progress<'t>,
+    founds: &mut Vec<Match>,
+) -> Result<bool, Error>
+    requires fits { line.start + length line.text.now < 2 ^ 64 }
+    requires few { vec_len progress.old.held ≤ rows.options.before }
+    ensures few { OnOk result (vec_len progress.new.held ≤ rows.entry.options.before) }
+    ensures selected { (find : Find) → F.finds finder.now (template_text shown.now) find →
+        IfOk result (λ selected. selected ≡ (may_select && row_words.is_selected rows.entry.options find line.entry.start line.entry.text.now)) }
+    ensures pushed { (find : Find) → F.finds finder.now (template_text shown.now) find → (most : ℕ) → (more : List line_words.Line) → nat_lt 0 most ≡ may_select →
+        IfOk result (λ selected. string_bytes row.new ++ row_words.rows rows.entry.options find rows.entry.name.now (if selected then most - 1 else most) (progress_of progress.new) more
+        ≡ string_bytes row.old ++ row_words.rows rows.entry.options find rows.entry.name.now most (progress_of progress.old) (line_of line.entry ∷ more)) }
+{
+    let options = &rows.options;
+    if may_select && is_selected(finder, options, line.start, line.text)? {
+        rows.push_before(row, progress)?;
+        push_selected(finder, shown, rows, row, line, founds)?;
+        progress.follow(options.after);
+        return Ok(true);
+    }
+    if progress.behind > 0 {
+        rows.push_near(row, line)?;
+        progress.follow(progress.behind - 1);
+    } else {
+        progress.hold(line, options.before)?;
+    }
+    Ok(false)
+}
+
+/// Puts out the rows of a text, and answers how many lines are selected.
+fn put_rows<F: Finder, W: Write + Drop>(
+    alloc: Global,
+    finder: &F,
+    shown: &Shown<'_>,
+    rows: Rows<'_>,
+    text: &str,
+    output: &mut Output<W>,
+) -> Result<usize, SearchError>
+    requires { has_failed output.old ≡ false }
+    ensures put { (find : Find) → F.finds finder.now (template_text shown.now) find →
+        OnOk result (Appends (put_out W.contents output.old) (put_out W.contents output.new) (all_rows rows.entry.options find rows.entry.name.now text.now)) }
+    ensures count { (find : Find) → F.finds finder.now (template_text shown.now) find →
+        IfOk result (λ count. count ≡ length (selected_lines rows.entry.options find text.now)) }
+    ensures refused { (find : Find) → F.finds finder.now (template_text shown.now) find → IsErrOf result SearchError.OutOfMemory →
+        AppendsFront (put_out W.contents output.old) (put_out W.contents output.new) (all_rows rows.entry.options find rows.entry.name.now text.now) }
+    ensures unwritten { (find : Find) → F.finds finder.now (template_text shown.now) find → IsErrOf result SearchError.Write →
+        IsBeginning (written W.contents output.new) (append_known (put_out W.contents output.old) (all_rows rows.entry.options find rows.entry.name.now text.now)) }
+    ensures failure { (has_failed output.new ≡ true) ↔ IsErrOf result SearchError.Write }
+{
+    let mut row = String::new(alloc);
+    let mut founds = Vec::new(alloc);
+    let mut progress = Progress::new(alloc);
+    let mut count = 0;
+    let mut number = 1;
+    let mut start = 0;
+    let mut rest = text;
+    while !rest.is_empty() && (count < rows.options.most || progress.behind > 0) {
+        let (first, behind) = first_line(rest, rows.options.ending);
+        let line = Line {
+            number,
+            start,
+            text: first,
+        };
+        row.clear();
+        let selected = push_step(
+            finder,
+            shown,
+            rows,
+            count < rows.options.most,
+            &mut row,
+            line,
+            &mut progress,
+            &mut founds,
+        )?;
+        output.put(row.as_bytes())?;
+        count += usize::from(selected);
+        number += 1;
+        start += first.len();
+        rest = behind;
+    }
+    Ok(count)
+}

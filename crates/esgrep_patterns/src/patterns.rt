@@ -1,0 +1,157 @@
+//! The patterns that are searched for.
+ghost use Rattle.std.specs.Prelude.{◌≡◌, ◌≤◌, ◌<◌, ◌+◌, ℕ, List, Option, [], length, map, IfOk, IfSome, OnOk, IsOkUnless};
+ghost use Rattle.regress_meaning.specs.Table.{Table};
+ghost use Rattle.regress_meaning.specs.Pattern.{Pattern};
+ghost use Rattle.regress_meaning.specs.Flags.{Options};
+ghost use Rattle.regress_match.specs.TextRanges.{LiesInText};
+ghost use Rattle.regress.specs.Standing.{StandsFor, names_of_regex};
+ghost use Rattle.regress.specs.Coming.{IsStart};
+ghost use Rattle.esgrep_rows.specs.Found.{found_of, LieInOrder};
+ghost use Rattle.esgrep_patterns.specs.Seeking.{found_in, regexes_of, BeginsInText};
+
+use esgrep_lines::Finder;
+use regress::{Error, Match, Regex, is_start};
+
+/// Patterns, each searched for alone: what they find of one is its matches, of several from each place on the leftmost.
+#[derive(Drop)]
+pub struct Patterns {
+    regexes: Vec<Regex>,
+}
+
+impl Patterns {
+    /// Patterns of these regexes.
+    ///
+    /// ```rust
+    /// let patterns = Patterns::new(vec![in alloc; regex]?);
+    /// ```
+    pub fn new(regexes: Vec<Regex>) -> Patterns
+        ensures { regexes_of result ≡ regexes.items }
+    {
+        Patterns { regexes }
+    }
+
+    /// Appends all matches of several patterns: from each place on the leftmost.
+    fn find_several_into(&self, text: &str, founds: &mut Vec<Match>) -> Result<(), Error>
+        requires { founds.old.items ≡ [] }
+        ensures order { OnOk result (LieInOrder text.now 0 founds.new.items) }
+        ensures refused { IsOkUnless result Error.OutOfMemory }
+    {
+        let mut start = 0;
+        while start <= text.len() {
+            let Some(found) = self.leftmost(text, start)? else {
+                break;
+            };
+            start = behind(text, &found);
+            founds.push(found)?;
+        }
+        Ok(())
+    }
+
+    /// Of the first match of each pattern from `start` on the leftmost, and of those that begin there that of the first pattern.
+    fn leftmost(&self, text: &str, start: usize) -> Result<Option<Match>, Error>
+        requires { IsStart text.now start }
+        ensures inside { IfOk result (λ found. IfSome found (BeginsInText text.now start)) }
+        ensures refused { IsOkUnless result Error.OutOfMemory }
+    {
+        let mut leftmost = None;
+        for regex in &self.regexes {
+            leftmost = sooner(leftmost, first_from(regex, text, start)?);
+        }
+        Ok(leftmost)
+    }
+}
+
+impl Finder for Patterns {
+    ghost use Rattle.esgrep_patterns.specs.Seeking.{FindsOne};
+
+    ghost finds = { FindsOne };
+
+    fn is_match(&self, _start: usize, text: &str) -> Result<bool, Error> {
+        match self.regexes.as_slice() {
+            [regex] => regex.is_match(text),
+            regexes => is_any_match(regexes, text),
+        }
+    }
+
+    fn find_into(&self, _start: usize, text: &str, founds: &mut Vec<Match>) -> Result<(), Error> {
+        founds.clear();
+        match self.regexes.as_slice() {
+            [regex] => find_one_into(regex, text, founds),
+            _ => self.find_several_into(text, founds),
+        }
+    }
+}
+
+/// Whether there is a match of one of several patterns.
+fn is_any_match(regexes: &[Regex], text: &str) -> Result<bool, Error>
+    ensures { IsOkUnless result Error.OutOfMemory }
+{
+    for regex in regexes {
+        if regex.is_match(text)? {
+            return Ok(true);
+        }
+    }
+    Ok(false)
+}
+
+/// Appends all matches of a pattern.
+fn find_one_into(regex: &Regex, text: &str, founds: &mut Vec<Match>) -> Result<(), Error>
+    requires { founds.old.items ≡ [] }
+    ensures found { (t : Table) → (o : Options) → (p : Pattern) → StandsFor regex.now t o p → (template : Option (List ℕ)) →
+        OnOk result (map (found_of template text.now) founds.new.items ≡ found_in t o p template (names_of_regex regex.now) text.now) }
+    ensures order { OnOk result (LieInOrder text.now 0 founds.new.items) }
+    ensures refused { IsOkUnless result Error.OutOfMemory }
+{
+    for found in regex.find_iter(text)? {
+        let found = found?;
+        founds.push(found)?;
+    }
+    Ok(())
+}
+
+/// The first match of a pattern from `start` on.
+fn first_from(regex: &Regex, text: &str, start: usize) -> Result<Option<Match>, Error>
+    requires { IsStart text.now start }
+    ensures inside { IfOk result (λ found. IfSome found (BeginsInText text.now start)) }
+    ensures refused { IsOkUnless result Error.OutOfMemory }
+{
+    match regex.find_from(text, start)?.next().transpose()? {
+        Some(found) if found.start() >= start => Ok(Some(found)),
+        _ => Ok(None),
+    }
+}
+
+/// The one of two matches that begins first; the first of them where both begin at one place.
+fn sooner(first: Option<Match>, second: Option<Match>) -> Option<Match>
+    ensures { (text : List ℕ) → (start : ℕ) → IfSome first (BeginsInText text start) → IfSome second (BeginsInText text start)
+        → IfSome result (BeginsInText text start) }
+{
+    match (first, second) {
+        (Some(first), Some(second)) => {
+            if second.start() < first.start() {
+                Some(second)
+            } else {
+                Some(first)
+            }
+        }
+        (None, second) => second,
+        (first, None) => first,
+    }
+}
+
+/// Where a search goes on behind a match: at its end, or a character later where it is empty.
+fn behind(text: &str, found: &Match) -> usize
+    requires { LiesInText text.now found.now }
+    ensures later { found.now.range.start < result }
+    ensures after { found.now.range.end ≤ result }
+    ensures start { result ≤ length text.now → IsStart text.now result }
+{
+    if found.start() < found.end() {
+        return found.end();
+    }
+    let mut next = found.end() + 1;
+    while next <= text.len() && !is_start(text, next) {
+        next += 1;
+    }
+    next
+}

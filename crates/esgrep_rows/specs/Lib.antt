@@ -1,0 +1,5 @@
+pub mod Lines
+pub mod Found
+pub mod Rows
+pub mod Views
+pub mod Values
