@@ -298,8 +298,8 @@ fn why_refused(
 
 /// A pattern for a text as it is written.
 fn escaped(alloc: Global, text: &str) -> Result<String, Error>
-    ensures finds { IfOk result (λ s. (t : Table) → (p : Pattern) → Spells t no_flags (chars (string_bytes s)) p →
-        (points : List ℕ) → (place : ℕ) → match_list t no_flags p points place ≡ occurrences (chars text.now) points place) }
+    ensures finds { IfOk result (λ s. (t : Table) → (o : Options) → (p : Pattern) → Spells t o (chars (string_bytes s)) p →
+        (points : List ℕ) → (place : ℕ) → match_list t o p points place ≡ occurrences t o (chars text.now) points place) }
 {
     escape(alloc, text)
 }

@@ -2,7 +2,7 @@
 ghost use Rattle.std.specs.Prelude.{◌≡◌, ◌≢◌, ℕ, Bool, List, All, take, map, chars, codes, slice_range};
 ghost use Rattle.regress_meaning.specs.Table.{Table};
 ghost use Rattle.regress_meaning.specs.Pattern.{Pattern};
-ghost use Rattle.regress_meaning.specs.Flags.{Options, no_flags};
+ghost use Rattle.regress_meaning.specs.Flags.{Options};
 ghost use Rattle.regress_meaning.specs.Grammar.{Spells};
 ghost use Rattle.regress_meaning.specs.Matches.{Item, match_list};
 ghost use Rattle.regress_meaning.specs.Literal.{literal_pattern, occurrences};
@@ -25,11 +25,11 @@ pub fn whole_matches_give_the_text_back()
 }
 
 /// The text with each match of an escaped text replaced by a text without `$` is the text with that in the place of each
-/// occurrence.
+/// occurrence, whatever the flags.
 pub fn escaped_texts_are_replaced_where_they_occur()
-    ensures { (t : Table) → (names : List (List ℕ)) → (literal : List ℕ) → (replacement : List ℕ) → (text : List ℕ) → All (λ b. b ≢ 0x24) replacement →
-        let items = map (told (of_utf8 text)) (match_list t no_flags (literal_pattern literal) (chars text) 0) in
-        let places = map (told (of_utf8 text)) (occurrences literal (chars text) 0) in
+    ensures { (t : Table) → (o : Options) → (names : List (List ℕ)) → (literal : List ℕ) → (replacement : List ℕ) → (text : List ℕ) → All (λ b. b ≢ 0x24) replacement →
+        let items = map (told (of_utf8 text)) (match_list t o (literal_pattern literal) (chars text) 0) in
+        let places = map (told (of_utf8 text)) (occurrences t o literal (chars text) 0) in
         replaced text items (map (expansion names replacement text) items) ≡ replaced text places (map (λ _. replacement) places) }
 {
     regress_meaning::literals_match_their_occurrences();

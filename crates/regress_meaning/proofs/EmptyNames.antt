@@ -1,7 +1,7 @@
 -- No group in a spelled tree has the empty text for its name.
-use Rattle.std.proofs.Common.{◌≡◌, ℕ, List, [], ◌∷◌, length}
+use Rattle.std.proofs.Common.{ℕ, List, [], length}
 use Rattle.std.specs.Prelude.{◌≢◌}
-use Rattle.regress_meaning.proofs.Inversion.{Gives, gives-some, gives-guard, gives-map, gives-then, gives-any}
+use Rattle.regress_meaning.proofs.Inversion.{Gives, gives-guard, gives-map, gives-then, gives-any}
 use Rattle.regress_meaning.specs.Table.{Table}
 use Rattle.regress_meaning.specs.Pattern.{Pattern}
 use Rattle.regress_meaning.specs.Flags.{Options}

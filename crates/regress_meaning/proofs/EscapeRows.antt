@@ -5,7 +5,7 @@ use Rattle.regress_meaning.specs.Class.{digits, spaces, words, property, sequenc
 use Rattle.regress_meaning.specs.Table.{Table}
 use Rattle.regress_meaning.specs.TableParts.{table_of, small_parts}
 use Rattle.regress_meaning.specs.Flags.{options_of, settings_of}
-use Rattle.regress_meaning.specs.Pattern.{nothing, character, class, class_escape, capture, grouped, atomic, modified, repeated, look, reference}
+use Rattle.regress_meaning.specs.Pattern.{nothing, character, class, class_escape, capture, grouped, modified, repeated, look, reference}
 use Rattle.regress_meaning.specs.Reading.{read_pattern}
 use Rattle.regress_meaning.proofs.Rows.{terms, letter, letters, group, star, plus, maybe}
 use Rattle.regress_meaning.proofs.ReadingRows.{reading, read, Reads, PlainReads, UnicodeReads, AlwaysReads, alone, named, points}

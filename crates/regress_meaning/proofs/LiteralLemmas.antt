@@ -1,5 +1,5 @@
 -- An escaped text spells its characters, and these match just where the text stands.
-use Rattle.std.proofs.Common.{◌≡◌, ℕ, suc, ◌+◌, ◌-◌, ◌≤◌, ◌<◌, Bool, true, false, not, ◌&&◌, ◌||◌, ◌==◌, nat_eq, ◌⊎◌, inl, inr, get_or, append-nil, List, [], ◌∷◌, length, drop, Option, Some, None, if◌then◌else◌, codes, refl, sym, ap, ◌∙◌, arith, eqb-true, subst}
+use Rattle.std.proofs.Common.{◌≡◌, ℕ, suc, ◌+◌, ◌-◌, ◌≤◌, ◌<◌, Bool, true, false, not, ◌&&◌, ◌||◌, ◌==◌, ◌⊎◌, inl, inr, get_or, append-nil, List, [], ◌∷◌, length, drop, Option, Some, None, if◌then◌else◌, codes, refl, sym, ap, ◌∙◌, arith, eqb-true, subst}
 use Rattle.std.specs.List.{starts_with, list_all, flat_map}
 use Rattle.std.proofs.lemmas.Bool.{and_parts, le-leb, lt-leb, cases_lt}
 use Rattle.std.proofs.Math.Seq.{drop-cons}
@@ -7,7 +7,7 @@ use Rattle.std.proofs.Math.ListN.{drop_of_length-le}
 use Rattle.regress_meaning.specs.Text.{holds, ◌∈◌}
 use Rattle.regress_meaning.specs.Table.{Table}
 use Rattle.regress_meaning.specs.Pattern.{Settings, names_of, character}
-use Rattle.regress_meaning.specs.Flags.{no_flags, first_settings}
+use Rattle.regress_meaning.specs.Flags.{Options, is_unicode, first_settings}
 use Rattle.regress_meaning.specs.Tokens.{Mode, bounds_at, escape_at, point}
 use Rattle.regress_meaning.specs.Grammar.{Disjunction, one, Alternative, done, next, Term, once, plain, escape, mode_of, names_apart, is_pattern_character, Spells}
 use Rattle.regress_meaning.specs.Limits.{WithinLimits, depth, quantifiers}
@@ -62,18 +62,30 @@ unfolding literal_pattern
 names-literal [] = refl
 names-literal (c ∷ cs) = names-literal cs
 
-module _ (m : Mode) (plain_mode : m.unicode ≡ false) where
+module _ (m : Mode) where
   -- a syntax character behind a backslash is itself
   escape-syntax : (c : ℕ) (t : List ℕ) → is_syntax_character c ≡ true → (escape_at m (c ∷ t) ≡ Some (point c, t)) × ((c ∈ "bB") ≡ false)
   unfolding escape_at
-  escape-syntax c t e =
-      let P : ℕ → Type 0 = λ d. (escape_at m (d ∷ t) ≡ Some (point d, t)) × ((d ∈ "bB") ≡ false) in
-      each-member P c (codes "^$\\.*+?()[]{}|") e
-      ((rw plain_mode refl, refl), ((rw plain_mode refl, refl), ((rw plain_mode refl, refl), ((rw plain_mode refl, refl), ((rw plain_mode refl, refl), ((rw plain_mode refl, refl), ((rw plain_mode refl, refl), ((rw plain_mode refl, refl), ((rw plain_mode refl, refl), ((rw plain_mode refl, refl), ((rw plain_mode refl, refl), ((rw plain_mode refl, refl), ((rw plain_mode refl, refl), ((rw plain_mode refl, refl), tt))))))))))))))
+  escape-syntax c t e = go m.unicode refl
+    where
+      P : ℕ → Type 0
+      P d = (escape_at m (d ∷ t) ≡ Some (point d, t)) × ((d ∈ "bB") ≡ false)
+
+      go : (u : Bool) → m.unicode ≡ u → P c
+      go true mode =
+          each-member P c (codes "^$\\.*+?()[]{}|") e
+          ((rw mode refl, refl), ((rw mode refl, refl), ((rw mode refl, refl), ((rw mode refl, refl), ((rw mode refl, refl), ((rw mode refl, refl), ((rw mode refl, refl), ((rw mode refl, refl), ((rw mode refl, refl), ((rw mode refl, refl), ((rw mode refl, refl), ((rw mode refl, refl), ((rw mode refl, refl), ((rw mode refl, refl), tt))))))))))))))
+      go false mode =
+          each-member P c (codes "^$\\.*+?()[]{}|") e
+          ((rw mode refl, refl), ((rw mode refl, refl), ((rw mode refl, refl), ((rw mode refl, refl), ((rw mode refl, refl), ((rw mode refl, refl), ((rw mode refl, refl), ((rw mode refl, refl), ((rw mode refl, refl), ((rw mode refl, refl), ((rw mode refl, refl), ((rw mode refl, refl), ((rw mode refl, refl), ((rw mode refl, refl), tt))))))))))))))
 
   -- any other character stands for itself
   itself : (c : ℕ) (t : List ℕ) → is_syntax_character c ≡ false → is_pattern_character m c t ≡ true
-  itself c t e = rw (plain_mode, not_among is_syntax_character c (codes "^$\\.*+?()[|{") e refl) refl
+  itself c t e = go m.unicode refl
+    where
+      go : (u : Bool) → m.unicode ≡ u → is_pattern_character m c t ≡ true
+      go true mode = rw (mode, e) refl
+      go false mode = rw (mode, not_among is_syntax_character c (codes "^$\\.*+?()[|{") e refl) refl
 
   term : (k c : ℕ) (cs : List ℕ) → Term m (escaped_text (c ∷ cs)) k (character c) k (escaped_text cs)
   unfolding escaped_text
@@ -105,10 +117,10 @@ unfolding literal_pattern
 quantifiers-literal [] = refl
 quantifiers-literal (c ∷ cs) = rw (quantifiers-literal cs) refl
 
-pub spells-literal : (table : Table) (cs : List ℕ) → Spells table no_flags (escaped_text cs) (literal_pattern cs)
-spells-literal table cs = record {
-  whole = subst (λ ns. Disjunction (mode_of table no_flags (escaped_text cs) ns) (escaped_text cs) 0 (literal_pattern cs) (length ns) []) (sym (names-literal cs))
-      (one (alternative _ refl 0 cs) refl);
+pub spells-literal : (table : Table) (o : Options) (cs : List ℕ) → Spells table o (escaped_text cs) (literal_pattern cs)
+spells-literal table o cs = record {
+  whole = subst (λ ns. Disjunction (mode_of table o (escaped_text cs) ns) (escaped_text cs) 0 (literal_pattern cs) (length ns) []) (sym (names-literal cs))
+      (one (alternative _ 0 cs) refl);
   apart = apart-literal cs;
 }
 
@@ -116,10 +128,6 @@ pub within-literal : (cs : List ℕ) → WithinLimits (literal_pattern cs)
 within-literal cs = record { deep = omega (arith, depth-literal cs); groups = rw (names-literal cs) (omega arith); loops = omega (arith, quantifiers-literal cs) }
 
 -- ---- the tree matches where the text stands
-
--- whether one text is the beginning of another
-abbrev begins : List ℕ → List ℕ → Bool
-begins text cs = starts_with nat_eq text cs
 
 -- the state at a place, where a test passes
 abbrev at_if : Bool → ℕ → List (Option (ℕ × ℕ)) → List State
@@ -140,11 +148,15 @@ module _ (context : Context) where
   unfolding step beside
   step-past test p groups h = rw (lt-leb (p + 1) (length context.text) (omega (arith, h))) refl
 
-  module _ (e : Settings) (regarded : e.icase ≡ false) where
+  module _ (e : Settings) where
+    -- a character of the literal and one of the text are the same, under the settings
+    abbrev alike : ℕ → ℕ → Bool
+    alike = same context.table context.unicode e.icase
+
     -- from a place of the text the characters lead to the place behind them, where they stand there, and to no other
     outcomes-literal : (cs : List ℕ) (p : ℕ) (groups : List (Option (ℕ × ℕ))) → p ≤ length context.text
         → outcomes context (literal_pattern cs) Forward e (record { place = p; groups = groups })
-        ≡ at_if (begins (drop p context.text) cs) (p + length cs) groups
+        ≡ at_if (starts_with alike (drop p context.text) cs) (p + length cs) groups
     unfolding literal_pattern outcomes
     outcomes-literal [] p groups within = let same : p ≡ p + 0 = omega arith in ap (λ q. at_if true q groups) same
     outcomes-literal (c ∷ cs) p groups within = go (cases_lt p (length context.text)) (λ h. outcomes-literal cs (p + 1) groups h)
@@ -153,41 +165,40 @@ module _ (context : Context) where
         rest = outcomes context (literal_pattern cs) Forward e
 
         goal : Type 0
-        goal = then_go (λ s. step context Forward 1 (list_all (same context.table context.unicode e.icase c)) s) rest (record { place = p; groups = groups })
-            ≡ at_if (begins (drop p context.text) (c ∷ cs)) (p + suc (length cs)) groups
+        goal = then_go (λ s. step context Forward 1 (list_all (alike c)) s) rest (record { place = p; groups = groups })
+            ≡ at_if (starts_with alike (drop p context.text) (c ∷ cs)) (p + suc (length cs)) groups
 
         -- the rest is tried where the first character stands
-        taken : (b : Bool) → rest (record { place = p + 1; groups = groups }) ≡ at_if (begins (drop (p + 1) context.text) cs) (p + 1 + length cs) groups
-            → flat_map rest (at_if (b && true) (p + 1) groups) ≡ at_if (b && begins (drop (suc p) context.text) cs) (p + suc (length cs)) groups
+        taken : (b : Bool) → rest (record { place = p + 1; groups = groups }) ≡ at_if (starts_with alike (drop (p + 1) context.text) cs) (p + 1 + length cs) groups
+            → flat_map rest (at_if (b && true) (p + 1) groups) ≡ at_if (b && starts_with alike (drop (suc p) context.text) cs) (p + suc (length cs)) groups
         taken true h =
             let on : p + 1 + length cs ≡ p + suc (length cs) = omega arith in
             let behind : p + 1 ≡ suc p = omega arith in
-            append-nil (rest (record { place = p + 1; groups = groups })) ∙ h ∙ ap (λ q. at_if (begins (drop (p + 1) context.text) cs) q groups) on
-            ∙ ap (λ q. at_if (begins (drop q context.text) cs) (p + suc (length cs)) groups) behind
+            append-nil (rest (record { place = p + 1; groups = groups })) ∙ h
+            ∙ ap (λ q. at_if (starts_with alike (drop (p + 1) context.text) cs) q groups) on
+            ∙ ap (λ q. at_if (starts_with alike (drop q context.text) cs) (p + suc (length cs)) groups) behind
         taken false h = refl
 
         go : (p < length context.text) ⊎ (length context.text ≤ p)
-            → (p + 1 ≤ length context.text → rest (record { place = p + 1; groups = groups }) ≡ at_if (begins (drop (p + 1) context.text) cs) (p + 1 + length cs) groups)
+            → (p + 1 ≤ length context.text → rest (record { place = p + 1; groups = groups }) ≡ at_if (starts_with alike (drop (p + 1) context.text) cs) (p + 1 + length cs) groups)
             → goal
         go (inl h) later =
-            let x : ℕ = get_or context.text p 0 in
-            let regards : same context.table context.unicode e.icase c x ≡ (c == x) = ap (λ i. same context.table context.unicode i c x) regarded in
-            rw (step-there (same context.table context.unicode e.icase c) p groups h, regards, drop-cons context.text p 0 h)
-            (taken (c == x) (later (omega (arith, h))))
-        go (inr h) later = rw (step-past (same context.table context.unicode e.icase c) p groups h, drop_of_length-le context.text h) refl
+            rw (step-there (alike c) p groups h, drop-cons context.text p 0 h)
+            (taken (alike c (get_or context.text p 0)) (later (omega (arith, h))))
+        go (inr h) later = rw (step-past (alike c) p groups h, drop_of_length-le context.text h) refl
 
 -- At each place of the text the pattern finds what the literal does.
-attempt-literal : (table : Table) (cs text : List ℕ) (q : ℕ) → q ≤ length text → attempt table no_flags (literal_pattern cs) text q ≡ occurrence_at cs text q
-unfolding attempt
-attempt-literal table cs text q within =
-    rw (names-literal cs, outcomes-literal (record { text = text; table = table; unicode = false }) (first_settings no_flags) refl cs q [] within, le-leb q (length text) within)
-    (told (begins (drop q text) cs))
-  where
-    told : (b : Bool) → item_at q (at_if b (q + length cs) []) ≡ (if b then Some (record { start = q; end = q + length cs; groups = [] }) else None)
-    told true = refl
-    told false = refl
+module _ (table : Table) (o : Options) (cs text : List ℕ) where
+  attempt-literal : (q : ℕ) → q ≤ length text → attempt table o (literal_pattern cs) text q ≡ occurrence_at table o cs text q
+  unfolding attempt
+  attempt-literal q within =
+      rw (names-literal cs, outcomes-literal (record { text = text; table = table; unicode = is_unicode o }) (first_settings o) cs q [] within, le-leb q (length text) within)
+      (told (starts_with (same table (is_unicode o) o.icase) (drop q text) cs))
+    where
+      told : (b : Bool) → item_at q (at_if b (q + length cs) []) ≡ (if b then Some (record { start = q; end = q + length cs; groups = [] }) else None)
+      told true = refl
+      told false = refl
 
-pub literal-matches : (table : Table) (cs text : List ℕ) (place : ℕ) → match_list table no_flags (literal_pattern cs) text place ≡ occurrences cs text place
-unfolding match_list occurrences
-literal-matches table cs text place =
-    all_found-same (attempt table no_flags (literal_pattern cs) text) (occurrence_at cs text) (length text) (attempt-literal table cs text) place
+  pub literal-matches : (place : ℕ) → match_list table o (literal_pattern cs) text place ≡ occurrences table o cs text place
+  unfolding match_list occurrences
+  literal-matches place = all_found-same (attempt table o (literal_pattern cs) text) (occurrence_at table o cs text) (length text) attempt-literal place

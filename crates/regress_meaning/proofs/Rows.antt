@@ -493,12 +493,17 @@ an_intersection_holds_what_both_hold = refl
 -- ---- literals and lines
 
 -- the literal a.b in a.b axb a.b
-a_literal_is_found_as_it_stands : occurrences (codes "a.b") (codes "a.b axb a.b") 0 ≡ item 0 3 [] ∷ item 8 11 [] ∷ []
+a_literal_is_found_as_it_stands : occurrences small off (codes "a.b") (codes "a.b axb a.b") 0 ≡ item 0 3 [] ∷ item 8 11 [] ∷ []
 unfolding computation
 a_literal_is_found_as_it_stands = refl
 
+-- the same where case is ignored
+a_literal_is_found_in_either_case : occurrences small (options_of (codes "i")) (codes "a.B") (codes "A.b axb a.B") 0 ≡ item 0 3 [] ∷ item 8 11 [] ∷ []
+unfolding computation
+a_literal_is_found_in_either_case = refl
+
 -- the empty literal in é
-the_empty_literal_is_found_at_each_place : occurrences [] (0xE9 ∷ []) 0 ≡ item 0 0 [] ∷ item 1 1 [] ∷ []
+the_empty_literal_is_found_at_each_place : occurrences small off [] (0xE9 ∷ []) 0 ≡ item 0 0 [] ∷ item 1 1 [] ∷ []
 unfolding computation
 the_empty_literal_is_found_at_each_place = refl
 

@@ -158,15 +158,16 @@ pub fn whole_texts_are_spelled()
     ensures { (table : Table) → (o : Options) → (source : List ℕ) → (p : Pattern) → Spells table o source p → Spells table o (in_whole_text source) (whole_text p) }
 {}
 
-/// An escaped text spells the tree of its characters one after another, whatever the table, and that passes no limit.
+/// An escaped text spells the tree of its characters one after another, whatever the table and the flags, and that passes no limit.
 pub fn escaped_texts_spell_literals()
-    ensures spells { (table : Table) → (text : List ℕ) → Spells table no_flags (escaped_text text) (literal_pattern text) }
+    ensures spells { (table : Table) → (o : Options) → (text : List ℕ) → Spells table o (escaped_text text) (literal_pattern text) }
     ensures within { (text : List ℕ) → WithinLimits (literal_pattern text) }
 {}
 
 /// The tree of a literal's characters matches the occurrences of the literal, and nothing else.
 pub fn literals_match_their_occurrences()
-    ensures { (table : Table) → (literal : List ℕ) → (text : List ℕ) → (place : ℕ) → match_list table no_flags (literal_pattern literal) text place ≡ occurrences literal text place }
+    ensures { (table : Table) → (o : Options) → (literal : List ℕ) → (text : List ℕ) → (place : ℕ) →
+        match_list table o (literal_pattern literal) text place ≡ occurrences table o literal text place }
 {}
 
 /// Later places have greater offsets, in each of the four readings.

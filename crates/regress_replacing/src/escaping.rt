@@ -2,7 +2,7 @@
 ghost use Rattle.std.specs.Prelude.{◌≡◌, ℕ, List, [], ◌∷◌, ◌++◌, chars, encode_utf8_all, string_bytes, IfOk, OnOk, IsOkUnless};
 ghost use Rattle.regress_meaning.specs.Table.{Table};
 ghost use Rattle.regress_meaning.specs.Pattern.{Pattern};
-ghost use Rattle.regress_meaning.specs.Flags.{no_flags};
+ghost use Rattle.regress_meaning.specs.Flags.{Options};
 ghost use Rattle.regress_meaning.specs.Grammar.{Spells};
 ghost use Rattle.regress_meaning.specs.Limits.{WithinLimits};
 ghost use Rattle.regress_meaning.specs.Matches.{match_list};
@@ -35,18 +35,18 @@ fn push_escaped(escaped: &mut String, c: char) -> Result<(), AllocError>
 /// The pattern that stands for a text as it is written: a backslash before each of `\ ^ $ . | ? * + ( ) [ ] { }`, nothing else
 /// changed.
 ///
-/// Compiled without flags, with any tables, it is accepted where memory is found, and finds just the occurrences of the text.
-/// Errs with `OutOfMemory` alone.
+/// Compiled with any flags and any tables, it is accepted where memory is found, and finds just the occurrences of the text; where
+/// case is ignored these are the places where each character stands up to its case. Errs with `OutOfMemory` alone.
 ///
 /// ```rust
 /// let pattern = escape(alloc, "a.b")?; // `a\.b`
 /// ```
 pub fn escape(alloc: Global, text: &str) -> Result<String, Error>
     ensures escaped { IfOk result (λ s. string_bytes s ≡ encode_utf8_all (escaped_text (chars text.now))) }
-    ensures spells { IfOk result (λ s. (t : Table) → Spells t no_flags (chars (string_bytes s)) (literal_pattern (chars text.now))) }
+    ensures spells { IfOk result (λ s. (t : Table) → (o : Options) → Spells t o (chars (string_bytes s)) (literal_pattern (chars text.now))) }
     ensures within { IfOk result (λ _. WithinLimits (literal_pattern (chars text.now))) }
-    ensures finds { IfOk result (λ s. (t : Table) → (p : Pattern) → Spells t no_flags (chars (string_bytes s)) p →
-        (points : List ℕ) → (place : ℕ) → match_list t no_flags p points place ≡ occurrences (chars text.now) points place) }
+    ensures finds { IfOk result (λ s. (t : Table) → (o : Options) → (p : Pattern) → Spells t o (chars (string_bytes s)) p →
+        (points : List ℕ) → (place : ℕ) → match_list t o p points place ≡ occurrences t o (chars text.now) points place) }
     ensures refused { IsOkUnless result Error.OutOfMemory }
 {
     let mut escaped = String::with_capacity(alloc, text.len())?;

@@ -4,7 +4,7 @@ use Rattle.std.proofs.lemmas.Iterator.Consumers.{YieldsList-end}
 use Rattle.std.proofs.lemmas.Str.{encodes-append}
 use Rattle.std.specs.Str.{chars}
 use Rattle.regress_meaning.specs.Pattern.{Pattern}
-use Rattle.regress_meaning.specs.Flags.{no_flags}
+use Rattle.regress_meaning.specs.Flags.{Options}
 use Rattle.regress_meaning.specs.Grammar.{Spells}
 use Rattle.regress_meaning.specs.Matches.{match_list}
 use Rattle.regress_meaning.specs.Literal.{escaped_text, literal_pattern}
@@ -25,15 +25,15 @@ returns-clause-escaped c =
     c.loop-c.invariant ∙ ap (λ cs. encode_utf8_all (escaped_text cs)) (sym (map-id c.loop-c.yielded) ∙ done.0)
 
 pub returns-clause-spells : goal.returns-clause-spells
-returns-clause-spells c = λ t.
+returns-clause-spells c = λ t o.
     let points = chars c.args.text.now in
-    subst (λ (cs : List ℕ). Spells t no_flags cs (literal_pattern points))
-    (sym (ap chars (returns-clause-escaped c) ∙ escaped-read_back c.args.text.now c.utf8.text)) (c.escaped_texts_spell_literals.ensures.spells t points)
+    subst (λ (cs : List ℕ). Spells t o cs (literal_pattern points))
+    (sym (ap chars (returns-clause-escaped c) ∙ escaped-read_back c.args.text.now c.utf8.text)) (c.escaped_texts_spell_literals.ensures.spells t o points)
 
 pub returns-clause-within : goal.returns-clause-within
 returns-clause-within c = c.escaped_texts_spell_literals.ensures.within (chars c.args.text.now)
 
 pub returns-clause-finds : goal.returns-clause-finds
-returns-clause-finds c = λ t p spelled points place.
-    ap (λ (q : Pattern). match_list t no_flags q points place) (c.spells_one_tree.ensures t no_flags _ p _ spelled (returns-clause-spells c t))
-    ∙ c.literals_match_their_occurrences.ensures t (chars c.args.text.now) points place
+returns-clause-finds c = λ t o p spelled points place.
+    ap (λ (q : Pattern). match_list t o q points place) (c.spells_one_tree.ensures t o _ p _ spelled (returns-clause-spells c t o))
+    ∙ c.literals_match_their_occurrences.ensures t o (chars c.args.text.now) points place
