@@ -6,13 +6,16 @@
 
 static unsigned long passed, failed;
 
+/* What is tried, as a check that fails tells it. */
+static const char *trying = "";
+
 #define CHECK(fact) \
   do { \
     if (fact) { \
       passed++; \
     } else { \
       failed++; \
-      printf("%s:%d: not so: %s\n", __FILE__, __LINE__, #fact); \
+      printf("%s:%d: %s: not so: %s\n", __FILE__, __LINE__, trying, #fact); \
     } \
   } while (0)
 
