@@ -19,9 +19,12 @@ static const char *trying = "";
     } \
   } while (0)
 
-static inline int told(void) {
-  printf("%lu passed, %lu failed\n", passed, failed);
+static inline int told_of(const char *file) {
+  printf("%s:\n%lu passed, %lu failed\n", file, passed, failed);
   return failed == 0 ? 0 : 1;
 }
+
+/* Tells how many checks passed and failed, and answers the exit status. */
+#define told() told_of(__FILE__)
 
 #endif
