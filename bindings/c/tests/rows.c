@@ -258,7 +258,7 @@ static void try_match_row(regress_tables *tables, char **field, int count, int i
       else
         try_matches(&pattern, &text, start, expected, in_ucs2);
     }
-    if (!source.has_pair && !is_whole) {
+    if ((!source.has_pair || strpbrk(field[0], "uv") != NULL) && !is_whole) {
       code = regress_compile_units(source.units, source.count, field[0], tables, &pattern, &error);
       if (*expected == '!')
         try_refusal(expected, code, &error, source.count);
