@@ -51,6 +51,7 @@
  *   - a text is UTF-8 where a `_valid` call is given it, and ASCII where an `_ascii` call is;
  *   - no call is made from a signal handler, or in the forked child of a process with threads;
  *   - malloc, realloc and free are of one allocator.
+ * What of this a call rests on stands at the call again. That no other call has a handle is said of the time in which the call runs.
  *
  * THREADS. A handle may go from thread to thread, and is in one call at a time. To search with one compiled pattern in many
  * threads, give each a handle of its own by regress_share, and a search of that. Nothing is compiled again or copied.
