@@ -51,6 +51,7 @@
  *   - a text is UTF-8 where a `_valid` call is given it, and ASCII where an `_ascii` call is;
  *   - no call is made from a signal handler, or in the forked child of a process with threads;
  *   - malloc, realloc and free are of one allocator.
+ * What of this a call rests on stands at the call again. That no other call has a handle is said of the time in which the call runs.
  *
  * THREADS. A handle may go from thread to thread, and is in one call at a time. To search with one compiled pattern in many
  * threads, give each a handle of its own by regress_share, and a search of that. Nothing is compiled again or copied.
@@ -234,13 +235,14 @@ static inline uint8_t *regress_buffer_given(char *buffer, size_t room, char *non
  * Handles
  * ------------------------------------------------------------------------------------------------------------------------- */
 
-/* Frees what a handle holds, and leaves the handle empty. An empty handle and a null pointer are left as they are. */
+/* Frees what a handle holds, and leaves the handle empty. An empty handle and a null pointer are left as they are. The caller keeps:
+ * no other call has the handle. */
 static inline void regress_free(regress_handle *handle) {
   if (handle != NULL) regress_raw_free(handle);
 }
 
 /* Puts the same pattern, or the same tables, into `out` for one more owner, as for another thread. Nothing is copied. A search is
- * not shared: make one of each pattern. */
+ * not shared: make one of each pattern. The caller keeps: no other call has either handle. */
 static inline int32_t regress_share(regress_handle *handle, regress_handle *out) {
   if (handle == NULL || out == NULL) return REGRESS_NULL;
   if (handle == out) return REGRESS_SAME_HANDLE;
@@ -252,12 +254,13 @@ static inline int32_t regress_share(regress_handle *handle, regress_handle *out)
  * ------------------------------------------------------------------------------------------------------------------------- */
 
 /* Puts small tables into `out`, which know the case and the names of ASCII and of a few letters beyond it, and take little memory
- * and time. */
+ * and time. The caller keeps: no other call has the handle. */
 static inline int32_t regress_tables_small(regress_tables *out) {
   return out == NULL ? REGRESS_NULL : regress_raw_tables_small(out);
 }
 
-/* Puts the tables of all of Unicode into `out`. This takes some milliseconds and some megabytes: do it once, for all patterns. */
+/* Puts the tables of all of Unicode into `out`. This takes some milliseconds and some megabytes: do it once, for all patterns. The
+ * caller keeps: no other call has the handle. */
 static inline int32_t regress_tables_unicode(regress_tables *out) {
   return out == NULL ? REGRESS_NULL : regress_raw_tables_unicode(out);
 }
@@ -270,7 +273,9 @@ static inline int32_t regress_tables_unicode(regress_tables *out) {
  *
  * `flags` is a text of ECMAScript's letters that ends with a null byte, as "iu"; a null pointer is "". Of these, `d`, `g` and `y`
  * are taken and change nothing: which call is made says where a match may begin, and what is told of it. What is refused is told
- * in `error`, which may be null. */
+ * in `error`, which may be null.
+ *
+ * The caller keeps: `pattern` points to `length` bytes, `flags` ends with a null byte, and no other call has either handle. */
 static inline int32_t regress_compile(const char *pattern, size_t length, const char *flags, regress_tables *tables,
                                       regress_pattern *out, regress_error *error) {
   regress_error unread;
@@ -283,7 +288,7 @@ static inline int32_t regress_compile(const char *pattern, size_t length, const 
 
 /* The same of a pattern that is given in 16-bit units, as script interpreters have it. With `u` or `v` a high unit before a low
  * one is one character. Else each unit is one, except in the name of a group. So regress_find_utf16 finds what the standard finds
- * with those flags, and regress_find_ucs2 what it finds without. */
+ * with those flags, and regress_find_ucs2 what it finds without. The caller keeps: `pattern` points to `length` units. */
 static inline int32_t regress_compile_units(const uint16_t *pattern, size_t length, const char *flags, regress_tables *tables,
                                             regress_pattern *out, regress_error *error) {
   regress_error unread;
@@ -308,7 +313,8 @@ static inline int32_t regress_compile_whole(const char *pattern, size_t length, 
                                    error == NULL ? &unread : error);
 }
 
-/* Copies the text of an error's code to `buffer`, as `out of memory`. It goes as regress_pattern_text does. */
+/* Copies the text of an error's code to `buffer`, as `out of memory`. It goes as regress_pattern_text does. The caller keeps: `buffer`
+ * has room for `room` bytes. */
 static inline int32_t regress_error_text(int32_t code, char *buffer, size_t room, size_t *written) {
   char none;
   uint8_t *to = regress_buffer_given(buffer, room, &none);
@@ -320,20 +326,23 @@ static inline int32_t regress_error_text(int32_t code, char *buffer, size_t room
  *
  * `written` tells how many bytes it has. Where there is room for one more, a null byte stands behind them. Where there is less
  * room than the text takes, the buffer is left as it was, the answer is REGRESS_NO_ROOM, and `written` tells what is needed: so a
- * null pointer with no room asks for the length. All calls that copy a text go so. */
+ * null pointer with no room asks for the length. All calls that copy a text go so.
+ *
+ * The caller keeps: `buffer` has room for `room` bytes, none of which an argument lies in, and no other call has the handle. */
 static inline int32_t regress_pattern_text(regress_pattern *pattern, char *buffer, size_t room, size_t *written) {
   char none;
   uint8_t *to = regress_buffer_given(buffer, room, &none);
   return pattern == NULL || to == NULL || written == NULL ? REGRESS_NULL : regress_raw_pattern_text(pattern, to, room, written);
 }
 
-/* Answers how many capturing groups the pattern has. A match has one range more, that of the whole match. */
+/* Answers how many capturing groups the pattern has. A match has one range more, that of the whole match. The caller keeps: no other
+ * call has the handle. */
 static inline int32_t regress_group_count(regress_pattern *pattern) {
   return pattern == NULL ? REGRESS_NULL : regress_raw_group_count(pattern);
 }
 
-/* Copies the name of a capturing group by its number, of which 1 is the first, to `buffer`. A group without a name has an empty
- * one. */
+/* Copies the name of a capturing group by its number, of which 1 is the first, to `buffer`, as regress_pattern_text does. A group
+ * without a name has an empty one. The caller keeps what it keeps there. */
 static inline int32_t regress_group_name(regress_pattern *pattern, size_t number, char *buffer, size_t room, size_t *written) {
   char none;
   uint8_t *to = regress_buffer_given(buffer, room, &none);
@@ -342,7 +351,8 @@ static inline int32_t regress_group_name(regress_pattern *pattern, size_t number
 }
 
 /* Writes the numbers of the groups that have a name to `numbers`, in order, as many as there is room for. Answers how many groups
- * have it, which are several where a name stands in several alternatives, and none for the empty name. */
+ * have it, which are several where a name stands in several alternatives, and none for the empty name. The caller keeps: `name`
+ * points to `length` bytes, `numbers` has room for `room` numbers, and no other call has the handle. */
 static inline int32_t regress_group_numbers(regress_pattern *pattern, const char *name, size_t length, size_t *numbers, size_t room) {
   size_t none;
   const uint8_t *text = regress_bytes_given(name, length);
@@ -353,7 +363,9 @@ static inline int32_t regress_group_numbers(regress_pattern *pattern, const char
 
 /* Copies a text in UTF-8 to `buffer`, with its first match replaced by a template of the standard, in UTF-8 ("GetSubstitution"):
  * `$1` stands for the text of the first group, `$<name>` for that of a named one, `$&` for the match, `` $` `` and `$'` for what is
- * before and behind it, and `$$` for `$`. */
+ * before and behind it, and `$$` for `$`. It goes as regress_pattern_text does.
+ *
+ * The caller keeps what it keeps there; and `text` and `replacement` point to as many bytes as the length behind each says. */
 static inline int32_t regress_replace(regress_pattern *pattern, const char *text, size_t length, const char *replacement,
                                       size_t replacement_length, char *buffer, size_t room, size_t *written) {
   char none;
@@ -375,7 +387,9 @@ static inline int32_t regress_replace_all(regress_pattern *pattern, const char *
   return regress_raw_replace_all(pattern, bytes, length, with, replacement_length, to, room, written);
 }
 
-/* Copies a pattern to `buffer` that matches just a text in UTF-8 as it is written, whatever the flags but `i`. */
+/* Copies a pattern to `buffer` that matches just a text in UTF-8 as it is written, whatever the flags; with `i` also in other case. It
+ * goes as regress_pattern_text does. The caller keeps: `text` points to `length` bytes, and `buffer` has room for `room` bytes, none of
+ * which `text` lies in. */
 static inline int32_t regress_escape(const char *text, size_t length, char *buffer, size_t room, size_t *written) {
   char none;
   const uint8_t *bytes = regress_bytes_given(text, length);
@@ -389,7 +403,7 @@ static inline int32_t regress_escape(const char *text, size_t length, char *buff
  * ------------------------------------------------------------------------------------------------------------------------- */
 
 /* Puts a search of a pattern into `out`. It keeps its memory from one call to the next, so that once it has searched, searches
- * like that one request none. It needs the handle of the pattern no more. */
+ * like that one request none. It needs the handle of the pattern no more. The caller keeps: no other call has either handle. */
 static inline int32_t regress_search_new(regress_pattern *pattern, regress_search *out) {
   if (pattern == NULL || out == NULL) return REGRESS_NULL;
   if (pattern == out) return REGRESS_SAME_HANDLE;
@@ -400,7 +414,9 @@ static inline int32_t regress_search_new(regress_pattern *pattern, regress_searc
  *
  * Answers how many ranges the match has: 1 for the whole match, and 1 for each capturing group; or 0 where there is none. Writes
  * the range of the whole match to ranges[0], that of group 1 to ranges[1], and so on, as many as `count` has room for. Where a
- * group took no part, and past the last group, both ends are REGRESS_UNSET. Where there is no match, nothing is written. */
+ * group took no part, and past the last group, both ends are REGRESS_UNSET. Where there is no match, nothing is written.
+ *
+ * The caller keeps: `text` points to `length` bytes, `ranges` has room for `count` ranges, and no other call has the search. */
 static inline int32_t regress_find(regress_search *search, const char *text, size_t length, size_t start, regress_range *ranges,
                                    size_t count) {
   regress_range none;
@@ -430,7 +446,7 @@ static inline int32_t regress_find_ascii(regress_search *search, const char *tex
   return regress_raw_find_ascii(search, bytes, length, start, to, count);
 }
 
-/* The same in units of UTF-16. */
+/* The same in units of UTF-16: `text` points to `length` units. */
 static inline int32_t regress_find_utf16(regress_search *search, const uint16_t *text, size_t length, size_t start,
                                          regress_range *ranges, size_t count) {
   regress_range none;
@@ -440,7 +456,7 @@ static inline int32_t regress_find_utf16(regress_search *search, const uint16_t 
   return regress_raw_find_utf16(search, units, length, start, to, count);
 }
 
-/* The same in 16-bit units that are one character each. */
+/* The same in 16-bit units that are one character each: `text` points to `length` units. */
 static inline int32_t regress_find_ucs2(regress_search *search, const uint16_t *text, size_t length, size_t start,
                                         regress_range *ranges, size_t count) {
   regress_range none;
@@ -451,7 +467,7 @@ static inline int32_t regress_find_ucs2(regress_search *search, const uint16_t *
 }
 
 /* Finds the match that begins at `start`, whatever lies behind ("RegExpBuiltinExec" with `y`). Answers and writes as regress_find
- * does. A tokeniser asks so. */
+ * does, and the caller keeps what it keeps there. A tokeniser asks so. */
 static inline int32_t regress_match_at(regress_search *search, const char *text, size_t length, size_t start,
                                        regress_range *ranges, size_t count) {
   regress_range none;
@@ -481,7 +497,7 @@ static inline int32_t regress_match_at_ascii(regress_search *search, const char 
   return regress_raw_match_at_ascii(search, bytes, length, start, to, count);
 }
 
-/* The same in units of UTF-16. */
+/* The same in units of UTF-16: `text` points to `length` units. */
 static inline int32_t regress_match_at_utf16(regress_search *search, const uint16_t *text, size_t length, size_t start,
                                              regress_range *ranges, size_t count) {
   regress_range none;
@@ -491,7 +507,7 @@ static inline int32_t regress_match_at_utf16(regress_search *search, const uint1
   return regress_raw_match_at_utf16(search, units, length, start, to, count);
 }
 
-/* The same in 16-bit units that are one character each. */
+/* The same in 16-bit units that are one character each: `text` points to `length` units. */
 static inline int32_t regress_match_at_ucs2(regress_search *search, const uint16_t *text, size_t length, size_t start,
                                             regress_range *ranges, size_t count) {
   regress_range none;
@@ -501,7 +517,8 @@ static inline int32_t regress_match_at_ucs2(regress_search *search, const uint16
   return regress_raw_match_at_ucs2(search, units, length, start, to, count);
 }
 
-/* Answers 1 where there is a match from `start` on, and 0 where there is none ("RegExp.prototype.test"). */
+/* Answers 1 where there is a match from `start` on, and 0 where there is none ("RegExp.prototype.test"). The caller keeps: `text`
+ * points to `length` bytes, and no other call has the search. */
 static inline int32_t regress_is_match(regress_search *search, const char *text, size_t length, size_t start) {
   const uint8_t *bytes = regress_bytes_given(text, length);
   return search == NULL || bytes == NULL ? REGRESS_NULL : regress_raw_is_match(search, bytes, length, start);
@@ -519,13 +536,13 @@ static inline int32_t regress_is_match_ascii(regress_search *search, const char 
   return search == NULL || bytes == NULL ? REGRESS_NULL : regress_raw_is_match_ascii(search, bytes, length, start);
 }
 
-/* The same in units of UTF-16. */
+/* The same in units of UTF-16: `text` points to `length` units. */
 static inline int32_t regress_is_match_utf16(regress_search *search, const uint16_t *text, size_t length, size_t start) {
   const uint16_t *units = regress_units_given(text, length);
   return search == NULL || units == NULL ? REGRESS_NULL : regress_raw_is_match_utf16(search, units, length, start);
 }
 
-/* The same in 16-bit units that are one character each. */
+/* The same in 16-bit units that are one character each: `text` points to `length` units. */
 static inline int32_t regress_is_match_ucs2(regress_search *search, const uint16_t *text, size_t length, size_t start) {
   const uint16_t *units = regress_units_given(text, length);
   return search == NULL || units == NULL ? REGRESS_NULL : regress_raw_is_match_ucs2(search, units, length, start);
@@ -538,7 +555,10 @@ static inline int32_t regress_is_match_ucs2(regress_search *search, const uint16
  * search goes on: call again with it for the matches behind. Once there are no more, it is REGRESS_UNSET, and none is found.
  *
  * Where memory is refused, the answer is REGRESS_OUT_OF_MEMORY, and `found` and `start` tell of the matches before. Where `width`
- * is 0 or more than `count`, it is REGRESS_NO_ROOM. Any other error leaves `found` and `start` as they were. */
+ * is 0 or more than `count`, it is REGRESS_NO_ROOM. Any other error leaves `found` and `start` as they were.
+ *
+ * The caller keeps: `text` points to `length` bytes, `ranges` has room for `count` ranges, `start` and `found` point to a number each
+ * that lies in no other argument, and no other call has the search. */
 static inline int32_t regress_find_many(regress_search *search, const char *text, size_t length, size_t *start,
                                         regress_range *ranges, size_t count, size_t width, size_t *found) {
   regress_range none;
@@ -568,7 +588,7 @@ static inline int32_t regress_find_many_ascii(regress_search *search, const char
   return regress_raw_find_many_ascii(search, bytes, length, start, to, count, width, found);
 }
 
-/* The same in units of UTF-16. */
+/* The same in units of UTF-16: `text` points to `length` units. */
 static inline int32_t regress_find_many_utf16(regress_search *search, const uint16_t *text, size_t length, size_t *start,
                                               regress_range *ranges, size_t count, size_t width, size_t *found) {
   regress_range none;
@@ -578,7 +598,7 @@ static inline int32_t regress_find_many_utf16(regress_search *search, const uint
   return regress_raw_find_many_utf16(search, units, length, start, to, count, width, found);
 }
 
-/* The same in 16-bit units that are one character each. */
+/* The same in 16-bit units that are one character each: `text` points to `length` units. */
 static inline int32_t regress_find_many_ucs2(regress_search *search, const uint16_t *text, size_t length, size_t *start,
                                              regress_range *ranges, size_t count, size_t width, size_t *found) {
   regress_range none;

@@ -306,7 +306,7 @@ def _compiled(source, flags, is_whole=False):
     try:
         encoded = source.encode()
     except UnicodeEncodeError:
-        units = _units_of(f"(?-m:^)(?:{source})(?-m:$)" if is_whole else source, flags)
+        units = _units_of("(?-m:^)" + _ended(source) if is_whole else source, flags)
         code = _compile_units(units, len(units) // 2, *words)
         prefix = units[:2 * failure.place].decode("utf-16-le", "surrogatepass")
     else:
@@ -328,12 +328,14 @@ def _search_of(pattern):
 class Pattern:
     """A compiled pattern. `compile` makes one; it may be copied, pickled, compared and used as a key."""
 
-    __slots__ = ("pattern", "flags", "groups", "groupindex", "_numbers", "_compiled", "_search", "_whole", "__weakref__")
+    __slots__ = (
+        "pattern", "flags", "groups", "groupindex", "_numbers", "_compiled", "_search", "_whole", "_ending", "__weakref__",
+    )
 
     def __init__(self, pattern, flags=""):
         if not isinstance(pattern, str) or not isinstance(flags, str):
             raise TypeError("a pattern and its flags are strings")
-        self.pattern, self.flags, self._whole = pattern, flags, None
+        self.pattern, self.flags, self._whole, self._ending = pattern, flags, None, None
         self._compiled = _compiled(pattern, flags)
         self._search = _search_of(self._compiled)
         self.groups = _group_count(self._compiled)
@@ -370,11 +372,12 @@ class Pattern:
     def __repr__(self):
         return f"regress.compile({self.pattern!r}, {self.flags!r})"
 
-    def _one(self, call, search, text, string, pos, endpos):
-        """The match that one call finds, if any."""
+    def _one(self, call, search, string, pos, endpos):
+        """The match that one call finds in a part of a string, if any."""
+        pos, endpos, text, start = _window(string, pos, endpos)
         width = self.groups + 1
         ends = (ctypes.c_size_t * (2 * width))()
-        code = getattr(text.calls, call)(search, text.address, text.length, text.offset(pos), ends, width)
+        code = getattr(text.calls, call)(search, text.address, text.length, start, ends, width)
         _check(code)
         return Match(self, string, pos, endpos, text, ends[:]) if code > 0 else None
 
@@ -395,25 +398,30 @@ class Pattern:
     def search(self, string, pos=0, endpos=sys.maxsize):
         """The first match from `pos` on, or None. What lies before `pos` is still seen by `^`, `\\b` and lookbehind; what lies from
         `endpos` on is not there."""
-        pos, endpos, text = _window(string, pos, endpos)
-        return self._one("find", self._search, text, string, pos, endpos)
+        return self._one("find", self._search, string, pos, endpos)
 
     def match(self, string, pos=0, endpos=sys.maxsize):
         """The match that begins at `pos`, or None."""
-        pos, endpos, text = _window(string, pos, endpos)
-        return self._one("match_at", self._search, text, string, pos, endpos)
+        return self._one("match_at", self._search, string, pos, endpos)
 
-    def fullmatch(self, string):
-        """The match that is the whole of a string, or None. It may be another way to match than the one that `match` prefers."""
-        if self._whole is None:
-            self._whole = _search_of(_compiled(self.pattern, self.flags, is_whole=True))
-        text = _read(string)
-        return self._one("find", self._whole, text, string, 0, len(string))
+    def fullmatch(self, string, pos=0, endpos=sys.maxsize):
+        """The match that begins at `pos` and ends at `endpos`, or where the string ends, or None. It may be another way to match than
+        the one that `match` prefers."""
+        return self._one("match_at", self._to_end(pos), string, pos, endpos)
+
+    def _to_end(self, pos):
+        """A search of the pattern where it has to end with the text: of the library's whole texts, or behind `pos`, where these
+        never begin, of the pattern in a group before the end."""
+        if pos <= 0:
+            self._whole = self._whole or _search_of(_compiled(self.pattern, self.flags, is_whole=True))
+            return self._whole
+        self._ending = self._ending or _search_of(_compiled(_ended(self.pattern), self.flags))
+        return self._ending
 
     def finditer(self, string, pos=0, endpos=sys.maxsize):
         """An iterator over the matches, one behind another, as ECMAScript's `matchAll` goes."""
-        pos, endpos, text = _window(string, pos, endpos)
-        return (Match(self, string, pos, endpos, text, ends) for ends in self._all(text, text.offset(pos)))
+        pos, endpos, text, start = _window(string, pos, endpos)
+        return (Match(self, string, pos, endpos, text, ends) for ends in self._all(text, start))
 
     def findall(self, string, pos=0, endpos=sys.maxsize):
         """The texts of all matches; of the group where there is one, and tuples of the groups where there are more. A group that
@@ -465,12 +473,18 @@ class Pattern:
 
 
 def _window(string, pos, endpos):
-    """The part of a string that is searched: where it begins and ends, and it, read to its end."""
+    """The part of a string that is searched: where it begins and ends, the string up to there, and the library's offset of `pos` in
+    it. Behind `endpos` nothing is found."""
     if not isinstance(string, str):
         raise TypeError(f"expected a string, not {type(string).__name__}")
-    endpos = min(max(endpos, 0), len(string))
+    pos, endpos = (min(max(place, 0), len(string)) for place in (pos, endpos))
     text = _read(string if endpos == len(string) else string[:endpos])
-    return min(max(pos, 0), endpos), endpos, text
+    return pos, endpos, text, text.offset(pos) if pos <= endpos else text.length + 1
+
+
+def _ended(source):
+    """The text of a pattern that ends where the text does."""
+    return f"(?:{source})(?-m:$)"
 
 
 def _texts(text, ends, default=None):

@@ -2,12 +2,14 @@
 #include <regress.h>
 
 #include "check.h"
+#include "kinds.h"
 
 #include <stdlib.h>
 
-enum { HANDLES = 6, ROOM = 9 };
+enum { TABLES, PATTERN, SEARCH, KINDS_OF_HANDLES, HANDLES = 3, ROOM = 9 };
 
 static uint64_t state;
+static unsigned long matches, refusals; /* how many searches found something, and how many were refused */
 
 static size_t below(size_t bound) {
   state = state * 6364136223846793005u + 1442695040888963407u;
@@ -15,13 +17,18 @@ static size_t below(size_t bound) {
 }
 
 static const char *const sources[] = {"a", "(a)|b", "(?<n>a+)b", "[^]*?(x)", "(", "a{2,1}", "\\p{ASCII}", "(?<=\xC3\xA9)x", "", "\xFF", "(?:a|b)*c"};
-static const char *const texts[] = {"", "a", "aab", "x\xC3\xA9x", "\xF0\x9F\x98\x80", "ababababc", "\xFF", "a\xC3", "bbbbbbbbbbx"};
+/* The first three are ASCII, and the first six are UTF-8. */
+static const char *const texts[] = {"", "aab", "ababababcbbbbx", "x\xC3\xA9x", "a", "\xF0\x9F\x98\x80", "\xFF", "a\xC3", "aab\xC3\xA9\xFF"};
 static const uint16_t unit_texts[][4] = {{'a', 'b', 'x', 'a'}, {0xD83D, 0xDE00, 'a', 0xDE00}, {0xD83D, 0xD83D, 0xDE00, 0xE9}};
 static const char *const flags[] = {"", "i", "u", "v", "uv", "ii", "q", "gy", NULL};
 
-static regress_handle handles[HANDLES];
+static regress_handle handles[KINDS_OF_HANDLES][HANDLES];
 
-static regress_handle *any_handle(void) { return below(20) == 0 ? NULL : &handles[below(HANDLES)]; }
+/* A handle that is mostly of a kind, if it holds something. */
+static regress_handle *any_handle(size_t kind) {
+  if (below(20) == 0) return NULL;
+  return &handles[below(8) == 0 ? below(KINDS_OF_HANDLES) : kind][below(HANDLES)];
+}
 
 /* Whether ranges lie in a text. */
 static int lie_in(const regress_range *ranges, size_t count, size_t length) {
@@ -32,80 +39,63 @@ static int lie_in(const regress_range *ranges, size_t count, size_t length) {
   return 1;
 }
 
-/* ASCII alone may be given to the calls that take it, and UTF-8 alone to those. */
-static int is_ascii(const char *text) {
-  for (; *text != 0; text++)
-    if ((unsigned char)*text >= 0x80) return 0;
-  return 1;
+/* A text for a kind of calls: ASCII alone may be given to those for ASCII, and UTF-8 alone to those that do not check it. */
+static const void *any_text(int kind, size_t *length) {
+  if (kinds[kind].in_units) {
+    *length = 4;
+    return unit_texts[below(3)];
+  }
+  const char *text = texts[below(kind == ASCII ? 3 : kind == VALID ? 6 : 9)];
+  *length = strlen(text);
+  return text;
 }
 
-static void search_bytes(void) {
-  const char *text = texts[below(9)];
-  int is_wrong = strcmp(text, "\xFF") == 0 || strcmp(text, "a\xC3") == 0;
-  size_t length = strlen(text), start = below(12) == 0 ? SIZE_MAX : below(14), count = below(ROOM + 1), found = 0;
+/* Searches by any call of any kind. */
+static void search(void) {
+  int which = (int)below(KINDS);
+  const kind_of_text *kind = &kinds[which];
+  size_t length, count = below(ROOM + 1), found = 0;
+  const void *text = any_text(which, &length);
+  size_t start = below(12) == 0 ? SIZE_MAX : below(2) * below(length + 2);
+  int is_wrong = !kind->in_units && length > 0 && strchr("\xFF\xC3", ((const char *)text)[length - 1]) != NULL;
   regress_range ranges[ROOM];
-  regress_handle *search = any_handle();
+  regress_handle *from = any_handle(SEARCH);
   int32_t code;
   switch (below(4)) {
     case 0:
-      code = is_wrong ? regress_find(search, text, length, start, ranges, count)
-             : is_ascii(text) ? regress_find_ascii(search, text, length, start, ranges, count)
-                              : regress_find_valid(search, text, length, start, ranges, count);
+      code = kind->find(from, text, length, start, ranges, count);
       CHECK(code <= 0 || lie_in(ranges, count, length));
       break;
     case 1:
-      code = regress_match_at(search, text, length, start, ranges, count);
+      code = kind->match_at(from, text, length, start, ranges, count);
       CHECK(code <= 0 || (lie_in(ranges, count, length) && (count == 0 || ranges[0].start == start)));
       break;
     case 2:
-      code = regress_is_match(search, text, length, start);
+      code = kind->is_match(from, text, length, start);
       CHECK(code <= 1);
       break;
     default:
-      code = regress_find_many(search, text, length, &start, ranges, count, below(4), &found);
+      code = kind->find_many(from, text, length, &start, ranges, count, below(4), &found);
       CHECK(code <= 0 && (code != 0 || found <= count));
   }
   CHECK(code >= REGRESS_SAME_HANDLE && (!is_wrong || code < 0));
-}
-
-static void search_units(void) {
-  size_t start = below(7), count = below(ROOM + 1), found = 0;
-  const uint16_t *text = unit_texts[below(3)];
-  regress_range ranges[ROOM];
-  regress_handle *search = any_handle();
-  int32_t code;
-  switch (below(4)) {
-    case 0:
-      code = regress_find_utf16(search, text, 4, start, ranges, count);
-      CHECK(code <= 0 || lie_in(ranges, count, 4));
-      break;
-    case 1:
-      code = regress_match_at_ucs2(search, text, 4, start, ranges, count);
-      CHECK(code <= 0 || lie_in(ranges, count, 4));
-      break;
-    case 2:
-      code = regress_is_match_ucs2(search, text, 4, start);
-      CHECK(code <= 1);
-      break;
-    default:
-      code = regress_find_many_utf16(search, text, 4, &start, ranges, count, below(4), &found);
-      CHECK(code <= 0 && (code != 0 || found <= count));
-  }
-  CHECK(code >= REGRESS_SAME_HANDLE);
+  matches += code > 0 || found > 0;
+  refusals += code < 0;
 }
 
 static void make(void) {
-  const char *source = sources[below(11)];
+  const char *source = sources[below(11)], *letters = flags[below(9)];
   regress_error error = {0, 0, ""};
-  regress_handle *to = any_handle(), *from = any_handle();
+  regress_handle *tables = any_handle(TABLES), *pattern = any_handle(PATTERN), *other = any_handle(PATTERN);
   int32_t code;
-  switch (below(6)) {
-    case 0: code = regress_tables_small(to); break;
-    case 1: code = regress_share(from, to); break;
-    case 2: code = regress_search_new(from, to); break;
-    case 3: code = regress_compile_units(unit_texts[below(3)], 4, flags[below(9)], from, to, &error); break;
-    case 4: code = regress_compile_whole(source, strlen(source), flags[below(9)], from, to, &error); break;
-    default: code = regress_compile(source, strlen(source), flags[below(9)], from, to, &error);
+  switch (below(8)) {
+    case 0: code = below(1000) == 0 ? regress_tables_unicode(tables) : regress_tables_small(tables); break;
+    case 1: code = regress_share(other, pattern); break;
+    case 2: code = regress_share(tables, any_handle(TABLES)); break;
+    case 3: code = regress_compile_units(unit_texts[below(3)], 4, letters, tables, pattern, &error); break;
+    case 4: code = regress_compile_whole(source, strlen(source), letters, tables, pattern, &error); break;
+    case 5: code = regress_compile(source, strlen(source), letters, tables, pattern, &error); break;
+    default: code = regress_search_new(pattern, any_handle(SEARCH));
   }
   CHECK(code <= 0 && code >= REGRESS_SAME_HANDLE && error.place <= 24);
 }
@@ -114,14 +104,16 @@ static void ask(void) {
   char buffer[24];
   size_t written = 0, room = below(25), numbers[3];
   const char *text = texts[below(9)];
-  regress_handle *pattern = any_handle();
+  regress_handle *pattern = any_handle(PATTERN);
   int32_t code;
-  switch (below(6)) {
+  switch (below(8)) {
     case 0: code = regress_group_name(pattern, below(4), buffer, room, &written); break;
     case 1: code = regress_group_numbers(pattern, "n", below(2), numbers, below(4)); break;
     case 2: code = regress_replace(pattern, text, strlen(text), "<$&$1>", 6, buffer, room, &written); break;
     case 3: code = regress_replace_all(pattern, text, strlen(text), "$`$'", 4, buffer, room, &written); break;
     case 4: code = regress_escape(text, strlen(text), buffer, room, &written); break;
+    case 5: code = regress_error_text(-(int32_t)below(20), buffer, room, &written); break;
+    case 6: code = regress_group_count(pattern); break;
     default: code = regress_pattern_text(pattern, buffer, room, &written);
   }
   CHECK(code >= REGRESS_SAME_HANDLE && code <= 1 && (code != REGRESS_OK || written <= room));
@@ -130,18 +122,18 @@ static void ask(void) {
 int main(int count, char **words) {
   unsigned long calls = count > 1 ? strtoul(words[1], NULL, 10) : 100000;
   state = count > 2 ? strtoul(words[2], NULL, 10) : 1;
-  CHECK(regress_tables_small(&handles[0]) == REGRESS_OK);
   for (unsigned long k = 0; k < calls; k++) {
     switch (below(8)) {
-      case 0: regress_free(below(10) == 0 ? any_handle() : &handles[1 + below(HANDLES - 1)]); break;
+      case 0: regress_free(below(4) == 0 ? any_handle(below(KINDS_OF_HANDLES)) : NULL); break;
       case 1:
       case 2: make(); break;
       case 3: ask(); break;
-      case 4: search_units(); break;
-      default: search_bytes();
+      default: search();
     }
-    if (handles[0].held == NULL) regress_tables_small(&handles[0]);
   }
-  for (int k = 0; k < HANDLES; k++) regress_free(&handles[k]);
+  for (int kind = 0; kind < KINDS_OF_HANDLES; kind++)
+    for (int k = 0; k < HANDLES; k++) regress_free(&handles[kind][k]);
+  printf("of %lu calls %lu found a match and %lu searches were refused\n", calls, matches, refusals);
+  CHECK(matches > calls / 100 && refusals > calls / 100);
   return told();
 }

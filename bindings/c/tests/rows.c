@@ -2,10 +2,12 @@
  *
  *   rows small|unicode < rows
  *
- * It writes a line for each answer that differs from its row, and then `N rows, S not tried` and `N passed, M failed`. Not tried are rows of works
- * that the interface does not have (splitting, and replacing in the library's own language), those with flags that no script has,
- * and patterns with halves of pairs that UTF-8 can't hold. */
+ * It writes a line for each answer that differs from its row, and then `N rows, S not tried` and `N passed, M failed`. Not tried are
+ * rows of works that the interface does not have (splitting, and replacing in the library's own language), those with flags that no
+ * script has, and those with halves of pairs that UTF-8 can't hold. */
 #include <regress.h>
+
+#include "kinds.h"
 
 #include <stdio.h>
 #include <stdlib.h>
@@ -135,51 +137,6 @@ static char *list_in_units(const text_of_field *text, const char *list) {
   return told;
 }
 
-typedef enum { UTF8, VALID, ASCII, UTF16, UCS2 } kind;
-
-static const char *const names[] = {"utf8", "valid", "ascii", "utf16", "ucs2"};
-
-static int32_t find(kind k, regress_search *search, const text_of_field *text, size_t start, regress_range *ranges, size_t count) {
-  switch (k) {
-    case UTF8: return regress_find(search, text->bytes, text->length, start, ranges, count);
-    case VALID: return regress_find_valid(search, text->bytes, text->length, start, ranges, count);
-    case ASCII: return regress_find_ascii(search, text->bytes, text->length, start, ranges, count);
-    case UTF16: return regress_find_utf16(search, text->units, text->count, start, ranges, count);
-    default: return regress_find_ucs2(search, text->units, text->count, start, ranges, count);
-  }
-}
-
-static int32_t match_at(kind k, regress_search *search, const text_of_field *text, size_t start, regress_range *ranges, size_t count) {
-  switch (k) {
-    case UTF8: return regress_match_at(search, text->bytes, text->length, start, ranges, count);
-    case VALID: return regress_match_at_valid(search, text->bytes, text->length, start, ranges, count);
-    case ASCII: return regress_match_at_ascii(search, text->bytes, text->length, start, ranges, count);
-    case UTF16: return regress_match_at_utf16(search, text->units, text->count, start, ranges, count);
-    default: return regress_match_at_ucs2(search, text->units, text->count, start, ranges, count);
-  }
-}
-
-static int32_t is_match(kind k, regress_search *search, const text_of_field *text, size_t start) {
-  switch (k) {
-    case UTF8: return regress_is_match(search, text->bytes, text->length, start);
-    case VALID: return regress_is_match_valid(search, text->bytes, text->length, start);
-    case ASCII: return regress_is_match_ascii(search, text->bytes, text->length, start);
-    case UTF16: return regress_is_match_utf16(search, text->units, text->count, start);
-    default: return regress_is_match_ucs2(search, text->units, text->count, start);
-  }
-}
-
-static int32_t find_many(kind k, regress_search *search, const text_of_field *text, size_t *start, regress_range *ranges,
-                         size_t count, size_t width, size_t *found) {
-  switch (k) {
-    case UTF8: return regress_find_many(search, text->bytes, text->length, start, ranges, count, width, found);
-    case VALID: return regress_find_many_valid(search, text->bytes, text->length, start, ranges, count, width, found);
-    case ASCII: return regress_find_many_ascii(search, text->bytes, text->length, start, ranges, count, width, found);
-    case UTF16: return regress_find_many_utf16(search, text->units, text->count, start, ranges, count, width, found);
-    default: return regress_find_many_ucs2(search, text->units, text->count, start, ranges, count, width, found);
-  }
-}
-
 static char *push_match(char *to, const char *list, const regress_range *ranges, size_t width) {
   if (to != list) *to++ = '|';
   for (size_t g = 0; g < width; g++) {
@@ -193,34 +150,44 @@ static char *push_match(char *to, const char *list, const regress_range *ranges,
   return to;
 }
 
-/* Tries a list by all calls that search, from a start on. */
-static void try_kind(kind k, regress_search *search, size_t width, const text_of_field *text, size_t start, const char *expected) {
+/* Whether a list begins with a match, which may be none. */
+static int begins_with(const char *list, const char *match) {
+  size_t length = strcspn(list, "|");
+  return strlen(match) == length && memcmp(list, match, length) == 0;
+}
+
+/* The match that a call answered, as a list. */
+static const char *list_of(int32_t code, const regress_range *ranges, size_t width) {
+  static char list[LIST];
+  *list = 0;
+  if (code > 0) push_match(list, list, ranges, width);
+  return list;
+}
+
+/* Tries a list by all calls that search texts of a kind, from a start on. */
+static void try_kind(int number, regress_search *search, size_t width, const text_of_field *of, size_t start, const char *expected) {
   static char list[LIST];
   static regress_range ranges[3 * GROUPS];
+  const kind_of_text *kind = &kinds[number];
+  const void *text = kind->in_units ? (const void *)of->units : of->bytes;
+  size_t length = kind->in_units ? of->count : of->length;
   char *to = list;
   size_t next = start, found = 0, first = REGRESS_UNSET;
   int32_t code;
   *to = 0;
-  while ((code = find_many(k, search, text, &next, ranges, 3 * width, width, &found)) == REGRESS_OK && found > 0) {
+  while ((code = kind->find_many(search, text, length, &next, ranges, 3 * width, width, &found)) == REGRESS_OK && found > 0) {
     for (size_t m = 0; m < found; m++) to = push_match(to, list, ranges + m * width, width);
   }
-  tell(code == REGRESS_OK && strcmp(list, expected) == 0, names[k], expected, list);
-  code = find(k, search, text, start, ranges, width);
+  tell(code == REGRESS_OK && strcmp(list, expected) == 0, kind->name, expected, list);
+  code = kind->find(search, text, length, start, ranges, width);
   if (code > 0) first = ranges[0].start;
-  to = list;
-  *to = 0;
-  if (code > 0) push_match(to, list, ranges, width);
-  size_t length = strcspn(expected, "|");
-  int is_first = strlen(list) == length && memcmp(list, expected, length) == 0;
-  tell(code >= 0 && (code > 0) == (*expected != 0) && is_first, "find", expected, list);
-  code = is_match(k, search, text, start);
+  const char *match = list_of(code, ranges, width);
+  tell(code == (*expected != 0 ? (int32_t)width : 0) && begins_with(expected, match), "find", expected, match);
+  code = kind->is_match(search, text, length, start);
   tell(code == (*expected != 0), "is_match", expected, code == 1 ? "1" : code == 0 ? "0" : "an error");
-  code = match_at(k, search, text, start, ranges, width);
-  to = list;
-  *to = 0;
-  if (code > 0) push_match(to, list, ranges, width);
-  is_first = strlen(list) == length && memcmp(list, expected, length) == 0;
-  tell(code >= 0 && (code > 0) == (first == start) && (code == 0 || is_first), "match_at", expected, list);
+  code = kind->match_at(search, text, length, start, ranges, width);
+  match = list_of(code, ranges, width);
+  tell(code == (first == start ? (int32_t)width : 0) && (code == 0 || begins_with(expected, match)), "match_at", expected, match);
 }
 
 static int is_script_flags(const char *flags) {
@@ -270,7 +237,8 @@ static void try_matches(regress_pattern *pattern, const text_of_field *text, siz
   regress_free(&shared);
 }
 
-static void try_match_row(regress_tables *tables, char **field, int count) {
+/* Tries a row of matches, of a pattern as it is or over a whole text. */
+static void try_match_row(regress_tables *tables, char **field, int count, int is_whole) {
   text_of_field source = read_text(field[1]), text = read_text(field[2]);
   const char *expected = count > 3 ? field[3] : "";
   size_t start = count > 4 ? strtoul(field[4], NULL, 10) : 0;
@@ -278,11 +246,11 @@ static void try_match_row(regress_tables *tables, char **field, int count) {
   regress_error error;
   int in_ucs2 = !source.has_pair && !text.has_pair;
   int32_t code;
-  if (text.has_half || (source.has_half && source.has_pair)) {
+  if (text.has_half || (source.has_half && (source.has_pair || is_whole))) {
     skipped++;
   } else {
     if (!source.has_half) {
-      code = regress_compile(source.bytes, source.length, field[0], tables, &pattern, &error);
+      code = (is_whole ? regress_compile_whole : regress_compile)(source.bytes, source.length, field[0], tables, &pattern, &error);
       if (*expected == '!')
         try_refusal(expected, code, &error, source.length);
       else if (code != REGRESS_OK)
@@ -290,7 +258,7 @@ static void try_match_row(regress_tables *tables, char **field, int count) {
       else
         try_matches(&pattern, &text, start, expected, in_ucs2);
     }
-    if (!source.has_pair) {
+    if ((!source.has_pair || strpbrk(field[0], "uv") != NULL) && !is_whole) {
       code = regress_compile_units(source.units, source.count, field[0], tables, &pattern, &error);
       if (*expected == '!')
         try_refusal(expected, code, &error, source.count);
@@ -387,6 +355,28 @@ static void try_escape_row(char **field, int count) {
   free_text(&expected);
 }
 
+typedef int32_t (*replacing)(regress_pattern *, const char *, size_t, const char *, size_t, char *, size_t, size_t *);
+
+/* Tries a row of a text in which matches are replaced by a template. */
+static void try_template_row(regress_tables *tables, char **field, int count, replacing replace) {
+  text_of_field source = read_text(field[1]), text = read_text(field[2]);
+  text_of_field with = read_text(count > 3 ? field[3] : ""), expected = read_text(count > 4 ? field[4] : "");
+  regress_pattern pattern = {0};
+  char *buffer = room_for(expected.length);
+  size_t written = 0;
+  int32_t code = regress_compile(source.bytes, source.length, field[0], tables, &pattern, NULL);
+  if (code == REGRESS_OK)
+    code = replace(&pattern, text.bytes, text.length, with.bytes, with.length, buffer, expected.length, &written);
+  int is_right = code == REGRESS_OK && written == expected.length && memcmp(buffer, expected.bytes, written) == 0;
+  tell(is_right, "replace", field[3], "another text");
+  free(buffer);
+  regress_free(&pattern);
+  free_text(&source);
+  free_text(&text);
+  free_text(&with);
+  free_text(&expected);
+}
+
 static void try_row(regress_tables *tables, char *line) {
   char *field[FIELDS], *colon;
   int count = 0;
@@ -402,12 +392,16 @@ static void try_row(regress_tables *tables, char *line) {
   if (colon != NULL) field[0] = colon + 1;
   if (!is_script_flags(field[0]))
     skipped++;
-  else if (*work == 0)
-    try_match_row(tables, field, count);
+  else if (*work == 0 || strcmp(work, "whole") == 0)
+    try_match_row(tables, field, count, *work != 0);
   else if (strcmp(work, "units") == 0)
     try_unit_row(tables, field, count);
   else if (strcmp(work, "names") == 0)
     try_name_row(tables, field, count);
+  else if (strcmp(work, "replace_as") == 0)
+    try_template_row(tables, field, count, regress_replace);
+  else if (strcmp(work, "replace_all_as") == 0)
+    try_template_row(tables, field, count, regress_replace_all);
   else if (strcmp(work, "escape") == 0)
     try_escape_row(field, count);
   else

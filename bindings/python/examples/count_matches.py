@@ -8,6 +8,7 @@ their sum.
 """
 
 import argparse
+from contextlib import ExitStack
 
 from distributed import Client, LocalCluster
 
@@ -38,7 +39,9 @@ def main():
     words.add_argument("files", nargs="+")
     given = words.parse_args()
     pattern = regress.compile(given.pattern, given.flags)
-    with Client(given.cluster or local_cluster()) as client:
+    with ExitStack() as ends:
+        cluster = given.cluster or ends.enter_context(local_cluster())
+        client = ends.enter_context(Client(cluster))
         counts = count_on(client, pattern, given.files)
     for name, count in zip(given.files, counts):
         print(f"{count}\t{name}")

@@ -1,5 +1,7 @@
 """Each function, in the manner of `re`."""
 
+import itertools
+import re
 import unittest
 
 import regress
@@ -39,11 +41,45 @@ class Searching(unittest.TestCase):
         self.assertEqual(regress.compile("$").search("abc", 0, -1).span(), (0, 0))
         self.assertEqual(regress.compile("$").search("", 0).span(), (0, 0))
 
+    def test_nothing_is_found_behind_the_end(self):
+        """As `re` says of its `endpos`; its own `match` finds an empty match there."""
+        for text in ("abc", "aéb", "a\ud83db", "a😀\ud83d"):
+            pattern = regress.compile("")
+            self.assertIsNone(pattern.search(text, 2, 1))
+            self.assertIsNone(pattern.match(text, 2, 1))
+            self.assertIsNone(pattern.fullmatch(text, 2, 1))
+            self.assertIsNone(pattern.search(text, 10, 2))
+            self.assertEqual(list(pattern.finditer(text, 2, 1)), [])
+            self.assertEqual(pattern.findall(text, 2, 1), [])
+
     def test_fullmatch_takes_another_way(self):
         self.assertEqual(regress.fullmatch("a|ab", "ab").span(), (0, 2))
         self.assertEqual(regress.fullmatch("(a|ab)(c|bcd)?", "abcd").groups(), ("a", "bcd"))
         self.assertIsNone(regress.fullmatch("a", "ab"))
         self.assertIsNone(regress.fullmatch("^a$", "a\nb", "m"))
+
+    def test_fullmatch_of_a_part(self):
+        pattern = regress.compile("(a|ab)(c|bcd)?", "m")
+        self.assertEqual(pattern.fullmatch("xabcdx", 1, 5).regs, ((1, 5), (1, 2), (2, 5)))
+        self.assertEqual(pattern.fullmatch("éabcd", 1).regs, ((1, 5), (1, 2), (2, 5)))
+        self.assertIsNone(pattern.fullmatch("xabcd\n", 1))
+        self.assertEqual(regress.compile("(?<=x)a$").fullmatch("xab", 1, 2).span(), (1, 2))
+        self.assertIsNone(regress.compile("^a").fullmatch("xa", 1))
+        self.assertEqual(regress.compile("^a", "m").fullmatch("x\na", 2).span(), (2, 3))
+        self.assertEqual(regress.compile("(?<n>a)|\\k<n>b").fullmatch("xb", 1).groupdict(), {"n": None})
+        self.assertEqual(regress.compile("\ud83d|\ud83db").fullmatch("x\ud83db", 1).span(), (1, 3))
+        self.assertEqual(regress.compile("(" * 255 + ")" * 255).fullmatch("x", 1).span(), (1, 1))
+
+    def test_fullmatch_of_each_part(self):
+        """In each part of texts of each form, as `re` answers where both have the same language."""
+        for source in ("a|ab|abb?", "(a|b)*?", "(?<=a)b+|é?", "(a)|(b)|", "a*$", "[^b]+(?!b)"):
+            ours, theirs = regress.compile(source), re.compile(source)
+            for text in ("abbab", "éabéb", "b😀ab", "a\ud83dbb", "a😀\udc00b"):
+                places = itertools.product(range(-1, len(text) + 2), repeat=2)
+                for pos, endpos in places:
+                    found, other = ours.fullmatch(text, pos, endpos), theirs.fullmatch(text, pos, endpos)
+                    told, expected = [each and (each.regs, each.pos, each.endpos) for each in (found, other)]
+                    self.assertEqual(told, expected, (source, text, pos, endpos))
 
     def test_finditer_goes_as_match_all(self):
         spans = [found.span() for found in regress.finditer("a|", "ba")]

@@ -40,7 +40,7 @@ class Counting(unittest.TestCase):
             names = [os.path.join(folder, f"part{k}") for k in range(PARTS)]
             written = [write_part(name, seed) for seed, name in enumerate(names)]
             self.assertGreaterEqual(sum(map(os.path.getsize, names)), PARTS * SIZE)
-            with Client(count_matches.local_cluster()) as client:
+            with count_matches.local_cluster() as cluster, Client(cluster) as client:
                 self.assertEqual(len(client.scheduler_info()["workers"]), 2)
                 on_cluster = count_matches.count_on(client, pattern, names)
             self.assertEqual(on_cluster, written)

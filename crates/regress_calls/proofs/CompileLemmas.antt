@@ -1,6 +1,6 @@
 -- What compiling comes to with what handles hold.
 use Rattle.std.specs.Prelude.{◌≡◌, ℕ, Bool, true, false, List, chars}
-use Rattle.std.proofs.Common.{refl, sym, subst, ap}
+use Rattle.std.proofs.Common.{subst}
 use Rattle.regress_meaning.specs.Flags.{Options, options_of}
 use Rattle.regress_meaning.specs.Table.{Table}
 use Rattle.regress_meaning.specs.TableParts.{TableParts, table_of}

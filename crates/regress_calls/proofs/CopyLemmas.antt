@@ -1,6 +1,6 @@
 -- Texts that are copied, and groups by their numbers.
-use Rattle.std.specs.Prelude.{◌≡◌, ◌≢◌, ℕ, zero, suc, ◌-◌, List, Some, slice_get, Result, Ok, Err}
-use Rattle.std.proofs.Common.{refl, sym, subst, sub-one}
+use Rattle.std.specs.Prelude.{◌≡◌, ℕ, zero, suc, ◌-◌, List, Some, slice_get, Result, Ok, Err}
+use Rattle.std.proofs.Common.{subst, sub-one}
 use Rattle.regress.specs.declared.api.Regex.{Regex}
 use Rattle.regress_calls.specs.declared.call_error.CallError.{CallError}
 use Rattle.regress_calls.specs.declared.call_error.CallError.TheVariants.{NoRoom}

@@ -16,7 +16,6 @@ use Rattle.regress_meaning.specs.Offsets.{Begins, Reading, told}
 use Rattle.regress_meaning.specs.Pattern.{Pattern}
 use Rattle.regress_meaning.specs.Table.{Table}
 use Rattle.regress_meaning.proofs.MatchLemmas.{matches_bounded, matches_end, matches_go, matches_lie}
-use Rattle.regress_match.specs.Views.{ends}
 use Rattle.regress.specs.declared.api.Regex.{Regex}
 use Rattle.regress.specs.Standing.{names_of_regex}
 use Rattle.regress_calls.specs.declared.text.Text.{Text}

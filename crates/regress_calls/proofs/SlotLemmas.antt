@@ -1,5 +1,5 @@
 -- Slots that a match fills hold its ranges.
-use Rattle.std.specs.Prelude.{◌≡◌, ℕ, zero, suc, ◌<◌, List, [], ◌∷◌, ◌++◌, length, take, map, Option, Some, None, option_map, slice_get, unwrap_or, Result, Ok, Err, IfOk}
+use Rattle.std.specs.Prelude.{◌≡◌, ℕ, zero, suc, ◌<◌, List, [], ◌∷◌, ◌++◌, length, take, Option, Some, None, option_map, slice_get, unwrap_or, Result, Ok, Err, IfOk}
 use Rattle.std.specs.declared.ops.Range.{Range}
 use Rattle.std.proofs.Common.{refl, sym, ap, subst, ◌∙◌, arith}
 use Rattle.std.proofs.Math.Seq.{take-append_seam}
@@ -8,7 +8,7 @@ use Rattle.std.proofs.lemmas.Option.{slice_get-map}
 use Rattle.regress_meaning.specs.Matches.{Item}
 use Rattle.regress_match.specs.Slots.{Fills, slots_of}
 use Rattle.regress_match.specs.Views.{ends}
-use Rattle.regress_calls.specs.Ranges.{ranges_of_item, group_numbered}
+use Rattle.regress_calls.specs.Ranges.{ranges_of_item}
 use Rattle.regress_calls.specs.Slotted.{IsInSlots}
 
 -- as many slots as there are hold the groups by their numbers

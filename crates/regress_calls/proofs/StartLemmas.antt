@@ -1,5 +1,5 @@
 -- Where a search goes on behind a place.
-use Rattle.std.proofs.Common.{◌≡◌, ◌∙◌, ◌⊎◌, ◌+◌, ◌<◌, ◌≤◌, ◌==◌, ℕ, List, length, nat_lt, max, refl, sym, ap, inl, inr, arith}
+use Rattle.std.proofs.Common.{◌≡◌, ◌∙◌, ◌+◌, ◌<◌, ◌≤◌, ◌==◌, ℕ, length, nat_lt, max, refl, sym, ap, inl, inr, arith}
 use Rattle.std.specs.Prelude.{◌≢◌, Option, Some, None, option_map}
 use Rattle.std.specs.declared.ops.Range.{Range}
 use Rattle.std.proofs.lemmas.Bool.{cases_lt, cond_both, eqb-true, eqb-false}
@@ -9,7 +9,6 @@ use Rattle.regress_meaning.specs.Matches.{Item, next_place}
 use Rattle.regress_meaning.specs.Offsets.{Reading, Begins, offset, of_utf8, of_utf16, of_ucs2}
 use Rattle.regress_meaning.proofs.OffsetLemmas.{rise}
 use Rattle.regress_front_bytes.proofs.TextLemmas.{offset-le}
-use Rattle.regress_engine_input.proofs.UnitTexts.{single_offset}
 use Rattle.regress_calls.specs.declared.text.Text.{Text}
 use Rattle.regress_calls.specs.declared.text.Text.TheVariants.{Utf8, Ascii, Utf16, Ucs2}
 use Rattle.regress_match.specs.Views.{ends}

@@ -1,5 +1,5 @@
 -- Ranges as they stand in a caller's memory.
-use Rattle.std.specs.Prelude.{◌≡◌, ℕ, ◌-◌, ◌^◌, ◌+◌, ◌<◌, ◌≤◌, List, ◌∷◌, length, Option, Some, None, map, option_map, slice_get, unwrap_or}
+use Rattle.std.specs.Prelude.{◌≡◌, ℕ, ◌-◌, ◌^◌, ◌+◌, ◌<◌, ◌≤◌, List, ◌∷◌, length, Option, Some, None, option_map, slice_get, unwrap_or}
 use Rattle.std.specs.declared.ops.Range.{Range}
 use Rattle.regress_meaning.specs.Matches.{Item}
 use Rattle.regress_match.specs.Views.{ends}

@@ -1,7 +1,6 @@
 -- Why calls may be refused.
 use Rattle.std.specs.Prelude.{◌≡◌, ◌<◌, ◌⊎◌, ℕ, length}
 use Rattle.regress_meaning.specs.Offsets.{Reading, Begins}
-use Rattle.regress_meaning.specs.TableParts.{TableParts}
 use Rattle.regress_front_tables.specs.declared.tables.law.TableError.{TableError}
 use Rattle.regress_unicode.specs.Unicode.{IsRefusal}
 use Rattle.regress.specs.declared.api.Regex.{Regex}
@@ -9,7 +8,7 @@ use Rattle.regress.specs.Standing.{names_of_regex}
 use Rattle.regress_calls.specs.declared.call_error.CallError.{CallError}
 use Rattle.regress_calls.specs.declared.call_error.CallError.TheVariants.{OutOfMemory, WrongHandle, BadStart, NoRoom, NoGroup, TooManyGroups}
 use Rattle.regress_calls.specs.Codes.{of_table_error}
-use Rattle.regress_calls.specs.Handles.{Content, Nothing, OfTables, OfPattern, OfSearch}
+use Rattle.regress_calls.specs.Handles.{Content, OfTables, OfPattern, OfSearch}
 
 -- the handle holds no search
 abbrev pub HoldsNoSearch : Content → Type 0

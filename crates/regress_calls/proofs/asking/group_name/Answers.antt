@@ -1,8 +1,7 @@
-use Rattle.std.proofs.Common.{◌≡◌, ◌∙◌, ◌-◌, ◌<◌, ℕ, List, map, string_bytes, length, slice_get, option_map, Some, refl, sym, ap, subst, inl, inr, arith}
+use Rattle.std.proofs.Common.{◌≡◌, ◌∙◌, ◌-◌, ℕ, List, map, string_bytes, length, slice_get, option_map, Some, refl, sym, ap, inl, inr, arith}
 use Rattle.std.proofs.lemmas.Option.{slice_get-map, slice_get_read}
 use Rattle.std.proofs.lemmas.List.{length-map}
 use Rattle.std.specs.Arc.{arc_value}
-use Rattle.regress.specs.declared.api.Regex.{Regex}
 use Rattle.regress.specs.Standing.{names_of_regex}
 use Rattle.regress_calls.proofs.CopyLemmas.{made-as, numbered-at, one-pattern}
 use Rattle.regress_calls.proofs.asking.group_name.Goals as goal

@@ -1,4 +1,4 @@
-use Rattle.std.proofs.Common.{◌≡◌, ◌∙◌, ℕ, List, map, take, chars, sym, ap, subst}
+use Rattle.std.proofs.Common.{◌≡◌, ◌∙◌, ℕ, List, map, chars, sym, ap, subst}
 use Rattle.std.specs.Arc.{arc_value}
 use Rattle.regress_meaning.specs.Matches.{Item, match_list}
 use Rattle.regress_meaning.specs.Offsets.{of_utf8, told}

@@ -1,4 +1,4 @@
-use Rattle.std.proofs.Common.{◌≡◌, ◌∙◌, ℕ, List, map, string_bytes, nat_eq, slice_get, length, option_map, Option, Some, None, refl, sym, ap, arith}
+use Rattle.std.proofs.Common.{◌≡◌, ◌∙◌, ℕ, List, string_bytes, nat_eq, slice_get, length, option_map, Some, refl, sym, ap}
 use Rattle.std.proofs.lemmas.Option.{slice_get-map, slice_get_read, slice_get_past}
 use lib.Pointwise.{pointwise}
 use Rattle.regress_calls.proofs.NameLemmas.{same-bytes, same-self}

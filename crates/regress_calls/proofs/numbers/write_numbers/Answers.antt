@@ -1,4 +1,4 @@
-use Rattle.std.proofs.Common.{◌≡◌, ◌∙◌, map, string_bytes, ℕ, ◌+◌, List, [], ◌∷◌, ◌++◌, length, slice_set, refl, sym, ap, arith}
+use Rattle.std.proofs.Common.{◌≡◌, ◌∙◌, map, string_bytes, ℕ, ◌+◌, List, [], ◌∷◌, ◌++◌, length, slice_set, refl, ap, arith}
 use Rattle.std.proofs.lemmas.List.{length-append}
 use Rattle.regress_calls.specs.Names.{AreNumbers, written_over}
 use Rattle.regress_calls.proofs.NameLemmas.{one-more, taken, skipped}

@@ -1,15 +1,9 @@
-use Rattle.std.proofs.Common.{◌≡◌, ◌∙◌, ◌+◌, ◌-◌, ◌*◌, ◌<◌, ◌≤◌, ℕ, Bool, true, false, List, length, refl, sym, ap, subst, arith, rules}
+use Rattle.std.proofs.Common.{◌≡◌, ◌∙◌, Bool, true, false, length, refl, subst, arith, rules}
 use Rattle.std.specs.Arc.{arc_value}
-use Rattle.regress_meaning.specs.Flags.{Options}
 use Rattle.regress_meaning.specs.Matches.{match_list}
-use Rattle.regress_meaning.specs.Offsets.{Begins}
-use Rattle.regress_meaning.specs.Pattern.{Pattern}
-use Rattle.regress_meaning.specs.Table.{Table}
-use Rattle.regress.specs.declared.api.Regex.{Regex}
 use Rattle.regress.specs.Standing.{names_of_regex}
-use Rattle.regress_calls.specs.Many.{FoundMany, IsNext}
-use Rattle.regress_calls.specs.Texts.{StandsIn, reading_of_text}
-use Rattle.regress_calls.specs.declared.text_range.TextRange.{TextRange}
+use Rattle.regress_calls.specs.Many.{IsNext}
+use Rattle.regress_calls.specs.Texts.{reading_of_text}
 use Rattle.regress_calls.proofs.ManyLemmas.{NextAfter, next-after, none-yet, many-more, many-still, many-ended, many-full, room-for-more, no-more-room}
 use Rattle.regress_calls.proofs.search.Search.find_many.Goals as goal
 

@@ -1,4 +1,4 @@
-use Rattle.std.proofs.Common.{◌≡◌, length, drop, option_map, sym, subst, arith}
+use Rattle.std.proofs.Common.{length, drop, option_map, sym, subst, arith}
 use Rattle.regress_meaning.specs.Offsets.{told}
 use Rattle.regress.specs.declared.api.Regex.{Regex}
 use Rattle.regress.specs.Outcomes.{outcome_at}

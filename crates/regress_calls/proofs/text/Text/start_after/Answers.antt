@@ -1,9 +1,9 @@
-use Rattle.std.proofs.Common.{◌≡◌, ◌∙◌, ◌⊎◌, ◌+◌, ◌<◌, ◌≤◌, ℕ, length, max, subst, sym, inl, inr, ap, ap₂, arith}
+use Rattle.std.proofs.Common.{◌≡◌, ◌∙◌, ◌+◌, ℕ, length, max, subst, sym, inl, inr, ap, ap₂, arith}
 use Rattle.std.proofs.lemmas.Bool.{cases_lt, false≢true}
 use Rattle.regress_meaning.specs.Offsets.{Begins, offset}
 use Rattle.regress_front_bytes.proofs.TextLemmas.{offset-le}
 use Rattle.regress_calls.specs.Texts.{reading_of_text}
-use Rattle.regress_calls.proofs.StartLemmas.{NoStart, text-rises, next-found, next-past, begins-past}
+use Rattle.regress_calls.proofs.StartLemmas.{text-rises, next-found, next-past, begins-past}
 use Rattle.regress_calls.proofs.text.Text.start_after.Goals as goal
 
 pub loop-start-init : goal.loop-start-init

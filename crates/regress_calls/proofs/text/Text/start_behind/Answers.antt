@@ -1,4 +1,4 @@
-use Rattle.std.proofs.Common.{◌≡◌, ◌∙◌, ◌+◌, ℕ, subst, sym, arith}
+use Rattle.std.proofs.Common.{◌≡◌, ◌∙◌, ℕ, subst, sym, arith}
 use Rattle.regress_meaning.specs.Offsets.{Begins, offset}
 use Rattle.regress_calls.specs.Texts.{reading_of_text}
 use Rattle.regress_calls.proofs.StartLemmas.{ends-at, next-empty, text-rises}
