@@ -1,5 +1,4 @@
-use Rattle.std.proofs.Common.{◌≡◌, ◌||◌, true, false, sym, ap, ◌∙◌, refl, count_by, arith}
-use Rattle.memchr.specs.Find.{is_byte}
+use Rattle.std.proofs.Common.{◌≡◌, ◌||◌, true, false, sym, ap, ◌∙◌, refl, arith}
 use Rattle.esgrep_rows.specs.Lines.{byte_of, is_last}
 use Rattle.esgrep_rows.proofs.CuttingLemmas.{ends-counted, lines-ended, lines-open, lines-few}
 use Rattle.esgrep_rows.proofs.line.count_lines.Goals as goal
