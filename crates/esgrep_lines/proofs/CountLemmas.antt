@@ -1,5 +1,5 @@
 -- Which lines are selected, and how many.
-use Rattle.std.proofs.Common.{◌≡◌, ◌≢◌, ◌↔◌, ℕ, zero, suc, ◌+◌, ◌-◌, ◌<◌, ◌≤◌, Bool, true, false, not, ◌&&◌, List, [], ◌∷◌, ◌++◌, length, take, refl, sym, ap, ◌∙◌, add-zero, length-take, lit≤, arith}
+use Rattle.std.proofs.Common.{◌≡◌, ◌≢◌, ◌↔◌, ℕ, zero, suc, ◌+◌, ◌-◌, ◌<◌, ◌≤◌, Bool, true, false, not, ◌&&◌, List, [], ◌∷◌, ◌++◌, length, take, refl, sym, ap, ◌∙◌, add-zero, length-take, lit≤, ne_eqb, arith}
 use Rattle.std.specs.Prelude.{◌==◌, IsTrue, nat_lt, min, filter, if◌then◌else◌}
 use Rattle.std.specs.Int.{from_bool}
 use Rattle.std.proofs.lemmas.Bool.{lt-ltb, ltb-true, ltb-false, eqb-true}
@@ -25,6 +25,22 @@ selected-is true invert (f ∷ fs) e = let some : nat_lt 0 (length (f ∷ fs)) �
     with_match true has e = rw e refl
     with_match false has e = rw e refl
 selected-is false invert (f ∷ fs) e = let bad : false ≡ true = e.1 (λ same. cc same) in absurd (cc bad)
+
+-- and where its matches are counted
+pub found-is : (empty invert : Bool) (n : ℕ) → empty ≡ (n == 0) → beq empty invert ≡ (if invert then not (nat_lt 0 n) else nat_lt 0 n)
+found-is empty invert zero is = ap (λ e. beq e invert) is ∙ by_invert invert
+  where
+    by_invert : (invert : Bool) → beq true invert ≡ (if invert then true else false)
+    by_invert true = refl
+    by_invert false = refl
+found-is empty invert (suc n) is =
+    let some : nat_lt 0 (suc n) ≡ true = lt-ltb 0 (suc n) (omega arith) in
+    let none : empty ≡ false = is ∙ ne_eqb (suc n) 0 (λ same. absurd (omega (arith, same))) in
+    ap (λ e. beq e invert) none ∙ by_invert invert ∙ sym (ap (λ b. if invert then not b else b) some)
+  where
+    by_invert : (invert : Bool) → beq false invert ≡ (if invert then false else true)
+    by_invert true = refl
+    by_invert false = refl
 
 -- one line more
 pub count-one : (o : Options) (find : Find) (n start : ℕ) (line : List ℕ) (lines : List (List ℕ)) → 0 < n

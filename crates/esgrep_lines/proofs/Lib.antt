@@ -2,3 +2,4 @@ pub mod PuttingLemmas
 pub mod CountLemmas
 pub mod StepLemmas
 pub mod RowsLemmas
+pub mod PassingLemmas

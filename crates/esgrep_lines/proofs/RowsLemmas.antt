@@ -1,5 +1,5 @@
 -- From the steps of a search to all rows of a text.
-use Rattle.std.proofs.Common.{◌≡◌, ℕ, ◌+◌, ◌-◌, ◌<◌, ◌≤◌, Bool, true, false, ◌&&◌, List, [], ◌∷◌, ◌++◌, length, take, Option, Some, None, refl, sym, ap, subst, ◌∙◌, append_assoc, append-nil, add-zero, arith}
+use Rattle.std.proofs.Common.{◌≡◌, ℕ, ◌+◌, ◌-◌, ◌<◌, ◌≤◌, Bool, true, false, List, [], ◌∷◌, ◌++◌, length, Option, Some, None, refl, sym, ap, subst, ◌∙◌, append_assoc, append-nil, add-zero, arith}
 use Rattle.std.specs.Prelude.{nat_lt, if◌then◌else◌}
 use Rattle.std.specs.Int.{from_bool}
 use Rattle.std.proofs.lemmas.Bool.{ltb-true, ltb-false, lt-ltb, le-ltb}
@@ -12,7 +12,6 @@ use Rattle.esgrep_rows.specs.Found.{Find}
 use Rattle.esgrep_rows.specs.Rows.{Progress, rows, held_back}
 use Rattle.esgrep_lines.specs.Putting.{AppendsFront, IsBeginning}
 use Rattle.esgrep_lines.proofs.StepLemmas.{rows-held}
-use Rattle.esgrep_lines.proofs.PuttingLemmas.{beginning-more}
 
 pub rows-none : (o : Options) (find : Find) (name : List ℕ) (most : ℕ) (p : Progress) → rows o find name most p [] ≡ []
 unfolding rows
@@ -53,6 +52,11 @@ IsPut-step o find name a b c most less p q left more row all put step now = reco
   appended = Appends-trans a b c put.done row put.appended now;
   whole = append_assoc put.done row (rows o find name less q more) ∙ ap (λ l. put.done ++ l) step ∙ put.whole;
 }
+
+-- other lines are left, whose rows are the same
+pub IsPut-left : (o : Options) (find : Find) (name : List ℕ) (a b : Option (List ℕ)) (most : ℕ) (p q : Progress) (left more : List Line) (all : List ℕ)
+    → rows o find name most q more ≡ rows o find name most p left → IsPut o find name a b most p left all → IsPut o find name a b most q more all
+IsPut-left o find name a b most p q left more all same put = record { done = put.done; appended = put.appended; whole = ap (λ l. put.done ++ l) same ∙ put.whole }
 
 -- a beginning of all was put out
 pub IsPut-front : (o : Options) (find : Find) (name : List ℕ) (a b : Option (List ℕ)) (most : ℕ) (p : Progress) (left : List Line) (all : List ℕ)

@@ -1,2 +1,3 @@
+pub mod Needed
 pub mod Output
 pub mod Putting

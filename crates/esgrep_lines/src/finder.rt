@@ -1,5 +1,7 @@
 //! What a search of a line finds.
-ghost use Rattle.std.specs.Prelude.{◌≡◌, ◌≢◌, ◌↔◌, ℕ, [], List, Option, map, IsTrue, IfOk, OnOk, IsOkUnless};
+ghost use Rattle.std.specs.Prelude.{◌≡◌, ◌≢◌, ◌↔◌, ℕ, [], List, Option, map, IsTrue, IfOk, IfSome, OnOk, IsOkUnless};
+ghost use Rattle.std.specs.Str.{IsUtf8};
+ghost use Rattle.esgrep_rows.specs.Lines.{StandNowhere};
 ghost use Rattle.esgrep_rows.specs.Found.{Find, found_of, LieInOrder};
 
 use regress_front_core::Error;
@@ -31,4 +33,13 @@ pub trait Finder {
             OnOk result (map (found_of template text.now) founds.new.items ≡ find start text.now) }
         ensures order { OnOk result (LieInOrder text.now 0 founds.new.items) }
         ensures refused { IsOkUnless result Error.OutOfMemory };
+
+    /// Bytes that stand in each text in which there is a match, where such are known.
+    ///
+    /// ```rust
+    /// let bytes = finder.literal(); // for `harbour (\w+)` those of `harbour `
+    /// ```
+    fn literal(&self) -> Option<&[u8]>
+        ensures needed { (template : Option (List ℕ)) → (find : Find) → finds self.now template find → (start : ℕ) → (text : List ℕ) → IsUtf8 text →
+            IfSome result (λ bytes. StandNowhere bytes.now text → find start text ≡ []) };
 }

@@ -6,6 +6,7 @@
 
 mod finder;
 mod output;
+mod passing;
 mod searching;
 
 pub use finder::Finder;

@@ -1,18 +1,19 @@
 //! A search of one text.
-ghost use Rattle.std.specs.Prelude.{◌≡◌, ◌≢◌, ◌≤◌, ◌<◌, ◌^◌, ◌++◌, ◌∷◌, ◌&&◌, ◌-◌, ◌+◌, ◌↔◌, ℕ, List, Option, [], true, false, nat_lt, length, vec_len, IfOk, OnOk, IsErrOf, IsOkUnless, string_bytes, if◌then◌else◌};
+ghost use Rattle.std.specs.Prelude.{◌≡◌, ◌≢◌, ◌≤◌, ◌<◌, ◌^◌, ◌++◌, ◌∷◌, ◌&&◌, ◌||◌, ◌-◌, ◌+◌, ◌↔◌, ℕ, List, Option, [], true, false, nat_lt, length, map, vec_len, IfOk, OnOk, IsErrOf, IsOkUnless, string_bytes, if◌then◌else◌};
 ghost use Rattle.std.specs.Io.KnownBytes.{Appends, append_known};
 ghost use Rattle.esgrep_rows.specs.Lines as line_words;
-ghost use Rattle.esgrep_rows.specs.Lines.{byte_of, lines};
-ghost use Rattle.esgrep_rows.specs.Found.{Find};
+ghost use Rattle.esgrep_rows.specs.Lines.{byte_of, lines, body};
+ghost use Rattle.esgrep_rows.specs.Found.{Found, Find, found_of, LieInOrder};
 ghost use Rattle.esgrep_rows.specs.Rows as row_words;
 ghost use Rattle.esgrep_rows.specs.Rows.{selected_row, selected_lines, found_at_line};
-ghost use Rattle.esgrep_rows.specs.Views.{template_text};
+ghost use Rattle.esgrep_rows.specs.Views.{puts_matches, template_text};
 ghost use Rattle.esgrep_rows.specs.Values.{line_of, progress_of};
 ghost use Rattle.esgrep_lines.specs.Output.{output_of, summary, summary_of, all_rows, told_count, count_of, needed, count_from};
 ghost use Rattle.esgrep_lines.specs.Putting.{has_failed, written, put_out, AppendsFront, IsBeginning};
 
 use crate::finder::Finder;
 use crate::output::{Output, Unwritten};
+use crate::passing::{needle_of, pass, pass_over};
 use esgrep_rows::{Line, Mode, Options, Progress, Rows, Shown, body_of, first_line};
 use regress_front_core::Error;
 use regress_match::Match;
@@ -132,6 +133,8 @@ fn count_selected<F: Finder>(
     ensures { (template : Option (List ℕ)) → (find : Find) → F.finds finder.now template find →
         IfOk result (λ count. count ≡ count_from options.now find most 0 (lines (byte_of options.now.ending) text.now)) }
 {
+    let literal = needle_of(finder, options);
+    let needle = literal.as_ref();
     let mut count = 0;
     let mut start = 0;
     let mut rest = text;
@@ -139,8 +142,9 @@ fn count_selected<F: Finder>(
         let (line, behind) = first_line(rest, options.ending);
         let selected = is_selected(finder, options, start, line)?;
         count += usize::from(selected);
-        start += line.len();
-        rest = behind;
+        let (passed, further) = pass(needle, options, count < most, behind);
+        start += line.len() + passed.len();
+        rest = further;
     }
     Ok(count)
 }
@@ -192,27 +196,55 @@ fn put_summary<F: Finder, W: Write + Drop>(
     Ok(count)
 }
 
-/// Appends what is put out for a selected line.
-fn push_selected<F: Finder>(
+/// Whether what is put out for a selected line depends on its matches.
+fn puts_founds(options: &Options) -> bool
+    ensures { result ≡ (puts_matches options.now.mode || options.now.rewrites) }
+{
+    options.mode.puts_matches() || options.rewrites
+}
+
+/// Whether a line is selected. Its matches are put into `founds`, where what is put out depends on them.
+fn select<F: Finder>(
     finder: &F,
+    options: &Options,
+    line: Line<'_>,
+    founds: &mut Vec<Match>,
+) -> Result<bool, Error>
+    ensures selected { (template : Option (List ℕ)) → (find : Find) → F.finds finder.now template find →
+        IfOk result (λ selected. selected ≡ row_words.is_selected options.now find line.entry.start line.entry.text.now) }
+    ensures found { (puts_matches options.now.mode || options.now.rewrites) ≡ true →
+        (template : Option (List ℕ)) → (find : Find) → F.finds finder.now template find →
+        OnOk result (map (found_of template (body options.now.ending line.entry.text.now)) founds.new.items ≡ found_at_line options.now find line.entry.start line.entry.text.now) }
+    ensures order { (puts_matches options.now.mode || options.now.rewrites) ≡ true →
+        OnOk result (LieInOrder (body options.now.ending line.entry.text.now) 0 founds.new.items) }
+{
+    if !puts_founds(options) {
+        return is_selected(finder, options, line.start, line.text);
+    }
+    finder.find_into(line.start, body_of(line.text, options.ending), founds)?;
+    Ok(founds.is_empty() == options.invert)
+}
+
+/// Appends what is put out for a selected line, in which these matches were found where that depends on them.
+fn push_selected(
     shown: &Shown<'_>,
     rows: Rows<'_>,
     row: &mut String,
     line: Line<'_>,
-    founds: &mut Vec<Match>,
+    founds: &[Match],
 ) -> Result<(), Error>
-    requires { line.start + length line.text.now < 2 ^ 64 }
-    ensures { (find : Find) → F.finds finder.now (template_text shown.now) find →
-        OnOk result (string_bytes row.new ≡ string_bytes row.old
-        ++ selected_row rows.entry.options rows.entry.name.now (line_of line.entry) (found_at_line rows.entry.options find line.entry.start line.entry.text.now)) }
+    requires fits { line.start + length line.text.now < 2 ^ 64 }
+    requires order { (puts_matches rows.options.mode || rows.options.rewrites) ≡ true → LieInOrder (body rows.options.ending line.text.now) 0 founds.now }
+    ensures { (found : List Found) →
+        ((puts_matches rows.entry.options.mode || rows.entry.options.rewrites) ≡ true →
+        map (found_of (template_text shown.now) (body rows.entry.options.ending line.entry.text.now)) founds.now ≡ found) →
+        OnOk result (string_bytes row.new ≡ string_bytes row.old ++ selected_row rows.entry.options rows.entry.name.now (line_of line.entry) found) }
 {
-    if !rows.options.mode.puts_matches() && !rows.options.rewrites {
-        rows.push_line(row, line)?;
-        return Ok(());
+    if puts_founds(&rows.options) {
+        return rows.push_selected(row, shown, line, founds);
     }
-    let body = body_of(line.text, rows.options.ending);
-    finder.find_into(line.start, body, founds)?;
-    rows.push_selected(row, shown, line, founds)
+    rows.push_line(row, line)?;
+    Ok(())
 }
 
 /// Appends what is put out for a line, and goes on to the next. Answers whether it is selected, where it may be.
@@ -236,9 +268,9 @@ fn push_step<'t, F: Finder>(
         ≡ string_bytes row.old ++ row_words.rows rows.entry.options find rows.entry.name.now most (progress_of progress.old) (line_of line.entry ∷ more)) }
 {
     let options = &rows.options;
-    if may_select && is_selected(finder, options, line.start, line.text)? {
+    if may_select && select(finder, options, line, founds)? {
         rows.push_before(row, progress)?;
-        push_selected(finder, shown, rows, row, line, founds)?;
+        push_selected(shown, rows, row, line, founds)?;
         progress.follow(options.after);
         return Ok(true);
     }
@@ -271,6 +303,9 @@ fn put_rows<F: Finder, W: Write + Drop>(
         IsBeginning (written W.contents output.new) (append_known (put_out W.contents output.old) (all_rows rows.entry.options find rows.entry.name.now text.now)) }
     ensures failure { (has_failed output.new ≡ true) ↔ IsErrOf result SearchError.Write }
 {
+    let options = rows.options;
+    let literal = needle_of(finder, &options);
+    let needle = literal.as_ref();
     let mut row = String::new(alloc);
     let mut founds = Vec::new(alloc);
     let mut progress = Progress::new(alloc);
@@ -298,9 +333,11 @@ fn put_rows<F: Finder, W: Write + Drop>(
         )?;
         output.put(row.as_bytes())?;
         count += usize::from(selected);
-        number += 1;
-        start += first.len();
-        rest = behind;
+        let may_select = count < rows.options.most;
+        let passed = pass_over(needle, rows, may_select, &mut progress, behind);
+        number += 1 + passed.lines;
+        start += first.len() + passed.bytes;
+        rest = passed.rest;
     }
     Ok(count)
 }

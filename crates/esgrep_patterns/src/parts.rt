@@ -73,6 +73,10 @@ impl Finder for Parts {
         }
         Ok(())
     }
+
+    fn literal(&self) -> Option<&[u8]> {
+        None
+    }
 }
 
 /// From where on a match touches lines: from its start, or the byte before it where the match begins between `\r` and `\n`.

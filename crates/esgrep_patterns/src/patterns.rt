@@ -80,6 +80,13 @@ impl Finder for Patterns {
             _ => self.find_several_into(text, founds),
         }
     }
+
+    fn literal(&self) -> Option<&[u8]> {
+        match self.regexes.as_slice() {
+            [regex] => regex.literal_prefix(),
+            _ => None,
+        }
+    }
 }
 
 /// Whether there is a match of one of several patterns.

@@ -1,2 +1,4 @@
 pub mod LineLemmas
+pub mod CuttingLemmas
+pub mod PassingLemmas
 pub mod RewritingLemmas

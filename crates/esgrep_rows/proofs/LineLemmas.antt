@@ -15,16 +15,16 @@ none_behind : (end b : ℕ) (text : List ℕ) (n : ℕ) → NoneAmong end (b ∷
 none_behind end b text n none = λ k below. let h : suc k < suc n = omega (arith, below) in none (suc k) h
 
 -- the first byte ends the first line
-lines-end : (end b : ℕ) (text : List ℕ) → eqb b end ≡ true → lines end (b ∷ text) ≡ (b ∷ []) ∷ lines end text
+pub lines-end : (end b : ℕ) (text : List ℕ) → eqb b end ≡ true → lines end (b ∷ text) ≡ (b ∷ []) ∷ lines end text
 unfolding lines
 lines-end end b text is = rw is refl
 
 -- the first byte doesn't
-lines-more : (end b : ℕ) (text : List ℕ) → eqb b end ≡ false → lines end (b ∷ text) ≡ in_front b (lines end text)
+pub lines-more : (end b : ℕ) (text : List ℕ) → eqb b end ≡ false → lines end (b ∷ text) ≡ in_front b (lines end text)
 unfolding lines
 lines-more end b text is = rw is refl
 
-lines-none : (end : ℕ) → lines end [] ≡ []
+pub lines-none : (end : ℕ) → lines end [] ≡ []
 unfolding lines
 lines-none end = refl
 
@@ -46,7 +46,7 @@ first_line-last end b (c ∷ text) none =
     let here : eqb b end ≡ false = none zero (omega arith) in
     lines-more end b (c ∷ text) here ∙ ap (in_front b) (first_line-last end c text (none_behind end b (c ∷ text) (suc (length text)) none))
 
-not_true : (b : Bool) → (b ≡ true → ⊥) → b ≡ false
+pub not_true : (b : Bool) → (b ≡ true → ⊥) → b ≡ false
 not_true true h = absurd (h refl)
 not_true false h = refl
 

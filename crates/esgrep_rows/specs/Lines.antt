@@ -1,5 +1,7 @@
 -- The lines of a text.
-use Rattle.std.specs.Prelude.{ℕ, ◌+◌, ◌-◌, ◌==◌, ◌&&◌, Bool, nat_lt, List, [], ◌∷◌, ◌++◌, length, take, drop, slice_index, if◌then◌else◌}
+use Rattle.std.specs.Prelude.{ℕ, ◌+◌, ◌-◌, ◌==◌, ◌&&◌, Bool, nat_lt, List, [], ◌∷◌, ◌++◌, length, take, drop, slice_index, All, if◌then◌else◌}
+use Rattle.std.specs.Str.{IsUtf8}
+use Rattle.memchr.specs.Find.{OccursAt}
 use Rattle.esgrep_rows.specs.declared.ending.Ending.{Ending}
 use Rattle.esgrep_rows.specs.declared.ending.Ending.TheVariants.{Newline, Nul}
 
@@ -31,6 +33,14 @@ body_len Nul line = if is_last 0 line then length line - 1 else length line
 -- What is searched of a line.
 abbrev pub body : Ending → List ℕ → List ℕ
 body ending line = take (body_len ending line) line
+
+-- some bytes stand nowhere in a text
+abbrev pub StandNowhere : List ℕ → List ℕ → Type 0
+StandNowhere bytes text = (at : ℕ) → ¬ OccursAt text bytes at
+
+-- in what is searched of each of these lines, which is UTF-8, some bytes stand nowhere
+abbrev pub AreWithout : Ending → List ℕ → List (List ℕ) → Type 0
+AreWithout ending bytes lines = All (λ line. IsUtf8 (body ending line) × StandNowhere bytes (body ending line)) lines
 
 -- how a line ends where it is put out: as in the text, and the last one with the byte too
 abbrev pub tail : Ending → List ℕ → List ℕ

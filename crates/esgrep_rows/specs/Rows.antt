@@ -89,6 +89,10 @@ held_back before p line =
     let held = p.held ++ line ∷ [] in
     record { behind = 0; held = drop (length held - before) held; is_begun = p.is_begun; has_gap = p.has_gap || nat_lt before (length held) }
 
+-- lines are left out, and none is held back
+abbrev pub left_out : Progress → Progress
+left_out p = record { behind = 0; held = []; is_begun = p.is_begun; has_gap = true }
+
 -- The rows of lines from where they are on, of which so many may still be selected.
 unfoldable pub rows : Options → Find → List ℕ → ℕ → Progress → List Line → List ℕ
 rows o find name most p [] = []

@@ -1,10 +1,10 @@
 //! The lines of a text.
-ghost use Rattle.std.specs.Prelude.{◌≡◌, ◌≢◌, ◌<◌, ◌≤◌, ◌++◌, ◌∷◌, [], length, drop};
+ghost use Rattle.std.specs.Prelude.{◌≡◌, ◌≢◌, ◌<◌, ◌≤◌, ◌++◌, ◌∷◌, [], length, take, drop};
 ghost use Rattle.std.specs.Str.{IsCharBoundary};
-ghost use Rattle.esgrep_rows.specs.Lines.{lines, byte_of, body_len, body, is_last};
+ghost use Rattle.esgrep_rows.specs.Lines.{lines, byte_of, body_len, body, is_last, AreWithout};
 
 use crate::ending::Ending;
-use memchr::memchr;
+use memchr::{memchr, memchr_iter, memmem, memrchr};
 
 /// A line of a text.
 #[derive(Clone, Copy, Debug)]
@@ -31,6 +31,57 @@ pub fn first_line(text: &str, ending: Ending) -> (&str, &str)
     match memchr(ending.byte(), text.as_bytes()) {
         Some(at) => text.split_at(at + 1),
         None => (text, ""),
+    }
+}
+
+/// How many lines a text has.
+///
+/// ```rust
+/// let count = count_lines("one\ntwo", Ending::Newline); // 2
+/// ```
+pub fn count_lines(text: &str, ending: Ending) -> usize
+    ensures value { result ≡ length (lines (byte_of ending) text.now) }
+    ensures few { result ≤ length text.now }
+{
+    let ends = memchr_iter(ending.byte(), text.as_bytes()).count();
+    if text.is_empty() || is_ended(text, ending) {
+        ends
+    } else {
+        ends + 1
+    }
+}
+
+/// The lines in front of the first line that holds what is looked for, and the text from that line on. Where it stands nowhere,
+/// these are all lines, and no text.
+///
+/// ```rust
+/// let (passed, rest) = lines_without("a\nb\nxyz\n", &memmem::Finder::new(b"yz"), Ending::Newline); // `a\nb\n` and `xyz\n`
+/// ```
+pub fn lines_without<'t>(
+    text: &'t str,
+    needle: &memmem::Finder<'_>,
+    ending: Ending,
+) -> (&'t str, &'t str)
+    ensures lines { lines (byte_of ending) text.now ≡ lines (byte_of ending) result.0.now ++ lines (byte_of ending) result.1.now }
+    ensures whole { text.now ≡ result.0.now ++ result.1.now }
+    ensures without { AreWithout ending needle.now (lines (byte_of ending) result.0.now) }
+{
+    match needle.find(text.as_bytes()) {
+        Some(at) => text.split_at(line_start(text, at, ending)),
+        None => (text, ""),
+    }
+}
+
+/// Where a line begins, told by the offset of one of its bytes.
+fn line_start(text: &str, at: usize, ending: Ending) -> usize
+    requires { at ≤ length text.now }
+    ensures bound { result ≤ at }
+    ensures boundary { IsCharBoundary text.now result }
+    ensures lines { lines (byte_of ending) text.now ≡ lines (byte_of ending) (take result text.now) ++ lines (byte_of ending) (drop result text.now) }
+{
+    match memrchr(ending.byte(), &text.as_bytes()[..at]) {
+        Some(end) => end + 1,
+        None => 0,
     }
 }
 

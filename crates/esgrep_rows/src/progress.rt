@@ -18,7 +18,7 @@ pub struct Progress<'t> {
 }
 
 impl<'t> Progress<'t> {
-    ghost use Rattle.esgrep_rows.specs.Rows.{beginning, following, held_back};
+    ghost use Rattle.esgrep_rows.specs.Rows.{beginning, following, held_back, left_out};
     ghost use Rattle.esgrep_rows.specs.Values.{progress_of, line_of};
 
     /// Before the first line.
@@ -72,5 +72,19 @@ impl<'t> Progress<'t> {
             self.has_gap = true;
         }
         Ok(())
+    }
+
+    /// Lines are left out. Asks that none is held back, and that none is to be put out.
+    ///
+    /// ```rust
+    /// progress.leave_out();
+    /// ```
+    pub fn leave_out(&mut self)
+        requires none { vec_len self.old.held ≡ 0 }
+        requires behind { self.old.behind ≡ 0 }
+        ensures none { vec_len self.new.held ≡ 0 }
+        ensures value { progress_of self.new ≡ left_out (progress_of self.old) }
+    {
+        self.has_gap = true;
     }
 }

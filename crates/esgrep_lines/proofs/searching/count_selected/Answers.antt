@@ -1,11 +1,12 @@
 use Rattle.std.proofs.Common.{rules, ◌≡◌, ◌<◌, ◌≤◌, ◌+◌, ◌-◌, true, length, sym, ap, ◌∙◌, length-append, arith}
 use Rattle.std.specs.Prelude.{nat_lt}
-use Rattle.std.specs.Int.{from_bool}
 use Rattle.std.proofs.lemmas.Bool.{lt-ltb, not-false}
 use Rattle.esgrep_rows.specs.Lines.{byte_of, lines}
 use Rattle.esgrep_rows.specs.Rows.{is_selected}
+use Rattle.esgrep_lines.specs.Needed.{AreNeeded}
 use Rattle.esgrep_lines.specs.Output.{count_from}
 use Rattle.esgrep_lines.proofs.CountLemmas.{one-at-most, count-step, may-and, empty-text, count-over_text, count-over_most}
+use Rattle.esgrep_lines.proofs.PassingLemmas.{borrowed, count-passed}
 use Rattle.esgrep_lines.proofs.searching.count_selected.Goals as goal
 use Rattle.esgrep_lines.proofs.searching.count_selected.Goals.{then-loop-count-test+else-not-is_empty, else-loop-count-test}
 
@@ -16,6 +17,9 @@ loop-count-preserved g c =
     let selected = c.in_ok-selected.selected in
     let first = c.first_line.result.0.now in
     let behind = c.first_line.result.1.now in
+    let end = byte_of o.ending in
+    let passed = c.pass.result.0.now in
+    let further = c.pass.result.1.now in
     let one = one-at-most selected in
     let to = c.from-count.ensures in
     let before = c.loop-count.invariant in
@@ -23,9 +27,14 @@ loop-count-preserved g c =
     record {
       text = search rules;
       few = omega (arith, one, to, below);
-      place = omega (arith, ap length c.first_line.ensures.whole, length-append first behind, before.place);
+      place = omega (arith, ap length c.first_line.ensures.whole, length-append first behind, ap length c.pass.ensures.whole, length-append passed further, before.place);
       counted = λ template find finds.
-          count-step o find c.args.most count (count + c.from-count.result) c.loop-count.start first (lines (byte_of o.ending) behind) selected
+          let none = c.pass.ensures.unselected find (borrowed (AreNeeded o find) c.as_ref-needle.result c.needle_of-literal.result c.as_ref-needle.ensures.value (c.needle_of-literal.ensures template find finds)) in
+          let at : c.loop-count.start + (length first + length passed) ≡ c.loop-count.start + length first + length passed = omega arith in
+          ap (λ s. count + c.from-count.result + count_from o find (c.args.most - (count + c.from-count.result)) s (lines end further)) at
+          ∙ ap (λ n. count + c.from-count.result + n)
+          (count-passed o find end (c.args.most - (count + c.from-count.result)) (c.loop-count.start + length first) behind passed further c.pass.ensures.lines none)
+          ∙ count-step o find c.args.most count (count + c.from-count.result) c.loop-count.start first (lines (byte_of o.ending) behind) selected
           (may-and (nat_lt count c.args.most) selected (is_selected o find c.loop-count.start first) (lt-ltb count c.args.most below) (c.in_ok-selected.ensures template find finds))
           (ap (λ n. count + n) to)
           ∙ ap (λ ls. count + count_from o find (c.args.most - count) c.loop-count.start ls) (sym c.first_line.ensures.first)
