@@ -1,2 +1,4 @@
 pub mod OrderLemmas
 pub mod FoundLemmas
+pub mod HitLemmas
+pub mod SeveralLemmas

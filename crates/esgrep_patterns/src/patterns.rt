@@ -1,13 +1,15 @@
 //! The patterns that are searched for.
-ghost use Rattle.std.specs.Prelude.{◌≡◌, ◌≤◌, ◌<◌, ◌+◌, ℕ, List, Option, [], length, map, IfOk, IfSome, OnOk, IsOkUnless};
+ghost use Rattle.std.specs.Prelude.{◌≡◌, ◌≢◌, ◌≤◌, ◌<◌, ◌+◌, ◌↔◌, ℕ, List, Option, None, [], length, map, chars, IfOk, IfSome, IsTrue, OnOk, IsOkUnless};
 ghost use Rattle.regress_meaning.specs.Table.{Table};
 ghost use Rattle.regress_meaning.specs.Pattern.{Pattern};
 ghost use Rattle.regress_meaning.specs.Flags.{Options};
+ghost use Rattle.regress_meaning.specs.Matches.{next_place};
+ghost use Rattle.regress_meaning.specs.Offsets.{of_utf8, Begins};
 ghost use Rattle.regress_match.specs.TextRanges.{LiesInText};
 ghost use Rattle.regress.specs.Standing.{StandsFor, names_of_regex};
 ghost use Rattle.regress.specs.Coming.{IsStart};
 ghost use Rattle.esgrep_rows.specs.Found.{found_of, LieInOrder};
-ghost use Rattle.esgrep_patterns.specs.Seeking.{found_in, regexes_of, BeginsInText};
+ghost use Rattle.esgrep_patterns.specs.Seeking.{Sought, Hit, sooner, first_hit, leftmost, found_in, found_of_several, regexes_of, AreHits, BeginsInText, IsHit, Seeks, SeekAll};
 
 use esgrep_lines::Finder;
 use regress::{Error, Match, Regex, is_start};
@@ -33,6 +35,8 @@ impl Patterns {
     /// Appends all matches of several patterns: from each place on the leftmost.
     fn find_several_into(&self, text: &str, founds: &mut Vec<Match>) -> Result<(), Error>
         requires { founds.old.items ≡ [] }
+        ensures found { (ss : List Sought) → SeekAll (regexes_of self.now) ss → (template : Option (List ℕ)) →
+            OnOk result (map (found_of template text.now) founds.new.items ≡ found_of_several ss template text.now) }
         ensures order { OnOk result (LieInOrder text.now 0 founds.new.items) }
         ensures refused { IsOkUnless result Error.OutOfMemory }
     {
@@ -50,6 +54,8 @@ impl Patterns {
     /// Of the first match of each pattern from `start` on the leftmost, and of those that begin there that of the first pattern.
     fn leftmost(&self, text: &str, start: usize) -> Result<Option<Match>, Error>
         requires { IsStart text.now start }
+        ensures found { (ss : List Sought) → SeekAll (regexes_of self.now) ss → (place : ℕ) → Begins (of_utf8 text.now) start place →
+            IfOk result (λ found. AreHits text.now found (leftmost (chars text.now) ss place)) }
         ensures inside { IfOk result (λ found. IfSome found (BeginsInText text.now start)) }
         ensures refused { IsOkUnless result Error.OutOfMemory }
     {
@@ -62,23 +68,23 @@ impl Patterns {
 }
 
 impl Finder for Patterns {
-    ghost use Rattle.esgrep_patterns.specs.Seeking.{FindsOne};
+    ghost use Rattle.esgrep_patterns.specs.Seeking.{Finds};
 
-    ghost finds = { FindsOne };
+    ghost finds = { Finds };
 
     fn is_match(&self, _start: usize, text: &str) -> Result<bool, Error> {
-        match self.regexes.as_slice() {
-            [regex] => regex.is_match(text),
-            regexes => is_any_match(regexes, text),
+        if self.regexes.len() == 1 {
+            return self.regexes[0].is_match(text);
         }
+        is_any_match(&self.regexes, text)
     }
 
     fn find_into(&self, _start: usize, text: &str, founds: &mut Vec<Match>) -> Result<(), Error> {
         founds.clear();
-        match self.regexes.as_slice() {
-            [regex] => find_one_into(regex, text, founds),
-            _ => self.find_several_into(text, founds),
+        if self.regexes.len() == 1 {
+            return find_one_into(&self.regexes[0], text, founds);
         }
+        self.find_several_into(text, founds)
     }
 
     fn literal(&self) -> Option<&[u8]> {
@@ -91,7 +97,9 @@ impl Finder for Patterns {
 
 /// Whether there is a match of one of several patterns.
 fn is_any_match(regexes: &[Regex], text: &str) -> Result<bool, Error>
-    ensures { IsOkUnless result Error.OutOfMemory }
+    ensures found { (ss : List Sought) → SeekAll regexes.now ss →
+        IfOk result (λ found. IsTrue found ↔ (leftmost (chars text.now) ss 0 ≢ None)) }
+    ensures refused { IsOkUnless result Error.OutOfMemory }
 {
     for regex in regexes {
         if regex.is_match(text)? {
@@ -119,18 +127,24 @@ fn find_one_into(regex: &Regex, text: &str, founds: &mut Vec<Match>) -> Result<(
 /// The first match of a pattern from `start` on.
 fn first_from(regex: &Regex, text: &str, start: usize) -> Result<Option<Match>, Error>
     requires { IsStart text.now start }
+    ensures found { (s : Sought) → Seeks regex.now s → (place : ℕ) → Begins (of_utf8 text.now) start place →
+        IfOk result (λ found. AreHits text.now found (first_hit (chars text.now) place s)) }
     ensures inside { IfOk result (λ found. IfSome found (BeginsInText text.now start)) }
     ensures refused { IsOkUnless result Error.OutOfMemory }
 {
-    match regex.find_from(text, start)?.next().transpose()? {
-        Some(found) if found.start() >= start => Ok(Some(found)),
-        _ => Ok(None),
+    let Some(found) = regex.find_from(text, start)?.next().transpose()? else {
+        return Ok(None);
+    };
+    if found.start() < start {
+        return Ok(None);
     }
+    Ok(Some(found))
 }
 
 /// The one of two matches that begins first; the first of them where both begin at one place.
 fn sooner(first: Option<Match>, second: Option<Match>) -> Option<Match>
-    ensures { (text : List ℕ) → (start : ℕ) → IfSome first (BeginsInText text start) → IfSome second (BeginsInText text start)
+    ensures hits { (text : List ℕ) → (a b : Option Hit) → AreHits text first a → AreHits text second b → AreHits text result (sooner a b) }
+    ensures inside { (text : List ℕ) → (start : ℕ) → IfSome first (BeginsInText text start) → IfSome second (BeginsInText text start)
         → IfSome result (BeginsInText text start) }
 {
     match (first, second) {
@@ -149,6 +163,7 @@ fn sooner(first: Option<Match>, second: Option<Match>) -> Option<Match>
 /// Where a search goes on behind a match: at its end, or a character later where it is empty.
 fn behind(text: &str, found: &Match) -> usize
     requires { LiesInText text.now found.now }
+    ensures next { (h : Hit) → IsHit text.now found.now h → Begins (of_utf8 text.now) result (next_place h.item) }
     ensures later { found.now.range.start < result }
     ensures after { found.now.range.end ≤ result }
     ensures start { result ≤ length text.now → IsStart text.now result }

@@ -1,11 +1,11 @@
-use Rattle.std.proofs.Common.{◌≡◌, ◌≤◌, List, [], ◌∷◌, ◌++◌, map, refl, sym, ap, subst, ◌∙◌}
+use Rattle.std.proofs.Common.{List, ◌∷◌, map, ap, subst, ◌∙◌}
 use Rattle.regress_meaning.specs.Matches.{Item}
 use Rattle.regress_match.specs.Views.{item_of}
 use Rattle.regress.specs.Standing.{names_of_regex}
 use Rattle.regress.specs.Behind.{LieBehind}
 use Rattle.regress.specs.Coming.{coming, searched, searched_names}
 use Rattle.regress.proofs.RisingLemmas.{behind-front}
-use Rattle.esgrep_rows.specs.Found.{found_at, LieInOrder}
+use Rattle.esgrep_rows.specs.Found.{found_at}
 use Rattle.esgrep_patterns.proofs.OrderLemmas.{reached, reached-more, order-more, found-more, found-all}
 use Rattle.esgrep_patterns.proofs.patterns.find_one_into.Goals as goal
 

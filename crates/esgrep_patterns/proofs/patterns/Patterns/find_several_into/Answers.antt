@@ -1,6 +1,17 @@
-use Rattle.std.proofs.Common.{◌≤◌, arith}
+use Rattle.std.proofs.Common.{◌≤◌, ◌+◌, refl, inl, arith, length, chars}
 use Rattle.esgrep_patterns.proofs.OrderLemmas.{reached, reached-more, order-more}
+use Rattle.esgrep_patterns.proofs.HitLemmas.{hit-some, hit-none}
+use Rattle.esgrep_patterns.proofs.SeveralLemmas.{found-step, found-end, none-past}
 use Rattle.esgrep_patterns.proofs.patterns.Patterns.find_several_into.Goals as goal
+use Rattle.esgrep_patterns.proofs.patterns.Patterns.find_several_into.Goals.{else-loop-start-test, then-loop-start-test+in_ok-found+in_default}
+
+pub loop-start-init : goal.loop-start-init
+loop-start-init c = record {
+  start = λ room. (0, inl (omega arith, refl));
+  order = rw c.requires tt;
+  behind = rw c.requires (omega arith);
+  found = λ ss seek template. (length (chars c.args.text.now) + 1, 0, inl (omega arith, refl), omega arith, rw c.requires refl);
+}
 
 pub loop-start-preserved : goal.loop-start-preserved
 loop-start-preserved c =
@@ -14,4 +25,21 @@ loop-start-preserved c =
       start = c.behind-start.ensures.start;
       order = rw c.in_ok-push.ensures.items (order-more text 0 ms m before.order later found.0);
       behind = rw (c.in_ok-push.ensures.items, reached-more 0 ms m) c.behind-start.ensures.after;
+      found = λ ss seek template.
+          let (n, place, begins, room, same) = before.found ss seek template in
+          let all = c.in_ok-found.ensures.found ss seek place begins in
+          let (h, is, hit) = hit-some text m _ (rw c.in-Some.is at all) in
+          let (left, more, next) = found-step template text c.utf8.text ss n place ms m h is hit room _ same in
+          (left, _, c.behind-start.ensures.next h hit, more, rw c.in_ok-push.ensures.items next);
     }
+
+pub returns-clause-found : goal.returns-clause-found
+returns-clause-found c = λ ss seek template.
+    let text = c.args.text.now in
+    let (n, place, begins, room, same) = c.loop-start.invariant.found ss seek template in
+    elim c.loop-start-test.branch [
+      | else-loop-start-test w ↦ found-end template text ss n place _ _ (none-past text c.utf8.text ss place c.loop-start.start begins (omega (arith, w.loop-start-test.false))) same
+      | then-loop-start-test+in_ok-found+in_default w ↦
+          let all = w.in_ok-found.ensures.found ss seek place begins in
+          found-end template text ss n place _ _ (hit-none text _ (rw w.in_default.is at all)) same
+    ]

@@ -1,13 +1,19 @@
-use Rattle.std.proofs.Common.{sym, subst}
-use Rattle.regress.specs.declared.api.Regex.{Regex}
-use Rattle.regress.specs.Standing.{StandsFor, names_of_regex}
-use Rattle.esgrep_patterns.proofs.FoundLemmas.{alone-first, found-ok}
+use Rattle.std.proofs.Common.{arith, ◌∙◌}
+use Rattle.esgrep_patterns.proofs.FoundLemmas.{found-ok}
+use Rattle.esgrep_patterns.proofs.SeveralLemmas.{found-alone, several, several-ok}
 use Rattle.esgrep_patterns.proofs.patterns.PatternsFinder.is_match.Goals as goal
 
-pub returns-in-len1-clause-found : goal.returns-in-len1-clause-found
-returns-in-len1-clause-found c = λ template find finds.
+pub returns-then-len-eq1-clause-found : goal.returns-then-len-eq1-clause-found
+returns-then-len-eq1-clause-found c = λ template find finds.
     let text = c.args.text.now in
-    let same = alone-first c.args.self.now.regexes.items finds.regex c.regex-item.result finds.alone (rw c.as_slice.ensures.value at c.regex-item.is) in
-    let stands = subst (λ (r : Regex). StandsFor r finds.table finds.options finds.tree) (sym same) finds.stands in
-    found-ok c.is_match.result finds.table finds.options finds.tree template (names_of_regex finds.regex) text (find c.args._start text)
-    (finds.finds c.args._start text) (c.is_match.ensures.found finds.table finds.options finds.tree stands)
+    found-alone c.args.self.now.regexes.items finds.sought c.index.result.now (omega (arith, c.if-len-eq1.true, c.len.ensures)) c.index.ensures finds.seek
+    template text (find c.args._start text) (finds.finds c.args._start text) _
+    (λ s seeks is. found-ok c.is_match.result s.table s.options s.pattern template s.names text (find c.args._start text) is
+    (c.is_match.ensures.found s.table s.options s.pattern seeks.0))
+
+pub returns-clause-found : goal.returns-clause-found
+returns-clause-found c = λ template find finds.
+    let text = c.args.text.now in
+    let many = several c.args.self.now.regexes.items finds.sought finds.seek (λ one. omega (arith, c.if-len-eq1.false, c.len.ensures, one)) template text in
+    several-ok c.is_any_match.result finds.sought template text (find c.args._start text) (finds.finds c.args._start text ∙ many)
+    (c.is_any_match.ensures.found finds.sought (rw c.deref.ensures.value finds.seek))

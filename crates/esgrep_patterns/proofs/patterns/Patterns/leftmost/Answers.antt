@@ -1,0 +1,30 @@
+use Rattle.std.proofs.Common.{◌≡◌, None, refl, sym, ap, subst, ◌∙◌, arith, chars, drop, length}
+use Rattle.esgrep_patterns.specs.Seeking.{leftmost_of, AreHits}
+use Rattle.esgrep_patterns.proofs.HitLemmas.{sought-end, leftmost-step}
+use Rattle.esgrep_patterns.proofs.patterns.Patterns.leftmost.Goals as goal
+
+pub loop-regex-init : goal.loop-regex-init
+loop-regex-init c = record { inside = tt; found = λ ss seek place begins. (None, tt, refl) }
+
+pub loop-regex-preserved : goal.loop-regex-preserved
+loop-regex-preserved c =
+    let text = c.args.text.now in
+    let regexes = c.args.self.now.regexes.items in
+    record {
+      inside = c.sooner-leftmost.ensures.inside text c.args.start c.loop-regex.invariant.inside c.in_ok-first_from.ensures.inside;
+      found = λ ss seek place begins.
+          leftmost-step text place regexes ss c.loop-regex.regex-index c.regex-item.result (rw c.deref-regex-items.ensures.value at c.regex-item.is)
+          (omega (arith, c.loop-regex-test.true, ap length c.deref-regex-items.ensures.value)) seek c.loop-regex.leftmost c.in_ok-first_from.field-0 c.sooner-leftmost.result
+          (c.sooner-leftmost.ensures.hits text) (λ s seeks. c.in_ok-first_from.ensures.found s seeks place begins) (c.loop-regex.invariant.found ss seek place begins);
+    }
+
+pub returns-clause-found : goal.returns-clause-found
+returns-clause-found c = λ ss seek place begins.
+    let text = c.args.text.now in
+    let regexes = c.args.self.now.regexes.items in
+    let (hit, is, same) = c.loop-regex.invariant.found ss seek place begins in
+    let last : c.loop-regex.regex-index ≡ length regexes =
+    omega (arith, c.loop-regex-test.false, c.loop-regex.auto.regex-index-end, ap length c.deref-regex-items.ensures.value) in
+    let rest = ap (λ k. drop k ss) last ∙ sought-end regexes ss seek in
+    let all : hit ≡ _ = sym (ap (leftmost_of (chars text) place hit) rest) ∙ same in
+    subst (AreHits text c.loop-regex.leftmost) all is
