@@ -12,4 +12,4 @@ mod strings;
 
 pub use compiled::CompiledRegex;
 pub use emission::{emit, emit_units};
-pub use regress_engine_prefix::StartPredicate;
+pub use regress_engine_prefix::{Landmark, StartPredicate};
