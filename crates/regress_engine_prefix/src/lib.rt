@@ -7,5 +7,6 @@ mod prefilter;
 mod prefix;
 mod start;
 
+pub use first_bytes::{first_of_ascii, first_of_bracket, first_of_chars, first_of_intervals};
 pub use prefilter::Prefilter;
 pub use start::{StartPredicate, predicate_for_re};
