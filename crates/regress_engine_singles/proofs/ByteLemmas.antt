@@ -23,7 +23,6 @@ use Rattle.regress_engine_runs.specs.States.{Marks}
 use Rattle.regress_engine_runs.specs.Runs.{advance}
 use Rattle.regress_engine_runs.specs.Meets.{IsAtPlace}
 use Rattle.regress_engine_search.proofs.PlaceLemmas.{next-place}
-use Rattle.regress_engine_singles.specs.Disjoint.{AreDisjoint}
 
 -- the first of bytes that stand to the right of an offset is there
 first-unit : (units bs : List ℕ) (b o q : ℕ) → (if same_text (b ∷ bs) (slice_range units o (o + length (b ∷ bs))) then Some (o + length (b ∷ bs)) else None) ≡ Some q → slice_get units o ≡ Some b
@@ -112,36 +111,3 @@ pub byte-places : (v : View) → AreOfKind v.kind v.units → are_bytes v.kind �
     → x ≡ literal (input_of v) Forward bs o → IfSome x (IsAtPlace (reading_of v))
 byte-places v all are bs one low o place None e = tt
 byte-places v all are bs one low o place (Some q) e = byte-place v all are bs one low o q place (sym e)
-
--- An instruction that tests one character and bytes whose first is a character that fails are apart.
-pub disjoint-by-test : (program : Program) (v : View) → are_bytes v.kind ≡ true → (i : Instruction) (test : ℕ → Bool)
-    → ((groups : List Marks) (o : ℕ) → advance program (input_of v) i Forward groups o ≡ passed test ((input_of v).next Forward o))
-    → (b : ℕ) (bs : List ℕ) → b < 0x80 → test b ≡ false → AreDisjoint program (input_of v) i (code.byte_seq (b ∷ bs))
-disjoint-by-test program v are i test does b bs low fails groups o q takes others = by_found (literal (input_of v) Forward (b ∷ bs) o) refl
-  where
-    by_found : (x : Option ℕ) → literal (input_of v) Forward (b ∷ bs) o ≡ x → None ≡ x
-    by_found None e = refl
-    by_found (Some r) e =
-        let next = byte-next v.kind v.table v.unicode v.units bs b o r are low e in
-        let none : passed test (Some (b, suc o)) ≡ None = ap (λ t. if t then Some (suc o) else None) fails in
-        let is : passed test (Some (b, suc o)) ≡ Some q = ap (passed test) (sym next) ∙ sym (does groups o) ∙ takes in
-        absurd (grind arith)
-
--- the members of a set of ASCII are in it, and under 0x80
-pub held-low : (set : ℕ → Bool) → ((c : ℕ) → 0x80 ≤ c → set c ≡ false) → (c : ℕ) → holds (members set) c ≡ true → (set c ≡ true) × (c < 0x80)
-held-low set high c held = let is : set c ≡ true = sym (holds-members set (λ d p. let less = low d p in omega (arith, less)) c) ∙ held in (is, low c is)
-  where
-    low : (d : ℕ) → set d ≡ true → d < 0x80
-    low d p = by_order (nat_lt d 0x80) refl
-      where
-        by_order : (b : Bool) → nat_lt d 0x80 ≡ b → d < 0x80
-        by_order true q = ltb-true d 0x80 q
-        by_order false q = let no : set d ≡ false = high d (grind (arith, nat_tests)) in absurd (grind arith)
-
--- what is told to lie between two numbers nowhere does not
-pub not-between : (first last c : ℕ) → (first ≤ c → c ≤ last → ⊥) → between first last c ≡ false
-not-between first last c never = by_case (between_cases first last c)
-  where
-    by_case : ((between first last c ≡ true) × (first ≤ c) × (c ≤ last)) ⊎ ((between first last c ≡ false) × ((c < first) ⊎ (last < c))) → between first last c ≡ false
-    by_case (inl (e, from, to)) = absurd (never from to)
-    by_case (inr (e, out)) = e
