@@ -13,6 +13,7 @@
 //! ```
 #![tactic(auto)]
 
+pub use regress_engine_analysis::{Known, Turn};
 pub use regress_engine_code::{CompiledRegex, emit, emit_units};
 pub use regress_engine_copying::PikeVMExecutor;
 pub use regress_engine_exec::{BacktrackExecutor, Scratch};

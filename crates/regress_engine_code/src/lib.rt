@@ -6,7 +6,6 @@ mod code;
 mod compiled;
 mod emission;
 mod emitter;
-mod first_bytes;
 mod leaves;
 mod strings;
 
