@@ -3,7 +3,7 @@ use Rattle.regress_meaning.specs.Meaning.{Forward}
 use Rattle.regress_engine_insn.specs.Instructions.{Instruction, Program, Stands}
 use Rattle.regress_engine_insn.specs.Instructions as code
 use Rattle.regress_engine_code.specs.Standing.{program_of}
-use Rattle.regress_engine_input.specs.Views.{View, input_of, reading_of}
+use Rattle.regress_engine_input.specs.Views.{View, reading_of}
 use Rattle.regress_engine_runs.specs.Meets.{IsAtPlace}
 use Rattle.regress_engine_insn.specs.declared.insn.Insn.TheVariants.{Goal}
 use Rattle.regress_engine_search.proofs.InsnLemmas.{stands-as}
