@@ -64,6 +64,7 @@ pub fn after_times<Input: CharInput>(
 pub fn as_far<Input: CharInput>(
     program: &CompiledRegex,
     input: &Input,
+    at: usize,
     insn: &Insn,
     times: usize,
     forward: bool,
@@ -79,7 +80,7 @@ pub fn as_far<Input: CharInput>(
     ensures place { IsAtPlace (reading_of (Input.view input.now)) result }
 {
     if forward {
-        if let Some(far) = as_far_ahead(program, input, insn, times, offset) {
+        if let Some(far) = as_far_ahead(program, input, at, insn, times, offset) {
             return far;
         }
     }

@@ -9,6 +9,7 @@ use crate::brackets::copies_of;
 use regress_engine_insn::Insn;
 use regress_engine_prefix::StartPredicate;
 use regress_front_bytes::ByteBitmap;
+use regress_engine_scanning::ByteClass;
 use regress_front_core::{CaptureGroupName, Error, Flags};
 use regress_front_nodes::BracketContents;
 use regress_front_tables::Tables;
@@ -30,6 +31,7 @@ pub struct CompiledRegex {
     pub(crate) units: bool,
     /// Of a program of bytes, for each address the bytes with which a match from there may begin; of units nothing.
     pub(crate) first_bytes: Vec<ByteBitmap>,
+    pub(crate) classes: Vec<ByteClass>,
     pub(crate) ghost laid: { ∥ IsLaid (target_from (program_from insns.items brackets.items loops groups units) tables flags) start_pred ∥₁ },
     pub(crate) ghost told: { AreFirstBytes (program_from insns.items brackets.items loops groups units) first_bytes.items },
 }
@@ -49,6 +51,11 @@ impl CompiledRegex {
         ensures { result.now ≡ self.now.brackets.items }
     {
         &self.brackets
+    }
+
+    #[inline(always)]
+    pub fn classes(&self) -> &[ByteClass] {
+        &self.classes
     }
 
     /// Where a match may begin, told by the bytes there; of a program of units `StartAnchored` or `Arbitrary`. An executor looks
@@ -143,6 +150,7 @@ impl CompiledRegex {
             tables: self.tables.try_clone()?,
             units: self.units,
             first_bytes: self.first_bytes.to_vec(alloc)?,
+            classes: self.classes.to_vec(alloc)?,
         })
     }
 }

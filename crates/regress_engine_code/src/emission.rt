@@ -10,7 +10,7 @@ ghost use Rattle.regress_engine_code.specs.Standing.{length_for, StandsFor};
 use crate::code::Code;
 use crate::compiled::CompiledRegex;
 use crate::emitter::Emitter;
-use crate::first_bytes::first_bytes_by_address;
+use crate::first_bytes::{classes_of, first_bytes_by_address};
 use regress_engine_prefix::{StartPredicate, predicate_for_re};
 use regress_front_core::{CaptureGroupName, Error};
 use regress_front_nodes::ir::Regex;
@@ -99,7 +99,9 @@ fn whole_program(alloc: Global, regex: &Regex<'_>, units: bool) -> Result<Compil
     let start_pred = start_of(alloc, regex, units)?;
     let tables = regex.tables.try_clone()?;
     let first_bytes = first_bytes_by_address(alloc, &code.insns, &code.brackets, units)?;
+    let classes = classes_of(alloc, &code.insns, &code.brackets)?;
     Ok(CompiledRegex {
+        classes,
         insns: code.insns,
         brackets: code.brackets,
         start_pred,

@@ -8,6 +8,7 @@ ghost use Rattle.regress_engine_insn.specs.InsnViews.{instruction};
 ghost use Rattle.regress_engine_insn.specs.ProgramViews.{program_from, bracket_ends};
 ghost use Rattle.regress_engine_code.specs.MayBegin.{AreFirstBytes, begins, behind, high_or, may_begin_with, starts};
 
+use regress_engine_scanning::ByteClass;
 use regress_engine_insn::{Insn, bytes_of};
 use regress_front_bytes::{ByteBitmap, ByteSet};
 use regress_front_nodes::BracketContents;
@@ -177,4 +178,22 @@ pub(crate) fn first_bytes_by_address(
         sets[left] = set;
     }
     Ok(sets)
+}
+
+pub(crate) fn classes_of(
+    alloc: Global,
+    insns: &[Insn],
+    brackets: &[BracketContents],
+) -> Result<Vec<ByteClass>, AllocError>
+{
+    let mut classes = Vec::new(alloc);
+    for insn in insns {
+        let class = match insn {
+            Insn::AsciiBracket(bitmap) => ByteClass::new(bitmap, false),
+            Insn::Bracket(index) => ByteClass::new(&Matched { class: &brackets[*index] }, false),
+            _ => ByteClass::new(&[0u8, 0u8], false),
+        };
+        classes.push(class)?;
+    }
+    Ok(classes)
 }

@@ -52,6 +52,7 @@ impl<'a, Input: CharInput> Attempt<'a, Input> {
             let far = as_far(
                 self.program,
                 &self.input,
+                spot.at + 1,
                 insn,
                 left,
                 spot.forward,

@@ -158,7 +158,7 @@ impl<'a, Input: CharInput> Attempt<'a, Input> {
         ensures sound { OnOk result (IsHeld (program_of self.now.program.now) (Input.view self.now.input) (held memory.new)) }
     {
         let more = left(turn.repetition, count);
-        let Some(taken) = taken_ahead(self.program, &self.input, turn.class, more, spot.offset)
+        let Some(taken) = taken_ahead(self.program, &self.input, spot.at + 1, turn.class, more, spot.offset)
         else {
             spot.at = second;
             return Ok(());

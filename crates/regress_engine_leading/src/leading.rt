@@ -97,7 +97,7 @@ fn passed_from<Input: CharInput>(
         return None;
     }
     let near = class_ahead(program, input, first, start)?;
-    let far = as_far_ahead(program, input, body, *max_iters, near)?;
+    let far = as_far_ahead(program, input, at + 2, body, *max_iters, near)?;
     if class_ahead(program, input, body, far).is_some()
         || !fails(program, input, LOOKED_AT, at + 3, far)
     {

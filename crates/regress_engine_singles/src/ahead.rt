@@ -8,6 +8,7 @@ ghost use Rattle.regress_engine_runs.specs.States.{Marks};
 ghost use Rattle.regress_engine_runs.specs.Runs.{after_times, as_far};
 ghost use Rattle.regress_engine_runs.specs.Closed.{Fits};
 
+use crate::ascii::ascii_end;
 use crate::class::ScannedBracket;
 use crate::far::scan_while;
 use crate::stops::as_far_searched;
@@ -28,6 +29,7 @@ use regress_front_bytes::ascii_bitmap_holds_ascii;
 pub fn as_far_ahead<Input: CharInput>(
     program: &CompiledRegex,
     input: &Input,
+    at: usize,
     insn: &Insn,
     times: usize,
     offset: usize,
@@ -39,6 +41,9 @@ pub fn as_far_ahead<Input: CharInput>(
     match insn {
         Insn::AsciiBracket(bitmap) => {
             ascii_bitmap_holds_ascii(bitmap);
+            if input.bytes().is_some() {
+                return Some(ascii_end(input, &program.classes()[at], times, offset));
+            }
             let set = MatchByteSet { bytes: bitmap };
             Some(scan_while(input, Forward::new(), &set, times, offset))
         }
@@ -48,7 +53,8 @@ pub fn as_far_ahead<Input: CharInput>(
                 return Some(far);
             }
             let class = ScannedBracket { bc };
-            Some(scan_while(input, Forward::new(), &class, times, offset))
+            let near = ascii_end(input, &program.classes()[at], times, offset);
+            Some(scan_while(input, Forward::new(), &class, times - (near - offset), near))
         }
         Insn::MatchAny => Some(scan_while(input, Forward::new(), &MatchAny::new(), times, offset)),
         Insn::MatchAnyExceptLineTerminator => {

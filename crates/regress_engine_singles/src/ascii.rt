@@ -10,6 +10,7 @@ use regress_engine_input::cursor::next;
 use regress_engine_input::{Direction, ElementType, Forward, InputIndexer, PositionType};
 use regress_engine_matchers::{MatchByteSet, SingleCharMatcher};
 use regress_front_bytes::ByteSet;
+use regress_engine_scanning::ByteClass;
 
 /// A test on the character ahead, which also tests numbers under 0x100.
 pub(crate) trait ByteMatcher<Input: InputIndexer>: SingleCharMatcher<Input, Forward> {
@@ -71,33 +72,19 @@ impl<Input: InputIndexer> ByteMatcher<Input> for AllBut {
     }
 }
 
-/// The offset behind as many characters of ASCII ahead of one as pass one after another, at most so many, where they stand in
-/// bytes; over units the offset itself.
 #[inline]
-pub(crate) fn ascii_end<Input: InputIndexer, Matcher: ByteMatcher<Input>>(
+pub(crate) fn ascii_end<Input: InputIndexer>(
     input: &Input,
-    matcher: &Matcher,
+    class: &ByteClass,
     most: usize,
     offset: usize,
 ) -> usize
-    requires { CanRead (Input.view input.now) offset }
-    ensures low { offset ≤ result }
-    ensures high { result - offset ≤ most }
-    ensures each { (k : ℕ) → offset ≤ k → k < result → Some (suc k) ≡ passed (Matcher.passes matcher.now) ((input_of (Input.view input.now)).next ahead k) }
 {
     let Some(text) = input.bytes() else {
         return offset;
     };
     let end = offset + most.min(text.len() - offset);
-    let mut at = offset;
-    while at < end {
-        let byte = text[at];
-        if byte >= 0x80 || !matcher.has_byte(byte) {
-            break;
-        }
-        at += 1;
-    }
-    at
+    class.run_end(text, offset, end)
 }
 
 /// The character of ASCII ahead of an offset, and the offset behind it, where one stands there in bytes.

@@ -11,13 +11,13 @@ ghost use Rattle.regress_engine_runs.specs.Closed.{Fits};
 ghost use Rattle.regress_engine_singles.specs.Passed.{is_class};
 ghost use Rattle.regress_engine_singles.specs.Passing.{after, IsBegun, IsTaken};
 
-use crate::ascii::{AllBut, ByteMatcher, ascii_end, passed_ahead};
+use crate::ascii::{ByteMatcher, ascii_end, passed_ahead};
 use crate::class::ScannedBracket;
-use crate::stops::all_but;
 use regress_engine_code::CompiledRegex;
 use regress_engine_input::InputIndexer;
 use regress_engine_insn::Insn;
 use regress_engine_matchers::{CharInput, MatchByteSet};
+use regress_engine_scanning::ByteClass;
 use regress_front_bytes::ascii_bitmap_holds_ascii;
 
 /// Characters that are taken one after another: some, and one more.
@@ -36,6 +36,7 @@ pub struct Taken {
 #[inline]
 fn first_taken<Input: InputIndexer, Matcher: ByteMatcher<Input>>(
     input: &Input,
+    class: &ByteClass,
     matcher: &Matcher,
     more: usize,
     offset: usize,
@@ -44,7 +45,7 @@ fn first_taken<Input: InputIndexer, Matcher: ByteMatcher<Input>>(
     requires suits { Matcher.Suits matcher.now (Input.view input.now) }
     ensures { MatchOption result (None ≡ passed (Matcher.passes matcher.now) ((input_of (Input.view input.now)).next ahead offset)) (λ t. IsBegun (after (input_of (Input.view input.now)) (Matcher.passes matcher.now) ahead) (λ o. passed (Matcher.passes matcher.now) ((input_of (Input.view input.now)).next ahead o)) more offset t.before t.last t.past) }
 {
-    let past = ascii_end(input, matcher, more.saturating_add(1), offset);
+    let past = ascii_end(input, class, more.saturating_add(1), offset);
     if past > offset {
         return Some(Taken {
             before: past - 1 - offset,
@@ -65,6 +66,7 @@ fn first_taken<Input: InputIndexer, Matcher: ByteMatcher<Input>>(
 #[inline]
 fn taken_beside<Input: InputIndexer, Matcher: ByteMatcher<Input>>(
     input: &Input,
+    class: &ByteClass,
     matcher: &Matcher,
     more: usize,
     offset: usize,
@@ -73,7 +75,7 @@ fn taken_beside<Input: InputIndexer, Matcher: ByteMatcher<Input>>(
     requires suits { Matcher.Suits matcher.now (Input.view input.now) }
     ensures { MatchOption result (None ≡ passed (Matcher.passes matcher.now) ((input_of (Input.view input.now)).next ahead offset)) (λ t. IsTaken (after (input_of (Input.view input.now)) (Matcher.passes matcher.now) ahead) (λ o. passed (Matcher.passes matcher.now) ((input_of (Input.view input.now)).next ahead o)) more offset t.before t.last t.past) }
 {
-    let first = first_taken(input, matcher, more, offset)?;
+    let first = first_taken(input, class, matcher, more, offset)?;
     let mut last = first.last;
     let mut past = first.past;
     let mut left = more - first.before;
@@ -103,6 +105,7 @@ fn taken_beside<Input: InputIndexer, Matcher: ByteMatcher<Input>>(
 pub fn taken_ahead<Input: CharInput>(
     program: &CompiledRegex,
     input: &Input,
+    at: usize,
     insn: &Insn,
     more: usize,
     offset: usize,
@@ -116,14 +119,11 @@ pub fn taken_ahead<Input: CharInput>(
         Insn::AsciiBracket(bitmap) => {
             ascii_bitmap_holds_ascii(bitmap);
             let set = MatchByteSet { bytes: bitmap };
-            taken_beside(input, &set, more, offset)
+            taken_beside(input, &program.classes()[at], &set, more, offset)
         }
         Insn::Bracket(index) => {
             let bc = &program.brackets()[*index];
-            match all_but(bc) {
-                Some(stops) => taken_beside(input, &AllBut { stops }, more, offset),
-                None => taken_beside(input, &ScannedBracket { bc }, more, offset),
-            }
+            taken_beside(input, &program.classes()[at], &ScannedBracket { bc }, more, offset)
         }
         _ => None,
     }
