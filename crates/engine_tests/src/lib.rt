@@ -23,4 +23,6 @@ mod positions;
 #[cfg(test)]
 mod rewriting;
 #[cfg(test)]
+mod scanning;
+#[cfg(test)]
 mod singles;

@@ -8,3 +8,4 @@ pub mod PassingLemmas
 pub mod StopLemmas
 pub mod DeadLemmas
 pub mod BoundaryLemmas
+pub mod RunLemmas

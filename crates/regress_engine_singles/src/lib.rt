@@ -6,6 +6,7 @@ mod ascii;
 mod class;
 mod disjoint;
 mod far;
+mod runs;
 mod stops;
 mod taken;
 mod taking;
