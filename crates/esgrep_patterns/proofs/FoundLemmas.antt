@@ -1,5 +1,5 @@
 -- What is found of one pattern.
-use Rattle.std.proofs.Common.{◌≡◌, ◌≢◌, ◌↔◌, ℕ, Bool, List, [], ◌∷◌, map, get_or, length, chars, Option, Some, None, Bor, Result, Ok, Err, IfSome, OnOk, refl, sym, ap, ◌∙◌}
+use Rattle.std.proofs.Common.{◌≡◌, ◌≢◌, ◌↔◌, ℕ, Bool, List, [], ◌∷◌, map, chars, Option, Some, None, Bor, Result, Ok, Err, IfSome, OnOk, refl, sym, ap, ◌∙◌}
 use Rattle.std.specs.Prelude.{IsTrue, IfOk}
 use Rattle.regress_meaning.specs.Table.{Table}
 use Rattle.regress_meaning.specs.Pattern.{Pattern}
@@ -7,21 +7,13 @@ use Rattle.regress_meaning.specs.Flags.{Options}
 use Rattle.regress_meaning.specs.Matches.{match_list}
 use Rattle.regress_meaning.specs.Offsets.{of_utf8, told}
 use Rattle.regress_front_core.specs.declared.error.Error.{Error}
-use Rattle.regress.specs.declared.api.Regex.{Regex}
 use Rattle.regress.specs.Literals.{IsNowhereIn}
 use Rattle.esgrep_rows.specs.Lines.{StandNowhere}
 use Rattle.esgrep_lines.proofs.PassingLemmas.{nowhere-part}
 use Rattle.esgrep_rows.specs.Found.{Found, found_at}
 use Rattle.esgrep_patterns.specs.Seeking.{found_in}
 
--- of one regex the first is that one
-pub alone-first : (regexes : List Regex) (r x : Regex) → regexes ≡ r ∷ [] → x ≡ get_or regexes 0 x → x ≡ r
-alone-first regexes r x alone is = is ∙ ap (λ rs. get_or rs 0 x) alone
-
--- and it is one
-pub alone-one : (regexes : List Regex) (r : Regex) → regexes ≡ r ∷ [] → length regexes ≡ 1
-alone-one regexes r alone = ap length alone
-
+-- what is mapped to nothing is nothing
 map-none : {A B : Type 0} (f : A → B) (xs : List A) → map f xs ≡ [] → xs ≡ []
 map-none f [] none = refl
 map-none f (x ∷ xs) none = absurd (cc none)

@@ -151,11 +151,6 @@ pub hit-none : (text : List ℕ) (x : Option Hit) → AreHits text None x → x 
 hit-none text None is = refl
 hit-none text (Some h) is = absurd is
 
--- an option that is not there, or some
-either : {A : Type 0} → (x : Option A) → (x ≡ None) ⊎ (x ≢ None)
-either None = inl refl
-either (Some a) = inr (λ none. cc none)
-
 -- the pattern that a regex at an index stands for
 pub sought-at : (regexes : List Regex) (ss : List Sought) (k : ℕ) (regex : Regex) → regex ≡ get_or regexes k regex → k < length regexes → SeekAll regexes ss
     → (s : Sought) × Seeks regex s × (drop k ss ≡ s ∷ drop (suc k) ss)
