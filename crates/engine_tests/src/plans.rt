@@ -1,7 +1,9 @@
 //! What is known of a program without a run, and how far a class goes: what tells nothing is proved too, and only slower.
 
 use crate::code::program;
+use crate::parsed::rewritten;
 use regress_engine_analysis::Known;
+use regress_engine_code::emit;
 use regress_engine_inputs::Utf8Input;
 use regress_engine_insn::Insn;
 use regress_engine_singles::as_far_ahead;
@@ -36,7 +38,8 @@ fn loops_give_nothing_back_where_what_follows_begins_otherwise(
 ) -> Result<(), Fail> {
     let tables = Tables::small(rt.alloc())?;
     for (pattern, possessive, turns) in KNOWN {
-        let program = program(rt.alloc(), pattern, "", false, &tables)?;
+        let regex = rewritten(rt.alloc(), pattern, "", &tables)?;
+        let program = emit(rt.alloc(), &regex)?;
         let mut found = (0_usize, 0_usize);
         for at in 0..program.insns().len() {
             match program.known(at) {

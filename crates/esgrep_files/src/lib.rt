@@ -11,6 +11,7 @@ mod groups;
 mod refusal;
 mod running;
 mod settings;
+mod skimming;
 mod texts;
 mod words;
 

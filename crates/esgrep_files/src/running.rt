@@ -2,24 +2,26 @@
 
 use crate::command_line::command;
 use crate::compiling::regexes;
-use crate::files::{Chosen, Kind, joined, kind_of, last_name, names_in};
+use crate::files::{Chosen, Kind, bytes_of, joined, kind_of, last_name, names_in};
 use crate::globs::Globs;
 use crate::groups::{push_groups, push_groups_of_lines};
 use crate::refusal::Refusal;
 use crate::settings::{Coloring, Settings};
+use crate::skimming::Skimmer;
 use crate::texts::{Content, content_of};
 use crate::words::read_contexts;
-use esgrep_lines::{Output, SearchError, Unwritten, search};
-use esgrep_patterns::{Parts, Patterns};
-use esgrep_rows::{Mode, Options, Shown};
+use esgrep_lines::{Finder, Output, SearchError, Unwritten, search};
+use esgrep_patterns::{Patterns, parts_of};
+use esgrep_rows::{Ending, Mode, Options, Shown};
 use regress::Error;
 use regress_replacing::Template;
 use std::alloc::{AllocError, AllocFailed, Global};
 use std::fmt::Display;
+use std::fs::{File, OpenFile};
 use std::io::{ErrorKind, Read, Write};
 use std::process::ExitCode;
 use std::rt::Runtime;
-use std::{env, fs, io};
+use std::{env, io};
 
 /// How standard input is named.
 const STANDARD_INPUT: &str = "(standard input)";
@@ -98,6 +100,7 @@ struct Search<'r, 's, 'a, 't, R: Runtime + AllocGlobal, W: Write + Drop> {
     shown: Shown<'t>,
     chosen: Chosen,
     output: Output<W>,
+    skimmer: Skimmer,
     tally: Tally,
 }
 
@@ -219,6 +222,7 @@ fn with_settings<R: Runtime + AllocGlobal>(
             exclude: Globs::new(alloc, &settings.exclude)?,
         },
         output: Output::new(alloc, io::writer(rt), settings.by_row),
+        skimmer: Skimmer::new(alloc),
         tally: Tally::default(),
     };
     let stop = files.search_all();
@@ -314,9 +318,27 @@ impl<'r, 's, 'a, 't, R: Runtime + AllocGlobal, W: Write + Drop> Search<'r, 's, '
         Ok(())
     }
 
-    /// Searches a file.
+    /// How many bytes a file has, where it is text and no line of it is selected, since each match begins with bytes that it lacks.
+    fn length_without_match(&mut self, path: &str) -> Option<usize> {
+        let Options { ending, invert, .. } = self.options;
+        if self.settings.multiline || invert || ending != Ending::Newline {
+            return None;
+        }
+        let bytes = self.patterns.literal()?;
+        let mut file = File::open(self.rt, path).ok()?;
+        // What is no regular file gives its bytes only once.
+        if !file.metadata().ok()?.is_file() {
+            return None;
+        }
+        self.skimmer.length_without(&mut file, bytes)
+    }
+
+    /// Searches a file. One without what each match begins with is read part by part, and searched as an empty one is.
     fn search_file(&mut self, path: &str) -> Result<(), Stop> {
-        match fs::read(self.rt, path) {
+        if let Some(length) = self.length_without_match(path) {
+            return self.search_content(path, length, Content::Text(""));
+        }
+        match bytes_of(self.rt, path) {
             Ok(bytes) => self.search_bytes(path, &bytes),
             Err(error) => {
                 self.tell(path, &error);
@@ -339,10 +361,21 @@ impl<'r, 's, 'a, 't, R: Runtime + AllocGlobal, W: Write + Drop> Search<'r, 's, '
 
     /// Searches what was read, as far as it is text.
     fn search_bytes(&mut self, name: &str, bytes: &[u8]) -> Result<(), Stop> {
-        let alloc = self.rt.alloc();
+        let Options { ending, .. } = self.options;
+        let content = content_of(self.rt.alloc(), bytes, ending, self.settings.no_text)?;
+        self.search_content(name, bytes.len(), content)
+    }
+
+    /// Searches what a file of so many bytes holds.
+    fn search_content(
+        &mut self,
+        name: &str,
+        length: usize,
+        content: Content<'_>,
+    ) -> Result<(), Stop> {
         self.tally.texts = self.tally.texts.saturating_add(1);
-        self.tally.bytes = self.tally.bytes.saturating_add(bytes.len());
-        match content_of(alloc, bytes, self.options.ending, self.settings.no_text)? {
+        self.tally.bytes = self.tally.bytes.saturating_add(length);
+        match content {
             Content::Text(text) => self.search_text(name, text)?,
             Content::Lossy(text) => self.search_text(name, text.as_str())?,
             Content::Binary(text) => self.search_binary(name, text.as_str())?,
@@ -377,7 +410,7 @@ impl<'r, 's, 'a, 't, R: Runtime + AllocGlobal, W: Write + Drop> Search<'r, 's, '
         let alloc = self.rt.alloc();
         let output = &mut self.output;
         let count = if self.settings.multiline {
-            let parts = Parts::new(alloc, &self.patterns, text, options.ending)?;
+            let parts = parts_of(alloc, &self.patterns, text, options.ending)?;
             search(alloc, &parts, &self.shown, &options, name, text, output)?
         } else {
             search(

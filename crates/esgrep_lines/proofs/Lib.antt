@@ -3,3 +3,5 @@ pub mod CountLemmas
 pub mod StepLemmas
 pub mod RowsLemmas
 pub mod PassingLemmas
+pub mod PartLemmas
+pub mod TouchedLemmas

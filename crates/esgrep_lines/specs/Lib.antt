@@ -1,3 +1,7 @@
 pub mod Needed
 pub mod Output
 pub mod Putting
+pub mod Props
+pub mod Parts
+pub mod Finding
+pub mod Laws

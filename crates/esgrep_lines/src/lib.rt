@@ -5,10 +5,14 @@
 #![tactic(auto)]
 
 mod finder;
+mod laws;
 mod output;
+mod parts;
 mod passing;
 mod searching;
 
 pub use finder::Finder;
+pub use laws::touched_lines_have_parts;
 pub use output::{Output, Unwritten};
+pub use parts::Parts;
 pub use searching::{SearchError, search};

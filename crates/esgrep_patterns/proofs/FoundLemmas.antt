@@ -10,7 +10,9 @@ use Rattle.regress_front_core.specs.declared.error.Error.{Error}
 use Rattle.regress.specs.Literals.{IsNowhereIn}
 use Rattle.esgrep_rows.specs.Lines.{StandNowhere}
 use Rattle.esgrep_lines.proofs.PassingLemmas.{nowhere-part}
-use Rattle.esgrep_rows.specs.Found.{Found, found_at}
+use Rattle.regress_match.specs.declared.found.Match.{Match}
+use Rattle.regress_match.specs.Views.{item_of}
+use Rattle.esgrep_rows.specs.Found.{Found, found_of, found_at}
 use Rattle.esgrep_patterns.specs.Seeking.{found_in}
 
 -- what is mapped to nothing is nothing
@@ -43,3 +45,8 @@ pub found-none : (r : Option (Bor (List ℕ))) (t : Table) (o : Options) (p : Pa
 found-none None t o p template names text all is needed = tt
 found-none (Some bytes) t o p template names text all is needed =
     λ nowhere. is ∙ ap (λ ms. map (found_at template names text) (map (told (of_utf8 text)) ms)) (needed (nowhere-part bytes.now text nowhere))
+
+-- of what is found the matches
+pub items-found : (template : Option (List ℕ)) (text : List ℕ) (ms : List Match) → map item_of ms ≡ map (λ f. f.item) (map (found_of template text) ms)
+items-found template text [] = refl
+items-found template text (m ∷ ms) = ap (λ is. item_of m ∷ is) (items-found template text ms)

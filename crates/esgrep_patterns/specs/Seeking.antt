@@ -69,6 +69,10 @@ found_of_all (s ∷ []) template text = found_in s.table s.options s.pattern tem
 found_of_all [] template text = found_of_several [] template text
 found_of_all (s ∷ r ∷ ss) template text = found_of_several (s ∷ r ∷ ss) template text
 
+-- the matches of patterns in a text, told in bytes
+abbrev pub items_of_all : List Sought → List ℕ → List Item
+items_of_all ss text = map (λ f. f.item) (found_of_all ss None text)
+
 -- a match lies in a text, and does not begin before an offset
 abbrev pub BeginsInText : List ℕ → ℕ → Match → Type 0
 BeginsInText text at m = LiesInText text m × (at ≤ m.range.start)

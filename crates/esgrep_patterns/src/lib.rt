@@ -4,5 +4,5 @@
 mod parts;
 mod patterns;
 
-pub use parts::Parts;
+pub use parts::parts_of;
 pub use patterns::Patterns;
