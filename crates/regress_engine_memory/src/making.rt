@@ -133,7 +133,7 @@ impl FlowTable {
     /// The table of a program with so many loops, where its instructions lead on as it tells. It errs only where memory is refused.
     ///
     /// ```rust
-    /// let table = FlowTable::of(alloc, program.insns(), program.loops())?;
+    /// let table = FlowTable::of(alloc, program.insns(), program.loops() as usize)?;
     /// ```
     pub fn of(alloc: Global, insns: &[Insn], loops: usize) -> Result<Option<FlowTable>, AllocError>
         ensures { IfOk result (λ found. IfSome found (λ table. (program : Program) → program.instructions ≡ map instruction insns.now
