@@ -7,3 +7,4 @@ pub mod JoinLemmas
 pub mod UnrollLemmas
 pub mod BracketLemmas
 pub mod RoundLemmas
+pub mod ShareLemmas
