@@ -8,3 +8,4 @@ pub mod UnrollLemmas
 pub mod BracketLemmas
 pub mod RoundLemmas
 pub mod ShareLemmas
+pub mod GroupLemmas

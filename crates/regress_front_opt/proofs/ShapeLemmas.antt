@@ -228,10 +228,10 @@ pub flattened-other : (t : Tree) → is_cat t ≡ false → is_empty t ≡ false
 flattened-other t h k = rw (h, k) refl
 
 -- the same element at a place from which on two lists agree
-pub same-at : (ns ms : List Node) (i : ℕ) (d : Node) → drop i ns ≡ drop i ms → get_or ns i d ≡ get_or ms i d
-same-at ns ms i d e = sym (get_or-drop-zero ns i d) ∙ ap (λ xs. get_or xs 0 d) e ∙ get_or-drop-zero ms i d
+pub same-at : {X : Type 0} (ns ms : List X) (i : ℕ) (d : X) → drop i ns ≡ drop i ms → get_or ns i d ≡ get_or ms i d
+same-at {X = X} ns ms i d e = sym (get_or-drop-zero ns i d) ∙ ap (λ xs. get_or xs 0 d) e ∙ get_or-drop-zero ms i d
   where
-    get_or-drop-zero : (xs : List Node) (i : ℕ) (d : Node) → get_or (drop i xs) 0 d ≡ get_or xs i d
+    get_or-drop-zero : (xs : List X) (i : ℕ) (d : X) → get_or (drop i xs) 0 d ≡ get_or xs i d
     get_or-drop-zero [] zero d = refl
     get_or-drop-zero [] (suc i) d = refl
     get_or-drop-zero (x ∷ xs) zero d = refl

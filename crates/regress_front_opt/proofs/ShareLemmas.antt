@@ -3,8 +3,8 @@ use Rattle.std.proofs.Common.{◌≡◌, ℕ, zero, suc, ◌+◌, ◌-◌, ◌*�
 use Rattle.std.specs.List.{flat_map, filter, count_by, starts_with}
 use Rattle.std.proofs.lemmas.Bool.{false≢true, and_parts, and_from}
 use Rattle.std.proofs.lemmas.Bool.Decides.{nat_tests}
-use Rattle.std.proofs.lemmas.List.{append-nil, map-append, take-map, drop-map, take-append-drop, take-take, take_more, take_more_same, get_or-drop, length-take, length-map}
-use Rattle.std.proofs.lemmas.List.Elements.{All-nil, All-cons, All-head, All-tail, All-append, All-take, All-drop, All-weaker}
+use Rattle.std.proofs.lemmas.List.{append-nil, map-id, map-append, take-map, drop-map, take-append-drop, take-take, take_more, take_more_same, get_or-drop, length-take, length-map}
+use Rattle.std.proofs.lemmas.List.Elements.{All-nil, All-cons, All-head, All-tail, All-append, All-take, All-drop, All-weaker, filter-append}
 use Rattle.std.proofs.lemmas.List.Folds.{drop_split}
 use Rattle.std.proofs.lemmas.List.Sums.{sum_by-append, sum_by-cons}
 use Rattle.std.proofs.lemmas.Str.{chars_from_encodes, encodes-append, length-encode, len_utf8_bounds}
@@ -13,7 +13,7 @@ use Rattle.regress_front_nodes.specs.Trees.{Tree, empty, bytes, cat_of, alt}
 use Rattle.regress_front_nodes.specs.Sizes.{size}
 use Rattle.regress_front_nodes.specs.TreeMeaning.{direction}
 use Rattle.regress_front_nodes.specs.WellFormed.{AreLawful}
-use Rattle.regress_front_rules.specs.Words.{is_of_words, words}
+use Rattle.regress_front_rules.specs.Words.{is_of_words, words, AreFoundAlike}
 use Rattle.regress_front_rules.specs.Weight.{bulk}
 use Rattle.regress_front_rules.specs.Rules as rules
 use Rattle.regress_front_rules.specs.Rules.{RewritesAtRoot}
@@ -21,14 +21,15 @@ use Rattle.regress_front_rules.proofs.MeasureLemmas.{some-chars}
 use Rattle.regress_front_opt.specs.Passes.{Advances}
 use Rattle.regress_front_opt.proofs.PassLemmas.{root-advances}
 use Rattle.regress_front_opt.specs.Sharing.{is_choice_of_literals, spelled, behind, AreLong, AreSame, IsWorth, size_apart, bulk_apart, IsMadeOf}
+use Rattle.regress_front_opt.specs.Grouping.{IsRearranged}
 
 -- ---- words apart
 
-size-append : (xs ys : List (List ℕ)) → size_apart (xs ++ ys) ≡ size_apart xs + size_apart ys
+pub size-append : (xs ys : List (List ℕ)) → size_apart (xs ++ ys) ≡ size_apart xs + size_apart ys
 size-append [] ys = omega arith
 size-append (x ∷ xs) ys = omega (arith, size-append xs ys)
 
-bulk-append : (xs ys : List (List ℕ)) → bulk_apart (xs ++ ys) ≡ bulk_apart xs + bulk_apart ys
+pub bulk-append : (xs ys : List (List ℕ)) → bulk_apart (xs ++ ys) ≡ bulk_apart xs + bulk_apart ys
 bulk-append [] ys = omega arith
 bulk-append (x ∷ xs) ys = omega (arith, bulk-append xs ys)
 
@@ -60,7 +61,7 @@ pub shared-rule : (a b u : Tree) (n : ℕ) → is_choice_of_literals a ≡ true 
     → IsMadeOf (words a ++ words b) true u → RewritesAtRoot Forward (alt a b) u
 shared-rule a b u n h k l m =
     let both = and_from (is_choice_of_literals a) (is_choice_of_literals b) h k in
-    rules.shares refl (choice-words (alt a b) both) m.of_words (λ text. ap (λ ws. filter (starts_with nat_eq text) ws) (sym m.same)) m.lawful
+    rules.shares refl (choice-words (alt a b) both) m.of_words (λ text. sym (m.found text)) m.lawful
     (omega (arith, m.small, choice-size n (alt a b) both l))
     (omega (arith, m.lighter refl, choice-bulk (alt a b) both))
 
@@ -73,7 +74,7 @@ shared-advances behind t a b c d u e f g h r = rw (e, f, ← g, ← h) (root-adv
 pub made-empty : IsMadeOf ([] ∷ []) false empty
 made-empty = record {
   of_words = refl;
-  same = refl;
+  found = λ text. refl;
   lawful = tt;
   small = omega arith;
   light = omega arith;
@@ -89,17 +90,32 @@ made-literal cs bs some valid e =
     let same : chars bs ≡ cs = sym (chars_from_encodes cs bs valid (sym e)) in
     record {
       of_words = refl;
-      same = ap (λ (ds : List ℕ). ds ∷ []) same;
+      found = λ text. ap (λ (ds : List ℕ). filter (starts_with nat_eq text) (ds ∷ [])) same;
       lawful = (omega (arith, some-bytes cs some, ap length e), valid);
       small = omega (arith, ap length same, some);
       light = omega (arith, ap length same);
       lighter = λ f. absurd (false≢true f);
     }
 
+pub literal-words : (cs bs : List ℕ) → IsUtf8 bs → bs ≡ encode_utf8_all cs → words (bytes bs) ≡ cs ∷ []
+literal-words cs bs valid e = ap (λ (ds : List ℕ). ds ∷ []) (sym (chars_from_encodes cs bs valid (sym e)))
+
+-- the same, of words that are found alike
+pub made-rearranged : (xs ys : List (List ℕ)) (b : Bool) (t : Tree) → IsRearranged xs ys → IsMadeOf xs b t → IsMadeOf ys b t
+made-rearranged xs ys b t h k = record {
+  of_words = k.of_words;
+  found = λ text. k.found text ∙ h.found text;
+  lawful = k.lawful;
+  small = omega (arith, k.small, h.small);
+  light = omega (arith, k.light, h.light);
+  lighter = λ e. omega (arith, k.lighter e, h.light);
+}
+
 pub made-either : (xs ys : List (List ℕ)) (a b : Bool) (t u : Tree) → IsMadeOf xs a t → IsMadeOf ys b u → IsMadeOf (xs ++ ys) (a || b) (alt t u)
 made-either xs ys a b t u h k = record {
   of_words = and_from (is_of_words t) (is_of_words u) h.of_words k.of_words;
-  same = (λ i. h.same i ++ k.same i);
+  found = λ text.
+      filter-append (starts_with nat_eq text) (words t) (words u) ∙ (λ i. h.found text i ++ k.found text i) ∙ sym (filter-append (starts_with nat_eq text) xs ys);
   lawful = (h.lawful, k.lawful);
   small = omega (arith, h.small, k.small, size-append xs ys);
   light = omega (arith, h.light, k.light, bulk-append xs ys);
@@ -109,6 +125,44 @@ made-either xs ys a b t u h k = record {
     by_test : (c : Bool) → (c ≡ true → bulk t + 1 < bulk_apart xs) → (c || b) ≡ true → bulk (alt t u) + 1 < bulk_apart (xs ++ ys)
     by_test true more e = omega (arith, more refl, k.light, bulk-append xs ys)
     by_test false more e = omega (arith, h.light, k.lighter e, bulk-append xs ys)
+
+-- one character before words that are found alike
+found-begun : (c : ℕ) (xs ys : List (List ℕ)) → AreFoundAlike xs ys → AreFoundAlike (map (λ z. c ∷ z) xs) (map (λ z. c ∷ z) ys)
+found-begun c xs ys h [] = none xs ∙ sym (none ys)
+  where
+    none : (zs : List (List ℕ)) → filter (starts_with nat_eq []) (map (λ z. c ∷ z) zs) ≡ []
+    none [] = refl
+    none (z ∷ zs) = none zs
+found-begun c xs ys h (t ∷ text) = by_test (nat_eq c t) refl
+  where
+    none : nat_eq c t ≡ false → (zs : List (List ℕ)) → filter (starts_with nat_eq (t ∷ text)) (map (λ z. c ∷ z) zs) ≡ []
+    none e [] = refl
+    none e (z ∷ zs) = rw e (none e zs)
+
+    some : nat_eq c t ≡ true → (zs : List (List ℕ)) → filter (starts_with nat_eq (t ∷ text)) (map (λ z. c ∷ z) zs) ≡ map (λ z. c ∷ z) (filter (starts_with nat_eq text) zs)
+    some e [] = refl
+    some e (z ∷ zs) = rw e (one (starts_with nat_eq text z) (some e zs))
+      where
+        one : (b : Bool) → filter (starts_with nat_eq (t ∷ text)) (map (λ z. c ∷ z) zs) ≡ map (λ z. c ∷ z) (filter (starts_with nat_eq text) zs)
+            → (if b then (c ∷ z) ∷ filter (starts_with nat_eq (t ∷ text)) (map (λ z. c ∷ z) zs) else filter (starts_with nat_eq (t ∷ text)) (map (λ z. c ∷ z) zs))
+            ≡ map (λ z. c ∷ z) (if b then z ∷ filter (starts_with nat_eq text) zs else filter (starts_with nat_eq text) zs)
+        one true rest = ap (λ l. (c ∷ z) ∷ l) rest
+        one false rest = rest
+
+    by_test : (b : Bool) → nat_eq c t ≡ b → filter (starts_with nat_eq (t ∷ text)) (map (λ z. c ∷ z) xs) ≡ filter (starts_with nat_eq (t ∷ text)) (map (λ z. c ∷ z) ys)
+    by_test true e = some e xs ∙ ap (map (λ z. c ∷ z)) (h text) ∙ sym (some e ys)
+    by_test false e = none e xs ∙ sym (none e ys)
+
+-- the same characters before words that are found alike
+found-begun-all : (part : List ℕ) (xs ys : List (List ℕ)) → AreFoundAlike xs ys → AreFoundAlike (map (λ z. part ++ z) xs) (map (λ z. part ++ z) ys)
+found-begun-all [] xs ys h text = ap (filter (starts_with nat_eq text)) (map-id xs) ∙ h text ∙ sym (ap (filter (starts_with nat_eq text)) (map-id ys))
+found-begun-all (c ∷ part) xs ys h text =
+    ap (filter (starts_with nat_eq text)) (again xs) ∙ found-begun c (map (λ z. part ++ z) xs) (map (λ z. part ++ z) ys) (found-begun-all part xs ys h) text
+    ∙ sym (ap (filter (starts_with nat_eq text)) (again ys))
+  where
+    again : (zs : List (List ℕ)) → map (λ z. c ∷ (part ++ z)) zs ≡ map (λ z. c ∷ z) (map (λ z. part ++ z) zs)
+    again [] = refl
+    again (z ∷ zs) = ap (λ l. (c ∷ (part ++ z)) ∷ l) (again zs)
 
 -- the same characters before what stands behind them
 begun-again : (from end : ℕ) (part : List ℕ) (ws : List (List ℕ)) → from ≤ end → AreSame from end part ws → map (λ y. part ++ y) (behind end ws) ≡ behind from ws
@@ -123,10 +177,8 @@ ended : (ws : List (List ℕ)) → flat_map (λ x. map (λ y. x ++ y) ([] ∷ []
 ended [] = refl
 ended (w ∷ ws) = (λ i. append-nil w i ∷ ended ws i)
 
-begun-words : (part : List ℕ) (ws : List (List ℕ)) (a t : Tree) → words a ≡ part ∷ [] → words t ≡ ws → words (cat_of (a ∷ t ∷ [])) ≡ map (λ y. part ++ y) ws
-begun-words part ws a t e f =
-    (λ i. flat_map (λ x. map (λ y. x ++ y) ((ap (flat_map (λ x. map (λ y. x ++ y) ([] ∷ []))) f ∙ ended ws) i)) (e i))
-    ∙ append-nil (map (λ y. part ++ y) ws)
+begun-words : (part : List ℕ) (a t : Tree) → words a ≡ part ∷ [] → words (cat_of (a ∷ t ∷ [])) ≡ map (λ y. part ++ y) (words t)
+begun-words part a t e = (λ i. flat_map (λ x. map (λ y. x ++ y) (ended (words t) i)) (e i)) ∙ append-nil (map (λ y. part ++ y) (words t))
 
 -- what words have more than behind a beginning of d characters
 behind-sizes : (from end d : ℕ) (ws : List (List ℕ)) → end ≡ from + d → 1 ≤ d → AreLong end ws
@@ -160,15 +212,17 @@ saved (suc k) (suc d) alone h =
 
 -- a beginning that words share, and what stands behind it
 pub made-begun : (from end : ℕ) (part : List ℕ) (ws : List (List ℕ)) (a t : Tree) (b : Bool) → from ≤ end → IsWorth from end ws → AreSame from end part ws → length part ≡ end - from
-    → IsMadeOf (part ∷ []) false a → IsMadeOf (behind end ws) b t → IsMadeOf (behind from ws) true (cat_of (a ∷ t ∷ []))
-made-begun from end part ws a t b order worth same-part sized h k =
+    → IsMadeOf (part ∷ []) false a → words a ≡ part ∷ [] → IsMadeOf (behind end ws) b t → IsMadeOf (behind from ws) true (cat_of (a ∷ t ∷ []))
+made-begun from end part ws a t b order worth same-part sized h e k =
     let d : ℕ = end - from in
     let gain = saved (length ws) (end - from) (count_by (λ w. length w == end) ws) worth in
     let long : AreLong end ws = All-weaker (λ w. (end ≤ length w) × (slice_range w from end ≡ part)) (λ w. end ≤ length w) (λ w l. l.0) ws same-part in
     let more = behind-sizes from end (end - from) ws (omega (arith, order)) gain.0 long in
     record {
       of_words = and_from (is_of_words a && (is_of_words t && true && true)) true (and_from (is_of_words a) (is_of_words t && true && true) h.of_words (rw k.of_words refl)) refl;
-      same = begun-words part (behind end ws) a t h.same k.same ∙ begun-again from end part ws order same-part;
+      found = λ text.
+          ap (filter (starts_with nat_eq text)) (begun-words part a t e) ∙ found-begun-all part (words t) (behind end ws) k.found text
+          ∙ ap (filter (starts_with nat_eq text)) (begun-again from end part ws order same-part);
       lawful = (h.lawful, (k.lawful, tt));
       small = omega (arith, h.small, k.small, sized, gain.0, gain.1, more.0);
       light = omega (arith, h.light, k.light, sized, gain.2, more.1);

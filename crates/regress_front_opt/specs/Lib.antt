@@ -1,3 +1,4 @@
 pub mod Shapes
 pub mod Sharing
+pub mod Grouping
 pub mod Passes

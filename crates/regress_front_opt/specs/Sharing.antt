@@ -4,7 +4,7 @@ use Rattle.std.specs.declared.alloc.Global.{Global}
 use Rattle.regress_front_nodes.specs.Trees.{Tree, empty, bytes, alt}
 use Rattle.regress_front_nodes.specs.Sizes.{size}
 use Rattle.regress_front_nodes.specs.WellFormed.{AreLawful}
-use Rattle.regress_front_rules.specs.Words.{is_of_words, words}
+use Rattle.regress_front_rules.specs.Words.{is_of_words, words, AreFoundAlike}
 use Rattle.regress_front_rules.specs.Weight.{bulk}
 
 -- it is a choice between literals, one or more, where `Empty` counts as a literal of no character
@@ -44,11 +44,11 @@ abbrev pub bulk_apart : List (List ℕ) → ℕ
 bulk_apart [] = 0
 bulk_apart (w ∷ ws) = 4 * length w + 2 + bulk_apart ws
 
--- The tree is made of these words, in this order. It is no larger than they are apart, and where some share what they begin
+-- The tree is made of these words, or of words that are found alike. It is no larger than they are apart, and where some share what they begin
 -- with it is lighter.
 pub record IsMadeOf (ws : List (List ℕ)) (shared : Bool) (t : Tree) : Type 0 where
   pub of_words : is_of_words t ≡ true
-  pub same : words t ≡ ws
+  pub found : AreFoundAlike (words t) ws
   pub lawful : AreLawful 0 t
   pub small : size t + 1 ≤ size_apart ws
   pub light : bulk t + 1 ≤ bulk_apart ws

@@ -8,6 +8,7 @@ mod chaining;
 mod choices;
 mod failing;
 mod flattening;
+mod grouping;
 mod idling;
 mod joining;
 mod letters;

@@ -9,6 +9,7 @@ ghost use Rattle.regress_front_opt.specs.Passes.{HasLaws};
 ghost use Rattle.regress_front_opt.specs.Sharing.{is_choice_of_literals, spelled, behind, AreLong, AreSame, IsWorth, IsMadeOf};
 
 use crate::action::PassAction;
+use crate::grouping::grouped;
 use crate::passing::Pass;
 use regress_front_nodes::Node;
 use regress_front_tables::Error;
@@ -64,7 +65,8 @@ fn add_words(alloc: Global, node: &Node, list: &mut Vec<Vec<char>>) -> Result<bo
 
 /// The characters as a literal, or `Empty` where there are none.
 fn literal(alloc: Global, word: &[char]) -> Result<Node, AllocError>
-    ensures { IfOk result (λ n. IsMadeOf (word.now ∷ []) false (tree n)) }
+    ensures made { IfOk result (λ n. IsMadeOf (word.now ∷ []) false (tree n)) }
+    ensures word { IfOk result (λ n. words (tree n) ≡ word.now ∷ []) }
 {
     if word.is_empty() {
         return Ok(Node::Empty);
@@ -146,7 +148,7 @@ fn middle_of(words: &[Vec<char>], place: usize) -> usize
 
 /// A literal, and a tree behind it.
 fn begun(alloc: Global, word: &[char], rest: Node) -> Result<Node, AllocError>
-    ensures { IfOk result (λ n. (a : Tree) × IsMadeOf (word.now ∷ []) false a × (tree n ≡ cat_of (a ∷ tree rest ∷ []))) }
+    ensures { IfOk result (λ n. (a : Tree) × IsMadeOf (word.now ∷ []) false a × (words a ≡ word.now ∷ []) × (tree n ≡ cat_of (a ∷ tree rest ∷ []))) }
 {
     let mut parts = Vec::with_capacity(alloc, 2)?;
     parts.push(literal(alloc, word)?)?;
@@ -185,7 +187,8 @@ fn word_tree(
     }
     let end = shared_end(first, words, from);
     if levels > 0 && is_worth(words, from, end) {
-        let rest = word_tree(alloc, words, end, levels - 1)?;
+        let regrouped = grouped(alloc, words, end)?;
+        let rest = word_tree(alloc, &regrouped, end, levels - 1)?;
         let node = begun(alloc, &first[from..end], rest.node)?;
         return Ok(WordTree { node, shared: true });
     }
@@ -204,6 +207,7 @@ fn shared_words(alloc: Global, first: &Node, second: &Node) -> Result<Option<Nod
     if !add_words(alloc, first, &mut list)? || !add_words(alloc, second, &mut list)? {
         return Ok(None);
     }
+    let list = grouped(alloc, &list, 0)?;
     let words = word_tree(alloc, &list, 0, MOST_SHARED)?;
     if words.shared {
         Ok(Some(words.node))

@@ -2,7 +2,7 @@ use Rattle.std.proofs.Common.{◌||◌, ◌∷◌, [], false, slice_range, subst
 use Rattle.std.proofs.lemmas.Result.{IfOk-weaker}
 use Rattle.regress_front_nodes.specs.Trees.{tree, alt}
 use Rattle.regress_front_opt.specs.Sharing.{spelled, behind, IsMadeOf}
-use Rattle.regress_front_opt.proofs.ShareLemmas.{made-begun, made-either, length-part, long-before, long-after, parted}
+use Rattle.regress_front_opt.proofs.ShareLemmas.{made-begun, made-rearranged, made-either, length-part, long-before, long-after, parted}
 use Rattle.regress_front_opt.proofs.sharing.+word_tree.Goals as goal
 
 pub returns-then-is_worth : goal.returns-then-is_worth
@@ -12,12 +12,14 @@ returns-then-is_worth t c =
     let ws = c.args.words.now in
     let first = c.deref-2.result.now in
     let node = c.in_ok-node-2.ensures in
-    let again = ap (λ xs. slice_range xs from end) (c.deref-then-is_worth.ensures.value ∙ sym c.deref-2.ensures.value) in
+    let again = ap (λ xs. slice_range xs from end) (c.deref-then-is_worth-2.ensures.value ∙ sym c.deref-2.ensures.value) in
     let order = c.shared_end-end.ensures.order in
-    rw node.2
+    let rest = subst (λ xs. IsMadeOf (behind end (spelled xs)) c.in_ok-rest.rest.shared (tree c.in_ok-rest.rest.node)) c.deref-then-is_worth.ensures.value c.in_ok-rest.ensures in
+    let found = made-rearranged (behind end (spelled c.in_ok-regrouped.regrouped.items)) (behind end (spelled ws)) c.in_ok-rest.rest.shared (tree c.in_ok-rest.rest.node) c.in_ok-regrouped.ensures.same rest in
+    rw node.3
     (made-begun from end (slice_range first from end) (spelled ws) node.0 (tree c.in_ok-rest.rest.node) c.in_ok-rest.rest.shared order.0
     (c.is_worth.ensures c.if-is_worth.true) c.shared_end-end.ensures.same (length-part first from end order.1)
-    (subst (λ part. IsMadeOf (part ∷ []) false node.0) again node.1) c.in_ok-rest.ensures)
+    (subst (λ part. IsMadeOf (part ∷ []) false node.0) again node.1) (node.2 ∙ ap (λ part. part ∷ []) again) found)
 
 pub word_tree-requires-2 : goal.word_tree-requires-2
 word_tree-requires-2 t c =
