@@ -43,7 +43,7 @@ AreApart place v w = (c : ℕ) × (d : ℕ) × (slice_get v place ≡ Some c) ×
 abbrev pub IsAdded : ℕ → List ℕ → List (List ℕ) → List (List ℕ) → Type 0
 IsAdded place w old more = (xs : List (List ℕ)) × (ys : List (List ℕ)) × (old ≡ xs ++ ys) × (more ≡ xs ++ w ∷ ys) × All (λ v. AreApart place v w) ys
 
--- The words of two lists are found alike, and as many nodes as heavy are made of them.
+-- The words of two lists are found alike, and apart they are as large and as heavy.
 pub record IsRearranged (xs ys : List (List ℕ)) : Type 0 where
   pub found : AreFoundAlike xs ys
   pub small : size_apart xs ≡ size_apart ys

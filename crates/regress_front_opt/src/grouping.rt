@@ -55,7 +55,7 @@ fn add_to_group(groups: &mut [Group], at: usize, word: Vec<char>) -> Result<(), 
 }
 
 /// Adds a word to the last group of its character, if behind it are only groups of other characters, or else as a group of its
-/// own: `ab` stands behind `aa` in the groups of `aa` and `c`.
+/// own: `ab` joins `aa`, and with it stands before `c`.
 fn add_word(
     alloc: Global,
     groups: &mut Vec<Group>,

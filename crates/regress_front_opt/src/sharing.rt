@@ -18,7 +18,7 @@ use std::alloc::{AllocError, Global};
 /// At most so many shared beginnings stand one behind another, so that no tree of words nests deep.
 const MOST_SHARED: usize = 16;
 
-/// In a choice between words neighbours share what they begin with: `case|catch` is `ca(?:se|tch)`. Each of its alternatives is
+/// In a choice between words those that begin alike share it: `case|do|catch` is `ca(?:se|tch)|do`. Each of its alternatives is
 /// a literal, or empty, and it stands in no lookbehind.
 #[derive(Drop)]
 pub struct SharedWords;
