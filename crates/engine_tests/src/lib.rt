@@ -5,8 +5,6 @@
 #[cfg(test)]
 mod code;
 #[cfg(test)]
-mod disjoint;
-#[cfg(test)]
 mod evaluated;
 #[cfg(test)]
 mod found;
@@ -18,6 +16,8 @@ mod long;
 mod outcomes;
 #[cfg(test)]
 mod parsed;
+#[cfg(test)]
+mod plans;
 #[cfg(test)]
 mod positions;
 #[cfg(test)]

@@ -1,8 +1,8 @@
 //! Programs, each instruction on a line of its own behind its address, and start predicates.
 
 use crate::classes::{push_ascii, push_bitmap, push_bracket, push_quantifier};
-use crate::texts::{push_bytes, push_literal, push_point, push_points};
-use regress_engine_code::{CompiledRegex, StartPredicate};
+use crate::texts::{push_byte, push_bytes, push_literal, push_point, push_points};
+use regress_engine_code::{CompiledRegex, Landmark, StartPredicate};
 use regress_engine_insn::{Insn, LoopFields, bytes_of};
 use regress_front::{ByteBitmap, Quantifier};
 use std::alloc::{AllocError, Global};
@@ -130,6 +130,27 @@ pub(crate) fn push_start(
         StartPredicate::ByteBracket(set) => {
             out.push_str("ByteBracket ")?;
             push_bitmap(alloc, out, set)
+        }
+        StartPredicate::ByteNear(set, landmark) => {
+            out.push_str("ByteNear ")?;
+            push_bitmap(alloc, out, set)?;
+            out.push_str(" with ")?;
+            push_landmark(alloc, out, landmark)
+        }
+    }
+}
+
+/// A byte that stands by each match, and where.
+fn push_landmark(alloc: Global, out: &mut String, landmark: &Landmark) -> Result<(), AllocError> {
+    match landmark {
+        Landmark::Ahead { distance, byte } => {
+            push_byte(out, *byte)?;
+            write!(out, " at distance {distance}")
+        }
+        Landmark::BehindRun { run, byte } => {
+            push_byte(out, *byte)?;
+            out.push_str(" behind a run of ")?;
+            push_bitmap(alloc, out, run)
         }
     }
 }

@@ -12,7 +12,7 @@ pub(crate) fn push_point(out: &mut String, point: CodePoint) -> Result<(), Alloc
 }
 
 /// A byte: of ASCII as a character in quotes, and any other as `0xc3`.
-fn push_byte(out: &mut String, byte: u8) -> Result<(), AllocError> {
+pub(crate) fn push_byte(out: &mut String, byte: u8) -> Result<(), AllocError> {
     if byte < 0x80 {
         push_point(out, u32::from(byte))
     } else {

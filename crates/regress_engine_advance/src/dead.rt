@@ -2,7 +2,7 @@
 ghost use Rattle.std.specs.Prelude.{◌≡◌, ℕ, true, Some};
 ghost use Rattle.regress_meaning.specs.Meaning.{Forward as ahead, Backward as backward};
 ghost use Rattle.regress_engine_code.specs.Standing.{program_of};
-ghost use Rattle.regress_engine_input.specs.Views.{View, direction_of, input_of, in_bytes, unit_beside};
+ghost use Rattle.regress_engine_input.specs.Views.{View, AreOfKind, direction_of, input_of, in_bytes, unit_beside};
 ghost use Rattle.regress_engine_search.specs.Search.{Suits};
 ghost use Rattle.regress_engine_singles.specs.Failing.{IsDead};
 
@@ -27,14 +27,15 @@ pub fn next_byte<Input: InputIndexer>(input: &Input, offset: usize) -> Option<u8
     input.peek_byte_right(position)
 }
 
-/// Whether surely no match can be reached from an address on, read forward, where this byte stands ahead.
+/// Whether surely no match can be reached from an address on, read forward, where this byte stands ahead, in each text that the
+/// program suits.
 ///
 /// ```rust
 /// let dead = is_dead_ahead(&program, 0, b'a');
 /// ```
 #[inline(always)]
 pub fn is_dead_ahead(program: &CompiledRegex, at: usize, byte: u8) -> bool
-    ensures { (v : View) (o : ℕ) → Suits (program_of program.now) v → Some byte ≡ in_bytes v.kind (unit_beside v.units ahead o) → result ≡ true
+    ensures { (v : View) (o : ℕ) → AreOfKind v.kind v.units → Suits (program_of program.now) v → Some byte ≡ in_bytes v.kind (unit_beside v.units ahead o) → result ≡ true
         → IsDead (program_of program.now) (input_of v) ahead at o }
 {
     program.cannot_begin_with(at, byte)

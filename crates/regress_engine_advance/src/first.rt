@@ -1,16 +1,13 @@
 //! What is taken first from an address on.
-ghost use Rattle.std.specs.Prelude.{◌≡◌, true, not, IfSome};
-ghost use Rattle.regress_engine_insn.specs.Instructions.{Instruction};
+ghost use Rattle.std.specs.Prelude.{IfSome};
 ghost use Rattle.regress_engine_insn.specs.InsnViews.{instruction};
 ghost use Rattle.regress_engine_code.specs.Standing.{program_of};
-ghost use Rattle.regress_engine_input.specs.Views.{View, are_bytes, input_of};
-ghost use Rattle.regress_engine_runs.specs.Closed.{Fits, IsClosed};
-ghost use Rattle.regress_engine_singles.specs.Disjoint.{AreDisjoint};
+ghost use Rattle.regress_engine_runs.specs.Closed.{IsClosed};
 ghost use Rattle.regress_engine_advance.specs.First.{IsTakenFirst};
 
 use regress_engine_code::CompiledRegex;
 use regress_engine_insn::Insn;
-use regress_engine_singles::{are_disjoint, first_byte, is_disjoint, takes_some};
+use regress_engine_singles::takes_some;
 
 /// What is taken at an address: the instruction there, or what a one-character loop there does at least once; `None` where
 /// neither takes anything.
@@ -57,27 +54,4 @@ pub fn taken_first<'p>(program: &'p CompiledRegex, at: usize) -> Option<&'p Insn
         return taken_at(program, at + 1);
     }
     taken_at(program, at)
-}
-
-/// Whether what is taken first from an address on stands nowhere where an instruction takes a character ahead: then a loop of
-/// that gives nothing back.
-///
-/// Asks that the program is closed, and that the instruction fits it.
-///
-/// ```rust
-/// let atomic = is_atomic(&program, &Insn::MatchAny, 2);
-/// ```
-pub fn is_atomic(program: &CompiledRegex, insn: &Insn, at: usize) -> bool
-    requires closed { IsClosed (program_of program.now) }
-    requires fits { Fits (program_of program.now) 0 (instruction insn.now) }
-    ensures { (v : View) → are_bytes v.kind ≡ not (program_of program.now).units → result ≡ true
-        → (i : Instruction) × IsTakenFirst (program_of program.now) at i × AreDisjoint (program_of program.now) (input_of v) (instruction insn.now) i }
-{
-    let Some(taken) = taken_first(program, at) else {
-        return false;
-    };
-    let Some(first) = first_byte(taken) else {
-        return are_disjoint(program, insn, taken);
-    };
-    is_disjoint(program, insn, first)
 }

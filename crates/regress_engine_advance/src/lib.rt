@@ -15,7 +15,7 @@ pub use advancing::advance;
 pub use characters::{any, any_in_line, ascii_bracket, bracket};
 pub use dead::{is_dead, is_dead_ahead, is_dead_behind, next_byte};
 pub use edges::{boundary, holds_at, is_word, word_beside};
-pub use first::{is_atomic, taken_first};
+pub use first::taken_first;
 pub use literals::{bytes_beside, other_ahead};
 pub use reading::beside;
 pub use times::{after_times, as_far};

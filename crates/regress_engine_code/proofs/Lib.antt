@@ -5,5 +5,4 @@ pub mod EmitLemmas
 pub mod PieceLemmas
 pub mod JumpLemmas
 pub mod ArmLemmas
-pub mod MayBeginLemmas
 pub mod StandingLemmas

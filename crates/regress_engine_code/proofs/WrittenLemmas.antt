@@ -1,10 +1,11 @@
 -- What is written stays, and what is written behind it lies there.
-use Rattle.std.specs.Prelude.{slice_get, slice_set}
+use Rattle.std.specs.Prelude.{slice_get}
 use Rattle.std.proofs.Common.{sym, ◌≡◌, ℕ, zero, suc, ◌+◌, ◌-◌, ◌<◌, ◌≤◌, ◌≢◌, List, [], ◌∷◌, ◌++◌, length, Some, refl, ap, ◌∙◌, subst, arith, length-append, append_assoc}
 use Rattle.std.proofs.lemmas.List.{append-nil, length-set}
 use Rattle.std.proofs.lemmas.Option.{slice_get_within}
 use Rattle.regress_engine_insn.specs.Instructions.{Instruction, reset_group, Program, Stands, StandFrom}
 use Rattle.regress_engine_insn.specs.Layout.{ProgramPoint, later, resets}
+use Rattle.regress_engine_analysis.proofs.ElementLemmas.{get-set_same, get-set_other}
 use Rattle.regress_engine_code.specs.Written.{Written, end, with, changed, Has, Keeps}
 
 -- ---- lists
@@ -19,18 +20,6 @@ get-back [] ys k x h = let e : k ≡ 0 + k = omega arith in subst (λ j. slice_g
 get-back (y ∷ xs) ys k x h =
     let e : suc (length xs + k) ≡ suc (length xs) + k = omega arith in
     subst (λ j. slice_get (y ∷ (xs ++ ys)) j ≡ Some x) e (get-back xs ys k x h)
-
-pub get-set_same : {A : Type 0} (xs : List A) (k : ℕ) (x : A) → k < length xs → slice_get (slice_set xs k x) k ≡ Some x
-get-set_same [] k x h = absurd (omega arith)
-get-set_same (y ∷ xs) zero x h = refl
-get-set_same (y ∷ xs) (suc k) x h = get-set_same xs k x (omega arith)
-
-pub get-set_other : {A : Type 0} (xs : List A) (k j : ℕ) (x : A) → j ≢ k → slice_get (slice_set xs k x) j ≡ slice_get xs j
-get-set_other [] k j x apart = refl
-get-set_other (y ∷ xs) zero zero x apart = absurd (apart refl)
-get-set_other (y ∷ xs) zero (suc j) x apart = refl
-get-set_other (y ∷ xs) (suc k) zero x apart = refl
-get-set_other (y ∷ xs) (suc k) (suc j) x apart = get-set_other xs k j x (λ e. apart (ap suc e))
 
 -- ---- what stays
 

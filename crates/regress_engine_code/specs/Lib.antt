@@ -1,4 +1,3 @@
-pub mod MayBegin
 pub mod Written
 pub mod Laid
 pub mod Emitting

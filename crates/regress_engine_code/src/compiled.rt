@@ -1,14 +1,14 @@
 //! Programs as they are handed out.
 ghost use Rattle.std.specs.Prelude.{◌≡◌, IfOk, IfErr};
 ghost use Rattle.std.specs.Arc.{arc_slice_items};
-ghost use Rattle.regress_engine_code.specs.MayBegin.{AreFirstBytes};
 ghost use Rattle.regress_engine_insn.specs.ProgramViews.{program_from, target_from};
+ghost use Rattle.regress_engine_analysis.specs.Planned.{ArePlanned};
 ghost use Rattle.regress_engine_code.specs.Laid.{IsLaid};
 
 use crate::brackets::copies_of;
+use regress_engine_analysis::{Known, Plan};
 use regress_engine_insn::Insn;
 use regress_engine_prefix::StartPredicate;
-use regress_front_bytes::ByteBitmap;
 use regress_front_core::{CaptureGroupName, Error, Flags};
 use regress_front_nodes::BracketContents;
 use regress_front_tables::Tables;
@@ -28,13 +28,14 @@ pub struct CompiledRegex {
     pub(crate) flags: Flags,
     pub(crate) tables: Tables,
     pub(crate) units: bool,
-    /// Of a program of bytes, for each address the bytes with which a match from there may begin; of units nothing.
-    pub(crate) first_bytes: Vec<ByteBitmap>,
+    /// What is known of each address.
+    pub(crate) plan: Plan,
     pub(crate) ghost laid: { ∥ IsLaid (target_from (program_from insns.items brackets.items loops groups units) tables flags) start_pred ∥₁ },
-    pub(crate) ghost told: { AreFirstBytes (program_from insns.items brackets.items loops groups units) first_bytes.items },
+    pub(crate) ghost planned: { ArePlanned (program_from insns.items brackets.items loops groups units) plan.facts.items },
 }
 
 impl CompiledRegex {
+    ghost use Rattle.regress_engine_analysis.specs.Planned.{known_of};
     ghost use Rattle.regress_engine_code.specs.Standing.{IsCopyOf, cannot_begin_with};
 
     /// The instructions. An address is an index into them, and the program begins at 0: `program.insns()[0]` is done first.
@@ -111,7 +112,7 @@ impl CompiledRegex {
 
     /// Whether no match can be reached from an address on, read forward, where a byte stands ahead: in a program of bytes each thing
     /// that is taken first from there on begins otherwise, as far as is told without going back to an earlier address. Of
-    /// characters beyond ASCII only those in literals are told apart. Of `ab|[c-e]` at address 0 that holds of the byte `x`.
+    /// `ab|[c-é]` at address 0 that holds of the byte `x`, and not of `0xC3`, with which `é` begins.
     ///
     /// ```rust
     /// let nowhere = program.cannot_begin_with(0, b'x');
@@ -120,7 +121,20 @@ impl CompiledRegex {
     pub fn cannot_begin_with(&self, at: usize, byte: u8) -> bool
         ensures { result ≡ cannot_begin_with self.now at byte }
     {
-        at < self.first_bytes.len() && !self.first_bytes[at].contains(byte)
+        self.plan.cannot_begin_with(at, byte)
+    }
+
+    /// What else is known of an address without running the program; nothing of one of units. Of `a*b` that is `Known::Possessive`
+    /// at address 0.
+    ///
+    /// ```rust
+    /// let known = program.known(0);
+    /// ```
+    #[inline(always)]
+    pub fn known(&self, at: usize) -> Known
+        ensures { result ≡ known_of self.now.plan.facts.items at }
+    {
+        self.plan.known(at)
     }
 
     /// The same program once more. It errs with `OutOfMemory` alone.
@@ -142,7 +156,7 @@ impl CompiledRegex {
             flags: self.flags,
             tables: self.tables.try_clone()?,
             units: self.units,
-            first_bytes: self.first_bytes.to_vec(alloc)?,
+            plan: self.plan.try_clone(alloc)?,
         })
     }
 }

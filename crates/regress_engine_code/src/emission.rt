@@ -10,7 +10,7 @@ ghost use Rattle.regress_engine_code.specs.Standing.{length_for, StandsFor};
 use crate::code::Code;
 use crate::compiled::CompiledRegex;
 use crate::emitter::Emitter;
-use crate::first_bytes::first_bytes_by_address;
+use regress_engine_analysis::Plan;
 use regress_engine_prefix::{StartPredicate, predicate_for_re};
 use regress_front_core::{CaptureGroupName, Error};
 use regress_front_nodes::ir::Regex;
@@ -98,7 +98,7 @@ fn whole_program(alloc: Global, regex: &Regex<'_>, units: bool) -> Result<Compil
     let group_names = ArcSlice::from_vec(names)?;
     let start_pred = start_of(alloc, regex, units)?;
     let tables = regex.tables.try_clone()?;
-    let first_bytes = first_bytes_by_address(alloc, &code.insns, &code.brackets, units)?;
+    let plan = Plan::new(alloc, &code.insns, &code.brackets, units)?;
     Ok(CompiledRegex {
         insns: code.insns,
         brackets: code.brackets,
@@ -109,6 +109,6 @@ fn whole_program(alloc: Global, regex: &Regex<'_>, units: bool) -> Result<Compil
         flags: regex.flags,
         tables,
         units,
-        first_bytes,
+        plan,
     })
 }

@@ -6,10 +6,9 @@ mod code;
 mod compiled;
 mod emission;
 mod emitter;
-mod first_bytes;
 mod leaves;
 mod strings;
 
 pub use compiled::CompiledRegex;
 pub use emission::{emit, emit_units};
-pub use regress_engine_prefix::StartPredicate;
+pub use regress_engine_prefix::{Landmark, StartPredicate};

@@ -12,8 +12,9 @@ ghost use Rattle.regress_engine_undo.specs.Sound.{IsHeld};
 ghost use Rattle.regress_engine_undo.specs.Tasks.{task_of, task, state_at};
 
 use crate::attempt::Attempt;
-use regress_engine_advance::{after_times, as_far, is_atomic};
+use regress_engine_advance::{after_times, as_far};
 use regress_engine_matchers::CharInput;
+use regress_engine_singles::is_possessive;
 use regress_engine_undo::{Memory, Spot};
 use std::alloc::AllocError;
 
@@ -58,7 +59,7 @@ impl<'a, Input: CharInput> Attempt<'a, Input> {
                 &memory.groups,
                 near,
             );
-            if spot.forward && is_atomic(self.program, insn, at) {
+            if spot.forward && is_possessive(self.program, spot.at) {
                 spot.at = at;
                 spot.offset = far;
                 return Ok(true);

@@ -93,7 +93,7 @@ impl<'a, Input: CharInput> Attempt<'a, Input> {
             }
             Insn::Alt { secondary } => {
                 let second = *secondary as usize;
-                if self.is_class_at(spot.at + 1) {
+                if self.is_turn_at(spot.at) {
                     self.choose(second, memory, spot)?;
                     return Ok(Some(true));
                 }

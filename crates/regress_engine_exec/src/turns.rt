@@ -9,17 +9,17 @@ ghost use Rattle.regress_engine_runs.specs.Meets.{IsAtPlace};
 ghost use Rattle.regress_engine_search.specs.Tasks.{Leads};
 ghost use Rattle.regress_engine_search.specs.Search.{Suits};
 ghost use Rattle.regress_engine_singles.specs.Failing.{IsDead};
-ghost use Rattle.regress_engine_singles.specs.Passed.{is_class};
+ghost use Rattle.regress_engine_analysis.specs.Planned.{is_class};
 ghost use Rattle.regress_engine_undo.specs.Held.{held, loop_written};
 ghost use Rattle.regress_engine_undo.specs.Sound.{IsHeld};
 ghost use Rattle.regress_engine_undo.specs.Tasks.{task};
-ghost use Rattle.regress_engine_undo.specs.Dead.{IsTurn};
+ghost use Rattle.regress_engine_singles.specs.Sparing.{IsTurn};
 
 use crate::attempt::Attempt;
-use regress_engine_advance::{is_atomic, is_dead};
+use regress_engine_advance::is_dead;
 use regress_engine_insn::{Insn, LoopFields};
 use regress_engine_matchers::CharInput;
-use regress_engine_singles::{Taken, is_class, taken_ahead};
+use regress_engine_singles::{Taken, taken_ahead, turn_at};
 use regress_engine_undo::{Memory, Spot};
 use std::alloc::AllocError;
 
@@ -70,54 +70,32 @@ fn begin_more(
 }
 
 impl<'a, Input: CharInput> Attempt<'a, Input> {
-    /// Whether a class stands at an address.
+    /// Whether iterations begin at an address that are one character of a class each, as is known of the program.
     #[inline]
-    pub(crate) fn is_class_at(&self, at: usize) -> bool
-        ensures { result ≡ true → (i : Instruction) × Stands (program_of self.now.program.now) at i × (is_class i ≡ true) }
+    pub(crate) fn is_turn_at(&self, at: usize) -> bool
+        ensures { result ≡ true → (i : Instruction) × Stands (program_of self.now.program.now) (at + 1) i × (is_class i ≡ true) }
     {
-        let insns = self.program.insns();
-        at < insns.len() && is_class(&insns[at])
+        turn_at(self.program, at).is_some()
     }
 
     /// The iterations that begin at an address with two ways, where the first one is a class and nothing else, and where that
     /// takes a character surely no match can be reached by the other one, nor behind the repetition.
     fn turn(&self, at: usize, second: usize) -> Option<Turn<'_>>
         requires suits { Suits (program_of self.now.program.now) (Input.view self.now.input) }
-        requires class { (i : Instruction) × Stands (program_of self.now.program.now) (at + 1) i × (is_class i ≡ true) }
+        requires stands { Stands (program_of self.now.program.now) at (alt second) }
         requires room { at + 1 < 2 ^ 64 }
-        ensures { IfSome result (λ t. IsTurn (program_of self.now.program.now) (input_of (Input.view self.now.input)) at second t.begin t.again (instruction t.class.now) (fields t.repetition.now)) }
+        ensures { IfSome result (λ t. IsTurn (program_of self.now.program.now) (Input.view self.now.input) at second t.begin t.again (instruction t.class.now) (fields t.repetition.now)) }
     {
-        let class = self.instruction(at + 1);
-        let insns = self.program.insns();
-        if at + 2 >= insns.len() {
-            return None;
-        }
-        let Insn::Jump { target } = &insns[at + 2] else {
-            return None;
-        };
-        let again = *target as usize;
-        if again >= insns.len() {
-            return None;
-        }
-        let Insn::LoopAgain { begin } = &insns[again] else {
-            return None;
-        };
-        let begin = *begin as usize;
+        let found = turn_at(self.program, at)?;
+        let begin = found.begin as usize;
         let Insn::EnterLoop(repetition) = self.instruction(begin) else {
             return None;
         };
-        let exit = repetition.exit as usize;
-        if begin + 1 != at
-            || !is_atomic(self.program, class, second)
-            || !is_atomic(self.program, class, exit)
-        {
-            return None;
-        }
         Some(Turn {
-            class,
+            class: self.instruction(at + 1),
             repetition,
             begin,
-            again,
+            again: found.again as usize,
         })
     }
 
@@ -149,7 +127,7 @@ impl<'a, Input: CharInput> Attempt<'a, Input> {
         requires suits { Suits (program_of self.now.program.now) (Input.view self.now.input) }
         requires sound { IsHeld (program_of self.now.program.now) (Input.view self.now.input) (held memory.old) }
         requires stands { Stands (program_of self.now.program.now) spot.old.at (alt second) }
-        requires turn { IsTurn (program_of self.now.program.now) (input_of (Input.view self.now.input)) spot.old.at second turn.now.begin turn.now.again (instruction turn.now.class.now) (fields turn.now.repetition.now) }
+        requires turn { IsTurn (program_of self.now.program.now) (Input.view self.now.input) spot.old.at second turn.now.begin turn.now.again (instruction turn.now.class.now) (fields turn.now.repetition.now) }
         requires entered { get_or (held memory.old).loops turn.now.repetition.now.loop_id (0, 0) ≡ (count, spot.old.offset) }
         requires room { spot.old.at + 1 < 2 ^ 64 }
         requires forward { spot.old.forward ≡ true }
@@ -174,7 +152,8 @@ impl<'a, Input: CharInput> Attempt<'a, Input> {
         Ok(())
     }
 
-    /// Does an alternative whose first way is a class. It is apart so that no step makes room for it.
+    /// Does an alternative with which iterations begin that are one character of a class each. It is apart so that no step makes
+    /// room for it.
     #[inline(never)]
     pub(crate) fn choose(
         &self,
@@ -185,7 +164,6 @@ impl<'a, Input: CharInput> Attempt<'a, Input> {
         requires suits { Suits (program_of self.now.program.now) (Input.view self.now.input) }
         requires sound { IsHeld (program_of self.now.program.now) (Input.view self.now.input) (held memory.old) }
         requires stands { Stands (program_of self.now.program.now) spot.old.at (alt second) }
-        requires class { (i : Instruction) × Stands (program_of self.now.program.now) (spot.old.at + 1) i × (is_class i ≡ true) }
         requires room { spot.old.at + 1 < 2 ^ 64 }
         requires place { IsAtPlace (reading_of (Input.view self.now.input)) spot.old.offset }
         ensures leads { OnOk result (Leads (program_of self.now.program.now) (input_of (Input.view self.now.input)) 1 (task (program_of self.now.program.now) (input_of (Input.view self.now.input)) true spot.old (held memory.old)) (task (program_of self.now.program.now) (input_of (Input.view self.now.input)) true spot.new (held memory.new))) }

@@ -11,13 +11,14 @@ ghost use Rattle.regress_engine_runs.specs.Closed.{Fits};
 ghost use Rattle.regress_engine_runs.specs.Meets.{IsAtPlace};
 ghost use Rattle.regress_engine_search.specs.Search.{Suits};
 ghost use Rattle.regress_engine_singles.specs.Failing.{IsDead};
-ghost use Rattle.regress_engine_singles.specs.Passed.{is_class};
+ghost use Rattle.regress_engine_analysis.specs.Planned.{is_class};
 
 use regress_engine_advance::{ascii_bracket, bracket, bytes_beside, holds_at};
+use regress_engine_analysis::is_class;
 use regress_engine_code::CompiledRegex;
 use regress_engine_insn::Insn;
 use regress_engine_matchers::CharInput;
-use regress_engine_singles::{is_assertion, is_class};
+use regress_engine_singles::is_assertion;
 
 /// The offset behind the character ahead of one, where a class matches that.
 #[inline]

@@ -9,11 +9,12 @@ ghost use Rattle.regress_engine_singles.specs.Passed.{PassesOver};
 ghost use Rattle.regress_engine_leading.specs.Known.{BeginsAt, IsKnown};
 
 use crate::failing::{class_ahead, fails};
-use regress_engine_advance::{beside, boundary, is_atomic, is_dead, is_word, word_beside};
+use regress_engine_advance::{beside, boundary, is_dead, is_word, word_beside};
+use regress_engine_analysis::is_class;
 use regress_engine_code::CompiledRegex;
 use regress_engine_insn::Insn;
 use regress_engine_matchers::{CharInput, CharProperties};
-use regress_engine_singles::{as_far_ahead, is_assertion, is_class, takes_one};
+use regress_engine_singles::{as_far_ahead, is_assertion, is_possessive, takes_one};
 
 /// So many instructions behind a run are looked at.
 const LOOKED_AT: usize = 8;
@@ -93,7 +94,7 @@ fn passed_from<Input: CharInput>(
     if *min_iters > 0 || !*greedy || !is_class(first) || !is_class(body) {
         return None;
     }
-    if !is_atomic(program, body, at + 3) {
+    if !is_possessive(program, at + 1) {
         return None;
     }
     let near = class_ahead(program, input, first, start)?;

@@ -1,16 +1,16 @@
 -- The first bytes of characters.
-use Rattle.std.proofs.Common.{◌≡◌, ℕ, ◌+◌, ◌<◌, ◌≤◌, ◌⊎◌, ◌↔◌, ◌||◌, ◌&&◌, not, Bool, true, false, List, [], ◌∷◌, ◌++◌, length, take, get_or, map, nat_le, slice_get, Some, All, Global, refl, sym, ap, subst, ◌∙◌, inl, inr, arith}
+use Rattle.std.proofs.Common.{◌≡◌, ℕ, ◌+◌, ◌<◌, ◌≤◌, ◌⊎◌, ◌↔◌, ◌||◌, Bool, true, false, List, [], ◌∷◌, ◌++◌, length, take, get_or, map, slice_get, Some, All, Global, refl, sym, ap, subst, ◌∙◌, inl, inr, arith}
 use Rattle.std.specs.Prelude.{encode_utf8, ◌==◌}
 use Rattle.std.specs.List.{list_any}
 use Rattle.std.specs.Box.{boxed_slice_items}
 use Rattle.std.specs.declared.boxed.BoxedSlice.{BoxedSlice}
 use Rattle.regress_meaning.specs.Meaning.{is_some_and}
-use Rattle.std.proofs.lemmas.Bool.{eqb-true, eq-eqb, le-leb}
+use Rattle.std.proofs.lemmas.Bool.{eqb-true, eq-eqb}
 use Rattle.std.proofs.lemmas.Bool.Decides.{nat_tests}
 use Rattle.std.proofs.Math.Bool.{or-false}
 use Rattle.std.proofs.lemmas.List.{map-append, take_more, get_or-map, length-map}
 use Rattle.std.proofs.lemmas.List.Folds.{list_any-append}
-use Rattle.std.proofs.lemmas.List.Elements.{All-head, All-tail, All-push, All-nil}
+use Rattle.std.proofs.lemmas.List.Elements.{All-head, All-tail, All-push}
 use Rattle.std.proofs.lemmas.Option.{slice_get_within}
 use Rattle.std.proofs.lemmas.Str.{encode_ascii}
 use Rattle.regress_meaning.specs.Text.{holds, between}
@@ -19,7 +19,6 @@ use Rattle.regress_front_sets.specs.declared.interval.Interval.{Interval}
 use Rattle.regress_front_sets.specs.Intervals.{ends, ends_of, in_interval}
 use Rattle.regress_front_sets.specs.FirstBytes.{BeginsSome}
 use Rattle.regress_front_sets.proofs.FirstByteLemmas.{lead, lead-first, lead-unique}
-use Rattle.regress_front_nodes.specs.TreeMeaning.{bracket_has}
 use Rattle.regress_engine_prefix.specs.FirstBytes.{BeginsOneOf, AreFirstOf, MayLead, begins_one, AreFirstOfStrings}
 
 -- a first byte may be one

@@ -3,3 +3,5 @@ pub mod PrefixLemmas
 pub mod ServingLemmas
 pub mod StartLemmas
 pub mod PrefilterLemmas
+pub mod LandmarkLemmas
+pub mod ReachLemmas

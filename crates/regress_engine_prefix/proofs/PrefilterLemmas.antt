@@ -1,7 +1,7 @@
 -- What a prefilter finds in bytes.
 use Rattle.std.specs.Prelude.{slice_get, slice_index, option_map, position, ◌==◌, ◌||◌}
 use Rattle.std.specs.List.{position_or_len}
-use Rattle.std.proofs.Common.{◌≡◌, ◌≢◌, ◌⊎◌, inl, inr, ap₂, ℕ, zero, suc, ◌+◌, ◌-◌, ◌<◌, ◌≤◌, Bool, true, false, List, [], ◌∷◌, length, take, drop, get_or, Option, Some, None, refl, sym, ap, ◌∙◌, subst, arith, length-drop, length-take}
+use Rattle.std.proofs.Common.{◌≡◌, ◌≢◌, ◌⊎◌, inl, inr, ap₂, ℕ, zero, suc, ◌+◌, ◌-◌, ◌<◌, ◌≤◌, Bool, true, false, List, [], ◌∷◌, length, take, drop, Option, Some, None, refl, sym, ap, ◌∙◌, subst, arith, length-drop, length-take}
 use Rattle.std.proofs.Math.Bool.{or-false}
 use Rattle.std.proofs.lemmas.Grind.{common_steps}
 use Rattle.std.proofs.lemmas.Bool.{cases_lt, cases_eq, eq-eqb, ne_eqb, true≢false}
@@ -12,10 +12,13 @@ use Rattle.std.proofs.lemmas.Option.{slice_get_within, slice_get-get_or}
 use Rattle.memchr.specs.Find.{IsFirstByte, FindsNeedle, OccursAt, is_byte, is_byte2, is_byte3}
 use Rattle.regress_meaning.specs.Text.{holds}
 use Rattle.regress_meaning.specs.Meaning.{is_some_and}
+use Rattle.regress_front_bytes.specs.declared.bitmaps.ByteBitmap.{ByteBitmap}
+use Rattle.regress_engine_prefix.specs.declared.landmark.Landmark.{Landmark}
 use Rattle.regress_engine_prefix.specs.Starts.{BeginsAs}
 use Rattle.regress_engine_prefix.specs.declared.start.StartPredicate.{StartPredicate}
-use Rattle.regress_engine_prefix.specs.declared.start.StartPredicate.TheVariants.{Arbitrary, ByteSet1, ByteSet2, ByteSet3, ByteSeq, ByteBracket, StartAnchored}
-use Rattle.regress_engine_prefix.specs.Prefiltering.{IsLeast, IsNextHit, is_anchored}
+use Rattle.regress_engine_prefix.specs.declared.start.StartPredicate.TheVariants.{Arbitrary, ByteSet1, ByteSet2, ByteSet3, ByteSeq, ByteBracket, ByteNear, StartAnchored}
+use Rattle.regress_engine_prefix.specs.Least.{IsLeast}
+use Rattle.regress_engine_prefix.specs.Prefiltering.{IsNextHit, is_anchored, is_near}
 
 -- ---- sets of bytes
 
@@ -111,7 +114,7 @@ module _ (bytes front : List ℕ) where
 
 -- ---- an offset behind which the bytes are searched
 
-slice_get-behind : (bytes : List ℕ) (from k : ℕ) → slice_get (drop from bytes) k ≡ slice_get bytes (from + k)
+pub slice_get-behind : (bytes : List ℕ) (from k : ℕ) → slice_get (drop from bytes) k ≡ slice_get bytes (from + k)
 slice_get-behind bytes zero k = let e : k ≡ 0 + k = omega arith in ap (slice_get bytes) e
 slice_get-behind [] (suc from) k = refl
 slice_get-behind (b ∷ bytes) (suc from) k =
@@ -135,26 +138,38 @@ pub record SameBehind (start : StartPredicate) (bytes : List ℕ) (from k : ℕ)
 by_byte : (test : ℕ → Bool) (bytes : List ℕ) (from k : ℕ) → is_some_and (slice_get (drop from bytes) k) test ≡ is_some_and (slice_get bytes (from + k)) test
 by_byte test bytes from k = ap (λ (o : Option ℕ). is_some_and o test) (slice_get-behind bytes from k)
 
-pub same-behind : (start : StartPredicate) → is_anchored start ≡ false → (bytes : List ℕ) (from k : ℕ) → SameBehind start bytes from k
-same-behind Arbitrary free bytes from k = record { on = λ h. tt; back = λ h. tt }
-same-behind (ByteSet1 set) free bytes from k = let e = by_byte (holds set) bytes from k in record { on = λ h. sym e ∙ h; back = λ h. e ∙ h }
-same-behind (ByteSet2 set) free bytes from k = let e = by_byte (holds set) bytes from k in record { on = λ h. sym e ∙ h; back = λ h. e ∙ h }
-same-behind (ByteSet3 set) free bytes from k = let e = by_byte (holds set) bytes from k in record { on = λ h. sym e ∙ h; back = λ h. e ∙ h }
-same-behind (ByteSeq front) free bytes from k =
+pub same-behind : (start : StartPredicate) → is_anchored start ≡ false → is_near start ≡ false → (bytes : List ℕ) (from k : ℕ) → SameBehind start bytes from k
+same-behind Arbitrary free far bytes from k = record { on = λ h. tt; back = λ h. tt }
+same-behind (ByteSet1 set) free far bytes from k = let e = by_byte (holds set) bytes from k in record { on = λ h. sym e ∙ h; back = λ h. e ∙ h }
+same-behind (ByteSet2 set) free far bytes from k = let e = by_byte (holds set) bytes from k in record { on = λ h. sym e ∙ h; back = λ h. e ∙ h }
+same-behind (ByteSet3 set) free far bytes from k = let e = by_byte (holds set) bytes from k in record { on = λ h. sym e ∙ h; back = λ h. e ∙ h }
+same-behind (ByteSeq front) free far bytes from k =
     let e = ap (take (length front.items)) (drop-behind bytes from k) in record { on = λ h. sym e ∙ h; back = λ h. e ∙ h }
-same-behind (ByteBracket set) free bytes from k = let e = by_byte _ bytes from k in record { on = λ h. sym e ∙ h; back = λ h. e ∙ h }
-same-behind StartAnchored free bytes from k = absurd (cc)
+same-behind (ByteBracket set) free far bytes from k = let e = by_byte _ bytes from k in record { on = λ h. sym e ∙ h; back = λ h. e ∙ h }
+same-behind (ByteNear set landmark) free far bytes from k = absurd (cc)
+same-behind StartAnchored free far bytes from k = absurd (cc)
 
 -- so what is found behind an offset is found from it on
-pub found-behind : (start : StartPredicate) → is_anchored start ≡ false → (bytes : List ℕ) (from : ℕ) (r : Option ℕ) → IsNextHit start (drop from bytes) 0 r
+pub found-behind : (start : StartPredicate) → is_anchored start ≡ false → is_near start ≡ false → (bytes : List ℕ) (from : ℕ) (r : Option ℕ) → IsNextHit start (drop from bytes) 0 r
     → IsNextHit start bytes from (option_map (λ k. from + k) r)
-found-behind start free bytes from None h = λ o low is.
+found-behind start free far bytes from None h = λ o low is.
     let e : o ≡ from + (o - from) = omega (arith, low) in
-    h (o - from) (omega arith) ((same-behind start free bytes from (o - from)).back (subst (BeginsAs start bytes) e is))
-found-behind start free bytes from (Some k) h = (
+    h (o - from) (omega arith) ((same-behind start free far bytes from (o - from)).back (subst (BeginsAs start bytes) e is))
+found-behind start free far bytes from (Some k) h = (
   omega arith,
-  (same-behind start free bytes from k).on h.1,
+  (same-behind start free far bytes from k).on h.1,
   λ o low high is.
       let e : o ≡ from + (o - from) = omega (arith, low) in
-      h.2 (o - from) (omega arith) (omega (arith, low, high)) ((same-behind start free bytes from (o - from)).back (subst (BeginsAs start bytes) e is)),
+      h.2 (o - from) (omega arith) (omega (arith, low, high)) ((same-behind start free far bytes from (o - from)).back (subst (BeginsAs start bytes) e is)),
 )
+
+-- what speaks of no landmark
+pub other_than_near : (start : StartPredicate) → ((set : ByteBitmap) (landmark : Landmark) → start ≡ ByteNear set landmark → ⊥) → is_near start ≡ false
+other_than_near Arbitrary other = refl
+other_than_near (ByteSet1 _) other = refl
+other_than_near (ByteSet2 _) other = refl
+other_than_near (ByteSet3 _) other = refl
+other_than_near (ByteSeq _) other = refl
+other_than_near (ByteBracket _) other = refl
+other_than_near (ByteNear set landmark) other = absurd (other set landmark refl)
+other_than_near StartAnchored other = refl

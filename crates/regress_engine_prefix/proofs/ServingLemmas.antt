@@ -1,9 +1,9 @@
 -- What serves a tree: the predicate that says nothing, and a copy of what does.
-use Rattle.std.proofs.Common.{◌≡◌, ℕ, Bool, true, List, take, drop, length, refl, sym, ap, ◌∙◌, subst}
+use Rattle.std.proofs.Common.{◌≡◌, ℕ, Bool, List, take, drop, length, refl, sym, ap, ◌∙◌, subst}
 use Rattle.regress_front_nodes.specs.Trees.{Tree}
 use Rattle.regress_engine_prefix.specs.Starts.{BeginsAs, is_arbitrary, tells_bytes, HoldsAtStart, Serves, IsSameStart}
 use Rattle.regress_engine_prefix.specs.declared.start.StartPredicate.{StartPredicate}
-use Rattle.regress_engine_prefix.specs.declared.start.StartPredicate.TheVariants.{Arbitrary, ByteSet1, ByteSet2, ByteSet3, ByteSeq, ByteBracket, StartAnchored}
+use Rattle.regress_engine_prefix.specs.declared.start.StartPredicate.TheVariants.{Arbitrary, ByteSet1, ByteSet2, ByteSet3, ByteSeq, ByteBracket, ByteNear, StartAnchored}
 
 -- two predicates say the same of bytes
 pub record SayTheSame (start other : StartPredicate) : Type 0 where
@@ -35,12 +35,14 @@ same-says (ByteSeq front) (ByteSet1 _) e = absurd e
 same-says (ByteSeq front) (ByteSet2 _) e = absurd e
 same-says (ByteSeq front) (ByteSet3 _) e = absurd e
 same-says (ByteSeq front) (ByteBracket _) e = absurd e
+same-says (ByteSeq front) (ByteNear _ _) e = absurd e
 same-says (ByteSeq front) StartAnchored e = absurd e
 same-says Arbitrary other e = one-says Arbitrary other e
 same-says (ByteSet1 set) other e = one-says (ByteSet1 set) other e
 same-says (ByteSet2 set) other e = one-says (ByteSet2 set) other e
 same-says (ByteSet3 set) other e = one-says (ByteSet3 set) other e
 same-says (ByteBracket set) other e = one-says (ByteBracket set) other e
+same-says (ByteNear set landmark) other e = one-says (ByteNear set landmark) other e
 same-says StartAnchored other e = one-says StartAnchored other e
 
 -- a copy of what serves a tree serves it

@@ -19,11 +19,17 @@ use Rattle.regress_front_nodes.specs.TreeMeaning.{node_outcomes}
 use Rattle.regress_front_bytes.proofs.TextLemmas.{length-encodes, chars-code_points}
 use Rattle.regress_engine_prefix.specs.FirstBytes.{MayLead}
 use Rattle.regress_engine_prefix.specs.Prefixes.{Holds, HoldsFrom, first_literal, HasBytes, Foretells}
-use Rattle.regress_engine_prefix.specs.Starts.{SaysNoMore, IsAnchoredOnlyIf, IsAtStart, HoldsAtStart, IsSequence, KeepsSequence, KeepsLiteral, IsStartOf}
+use Rattle.regress_front_bytes.specs.declared.bitmaps.ByteBitmap.{ByteBitmap}
+use Rattle.regress_engine_prefix.specs.Landmarks.{stands}
+use Rattle.regress_engine_prefix.specs.Reaches.{StandsAt, Reaches}
+use Rattle.regress_engine_prefix.specs.declared.landmark.Landmark.{Landmark}
+use Rattle.regress_engine_prefix.specs.declared.reach.Reach.TheVariants.{By}
+use Rattle.regress_engine_prefix.proofs.LandmarkLemmas.{begins-parts, begins-both}
+use Rattle.regress_engine_prefix.specs.Starts.{SaysNoMore, HitsBoundaries, IsAnchoredOnlyIf, IsAtStart, HoldsAtStart, IsSequence, KeepsSequence, KeepsLiteral, IsStartOf}
 use Rattle.regress_engine_prefix.specs.declared.prefix.Prefix.{Prefix}
 use Rattle.regress_engine_prefix.specs.declared.start.StartPredicate.{StartPredicate}
 use Rattle.regress_engine_prefix.specs.declared.prefix.Prefix.TheVariants.{Still, Unknown, Start, Bytes, First}
-use Rattle.regress_engine_prefix.specs.declared.start.StartPredicate.TheVariants.{Arbitrary, ByteSet1, ByteSet2, ByteSet3, ByteSeq, ByteBracket, StartAnchored}
+use Rattle.regress_engine_prefix.specs.declared.start.StartPredicate.TheVariants.{Arbitrary, ByteSet1, ByteSet2, ByteSet3, ByteSeq, ByteBracket, ByteNear, StartAnchored}
 
 -- ---- bytes at an offset
 
@@ -175,6 +181,7 @@ holds-at_start (ByteSet2 _) prefix t is told = tt
 holds-at_start (ByteSet3 _) prefix t is told = tt
 holds-at_start (ByteSeq _) prefix t is told = tt
 holds-at_start (ByteBracket _) prefix t is told = tt
+holds-at_start (ByteNear _ _) prefix t is told = tt
 
 -- what is known of a literal is looked for
 pub keeps-literal : (start : StartPredicate) (prefix : Prefix) (t : Tree) → KeepsSequence prefix start → Foretells prefix t → KeepsLiteral t start
@@ -183,3 +190,28 @@ keeps-literal start prefix t keeps told = go (first_literal t) told.spelled
     go : (o : Option (List ℕ)) → IfSome o (HasBytes prefix) → IfSome o (λ bs. 2 ≤ length bs → IsSequence start bs)
     go None h = tt
     go (Some bs) h = keeps bs h
+
+-- ---- a byte that stands by
+
+some-stands : (landmark : Landmark) (text : List ℕ) (s : State) (us : List State) → us ≢ [] → All (λ (u : State). StandsAt landmark text s.place) us → StandsAt landmark text s.place
+some-stands landmark text s [] some h = absurd (some refl)
+some-stands landmark text s (u ∷ us) some h = All-head (λ (v : State). StandsAt landmark text s.place) u us h
+
+-- what stands by a place stands by its offset
+place-stands : (landmark : Landmark) (bytes : List ℕ) → IsUtf8 bytes → (p : ℕ) → StandsAt landmark (chars bytes) p → stands landmark bytes (offset (of_utf8 bytes) p) ≡ true
+place-stands landmark bytes utf8 p h =
+    subst (λ o. stands landmark bytes o ≡ true) (length-encodes (take p (chars bytes)))
+    (subst (λ bs. stands landmark bs (length (encode_utf8_all (take p (chars bytes)))) ≡ true) (encodes-chars bytes utf8) h)
+
+-- the bytes by which a byte stands that stands by each match
+pub near-start : (set : ByteBitmap) (landmark : Landmark) (t : Tree) → IsStartOf (ByteBracket set) t → Reaches (By landmark) t → IsStartOf (ByteNear set landmark) t
+near-start set landmark t start reach = record {
+  each = λ bytes utf8 context same s some.
+      let points = subst (All (λ c. c ≤ 0x10_FFFF)) (sym same) (chars-code_points bytes utf8) in
+      let held = some-stands landmark context.text s (node_outcomes context t Forward s) some (reach.each context points s) in
+      begins-both set landmark bytes (offset (of_utf8 bytes) s.place) (start.each bytes utf8 context same s some)
+      (place-stands landmark bytes utf8 s.place (subst (λ text. StandsAt landmark text s.place) same held));
+}
+
+pub near-boundary : (set : ByteBitmap) (landmark : Landmark) → HitsBoundaries (ByteBracket set) → HitsBoundaries (ByteNear set landmark)
+near-boundary set landmark h known bytes utf8 at begins = h refl bytes utf8 at (begins-parts set landmark bytes at begins).0

@@ -1,13 +1,9 @@
 -- Where a text goes on as a start predicate says.
-use Rattle.std.specs.Prelude.{◌≡◌, ℕ, ◌<◌, ◌≤◌, Bool, true, false, List, [], Option, Some, None}
+use Rattle.std.specs.Prelude.{ℕ, Bool, true, false, List, [], Option}
+use Rattle.regress_engine_prefix.specs.Least.{IsLeast}
 use Rattle.regress_engine_prefix.specs.Starts.{BeginsAs}
 use Rattle.regress_engine_prefix.specs.declared.start.StartPredicate.{StartPredicate}
-use Rattle.regress_engine_prefix.specs.declared.start.StartPredicate.TheVariants.{ByteSeq, StartAnchored}
-
--- the least number from one on of which something holds, or none
-abbrev pub IsLeast : (ℕ → Type 0) → ℕ → Option ℕ → Type 0
-IsLeast P from None = (o : ℕ) → from ≤ o → ¬ P o
-IsLeast P from (Some at) = (from ≤ at) × P at × ((o : ℕ) → from ≤ o → o < at → ¬ P o)
+use Rattle.regress_engine_prefix.specs.declared.start.StartPredicate.TheVariants.{ByteSeq, ByteNear, StartAnchored}
 
 -- the least offset from one on at which bytes go on as a start predicate says, or none
 abbrev pub IsNextHit : StartPredicate → List ℕ → ℕ → Option ℕ → Type 0
@@ -17,6 +13,11 @@ IsNextHit start bytes from found = IsLeast (BeginsAs start bytes) from found
 abbrev pub is_anchored : StartPredicate → Bool
 is_anchored StartAnchored = true
 is_anchored _ = false
+
+-- it speaks of a landmark
+abbrev pub is_near : StartPredicate → Bool
+is_near (ByteNear _ _) = true
+is_near _ = false
 
 -- the bytes that are looked for as a sequence
 abbrev pub literal_of : StartPredicate → List ℕ

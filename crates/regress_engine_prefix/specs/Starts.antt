@@ -8,11 +8,12 @@ use Rattle.regress_meaning.specs.Offsets.{of_utf8, offset}
 use Rattle.regress_front_bytes.specs.Bitmaps.{byte_bitmap_contains}
 use Rattle.regress_front_nodes.specs.Trees.{Tree}
 use Rattle.regress_front_nodes.specs.TreeMeaning.{node_outcomes}
+use Rattle.regress_engine_prefix.specs.Landmarks.{begins_by}
 use Rattle.regress_engine_prefix.specs.Prefixes.{Holds, first_literal, HasBytes}
 use Rattle.regress_engine_prefix.specs.declared.prefix.Prefix.{Prefix}
 use Rattle.regress_engine_prefix.specs.declared.prefix.Prefix.TheVariants.{Start}
 use Rattle.regress_engine_prefix.specs.declared.start.StartPredicate.{StartPredicate}
-use Rattle.regress_engine_prefix.specs.declared.start.StartPredicate.TheVariants.{Arbitrary, ByteSet1, ByteSet2, ByteSet3, ByteSeq, ByteBracket, StartAnchored}
+use Rattle.regress_engine_prefix.specs.declared.start.StartPredicate.TheVariants.{Arbitrary, ByteSet1, ByteSet2, ByteSet3, ByteSeq, ByteBracket, ByteNear, StartAnchored}
 
 -- the bytes from the offset on begin as the predicate says
 abbrev pub BeginsAs : StartPredicate → List ℕ → ℕ → Type 0
@@ -22,6 +23,7 @@ BeginsAs (ByteSet2 set) bytes at = is_some_and (slice_get bytes at) (holds set) 
 BeginsAs (ByteSet3 set) bytes at = is_some_and (slice_get bytes at) (holds set) ≡ true
 BeginsAs (ByteSeq front) bytes at = take (length front.items) (drop at bytes) ≡ front.items
 BeginsAs (ByteBracket set) bytes at = is_some_and (slice_get bytes at) (byte_bitmap_contains set) ≡ true
+BeginsAs (ByteNear set landmark) bytes at = begins_by set landmark bytes at ≡ true
 BeginsAs StartAnchored bytes at = at ≡ 0
 
 -- wherever the prefix holds, the bytes begin as the predicate says

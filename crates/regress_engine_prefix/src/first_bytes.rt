@@ -11,24 +11,30 @@ ghost use Rattle.regress_engine_prefix.specs.FirstBytes.{AreFirstOf, AreFirstOfS
 
 use regress_front_bytes::{ByteBitmap, utf8_first_byte};
 use regress_front_nodes::BracketContents;
-use regress_front_sets::{CodePoint, Interval, add_utf8_first_bytes_to_bitmap};
+use regress_front_sets::{CODE_POINT_MAX, CodePoint, Interval, add_utf8_first_bytes_to_bitmap};
 use std::alloc::AllocError;
 use std::boxed::BoxedSlice;
 
-/// The first bytes of some code points.
-pub(crate) fn first_of_chars(chars: &[CodePoint]) -> ByteBitmap
-    requires { All is_code_point chars.now }
+/// The first bytes of some code points in UTF-8; a number past the greatest has none. `first_of_chars(&[0x61, 0xE9])` holds `b'a'`
+/// and `0xC3`.
+pub fn first_of_chars(chars: &[CodePoint]) -> ByteBitmap
     ensures { AreFirstOf (holds chars.now) (byte_bitmap_contains result) }
 {
     let mut set = ByteBitmap::default();
     for c in chars {
-        set.set(utf8_first_byte(*c));
+        if *c <= CODE_POINT_MAX {
+            set.set(utf8_first_byte(*c));
+        }
     }
     set
 }
 
-/// The first bytes of the code points of some intervals.
-fn first_of_intervals(intervals: &[Interval]) -> ByteBitmap
+/// The first bytes of the code points of some intervals in UTF-8.
+///
+/// ```rust
+/// let set = first_of_intervals(&[Interval { first: 0x7E, last: 0x80 }]); // 7E, 7F and C2
+/// ```
+pub fn first_of_intervals(intervals: &[Interval]) -> ByteBitmap
     ensures { AreFirstOf (in_intervals (ends_of intervals.now)) (byte_bitmap_contains result) }
 {
     let mut set = ByteBitmap::default();
@@ -38,8 +44,12 @@ fn first_of_intervals(intervals: &[Interval]) -> ByteBitmap
     set
 }
 
-/// The first bytes of the code points that a bracket matches.
-pub(crate) fn first_of_bracket(contents: &BracketContents) -> Result<ByteBitmap, AllocError>
+/// The first bytes of the code points that a bracket matches, in UTF-8. It errs only where memory is refused.
+///
+/// ```rust
+/// let set = first_of_bracket(&class)?;
+/// ```
+pub fn first_of_bracket(contents: &BracketContents) -> Result<ByteBitmap, AllocError>
     ensures { IfOk result (λ set.
         AreFirstOf (bracket_has contents.now.invert (ends_in contents.now.cps)) (byte_bitmap_contains set)) }
 {
@@ -52,8 +62,8 @@ pub(crate) fn first_of_bracket(contents: &BracketContents) -> Result<ByteBitmap,
     }
 }
 
-/// The set of some ASCII bytes, each the first of its character.
-pub(crate) fn first_of_ascii(bytes: &[u8]) -> ByteBitmap
+/// The set of some ASCII bytes, each the first of its character: `first_of_ascii(b"ab")` holds `b'a'` and `b'b'`.
+pub fn first_of_ascii(bytes: &[u8]) -> ByteBitmap
     requires { All (λ b. b < 0x80) bytes.now }
     ensures { AreFirstOf (holds bytes.now) (byte_bitmap_contains result) }
 {

@@ -5,6 +5,7 @@ ghost use Rattle.regress_meaning.specs.Text.{holds};
 ghost use Rattle.regress_engine_prefix.specs.Starts.{tells_bytes};
 ghost use Rattle.regress_engine_prefix.specs.Prefiltering.{IsNextHit, is_anchored, literal_of};
 
+use crate::landmark::find_near;
 use crate::start::StartPredicate;
 use memchr::memmem::Finder;
 use memchr::{memchr, memchr2, memchr3};
@@ -95,6 +96,7 @@ impl<'r> Prefilter<'r> {
             StartPredicate::ByteSet3(set) => find_three(*set, bytes),
             StartPredicate::ByteSeq(_) => self.literal.find(bytes),
             StartPredicate::ByteBracket(set) => set.find_in(bytes),
+            StartPredicate::ByteNear(set, landmark) => find_near(set, *landmark, bytes, 0),
         }
     }
 
@@ -110,6 +112,9 @@ impl<'r> Prefilter<'r> {
     {
         if self.is_anchored() {
             return (offset == 0).then_some(0);
+        }
+        if let StartPredicate::ByteNear(set, landmark) = self.start {
+            return find_near(set, *landmark, text, offset);
         }
         let index = self.find_in(&text[offset..])?;
         Some(offset + index)

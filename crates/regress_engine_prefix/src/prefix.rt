@@ -123,7 +123,7 @@ fn find_of_leaf(alloc: Global, node: &Node, known: &mut Prefix) -> Result<(), Al
 
 /// What holds of each match of a node of a kind that has no parts.
 #[inline(never)]
-fn prefix_of_leaf(alloc: Global, node: &Node) -> Result<Prefix, AllocError>
+pub(crate) fn prefix_of_leaf(alloc: Global, node: &Node) -> Result<Prefix, AllocError>
     requires lawful { IsLawful (tree node.now) }
     requires leaf { is_leaf (tree node.now) ≡ true }
     ensures { IfOk result (λ prefix. Foretells prefix (tree node.now)) }

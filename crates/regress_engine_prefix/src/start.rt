@@ -1,13 +1,16 @@
 //! Where a search may begin, told by bytes.
-ghost use Rattle.std.specs.Prelude.{◌≡◌, ℕ, false, IfOk, IfErr};
+ghost use Rattle.std.specs.Prelude.{◌≡◌, ℕ, Bool, false, IfOk, IfErr};
 ghost use Rattle.regress_front_nodes.specs.Trees.{tree};
 ghost use Rattle.regress_front_nodes.specs.WellFormed.{IsWellFormed};
-ghost use Rattle.regress_engine_prefix.specs.Prefixes.{LeadsCharacters};
+ghost use Rattle.regress_engine_prefix.specs.Prefixes.{IsLawful, LeadsCharacters};
 ghost use Rattle.regress_engine_prefix.specs.Starts.{IsStartOf, SaysNoMore, HitsBoundaries, IsAnchoredOnlyIf, IsAtStart, HoldsAtStart, KeepsSequence, KeepsLiteral, IsSameStart};
 
+use crate::landmark::Landmark;
 use crate::prefix::{Prefix, prefix_of};
+use crate::reach::landmark_of;
 use regress_front_bytes::ByteBitmap;
 use regress_front_core::Error;
+use regress_front_nodes::Node;
 use regress_front_nodes::ir::Regex;
 use std::alloc::{AllocError, Global};
 
@@ -26,6 +29,8 @@ pub enum StartPredicate {
     ByteSeq(Vec<u8>),
     /// At one of some bytes.
     ByteBracket(ByteBitmap),
+    /// At one of some bytes, where another byte stands by.
+    ByteNear(ByteBitmap, Landmark),
     /// At the start of the text alone.
     StartAnchored,
 }
@@ -46,6 +51,9 @@ impl StartPredicate {
             StartPredicate::ByteSet3(bytes) => StartPredicate::ByteSet3(*bytes),
             StartPredicate::ByteSeq(bytes) => StartPredicate::ByteSeq(bytes.to_vec(alloc)?),
             StartPredicate::ByteBracket(bitmap) => StartPredicate::ByteBracket(*bitmap),
+            StartPredicate::ByteNear(bitmap, landmark) => {
+                StartPredicate::ByteNear(*bitmap, *landmark)
+            }
             StartPredicate::StartAnchored => StartPredicate::StartAnchored,
         })
     }
@@ -88,6 +96,30 @@ fn of_prefix(prefix: Prefix, multiline: bool) -> StartPredicate
     }
 }
 
+/// The same predicate, or of the bytes of a set those by which a byte stands that stands by each match.
+fn with_landmark(
+    alloc: Global,
+    node: &Node,
+    start: StartPredicate,
+) -> Result<StartPredicate, AllocError>
+    requires lawful { IsLawful (tree node.now) }
+    requires begins { IsStartOf start (tree node.now) }
+    requires boundary { HitsBoundaries start }
+    ensures begins { IfOk result (λ near. IsStartOf near (tree node.now)) }
+    ensures boundary { IfOk result HitsBoundaries }
+    ensures literal { KeepsLiteral (tree node.now) start → IfOk result (KeepsLiteral (tree node.now)) }
+    ensures anchored { (multiline : Bool) → IsAnchoredOnlyIf (multiline ≡ false) start → IfOk result (IsAnchoredOnlyIf (multiline ≡ false)) }
+    ensures first { HoldsAtStart (tree node.now) start → IfOk result (HoldsAtStart (tree node.now)) }
+{
+    let StartPredicate::ByteBracket(set) = start else {
+        return Ok(start);
+    };
+    match landmark_of(alloc, node)? {
+        Some(landmark) => Ok(StartPredicate::ByteNear(set, landmark)),
+        None => Ok(StartPredicate::ByteBracket(set)),
+    }
+}
+
 /// What the bytes begin with wherever a match of the tree begins.
 ///
 /// At the offset of each place of a text of UTF-8 from which the tree has an outcome the bytes begin as the predicate says; and
@@ -109,5 +141,6 @@ pub fn predicate_for_re(alloc: Global, regex: &Regex) -> Result<StartPredicate, 
     ensures refused { IfErr result (λ e. e ≡ Error.OutOfMemory) }
 {
     let prefix = prefix_of(alloc, &regex.node)?;
-    Ok(of_prefix(prefix, regex.flags.multiline))
+    let start = of_prefix(prefix, regex.flags.multiline);
+    Ok(with_landmark(alloc, &regex.node, start)?)
 }

@@ -21,7 +21,7 @@ use Rattle.regress_engine_input.proofs.KindLemmas.{tells, tells_bytes as bytes-t
 use Rattle.regress_engine_input.proofs.UnitTexts.{single_offset}
 use Rattle.regress_engine_prefix.specs.Starts.{BeginsAs, is_arbitrary, tells_bytes, HoldsAtStart, HitsBoundaries, Serves}
 use Rattle.regress_engine_prefix.specs.declared.start.StartPredicate.{StartPredicate}
-use Rattle.regress_engine_prefix.specs.declared.start.StartPredicate.TheVariants.{Arbitrary, ByteSet1, ByteSet2, ByteSet3, ByteSeq, ByteBracket, StartAnchored}
+use Rattle.regress_engine_prefix.specs.declared.start.StartPredicate.TheVariants.{Arbitrary, ByteSet1, ByteSet2, ByteSet3, ByteSeq, ByteBracket, ByteNear, StartAnchored}
 use Rattle.regress_engine_insn.specs.Instructions.{Program}
 use Rattle.regress_engine_insn.specs.Layout.{Target, IsLayout}
 use Rattle.regress_engine_runs.specs.States.{Whole, first_state}
@@ -77,6 +77,7 @@ module _ (t : Tree) (start : StartPredicate) (table : Table) (unicode units : Bo
   without_bytes (ByteSet3 _) told first reading context points s some bytes = absurd (cc)
   without_bytes (ByteSeq _) told first reading context points s some bytes = absurd (cc)
   without_bytes (ByteBracket _) told first reading context points s some bytes = absurd (cc)
+  without_bytes (ByteNear _ _) told first reading context points s some bytes = absurd (cc)
 
   pub outcomes-begin : (kind : Kind) (bytes : List ℕ) → AreOfKind kind bytes → are_bytes kind ≡ not units → (s : State) → s.place ≤ length (reading_of_kind kind bytes).points
       → node_outcomes (context_of (reading_of_kind kind bytes) (input_of_kind kind table unicode bytes)) t Forward s ≢ []
@@ -110,6 +111,7 @@ hit-at_place v all start known are cuts o here = by_bytes (tells_bytes start) re
     at_start (ByteSet3 _) known told here = absurd (cc)
     at_start (ByteSeq _) known told here = absurd (cc)
     at_start (ByteBracket _) known told here = absurd (cc)
+    at_start (ByteNear _ _) known told here = absurd (cc)
 
     by_bytes : (b : Bool) → tells_bytes start ≡ b → IsAtPlace (reading_of v) o
     by_bytes true e = cut-place v.kind v.units all (are e) o (λ utf8. cuts known v.units utf8 o here)
@@ -186,6 +188,7 @@ module _ (program : Program) (start : StartPredicate) (v : View) (all : AreOfKin
               anywhere (ByteSet3 _) e = absurd (cc)
               anywhere (ByteSeq _) e = absurd (cc)
               anywhere (ByteBracket _) e = absurd (cc)
+              anywhere (ByteNear _ _) e = absurd (cc)
               anywhere StartAnchored e = absurd (cc)
           by_order (inr more) = let same : from ≡ at = omega (arith, low, more) in subst (IsAtPlace (reading_of v)) same place
 

@@ -23,7 +23,7 @@ use Rattle.regress_engine_runs.proofs.ItemLemmas.{one_list}
 use Rattle.regress_engine_runs.proofs.OneAnswer.{IsComputed-prop}
 use Rattle.regress_engine_prefix.specs.Starts.{BeginsAs}
 use Rattle.regress_engine_prefix.specs.declared.start.StartPredicate.{StartPredicate}
-use Rattle.regress_engine_prefix.specs.declared.start.StartPredicate.TheVariants.{Arbitrary, ByteSet1, ByteSet2, ByteSet3, ByteSeq, ByteBracket, StartAnchored}
+use Rattle.regress_engine_prefix.specs.declared.start.StartPredicate.TheVariants.{Arbitrary, ByteSet1, ByteSet2, ByteSet3, ByteSeq, ByteBracket, ByteNear, StartAnchored}
 use Rattle.regress_engine_search.specs.Skipping.{MaySkip}
 use Rattle.regress_engine_search.specs.Search.{Suits}
 use Rattle.regress_engine_search.specs.Search.{IsItemAtPlaces, Listed, IsSearchable}
@@ -185,6 +185,7 @@ BeginsAs-prop (ByteSet2 set) bytes at = bool-set _ true
 BeginsAs-prop (ByteSet3 set) bytes at = bool-set _ true
 BeginsAs-prop (ByteSeq front) bytes at = list-set _ front.items
 BeginsAs-prop (ByteBracket set) bytes at = bool-set _ true
+BeginsAs-prop (ByteNear set landmark) bytes at = bool-set _ true
 BeginsAs-prop StartAnchored bytes at = nat-set at 0
 
 pub MaySkip-prop : (program : Program) (start : StartPredicate) (v : View) → IsProp (MaySkip program start v)

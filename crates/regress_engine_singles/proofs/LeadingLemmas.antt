@@ -22,8 +22,10 @@ use Rattle.regress_engine_search.proofs.PlaceLemmas.{moves, next-place}
 use Rattle.regress_engine_search.specs.Answering.{FindsOn}
 use Rattle.regress_engine_search.proofs.SearchLemmas.{search-on}
 use Rattle.regress_engine_singles.specs.Failing.{Fail, failed, steps, IsDead}
-use Rattle.regress_engine_singles.specs.Passed.{is_class, PassesOver}
-use Rattle.regress_engine_singles.proofs.Chains.{Takes, given-taken}
+use Rattle.regress_engine_analysis.specs.Planned.{is_class}
+use Rattle.regress_engine_singles.specs.Passed.{PassesOver}
+use Rattle.regress_engine_singles.specs.Sparing.{IsDeadBefore}
+use Rattle.regress_engine_singles.proofs.Chains.{TakesAt, given-taken}
 use Rattle.regress_engine_singles.proofs.Failures.{fail-each, fail-none}
 use Rattle.regress_engine_singles.specs.Taking.{takes_one}
 use Rattle.regress_engine_singles.proofs.DeadLemmas.{step-dead, ways-dead}
@@ -129,7 +131,7 @@ pub record IsLeading (program : Program) (v : View) (at most far : ℕ) (i j : I
   pub body_class : is_class j ≡ true
   pub stops : (groups : List Marks) → None ≡ advance program (input_of v) j Forward groups far
   pub behind : IsDead program (input_of v) Forward (at + 3) far
-  pub apart : (groups : List Marks) (o q : ℕ) → advance program (input_of v) j Forward groups o ≡ Some q → IsDead program (input_of v) Forward (at + 3) o
+  pub apart : IsDeadBefore program v j (at + 3)
 
 module _ (program : Program) (v : View) (all : AreOfKind v.kind v.units) (suits : Suits program v) (at most far : ℕ) (i j : Instruction) (leading : IsLeading program v at most far i j) where
   abbrev input : Input
@@ -175,7 +177,7 @@ module _ (program : Program) (v : View) (all : AreOfKind v.kind v.units) (suits 
       let body : Stands program (at + 1 + 1) j = subst (λ a. Stands program a j) (let e : at + 2 ≡ at + 1 + 1 = omega arith in e) leading.body in
       let before : Stands program (at + 3 - 1) j = subst (λ a. Stands program a j) (let e : at + 2 ≡ at + 3 - 1 = omega arith in e) leading.body in
       ways-dead program input Forward (at + 1) o 0 most true j leading.loop body (λ loops groups.
-      let (less, back, takes) = given-taken program input j Forward groups most o in
+      let (less, back, takes) = given-taken program v all suits (at + 3) j before groups most o (j, before, class-takes j leading.body_class, place, omega arith) in
       let given : given_back input Forward o (as_far program input most j Forward groups o) ≡ far ∷ less =
       given-back v all program suits Forward groups (at + 3) j most o (j, before, class-takes j leading.body_class, place, omega arith) before ∙ back ∙ ap (λ x. x ∷ less) (reaches groups) in
       let same : most - 0 ≡ most = omega arith in
@@ -184,7 +186,7 @@ module _ (program : Program) (v : View) (all : AreOfKind v.kind v.units) (suits 
       (subst (λ a. Fail program input Forward (at_each program input a loops groups (far ∷ less))) three
       (fail-each program input Forward (at + 3) loops groups (far ∷ less)
       (All-cons (IsDead program input Forward (at + 3)) far less leading.behind
-      (All-weaker (Takes program input j Forward groups) (IsDead program input Forward (at + 3)) (λ p t. leading.apart groups p t.0 t.1) less takes))))))
+      (All-weaker (TakesAt program v j groups) (IsDead program input Forward (at + 3)) (λ p (inside, (q, taken)). leading.apart groups p q inside taken) less takes))))))
 
   -- So does the class before it, where that is so behind the character that it takes.
   first-fails : (o : ℕ) → ((groups : List Marks) (q : ℕ) → advance program input i Forward groups o ≡ Some q → IsAtPlace (reading_of v) q × Reaches most q) → IsDead program input Forward at o

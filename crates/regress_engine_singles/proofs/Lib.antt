@@ -1,7 +1,9 @@
-pub mod DisjointLemmas
+pub mod ByteLemmas
 pub mod Chains
 pub mod Failures
+pub mod LeadLemmas
 pub mod FirstByteLemmas
+pub mod SparingLemmas
 pub mod LeadingLemmas
 pub mod LineLemmas
 pub mod PassingLemmas

@@ -1,4 +1,4 @@
-pub mod Disjoint
+pub mod Sparing
 pub mod Failing
 pub mod Passed
 pub mod Passing

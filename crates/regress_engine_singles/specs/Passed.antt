@@ -1,19 +1,12 @@
 -- Places from which nothing is found.
-use Rattle.std.specs.Prelude.{◌≡◌, ℕ, ◌<◌, ◌≤◌, Bool, true, false}
+use Rattle.std.specs.Prelude.{◌≡◌, ℕ, ◌<◌, ◌≤◌, Bool}
 use Rattle.regress_meaning.specs.Meaning.{Forward, Backward, word_at}
 use Rattle.regress_meaning.specs.Steps.{point}
 use Rattle.regress_engine_input.specs.Views.{View, input_of, reading_of}
-use Rattle.regress_engine_insn.specs.Instructions.{Instruction, Program}
-use Rattle.regress_engine_insn.specs.Instructions as code
+use Rattle.regress_engine_insn.specs.Instructions.{Program}
 use Rattle.regress_engine_runs.specs.Meets.{IsAtPlace}
 use Rattle.regress_engine_search.specs.Answering.{FindsOn}
 use Rattle.regress_engine_singles.specs.Failing.{IsDead}
-
--- an instruction is a class
-abbrev pub is_class : Instruction → Bool
-is_class (code.bracket k) = true
-is_class (code.ascii_bracket cs) = true
-is_class _ = false
 
 -- From one offset on and up to another, which is that of a place too, no run has an answer: what a search from the second finds
 -- is what one from the first does.

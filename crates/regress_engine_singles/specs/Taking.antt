@@ -3,7 +3,7 @@ use Rattle.std.specs.Prelude.{Bool, true, false}
 use Rattle.regress_engine_insn.specs.Instructions.{Instruction}
 use Rattle.regress_engine_insn.specs.Instructions as code
 use Rattle.regress_engine_runs.specs.Closed.{takes_character}
-use Rattle.regress_engine_singles.specs.Passed.{is_class}
+use Rattle.regress_engine_analysis.specs.Planned.{is_class}
 
 -- an instruction asks what stands beside an offset
 abbrev pub is_assertion : Instruction → Bool

@@ -4,15 +4,15 @@
 mod ahead;
 mod ascii;
 mod class;
-mod disjoint;
 mod far;
+mod sparing;
 mod stops;
 mod taken;
 mod taking;
 
 pub use ahead::as_far_ahead;
 pub use class::ScannedBracket;
-pub use disjoint::{are_disjoint, is_disjoint};
 pub use far::scan_while;
+pub use sparing::{is_possessive, turn_at};
 pub use taken::{Taken, taken_ahead};
-pub use taking::{first_byte, is_assertion, is_class, takes_one, takes_some};
+pub use taking::{first_byte, is_assertion, takes_one, takes_some};

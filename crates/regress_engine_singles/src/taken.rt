@@ -8,7 +8,7 @@ ghost use Rattle.regress_engine_code.specs.Standing.{program_of};
 ghost use Rattle.regress_engine_runs.specs.States.{Marks};
 ghost use Rattle.regress_engine_runs.specs.Runs.{advance, after_times};
 ghost use Rattle.regress_engine_runs.specs.Closed.{Fits};
-ghost use Rattle.regress_engine_singles.specs.Passed.{is_class};
+ghost use Rattle.regress_engine_analysis.specs.Planned.{is_class};
 ghost use Rattle.regress_engine_singles.specs.Passing.{after, IsBegun, IsTaken};
 
 use crate::ascii::{AllBut, ByteMatcher, ascii_end, passed_ahead};

@@ -2,9 +2,10 @@
 ghost use Rattle.std.specs.Prelude.{◌≡◌, ℕ, true, List, ◌∷◌, slice_get, IfSome};
 ghost use Rattle.regress_engine_insn.specs.Instructions.{byte_seq, bytes_in};
 ghost use Rattle.regress_engine_insn.specs.InsnViews.{instruction};
-ghost use Rattle.regress_engine_singles.specs.Passed.{is_class};
+ghost use Rattle.regress_engine_analysis.specs.Planned.{is_class};
 ghost use Rattle.regress_engine_singles.specs.Taking.{is_assertion, is_taking, takes_one, takes_some};
 
+use regress_engine_analysis::is_class;
 use regress_engine_insn::{Insn, bytes_of};
 
 /// The first of some bytes, where there is one.
@@ -68,18 +69,6 @@ pub fn takes_some(insn: &Insn) -> bool
                 | Insn::AsciiBracket(_)
                 | Insn::Bracket(_)
         )
-}
-
-/// Whether an instruction is a class.
-///
-/// ```rust
-/// let class = is_class(&Insn::Bracket(0)); // true
-/// ```
-#[inline]
-pub fn is_class(insn: &Insn) -> bool
-    ensures { result ≡ is_class (instruction insn.now) }
-{
-    matches!(insn, Insn::AsciiBracket(_) | Insn::Bracket(_))
 }
 
 /// Whether an instruction takes one character where that is in a set of bytes or in a class.

@@ -14,9 +14,9 @@ use Rattle.regress_engine_search.proofs.InsnLemmas.{single-successors}
 use Rattle.regress_engine_search.proofs.GivenBack.{given-back}
 use Rattle.regress_engine_search.proofs.TaskLemmas.{leads-then, leads-same, leads-first, leads-later}
 use Rattle.regress_engine_singles.specs.Failing.{Fail, IsDead}
-use Rattle.regress_engine_singles.proofs.Chains.{Takes, given-taken}
+use Rattle.regress_engine_singles.proofs.Chains.{TakesAt, given-taken}
 use Rattle.regress_engine_singles.proofs.Failures.{leads-without, fail-each}
-use Rattle.regress_engine_undo.specs.Dead.{IsDeadBefore}
+use Rattle.regress_engine_singles.specs.Sparing.{IsDeadBefore}
 use Rattle.regress_engine_undo.specs.declared.undo.Spot.{Spot}
 use Rattle.regress_engine_undo.specs.Held.{Held, pushed}
 use Rattle.regress_engine_search.specs.Search.{Suits}
@@ -93,19 +93,19 @@ module _ (program : Program) (v : View) (all : AreOfKind v.kind v.units) (suits 
   abbrev input : Input
   input = input_of v
 
-  pub atomic : IsDeadBefore program input i at → (n near far : ℕ) (groups : List Marks) → IsBody program v at near → far ≡ as_far program input n i Forward groups near
+  pub atomic : IsDeadBefore program v i at → (n near far : ℕ) (groups : List Marks) → IsBody program v at near → far ≡ as_far program input n i Forward groups near
       → (p : Spot) (h : Held) → p.forward ≡ true
       → Leads program input 0 (task program input false p (pushed (give_back at near far) h)) (task program input true (record p { at = at; offset = far }) h)
   unfolding stands_for
   atomic dead_before n near far groups body is p h forward =
       let os : List ℕ = one_by_one program input n i Forward groups near in
-      let (before, back, taken) = given-taken program input i Forward groups n near in
+      let (before, back, taken) = given-taken program v all suits at i here groups n near body in
       let given : given_back input Forward near far ≡ far ∷ before =
       ap (given_back input Forward near) is ∙ given-back v all program suits Forward groups at i n near body here ∙ back ∙ ap (λ o. o ∷ before) (sym is) in
       let ahead : direction_of p.forward ≡ Forward = ap direction_of forward in
-      let dead : (o : ℕ) → Takes program input i Forward groups o → IsDead program input Forward at o = λ o takes. dead_before groups o takes.0 takes.1 in
+      let dead : (o : ℕ) → TakesAt program v i groups o → IsDead program input Forward at o = λ o (place, (q, takes)). dead_before groups o q place takes in
       let fails : Fail program input Forward (at_each program input at h.loops h.groups before) =
-      fail-each program input Forward at h.loops h.groups before (All-weaker (Takes program input i Forward groups) (IsDead program input Forward at) dead before taken) in
+      fail-each program input Forward at h.loops h.groups before (All-weaker (TakesAt program v i groups) (IsDead program input Forward at) dead before taken) in
       let work : Direction → Work = λ d. stands_for program input d h.stack h.loops h.groups in
       subst (λ (d : Direction). Leads program input 0 (record { dir = d; states = []; work = first_do (at_each program input at h.loops h.groups (given_back input d near far)) (work d) }) (record { dir = d; states = whole at far h.loops h.groups ∷ []; work = work d })) (sym ahead)
       (subst (λ (xs : List ℕ). Leads program input 0 (record { dir = Forward; states = []; work = first_do (at_each program input at h.loops h.groups xs) (work Forward) }) (record { dir = Forward; states = whole at far h.loops h.groups ∷ []; work = work Forward })) (sym given)

@@ -7,7 +7,7 @@ use Rattle.regress_meaning.specs.Inputs.{Input}
 use Rattle.regress_meaning.specs.Meaning.{Forward}
 use Rattle.regress_engine_insn.specs.Instructions.{Instruction, LoopFields, Program, Stands}
 use Rattle.regress_engine_insn.specs.Instructions as code
-use Rattle.regress_engine_input.specs.Views.{View, direction_of, input_of, reading_of}
+use Rattle.regress_engine_input.specs.Views.{View, AreOfKind, direction_of, input_of, reading_of}
 use Rattle.regress_engine_runs.specs.States.{Marks, Whole}
 use Rattle.regress_engine_runs.specs.Runs.{advance, after_times, choices, count_of, is_idle, one_more, ordered}
 use Rattle.regress_engine_runs.specs.Meets.{IsAtPlace, reads_character}
@@ -16,9 +16,9 @@ use Rattle.regress_engine_runs.proofs.ReadLemmas.{read_now}
 use Rattle.regress_engine_search.specs.Search.{Suits}
 use Rattle.regress_engine_search.specs.Tasks.{Task, Leads}
 use Rattle.regress_engine_search.proofs.TaskLemmas.{leads-then, leads-same, leads-equal, leads-first, leads-later}
-use Rattle.regress_engine_search.proofs.PlaceLemmas.{moves}
+use Rattle.regress_engine_search.proofs.PlaceLemmas.{moves, next-place}
 use Rattle.regress_engine_singles.specs.Failing.{IsDead}
-use Rattle.regress_engine_singles.specs.Passed.{is_class}
+use Rattle.regress_engine_analysis.specs.Planned.{is_class}
 use Rattle.regress_engine_singles.proofs.Failures.{leads-without}
 use Rattle.regress_engine_singles.proofs.LeadingLemmas.{class-simple, class-next}
 use Rattle.regress_engine_singles.proofs.DeadLemmas.{alt-dead, leads-dead, simple-dead}
@@ -28,7 +28,7 @@ use Rattle.regress_engine_undo.specs.Tasks.{task_of, task, state_at}
 use Rattle.regress_engine_undo.proofs.LeadLemmas.{loop-kept}
 use Rattle.regress_engine_undo.specs.Sound.{IsHeld}
 use Rattle.regress_engine_undo.proofs.StepLemmas.{again-on, stay-more, loop-sound, fork-leads}
-use Rattle.regress_engine_undo.specs.Dead.{IsTurn}
+use Rattle.regress_engine_singles.specs.Sparing.{IsTurn}
 use Rattle.regress_engine_undo.proofs.DispatchLemmas.{first-dead, second-dead, step-on, take-some, jump-on, again-on-step}
 
 -- in fewer steps, and in fewer than that
@@ -49,7 +49,7 @@ busy-at f c e o less = by_least (nat_lt f.least c)
     by_least true = other
     by_least false = refl
 
-module _ (program : Program) (v : View) (at second begin again : ℕ) (i : Instruction) (f : LoopFields) (turn : IsTurn program (input_of v) at second begin again i f)
+module _ (program : Program) (v : View) (all : AreOfKind v.kind v.units) (at second begin again : ℕ) (i : Instruction) (f : LoopFields) (turn : IsTurn program v at second begin again i f)
     (here : Stands program at (code.alt second)) where
   abbrev input : Input
   input = input_of v
@@ -65,16 +65,20 @@ module _ (program : Program) (v : View) (at second begin again : ℕ) (i : Instr
   further : (groups : List Marks) (o q : ℕ) → takes groups o ≡ Some q → o < q
   further groups o q e = let (c, next) = class-next program v i turn.class groups o q e in moves v Forward o c q next
 
+  -- behind it is a place
+  place-behind : (groups : List Marks) (o q : ℕ) → IsAtPlace (reading_of v) o → takes groups o ≡ Some q → IsAtPlace (reading_of v) q
+  place-behind groups o q place e = let (c, next) = class-next program v i turn.class groups o q e in next-place v all Forward o c q place next
+
   -- the class takes no character
   pub turns-not : (h : Held) (o : ℕ) → ((groups : List Marks) → None ≡ takes groups o) → Leads program input 1 (task program input true (ahead at o) h) (task program input true (ahead second o) h)
   turns-not h o none = first-dead program input (ahead at o) h second here (simple-dead program input Forward (at + 1) o i turn.first (class-simple i turn.class) none)
 
   -- one character, up to the end of the iteration
-  to-end : (h : Held) (o q : ℕ) → takes h.groups o ≡ Some q → Leads program input 1 (task program input true (ahead at o) h) (task program input true (ahead again q) h)
-  to-end h o q e =
+  to-end : (h : Held) (o q : ℕ) → IsAtPlace (reading_of v) o → takes h.groups o ≡ Some q → Leads program input 1 (task program input true (ahead at o) h) (task program input true (ahead again q) h)
+  to-end h o q place e =
       let two : at + 2 ≡ at + 1 + 1 = omega arith in
       leads-fewer program input 3 1 _ _ (omega arith)
-      (leads-then program input 1 2 (second-dead program input (ahead at o) h second here (turn.way h.groups o q e))
+      (leads-then program input 1 2 (second-dead program input (ahead at o) h second here (turn.way h.groups o q place e))
       (leads-then program input 1 1 (take-some program input i (ahead (at + 1) o) h q turn.first (class-simple i turn.class) e)
       (jump-on program input (ahead (at + 1 + 1) q) h again (subst (λ a. Stands program a (code.jump again)) two turn.jump))))
 
@@ -82,14 +86,14 @@ module _ (program : Program) (v : View) (at second begin again : ℕ) (i : Instr
   busy h c e o entered less = ap (λ (x : ℕ × ℕ). nat_lt f.least x.0 && (x.1 == o)) entered ∙ busy-at f c e o less
 
   -- and one more begins
-  one-turn : (h : Held) (c o q : ℕ) → get_or h.loops f.loop_id (0, 0) ≡ (c, o) → c < f.most → takes h.groups o ≡ Some q → IsDead program input Forward f.exit q
+  one-turn : (h : Held) (c o q : ℕ) → IsAtPlace (reading_of v) o → get_or h.loops f.loop_id (0, 0) ≡ (c, o) → c < f.most → takes h.groups o ≡ Some q → IsDead program input Forward f.exit q
       → Leads program input 0 (task program input true (ahead at o) h) (task program input true (ahead at q) (loop_written f.loop_id (c + 1, q) h))
-  one-turn h c o q entered less e dead =
+  one-turn h c o q place entered less e dead =
       let k : Held = loop_written f.loop_id (c + 1, q) h in
       let stays : Leads program input 0 (task_of program input (choices f begin (state_at (ahead again q) h)) (ahead again q) h) (task program input true (ahead (begin + 1) q) k) =
       stay-more f begin (ahead again q) h c (sym (ap (λ (x : ℕ × ℕ). x.0) entered)) k less refl program input dead in
       leads-fewer program input 2 0 _ _ (omega arith)
-      (leads-then program input 1 1 (to-end h o q e)
+      (leads-then program input 1 1 (to-end h o q place e)
       (again-on-step program input (ahead again q) (ahead at q) h k true begin f turn.ends turn.begins
       (again-on f begin (ahead again q) h true (ahead at q) k (busy h c o q entered (further h.groups o q e)) program input
       (subst (λ a. Leads program input 0 (task_of program input (choices f begin (state_at (ahead again q) h)) (ahead again q) h) (task program input true (ahead a q) k)) turn.body stays))))
@@ -121,24 +125,35 @@ module _ (program : Program) (v : View) (at second begin again : ℕ) (i : Instr
       by_found None f = absurd (cc f)
       by_found (Some r) f = (r, refl)
 
+  -- and so is where they end
+  last-place : (groups : List Marks) (n o last : ℕ) → IsAtPlace (reading_of v) o → after_times program input n i Forward groups o ≡ Some last → IsAtPlace (reading_of v) last
+  unfolding after_times
+  last-place groups zero o last place e = let same : o ≡ last = cc in subst (IsAtPlace (reading_of v)) same place
+  last-place groups (suc n) o last place e = by_found (takes groups o) refl e (λ q. last-place groups n q last)
+    where
+      by_found : (x : Option ℕ) → takes groups o ≡ x → option_and_then (after_times program input n i Forward groups) x ≡ Some last
+          → ((q : ℕ) → IsAtPlace (reading_of v) q → after_times program input n i Forward groups q ≡ Some last → IsAtPlace (reading_of v) last) → IsAtPlace (reading_of v) last
+      by_found None g behind rest = absurd (cc behind)
+      by_found (Some q) g behind rest = rest q (place-behind groups o q place g) behind
+
   -- So many iterations.
-  turns : (n : ℕ) (h : Held) (c o last past : ℕ) → f.loop_id < length h.loops → get_or h.loops f.loop_id (0, 0) ≡ (c, o) → after_times program input n i Forward h.groups o ≡ Some last
+  turns : (n : ℕ) (h : Held) (c o last past : ℕ) → IsAtPlace (reading_of v) o → f.loop_id < length h.loops → get_or h.loops f.loop_id (0, 0) ≡ (c, o) → after_times program input n i Forward h.groups o ≡ Some last
       → takes h.groups last ≡ Some past → (0 < n → c + n ≤ f.most) → Leads program input 0 (task program input true (ahead at o) h) (told (c + n, last) last h)
   unfolding after_times
-  turns zero h c o last past there entered e one room =
+  turns zero h c o last past place there entered e one room =
       let same : o ≡ last = cc in
       let none : c ≡ c + 0 = omega arith in
       subst (λ n. Leads program input 0 (task program input true (ahead at o) h) (told (n, last) last h)) none
       (subst (λ p. Leads program input 0 (task program input true (ahead at o) h) (told (c, p) p h)) same
       (leads-equal program input _ _ (sym (told-same (c, o) o h entered))))
-  turns (suc n) h c o last past there entered e one room =
+  turns (suc n) h c o last past place there entered e one room =
       by_found (takes h.groups o) refl e (λ k d q. turns n k d q last past)
     where
       from : Task
       from = task program input true (ahead at o) h
 
       by_found : (x : Option ℕ) → takes h.groups o ≡ x → option_and_then (after_times program input n i Forward h.groups) x ≡ Some last
-          → ((k : Held) (d q : ℕ) → f.loop_id < length k.loops → get_or k.loops f.loop_id (0, 0) ≡ (d, q) → after_times program input n i Forward k.groups q ≡ Some last
+          → ((k : Held) (d q : ℕ) → IsAtPlace (reading_of v) q → f.loop_id < length k.loops → get_or k.loops f.loop_id (0, 0) ≡ (d, q) → after_times program input n i Forward k.groups q ≡ Some last
           → takes k.groups last ≡ Some past → (0 < n → d + n ≤ f.most) → Leads program input 0 (task program input true (ahead at q) k) (told (d + n, last) last k))
           → Leads program input 0 from (told (c + suc n, last) last h)
       by_found None g behind rest = absurd (cc behind)
@@ -146,9 +161,10 @@ module _ (program : Program) (v : View) (at second begin again : ℕ) (i : Instr
           let k : Held = loop_written f.loop_id (c + 1, q) h in
           let fits = room (omega arith) in
           let takes_on = takes-here h.groups n q last past behind one in
-          let first = one-turn h c o q entered (omega (arith, fits)) g (turn.out h.groups q takes_on.0 takes_on.1) in
+          let further_place = place-behind h.groups o q place g in
+          let first = one-turn h c o q place entered (omega (arith, fits)) g (turn.out h.groups q takes_on.0 further_place takes_on.1) in
           let count = length-set h.loops f.loop_id (c + 1, q) in
-          let others = rest k (c + 1) q (omega (arith, there, count)) (get_or-set_same h.loops f.loop_id (c + 1, q) (0, 0) there) behind one (λ some. omega (arith, fits)) in
+          let others = rest k (c + 1) q further_place (omega (arith, there, count)) (get_or-set_same h.loops f.loop_id (c + 1, q) (0, 0) there) behind one (λ some. omega (arith, fits)) in
           let sum : c + 1 + n ≡ c + suc n = omega arith in
           subst (λ m. Leads program input 0 from (told (m, last) last h)) sum
           (subst (λ t. Leads program input 0 from t) (told-again (c + 1 + n, last) (c + 1, q) last h)
@@ -175,13 +191,13 @@ module _ (program : Program) (v : View) (at second begin again : ℕ) (i : Instr
       (record { entered = get_or-set_same h.loops f.loop_id (c, last) (0, 0) there; groups = refl; led = told-written (c, last) last h })
 
   -- They are gone through, up to the end of one more.
-  pub turns-end : (h k : Held) (c o n last past : ℕ) → f.loop_id < length h.loops → get_or h.loops f.loop_id (0, 0) ≡ (c, o) → after_times program input n i Forward h.groups o ≡ Some last
+  pub turns-end : (h k : Held) (c o n last past : ℕ) → IsAtPlace (reading_of v) o → f.loop_id < length h.loops → get_or h.loops f.loop_id (0, 0) ≡ (c, o) → after_times program input n i Forward h.groups o ≡ Some last
       → takes h.groups last ≡ Some past → (0 < n → c + n ≤ f.most) → IsTurned h k (c + n) last
       → Leads program input 1 (task program input true (ahead at o) h) (task program input true (ahead again past) k)
-  turns-end h k c o n last past there entered e one room turned =
+  turns-end h k c o n last past place there entered e one room turned =
       leads-then program input 0 1
-      (subst (λ t. Leads program input 0 (task program input true (ahead at o) h) t) turned.led (turns n h c o last past there entered e one room))
-      (to-end k last past (ap (λ gs. takes gs last) turned.groups ∙ one))
+      (subst (λ t. Leads program input 0 (task program input true (ahead at o) h) t) turned.led (turns n h c o last past place there entered e one room))
+      (to-end k last past (last-place h.groups n o last place e) (ap (λ gs. takes gs last) turned.groups ∙ one))
 
   -- Where no iteration may follow, the repetition is left.
   only-out : (k : Held) (past : ℕ) → f.least ≤ count_of f.loop_id (state_at (ahead again past) k) → IsDead program input Forward at past
@@ -220,15 +236,15 @@ module _ (program : Program) (v : View) (at second begin again : ℕ) (i : Instr
       by_case true false = leads-same program input (task program input true (ahead f.exit past) k)
       by_case false false = leads-same program input (task program input true (ahead f.exit past) k)
 
-  pub turns-out : (h k : Held) (c o n last past : ℕ) → f.loop_id < length h.loops → get_or h.loops f.loop_id (0, 0) ≡ (c, o) → after_times program input n i Forward h.groups o ≡ Some last
+  pub turns-out : (h k : Held) (c o n last past : ℕ) → IsAtPlace (reading_of v) o → f.loop_id < length h.loops → get_or h.loops f.loop_id (0, 0) ≡ (c, o) → after_times program input n i Forward h.groups o ≡ Some last
       → takes h.groups last ≡ Some past → (0 < n → c + n ≤ f.most) → IsTurned h k (c + n) last → f.least ≤ c + n → IsDead program input Forward second past
       → ((groups : List Marks) → None ≡ takes groups past) → Leads program input 1 (task program input true (ahead at o) h) (task program input true (ahead f.exit past) k)
-  turns-out h k c o n last past there entered e one room turned enough dead none =
+  turns-out h k c o n last past place there entered e one room turned enough dead none =
       let one_here : takes k.groups last ≡ Some past = ap (λ gs. takes gs last) turned.groups ∙ one in
       let all_dead : IsDead program input Forward at past = alt-dead program input Forward at past second here (simple-dead program input Forward (at + 1) past i turn.first (class-simple i turn.class) none) dead in
       let counted : count_of f.loop_id (state_at (ahead again past) k) ≡ c + n = ap (λ (x : ℕ × ℕ). x.0) turned.entered in
       leads-fewer program input 2 1 _ _ (omega arith)
-      (leads-then program input 1 1 (turns-end h k c o n last past there entered e one room turned)
+      (leads-then program input 1 1 (turns-end h k c o n last past place there entered e one room turned)
       (again-on-step program input (ahead again past) (ahead f.exit past) k k true begin f turn.ends turn.begins
       (again-on f begin (ahead again past) k true (ahead f.exit past) k (busy k (c + n) last past turned.entered (further k.groups last past one_here)) program input
       (only-out k past (omega (arith, counted, enough)) all_dead))))
@@ -240,15 +256,15 @@ module _ (program : Program) (v : View) (at second begin again : ℕ) (i : Instr
   turned h k c o n last there entered e (inr written) = turned-some h k (c + n) last there written
 
   -- where it continues
-  pub turns-on : (h k : Held) (c o n last past way_on : ℕ) → f.loop_id < length h.loops → get_or h.loops f.loop_id (0, 0) ≡ (c, o) → after_times program input n i Forward h.groups o ≡ Some last
+  pub turns-on : (h k : Held) (c o n last past way_on : ℕ) → IsAtPlace (reading_of v) o → f.loop_id < length h.loops → get_or h.loops f.loop_id (0, 0) ≡ (c, o) → after_times program input n i Forward h.groups o ≡ Some last
       → takes h.groups last ≡ Some past → (0 < n → c + n ≤ f.most) → IsTurned h k (c + n) last → ((groups : List Marks) → None ≡ takes groups past)
       → (way_on ≡ again) ⊎ ((way_on ≡ f.exit) × (f.least ≤ c + n) × IsDead program input Forward second past)
       → Leads program input 1 (task program input true (ahead at o) h) (task program input true (ahead way_on past) k)
-  turns-on h k c o n last past way_on there entered e one room turned none (inl same) =
-      subst (λ a. Leads program input 1 (task program input true (ahead at o) h) (task program input true (ahead a past) k)) (sym same) (turns-end h k c o n last past there entered e one room turned)
-  turns-on h k c o n last past way_on there entered e one room turned none (inr (same, enough, dead)) =
+  turns-on h k c o n last past way_on place there entered e one room turned none (inl same) =
+      subst (λ a. Leads program input 1 (task program input true (ahead at o) h) (task program input true (ahead a past) k)) (sym same) (turns-end h k c o n last past place there entered e one room turned)
+  turns-on h k c o n last past way_on place there entered e one room turned none (inr (same, enough, dead)) =
       subst (λ a. Leads program input 1 (task program input true (ahead at o) h) (task program input true (ahead a past) k)) (sym same)
-      (turns-out h k c o n last past there entered e one room turned enough dead none)
+      (turns-out h k c o n last past place there entered e one room turned enough dead none)
 
 -- a spot that is read forward, told otherwise
 pub ahead-as : (program : Program) (input : Input) (p : Spot) (h k : Held) (a o : ℕ) (b : Bool) → p.forward ≡ true → b ≡ true

@@ -1,7 +1,7 @@
 use Rattle.std.proofs.Common.{◌≡◌, None, sym, ap, ◌∙◌, subst}
 use Rattle.regress_meaning.specs.Steps.{literal}
 use Rattle.regress_engine_input.specs.Views.{direction_of, input_of}
-use Rattle.regress_engine_singles.proofs.DisjointLemmas.{not-there}
+use Rattle.regress_engine_singles.proofs.ByteLemmas.{not-there}
 use Rattle.regress_engine_advance.proofs.literals.bytes_beside.Goals as goal
 
 pub returns-then-ne : goal.returns-then-ne

@@ -1,5 +1,5 @@
 use Rattle.std.proofs.Common.{◌∷◌, sym, ◌∙◌, arith}
-use Rattle.regress_engine_singles.proofs.DisjointLemmas.{not-there}
+use Rattle.regress_engine_singles.proofs.ByteLemmas.{not-there}
 use Rattle.regress_engine_advance.proofs.literals.other_ahead.Goals as goal
 
 pub returns : goal.returns

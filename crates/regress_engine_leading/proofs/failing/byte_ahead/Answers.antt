@@ -1,4 +1,4 @@
-use Rattle.regress_engine_singles.proofs.DisjointLemmas.{byte-places}
+use Rattle.regress_engine_singles.proofs.ByteLemmas.{byte-places}
 use Rattle.regress_engine_leading.proofs.failing.byte_ahead.Goals as goal
 
 pub returns-clause-place : goal.returns-clause-place

@@ -3,11 +3,12 @@ use Rattle.regress_meaning.specs.Meaning.{Forward}
 use Rattle.regress_engine_insn.specs.Instructions.{Instruction, Program, Stands}
 use Rattle.regress_engine_insn.specs.Instructions as code
 use Rattle.regress_engine_code.specs.Standing.{program_of}
-use Rattle.regress_engine_input.specs.Views.{input_of, reading_of}
+use Rattle.regress_engine_input.specs.Views.{View, reading_of}
 use Rattle.regress_engine_runs.specs.Meets.{IsAtPlace}
 use Rattle.regress_engine_insn.specs.declared.insn.Insn.TheVariants.{Goal}
 use Rattle.regress_engine_search.proofs.InsnLemmas.{stands-as}
 use Rattle.regress_engine_search.proofs.PlaceLemmas.{can-read}
+use Rattle.regress_engine_singles.specs.Sparing.{IsDeadBefore}
 use Rattle.regress_engine_singles.proofs.LeadingLemmas.{class-fits, class-place, class-takes, passes-over}
 use Rattle.regress_engine_advance.proofs.ReadLemmas.{none-is, stands-read}
 use Rattle.regress_engine_advance.proofs.FarLemmas.{far-place}
@@ -17,22 +18,18 @@ use Rattle.regress_engine_leading.proofs.leading.passed_from.Goals as goal
 body-before : (program : Program) (at : ℕ) (j : Instruction) → Stands program (at + 2) j → Stands program (at + 3 - 1) j
 body-before program at j here = let e : at + 2 ≡ at + 3 - 1 = omega arith in subst (λ a. Stands program a j) e here
 
+-- and once more
+body-behind : (program : Program) (at : ℕ) (j : Instruction) → Stands program (at + 2) j → Stands program (at + 1 + 1) j
+body-behind program at j here = let e : at + 2 ≡ at + 1 + 1 = omega arith in subst (λ a. Stands program a j) e here
+
+-- and what is behind it
+behind-loop : (program : Program) (v : View) (at : ℕ) (j : Instruction) → IsDeadBefore program v j (at + 1 + 2) → IsDeadBefore program v j (at + 3)
+behind-loop program v at j spares = let e : at + 1 + 2 ≡ at + 3 = omega arith in subst (λ a. IsDeadBefore program v j a) e spares
+
 -- what the loop is
 loop-is : (program : Program) (at least most : ℕ) (greedy : Bool) → Stands program at (code.single_loop least most greedy) → least ≡ 0 → greedy ≡ true → Stands program at (code.single_loop 0 most true)
 loop-is program at least most greedy here none is =
     subst (λ b. Stands program at (code.single_loop 0 most b)) is (subst (λ n. Stands program at (code.single_loop n most greedy)) none here)
-
-pub is_atomic-requires-clause-fits : goal.is_atomic-requires-clause-fits
-is_atomic-requires-clause-fits g c =
-    let program = program_of c.args.program.now in
-    let v = g.Input.InputIndexer.view c.args.input.now in
-    let all = g.met.Input.InputIndexer.are_of_kind c.args.input.now in
-    let within = c.if-at-insns.false in
-    let first = stands-read c.insns-insns.result.now c.args.program.now.insns.items c.args.at Goal c.insns-insns.ensures (omega (arith, within)) in
-    let body = stands-read c.insns-insns.result.now c.args.program.now.insns.items (c.args.at + 2) Goal c.insns-insns.ensures (omega (arith, within)) in
-    let first_class = sym c.is_class.ensures ∙ c.if-not-is_class.false in
-    let body_class = sym c.is_class-else-not-is_class.ensures ∙ c.if-not-is_class-2.false in
-    class-fits program (c.args.at + 2) _ body_class (c.requires.suits.closed (c.args.at + 2) _ body)
 
 pub class_ahead-requires-clause-fits : goal.class_ahead-requires-clause-fits
 class_ahead-requires-clause-fits g c =
@@ -132,7 +129,7 @@ returns g c = λ lead.
     let inside = class-place program v all _ first_class c.args.start c.in_ok-near.near c.requires.place (sym (c.class_ahead.ensures []) ∙ c.in_ok-near.was) in
     let loop = stands-as program (c.args.at + 1) _ _ c.in-Loop1CharBody.is (stands-read c.insns-insns.result.now c.args.program.now.insns.items (c.args.at + 1) Goal c.insns-insns.ensures (omega (arith, within))) in
     let few = c.if-min_iters-gt0.false in
-    let (k, taken, apart) = c.is_atomic.ensures v c.requires.suits.kind c.if-not-is_atomic.false in
+    let spares = c.is_possessive.ensures v all c.requires.suits c.if-not-is_possessive.false _ (body-behind program c.args.at _ body) (class-takes _ body_class) in
     passes-over program v all c.requires.suits c.args.at c.in-Loop1CharBody.max_iters c.in_ok-far.far _ _
     (record {
       first = first;
@@ -142,6 +139,6 @@ returns g c = λ lead.
       body_class = body_class;
       stops = λ groups. none-is _ (sym c.is_some.ensures ∙ c.if-is_some.false) ∙ c.class_ahead-2.ensures groups;
       behind = c.fails.ensures c.if-not-fails.false;
-      apart = λ groups o q e. taken.dead (input_of v) true o (apart groups o q e);
+      apart = behind-loop program v c.args.at _ spares;
     })
     lead c.args.start c.in_ok-near.near c.requires.place (λ groups. sym (c.class_ahead.ensures groups) ∙ c.in_ok-near.was) (λ groups. sym (c.in_ok-far.ensures groups))

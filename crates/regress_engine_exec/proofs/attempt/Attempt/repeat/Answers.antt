@@ -1,7 +1,6 @@
 use Rattle.std.proofs.Common.{◌≡◌, true, ◌+◌, ◌-◌, map, sym, ap, ◌∙◌, refl, subst, arith}
 use Rattle.regress_engine_insn.specs.Instructions.{Stands}
 use Rattle.regress_engine_runs.specs.Closed.{takes_character}
-use Rattle.regress_engine_runs.proofs.BodyPlaces.{fits-anywhere}
 use Rattle.regress_engine_runs.proofs.RunViews.{one_stands}
 use Rattle.regress_engine_insn.specs.InsnViews.{instruction}
 use Rattle.regress_engine_code.specs.Standing.{program_of}
@@ -61,17 +60,8 @@ returns-clause-leads g c =
     refl)
     c.in_ok-going-2.ensures.leads
 
-pub is_atomic-requires-clause-fits : goal.is_atomic-requires-clause-fits
-is_atomic-requires-clause-fits g c =
-    let program = program_of c.args.self.now.program.now in
-    let here = c.instruction-insn.ensures.stands in
-    let body = c.requires.body in
-    let one : c.args.spot.now.at + 2 - 1 ≡ c.args.spot.now.at + 1 = omega arith in
-    let same = one_stands program (input_of (g.Input.InputIndexer.view c.args.self.now.input)) (c.args.spot.now.at + 1) body.0 _ (subst (λ a. Stands program a body.0) one body.1) here in
-    fits-anywhere program (c.args.spot.now.at + 1) _ (c.requires.suits.closed (c.args.spot.now.at + 1) _ here) (ap takes_character (sym same) ∙ body.2)
-
-pub returns-then-is_atomic-clause-leads : goal.returns-then-is_atomic-clause-leads
-returns-then-is_atomic-clause-leads g c =
+pub returns-then-is_possessive-clause-leads : goal.returns-then-is_possessive-clause-leads
+returns-then-is_possessive-clause-leads g c =
     let program = program_of c.args.self.now.program.now in
     let v = g.Input.InputIndexer.view c.args.self.now.input in
     let p = c.args.spot.now in
@@ -84,9 +74,12 @@ returns-then-is_atomic-clause-leads g c =
     let here : Stands program (p.at + 2 - 1) i = subst (λ a. Stands program a i) two c.instruction-insn.ensures.stands in
     let goes = c.as_far-far.ensures.far ∙ ap (λ gs. as_far program (input_of v) (c.args.most - c.args.least) i (direction_of p.forward) (map marks_of gs) near) c.deref-then-greedy.ensures.value in
     let ahead = goes ∙ ap (λ b. as_far program (input_of v) (c.args.most - c.args.least) i (direction_of b) groups near) c.if-spot.true in
-    let (j, first, apart) = c.is_atomic.ensures v c.requires.suits.kind c.if-is_atomic.true in
+    let body = c.requires.body in
+    let before : Stands program (p.at + 1) body.0 = let one : p.at + 2 - 1 ≡ p.at + 1 = omega arith in subst (λ a. Stands program a body.0) one body.1 in
+    let takes : takes_character i ≡ true = ap takes_character (sym (one_stands program (input_of v) (p.at + 1) body.0 i before c.instruction-insn.ensures.stands)) ∙ body.2 in
+    let spares = c.is_possessive.ensures v (g.met.Input.InputIndexer.are_of_kind c.args.self.now.input) c.requires.suits c.if-is_possessive.true i c.instruction-insn.ensures.stands takes in
     leads-then program (input_of v) 0 0
     (repeat-greedy program (input_of v) i p h c.instruction-insn.ensures.stands c.args.least c.args.most c.args.greedy (pushed (give_back (p.at + 2) near far) h) near far c.if-greedy.true
     (ap (λ gs. after_times program (input_of v) c.args.least i (direction_of p.forward) (map marks_of gs) p.offset) (sym c.deref.ensures.value) ∙ sym c.in-Some.ensures.behind) goes refl)
-    (atomic program v (g.met.Input.InputIndexer.are_of_kind c.args.self.now.input) c.requires.suits (p.at + 2) i here (λ gs o q e. first.dead (input_of v) true o (apart gs o q e)) (c.args.most - c.args.least) near far groups
+    (atomic program v (g.met.Input.InputIndexer.are_of_kind c.args.self.now.input) c.requires.suits (p.at + 2) i here spares (c.args.most - c.args.least) near far groups
     (body-at program v (p.at + 2) p.offset near c.requires.body c.in-Some.ensures.place) ahead p h c.if-spot.true)

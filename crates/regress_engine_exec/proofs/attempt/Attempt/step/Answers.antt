@@ -103,7 +103,7 @@ pub choose-requires-clause-place : goal.choose-requires-clause-place
 choose-requires-clause-place g c =
     let program = program_of c.args.self.now.program.now in
     let here = stands-as program c.args.spot.now.at _ _ c.in-Alt.is c.instruction-insn.ensures.stands in
-    let (i, there, is) = c.is_class_at.ensures c.if-is_class_at.true in
+    let (i, there, is) = c.is_turn_at.ensures c.if-is_turn_at.true in
     first-place program (g.Input.InputIndexer.view c.args.self.now.input) c.args.spot.now (held c.args.memory.now) c.in-Alt.secondary i here there is c.requires.later
 
 pub returns-in-Jump-clause-leads : goal.returns-in-Jump-clause-leads

@@ -23,7 +23,7 @@ returns-in_default-clause-leads g c =
     let v = g.Input.InputIndexer.view c.args.self.now.input in
     let h = held c.args.memory.now in
     ahead-as program (input_of v) c.args.spot.now h h c.args.second c.args.spot.now.offset c.args.spot.now.forward c.requires.forward c.requires.forward
-    (turns-not program v c.args.spot.now.at c.args.second _ _ _ (fields c.args.turn.now.repetition.now) c.requires.turn c.requires.stands h c.args.spot.now.offset c.in_default.ensures)
+    (turns-not program v (g.met.Input.InputIndexer.are_of_kind c.args.self.now.input) c.args.spot.now.at c.args.second _ _ _ (fields c.args.turn.now.repetition.now) c.requires.turn c.requires.stands h c.args.spot.now.offset c.in_default.ensures)
 
 pub overflow_add-begun : goal.overflow_add-begun
 overflow_add-begun g c =
@@ -54,8 +54,8 @@ returns-then-taken-more-clause-leads g c =
     let there = loop-there program v c.args.turn.now.begin f h c.requires.suits c.requires.turn.begins c.requires.sound in
     let room : 0 < taken.before → c.args.count + taken.before ≤ c.args.turn.now.repetition.now.max_iters = λ some. omega (arith, within, more, some) in
     ahead-as program (input_of v) p h k c.args.turn.now.again taken.past c.begin_more.new.spot.forward c.requires.forward (c.in_ok-begin_more.ensures.forward ∙ c.requires.forward)
-    (turns-end program v p.at c.args.second _ _ _ f c.requires.turn c.requires.stands h k c.args.count p.offset taken.before taken.last taken.past there c.requires.entered told.behind told.one room
-    (turned program v p.at c.args.second _ _ _ f c.requires.turn c.requires.stands h k c.args.count p.offset taken.before taken.last there c.requires.entered told.behind c.in_ok-begin_more.ensures.written))
+    (turns-end program v (g.met.Input.InputIndexer.are_of_kind c.args.self.now.input) p.at c.args.second _ _ _ f c.requires.turn c.requires.stands h k c.args.count p.offset taken.before taken.last taken.past c.requires.place there c.requires.entered told.behind told.one room
+    (turned program v (g.met.Input.InputIndexer.are_of_kind c.args.self.now.input) p.at c.args.second _ _ _ f c.requires.turn c.requires.stands h k c.args.count p.offset taken.before taken.last there c.requires.entered told.behind c.in_ok-begin_more.ensures.written))
 
 pub returns-then-taken-more-clause-sound : goal.returns-then-taken-more-clause-sound
 returns-then-taken-more-clause-sound g c =
@@ -77,8 +77,8 @@ returns-clause-leads g c =
     let fewer = c.if-taken-more.false in
     let room : 0 < taken.before → c.args.count + taken.before ≤ c.args.turn.now.repetition.now.max_iters = λ some. omega (arith, within, more, some) in
     ahead-as program (input_of v) p h k c.way_on-spot.result taken.past c.begin_more.new.spot.forward c.requires.forward (c.in_ok-begin_more.ensures.forward ∙ c.requires.forward)
-    (turns-on program v p.at c.args.second _ _ _ f c.requires.turn c.requires.stands h k c.args.count p.offset taken.before taken.last taken.past c.way_on-spot.result there c.requires.entered told.behind told.one room
-    (turned program v p.at c.args.second _ _ _ f c.requires.turn c.requires.stands h k c.args.count p.offset taken.before taken.last there c.requires.entered told.behind c.in_ok-begin_more.ensures.written)
+    (turns-on program v (g.met.Input.InputIndexer.are_of_kind c.args.self.now.input) p.at c.args.second _ _ _ f c.requires.turn c.requires.stands h k c.args.count p.offset taken.before taken.last taken.past c.way_on-spot.result c.requires.place there c.requires.entered told.behind told.one room
+    (turned program v (g.met.Input.InputIndexer.are_of_kind c.args.self.now.input) p.at c.args.second _ _ _ f c.requires.turn c.requires.stands h k c.args.count p.offset taken.before taken.last there c.requires.entered told.behind c.in_ok-begin_more.ensures.written)
     (λ groups. (c.in-Some.ensures groups).stops (omega (arith, fewer))) c.way_on-spot.ensures)
 
 pub returns-clause-sound : goal.returns-clause-sound

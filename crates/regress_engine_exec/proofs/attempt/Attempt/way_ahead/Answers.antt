@@ -13,11 +13,11 @@ ways-preserved-then-is_dead_ahead g c = λ o ahead.
     let program = program_of c.args.self.now.program.now in
     let input = input_of (g.Input.InputIndexer.view c.args.self.now.input) in
     let here : Stands program c.ways.at (alt c.in-Alt.secondary) = stands-as program c.ways.at _ _ c.in-Alt.is (stands-read c.insns-insns.result.now c.args.self.now.program.now.insns.items c.ways.at Goal c.insns-insns.ensures c.ways-test.true) in
-    way-second program input true o c.args.start c.ways.at c.in-Alt.secondary here (c.is_dead_ahead.ensures (g.Input.InputIndexer.view c.args.self.now.input) o c.requires ahead c.if-is_dead_ahead.true) (c.ways.invariant o ahead)
+    way-second program input true o c.args.start c.ways.at c.in-Alt.secondary here (c.is_dead_ahead.ensures (g.Input.InputIndexer.view c.args.self.now.input) o (g.met.Input.InputIndexer.are_of_kind c.args.self.now.input) c.requires ahead c.if-is_dead_ahead.true) (c.ways.invariant o ahead)
 
 pub ways-preserved : goal.ways-preserved
 ways-preserved g c = λ o ahead.
     let program = program_of c.args.self.now.program.now in
     let input = input_of (g.Input.InputIndexer.view c.args.self.now.input) in
     let here : Stands program c.ways.at (alt c.in-Alt.secondary) = stands-as program c.ways.at _ _ c.in-Alt.is (stands-read c.insns-insns.result.now c.args.self.now.program.now.insns.items c.ways.at Goal c.insns-insns.ensures c.ways-test.true) in
-    way-first program input true o c.args.start c.ways.at c.in-Alt.secondary here (c.is_dead_ahead-in-ways.ensures (g.Input.InputIndexer.view c.args.self.now.input) o c.requires ahead c.if-not-is_dead_ahead.false) (c.ways.invariant o ahead)
+    way-first program input true o c.args.start c.ways.at c.in-Alt.secondary here (c.is_dead_ahead-in-ways.ensures (g.Input.InputIndexer.view c.args.self.now.input) o (g.met.Input.InputIndexer.are_of_kind c.args.self.now.input) c.requires ahead c.if-not-is_dead_ahead.false) (c.ways.invariant o ahead)

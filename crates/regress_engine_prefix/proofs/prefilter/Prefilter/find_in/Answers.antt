@@ -15,3 +15,7 @@ pub returns-in-ByteBracket-clause-first : goal.returns-in-ByteBracket-clause-fir
 returns-in-ByteBracket-clause-first c =
     subst (λ p. IsNextHit p c.args.bytes.now 0 c.find_in.result) (sym c.in-ByteBracket.is)
     (position-least (byte_bitmap_contains c.in-ByteBracket.set) c.args.bytes.now c.find_in.result c.find_in.ensures)
+
+pub returns-in-ByteNear-clause-first : goal.returns-in-ByteNear-clause-first
+returns-in-ByteNear-clause-first c =
+    subst (λ p. IsNextHit p c.args.bytes.now 0 c.find_near.result) (sym c.in-ByteNear.is) c.find_near.ensures.least

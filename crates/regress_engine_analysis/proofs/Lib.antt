@@ -1,0 +1,4 @@
+pub mod ElementLemmas
+pub mod FirstOfLemmas
+pub mod MayBeginLemmas
+pub mod PlanLemmas

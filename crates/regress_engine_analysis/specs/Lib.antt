@@ -1,0 +1,2 @@
+pub mod MayBegin
+pub mod Planned

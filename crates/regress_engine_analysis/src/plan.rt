@@ -1,0 +1,89 @@
+//! What is known of the addresses of a program.
+ghost use Rattle.std.specs.Prelude.{◌≡◌, ℕ, IfOk, not};
+ghost use Rattle.regress_engine_insn.specs.ProgramViews.{program_from};
+ghost use Rattle.regress_engine_analysis.specs.MayBegin.{may_begin_with};
+ghost use Rattle.regress_engine_analysis.specs.Planned.{ArePlanned, firsts, known_of};
+
+use crate::facts::{Facts, Known};
+use crate::first_bytes::first_bytes_by_address;
+use crate::shortcuts::known_at;
+use regress_engine_insn::Insn;
+use regress_front_nodes::BracketContents;
+use std::alloc::{AllocError, Global};
+
+/// What is known of each address of a program of bytes without running it; of a program of units nothing is.
+#[derive(Debug, Drop)]
+pub struct Plan {
+    facts: Vec<Facts>,
+}
+
+impl Plan {
+    /// The plan of a program: of its instructions and brackets, and whether it reads 16-bit units. It errs only where memory is
+    /// refused.
+    ///
+    /// ```rust
+    /// let plan = Plan::new(alloc, program.insns(), program.brackets(), false)?;
+    /// ```
+    pub fn new(
+        alloc: Global,
+        insns: &[Insn],
+        brackets: &[BracketContents],
+        units: bool,
+    ) -> Result<Plan, AllocError>
+        ensures { (loops groups : ℕ) → IfOk result (λ plan. ArePlanned (program_from insns.now brackets.now loops groups units) plan.facts.items) }
+    {
+        let mut facts = Vec::new(alloc);
+        if units {
+            return Ok(Plan { facts });
+        }
+        let sets = first_bytes_by_address(alloc, insns, brackets)?;
+        for at in 0..sets.len() {
+            facts.push(Facts {
+                first: sets[at],
+                known: known_at(insns, &sets, at),
+            })?;
+        }
+        Ok(Plan { facts })
+    }
+
+    /// Whether no match can be reached from an address on where a byte stands ahead, read forward.
+    ///
+    /// ```rust
+    /// let nowhere = plan.cannot_begin_with(0, b'x');
+    /// ```
+    #[inline(always)]
+    pub fn cannot_begin_with(&self, at: usize, byte: u8) -> bool
+        ensures { result ≡ not (may_begin_with (firsts self.now.facts.items) at byte) }
+    {
+        at < self.facts.len() && !self.facts[at].first.contains(byte)
+    }
+
+    /// What is known of an address besides its first bytes.
+    ///
+    /// ```rust
+    /// let known = plan.known(0);
+    /// ```
+    #[inline(always)]
+    pub fn known(&self, at: usize) -> Known
+        ensures { result ≡ known_of self.now.facts.items at }
+    {
+        if at < self.facts.len() {
+            self.facts[at].known
+        } else {
+            Known::Nothing
+        }
+    }
+
+    /// The same plan once more. It errs only where memory is refused.
+    ///
+    /// ```rust
+    /// let copy = plan.try_clone(alloc)?;
+    /// ```
+    pub fn try_clone(&self, alloc: Global) -> Result<Plan, AllocError>
+        ensures { IfOk result (λ plan. plan.facts.items ≡ self.now.facts.items) }
+    {
+        Ok(Plan {
+            facts: self.facts.to_vec(alloc)?,
+        })
+    }
+}
