@@ -32,7 +32,7 @@ module _ (program : Program) (shown v : View) (shows : shown ≡ v) (start : ℕ
       }))
 
   -- the answer is there
-  pub trying-ends : (p q : Spot) (h k : Held) → IsTried program v ends.0.0 ends.0.1 (task program (input_of v) true p h) → Steps (record { program = program; view = v }) p h None q k
+  pub trying-ends : (p q : Spot) (h k : Held) → IsTried program v ends.0.0 ends.0.1 (task program (input_of v) true p h) → Steps (record { program = program; view = v }) p h q k None
       → IsAnswer program (input_of v) start (Some q.offset) k.groups
   trying-ends p q h k tried steps =
       subst (λ x. IsAnswer program (input_of x) start (Some q.offset) k.groups) shows
@@ -66,10 +66,10 @@ trying-way program v n r o start first h ways trying = by_way (ways h)
     by_way (inr leads) = record { tried = tried-on program v n r 1 (from start) (from first) leads trying.tried; held = trying.held }
 
 -- what a step came to
-pub steps-led : (program : Program) (v : View) (p q : Spot) (h k : Held) (o : Option Bool) (going b : Bool) → o ≡ Some going → going ≡ b → Steps (record { program = program; view = v }) p h o q k
+pub steps-led : (program : Program) (v : View) (p q : Spot) (h k : Held) (o : Option Bool) (going b : Bool) → o ≡ Some going → going ≡ b → Steps (record { program = program; view = v }) p h q k o
     → Leads program (input_of v) 1 (task program (input_of v) true p h) (task program (input_of v) b q k)
 steps-led program v p q h k o going b some same steps =
-    subst (λ x. Leads program (input_of v) 1 (task program (input_of v) true p h) (task program (input_of v) x q k)) same (subst (λ x. Steps (record { program = program; view = v }) p h x q k) some steps)
+    subst (λ x. Leads program (input_of v) 1 (task program (input_of v) true p h) (task program (input_of v) x q k)) same (subst (λ x. Steps (record { program = program; view = v }) p h q k x) some steps)
 
 pub steps-held : (program : Program) (v : View) (k : Held) (o : Option Bool) (going : Bool) → o ≡ Some going → IfSome o (λ x. IsHeld program v k) → IsHeld program v k
 steps-held program v k o going some held = subst (λ x. IfSome x (λ y. IsHeld program v k)) some held

@@ -3,7 +3,7 @@ use Rattle.std.specs.Prelude.{◌≡◌, ℕ, ◌+◌, ◌≤◌, Bool, true, fa
 use Rattle.regress_meaning.specs.Meaning.{Forward}
 use Rattle.regress_meaning.specs.Inputs.{Input}
 use Rattle.regress_engine_input.specs.Views.{View, direction_of, in_bytes, input_of, reading_of, unit_beside}
-use Rattle.regress_engine_insn.specs.Instructions.{Instruction, Program}
+use Rattle.regress_engine_insn.specs.Instructions.{Instruction, Program, Stands}
 use Rattle.regress_engine_insn.specs.InsnViews.{instruction, fields}
 use Rattle.regress_engine_runs.specs.States.{Marks, Whole, first_state}
 use Rattle.regress_engine_runs.specs.Runs.{advance, successors}
@@ -38,32 +38,40 @@ pub record World : Type 0 where
   pub program : Program
   pub view : View
 
+-- from one address it continues at another, in a world
+abbrev pub IsWayIn : World → (forward : Bool) → (o start at : ℕ) → Type 0
+IsWayIn w forward o start at = IsWay w.program (input_of w.view) forward o start at
+
 -- what is held is the program's, and sound
 abbrev pub IsHeldIn : World → Held → Type 0
 IsHeldIn w h = IsHeld w.program w.view h
 
--- A step: it has come to the answer, or it continues, or failed.
-abbrev pub Steps : World → Spot → Held → Option Bool → Spot → Held → Type 0
-Steps w p h None q k = (q ≡ p) × (k.groups ≡ h.groups) × ComesAs w.program (input_of w.view) (task w.program (input_of w.view) true p h) (state_at p h)
-Steps w p h (Some going) q k = Leads w.program (input_of w.view) 1 (task w.program (input_of w.view) true p h) (task w.program (input_of w.view) going q k)
+-- A step from one spot to another: it has come to the answer, or it continues, or failed.
+abbrev pub Steps : World → Spot → Held → Spot → Held → Option Bool → Type 0
+Steps w p h q k None = (q ≡ p) × (k.groups ≡ h.groups) × ComesAs w.program (input_of w.view) (task w.program (input_of w.view) true p h) (state_at p h)
+Steps w p h q k (Some going) = Leads w.program (input_of w.view) 1 (task w.program (input_of w.view) true p h) (task w.program (input_of w.view) going q k)
 
 -- An instruction is done at a spot: it continues where that leads to, or failed.
-abbrev pub Does : World → Instruction → Spot → Held → (going : Bool) → Spot → Held → Type 0
-Does w i p h going q k = Leads w.program (input_of w.view) 0
+abbrev pub Does : World → Instruction → Spot → Held → Spot → Held → (going : Bool) → Type 0
+Does w i p h q k going = Leads w.program (input_of w.view) 0
     (task_of w.program (input_of w.view) (successors w.program (input_of w.view) i (direction_of p.forward) (state_at p h)) p h)
     (task w.program (input_of w.view) going q k)
 
 -- Where a spot has failed it goes back to one that is still to be tried, or has failed again.
-abbrev pub GoesBack : World → Spot → Held → (going : Bool) → Spot → Held → Type 0
-GoesBack w p h going q k = Leads w.program (input_of w.view) 0 (task w.program (input_of w.view) false p h) (task w.program (input_of w.view) going q k)
+abbrev pub GoesBack : World → Spot → Held → Spot → Held → (going : Bool) → Type 0
+GoesBack w p h q k going = Leads w.program (input_of w.view) 0 (task w.program (input_of w.view) false p h) (task w.program (input_of w.view) going q k)
 
 -- the same by one record
-abbrev pub Undoes : World → Undo → Spot → Held → (going : Bool) → Spot → Held → Type 0
-Undoes w u p h going q k = GoesBack w p (pushed u h) going q k
+abbrev pub Undoes : World → Undo → Spot → Held → Spot → Held → (going : Bool) → Type 0
+Undoes w u p h q k going = GoesBack w p (pushed u h) q k going
 
 -- what an instruction reads at a spot is at places
-abbrev pub ReadsHere : World → Instruction → Spot → Held → Type 0
-ReadsHere w i p h = reads_character i ≡ true → ReadsPlaces (reading_of w.view) i (state_at p h)
+abbrev pub ReadsHere : World → Spot → Held → Instruction → Type 0
+ReadsHere w p h i = reads_character i ≡ true → ReadsPlaces (reading_of w.view) i (state_at p h)
+
+-- what the instruction at a spot reads is at places
+abbrev pub ReadsAt : World → Spot → Held → Type 0
+ReadsAt w p h = (i : Instruction) → Stands w.program p.at i → ReadsHere w p h i
 
 -- and so is all that is read from there on
 abbrev pub ReadsOn : World → Spot → Held → Type 0

@@ -98,7 +98,7 @@ impl<'a, Input: ExecutorInput> Attempt<'a, Input> {
     ) -> Result<bool, AllocError>
         requires suits { Suits (program_of self.now.program.now) (Input.view self.now.input) }
         requires sound { IsHeldIn (world Input.view self.now) (pushed (give_back at near far) (held memory.old)) }
-        ensures leads { IfOk result (λ going. Undoes (world Input.view self.now) (give_back at near far) spot.old (held memory.old) going spot.new (held memory.new)) }
+        ensures leads { IfOk result (Undoes (world Input.view self.now) (give_back at near far) spot.old (held memory.old) spot.new (held memory.new)) }
         ensures sound { OnOk result (IsHeldIn (world Input.view self.now) (held memory.new)) }
         ensures rest { IfOk result (λ going. going ≡ false → (held memory.new).stack ≡ (held memory.old).stack) }
     {
@@ -216,7 +216,7 @@ impl<'a, Input: ExecutorInput> Attempt<'a, Input> {
     ) -> Result<bool, AllocError>
         requires suits { Suits (program_of self.now.program.now) (Input.view self.now.input) }
         requires sound { IsHeldIn (world Input.view self.now) (pushed (take_on at offset left) (held memory.old)) }
-        ensures leads { IfOk result (λ going. Undoes (world Input.view self.now) (take_on at offset left) spot.old (held memory.old) going spot.new (held memory.new)) }
+        ensures leads { IfOk result (Undoes (world Input.view self.now) (take_on at offset left) spot.old (held memory.old) spot.new (held memory.new)) }
         ensures sound { OnOk result (IsHeldIn (world Input.view self.now) (held memory.new)) }
         ensures rest { IfOk result (λ going. going ≡ false → (held memory.new).stack ≡ (held memory.old).stack) }
     {
@@ -252,7 +252,7 @@ impl<'a, Input: ExecutorInput> Attempt<'a, Input> {
     fn undo(&self, undo: Undo, memory: &mut Memory, spot: &mut Spot) -> Result<bool, AllocError>
         requires suits { Suits (program_of self.now.program.now) (Input.view self.now.input) }
         requires sound { IsHeldIn (world Input.view self.now) (pushed (undo_of undo) (held memory.old)) }
-        ensures leads { IfOk result (λ going. Undoes (world Input.view self.now) (undo_of undo) spot.old (held memory.old) going spot.new (held memory.new)) }
+        ensures leads { IfOk result (Undoes (world Input.view self.now) (undo_of undo) spot.old (held memory.old) spot.new (held memory.new)) }
         ensures sound { OnOk result (IsHeldIn (world Input.view self.now) (held memory.new)) }
         ensures rest { IfOk result (λ going. going ≡ false → (held memory.new).stack ≡ (held memory.old).stack) }
     {
@@ -293,7 +293,7 @@ impl<'a, Input: ExecutorInput> Attempt<'a, Input> {
     pub(crate) fn back(&self, memory: &mut Memory, spot: &mut Spot) -> Result<bool, AllocError>
         requires suits { Suits (program_of self.now.program.now) (Input.view self.now.input) }
         requires sound { IsHeldIn (world Input.view self.now) (held memory.old) }
-        ensures leads { IfOk result (λ going. GoesBack (world Input.view self.now) spot.old (held memory.old) going spot.new (held memory.new)) }
+        ensures leads { IfOk result (GoesBack (world Input.view self.now) spot.old (held memory.old) spot.new (held memory.new)) }
         ensures sound { OnOk result (IsHeldIn (world Input.view self.now) (held memory.new)) }
         ensures exhausted { IfOk result (λ going. going ≡ false → (held memory.new).stack ≡ []) }
     {

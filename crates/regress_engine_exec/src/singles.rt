@@ -29,7 +29,7 @@ impl<'a, Input: ExecutorInput> Attempt<'a, Input> {
         requires sound { IsHeldIn (world Input.view self.now) (held memory.old) }
         requires order { least ≤ most }
         requires body { IsBody (program_of self.now.program.now) (Input.view self.now.input) (spot.old.at + 2) spot.old.offset }
-        ensures leads { IfOk result (λ going. Does (world Input.view self.now) (single_loop least most greedy) spot.old (held memory.old) going spot.new (held memory.new)) }
+        ensures leads { IfOk result (Does (world Input.view self.now) (single_loop least most greedy) spot.old (held memory.old) spot.new (held memory.new)) }
         ensures sound { OnOk result (IsHeldIn (world Input.view self.now) (held memory.new)) }
     {
         let insn = self.instruction(spot.at + 1);

@@ -7,7 +7,7 @@ ghost use Rattle.regress_engine_search.specs.Ready.{is_simple};
 ghost use Rattle.regress_engine_undo.specs.Held.{held};
 ghost use Rattle.regress_engine_search.specs.Search.{Suits};
 ghost use Rattle.regress_engine_exec.specs.Attempts.{world};
-ghost use Rattle.regress_engine_exec.specs.Trying.{IsHeldIn, ReadsHere, ReadsOn, Steps};
+ghost use Rattle.regress_engine_exec.specs.Trying.{IsHeldIn, ReadsAt, ReadsHere, ReadsOn, Steps};
 
 use crate::attempt::Attempt;
 use regress_engine_advance::{advance, is_dead};
@@ -26,8 +26,8 @@ impl<'a, Input: ExecutorInput> Attempt<'a, Input> {
         requires simple { is_simple (instruction insn.now) ≡ true }
         requires stands { Stands (program_of self.now.program.now) spot.old.at (instruction insn.now) }
         requires room { spot.old.at + 1 < 2 ^ 64 }
-        requires reads { ReadsHere (world Input.view self.now) (instruction insn.now) spot.old (held memory.now) }
-        ensures { Steps (world Input.view self.now) spot.old (held memory.now) (Some result) spot.new (held memory.now) }
+        requires reads { ReadsHere (world Input.view self.now) spot.old (held memory.now) (instruction insn.now) }
+        ensures { Steps (world Input.view self.now) spot.old (held memory.now) spot.new (held memory.now) (Some result) }
     {
         let Some(next) = advance(
             self.program,
@@ -50,7 +50,7 @@ impl<'a, Input: ExecutorInput> Attempt<'a, Input> {
         requires suits { Suits (program_of self.now.program.now) (Input.view self.now.input) }
         requires sound { IsHeldIn (world Input.view self.now) (held memory.old) }
         requires stands { Stands (program_of self.now.program.now) spot.old.at (loop_again begin) }
-        ensures leads { IfOk result (λ going. Steps (world Input.view self.now) spot.old (held memory.old) (Some going) spot.new (held memory.new)) }
+        ensures leads { IfOk result (λ going. Steps (world Input.view self.now) spot.old (held memory.old) spot.new (held memory.new) (Some going)) }
         ensures sound { OnOk result (IsHeldIn (world Input.view self.now) (held memory.new)) }
     {
         match self.instruction(begin) {
@@ -73,9 +73,9 @@ impl<'a, Input: ExecutorInput> Attempt<'a, Input> {
         requires suits { Suits (program_of self.now.program.now) (Input.view self.now.input) }
         requires sound { IsHeldIn (world Input.view self.now) (held memory.old) }
         requires stands { (i : Instruction) × Stands (program_of self.now.program.now) spot.old.at i }
-        requires reads { (i : Instruction) → Stands (program_of self.now.program.now) spot.old.at i → ReadsHere (world Input.view self.now) i spot.old (held memory.old) }
+        requires reads { ReadsAt (world Input.view self.now) spot.old (held memory.old) }
         requires later { ReadsOn (world Input.view self.now) spot.old (held memory.old) }
-        ensures leads { IfOk result (λ left. Steps (world Input.view self.now) spot.old (held memory.old) left spot.new (held memory.new)) }
+        ensures leads { IfOk result (Steps (world Input.view self.now) spot.old (held memory.old) spot.new (held memory.new)) }
         ensures sound { IfOk result (λ left. IfSome left (λ going. IsHeldIn (world Input.view self.now) (held memory.new))) }
     {
         let insn = self.instruction(spot.at);

@@ -127,7 +127,7 @@ impl<'a, Input: ExecutorInput> Attempt<'a, Input> {
         requires room { spot.old.at + 1 < 2 ^ 64 }
         requires forward { spot.old.forward ≡ true }
         requires place { IsAtPlace (reading_of (Input.view self.now.input)) spot.old.offset }
-        ensures leads { OnOk result (Steps (world Input.view self.now) spot.old (held memory.old) (Some true) spot.new (held memory.new)) }
+        ensures leads { OnOk result (Steps (world Input.view self.now) spot.old (held memory.old) spot.new (held memory.new) (Some true)) }
         ensures sound { OnOk result (IsHeldIn (world Input.view self.now) (held memory.new)) }
     {
         let more = left(turn.repetition, count);
@@ -161,7 +161,7 @@ impl<'a, Input: ExecutorInput> Attempt<'a, Input> {
         requires stands { Stands (program_of self.now.program.now) spot.old.at (alt second) }
         requires room { spot.old.at + 1 < 2 ^ 64 }
         requires place { IsAtPlace (reading_of (Input.view self.now.input)) spot.old.offset }
-        ensures leads { OnOk result (Steps (world Input.view self.now) spot.old (held memory.old) (Some true) spot.new (held memory.new)) }
+        ensures leads { OnOk result (Steps (world Input.view self.now) spot.old (held memory.old) spot.new (held memory.new) (Some true)) }
         ensures sound { OnOk result (IsHeldIn (world Input.view self.now) (held memory.new)) }
     {
         if spot.forward {

@@ -38,7 +38,7 @@ returns-in_default g c =
     let v = g.Input.InputIndexer.view c.args.self.now.input in
     trying-ends program (g.Input.Shown.shown c.args.self.now.input) v (g.met.Input.ExecutorInput.shows c.args.self.now.input) c.args.self.now.start c.args.self.now.ends
     c.steps.spot c.step.new.spot (held c.steps.memory) (held c.step.new.memory) c.steps.invariant.tried
-    (subst (λ x. Steps (record { program = program; view = v }) c.steps.spot (held c.steps.memory) x c.step.new.spot (held c.step.new.memory)) c.in_default.is c.in_ok-going.ensures.leads)
+    (subst (λ x. Steps (record { program = program; view = v }) c.steps.spot (held c.steps.memory) c.step.new.spot (held c.step.new.memory) x) c.in_default.is c.in_ok-going.ensures.leads)
 
 pub steps-smaller-then-going : goal.steps-smaller-then-going
 steps-smaller-then-going g c =
