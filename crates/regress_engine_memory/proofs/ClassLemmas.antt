@@ -1,0 +1,28 @@
+-- Loops by their numbers, and one by one.
+use Rattle.std.specs.Prelude.{if◌then◌else◌}
+use Rattle.std.proofs.Common.{◌≡◌, ℕ, suc, ◌<◌, ◌||◌, ◌==◌, Bool, true, false, List, [], ◌∷◌, length, get_or, refl, sym, ap, ◌∙◌, subst, arith}
+use Rattle.std.proofs.lemmas.Bool.{eqb-true}
+use Rattle.regress_meaning.specs.Text.{holds}
+use Rattle.regress_engine_memory.specs.Remembered.{class_in}
+
+-- what holds of each of some numbers, one by one, holds of what is among them
+pub each-held : (P : ℕ → Type 0) (ids : List ℕ) → ((k : ℕ) → k < length ids → P (get_or ids k 0)) → (id : ℕ) → holds ids id ≡ true → P id
+each-held P [] each id h = absurd (cc h)
+each-held P (x ∷ ids) each id h = by_test (x == id) refl h (each-held P ids (λ k less. each (suc k) (omega (arith, less))) id)
+  where
+    by_test : (b : Bool) → (x == id) ≡ b → (b || holds ids id) ≡ true → (holds ids id ≡ true → P id) → P id
+    by_test true e h rest = subst P (eqb-true x id e) (each 0 (omega arith))
+    by_test false e h rest = rest h
+
+-- loops that have classes one by one have them by their numbers
+pub classes-are : (f : ℕ → ℕ) (ids classes : List ℕ) → length classes ≡ length ids → ((k : ℕ) → k < length ids → f (get_or ids k 0) ≡ get_or classes k 0)
+    → (id : ℕ) → holds ids id ≡ true → f id ≡ class_in ids classes id
+classes-are f [] classes size each id h = absurd (cc h)
+classes-are f (x ∷ ids) [] size each id h = absurd (omega (arith, size))
+classes-are f (x ∷ ids) (c ∷ classes) size each id h =
+    by_test (x == id) refl h (classes-are f ids classes (omega (arith, size)) (λ k less. each (suc k) (omega (arith, less))) id)
+  where
+    by_test : (b : Bool) → (x == id) ≡ b → (b || holds ids id) ≡ true → (holds ids id ≡ true → f id ≡ class_in ids classes id)
+        → f id ≡ (if b then c else class_in ids classes id)
+    by_test true e h rest = ap f (sym (eqb-true x id e)) ∙ each 0 (omega arith)
+    by_test false e h rest = rest h

@@ -1,0 +1,119 @@
+-- A table that passes its test tells what is so.
+use Rattle.std.specs.Prelude.{is_some, slice_get, not, option_and_then}
+use Rattle.std.specs.List.{list_all}
+use Rattle.std.proofs.Common.{◌≡◌, ℕ, zero, suc, ◌+◌, ◌&&◌, ◌||◌, ◌==◌, Bool, true, false, inl, inr, List, [], ◌∷◌, length, Option, Some, None, refl, sym, ap, subst, arith}
+use Rattle.std.proofs.lemmas.Bool.{and_parts, or_cases, eqb-true}
+use Rattle.regress_meaning.specs.Text.{holds}
+use Rattle.regress_engine_insn.specs.Instructions.{LoopFields, Instruction, Program, Stands}
+use Rattle.regress_engine_insn.specs.Instructions as code
+use Rattle.regress_engine_runs.specs.Runs.{fields_of}
+use Rattle.regress_engine_runs.specs.Meets.{referred}
+use Rattle.regress_engine_memory.specs.Flow.{Hands, Writes, IsToldOf, BeginsAnew, Flows, IsFlow}
+use Rattle.regress_engine_memory.specs.Deciding.{Table, calm_at, live_at, bounds_of, flow_of, hands, writes, is_told_of, begins_anew, ends_iteration, flows, flow_from, is_flow}
+
+-- what is among some numbers that are all among others is among these
+among : (xs ys : List ℕ) → list_all (holds ys) xs ≡ true → (c : ℕ) → holds xs c ≡ true → holds ys c ≡ true
+among [] ys e c h = absurd (cc h)
+among (x ∷ xs) ys e c h =
+    let both = and_parts (holds ys x) (list_all (holds ys) xs) e in
+    elim (or_cases (x == c) (holds xs c) h) [
+      | inl same ↦ subst (λ d. holds ys d ≡ true) (eqb-true x c same) both.0
+      | inr later ↦ among xs ys both.1 c later
+    ]
+
+-- nothing is among no numbers
+none-among : (xs : List ℕ) → (length xs == 0) ≡ true → (c : ℕ) → holds xs c ≡ true → ⊥
+none-among [] e c h = absurd (cc h)
+none-among (x ∷ xs) e c h = let none = eqb-true (length (x ∷ xs)) 0 e in absurd (omega (arith, none))
+
+module _ (t : Table) where
+  hands-so : (from to : ℕ) → hands t from to ≡ true → Hands (flow_of t) from to
+  hands-so from to e =
+      let both = and_parts (calm_at t to) (list_all (holds (live_at t from)) (live_at t to)) e in
+      record { calm = both.0; live = λ id l. among (live_at t to) (live_at t from) both.1 id l }
+
+  writes-so : (written from to : ℕ) → writes t written from to ≡ true → Writes (flow_of t) written from to
+  writes-so written from to e =
+      let both = and_parts (calm_at t to) (list_all (holds (written ∷ live_at t from)) (live_at t to)) e in
+      record { calm = both.0; live = λ id ne l. other id ne (among (live_at t to) (written ∷ live_at t from) both.1 id l) }
+    where
+      other : (id : ℕ) → (id ≡ written → ⊥) → holds (written ∷ live_at t from) id ≡ true → holds (live_at t from) id ≡ true
+      other id ne h = elim (or_cases (written == id) (holds (live_at t from) id) h) [ inl same ↦ absurd (ne (sym (eqb-true written id same))) | inr later ↦ later ]
+
+  told-so : (f : LoopFields) → is_told_of t f ≡ true → IsToldOf (flow_of t) f
+  told-so f e =
+      let both = and_parts ((bounds_of t f.loop_id).0 == f.least) ((bounds_of t f.loop_id).1 == f.most) e in
+      record { least = eqb-true (bounds_of t f.loop_id).0 f.least both.0; most = eqb-true (bounds_of t f.loop_id).1 f.most both.1 }
+
+  anew-so : (at : ℕ) → begins_anew t at ≡ true → BeginsAnew (flow_of t) at
+  anew-so at e =
+      let both = and_parts (calm_at t at) (length (live_at t at) == 0) e in record { calm = both.0; silent = λ id l. none-among (live_at t at) both.1 id l }
+
+  fields-so : (x : Option Instruction) (f : LoopFields) → fields_of x ≡ Some f → x ≡ Some (code.enter_loop f)
+  fields-so (Some (code.enter_loop g)) f e = let same : g ≡ f = cc in ap (λ h. Some (code.enter_loop h)) same
+  fields-so _ f e = absurd (cc e)
+
+  unreferring-so : (x : Option Instruction) → not (is_some (option_and_then referred x)) ≡ true → (i : Instruction) → x ≡ Some i → referred i ≡ None
+  unreferring-so None e i h = absurd (cc h)
+  unreferring-so (Some j) e i h = let same : j ≡ i = cc in by_group (referred i) (subst (λ k. not (is_some (referred k)) ≡ true) same e)
+    where
+      by_group : (x : Option ℕ) → not (is_some x) ≡ true → x ≡ None
+      by_group None f = refl
+      by_group (Some k) f = absurd (cc f)
+
+  module _ (program : Program) where
+    again-so : (at begin : ℕ) → ends_iteration t at begin (fields_of (slice_get program.instructions begin)) ≡ true → Flows (flow_of t) program at (code.loop_again begin)
+    again-so at begin e = by_fields (fields_of (slice_get program.instructions begin)) refl e
+      where
+        by_fields : (x : Option LoopFields) → fields_of (slice_get program.instructions begin) ≡ x → ends_iteration t at begin x ≡ true → Flows (flow_of t) program at (code.loop_again begin)
+        by_fields None here h = absurd (cc h)
+        by_fields (Some f) here h =
+            let a = and_parts (is_told_of t f) (holds (live_at t at) f.loop_id && (writes t f.loop_id at (suc begin) && hands t at f.exit)) h in
+            let b = and_parts (holds (live_at t at) f.loop_id) (writes t f.loop_id at (suc begin) && hands t at f.exit) a.1 in
+            let c = and_parts (writes t f.loop_id at (suc begin)) (hands t at f.exit) b.1 in
+            (f, fields-so (slice_get program.instructions begin) f here, told-so f a.0, b.0, writes-so f.loop_id at (suc begin) c.0, hands-so at f.exit c.1)
+
+    pub flows-so : (at : ℕ) (i : Instruction) → flows t program at i ≡ true → Flows (flow_of t) program at i
+    flows-so at code.goal e = tt
+    flows-so at code.fail e = tt
+    flows-so at (code.back k icase) e = absurd (cc e)
+    flows-so at (code.jump a) e = hands-so at a e
+    flows-so at (code.alt a) e = let b = and_parts (hands t at (suc at)) (hands t at a) e in (hands-so at (suc at) b.0, hands-so at a b.1)
+    flows-so at (code.enter_loop f) e =
+        let a = and_parts (is_told_of t f) (writes t f.loop_id at (suc at) && writes t f.loop_id at f.exit) e in
+        let b = and_parts (writes t f.loop_id at (suc at)) (writes t f.loop_id at f.exit) a.1 in
+        (told-so f a.0, writes-so f.loop_id at (suc at) b.0, writes-so f.loop_id at f.exit b.1)
+    flows-so at (code.loop_again begin) e = again-so at begin e
+    flows-so at (code.single_loop least most greedy) e =
+        let b = and_parts (hands t at (suc (suc at))) (not (is_some (option_and_then referred (slice_get program.instructions (suc at))))) e in
+        (hands-so at (suc (suc at)) b.0, unreferring-so (slice_get program.instructions (suc at)) b.1)
+    flows-so at (code.submatch kind first last continuation) e =
+        let a = and_parts (begins_anew t (suc at)) (hands t at continuation) e in (anew-so (suc at) a.0, hands-so at continuation a.1)
+    flows-so at i e = hands-so at (suc at) e
+
+    from-so : (is : List Instruction) (base : ℕ) → flow_from t program base is ≡ true → (k : ℕ) (i : Instruction) → slice_get is k ≡ Some i → calm_at t (base + k) ≡ true
+        → Flows (flow_of t) program (base + k) i
+    from-so [] base e k i here calm = absurd (cc here)
+    from-so (j ∷ is) base e zero i here calm =
+        let both = and_parts (not (calm_at t base) || flows t program base j) (flow_from t program (suc base) is) e in
+        let same : j ≡ i = cc in
+        let at : base + 0 ≡ base = omega arith in
+        let calm' : calm_at t base ≡ true = subst (λ a. calm_at t a ≡ true) at calm in
+        subst (λ a. Flows (flow_of t) program a i) (sym at)
+        (flows-so base i (subst (λ x. flows t program base x ≡ true) same (by_calm (calm_at t base) calm' both.0)))
+      where
+        by_calm : (b : Bool) → b ≡ true → (not b || flows t program base j) ≡ true → flows t program base j ≡ true
+        by_calm true f h = h
+        by_calm false f h = absurd (cc f)
+    from-so (j ∷ is) base e (suc k) i here calm =
+        let both = and_parts (not (calm_at t base) || flows t program base j) (flow_from t program (suc base) is) e in
+        let at : base + suc k ≡ suc base + k = omega arith in
+        subst (λ a. Flows (flow_of t) program a i) (sym at)
+        (from-so is (suc base) both.1 k i here (subst (λ a. calm_at t a ≡ true) at calm))
+
+    -- So it is decided by one pass over the instructions.
+    pub decides : is_flow t program ≡ true → IsFlow (flow_of t) program
+    decides e at i calm here =
+        let zero-at : 0 + at ≡ at = omega arith in
+        subst (λ a. Flows (flow_of t) program a i) zero-at
+        (from-so program.instructions 0 e at i here (subst (λ a. calm_at t a ≡ true) (sym zero-at) calm))

@@ -1,0 +1,16 @@
+pub mod Deciding
+pub mod TableLemmas
+pub mod LoopData
+pub mod Unreferring
+pub mod SameRuns
+pub mod Onward
+pub mod LessRuns
+pub mod Forgetting
+pub mod Exits
+pub mod Steady
+pub mod Dropping
+pub mod Learning
+pub mod HeldLemmas
+pub mod ClassLemmas
+pub mod PlaneLemmas
+mod Rows

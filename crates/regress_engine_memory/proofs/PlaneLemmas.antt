@@ -1,0 +1,108 @@
+-- Planes of bits: one more plane, and one more bit.
+use Rattle.std.specs.Prelude.{slice_get, slice_set}
+use Rattle.std.proofs.Common.{◌≡◌, ℕ, zero, suc, ◌+◌, ◌<◌, ◌||◌, ◌==◌, ◌⊎◌, inl, inr, true, false, List, [], ◌∷◌, ◌++◌, length, get_or, Some, refl, sym, ap, ◌∙◌, subst, arith}
+use Rattle.std.proofs.lemmas.Bool.{cases_eq, or_cases, eqb-true, true≢false}
+use Rattle.std.proofs.lemmas.Option.{slice_get_within}
+use Rattle.regress_meaning.specs.Inputs.{Input}
+use Rattle.regress_meaning.specs.Text.{holds}
+use Rattle.regress_engine_input.specs.Views.{direction_of}
+use Rattle.regress_engine_insn.specs.Instructions.{Program}
+use Rattle.regress_engine_undo.specs.declared.undo.Spot.{Spot}
+use Rattle.regress_engine_memory.specs.BitViews.{has}
+use Rattle.regress_engine_memory.specs.Deciding.{Table, calm_at, flow_of, live_at}
+use Rattle.regress_engine_memory.specs.Held.{FailsIfFree, key_at}
+use Rattle.regress_engine_memory.specs.Keys.{FailsAt}
+use Rattle.regress_engine_memory.specs.Planes.{IsPlaneOf, KnownIn, key_in}
+use Rattle.regress_engine_memory.specs.Remembered.{class_in, keyed_of}
+use Rattle.regress_engine_memory.specs.Under.{HasMoved, room}
+use Rattle.regress_engine_memory.specs.declared.bits.Bits.{Bits}
+use Rattle.regress_engine_memory.specs.declared.failures.Plane.{Plane}
+
+-- ---- lists
+
+set-same : (xs : List Plane) (y : Plane) (k : ℕ) → k < length xs → slice_get (slice_set xs k y) k ≡ Some y
+set-same [] y k within = absurd (omega (arith, within))
+set-same (x ∷ xs) y zero within = refl
+set-same (x ∷ xs) y (suc k) within = set-same xs y k (omega (arith, within))
+
+set-other : (xs : List Plane) (y : Plane) (k j : ℕ) → (j ≡ k → ⊥) → slice_get (slice_set xs k y) j ≡ slice_get xs j
+set-other [] y k j other = refl
+set-other (x ∷ xs) y zero zero other = absurd (other refl)
+set-other (x ∷ xs) y zero (suc j) other = refl
+set-other (x ∷ xs) y (suc k) zero other = refl
+set-other (x ∷ xs) y (suc k) (suc j) other = set-other xs y k j (λ e. other (ap suc e))
+
+pub last-there : (xs : List Plane) (y : Plane) → slice_get (xs ++ y ∷ []) (length xs) ≡ Some y
+last-there [] y = refl
+last-there (x ∷ xs) y = last-there xs y
+
+more-there : (xs : List Plane) (y z : Plane) (j : ℕ) → slice_get (xs ++ y ∷ []) j ≡ Some z → (slice_get xs j ≡ Some z) ⊎ (y ≡ z)
+more-there [] y z zero e = inr (cc e)
+more-there [] y z (suc j) e = absurd (cc e)
+more-there (x ∷ xs) y z zero e = inl e
+more-there (x ∷ xs) y z (suc j) e = more-there xs y z j e
+
+-- ---- what is known
+
+module _ (program : Program) (input : Input) (t : Table) where
+  -- a plane of which no bit is set adds nothing
+  pub known-more : (planes : List Plane) (p : Plane) → ((n : ℕ) → has p.offsets n ≡ false) → KnownIn program input t planes → KnownIn program input t (planes ++ p ∷ [])
+  known-more planes p none known k o q here set = by_place (more-there planes p q k here)
+    where
+      by_place : (slice_get planes k ≡ Some q) ⊎ (p ≡ q) → FailsAt program input (keyed_of t) (key_in t q o)
+      by_place (inl there) = known k o q there set
+      by_place (inr same) = absurd (true≢false (sym set ∙ ap (λ (x : Plane). has x.offsets o) (sym same) ∙ none o))
+
+  -- a bit is set of what fails
+  pub known-set : (planes : List Plane) (k offset : ℕ) (p : Plane) (bits : Bits) → slice_get planes k ≡ Some p → ((n : ℕ) → has bits n ≡ (has p.offsets n || offset == n))
+      → KnownIn program input t planes → FailsAt program input (keyed_of t) (key_in t p offset) → KnownIn program input t (slice_set planes k (record p { offsets = bits }))
+  known-set planes k offset p bits there adds known fails j o q here set = by_place (cases_eq j k)
+    where
+      new : Plane
+      new = record p { offsets = bits }
+
+      in_it : (has p.offsets o ≡ true) ⊎ ((offset == o) ≡ true) → FailsAt program input (keyed_of t) (key_in t p o)
+      in_it (inl old) = known k o p there old
+      in_it (inr is) = subst (λ n. FailsAt program input (keyed_of t) (key_in t p n)) (eqb-true offset o is) fails
+
+      by_place : (j ≡ k) ⊎ (j ≡ k → ⊥) → FailsAt program input (keyed_of t) (key_in t q o)
+      by_place (inl same) =
+          let found : Some new ≡ Some q = sym (set-same planes new k (slice_get_within planes k p there)) ∙ ap (slice_get (slice_set planes k new)) (sym same) ∙ here in
+          let is : new ≡ q = cc in
+          let old : has bits o ≡ true = ap (λ (x : Plane). has x.offsets o) is ∙ set in
+          subst (λ (x : Plane). FailsAt program input (keyed_of t) (key_in t x o)) is (in_it (or_cases (has p.offsets o) (offset == o) (sym (adds o) ∙ old)))
+      by_place (inr other) = known j o q (sym (set-other planes new k j other) ∙ here) set
+
+  -- or none is
+  pub known-same : (planes : List Plane) (k : ℕ) (p : Plane) (bits : Bits) → slice_get planes k ≡ Some p → ((n : ℕ) → has bits n ≡ has p.offsets n)
+      → KnownIn program input t planes → KnownIn program input t (slice_set planes k (record p { offsets = bits }))
+  known-same planes k p bits there same known j o q here set = by_place (cases_eq j k)
+    where
+      new : Plane
+      new = record p { offsets = bits }
+
+      by_place : (j ≡ k) ⊎ (j ≡ k → ⊥) → FailsAt program input (keyed_of t) (key_in t q o)
+      by_place (inl at) =
+          let found : Some new ≡ Some q = sym (set-same planes new k (slice_get_within planes k p there)) ∙ ap (slice_get (slice_set planes k new)) (sym at) ∙ here in
+          let is : new ≡ q = cc in
+          let old : has bits o ≡ true = ap (λ (x : Plane). has x.offsets o) is ∙ set in
+          subst (λ (x : Plane). FailsAt program input (keyed_of t) (key_in t x o)) is (known k o p there (sym (same o) ∙ old))
+      by_place (inr other) = known j o q (sym (set-other planes new k j other) ∙ here) set
+
+  -- where table and planes are the same
+  pub known-there : (u : Table) (planes others : List Plane) → u ≡ t → others ≡ planes → KnownIn program input t planes → KnownIn program input u others
+  known-there u planes others table same known = subst (λ x. KnownIn program input x others) (sym table) (subst (KnownIn program input t) (sym same) known)
+
+-- the key of a plane that is that of a spot
+pub key-of_spot : (t : Table) (s : Spot) (p : Plane) → p.at ≡ s.at → p.forward ≡ s.forward → key_in t p s.offset ≡ key_at s (class_in (live_at t s.at) p.classes.items)
+key-of_spot t s p at turned =
+    (λ i. record { dir = direction_of (turned i); at = at i; offset = s.offset; classes = class_in (live_at t (at i)) p.classes.items })
+
+-- What fails if loops are free fails at the plane of a spot, where they are.
+pub plane-fails : (program : Program) (input : Input) (t : Table) (last : ℕ) (s : Spot) (loops : List (ℕ × ℕ)) (p : Plane) → IsPlaneOf t s loops p → calm_at t s.at ≡ true
+    → ((id : ℕ) → holds (live_at t s.at) id ≡ true → HasMoved (flow_of t) last id (direction_of s.forward) s.offset (get_or loops id (0, 0)))
+    → ((id : ℕ) → holds (live_at t s.at) id ≡ true → (keyed_of t).counted id ≡ false → (get_or loops id (0, 0)).0 + 1 + room last (direction_of s.forward) s.offset < (flow_of t).most id)
+    → FailsIfFree program input (keyed_of t) last s loops → FailsAt program input (keyed_of t) (key_in t p s.offset)
+plane-fails program input t last s loops p is calm moved more fails =
+    subst (FailsAt program input (keyed_of t)) (sym (key-of_spot t s p is.0 is.1))
+    (fails calm (class_in (live_at t s.at) p.classes.items) (record { key = λ id l. is.2 id l; moved = λ id l. moved id l; room = λ id l c. more id l c }))

@@ -1,0 +1,10 @@
+pub mod Flow
+pub mod Deciding
+pub mod Agreeing
+pub mod Under
+pub mod Keys
+pub mod Held
+pub mod TableViews
+pub mod BitViews
+pub mod Remembered
+pub mod Planes

@@ -1,0 +1,133 @@
+//! The classes of the counts of loops, and when loops show that no state with the same classes may do more.
+ghost use Rattle.std.specs.Prelude.{◌≡◌, ◌+◌, ◌<◌, ℕ, true, false, get_or, map};
+ghost use Rattle.regress_meaning.specs.Text.{holds};
+ghost use Rattle.regress_engine_input.specs.Views.{direction_of};
+ghost use Rattle.regress_engine_runs.specs.UndoStack.{IsPast};
+ghost use Rattle.regress_engine_search.specs.StateViews.{loop_of};
+ghost use Rattle.regress_engine_memory.specs.Deciding.{flow_of, live_at};
+ghost use Rattle.regress_engine_memory.specs.Keys.{class_of};
+ghost use Rattle.regress_engine_memory.specs.Remembered.{HaveClasses, keyed_of};
+ghost use Rattle.regress_engine_memory.specs.TableViews.{table_of};
+ghost use Rattle.regress_engine_memory.specs.Under.{HasMoved, room};
+
+use crate::flow::FlowTable;
+use regress_engine_undo::Spot;
+use regress_front_core::LoopData;
+use std::alloc::{AllocError, Global};
+
+/// A loop is counted that has at most so many iterations.
+const MOST_COUNTED: usize = 64;
+
+/// The data of a loop; of one that is not there those before any iteration.
+fn data_of(loops: &[LoopData<usize>], id: usize) -> LoopData<usize>
+    ensures { loop_of result ≡ get_or (map loop_of loops.now) id (0, 0) }
+{
+    if id < loops.len() {
+        loops[id]
+    } else {
+        LoopData::new(0)
+    }
+}
+
+/// How many units lie between an offset and the end of a text of so many, read forward or backward.
+fn room_left(last: usize, spot: &Spot) -> usize
+    ensures { result ≡ room last (direction_of spot.now.forward) spot.now.offset }
+{
+    if spot.forward {
+        last.saturating_sub(spot.offset)
+    } else {
+        spot.offset
+    }
+}
+
+/// Whether an offset is past another one, read forward or backward.
+fn is_past(entry: usize, spot: &Spot) -> bool
+    ensures { result ≡ true → IsPast (direction_of spot.now.forward) entry spot.now.offset }
+{
+    if spot.forward {
+        entry < spot.offset
+    } else {
+        spot.offset < entry
+    }
+}
+
+impl FlowTable {
+    /// How many iterations of a loop have begun, as far as it matters.
+    pub(crate) fn class(&self, id: usize, count: usize) -> usize
+        ensures { result ≡ class_of (keyed_of (table_of self.now)) id count }
+    {
+        let bounds = self.bounds(id);
+        if bounds.most <= MOST_COUNTED {
+            count
+        } else {
+            count.min(bounds.least)
+        }
+    }
+
+    /// Whether the loops that are live at an address have these classes.
+    pub(crate) fn have_classes(
+        &self,
+        at: usize,
+        classes: &[usize],
+        loops: &[LoopData<usize>],
+    ) -> bool
+        ensures { result ≡ true → HaveClasses (table_of self.now) at classes.now (map loop_of loops.now) }
+    {
+        let live = self.live(at);
+        if classes.len() != live.len() {
+            return false;
+        }
+        for k in 0..live.len() {
+            if self.class(live[k], data_of(loops, live[k]).iters) != classes[k] {
+                return false;
+            }
+        }
+        true
+    }
+
+    /// The classes of the loops that are live at an address.
+    pub(crate) fn classes(
+        &self,
+        alloc: Global,
+        at: usize,
+        loops: &[LoopData<usize>],
+    ) -> Result<Vec<usize>, AllocError> {
+        let mut classes = Vec::new(alloc);
+        for id in self.live(at) {
+            classes.push(self.class(*id, data_of(loops, *id).iters))?;
+        }
+        Ok(classes)
+    }
+
+    /// Whether the data of a loop show that no state with the same class may do more: the iteration that is under way has taken
+    /// something or is not past the least number, and if the loop is not counted, more may begin than there is text.
+    fn is_free(&self, id: usize, counts: LoopData<usize>, spot: &Spot, last: usize) -> bool
+        ensures moved { result ≡ true → HasMoved (flow_of (table_of self.now)) last id (direction_of spot.now.forward) spot.now.offset (loop_of counts) }
+        ensures room { result ≡ true → (keyed_of (table_of self.now)).counted id ≡ false
+            → counts.iters + 1 + room last (direction_of spot.now.forward) spot.now.offset < (flow_of (table_of self.now)).most id }
+    {
+        let bounds = self.bounds(id);
+        if counts.iters > bounds.least && !is_past(counts.entry, spot) {
+            return false;
+        }
+        let left = bounds.most.saturating_sub(room_left(last, spot));
+        bounds.most <= MOST_COUNTED || (left > 1 && counts.iters < left - 1)
+    }
+
+    /// Whether all loops that are live at a spot show it.
+    pub(crate) fn are_free(&self, loops: &[LoopData<usize>], spot: &Spot, last: usize) -> bool
+        ensures moved { result ≡ true → (id : ℕ) → holds (live_at (table_of self.now) spot.now.at) id ≡ true
+            → HasMoved (flow_of (table_of self.now)) last id (direction_of spot.now.forward) spot.now.offset (get_or (map loop_of loops.now) id (0, 0)) }
+        ensures room { result ≡ true → (id : ℕ) → holds (live_at (table_of self.now) spot.now.at) id ≡ true
+            → (keyed_of (table_of self.now)).counted id ≡ false → (get_or (map loop_of loops.now) id (0, 0)).0 + 1 + room last (direction_of spot.now.forward) spot.now.offset
+            < (flow_of (table_of self.now)).most id }
+    {
+        let live = self.live(spot.at);
+        for k in 0..live.len() {
+            if !self.is_free(live[k], data_of(loops, live[k]), spot, last) {
+                return false;
+            }
+        }
+        true
+    }
+}

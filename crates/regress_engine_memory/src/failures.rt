@@ -1,0 +1,212 @@
+//! What is known to fail: a set of bits for each address that is remembered of.
+ghost use Rattle.std.specs.Prelude.{◌≡◌, ◌<◌, ℕ, true, IfOk, IfSome, OnOk, Some, length, map, slice_get};
+ghost use Rattle.regress_meaning.specs.Inputs.{Input};
+ghost use Rattle.regress_engine_insn.specs.Instructions.{Program};
+ghost use Rattle.regress_engine_search.specs.StateViews.{loop_of};
+ghost use Rattle.regress_engine_memory.specs.BitViews.{has};
+ghost use Rattle.regress_engine_memory.specs.Held.{FailsIfFree, FailsWith};
+ghost use Rattle.regress_engine_memory.specs.Keys.{FailsAt};
+ghost use Rattle.regress_engine_memory.specs.Planes.{AreKnown, IsPlaneOf, key_in};
+ghost use Rattle.regress_engine_memory.specs.Remembered.{keyed_of};
+ghost use Rattle.regress_engine_memory.specs.TableViews.{table_of};
+
+use crate::bits::Bits;
+use crate::flow::FlowTable;
+use regress_engine_undo::Spot;
+use regress_front_core::LoopData;
+use std::alloc::{AllocError, Global};
+
+/// An address, read in a direction, with the classes of the loops that are live there, and the offsets at which it fails.
+#[derive(Debug, Drop)]
+pub struct Plane {
+    pub(crate) at: usize,
+    pub(crate) forward: bool,
+    pub(crate) classes: Vec<usize>,
+    pub(crate) offsets: Bits,
+    /// The next plane of the same address.
+    pub(crate) next: Option<usize>,
+}
+
+/// What is known to fail in one text, of one program. It takes no more than so many blocks of 256 bits; past that, or where
+/// memory is refused, nothing more is learned.
+#[derive(Debug, Drop)]
+pub struct Failures {
+    pub(crate) alloc: Global,
+    pub(crate) table: FlowTable,
+    pub(crate) planes: Vec<Plane>,
+    /// The first plane of each address.
+    pub(crate) heads: Vec<Option<usize>>,
+    /// How many blocks may still be taken.
+    pub(crate) room: usize,
+}
+
+impl Failures {
+    /// Nothing is known yet, of a program with this table. So many blocks may be taken.
+    ///
+    /// ```rust
+    /// let mut failures = Failures::new(alloc, table, 1 << 16);
+    /// ```
+    pub fn new(alloc: Global, table: FlowTable, room: usize) -> Failures
+        ensures table { result.table ≡ table }
+        ensures known { (program : Program) → (input : Input) → AreKnown program input result }
+    {
+        Failures {
+            alloc,
+            table,
+            planes: Vec::new(alloc),
+            heads: Vec::new(alloc),
+            room,
+        }
+    }
+
+    /// The plane of a spot and of the loops that are held, if there is one.
+    fn find(&self, spot: &Spot, loops: &[LoopData<usize>]) -> Option<usize>
+        ensures { IfSome result (λ k. (p : Plane) × (slice_get self.now.planes.items k ≡ Some p)
+            × IsPlaneOf (table_of self.now.table) spot.now (map loop_of loops.now) p) }
+    {
+        let mut next = if spot.at < self.heads.len() {
+            self.heads[spot.at]
+        } else {
+            None
+        };
+        for _ in 0..self.planes.len() {
+            let k = next?;
+            if k >= self.planes.len() {
+                return None;
+            }
+            let plane = &self.planes[k];
+            if plane.at == spot.at
+                && plane.forward == spot.forward
+                && self.table.have_classes(spot.at, &plane.classes, loops)
+            {
+                return Some(k);
+            }
+            next = plane.next;
+        }
+        None
+    }
+
+    /// Whether it is known that no run from a spot has an answer, whatever groups are held, and whatever loops that have the classes
+    /// of these.
+    ///
+    /// ```rust
+    /// let known = failures.is_known(&spot, loops);
+    /// ```
+    pub fn is_known(&self, spot: &Spot, loops: &[LoopData<usize>]) -> bool
+        ensures { result ≡ true → (program : Program) → (input : Input) → AreKnown program input self.now
+            → FailsWith program input (keyed_of (table_of self.now.table)) spot.now (map loop_of loops.now) }
+    {
+        match self.find(spot, loops) {
+            Some(k) => self.has(k, spot.offset),
+            None => false,
+        }
+    }
+
+    /// Whether the bit of a plane and an offset is set.
+    fn has(&self, k: usize, offset: usize) -> bool
+        ensures { (p : Plane) → slice_get self.now.planes.items k ≡ Some p → result ≡ has p.offsets offset }
+    {
+        k < self.planes.len() && self.planes[k].offsets.contains(offset)
+    }
+
+    /// Makes room for the first plane of an address. It errs where memory is refused; nothing else changes.
+    fn make_head(&mut self, at: usize) -> Result<(), AllocError>
+        ensures table { self.new.table ≡ self.old.table }
+        ensures planes { self.new.planes.items ≡ self.old.planes.items }
+        ensures room { OnOk result (at < length self.new.heads.items) }
+    {
+        while self.heads.len() <= at {
+            self.heads.push(None)?;
+        }
+        Ok(())
+    }
+
+    /// One more plane, of a spot and of the loops that are held, of which no bit is set. It errs where memory is refused.
+    fn add(&mut self, spot: &Spot, loops: &[LoopData<usize>]) -> Result<Option<usize>, AllocError>
+        ensures table { self.new.table ≡ self.old.table }
+        ensures known { (program : Program) → (input : Input) → AreKnown program input self.old → AreKnown program input self.new }
+        ensures plane { IfOk result (λ found. IfSome found (λ k. (p : Plane) × (slice_get self.new.planes.items k ≡ Some p)
+            × IsPlaneOf (table_of self.new.table) spot.now (map loop_of loops.now) p)) }
+    {
+        let classes = self.table.classes(self.alloc, spot.at, loops)?;
+        if !self.table.have_classes(spot.at, &classes, loops) {
+            return Ok(None);
+        }
+        self.make_head(spot.at)?;
+        let k = self.planes.as_slice().len();
+        let next = self.heads[spot.at];
+        self.planes.push(Plane {
+            at: spot.at,
+            forward: spot.forward,
+            classes,
+            offsets: Bits::new(self.alloc),
+            next,
+        })?;
+        self.heads[spot.at] = Some(k);
+        Ok(Some(k))
+    }
+
+    /// The plane of a spot and of the loops that are held, a new one where there is none; `None` where there is no room for one, or
+    /// memory is refused.
+    fn plane_of(&mut self, spot: &Spot, loops: &[LoopData<usize>]) -> Option<usize>
+        ensures table { self.new.table ≡ self.old.table }
+        ensures known { (program : Program) → (input : Input) → AreKnown program input self.old → AreKnown program input self.new }
+        ensures plane { IfSome result (λ k. (p : Plane) × (slice_get self.new.planes.items k ≡ Some p)
+            × IsPlaneOf (table_of self.new.table) spot.now (map loop_of loops.now) p) }
+    {
+        if let Some(k) = self.find(spot, loops) {
+            return Some(k);
+        }
+        if self.room == 0 {
+            return None;
+        }
+        match self.add(spot, loops) {
+            Ok(k) => k,
+            Err(_) => {
+                self.room = 0;
+                None
+            }
+        }
+    }
+
+    /// Sets the bit of a plane and an offset, if there is room.
+    fn mark(&mut self, k: usize, offset: usize)
+        ensures table { self.new.table ≡ self.old.table }
+        ensures known { (program : Program) → (input : Input) → AreKnown program input self.old
+            → ((p : Plane) → slice_get self.old.planes.items k ≡ Some p
+            → FailsAt program input (keyed_of (table_of self.old.table)) (key_in (table_of self.old.table) p offset))
+            → AreKnown program input self.new }
+    {
+        if k >= self.planes.len() {
+            return;
+        }
+        let more = self.planes[k].offsets.missing(offset);
+        if more > self.room {
+            self.room = 0;
+            return;
+        }
+        match self.planes[k].offsets.insert(offset) {
+            Ok(()) => self.room -= more,
+            Err(_) => self.room = 0,
+        }
+    }
+
+    /// Learns that no run from a spot has an answer, if the loops that are held show that no state with their classes may do more.
+    /// The text has so many units.
+    ///
+    /// ```rust
+    /// failures.learn(&spot, loops, 1000);
+    /// ```
+    pub fn learn(&mut self, spot: &Spot, loops: &[LoopData<usize>], last: usize)
+        ensures table { self.new.table ≡ self.old.table }
+        ensures known { (program : Program) → (input : Input) → AreKnown program input self.old
+            → FailsIfFree program input (keyed_of (table_of self.old.table)) last spot.now (map loop_of loops.now) → AreKnown program input self.new }
+    {
+        if !self.table.is_calm(spot.at) || !self.table.are_free(loops, spot, last) {
+            return;
+        }
+        if let Some(k) = self.plane_of(spot, loops) {
+            self.mark(k, spot.offset);
+        }
+    }
+}
