@@ -1,11 +1,11 @@
 //! What is remembered of failures, so that a state that surely fails is dropped.
-ghost use Rattle.std.specs.Prelude.{◌≡◌, None, false, true, IfOk, IfSome, OnOk};
+ghost use Rattle.std.specs.Prelude.{◌≡◌, false, true, IfOk, IfSome, OnOk};
 ghost use Rattle.regress_engine_code.specs.Standing.{program_of};
 ghost use Rattle.regress_engine_search.specs.Search.{Suits};
 ghost use Rattle.regress_engine_undo.specs.Held.{held, undo_of, pushed};
 ghost use Rattle.regress_engine_exec.specs.Attempts.{world};
 ghost use Rattle.regress_engine_exec.specs.Remembering.{Drops, IsUnderWay, Remembers};
-ghost use Rattle.regress_engine_exec.specs.Trying.{IsHeldIn, Steps};
+ghost use Rattle.regress_engine_exec.specs.Trying.{IsHeldIn, Steps, World};
 
 use crate::attempt::Attempt;
 use regress_engine_insn::Insn;
@@ -25,7 +25,7 @@ pub(crate) struct Remembered {
 impl Remembered {
     /// Nothing is remembered.
     pub(crate) fn new() -> Remembered
-        ensures { result.failures ≡ None }
+        ensures { (w : World) → Remembers w result }
     {
         Remembered { failures: None }
     }
@@ -90,7 +90,8 @@ impl<'a, Input: ExecutorInput> Attempt<'a, Input> {
         if self.is_dropped(memory, remembered, spot)? {
             return Ok(Some(false));
         }
-        self.step(memory, answer, spot)
+        let left = self.step(memory, answer, spot)?;
+        Ok(left)
     }
 
     /// Learns what a record shows that is about to be undone: where it is that of a state that was tried, no run from there has an

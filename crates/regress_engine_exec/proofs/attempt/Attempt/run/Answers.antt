@@ -14,9 +14,12 @@ steps-init g c =
     let program = program_of c.args.self.now.program.now in
     let v = g.Input.InputIndexer.view c.args.self.now.input in
     let ends = c.args.self.now.ends in
-    record { so = c.requires.so; trying = trying-way program v ends.0.0 ends.0.1 c.args.self.now.start 0 c.args.first (held c.begin.new.self) c.requires.begun
-    (trying-first program (g.Input.Shown.shown c.args.self.now.input) v (g.met.Input.ExecutorInput.shows c.args.self.now.input) c.args.self.now.start ends (held c.begin.new.self) c.requires.reads
-    (c.in_ok-begin.ensures ∙ ap₂ (λ (l n : ℕ). blank l n) c.loops.ensures c.groups.ensures)) }
+    record {
+      so = c.requires.so;
+      trying = trying-way program v ends.0.0 ends.0.1 c.args.self.now.start 0 c.args.first (held c.begin.new.self) c.requires.begun
+          (trying-first program (g.Input.Shown.shown c.args.self.now.input) v (g.met.Input.ExecutorInput.shows c.args.self.now.input) c.args.self.now.start ends (held c.begin.new.self) c.requires.reads
+          (c.in_ok-begin.ensures ∙ ap₂ (λ (l n : ℕ). blank l n) c.loops.ensures c.groups.ensures));
+    }
   where
     blank : ℕ → ℕ → Held
     blank l n = record { stack = []; loops = replicate l (0, 0); groups = replicate n unset }
@@ -27,10 +30,13 @@ try_step-requires-clause-tried g c = (_, _, c.steps.invariant.trying.tried)
 pub back-requires-clause-tried : goal.back-requires-clause-tried
 back-requires-clause-tried g c =
     let program = program_of c.args.self.now.program.now in
-    let v = g.Input.InputIndexer.view c.args.self.now.input in
-    (_, _, tried-on program v _ _ 1 _ (task program (input_of v) false c.try_step.new.spot (held c.try_step.new.memory))
-    (steps-led program v c.steps.spot c.try_step.new.spot (held c.steps.memory) (held c.try_step.new.memory) _ c.in-Some.going false c.in-Some.is c.if-going.false c.in_ok-going.ensures.leads)
-    c.steps.invariant.trying.tried)
+    let v = g.Input.InputIndexer.view c.args.self.now.input in (
+      _,
+      _,
+      tried-on program v _ _ 1 _ (task program (input_of v) false c.try_step.new.spot (held c.try_step.new.memory))
+          (steps-led program v c.steps.spot c.try_step.new.spot (held c.steps.memory) (held c.try_step.new.memory) _ c.in-Some.going false c.in-Some.is c.if-going.false c.in_ok-going.ensures.leads)
+          c.steps.invariant.trying.tried,
+    )
 
 pub returns-in_default-clause-answer : goal.returns-in_default-clause-answer
 returns-in_default-clause-answer g c =
@@ -51,11 +57,14 @@ pub steps-preserved-then-going : goal.steps-preserved-then-going
 steps-preserved-then-going g c =
     let program = program_of c.args.self.now.program.now in
     let v = g.Input.InputIndexer.view c.args.self.now.input in
-    record { so = c.steps.invariant.so; trying = record {
-      tried = tried-on program v _ _ 1 _ (task program (input_of v) true c.try_step.new.spot (held c.try_step.new.memory))
-          (steps-led program v c.steps.spot c.try_step.new.spot (held c.steps.memory) (held c.try_step.new.memory) _ c.in-Some.going true c.in-Some.is c.if-going.true c.in_ok-going.ensures.leads) c.steps.invariant.trying.tried;
-      held = steps-held program v (held c.try_step.new.memory) _ c.in-Some.going c.in-Some.is c.in_ok-going.ensures.sound;
-    } }
+    record {
+      so = c.steps.invariant.so;
+      trying = record {
+        tried = tried-on program v _ _ 1 _ (task program (input_of v) true c.try_step.new.spot (held c.try_step.new.memory))
+            (steps-led program v c.steps.spot c.try_step.new.spot (held c.steps.memory) (held c.try_step.new.memory) _ c.in-Some.going true c.in-Some.is c.if-going.true c.in_ok-going.ensures.leads) c.steps.invariant.trying.tried;
+        held = steps-held program v (held c.try_step.new.memory) _ c.in-Some.going c.in-Some.is c.in_ok-going.ensures.sound;
+      };
+    }
 
 pub returns-then-not-branch-clause-answer : goal.returns-then-not-branch-clause-answer
 returns-then-not-branch-clause-answer g c =
@@ -81,10 +90,13 @@ pub steps-preserved : goal.steps-preserved
 steps-preserved g c =
     let program = program_of c.args.self.now.program.now in
     let v = g.Input.InputIndexer.view c.args.self.now.input in
-    record { so = c.in_ok-back.ensures.so; trying = record {
-      tried = tried-on program v _ _ 1 _ (task program (input_of v) true c.back.new.spot (held c.back.new.memory))
-          (steps-back program v c.steps.spot c.try_step.new.spot c.back.new.spot (held c.steps.memory) (held c.try_step.new.memory) (held c.back.new.memory) _ true c.if-not-branch.false
-          (steps-led program v c.steps.spot c.try_step.new.spot (held c.steps.memory) (held c.try_step.new.memory) _ c.in-Some.going false c.in-Some.is c.if-going.false c.in_ok-going.ensures.leads) c.in_ok-back.ensures.leads)
-          c.steps.invariant.trying.tried;
-      held = c.in_ok-back.ensures.sound;
-    } }
+    record {
+      so = c.in_ok-back.ensures.so;
+      trying = record {
+        tried = tried-on program v _ _ 1 _ (task program (input_of v) true c.back.new.spot (held c.back.new.memory))
+            (steps-back program v c.steps.spot c.try_step.new.spot c.back.new.spot (held c.steps.memory) (held c.try_step.new.memory) (held c.back.new.memory) _ true c.if-not-branch.false
+            (steps-led program v c.steps.spot c.try_step.new.spot (held c.steps.memory) (held c.try_step.new.memory) _ c.in-Some.going false c.in-Some.is c.if-going.false c.in_ok-going.ensures.leads) c.in_ok-back.ensures.leads)
+            c.steps.invariant.trying.tried;
+        held = c.in_ok-back.ensures.sound;
+      };
+    }

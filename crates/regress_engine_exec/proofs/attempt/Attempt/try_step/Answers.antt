@@ -45,7 +45,11 @@ returns-then-branch-clause-leads g c =
     subst (Drops (record { program = program; view = v }) c.args.spot.now (held c.args.memory.now) (held c.is_dropped.new.memory)) c.if-branch.true c.in_ok-is_dropped.ensures.leads
 
 pub returns-clause-leads : goal.returns-clause-leads
-returns-clause-leads g c = ?
-
-pub returns-clause-sound : goal.returns-clause-sound
-returns-clause-sound g c = ?
+returns-clause-leads g c =
+    let program = program_of c.args.self.now.program.now in
+    let v = g.Input.InputIndexer.view c.args.self.now.input in
+    let p = c.args.spot.now in
+    let k = held c.is_dropped.new.memory in
+    let leads = subst (Drops (record { program = program; view = v }) p (held c.args.memory.now) k) c.if-branch.false c.in_ok-is_dropped.ensures.leads in
+    steps-tried (record { program = program; view = v }) p c.step.new.spot (held c.args.memory.now) k (held c.step.new.memory) c.in_ok-left.left leads
+    c.in_ok-is_dropped.ensures.loops c.in_ok-is_dropped.ensures.groups c.in_ok-left.ensures.leads
