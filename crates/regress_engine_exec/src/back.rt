@@ -1,10 +1,9 @@
 //! Going back to a state that is still to be tried.
-ghost use Rattle.std.specs.Prelude.{◌≡◌, ◌<◌, ℕ, true, false, List, [], ◌∷◌, length, map, nat_lt, is_some, IfOk, IfSome, OnOk};
+ghost use Rattle.std.specs.Prelude.{◌≡◌, ◌<◌, ℕ, true, false, List, [], ◌∷◌, length, map, is_some, IfOk, IfSome, OnOk};
 ghost use Rattle.regress_engine_insn.specs.InsnViews.{instruction};
 ghost use Rattle.regress_engine_insn.specs.Instructions.{byte_seq};
 ghost use Rattle.regress_engine_code.specs.Standing.{program_of};
-ghost use Rattle.regress_engine_input.specs.Views.{direction_of, input_of, reading_of};
-ghost use Rattle.regress_engine_runs.specs.Runs.{gap};
+ghost use Rattle.regress_engine_input.specs.Views.{input_of, reading_of};
 ghost use Rattle.regress_engine_runs.specs.Meets.{IsAtPlace};
 ghost use Rattle.regress_engine_runs.specs.UndoStack.{give_back, take_on};
 ghost use Rattle.regress_engine_search.specs.Ready.{IsBody, IsReady};
@@ -14,26 +13,20 @@ ghost use Rattle.regress_engine_undo.specs.Held.{held, undo_of, pushed};
 ghost use Rattle.regress_engine_search.specs.Search.{Suits};
 ghost use Rattle.regress_engine_undo.specs.Dead.{GivesFrom, TakesFrom};
 ghost use Rattle.regress_engine_exec.specs.Attempts.{world};
+ghost use Rattle.regress_engine_exec.specs.Remembering.{IsUnderWay, Remembers};
 ghost use Rattle.regress_engine_exec.specs.Trying.{advanced, GoesBack, IsHeldIn, Undoes};
 
 use crate::attempt::Attempt;
+use crate::remembered::Remembered;
 use regress_engine_advance::{
     advance, any_in_line, ascii_bracket, beside, other_ahead, taken_first,
 };
 use regress_engine_insn::Insn;
 use regress_engine_search::ExecutorInput;
 use regress_engine_singles::first_byte;
-use regress_engine_undo::{Frame, Memory, Spot, Undo};
+use regress_engine_undo::{Frame, Memory, Spot, Undo, is_ahead};
 use regress_front_core::GroupData;
 use std::alloc::AllocError;
-
-/// Whether the second offset is ahead of the first, forward or backward.
-#[inline]
-fn is_ahead(forward: bool, near: usize, far: usize) -> bool
-    ensures { result ≡ nat_lt 0 (gap (direction_of forward) near far) }
-{
-    if forward { near < far } else { far < near }
-}
 
 /// Goes on behind a lookaround or an atomic group whose contents have no answer, where it is negated, and answers whether it
 /// is.
@@ -289,15 +282,25 @@ impl<'a, Input: ExecutorInput> Attempt<'a, Input> {
         }
     }
 
-    /// Undoes records until there is a state to be tried, and answers whether there is one.
-    pub(crate) fn back(&self, memory: &mut Memory, spot: &mut Spot) -> Result<bool, AllocError>
+    /// Undoes records until there is a state to be tried, and answers whether there is one. What they show to fail is remembered.
+    pub(crate) fn back(
+        &self,
+        memory: &mut Memory,
+        remembered: &mut Remembered,
+        spot: &mut Spot,
+    ) -> Result<bool, AllocError>
         requires suits { Suits (program_of self.now.program.now) (Input.view self.now.input) }
         requires sound { IsHeldIn (world Input.view self.now) (held memory.old) }
+        requires tried { IsUnderWay (world Input.view self.now) false spot.old (held memory.old) }
+        requires so { Remembers (world Input.view self.now) remembered.old }
         ensures leads { IfOk result (GoesBack (world Input.view self.now) spot.old (held memory.old) spot.new (held memory.new)) }
         ensures sound { OnOk result (IsHeldIn (world Input.view self.now) (held memory.new)) }
         ensures exhausted { IfOk result (λ going. going ≡ false → (held memory.new).stack ≡ []) }
+        ensures so { Remembers (world Input.view self.now) remembered.new }
     {
+        self.count_back(remembered);
         while let Some(undo) = memory.pop() {
+            self.learn(&undo, memory, remembered, spot);
             if self.undo(undo, memory, spot)? {
                 return Ok(true);
             }

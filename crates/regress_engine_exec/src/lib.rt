@@ -4,7 +4,10 @@
 mod attempt;
 mod back;
 mod executor;
+mod finding;
 mod producer;
+mod remembered;
+mod run;
 mod scratch;
 mod search;
 mod singles;

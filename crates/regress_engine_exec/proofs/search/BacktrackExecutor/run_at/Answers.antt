@@ -1,26 +1,11 @@
-use Rattle.std.proofs.Common.{sym, subst, refl, inl}
-use Rattle.regress_engine_code.specs.Standing.{program_of}
-use Rattle.regress_engine_input.specs.Views.{reading_of}
-use Rattle.regress_engine_runs.specs.Meets.{IsAtPlace}
-use Rattle.regress_engine_search.specs.Search.{IsSearchable}
+use Rattle.std.proofs.Common.{subst}
+use Rattle.regress_engine_exec.specs.Attempts.{world_of}
+use Rattle.regress_engine_exec.specs.Remembering.{Remembers}
+use Rattle.regress_engine_exec.proofs.RememberLemmas.{remembers-anyway}
 use Rattle.regress_engine_exec.proofs.search.BacktrackExecutor.run_at.Goals as goal
 
-pub invariant_of-attempt : goal.invariant_of-attempt
-invariant_of-attempt g c =
-    let context = c.args.self.now.context in
-    record { ends = context.searchable.ends c.args.offset (subst (λ x. IsAtPlace (reading_of x) c.args.offset) (sym (g.met.Input.ExecutorInput.shows context.input)) c.requires) }
-
-pub run-requires-clause-suits : goal.run-requires-clause-suits
-run-requires-clause-suits g c =
-    let context = c.args.self.now.context in
-    let searchable = subst (IsSearchable (program_of context.program.now)) (g.met.Input.ExecutorInput.shows context.input) context.searchable in
-    searchable.suits
-
-pub run-requires-clause-begun : goal.run-requires-clause-begun
-run-requires-clause-begun g c = λ h. inl refl
-
-pub run-requires-clause-reads : goal.run-requires-clause-reads
-run-requires-clause-reads g c =
-    let context = c.args.self.now.context in
-    let searchable = subst (IsSearchable (program_of context.program.now)) (g.met.Input.ExecutorInput.shows context.input) context.searchable in
-    searchable.reads c.args.offset c.requires
+pub run_from-requires-clause-so : goal.run_from-requires-clause-so
+run_from-requires-clause-so g c =
+    let self = c.args.self.now in
+    remembers-anyway (world_of self.context.program.now (g.Input.InputIndexer.view self.context.input)) self.remembered.failures (λ f. f.value)
+    (subst (λ v. ∥ Remembers (world_of self.context.program.now v) self.remembered ∥₁) (g.met.Input.ExecutorInput.shows self.context.input) self.so)
