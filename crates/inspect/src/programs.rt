@@ -2,7 +2,7 @@
 
 use crate::classes::{push_ascii, push_bitmap, push_bracket, push_quantifier};
 use crate::texts::{push_byte, push_bytes, push_literal, push_point, push_points};
-use regress_engine_code::{CompiledRegex, Landmark, StartPredicate};
+use regress_engine_code::{CompiledRegex, Landmark, NibbleSet, StartPredicate};
 use regress_engine_insn::{Insn, LoopFields, bytes_of};
 use regress_front::{ByteBitmap, Quantifier};
 use std::alloc::{AllocError, Global};
@@ -137,7 +137,28 @@ pub(crate) fn push_start(
             out.push_str(" with ")?;
             push_landmark(alloc, out, landmark)
         }
+        StartPredicate::BytePair(pair) => {
+            out.push_str("BytePair ")?;
+            push_bitmap(alloc, out, &members_of(&pair.first))?;
+            out.push_str(" and ")?;
+            push_bitmap(alloc, out, &members_of(&pair.second))
+        }
+        StartPredicate::WordStart(word) => {
+            out.push_str("WordStart ")?;
+            push_bitmap(alloc, out, &members_of(&word.first))
+        }
     }
+}
+
+/// The members of a set.
+fn members_of(set: &NibbleSet) -> ByteBitmap {
+    let mut members = ByteBitmap::default();
+    for byte in 0..=u8::MAX {
+        if set.contains(byte) {
+            members.set(byte);
+        }
+    }
+    members
 }
 
 /// A byte that stands by each match, and where.

@@ -33,7 +33,9 @@ pub use regress_engine_matchers::{
     ASCIICharProperties, CharInput, CharProperties, UTF8CharProperties, Utf16CharProperties,
     matchers, reads_stay_in_texts,
 };
-pub use regress_engine_prefix::{Landmark, Prefilter, StartPredicate, predicate_for_re};
+pub use regress_engine_prefix::{
+    BytePair, Landmark, NibbleSet, Prefilter, StartPredicate, WordStart, predicate_for_re,
+};
 pub use regress_engine_runs::{
     counts_are_bounded, inputs_move_on, layouts_are_closed, layouts_have_progress,
     layouts_list_matches, layouts_read_at_places, layouts_run_as_trees, runs_are_determined,

@@ -52,8 +52,8 @@ impl CompiledRegex {
         &self.brackets
     }
 
-    /// Where a match may begin, told by the bytes there; of a program of units `StartAnchored` or `Arbitrary`. An executor looks
-    /// for it by `Prefilter::new(program.start_pred())`.
+    /// Where a match may begin, told by the bytes there; in a program of units by bytes below 0x80 alone, which stand for the units
+    /// of the same numbers. An executor looks for it by `Prefilter::new(program.start_pred())`.
     pub fn start_pred(&self) -> &StartPredicate
         ensures { result.now ≡ self.now.start_pred }
     {

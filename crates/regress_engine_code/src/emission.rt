@@ -11,7 +11,7 @@ use crate::code::Code;
 use crate::compiled::CompiledRegex;
 use crate::emitter::Emitter;
 use regress_engine_analysis::Plan;
-use regress_engine_prefix::{StartPredicate, predicate_for_re};
+use regress_engine_prefix::{StartPredicate, predicate_for_re, predicate_for_units};
 use regress_front_core::{CaptureGroupName, Error};
 use regress_front_nodes::ir::Regex;
 use std::alloc::Global;
@@ -37,7 +37,8 @@ pub fn emit(alloc: Global, regex: &Regex<'_>) -> Result<CompiledRegex, Error>
     whole_program(alloc, regex, false)
 }
 
-/// The program of 16-bit units of a tree, as `emit` makes that of bytes, but that its start predicate tells no bytes.
+/// The program of 16-bit units of a tree, as `emit` makes that of bytes, but that its start predicate is plain: each byte that it
+/// tells is below 0x80, and stands for the unit of the same number.
 ///
 /// ```rust
 /// let program = emit_units(alloc, &regex)?;
@@ -61,7 +62,7 @@ fn group_count(names: &[CaptureGroupName]) -> Result<u32, Error>
     u32::try_from(names.len()).map_err(|_| Error::TooLarge)
 }
 
-/// Where a match of a tree may begin; over units at the start of the text, or anywhere. It errs with `OutOfMemory` alone.
+/// Where a match of a tree may begin. It errs with `OutOfMemory` alone.
 fn start_of(alloc: Global, regex: &Regex, units: bool) -> Result<StartPredicate, Error>
     requires { (n : ℕ) × IsWellFormed n (tree regex.now.node) }
     ensures serves { IfOk result (Serves units (tree regex.now.node)) }
@@ -69,10 +70,10 @@ fn start_of(alloc: Global, regex: &Regex, units: bool) -> Result<StartPredicate,
     ensures anchored { IfOk result (IsAnchoredOnlyIf (regex.now.flags.multiline ≡ false)) }
     ensures refused { IfErr result (λ e. e ≡ Error.OutOfMemory) }
 {
-    match predicate_for_re(alloc, regex)? {
-        StartPredicate::StartAnchored => Ok(StartPredicate::StartAnchored),
-        _ if units => Ok(StartPredicate::Arbitrary),
-        start => Ok(start),
+    if units {
+        predicate_for_units(alloc, regex)
+    } else {
+        predicate_for_re(alloc, regex)
     }
 }
 

@@ -11,4 +11,4 @@ mod strings;
 
 pub use compiled::CompiledRegex;
 pub use emission::{emit, emit_units};
-pub use regress_engine_prefix::{Landmark, StartPredicate};
+pub use regress_engine_prefix::{BytePair, Landmark, NibbleSet, StartPredicate, WordStart};

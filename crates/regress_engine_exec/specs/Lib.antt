@@ -1,1 +1,3 @@
 pub mod Trying
+pub mod Attempts
+pub mod Searches

@@ -4,33 +4,32 @@ ghost use Rattle.regress_meaning.specs.Meaning.{Forward as forward};
 ghost use Rattle.regress_engine_insn.specs.Instructions.{Instruction, Stands};
 ghost use Rattle.regress_engine_insn.specs.InsnViews.{instruction};
 ghost use Rattle.regress_engine_code.specs.Standing.{program_of};
-ghost use Rattle.regress_engine_input.specs.Views.{input_of, reading_of};
+ghost use Rattle.regress_engine_input.specs.Views.{input_of};
 ghost use Rattle.regress_engine_runs.specs.States.{first_state};
 ghost use Rattle.regress_engine_runs.specs.Computed.{IsComputed};
-ghost use Rattle.regress_engine_runs.specs.UndoStack.{ReadOn, outermost};
 ghost use Rattle.regress_engine_search.specs.Answering.{IsAnswer};
 ghost use Rattle.regress_engine_undo.specs.Held.{held};
 ghost use Rattle.regress_engine_search.specs.Search.{Suits};
-ghost use Rattle.regress_engine_exec.specs.Trying.{IsWay};
+ghost use Rattle.regress_engine_exec.specs.Trying.{IsWay, ReadsFrom};
 ghost use Rattle.regress_engine_runs.proofs.OneAnswer.{IsComputed-prop};
 
 use regress_engine_code::CompiledRegex;
 use regress_engine_insn::Insn;
-use regress_engine_matchers::CharInput;
+use regress_engine_search::{ExecutorInput, Shown};
 use regress_engine_undo::{Memory, Spot};
 use regress_front_core::GroupData;
 use std::alloc::AllocError;
 
 /// A program, a text, and an offset of it at which a run begins that ends.
 #[derive(Debug, Drop)]
-pub(crate) struct Attempt<'a, Input: CharInput> {
+pub(crate) struct Attempt<'a, Input: Shown> {
     pub(crate) program: &'a CompiledRegex,
     pub(crate) input: Input,
     pub(crate) start: usize,
-    pub(crate) ghost ends: { IsComputed (program_of program.now) (input_of (Input.view input)) forward (first_state (program_of program.now) start ∷ []) } by { IsComputed-prop (program_of program.now) (input_of (Input.view input)) forward (first_state (program_of program.now) start ∷ []) },
+    pub(crate) ghost ends: { IsComputed (program_of program.now) (input_of (Input.shown input)) forward (first_state (program_of program.now) start ∷ []) } by { IsComputed-prop (program_of program.now) (input_of (Input.shown input)) forward (first_state (program_of program.now) start ∷ []) },
 }
 
-impl<'a, Input: CharInput> Attempt<'a, Input> {
+impl<'a, Input: ExecutorInput> Attempt<'a, Input> {
     /// The instruction at an address.
     #[inline]
     pub(crate) fn instruction(&self, at: usize) -> &Insn
@@ -52,8 +51,8 @@ impl<'a, Input: CharInput> Attempt<'a, Input> {
     ) -> Result<Option<usize>, AllocError>
         requires suits { Suits (program_of self.now.program.now) (Input.view self.now.input) }
         requires begun { IsWay (program_of self.now.program.now) (input_of (Input.view self.now.input)) true self.now.start 0 first }
-        requires reads { ReadOn (program_of self.now.program.now) (input_of (Input.view self.now.input)) (reading_of (Input.view self.now.input)) forward (first_state (program_of self.now.program.now) self.now.start ∷ []) (outermost []) }
-        ensures { IfOk result (λ found. IsAnswer (program_of self.now.program.now) (input_of (Input.view self.now.input)) self.now.start found (held memory.new).groups) }
+        requires reads { ReadsFrom (program_of self.now.program.now) (Input.view self.now.input) self.now.start }
+        ensures { IfOk result (λ end. IsAnswer (program_of self.now.program.now) (input_of (Input.view self.now.input)) self.now.start end (held memory.new).groups) }
     {
         memory.begin(
             self.program.loops() as usize,

@@ -4,25 +4,24 @@ ghost use Rattle.regress_engine_insn.specs.InsnViews.{instruction};
 ghost use Rattle.regress_engine_insn.specs.Instructions.{byte_seq};
 ghost use Rattle.regress_engine_code.specs.Standing.{program_of};
 ghost use Rattle.regress_engine_input.specs.Views.{direction_of, input_of, reading_of};
-ghost use Rattle.regress_engine_runs.specs.Runs.{advance, gap};
+ghost use Rattle.regress_engine_runs.specs.Runs.{gap};
 ghost use Rattle.regress_engine_runs.specs.Meets.{IsAtPlace};
-ghost use Rattle.regress_engine_runs.specs.UndoStack.{give_back, take_on, whole};
+ghost use Rattle.regress_engine_runs.specs.UndoStack.{give_back, take_on};
 ghost use Rattle.regress_engine_search.specs.Ready.{IsBody, IsReady};
 ghost use Rattle.regress_engine_search.specs.StateViews.{marks_of};
 ghost use Rattle.regress_engine_search.specs.Submatches.{submatch_of, is_negated};
-ghost use Rattle.regress_engine_search.specs.Tasks.{Leads};
 ghost use Rattle.regress_engine_undo.specs.Held.{held, undo_of, pushed};
 ghost use Rattle.regress_engine_search.specs.Search.{Suits};
-ghost use Rattle.regress_engine_undo.specs.Sound.{IsHeld};
 ghost use Rattle.regress_engine_undo.specs.Dead.{GivesFrom, TakesFrom};
-ghost use Rattle.regress_engine_undo.specs.Tasks.{task};
+ghost use Rattle.regress_engine_exec.specs.Attempts.{world};
+ghost use Rattle.regress_engine_exec.specs.Trying.{advanced, GoesBack, IsHeldIn, Undoes};
 
 use crate::attempt::Attempt;
 use regress_engine_advance::{
     advance, any_in_line, ascii_bracket, beside, other_ahead, taken_first,
 };
 use regress_engine_insn::Insn;
-use regress_engine_matchers::CharInput;
+use regress_engine_search::ExecutorInput;
 use regress_engine_singles::first_byte;
 use regress_engine_undo::{Frame, Memory, Spot, Undo};
 use regress_front_core::GroupData;
@@ -53,7 +52,7 @@ fn exhaust(frame: &Frame, spot: &mut Spot) -> bool
     is_negated
 }
 
-impl<'a, Input: CharInput> Attempt<'a, Input> {
+impl<'a, Input: ExecutorInput> Attempt<'a, Input> {
     /// The far one of some offsets, from a far one back to a near one, at which it may continue at an address, where what is
     /// taken first from there on stands; `None` where it stands at none of them.
     fn far_way(
@@ -98,9 +97,9 @@ impl<'a, Input: CharInput> Attempt<'a, Input> {
         spot: &mut Spot,
     ) -> Result<bool, AllocError>
         requires suits { Suits (program_of self.now.program.now) (Input.view self.now.input) }
-        requires sound { IsHeld (program_of self.now.program.now) (Input.view self.now.input) (pushed (give_back at near far) (held memory.old)) }
-        ensures leads { IfOk result (λ going. Leads (program_of self.now.program.now) (input_of (Input.view self.now.input)) 0 (task (program_of self.now.program.now) (input_of (Input.view self.now.input)) false spot.old (pushed (give_back at near far) (held memory.old))) (task (program_of self.now.program.now) (input_of (Input.view self.now.input)) going spot.new (held memory.new))) }
-        ensures sound { OnOk result (IsHeld (program_of self.now.program.now) (Input.view self.now.input) (held memory.new)) }
+        requires sound { IsHeldIn (world Input.view self.now) (pushed (give_back at near far) (held memory.old)) }
+        ensures leads { IfOk result (Undoes (world Input.view self.now) (give_back at near far) spot.old (held memory.old) spot.new (held memory.new)) }
+        ensures sound { OnOk result (IsHeldIn (world Input.view self.now) (held memory.new)) }
         ensures rest { IfOk result (λ going. going ≡ false → (held memory.new).stack ≡ (held memory.old).stack) }
     {
         let Some(way) = self.far_way(at, near, far, spot.forward, &memory.groups) else {
@@ -135,7 +134,7 @@ impl<'a, Input: CharInput> Attempt<'a, Input> {
         requires suits { Suits (program_of self.now.program.now) (Input.view self.now.input) }
         requires ready { IsReady (program_of self.now.program.now) (Input.view self.now.input) (instruction insn.now) (map marks_of groups.now) offset }
         requires first { IfSome first (λ b. (rest : List ℕ) × (instruction insn.now ≡ byte_seq (b ∷ rest))) }
-        ensures { result ≡ is_some (advance (program_of self.now.program.now) (input_of (Input.view self.now.input)) (instruction insn.now) (direction_of forward) (map marks_of groups.now) offset) }
+        ensures { result ≡ is_some (advanced (world Input.view self.now) (instruction insn.now) forward (map marks_of groups.now) offset) }
     {
         if forward {
             if let Some(byte) = first {
@@ -158,7 +157,7 @@ impl<'a, Input: CharInput> Attempt<'a, Input> {
     ) -> Option<usize>
         requires suits { Suits (program_of self.now.program.now) (Input.view self.now.input) }
         requires ready { IsReady (program_of self.now.program.now) (Input.view self.now.input) (instruction insn.now) (map marks_of groups.now) offset }
-        ensures { result ≡ advance (program_of self.now.program.now) (input_of (Input.view self.now.input)) (instruction insn.now) (direction_of forward) (map marks_of groups.now) offset }
+        ensures { result ≡ advanced (world Input.view self.now) (instruction insn.now) forward (map marks_of groups.now) offset }
     {
         match insn {
             Insn::AsciiBracket(bitmap) => ascii_bracket(&self.input, forward, offset, bitmap),
@@ -216,9 +215,9 @@ impl<'a, Input: CharInput> Attempt<'a, Input> {
         spot: &mut Spot,
     ) -> Result<bool, AllocError>
         requires suits { Suits (program_of self.now.program.now) (Input.view self.now.input) }
-        requires sound { IsHeld (program_of self.now.program.now) (Input.view self.now.input) (pushed (take_on at offset left) (held memory.old)) }
-        ensures leads { IfOk result (λ going. Leads (program_of self.now.program.now) (input_of (Input.view self.now.input)) 0 (task (program_of self.now.program.now) (input_of (Input.view self.now.input)) false spot.old (pushed (take_on at offset left) (held memory.old))) (task (program_of self.now.program.now) (input_of (Input.view self.now.input)) going spot.new (held memory.new))) }
-        ensures sound { OnOk result (IsHeld (program_of self.now.program.now) (Input.view self.now.input) (held memory.new)) }
+        requires sound { IsHeldIn (world Input.view self.now) (pushed (take_on at offset left) (held memory.old)) }
+        ensures leads { IfOk result (Undoes (world Input.view self.now) (take_on at offset left) spot.old (held memory.old) spot.new (held memory.new)) }
+        ensures sound { OnOk result (IsHeldIn (world Input.view self.now) (held memory.new)) }
         ensures rest { IfOk result (λ going. going ≡ false → (held memory.new).stack ≡ (held memory.old).stack) }
     {
         let Some((near, rest)) = self.near_way(at, offset, left, spot.forward, &memory.groups)
@@ -252,9 +251,9 @@ impl<'a, Input: CharInput> Attempt<'a, Input> {
     /// Undoes a record, and answers whether there is a state to be tried.
     fn undo(&self, undo: Undo, memory: &mut Memory, spot: &mut Spot) -> Result<bool, AllocError>
         requires suits { Suits (program_of self.now.program.now) (Input.view self.now.input) }
-        requires sound { IsHeld (program_of self.now.program.now) (Input.view self.now.input) (pushed (undo_of undo) (held memory.old)) }
-        ensures leads { IfOk result (λ going. Leads (program_of self.now.program.now) (input_of (Input.view self.now.input)) 0 (task (program_of self.now.program.now) (input_of (Input.view self.now.input)) false spot.old (pushed (undo_of undo) (held memory.old))) (task (program_of self.now.program.now) (input_of (Input.view self.now.input)) going spot.new (held memory.new))) }
-        ensures sound { OnOk result (IsHeld (program_of self.now.program.now) (Input.view self.now.input) (held memory.new)) }
+        requires sound { IsHeldIn (world Input.view self.now) (pushed (undo_of undo) (held memory.old)) }
+        ensures leads { IfOk result (Undoes (world Input.view self.now) (undo_of undo) spot.old (held memory.old) spot.new (held memory.new)) }
+        ensures sound { OnOk result (IsHeldIn (world Input.view self.now) (held memory.new)) }
         ensures rest { IfOk result (λ going. going ≡ false → (held memory.new).stack ≡ (held memory.old).stack) }
     {
         match undo {
@@ -293,9 +292,9 @@ impl<'a, Input: CharInput> Attempt<'a, Input> {
     /// Undoes records until there is a state to be tried, and answers whether there is one.
     pub(crate) fn back(&self, memory: &mut Memory, spot: &mut Spot) -> Result<bool, AllocError>
         requires suits { Suits (program_of self.now.program.now) (Input.view self.now.input) }
-        requires sound { IsHeld (program_of self.now.program.now) (Input.view self.now.input) (held memory.old) }
-        ensures leads { IfOk result (λ going. Leads (program_of self.now.program.now) (input_of (Input.view self.now.input)) 0 (task (program_of self.now.program.now) (input_of (Input.view self.now.input)) false spot.old (held memory.old)) (task (program_of self.now.program.now) (input_of (Input.view self.now.input)) going spot.new (held memory.new))) }
-        ensures sound { OnOk result (IsHeld (program_of self.now.program.now) (Input.view self.now.input) (held memory.new)) }
+        requires sound { IsHeldIn (world Input.view self.now) (held memory.old) }
+        ensures leads { IfOk result (GoesBack (world Input.view self.now) spot.old (held memory.old) spot.new (held memory.new)) }
+        ensures sound { OnOk result (IsHeldIn (world Input.view self.now) (held memory.new)) }
         ensures exhausted { IfOk result (λ going. going ≡ false → (held memory.new).stack ≡ []) }
     {
         while let Some(undo) = memory.pop() {

@@ -2,6 +2,7 @@
 ghost use Rattle.std.specs.Prelude.{◌≡◌, ◌<◌, None, IfOk, IfSome, OnErr};
 ghost use Rattle.regress_match.specs.Iterating.{Finds, steps_on};
 ghost use Rattle.regress_engine_search.specs.Search.{Search, items_from, places_behind, IsPosition, IsStart, StartsAt, IsMatchOf, Steps};
+ghost use Rattle.regress_engine_exec.specs.Searches.{search_in};
 
 use crate::search::BacktrackExecutor;
 use regress_engine_search::{ExecutorInput, Shown};
@@ -41,11 +42,11 @@ impl<'r, Input: ExecutorInput> BacktrackExecutor<'r, Input> {
         position: usize,
         next: &mut Option<usize>,
     ) -> Result<Option<Match>, AllocError>
-        requires { IsPosition (⟦<BacktrackExecutor<'r, Input> as MatchProducer>⟧.search_of self.old) position }
-        ensures kept { ⟦<BacktrackExecutor<'r, Input> as MatchProducer>⟧.search_of self.new ≡ ⟦<BacktrackExecutor<'r, Input> as MatchProducer>⟧.search_of self.old }
-        ensures found { IfOk result (λ found. Finds (items_from (⟦<BacktrackExecutor<'r, Input> as MatchProducer>⟧.search_of self.old)) (IsMatchOf (⟦<BacktrackExecutor<'r, Input> as MatchProducer>⟧.search_of self.old)) position found next.new) }
-        ensures inside { IfSome next.new (IsPosition (⟦<BacktrackExecutor<'r, Input> as MatchProducer>⟧.search_of self.old)) }
-        ensures nearer { IfSome next.new (λ p. places_behind (⟦<BacktrackExecutor<'r, Input> as MatchProducer>⟧.search_of self.old) p < places_behind (⟦<BacktrackExecutor<'r, Input> as MatchProducer>⟧.search_of self.old) position) }
+        requires { IsPosition (search_in self.old) position }
+        ensures kept { search_in self.new ≡ search_in self.old }
+        ensures found { IfOk result (λ found. Finds (items_from (search_in self.old)) (IsMatchOf (search_in self.old)) position found next.new) }
+        ensures inside { IfSome next.new (IsPosition (search_in self.old)) }
+        ensures nearer { IfSome next.new (λ p. places_behind (search_in self.old) p < places_behind (search_in self.old) position) }
         ensures last { OnErr result (next.new ≡ None) }
     {
         *next = None;

@@ -10,7 +10,6 @@ ghost use Rattle.regress_engine_input.specs.Views.{input_of, reading_of, utf8};
 ghost use Rattle.regress_engine_runs.specs.Items.{Finds};
 ghost use Rattle.regress_engine_runs.specs.Meets.{IsAtPlace};
 ghost use Rattle.regress_engine_search.specs.Answering.{IsAnswer, IsFound, IsOutcome};
-ghost use Rattle.regress_engine_undo.specs.Held.{held};
 ghost use Rattle.regress_engine_search.specs.Search.{IsMadeOf, IsItemAtPlaces, IsWritten};
 
 use crate::attempt::Attempt;
@@ -33,6 +32,8 @@ pub struct BacktrackExecutor<'r, Input: Shown> {
 }
 
 impl<'r, Input: ExecutorInput> BacktrackExecutor<'r, Input> {
+    ghost use Rattle.regress_engine_exec.specs.Searches.{groups_in, program_in};
+
     /// The executor of a program over a text.
     ///
     /// Asks that the program is made for the text: of units over UTF-16 and UCS-2, else of bytes, with the text's tables and
@@ -87,7 +88,7 @@ impl<'r, Input: ExecutorInput> BacktrackExecutor<'r, Input> {
     /// which the first run has an answer, and where that ends; the answer's groups are then held.
     fn search(&mut self, offset: usize) -> Result<Option<(usize, usize)>, AllocError>
         requires { IsAtPlace (reading_of (Input.view self.old.context.input)) offset }
-        ensures found { IfOk result (λ found. IsFound (program_of self.old.context.program.now) (input_of (Input.view self.old.context.input)) offset found (held self.new.scratch.memory).groups) }
+        ensures found { IfOk result (λ found. IsFound (program_in self.old) (input_of (Input.view self.old.context.input)) offset found (groups_in self.new)) }
         ensures kept { self.new.context ≡ self.old.context }
     {
         let context = &self.context;
@@ -125,7 +126,7 @@ impl<'r, Input: ExecutorInput> BacktrackExecutor<'r, Input> {
     /// Runs the program from an offset. It answers where the run's answer ends, whose groups are then held.
     fn run_at(&mut self, offset: usize) -> Result<Option<usize>, AllocError>
         requires { IsAtPlace (reading_of (Input.view self.old.context.input)) offset }
-        ensures answer { IfOk result (λ end. IsAnswer (program_of self.old.context.program.now) (input_of (Input.view self.old.context.input)) offset end (held self.new.scratch.memory).groups) }
+        ensures answer { IfOk result (λ end. IsAnswer (program_in self.old) (input_of (Input.view self.old.context.input)) offset end (groups_in self.new)) }
         ensures kept { self.new.context ≡ self.old.context }
     {
         let attempt = Attempt {

@@ -1,24 +1,21 @@
 //! One-character loops.
-ghost use Rattle.std.specs.Prelude.{◌≡◌, ◌+◌, ◌≤◌, true, IfOk, OnOk};
+ghost use Rattle.std.specs.Prelude.{◌+◌, ◌≤◌, IfOk, OnOk};
 ghost use Rattle.regress_engine_insn.specs.Instructions.{single_loop};
 ghost use Rattle.regress_engine_code.specs.Standing.{program_of};
-ghost use Rattle.regress_engine_input.specs.Views.{direction_of, input_of};
-ghost use Rattle.regress_engine_runs.specs.Runs.{successors};
 ghost use Rattle.regress_engine_search.specs.Ready.{IsBody};
 ghost use Rattle.regress_engine_search.specs.Search.{Suits};
-ghost use Rattle.regress_engine_search.specs.Tasks.{Leads};
 ghost use Rattle.regress_engine_undo.specs.Held.{held};
-ghost use Rattle.regress_engine_undo.specs.Sound.{IsHeld};
-ghost use Rattle.regress_engine_undo.specs.Tasks.{task_of, task, state_at};
+ghost use Rattle.regress_engine_exec.specs.Attempts.{world};
+ghost use Rattle.regress_engine_exec.specs.Trying.{Does, IsHeldIn};
 
 use crate::attempt::Attempt;
 use regress_engine_advance::{after_times, as_far};
-use regress_engine_matchers::CharInput;
+use regress_engine_search::ExecutorInput;
 use regress_engine_singles::is_possessive;
 use regress_engine_undo::{Memory, Spot};
 use std::alloc::AllocError;
 
-impl<'a, Input: CharInput> Attempt<'a, Input> {
+impl<'a, Input: ExecutorInput> Attempt<'a, Input> {
     /// Does a one-character loop: goes on at one of its ways, and later at the others. It answers whether there is any.
     pub(crate) fn repeat(
         &self,
@@ -29,11 +26,11 @@ impl<'a, Input: CharInput> Attempt<'a, Input> {
         spot: &mut Spot,
     ) -> Result<bool, AllocError>
         requires suits { Suits (program_of self.now.program.now) (Input.view self.now.input) }
-        requires sound { IsHeld (program_of self.now.program.now) (Input.view self.now.input) (held memory.old) }
+        requires sound { IsHeldIn (world Input.view self.now) (held memory.old) }
         requires order { least ≤ most }
         requires body { IsBody (program_of self.now.program.now) (Input.view self.now.input) (spot.old.at + 2) spot.old.offset }
-        ensures leads { IfOk result (λ going. Leads (program_of self.now.program.now) (input_of (Input.view self.now.input)) 0 (task_of (program_of self.now.program.now) (input_of (Input.view self.now.input)) (successors (program_of self.now.program.now) (input_of (Input.view self.now.input)) (single_loop least most greedy) (direction_of spot.old.forward) (state_at spot.old (held memory.old))) spot.old (held memory.old)) (task (program_of self.now.program.now) (input_of (Input.view self.now.input)) going spot.new (held memory.new))) }
-        ensures sound { OnOk result (IsHeld (program_of self.now.program.now) (Input.view self.now.input) (held memory.new)) }
+        ensures leads { IfOk result (Does (world Input.view self.now) (single_loop least most greedy) spot.old (held memory.old) spot.new (held memory.new)) }
+        ensures sound { OnOk result (IsHeldIn (world Input.view self.now) (held memory.new)) }
     {
         let insn = self.instruction(spot.at + 1);
         let Some(near) = after_times(

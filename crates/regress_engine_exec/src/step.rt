@@ -1,39 +1,33 @@
 //! One step of a run.
-ghost use Rattle.std.specs.Prelude.{◌≡◌, ◌+◌, ◌^◌, ◌<◌, true, [], ◌∷◌, IfOk, IfSome, OnOk};
-ghost use Rattle.regress_engine_insn.specs.Instructions.{Instruction, Stands, loop_again, enter_loop, LoopFields};
+ghost use Rattle.std.specs.Prelude.{◌≡◌, ◌+◌, ◌^◌, ◌<◌, true, IfOk, IfSome, OnOk};
+ghost use Rattle.regress_engine_insn.specs.Instructions.{Instruction, Stands, loop_again};
 ghost use Rattle.regress_engine_insn.specs.InsnViews.{instruction};
 ghost use Rattle.regress_engine_code.specs.Standing.{program_of};
-ghost use Rattle.regress_engine_input.specs.Views.{direction_of, input_of, reading_of};
-ghost use Rattle.regress_engine_runs.specs.Meets.{reads_character, ReadsPlaces};
-ghost use Rattle.regress_engine_runs.specs.UndoStack.{ReadOn, stands_for};
 ghost use Rattle.regress_engine_search.specs.Ready.{is_simple};
-ghost use Rattle.regress_engine_search.specs.Tasks.{Leads};
 ghost use Rattle.regress_engine_undo.specs.Held.{held};
 ghost use Rattle.regress_engine_search.specs.Search.{Suits};
-ghost use Rattle.regress_engine_undo.specs.Sound.{IsHeld};
-ghost use Rattle.regress_engine_undo.specs.Tasks.{state_at, task};
-ghost use Rattle.regress_engine_exec.specs.Trying.{Steps};
+ghost use Rattle.regress_engine_exec.specs.Attempts.{world};
+ghost use Rattle.regress_engine_exec.specs.Trying.{IsHeldIn, ReadsAt, ReadsHere, ReadsOn, Steps};
 
 use crate::attempt::Attempt;
 use regress_engine_advance::{advance, is_dead};
 use regress_engine_insn::Insn;
-use regress_engine_matchers::CharInput;
-use regress_engine_search::Submatch;
+use regress_engine_search::{ExecutorInput, Submatch};
 use regress_engine_undo::{Memory, Spot, begun, ended};
 use regress_front_core::GroupData;
 use std::alloc::AllocError;
 
-impl<'a, Input: CharInput> Attempt<'a, Input> {
+impl<'a, Input: ExecutorInput> Attempt<'a, Input> {
     /// Does an instruction that changes nothing but the offset, and answers whether it leads anywhere.
     #[inline]
     fn take(&self, insn: &Insn, memory: &Memory, spot: &mut Spot) -> bool
         requires suits { Suits (program_of self.now.program.now) (Input.view self.now.input) }
-        requires sound { IsHeld (program_of self.now.program.now) (Input.view self.now.input) (held memory.now) }
+        requires sound { IsHeldIn (world Input.view self.now) (held memory.now) }
         requires simple { is_simple (instruction insn.now) ≡ true }
         requires stands { Stands (program_of self.now.program.now) spot.old.at (instruction insn.now) }
         requires room { spot.old.at + 1 < 2 ^ 64 }
-        requires reads { reads_character (instruction insn.now) ≡ true → ReadsPlaces (reading_of (Input.view self.now.input)) (instruction insn.now) (state_at spot.old (held memory.now)) }
-        ensures { Leads (program_of self.now.program.now) (input_of (Input.view self.now.input)) 1 (task (program_of self.now.program.now) (input_of (Input.view self.now.input)) true spot.old (held memory.now)) (task (program_of self.now.program.now) (input_of (Input.view self.now.input)) result spot.new (held memory.now)) }
+        requires reads { ReadsHere (world Input.view self.now) spot.old (held memory.now) (instruction insn.now) }
+        ensures { Steps (world Input.view self.now) spot.old (held memory.now) spot.new (held memory.now) (Some result) }
     {
         let Some(next) = advance(
             self.program,
@@ -54,10 +48,10 @@ impl<'a, Input: CharInput> Attempt<'a, Input> {
     #[inline]
     fn again(&self, begin: usize, memory: &mut Memory, spot: &mut Spot) -> Result<bool, AllocError>
         requires suits { Suits (program_of self.now.program.now) (Input.view self.now.input) }
-        requires sound { IsHeld (program_of self.now.program.now) (Input.view self.now.input) (held memory.old) }
+        requires sound { IsHeldIn (world Input.view self.now) (held memory.old) }
         requires stands { Stands (program_of self.now.program.now) spot.old.at (loop_again begin) }
-        ensures leads { IfOk result (λ going. Leads (program_of self.now.program.now) (input_of (Input.view self.now.input)) 1 (task (program_of self.now.program.now) (input_of (Input.view self.now.input)) true spot.old (held memory.old)) (task (program_of self.now.program.now) (input_of (Input.view self.now.input)) going spot.new (held memory.new))) }
-        ensures sound { OnOk result (IsHeld (program_of self.now.program.now) (Input.view self.now.input) (held memory.new)) }
+        ensures leads { IfOk result (λ going. Steps (world Input.view self.now) spot.old (held memory.old) spot.new (held memory.new) (Some going)) }
+        ensures sound { OnOk result (IsHeldIn (world Input.view self.now) (held memory.new)) }
     {
         match self.instruction(begin) {
             Insn::EnterLoop(repetition) => {
@@ -77,12 +71,12 @@ impl<'a, Input: CharInput> Attempt<'a, Input> {
         spot: &mut Spot,
     ) -> Result<Option<bool>, AllocError>
         requires suits { Suits (program_of self.now.program.now) (Input.view self.now.input) }
-        requires sound { IsHeld (program_of self.now.program.now) (Input.view self.now.input) (held memory.old) }
+        requires sound { IsHeldIn (world Input.view self.now) (held memory.old) }
         requires stands { (i : Instruction) × Stands (program_of self.now.program.now) spot.old.at i }
-        requires reads { (i : Instruction) → Stands (program_of self.now.program.now) spot.old.at i → reads_character i ≡ true → ReadsPlaces (reading_of (Input.view self.now.input)) i (state_at spot.old (held memory.old)) }
-        requires later { ReadOn (program_of self.now.program.now) (input_of (Input.view self.now.input)) (reading_of (Input.view self.now.input)) (direction_of spot.old.forward) (state_at spot.old (held memory.old) ∷ []) (stands_for (program_of self.now.program.now) (input_of (Input.view self.now.input)) (direction_of spot.old.forward) (held memory.old).stack (held memory.old).loops (held memory.old).groups) }
-        ensures leads { IfOk result (λ left. Steps (program_of self.now.program.now) (input_of (Input.view self.now.input)) spot.old (held memory.old) left spot.new (held memory.new)) }
-        ensures sound { IfOk result (λ left. IfSome left (λ going. IsHeld (program_of self.now.program.now) (Input.view self.now.input) (held memory.new))) }
+        requires reads { ReadsAt (world Input.view self.now) spot.old (held memory.old) }
+        requires later { ReadsOn (world Input.view self.now) spot.old (held memory.old) }
+        ensures leads { IfOk result (Steps (world Input.view self.now) spot.old (held memory.old) spot.new (held memory.new)) }
+        ensures sound { IfOk result (λ left. IfSome left (λ going. IsHeldIn (world Input.view self.now) (held memory.new))) }
     {
         let insn = self.instruction(spot.at);
         match insn {

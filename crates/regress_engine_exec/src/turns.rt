@@ -1,24 +1,19 @@
 //! Iterations that are one character of a class each.
-ghost use Rattle.std.specs.Prelude.{◌≡◌, ◌⊎◌, ◌+◌, ◌-◌, ◌^◌, ◌<◌, ◌≤◌, ℕ, true, get_or, length, IfSome, OnOk};
-ghost use Rattle.regress_meaning.specs.Meaning.{Forward as ahead};
+ghost use Rattle.std.specs.Prelude.{◌≡◌, ◌+◌, ◌-◌, ◌^◌, ◌<◌, true, get_or, length, IfSome, OnOk};
 ghost use Rattle.regress_engine_insn.specs.Instructions.{Instruction, Stands, alt};
-ghost use Rattle.regress_engine_insn.specs.InsnViews.{instruction, fields};
 ghost use Rattle.regress_engine_code.specs.Standing.{program_of};
-ghost use Rattle.regress_engine_input.specs.Views.{input_of, reading_of};
+ghost use Rattle.regress_engine_input.specs.Views.{reading_of};
 ghost use Rattle.regress_engine_runs.specs.Meets.{IsAtPlace};
-ghost use Rattle.regress_engine_search.specs.Tasks.{Leads};
 ghost use Rattle.regress_engine_search.specs.Search.{Suits};
-ghost use Rattle.regress_engine_singles.specs.Failing.{IsDead};
 ghost use Rattle.regress_engine_analysis.specs.Planned.{is_class};
-ghost use Rattle.regress_engine_undo.specs.Held.{held, loop_written};
-ghost use Rattle.regress_engine_undo.specs.Sound.{IsHeld};
-ghost use Rattle.regress_engine_undo.specs.Tasks.{task};
-ghost use Rattle.regress_engine_singles.specs.Sparing.{IsTurn};
+ghost use Rattle.regress_engine_undo.specs.Held.{held};
+ghost use Rattle.regress_engine_exec.specs.Attempts.{world};
+ghost use Rattle.regress_engine_exec.specs.Trying.{BeginsMore, IsHeldIn, IsTurnAt, LeadsOut, Steps};
 
 use crate::attempt::Attempt;
 use regress_engine_advance::is_dead;
 use regress_engine_insn::{Insn, LoopFields};
-use regress_engine_matchers::CharInput;
+use regress_engine_search::ExecutorInput;
 use regress_engine_singles::{Taken, taken_ahead, turn_at};
 use regress_engine_undo::{Memory, Spot};
 use std::alloc::AllocError;
@@ -57,7 +52,7 @@ fn begin_more(
     requires there { turn.now.repetition.now.loop_id < length (held memory.old).loops }
     requires count { count + taken.now.before < 2 ^ 64 }
     requires begin { turn.now.begin + 1 < 2 ^ 64 }
-    ensures written { OnOk result (((taken.now.before ≤ 0) × (held memory.new ≡ held memory.old)) ⊎ (held memory.new ≡ loop_written turn.now.repetition.now.loop_id (count + taken.now.before, taken.now.last) (held memory.old))) }
+    ensures written { OnOk result (BeginsMore turn.now.repetition.now.loop_id count taken.now (held memory.old) (held memory.new)) }
     ensures forward { OnOk result (spot.new.forward ≡ spot.old.forward) }
 {
     if taken.before == 0 {
@@ -69,7 +64,7 @@ fn begin_more(
     Ok(())
 }
 
-impl<'a, Input: CharInput> Attempt<'a, Input> {
+impl<'a, Input: ExecutorInput> Attempt<'a, Input> {
     /// Whether iterations begin at an address that are one character of a class each, as is known of the program.
     #[inline]
     pub(crate) fn is_turn_at(&self, at: usize) -> bool
@@ -84,7 +79,7 @@ impl<'a, Input: CharInput> Attempt<'a, Input> {
         requires suits { Suits (program_of self.now.program.now) (Input.view self.now.input) }
         requires stands { Stands (program_of self.now.program.now) at (alt second) }
         requires room { at + 1 < 2 ^ 64 }
-        ensures { IfSome result (λ t. IsTurn (program_of self.now.program.now) (Input.view self.now.input) at second t.begin t.again (instruction t.class.now) (fields t.repetition.now)) }
+        ensures { IfSome result (λ t. IsTurnAt (world Input.view self.now) at second t) }
     {
         let found = turn_at(self.program, at)?;
         let begin = found.begin as usize;
@@ -103,7 +98,7 @@ impl<'a, Input: CharInput> Attempt<'a, Input> {
     /// behind the repetition where no other match can be reached.
     fn way_on(&self, turn: &Turn<'_>, second: usize, count: usize, offset: usize) -> usize
         requires { Suits (program_of self.now.program.now) (Input.view self.now.input) }
-        ensures { (result ≡ turn.now.again) ⊎ ((result ≡ turn.now.repetition.now.exit) × (turn.now.repetition.now.min_iters ≤ count) × IsDead (program_of self.now.program.now) (input_of (Input.view self.now.input)) ahead second offset) }
+        ensures { LeadsOut (world Input.view self.now) turn.now second count offset result }
     {
         if count < turn.repetition.min_iters {
             return turn.again;
@@ -125,15 +120,15 @@ impl<'a, Input: CharInput> Attempt<'a, Input> {
         spot: &mut Spot,
     ) -> Result<(), AllocError>
         requires suits { Suits (program_of self.now.program.now) (Input.view self.now.input) }
-        requires sound { IsHeld (program_of self.now.program.now) (Input.view self.now.input) (held memory.old) }
+        requires sound { IsHeldIn (world Input.view self.now) (held memory.old) }
         requires stands { Stands (program_of self.now.program.now) spot.old.at (alt second) }
-        requires turn { IsTurn (program_of self.now.program.now) (Input.view self.now.input) spot.old.at second turn.now.begin turn.now.again (instruction turn.now.class.now) (fields turn.now.repetition.now) }
+        requires turn { IsTurnAt (world Input.view self.now) spot.old.at second turn.now }
         requires entered { get_or (held memory.old).loops turn.now.repetition.now.loop_id (0, 0) ≡ (count, spot.old.offset) }
         requires room { spot.old.at + 1 < 2 ^ 64 }
         requires forward { spot.old.forward ≡ true }
         requires place { IsAtPlace (reading_of (Input.view self.now.input)) spot.old.offset }
-        ensures leads { OnOk result (Leads (program_of self.now.program.now) (input_of (Input.view self.now.input)) 1 (task (program_of self.now.program.now) (input_of (Input.view self.now.input)) true spot.old (held memory.old)) (task (program_of self.now.program.now) (input_of (Input.view self.now.input)) true spot.new (held memory.new))) }
-        ensures sound { OnOk result (IsHeld (program_of self.now.program.now) (Input.view self.now.input) (held memory.new)) }
+        ensures leads { OnOk result (Steps (world Input.view self.now) spot.old (held memory.old) spot.new (held memory.new) (Some true)) }
+        ensures sound { OnOk result (IsHeldIn (world Input.view self.now) (held memory.new)) }
     {
         let more = left(turn.repetition, count);
         let Some(taken) = taken_ahead(self.program, &self.input, turn.class, more, spot.offset)
@@ -162,12 +157,12 @@ impl<'a, Input: CharInput> Attempt<'a, Input> {
         spot: &mut Spot,
     ) -> Result<(), AllocError>
         requires suits { Suits (program_of self.now.program.now) (Input.view self.now.input) }
-        requires sound { IsHeld (program_of self.now.program.now) (Input.view self.now.input) (held memory.old) }
+        requires sound { IsHeldIn (world Input.view self.now) (held memory.old) }
         requires stands { Stands (program_of self.now.program.now) spot.old.at (alt second) }
         requires room { spot.old.at + 1 < 2 ^ 64 }
         requires place { IsAtPlace (reading_of (Input.view self.now.input)) spot.old.offset }
-        ensures leads { OnOk result (Leads (program_of self.now.program.now) (input_of (Input.view self.now.input)) 1 (task (program_of self.now.program.now) (input_of (Input.view self.now.input)) true spot.old (held memory.old)) (task (program_of self.now.program.now) (input_of (Input.view self.now.input)) true spot.new (held memory.new))) }
-        ensures sound { OnOk result (IsHeld (program_of self.now.program.now) (Input.view self.now.input) (held memory.new)) }
+        ensures leads { OnOk result (Steps (world Input.view self.now) spot.old (held memory.old) spot.new (held memory.new) (Some true)) }
+        ensures sound { OnOk result (IsHeldIn (world Input.view self.now) (held memory.new)) }
     {
         if spot.forward {
             if let Some(turn) = self.turn(spot.at, second) {

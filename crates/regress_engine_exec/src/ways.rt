@@ -1,24 +1,23 @@
 //! Where it continues at once, since one of two ways surely leads nowhere.
-ghost use Rattle.std.specs.Prelude.{◌≡◌, ◌+◌, ◌^◌, ◌<◌, ℕ, true, Some};
-ghost use Rattle.regress_meaning.specs.Meaning.{Forward as ahead};
+ghost use Rattle.std.specs.Prelude.{◌+◌, ◌^◌, ◌<◌, ℕ, true, Some};
 ghost use Rattle.regress_engine_insn.specs.Instructions.{Stands, alt};
 ghost use Rattle.regress_engine_code.specs.Standing.{program_of};
-ghost use Rattle.regress_engine_input.specs.Views.{input_of, in_bytes, unit_beside};
 ghost use Rattle.regress_engine_search.specs.Search.{Suits};
-ghost use Rattle.regress_engine_exec.specs.Trying.{IsWay};
+ghost use Rattle.regress_engine_exec.specs.Attempts.{world};
+ghost use Rattle.regress_engine_exec.specs.Trying.{IsWayIn, StandsAhead};
 
 use crate::attempt::Attempt;
 use regress_engine_advance::{is_dead_ahead, is_dead_behind, next_byte};
 use regress_engine_insn::Insn;
-use regress_engine_matchers::CharInput;
+use regress_engine_search::ExecutorInput;
 
-impl<'a, Input: CharInput> Attempt<'a, Input> {
+impl<'a, Input: ExecutorInput> Attempt<'a, Input> {
     /// The address at which it continues from one, read forward, where this byte stands ahead: as long as one of two ways
     /// surely leads nowhere, by the other.
     #[inline(always)]
     fn way_ahead(&self, start: usize, byte: u8) -> usize
         requires { Suits (program_of self.now.program.now) (Input.view self.now.input) }
-        ensures { (o : ℕ) → Some byte ≡ in_bytes (Input.view self.now.input).kind (unit_beside (Input.view self.now.input).units ahead o) → IsWay (program_of self.now.program.now) (input_of (Input.view self.now.input)) true o start result }
+        ensures { (o : ℕ) → StandsAhead (world Input.view self.now) byte o → IsWayIn (world Input.view self.now) true o start result }
     {
         let insns = self.program.insns();
         let mut at = start;
@@ -49,7 +48,7 @@ impl<'a, Input: CharInput> Attempt<'a, Input> {
         requires suits { Suits (program_of self.now.program.now) (Input.view self.now.input) }
         requires stands { Stands (program_of self.now.program.now) at (alt second) }
         requires room { at + 1 < 2 ^ 64 }
-        ensures { IsWay (program_of self.now.program.now) (input_of (Input.view self.now.input)) forward offset at result }
+        ensures { IsWayIn (world Input.view self.now) forward offset at result }
     {
         if forward {
             return match next_byte(&self.input, offset) {

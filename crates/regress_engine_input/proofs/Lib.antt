@@ -15,3 +15,4 @@ pub mod UnitReferences
 pub mod Utf16References
 pub mod GoingBack
 pub mod KindLemmas
+pub mod LowUnits

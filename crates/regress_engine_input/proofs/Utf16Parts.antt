@@ -1,11 +1,11 @@
 -- Units of UTF-16, cut at the offset of a place: the characters before it stand before it, and the others behind.
 use Rattle.std.specs.Prelude.{slice_get, sum_by, nat_lt}
-use Rattle.std.proofs.Common.{◌≡◌, ◌⊎◌, inl, inr, ℕ, zero, suc, ◌+◌, ◌-◌, ◌/◌, ◌%◌, ◌<◌, ◌≤◌, Bool, true, false, List, [], ◌∷◌, ◌++◌, append_assoc, length, take, drop, Option, Some, None, if◌then◌else◌, All, refl, sym, ap, ap₂, ◌∙◌, subst, arith, length-append}
+use Rattle.std.proofs.Common.{◌≡◌, ◌⊎◌, inl, inr, ℕ, zero, suc, ◌+◌, ◌-◌, ◌/◌, ◌%◌, ◌<◌, ◌≤◌, Bool, true, false, List, [], ◌∷◌, ◌++◌, append_assoc, length, take, drop, Option, Some, None, if◌then◌else◌, All, refl, sym, ap, ap₂, ◌∙◌, subst, arith, length-append, length-take}
 use Rattle.std.proofs.Math.Seq.{take-append_seam, drop-append_seam}
 use Rattle.std.proofs.lemmas.Option.{slice_get_past}
 use Rattle.std.proofs.lemmas.List.{take-append-drop}
 use Rattle.std.proofs.lemmas.List.Sums.{sum_by-cons}
-use Rattle.std.proofs.lemmas.List.Elements.{All-head, All-tail}
+use Rattle.std.proofs.lemmas.List.Elements.{All-head, All-tail, All-take}
 use Rattle.std.proofs.lemmas.Bool.{cases_lt}
 use Rattle.std.proofs.lemmas.Bool.Decides.{nat_tests}
 use Rattle.regress_meaning.specs.Tokens.{joined}
@@ -192,3 +192,21 @@ module _ (units : List ℕ) (short : All IsShort units) where
           let same : p ≡ length points = omega arith in
           let end : length units ≤ o = let e = ap (offset (of_utf16 units)) same ∙ utf16_end units short in omega (arith, e) in
           ap (pair_of (unit_before units o)) (slice_get_past units o end) ∙ none-outside (unit_before units o)
+
+  -- outside a pair there is a place
+  pub place-at : (at : ℕ) → at ≤ length units → splits units at ≡ false → (place : ℕ) × (place ≤ length (characters units)) × (offset (of_utf16 units) place ≡ at)
+  place-at at room outside =
+      let xs = take at units in
+      let ys = drop at units in
+      let whole : xs ++ ys ≡ units = take-append-drop at units in
+      let size : length xs ≡ at = let e = length-take at units in omega (arith, e, room) in
+      let seam : splits (xs ++ ys) (length xs) ≡ false = ap₂ splits whole size ∙ outside in
+      let cut : characters units ≡ characters xs ++ characters ys = ap characters (sym whole) ∙ characters-append xs ys seam in
+      let front : take (length (characters xs)) (characters units) ≡ characters xs = ap (take (length (characters xs))) cut ∙ take-append_seam (characters xs) (characters ys) in
+      let width : sum_by wide (characters xs) ≡ at =
+      sym (length-spells (characters xs)) ∙ ap length (spells-characters xs (All-take IsShort at units short)) ∙ size in
+      let joined = ap length cut in
+      (length (characters xs), let e = length-fits (characters xs) (characters ys) in omega (arith, e, joined), ap (sum_by wide) front ∙ width)
+    where
+      length-fits : (cs ds : List ℕ) → length cs ≤ length (cs ++ ds)
+      length-fits cs ds = let e = length-append cs ds in omega (arith, e)

@@ -95,6 +95,10 @@ past_unit Backward o = o - 1
 abbrev pub in_bytes : {A : Type 0} → Kind → Option A → Option A
 in_bytes kind found = if are_bytes kind then found else None
 
+-- what is found in 16-bit units, and over bytes nothing
+abbrev pub in_units : {A : Type 0} → Kind → Option A → Option A
+in_units kind found = if are_bytes kind then None else found
+
 -- an offset so many units on, or none past the end of the text
 abbrev pub moved_right : View → ℕ → ℕ → Option ℕ
 moved_right v o n = only_if (nat_le (o + n) (length v.units)) (o + n)

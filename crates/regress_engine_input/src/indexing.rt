@@ -3,7 +3,7 @@ ghost use Rattle.std.specs.Prelude.{Some, ◌≡◌, ◌≤◌, ◌-◌, ℕ, op
 ghost use Rattle.regress_meaning.specs.Meaning.{Forward as forward, Backward as backward};
 ghost use Rattle.regress_meaning.specs.Steps.{point, only_if, literal};
 ghost use Rattle.regress_front_tables.specs.TableViews.{table};
-ghost use Rattle.regress_engine_input.specs.Views.{View, direction_of, are_bytes, input_of, CanRead, LiesIn, behind, unit_beside, in_bytes, moved_right, found_from, units_repeated, AreOfKind};
+ghost use Rattle.regress_engine_input.specs.Views.{View, direction_of, are_bytes, input_of, CanRead, LiesIn, behind, unit_beside, in_bytes, in_units, moved_right, found_from, units_repeated, AreOfKind};
 
 use crate::bytes::{byte_left, byte_right, slice_beside};
 use crate::cursor::Direction;
@@ -102,6 +102,10 @@ pub trait InputIndexer: Debug + Copy {
     /// The bytes that hold the text, or `None` over units.
     fn bytes(&self) -> Option<&[u8]>
         ensures { option_map (λ bytes. bytes.now) result ≡ in_bytes (view self.now).kind (Some (view self.now).units) };
+
+    /// The 16-bit units that hold the text, or `None` over bytes.
+    fn units(&self) -> Option<&[u16]>
+        ensures { option_map (λ units. units.now) result ≡ in_units (view self.now).kind (Some (view self.now).units) };
 
     /// The byte to the right of a position; `None` at the end, and over units, which are no bytes.
     #[inline]

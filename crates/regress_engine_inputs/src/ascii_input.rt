@@ -106,6 +106,11 @@ impl<'u, 't> InputIndexer for AsciiInput<'u, 't> {
     }
 
     #[inline]
+    fn units(&self) -> Option<&[u16]> {
+        None
+    }
+
+    #[inline]
     fn right_end(&self) -> Self::Position {
         DefPosition::new(self.text.len())
     }

@@ -97,6 +97,11 @@ impl<'u, 't> InputIndexer for Ucs2Input<'u, 't> {
     }
 
     #[inline]
+    fn units(&self) -> Option<&[u16]> {
+        Some(self.units)
+    }
+
+    #[inline]
     fn right_end(&self) -> Self::Position {
         DefPosition::new(self.units.len())
     }

@@ -117,6 +117,11 @@ impl<'u, 't> InputIndexer for Utf8Input<'u, 't> {
     }
 
     #[inline]
+    fn units(&self) -> Option<&[u16]> {
+        None
+    }
+
+    #[inline]
     fn right_end(&self) -> Self::Position {
         DefPosition::new(self.text.len())
     }

@@ -10,7 +10,7 @@ use Rattle.std.proofs.lemmas.Bool.Decides.{nat_tests}
 use Rattle.std.proofs.Math.Bool.{or-false}
 use Rattle.std.proofs.lemmas.List.{map-append, take_more, get_or-map, length-map}
 use Rattle.std.proofs.lemmas.List.Folds.{list_any-append}
-use Rattle.std.proofs.lemmas.List.Elements.{All-head, All-tail, All-push}
+use Rattle.std.proofs.lemmas.List.Elements.{All-head, All-push}
 use Rattle.std.proofs.lemmas.Option.{slice_get_within}
 use Rattle.std.proofs.lemmas.Str.{encode_ascii}
 use Rattle.regress_meaning.specs.Text.{holds, between}
@@ -19,6 +19,7 @@ use Rattle.regress_front_sets.specs.declared.interval.Interval.{Interval}
 use Rattle.regress_front_sets.specs.Intervals.{ends, ends_of, in_interval}
 use Rattle.regress_front_sets.specs.FirstBytes.{BeginsSome}
 use Rattle.regress_front_sets.proofs.FirstByteLemmas.{lead, lead-first, lead-unique}
+use Rattle.regress_engine_scanning.proofs.AsciiLemmas.{All-holds}
 use Rattle.regress_engine_prefix.specs.FirstBytes.{BeginsOneOf, AreFirstOf, MayLead, begins_one, AreFirstOfStrings}
 
 -- a first byte may be one
@@ -86,12 +87,6 @@ AreFirstOf-same test same set alike first = record { each = λ b. (here b, there
 
     there : (b : ℕ) → BeginsOneOf same b → set b ≡ true
     there b (c, below, passes, begins) = (first.each b).1 (c, below, alike c below ∙ passes, begins)
-
--- what holds of each member of a list holds of what it holds
-All-holds : (P : ℕ → Type 0) (bs : List ℕ) (c : ℕ) → All P bs → holds bs c ≡ true → P c
-All-holds P [] c h e = absurd (cc)
-All-holds P (b ∷ bs) c h e =
-    by_either (b == c) (holds bs c) e (λ same. subst P (eqb-true b c same) (All-head P b bs h)) (All-holds P bs c (All-tail P b bs h))
 
 -- ASCII characters are their own first bytes
 pub AreFirstOf-ascii : (bs : List ℕ) (set : ℕ → Bool) → All (λ b. b < 0x80) bs → ((b : ℕ) → set b ≡ holds bs b) → AreFirstOf (holds bs) set

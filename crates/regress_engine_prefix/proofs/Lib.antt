@@ -3,5 +3,8 @@ pub mod PrefixLemmas
 pub mod ServingLemmas
 pub mod StartLemmas
 pub mod PrefilterLemmas
-pub mod LandmarkLemmas
 pub mod ReachLemmas
+pub mod PairLemmas
+pub mod SecondLemmas
+pub mod WordLemmas
+pub mod UnitLemmas

@@ -27,7 +27,7 @@ use Rattle.regress_front_bytes.proofs.TextLemmas.{chars-code_points}
 use Rattle.regress_engine_prefix.specs.FirstBytes.{AreFirstOf, MayLead, begins_one, AreFirstOfStrings}
 use Rattle.regress_engine_prefix.specs.Prefixes.{IsLawful, first_literal, HasBytes, Holds, HoldsFrom, IsWeaker, LeadsCharacters, Foretells}
 use Rattle.regress_engine_prefix.specs.declared.prefix.Prefix.{Prefix}
-use Rattle.regress_engine_prefix.specs.declared.prefix.Prefix.TheVariants.{Still, Unknown, Start, Bytes, First}
+use Rattle.regress_engine_prefix.specs.declared.prefix.Prefix.TheVariants.{Still, Unknown, Start, Bytes, First, Pair}
 use Rattle.regress_engine_prefix.proofs.LeadLemmas.{MayLead-of, MayLead-first, AreFirstOf-same, first-in, has-lead}
 use Rattle.regress_front_sets.proofs.FirstByteLemmas.{lead}
 
@@ -38,6 +38,7 @@ elsewhere Unknown other place bs e f h = h
 elsewhere Start other place bs e f h = h
 elsewhere (Bytes v) other place bs e f h = h
 elsewhere (First m) other place bs e f h = h
+elsewhere (Pair m n) other place bs e f h = h
 
 -- what holds of a state's only outcome
 one-state : (Q : State → Type 0) (s : State) → Q s → All Q (s ∷ [])
@@ -110,7 +111,7 @@ Foretells-unknown t spelled = record { each = λ context valid s k d h. tt; lead
 
 module _ (w : Context) (valid : All is_code_point w.text) (s : State) where
   -- what holds where the text goes on with characters that pass
-  step-told : (Q : Type 0) (k : ℕ) (test : List ℕ → Bool)
+  pub step-told : (Q : Type 0) (k : ℕ) (test : List ℕ → Bool)
       → ((cs rest : List ℕ) → All is_code_point cs → test cs ≡ true → drop s.place w.text ≡ cs ++ rest → length cs ≡ k → Q)
       → All (λ (u : State). Q) (step w Forward k test s)
   unfolding step beside
@@ -137,7 +138,7 @@ module _ (w : Context) (valid : All is_code_point w.text) (s : State) where
           (sym (take-append-drop (s.place + k - s.place) (drop s.place w.text)))
           (length-take-le (s.place + k - s.place) (drop s.place w.text) (omega (arith, length-drop s.place w.text)) ∙ omega arith))
 
-slice_get-front : (xs ys : List ℕ) (b : ℕ) → slice_get xs 0 ≡ Some b → slice_get (xs ++ ys) 0 ≡ Some b
+pub slice_get-front : (xs ys : List ℕ) (b : ℕ) → slice_get xs 0 ≡ Some b → slice_get (xs ++ ys) 0 ≡ Some b
 slice_get-front [] ys b e = absurd (cc)
 slice_get-front (x ∷ xs) ys b e = e
 

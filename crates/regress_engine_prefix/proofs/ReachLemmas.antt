@@ -22,13 +22,13 @@ use Rattle.regress_front_nodes.proofs.SequenceLemmas.{cat_of-append}
 use Rattle.regress_front_nodes.proofs.StepLemmas.{flat_map-self}
 use Rattle.regress_front_sets.proofs.FirstByteLemmas.{lead}
 use Rattle.regress_engine_prefix.proofs.LeadLemmas.{has-lead}
-use Rattle.regress_engine_prefix.proofs.LandmarkLemmas.{is-byte, byte-is}
+use Rattle.regress_engine_scanning.proofs.LandmarkLemmas.{is-byte, byte-is}
 use Rattle.regress_engine_prefix.proofs.PrefixLemmas.{Foretells-no_part}
 use Rattle.regress_engine_prefix.specs.Prefixes.{Foretells}
 use Rattle.regress_engine_prefix.specs.declared.prefix.Prefix.TheVariants.{Still, Bytes, First}
-use Rattle.regress_engine_prefix.specs.Landmarks.{run_then}
+use Rattle.regress_engine_scanning.specs.Landmarks.{run_then}
 use Rattle.regress_engine_prefix.specs.Reaches.{Takes, TakesNothing, CoversOne, StandsAt, HoldsTo, IsBoth, Reaches, TakesOne}
-use Rattle.regress_engine_prefix.specs.declared.landmark.Landmark.TheVariants.{Ahead, BehindRun}
+use Rattle.regress_engine_scanning.specs.declared.landmark.Landmark.TheVariants.{Ahead, BehindRun}
 use Rattle.regress_engine_prefix.specs.declared.reach.Span.{Span}
 use Rattle.regress_engine_prefix.specs.declared.reach.Reach.{Reach}
 use Rattle.regress_engine_prefix.specs.declared.reach.Reach.TheVariants.{Unknown, Taken, By}
@@ -115,11 +115,11 @@ TakesOne-bracket inverted intervals = record { each = λ context s. steps-one co
 -- ---- bytes that stand there
 
 -- some bytes and the byte behind them: the byte is so many bytes on
-front-get : (xs ys : List ℕ) (n : ℕ) → slice_get (xs ++ ys) (length xs + n) ≡ slice_get ys n
+pub front-get : (xs ys : List ℕ) (n : ℕ) → slice_get (xs ++ ys) (length xs + n) ≡ slice_get ys n
 front-get [] ys n = let e : 0 + n ≡ n = omega arith in ap (slice_get ys) e
 front-get (x ∷ xs) ys n = let e : suc (length xs) + n ≡ suc (length xs + n) = omega arith in ap (slice_get (x ∷ (xs ++ ys))) e ∙ front-get xs ys n
 
-whole-text : (text : List ℕ) (place : ℕ) → encode_utf8_all text ≡ encode_utf8_all (take place text) ++ encode_utf8_all (drop place text)
+pub whole-text : (text : List ℕ) (place : ℕ) → encode_utf8_all text ≡ encode_utf8_all (take place text) ++ encode_utf8_all (drop place text)
 whole-text text place = ap encode_utf8_all (sym (take-append-drop place text)) ∙ encodes-append (take place text) (drop place text)
 
 -- the byte so many bytes behind a place
@@ -343,7 +343,7 @@ module _ (run : ℕ → Bool) (others : (b : ℕ) → 0x80 ≤ b → b < 0xC0 �
   next-in bits = others (128 + bits % 64) (omega arith) (omega arith)
 
   -- the first is in the set, and the others go on with a character
-  all-bytes : (c : ℕ) → run (lead c) ≡ true → list_all run (encode c) ≡ true
+  pub all-bytes : (c : ℕ) → run (lead c) ≡ true → list_all run (encode c) ≡ true
   unfolding encode lead
   all-bytes c first = go (nat_lt c 128) (nat_lt c 2048) (nat_lt c 65536) first
     where
@@ -356,18 +356,18 @@ module _ (run : ℕ → Bool) (others : (b : ℕ) → 0x80 ≤ b → b < 0xC0 �
       go false false false h = rw (h, next-in (c / 4096), next-in (c / 64), next-in c) refl
 
 -- ASCII is taken as it is
-low-lead : (c : ℕ) → c ≤ 0x10_FFFF → lead c < 128 → c < 128
+pub low-lead : (c : ℕ) → c ≤ 0x10_FFFF → lead c < 128 → c < 128
 unfolding lead
 low-lead c point low = grind (arith, nat_tests)
 
-small-lead : (c : ℕ) → c ≤ 0x10_FFFF → lead c < 256
+pub small-lead : (c : ℕ) → c ≤ 0x10_FFFF → lead c < 256
 unfolding lead
 small-lead c point = grind (arith, nat_tests)
 
-lead-passes : (c : ℕ) (first : ℕ → Bool) → is_some_and (slice_get (encode_utf8 c) 0) first ≡ true → first (lead c) ≡ true
+pub lead-passes : (c : ℕ) (first : ℕ → Bool) → is_some_and (slice_get (encode_utf8 c) 0) first ≡ true → first (lead c) ≡ true
 lead-passes c first h = sym (ap (λ (o : Option ℕ). is_some_and o first) (has-lead c)) ∙ h
 
-one-char : (c : ℕ) → encode_utf8_all (c ∷ []) ≡ encode_utf8 c
+pub one-char : (c : ℕ) → encode_utf8_all (c ∷ []) ≡ encode_utf8 c
 one-char c = append-nil (encode_utf8 c)
 
 pub CoversOne-ascii : (first : ℕ → Bool) (span : Span) → ((b : ℕ) → b < 256 → first b ≡ true → b < 0x80)

@@ -20,20 +20,21 @@ use Rattle.regress_front_bytes.proofs.TextLemmas.{length-encodes, chars-code_poi
 use Rattle.regress_engine_prefix.specs.FirstBytes.{MayLead}
 use Rattle.regress_engine_prefix.specs.Prefixes.{Holds, HoldsFrom, first_literal, HasBytes, Foretells}
 use Rattle.regress_front_bytes.specs.declared.bitmaps.ByteBitmap.{ByteBitmap}
-use Rattle.regress_engine_prefix.specs.Landmarks.{stands}
+use Rattle.regress_engine_scanning.specs.Landmarks.{stands}
 use Rattle.regress_engine_prefix.specs.Reaches.{StandsAt, Reaches}
-use Rattle.regress_engine_prefix.specs.declared.landmark.Landmark.{Landmark}
+use Rattle.regress_engine_scanning.specs.declared.landmark.Landmark.{Landmark}
 use Rattle.regress_engine_prefix.specs.declared.reach.Reach.TheVariants.{By}
-use Rattle.regress_engine_prefix.proofs.LandmarkLemmas.{begins-parts, begins-both}
+use Rattle.regress_engine_scanning.proofs.LandmarkLemmas.{begins-parts, begins-both}
 use Rattle.regress_engine_prefix.specs.Starts.{SaysNoMore, HitsBoundaries, IsAnchoredOnlyIf, IsAtStart, HoldsAtStart, IsSequence, KeepsSequence, KeepsLiteral, IsStartOf}
 use Rattle.regress_engine_prefix.specs.declared.prefix.Prefix.{Prefix}
 use Rattle.regress_engine_prefix.specs.declared.start.StartPredicate.{StartPredicate}
-use Rattle.regress_engine_prefix.specs.declared.prefix.Prefix.TheVariants.{Still, Unknown, Start, Bytes, First}
+use Rattle.regress_engine_prefix.specs.declared.prefix.Prefix.TheVariants.{Still, Unknown, Start, Bytes, First, Pair}
 use Rattle.regress_engine_prefix.specs.declared.start.StartPredicate.TheVariants.{Arbitrary, ByteSet1, ByteSet2, ByteSet3, ByteSeq, ByteBracket, ByteNear, StartAnchored}
+use Rattle.regress_engine_prefix.specs.declared.start.StartPredicate.TheVariants as variant
 
 -- ---- bytes at an offset
 
-slice_get-drop : (xs : List ℕ) (n : ℕ) → slice_get (drop n xs) 0 ≡ slice_get xs n
+pub slice_get-drop : (xs : List ℕ) (n : ℕ) → slice_get (drop n xs) 0 ≡ slice_get xs n
 slice_get-drop xs zero = refl
 slice_get-drop [] (suc n) = refl
 slice_get-drop (x ∷ xs) (suc n) = slice_get-drop xs n
@@ -66,7 +67,7 @@ test-boundary bytes at test leads e = go (slice_get bytes at) refl e
     go None same h = absurd (cc)
     go (Some b) same h = byte-boundary bytes at b same (leads b h)
 
-front-first : (front zs : List ℕ) → 0 < length front → take (length front) zs ≡ front → slice_get zs 0 ≡ slice_get front 0
+pub front-first : (front zs : List ℕ) → 0 < length front → take (length front) zs ≡ front → slice_get zs 0 ≡ slice_get front 0
 front-first [] zs some e = absurd (omega arith)
 front-first (x ∷ xs) [] some e = absurd (cc)
 front-first (x ∷ xs) (z ∷ zs) some e = let same : z ≡ x = cc in ap Some same
@@ -141,7 +142,7 @@ held-leads test array is leads b e = leads b (filter-passes test all_bytes b (rw
 -- ---- from prefixes to predicates
 
 -- the bytes of a text from the offset of a place on are those of the characters from there
-rest-of-text : (bytes : List ℕ) → IsUtf8 bytes → (p : ℕ) → drop (offset (of_utf8 bytes) p) bytes ≡ encode_utf8_all (drop p (chars bytes))
+pub rest-of-text : (bytes : List ℕ) → IsUtf8 bytes → (p : ℕ) → drop (offset (of_utf8 bytes) p) bytes ≡ encode_utf8_all (drop p (chars bytes))
 rest-of-text bytes utf8 p =
     let cs = chars bytes in
     let front = encode_utf8_all (take p cs) in
@@ -149,10 +150,10 @@ rest-of-text bytes utf8 p =
     let cut : bytes ≡ front ++ back = sym (encodes-chars bytes utf8) ∙ ap encode_utf8_all (sym (take-append-drop p cs)) ∙ encodes-append (take p cs) (drop p cs) in
     ap (drop (offset (of_utf8 bytes) p)) cut ∙ drop_at front back (offset (of_utf8 bytes) p) (length-encodes (take p cs))
 
-offset-start : (bytes : List ℕ) (p : ℕ) → p ≡ 0 → offset (of_utf8 bytes) p ≡ 0
+pub offset-start : (bytes : List ℕ) (p : ℕ) → p ≡ 0 → offset (of_utf8 bytes) p ≡ 0
 offset-start bytes p e = rw e refl
 
-some-holds : (prefix : Prefix) (context : Context) (s : State) (us : List State) → us ≢ [] → HoldsFrom prefix context s us
+pub some-holds : (prefix : Prefix) (context : Context) (s : State) (us : List State) → us ≢ [] → HoldsFrom prefix context s us
     → (e : ℕ) × Holds prefix s.place (encode_utf8_all (drop s.place context.text)) e
 some-holds prefix context s [] some h = absurd (some refl)
 some-holds prefix context s (u ∷ us) some h =
@@ -175,6 +176,7 @@ holds-at_start StartAnchored Still t is told = absurd is
 holds-at_start StartAnchored Unknown t is told = absurd is
 holds-at_start StartAnchored (Bytes _) t is told = absurd is
 holds-at_start StartAnchored (First _) t is told = absurd is
+holds-at_start StartAnchored (Pair _ _) t is told = absurd is
 holds-at_start Arbitrary prefix t is told = tt
 holds-at_start (ByteSet1 _) prefix t is told = tt
 holds-at_start (ByteSet2 _) prefix t is told = tt
@@ -182,6 +184,8 @@ holds-at_start (ByteSet3 _) prefix t is told = tt
 holds-at_start (ByteSeq _) prefix t is told = tt
 holds-at_start (ByteBracket _) prefix t is told = tt
 holds-at_start (ByteNear _ _) prefix t is told = tt
+holds-at_start (variant.BytePair _) prefix t is told = tt
+holds-at_start (variant.WordStart _) prefix t is told = tt
 
 -- what is known of a literal is looked for
 pub keeps-literal : (start : StartPredicate) (prefix : Prefix) (t : Tree) → KeepsSequence prefix start → Foretells prefix t → KeepsLiteral t start

@@ -24,3 +24,7 @@ begins_one strings c = list_any (λ cs. is_some_and (slice_get cs 0) (λ d. d ==
 pub record AreFirstOfStrings (strings : List (List ℕ)) (set : ℕ → Bool) : Type 0 where
   pub some : All (λ cs. 0 < length cs) strings
   pub first : AreFirstOf (begins_one strings) set
+
+-- a code point has a second byte in UTF-8, and it passes
+abbrev pub HasSecond : (ℕ → Bool) → ℕ → Type 0
+HasSecond test c = is_code_point c → is_some_and (slice_get (encode_utf8 c) 1) test ≡ true

@@ -2,6 +2,7 @@
 use Rattle.std.specs.Prelude.{◌≡◌, ℕ, true, List, length, take, drop, slice_get, All, Option, Some, None, IfSome, encode_utf8_all}
 use Rattle.regress_meaning.specs.TableParts.{is_code_point}
 use Rattle.regress_meaning.specs.Meaning.{Context, State, Forward, is_some_and}
+use Rattle.regress_front_bytes.specs.declared.bitmaps.ByteBitmap.{ByteBitmap}
 use Rattle.regress_front_bytes.specs.Bitmaps.{byte_bitmap_contains}
 use Rattle.regress_front_nodes.specs.Trees.{Tree}
 use Rattle.regress_front_nodes.specs.Trees as node
@@ -9,7 +10,7 @@ use Rattle.regress_front_nodes.specs.TreeMeaning.{node_outcomes}
 use Rattle.regress_front_nodes.specs.WellFormed.{AreLawful}
 use Rattle.regress_engine_prefix.specs.FirstBytes.{MayLead}
 use Rattle.regress_engine_prefix.specs.declared.prefix.Prefix.{Prefix}
-use Rattle.regress_engine_prefix.specs.declared.prefix.Prefix.TheVariants.{Still, Unknown, Start, Bytes, First}
+use Rattle.regress_engine_prefix.specs.declared.prefix.Prefix.TheVariants.{Still, Unknown, Start, Bytes, First, Pair}
 
 -- each node of the tree is as it has to be, for some number of groups
 abbrev pub IsLawful : Tree → Type 0
@@ -22,6 +23,8 @@ Holds Unknown place bytes end = Unit {0}
 Holds Start place bytes end = place ≡ 0
 Holds (Bytes front) place bytes end = take (length front.items) bytes ≡ front.items
 Holds (First set) place bytes end = is_some_and (slice_get bytes 0) (byte_bitmap_contains set) ≡ true
+Holds (Pair first second) place bytes end =
+    (is_some_and (slice_get bytes 0) (byte_bitmap_contains first) ≡ true) × (is_some_and (slice_get bytes 1) (byte_bitmap_contains second) ≡ true)
 
 -- it holds of each outcome from a state
 abbrev pub HoldsFrom : Prefix → Context → State → List State → Type 0
@@ -31,10 +34,16 @@ HoldsFrom prefix context s outcomes = All (λ u. Holds prefix s.place (encode_ut
 abbrev pub IsWeaker : Prefix → Prefix → Type 0
 IsWeaker weak strong = (place : ℕ) (bytes : List ℕ) (end : ℕ) → Holds strong place bytes end → Holds weak place bytes end
 
+-- where the prefix holds, a byte of the set stands second
+abbrev pub HasSecondByte : Prefix → ByteBitmap → Type 0
+HasSecondByte prefix set =
+    (place : ℕ) (bytes : List ℕ) (end : ℕ) → Holds prefix place bytes end → is_some_and (slice_get bytes 1) (byte_bitmap_contains set) ≡ true
+
 -- known bytes begin with the first byte of a character
 abbrev pub LeadsCharacters : Prefix → Type 0
 LeadsCharacters (Bytes front) = (b : ℕ) → slice_get front.items 0 ≡ Some b → MayLead b
 LeadsCharacters (First set) = (b : ℕ) → byte_bitmap_contains set b ≡ true → MayLead b
+LeadsCharacters (Pair first second) = (b : ℕ) → byte_bitmap_contains first b ≡ true → MayLead b
 LeadsCharacters _ = Unit {0}
 
 -- the literal with which a tree begins

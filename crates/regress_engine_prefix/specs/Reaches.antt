@@ -6,8 +6,8 @@ use Rattle.regress_meaning.specs.Meaning.{Context, State, Forward, is_some_and}
 use Rattle.regress_front_bytes.specs.Bitmaps.{byte_bitmap_contains}
 use Rattle.regress_front_nodes.specs.Trees.{Tree}
 use Rattle.regress_front_nodes.specs.TreeMeaning.{node_outcomes}
-use Rattle.regress_engine_prefix.specs.Landmarks.{stands}
-use Rattle.regress_engine_prefix.specs.declared.landmark.Landmark.{Landmark}
+use Rattle.regress_engine_scanning.specs.Landmarks.{stands}
+use Rattle.regress_engine_scanning.specs.declared.landmark.Landmark.{Landmark}
 use Rattle.regress_engine_prefix.specs.declared.reach.Span.{Span}
 use Rattle.regress_engine_prefix.specs.declared.reach.Reach.{Reach}
 use Rattle.regress_engine_prefix.specs.declared.reach.Reach.TheVariants.{Unknown, Taken, By}

@@ -1,5 +1,5 @@
 -- What start predicates say of the bytes at an offset.
-use Rattle.std.specs.Prelude.{◌≡◌, ◌≢◌, ℕ, ◌≤◌, Bool, true, false, List, [], length, take, drop, slice_get, chars, All, IfSome}
+use Rattle.std.specs.Prelude.{◌≡◌, ◌≢◌, ℕ, ◌≤◌, Bool, true, false, List, [], length, take, drop, slice_get, chars, encode_utf8_all, All, IfSome}
 use Rattle.std.specs.Str.{IsUtf8, IsCharBoundary}
 use Rattle.regress_meaning.specs.Text.{holds}
 use Rattle.regress_meaning.specs.TableParts.{is_code_point}
@@ -8,12 +8,17 @@ use Rattle.regress_meaning.specs.Offsets.{of_utf8, offset}
 use Rattle.regress_front_bytes.specs.Bitmaps.{byte_bitmap_contains}
 use Rattle.regress_front_nodes.specs.Trees.{Tree}
 use Rattle.regress_front_nodes.specs.TreeMeaning.{node_outcomes}
-use Rattle.regress_engine_prefix.specs.Landmarks.{begins_by}
+use Rattle.regress_engine_scanning.specs.Units.{AreAscii}
+use Rattle.regress_engine_scanning.specs.BytePairs.{begins_pair}
+use Rattle.regress_engine_prefix.specs.FirstBytes.{MayLead}
+use Rattle.regress_engine_scanning.specs.Landmarks.{begins_by}
+use Rattle.regress_engine_scanning.specs.WordStarts.{begins_word}
 use Rattle.regress_engine_prefix.specs.Prefixes.{Holds, first_literal, HasBytes}
 use Rattle.regress_engine_prefix.specs.declared.prefix.Prefix.{Prefix}
 use Rattle.regress_engine_prefix.specs.declared.prefix.Prefix.TheVariants.{Start}
 use Rattle.regress_engine_prefix.specs.declared.start.StartPredicate.{StartPredicate}
 use Rattle.regress_engine_prefix.specs.declared.start.StartPredicate.TheVariants.{Arbitrary, ByteSet1, ByteSet2, ByteSet3, ByteSeq, ByteBracket, ByteNear, StartAnchored}
+use Rattle.regress_engine_prefix.specs.declared.start.StartPredicate.TheVariants as variant
 
 -- the bytes from the offset on begin as the predicate says
 abbrev pub BeginsAs : StartPredicate → List ℕ → ℕ → Type 0
@@ -24,6 +29,8 @@ BeginsAs (ByteSet3 set) bytes at = is_some_and (slice_get bytes at) (holds set) 
 BeginsAs (ByteSeq front) bytes at = take (length front.items) (drop at bytes) ≡ front.items
 BeginsAs (ByteBracket set) bytes at = is_some_and (slice_get bytes at) (byte_bitmap_contains set) ≡ true
 BeginsAs (ByteNear set landmark) bytes at = begins_by set landmark bytes at ≡ true
+BeginsAs (variant.BytePair pair) bytes at = begins_pair pair bytes at ≡ true
+BeginsAs (variant.WordStart word) bytes at = begins_word word bytes at ≡ true
 BeginsAs StartAnchored bytes at = at ≡ 0
 
 -- wherever the prefix holds, the bytes begin as the predicate says
@@ -79,13 +86,41 @@ tells_bytes Arbitrary = false
 tells_bytes StartAnchored = false
 tells_bytes _ = true
 
+-- each byte that it tells is below 0x80, and it tells no landmark, no pair and no word: so it may be told of 16-bit units too
+abbrev pub IsPlain : StartPredicate → Type 0
+IsPlain Arbitrary = Unit {0}
+IsPlain (ByteSet1 set) = AreAscii (holds set)
+IsPlain (ByteSet2 set) = AreAscii (holds set)
+IsPlain (ByteSet3 set) = AreAscii (holds set)
+IsPlain (ByteSeq front) = AreAscii (holds front.items)
+IsPlain (ByteBracket set) = AreAscii (byte_bitmap_contains set)
+IsPlain (ByteNear set landmark) = ⊥
+IsPlain (variant.BytePair pair) = ⊥
+IsPlain (variant.WordStart word) = ⊥
+IsPlain StartAnchored = Unit {0}
+
+-- each byte of its set is one with which a character may begin
+abbrev pub TellsLeads : StartPredicate → Type 0
+TellsLeads (ByteBracket set) = (b : ℕ) → byte_bitmap_contains set b ≡ true → MayLead b
+TellsLeads _ = Unit {0}
+
+-- a literal of two or more bytes below 0x80 with which a tree begins is looked for
+abbrev pub KeepsAscii : Tree → StartPredicate → Type 0
+KeepsAscii t start = IfSome (first_literal t) (λ bs. 2 ≤ length bs → AreAscii (holds bs) → IsSequence start bs)
+
+-- In each text of code points the bytes of the characters from a place on begin so, wherever the tree has an outcome.
+pub record BeginsCharacters (start : StartPredicate) (t : Tree) : Type 0 where
+  pub each : (context : Context) → All is_code_point context.text → (s : State) → node_outcomes context t Forward s ≢ []
+      → BeginsAs start (encode_utf8_all (drop s.place context.text)) 0
+
 -- A start predicate serves a tree, for a program of bytes or of units: the bytes begin so wherever the tree has an outcome, only
--- where a character begins or the text ends they begin so, and of units it tells the start of the text or nothing.
+-- where a character begins or the text ends they begin so, and for units it is plain, and characters begin so.
 pub record Serves (units : Bool) (t : Tree) (start : StartPredicate) : Type 0 where
   pub begins : IsStartOf start t
   pub boundary : HitsBoundaries start
   pub first : HoldsAtStart t start
-  pub bytes : units ≡ true → tells_bytes start ≡ false
+  pub plain : units ≡ true → IsPlain start
+  pub characters : units ≡ true → BeginsCharacters start t
 
 -- they are equal, a sequence in its bytes
 abbrev pub IsSameStart : StartPredicate → StartPredicate → Type 0

@@ -1,5 +1,5 @@
 //! The first bytes of sets of code points in UTF-8.
-ghost use Rattle.std.specs.Prelude.{◌<◌, ℕ, All, IfOk, IfSome, map};
+ghost use Rattle.std.specs.Prelude.{◌≡◌, ◌<◌, ◌≤◌, ℕ, true, Some, All, IfOk, IfSome, IsFalse, map, slice_get, encode_utf8};
 ghost use Rattle.std.specs.Box.{boxed_slice_items};
 ghost use Rattle.regress_meaning.specs.Text.{holds};
 ghost use Rattle.regress_meaning.specs.TableParts.{is_code_point, in_intervals};
@@ -7,7 +7,7 @@ ghost use Rattle.regress_front_bytes.specs.Bitmaps.{byte_bitmap_contains};
 ghost use Rattle.regress_front_sets.specs.Intervals.{ends_of};
 ghost use Rattle.regress_front_sets.specs.Sets.{ends_in};
 ghost use Rattle.regress_front_nodes.specs.TreeMeaning.{bracket_has};
-ghost use Rattle.regress_engine_prefix.specs.FirstBytes.{AreFirstOf, AreFirstOfStrings};
+ghost use Rattle.regress_engine_prefix.specs.FirstBytes.{AreFirstOf, AreFirstOfStrings, HasSecond};
 
 use regress_front_bytes::{ByteBitmap, utf8_first_byte};
 use regress_front_nodes::BracketContents;
@@ -79,6 +79,49 @@ pub(crate) fn first_of_strings(strings: &[BoxedSlice<CodePoint>]) -> Option<Byte
     for string in strings {
         let first = string.first()?;
         set.set(utf8_first_byte(*first));
+    }
+    Some(set)
+}
+
+/// These bytes, and all that go on with a character.
+pub(crate) fn with_continuations(first: ByteBitmap) -> ByteBitmap
+    ensures first { (b : ℕ) → byte_bitmap_contains first b ≡ true → byte_bitmap_contains result b ≡ true }
+    ensures others { (b : ℕ) → 0x80 ≤ b → b < 0xC0 → byte_bitmap_contains result b ≡ true }
+{
+    let mut run = first;
+    for byte in 0x80..0xC0 {
+        run.set(byte);
+    }
+    run
+}
+
+/// The second byte of a code point beyond ASCII in UTF-8.
+fn utf8_second_byte(cp: u32) -> u8
+    requires { (0x80 ≤ cp) × (cp ≤ 0x10_FFFF) }
+    ensures { slice_get (encode_utf8 cp) 1 ≡ Some result }
+{
+    let bits = if cp < 0x800 {
+        cp
+    } else if cp < 0x1_0000 {
+        cp / 64
+    } else {
+        cp / 4096
+    };
+    0x80 + (bits % 64) as u8
+}
+
+/// The second bytes of some code points in UTF-8, or `None` where one of them is ASCII.
+pub(crate) fn second_of_chars(chars: &[CodePoint]) -> Option<ByteBitmap>
+    ensures { IfSome result (λ set. All (HasSecond (byte_bitmap_contains set)) chars.now) }
+{
+    let mut set = ByteBitmap::default();
+    for c in chars {
+        if *c < 0x80 {
+            return None;
+        }
+        if *c <= CODE_POINT_MAX {
+            set.set(utf8_second_byte(*c));
+        }
     }
     Some(set)
 }

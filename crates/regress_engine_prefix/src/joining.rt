@@ -1,6 +1,6 @@
 //! What holds of the matches of a choice.
 ghost use Rattle.std.specs.Prelude.{◌≡◌, ◌≤◌, length, take, IfOk, IfSome};
-ghost use Rattle.regress_engine_prefix.specs.Prefixes.{IsWeaker, LeadsCharacters};
+ghost use Rattle.regress_engine_prefix.specs.Prefixes.{IsWeaker, LeadsCharacters, HasSecondByte};
 
 use crate::prefix::Prefix;
 use regress_front_bytes::ByteBitmap;
@@ -22,7 +22,7 @@ fn shared_len(first: &[u8], second: &[u8]) -> usize
 
 impl Prefix {
     /// The bytes that may stand first, where they are known.
-    fn first_bytes(&self) -> Option<ByteBitmap>
+    pub(crate) fn first_bytes(&self) -> Option<ByteBitmap>
         requires { LeadsCharacters self.now }
         ensures weaker { IfSome result (λ set. IsWeaker (Prefix.First set) self.now) }
         ensures leads { IfSome result (λ set. LeadsCharacters (Prefix.First set)) }
@@ -33,12 +33,28 @@ impl Prefix {
                 None => None,
             },
             Prefix::First(set) => Some(*set),
+            Prefix::Pair(first, _) => Some(*first),
+            _ => None,
+        }
+    }
+
+    /// The bytes that may stand second, where they are known.
+    fn second_bytes(&self) -> Option<ByteBitmap>
+        requires { LeadsCharacters self.now }
+        ensures { IfSome result (HasSecondByte self.now) }
+    {
+        match self {
+            Prefix::Bytes(bytes) => match bytes.get(1) {
+                Some(byte) => Some(ByteBitmap::new(&[*byte])),
+                None => None,
+            },
+            Prefix::Pair(_, second) => Some(*second),
             _ => None,
         }
     }
 }
 
-/// What holds where either of two holds, by the first bytes of both.
+/// What holds where either of two holds, by the first and the second bytes of both.
 fn by_first_bytes(first: &Prefix, second: &Prefix) -> Prefix
     requires first_leads { LeadsCharacters first.now }
     requires second_leads { LeadsCharacters second.now }
@@ -53,10 +69,16 @@ fn by_first_bytes(first: &Prefix, second: &Prefix) -> Prefix
         return Prefix::Unknown;
     };
     set.bitor(&others);
-    Prefix::First(set)
+    match (first.second_bytes(), second.second_bytes()) {
+        (Some(mut behind), Some(others)) => {
+            behind.bitor(&others);
+            Prefix::Pair(set, behind)
+        }
+        _ => Prefix::First(set),
+    }
 }
 
-/// What holds where either of two holds: the bytes in front of both, or else the first bytes of both.
+/// What holds where either of two holds: two or more bytes in front of both, or else the first and the second bytes of both.
 #[inline(never)]
 pub(crate) fn either(alloc: Global, first: &Prefix, second: &Prefix) -> Result<Prefix, AllocError>
     requires first_leads { LeadsCharacters first.now }
@@ -70,7 +92,7 @@ pub(crate) fn either(alloc: Global, first: &Prefix, second: &Prefix) -> Result<P
         (Prefix::Start, Prefix::Start) => Ok(Prefix::Start),
         (Prefix::Bytes(front), Prefix::Bytes(other)) => {
             let shared = shared_len(front, other);
-            if shared == 0 {
+            if shared < 2 {
                 return Ok(by_first_bytes(first, second));
             }
             Ok(Prefix::Bytes(front[..shared].to_vec(alloc)?))

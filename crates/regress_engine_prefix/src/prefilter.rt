@@ -1,14 +1,13 @@
 //! Where a search may go next.
-ghost use Rattle.std.specs.Prelude.{◌≡◌, ◌≤◌, ℕ, List, false, length, IfSome};
-ghost use Rattle.memchr.specs.Find.{IsFirstByte};
-ghost use Rattle.regress_meaning.specs.Text.{holds};
-ghost use Rattle.regress_engine_prefix.specs.Starts.{tells_bytes};
+ghost use Rattle.std.specs.Prelude.{◌≡◌, ◌≤◌, length, IfSome};
+ghost use Rattle.regress_engine_prefix.specs.Starts.{IsPlain};
 ghost use Rattle.regress_engine_prefix.specs.Prefiltering.{IsNextHit, is_anchored, literal_of};
 
-use crate::landmark::find_near;
 use crate::start::StartPredicate;
 use memchr::memmem::Finder;
-use memchr::{memchr, memchr2, memchr3};
+use regress_engine_scanning::{
+    find_byte_of, find_member, find_near, find_one, find_sequence, find_three, find_two,
+};
 use regress_front_bytes::ByteSearcher;
 
 /// Looks for what a start predicate says; a literal is prepared once.
@@ -18,27 +17,6 @@ pub struct Prefilter<'r> {
     pub start: &'r StartPredicate,
     literal: Finder<'r>,
     ghost prepared: { literal ≡ literal_of start.now },
-}
-
-/// Where a byte first stands.
-fn find_one(set: [u8; 1], bytes: &[u8]) -> Option<usize>
-    ensures { IsFirstByte (holds set) bytes.now result }
-{
-    memchr(set[0], bytes)
-}
-
-/// Where one of two bytes first stands.
-fn find_two(set: [u8; 2], bytes: &[u8]) -> Option<usize>
-    ensures { IsFirstByte (holds set) bytes.now result }
-{
-    memchr2(set[0], set[1], bytes)
-}
-
-/// Where one of three bytes first stands.
-fn find_three(set: [u8; 3], bytes: &[u8]) -> Option<usize>
-    ensures { IsFirstByte (holds set) bytes.now result }
-{
-    memchr3(set[0], set[1], set[2], bytes)
 }
 
 impl<'r> Prefilter<'r> {
@@ -67,23 +45,6 @@ impl<'r> Prefilter<'r> {
         matches!(self.start, StartPredicate::StartAnchored)
     }
 
-    /// The least offset from one on at which a text goes on as the predicate says, whatever the text holds. Asks for a predicate
-    /// that speaks of no bytes.
-    ///
-    /// ```rust
-    /// let start = prefilter.find_without_bytes(0); // of `^a` `Some(0)`, and from 1 on `None`
-    /// ```
-    pub fn find_without_bytes(&self, offset: usize) -> Option<usize>
-        requires { tells_bytes self.now.start.now ≡ false }
-        ensures { (units : List ℕ) → IsNextHit self.now.start.now units offset result }
-    {
-        if self.is_anchored() && offset > 0 {
-            None
-        } else {
-            Some(offset)
-        }
-    }
-
     /// The first index at which bytes go on as the predicate says, where they are all of the text.
     fn find_in(&self, bytes: &[u8]) -> Option<usize>
         ensures first { IsNextHit self.now.start.now bytes.now 0 result }
@@ -97,6 +58,8 @@ impl<'r> Prefilter<'r> {
             StartPredicate::ByteSeq(_) => self.literal.find(bytes),
             StartPredicate::ByteBracket(set) => set.find_in(bytes),
             StartPredicate::ByteNear(set, landmark) => find_near(set, *landmark, bytes, 0),
+            StartPredicate::BytePair(pair) => pair.find(bytes, 0),
+            StartPredicate::WordStart(word) => word.find(bytes, 0),
         }
     }
 
@@ -116,7 +79,35 @@ impl<'r> Prefilter<'r> {
         if let StartPredicate::ByteNear(set, landmark) = self.start {
             return find_near(set, *landmark, text, offset);
         }
+        if let StartPredicate::WordStart(word) = self.start {
+            return word.find(text, offset);
+        }
         let index = self.find_in(&text[offset..])?;
         Some(offset + index)
+    }
+
+    /// The same among 16-bit units, where a byte is the unit of the same number. Asks that the offset lies in the text, and for
+    /// a plain predicate, as `predicate_for_units` makes it.
+    ///
+    /// ```rust
+    /// let start = prefilter.find_from_units(&[0x61, 0x62], 0); // of `b` `Some(1)`
+    /// ```
+    pub fn find_from_units(&self, text: &[u16], offset: usize) -> Option<usize>
+        requires plain { IsPlain self.now.start.now }
+        requires inside { offset ≤ length text.now }
+        ensures { IsNextHit self.now.start.now text.now offset result }
+    {
+        match self.start {
+            StartPredicate::StartAnchored => (offset == 0).then_some(0),
+            StartPredicate::ByteSet1(set) => find_member(set, text, offset),
+            StartPredicate::ByteSet2(set) => find_member(set, text, offset),
+            StartPredicate::ByteSet3(set) => find_member(set, text, offset),
+            StartPredicate::ByteSeq(bytes) => find_sequence(bytes, text, offset),
+            StartPredicate::ByteBracket(set) => find_byte_of(set, text, offset),
+            StartPredicate::Arbitrary
+            | StartPredicate::ByteNear(..)
+            | StartPredicate::BytePair(_)
+            | StartPredicate::WordStart(_) => Some(offset),
+        }
     }
 }

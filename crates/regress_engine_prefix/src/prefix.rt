@@ -1,13 +1,19 @@
 //! What is known of a match of a node before it is made.
-ghost use Rattle.std.specs.Prelude.{◌≡◌, ◌≢◌, ◌≤◌, ℕ, true, All, map, IfOk, OnOk, IsTrue, IsFalse};
+ghost use Rattle.std.specs.Prelude.{◌≡◌, ◌≢◌, ◌≤◌, ℕ, true, All, map, IfOk, IfSome, OnOk, IsTrue, IsFalse};
 ghost use Rattle.std.specs.Box.{boxed_slice_items};
 ghost use Rattle.regress_meaning.specs.TableParts.{is_code_point};
-ghost use Rattle.regress_front_nodes.specs.Trees.{tree, cat_of, alt, anchor_of, string_set, loop, single_loop};
+ghost use Rattle.regress_front_bytes.specs.declared.bitmaps.ByteBitmap.{ByteBitmap};
+ghost use Rattle.regress_front_nodes.specs.Trees.{Tree, tree, cat, cat_of, alt, anchor_of, string_set, loop, single_loop};
 ghost use Rattle.regress_front_nodes.specs.Forms.{is_leaf};
 ghost use Rattle.regress_engine_prefix.specs.Prefixes.{IsLawful, IsWeaker, LeadsCharacters, Foretells};
+ghost use Rattle.regress_engine_prefix.specs.Reaches.{TakesOne};
 
-use crate::first_bytes::{first_of_ascii, first_of_bracket, first_of_chars, first_of_strings};
+use crate::first_bytes::{
+    first_of_ascii, first_of_bracket, first_of_chars, first_of_strings, second_of_chars,
+    with_continuations,
+};
 use crate::joining::either;
+use regress_engine_scanning::is_beyond_ascii;
 use regress_front_bytes::ByteBitmap;
 use regress_front_nodes::{AnchorType, Node, Quantifier};
 use regress_front_tables::CodePoint;
@@ -27,6 +33,8 @@ pub(crate) enum Prefix {
     Bytes(Vec<u8>),
     /// A byte of this set stands there.
     First(ByteBitmap),
+    /// A byte of this set stands there, and behind it one of another.
+    Pair(ByteBitmap, ByteBitmap),
 }
 
 /// What holds of an anchor.
@@ -110,6 +118,19 @@ fn is_still(known: &Prefix) -> bool
     matches!(known, Prefix::Still)
 }
 
+/// Whether it takes one character.
+pub(crate) fn is_one(node: &Node) -> bool
+    ensures { IsTrue result → TakesOne (tree node.now) }
+{
+    match node {
+        Node::Char { .. } => true,
+        Node::ByteSet(_) => true,
+        Node::CharSet(_) => true,
+        Node::Bracket(_) => true,
+        _ => false,
+    }
+}
+
 /// The same of a node of a kind that has no parts.
 #[inline(never)]
 fn find_of_leaf(alloc: Global, node: &Node, known: &mut Prefix) -> Result<(), AllocError>
@@ -117,8 +138,33 @@ fn find_of_leaf(alloc: Global, node: &Node, known: &mut Prefix) -> Result<(), Al
     requires leaf { is_leaf (tree node.now) ≡ true }
     ensures { OnOk result (Foretells known.new (tree node.now)) }
 {
-    *known = prefix_of_leaf(alloc, node)?;
+    *known = with_second(node, prefix_of_leaf(alloc, node)?);
     Ok(())
+}
+
+/// The second bytes of what a node takes, where they are of the character that it takes.
+fn second_of_leaf(node: &Node) -> Option<ByteBitmap>
+    ensures { IfSome result (λ second. (first : ByteBitmap) →
+        Foretells (Prefix.First first) (tree node.now) → Foretells (Prefix.Pair first second) (tree node.now)) }
+{
+    match node {
+        Node::CharSet(chars) => second_of_chars(chars),
+        _ => None,
+    }
+}
+
+/// What is known of a node, and where first bytes are known also the second.
+fn with_second(node: &Node, known: Prefix) -> Prefix
+    requires { Foretells known (tree node.now) }
+    ensures { Foretells result (tree node.now) }
+{
+    match known {
+        Prefix::First(first) => match second_of_leaf(node) {
+            Some(second) => Prefix::Pair(first, second),
+            None => Prefix::First(first),
+        },
+        other => other,
+    }
 }
 
 /// What holds of each match of a node of a kind that has no parts.
@@ -209,10 +255,59 @@ fn find_of_loop(
     Ok(())
 }
 
-/// The same of the parts of a `Cat`: what holds of the first that may take something.
+/// The first bytes of a node that takes one character, where they are known and no more.
+fn single_first(node: &Node, known: &Prefix) -> Option<ByteBitmap>
+    ensures first { IfSome result (λ first. known.now ≡ Prefix.First first) }
+    ensures one { IfSome result (λ first. TakesOne (tree node.now)) }
+{
+    match known {
+        Prefix::First(first) if is_one(node) => Some(*first),
+        _ => None,
+    }
+}
+
+/// The same of the parts of a `Cat`: what holds of the first that may take something; and of one character also of what follows.
 #[cycle(prefix)]
 #[inline(never)]
 fn find_of_parts(alloc: Global, parts: &[Node], known: &mut Prefix) -> Result<(), AllocError>
+    requires { All (λ part. IsLawful (tree part)) parts.now }
+    ensures { OnOk result (Foretells known.new (cat_of (map tree parts.now))) }
+{
+    for (index, part) in parts.iter().enumerate() {
+        find(alloc, part, known)?;
+        if let Some(first) = single_first(part, known) {
+            return find_behind(alloc, part, first, &parts[index + 1..], known);
+        }
+        if !is_still(known) {
+            return Ok(());
+        }
+    }
+    still(known)
+}
+
+/// The same of one character, of which the first bytes are known, and of what follows.
+#[cycle(prefix)]
+#[inline(never)]
+fn find_behind(
+    alloc: Global,
+    node: &Node,
+    first: ByteBitmap,
+    rest: &[Node],
+    known: &mut Prefix,
+) -> Result<(), AllocError>
+    requires lawful { All (λ part. IsLawful (tree part)) rest.now }
+    requires told { Foretells (Prefix.First first) (tree node.now) }
+    requires one { TakesOne (tree node.now) }
+    ensures { OnOk result (Foretells known.new (cat (tree node.now) (cat_of (map tree rest.now)))) }
+{
+    find_next(alloc, rest, known)?;
+    precede(first, known);
+    Ok(())
+}
+
+/// The same of the parts of a `Cat`: what holds of the first that may take something.
+#[cycle(prefix)]
+fn find_next(alloc: Global, parts: &[Node], known: &mut Prefix) -> Result<(), AllocError>
     requires { All (λ part. IsLawful (tree part)) parts.now }
     ensures { OnOk result (Foretells known.new (cat_of (map tree parts.now))) }
 {
@@ -223,4 +318,28 @@ fn find_of_parts(alloc: Global, parts: &[Node], known: &mut Prefix) -> Result<()
         }
     }
     still(known)
+}
+
+/// What is known behind one character, and what is known of it before that.
+#[inline(never)]
+fn precede(first: ByteBitmap, known: &mut Prefix)
+    requires { LeadsCharacters known.old }
+    ensures { (t u : Tree) → Foretells (Prefix.First first) t → TakesOne t → Foretells known.old u → Foretells known.new (cat t u) }
+{
+    let both = follow(first, known);
+    *known = both;
+}
+
+/// What is known of one character, and of the byte behind its first by what is known of what follows.
+fn follow(first: ByteBitmap, next: &Prefix) -> Prefix
+    requires { LeadsCharacters next.now }
+    ensures { (t u : Tree) → Foretells (Prefix.First first) t → TakesOne t → Foretells next.now u → Foretells result (cat t u) }
+{
+    let Some(second) = next.first_bytes() else {
+        return Prefix::First(first);
+    };
+    if is_beyond_ascii(&first) {
+        return Prefix::Pair(first, with_continuations(second));
+    }
+    Prefix::Pair(first, second)
 }

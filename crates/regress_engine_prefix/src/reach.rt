@@ -4,10 +4,11 @@ ghost use Rattle.regress_front_bytes.specs.Bitmaps.{byte_bitmap_contains};
 ghost use Rattle.regress_front_nodes.specs.Trees.{Tree, tree, cat_of, single_loop};
 ghost use Rattle.regress_front_nodes.specs.Forms.{is_leaf};
 ghost use Rattle.regress_engine_prefix.specs.Prefixes.{IsLawful, Foretells};
-ghost use Rattle.regress_engine_prefix.specs.Reaches.{TakesOne, CoversOne, TakesNothing, IsBoth, Reaches};
+ghost use Rattle.regress_engine_prefix.specs.Reaches.{CoversOne, TakesNothing, IsBoth, Reaches};
 
-use crate::landmark::Landmark;
-use crate::prefix::{Prefix, prefix_of_leaf};
+use crate::first_bytes::with_continuations;
+use crate::prefix::{Prefix, is_one, prefix_of_leaf};
+use regress_engine_scanning::{Landmark, is_beyond_ascii};
 use regress_front_bytes::ByteBitmap;
 use regress_front_nodes::{Node, Quantifier};
 use std::alloc::{AllocError, Global};
@@ -36,30 +37,6 @@ pub(crate) enum Reach {
     By(Landmark),
 }
 
-/// Whether a byte beyond ASCII is in a set.
-fn is_beyond_ascii(set: &ByteBitmap) -> bool
-    ensures { IsFalse result → (b : ℕ) → b < 256 → byte_bitmap_contains set.now b ≡ true → b < 0x80 }
-{
-    for byte in 0x80..=u8::MAX {
-        if set.contains(byte) {
-            return true;
-        }
-    }
-    false
-}
-
-/// These bytes, and all that go on with a character.
-fn with_continuations(first: ByteBitmap) -> ByteBitmap
-    ensures first { (b : ℕ) → byte_bitmap_contains first b ≡ true → byte_bitmap_contains result b ≡ true }
-    ensures others { (b : ℕ) → 0x80 ≤ b → b < 0xC0 → byte_bitmap_contains result b ≡ true }
-{
-    let mut run = first;
-    for byte in 0x80..0xC0 {
-        run.set(byte);
-    }
-    run
-}
-
 /// What one character takes that begins with a byte of a set.
 fn of_one(first: ByteBitmap) -> Span
     ensures { CoversOne (byte_bitmap_contains first) result }
@@ -86,19 +63,6 @@ fn of_nothing(at_start: bool) -> Span
         least: 0,
         exact: true,
         plain: at_start,
-    }
-}
-
-/// Whether it takes one character.
-fn is_one(node: &Node) -> bool
-    ensures { IsTrue result → TakesOne (tree node.now) }
-{
-    match node {
-        Node::Char { .. } => true,
-        Node::ByteSet(_) => true,
-        Node::CharSet(_) => true,
-        Node::Bracket(_) => true,
-        _ => false,
     }
 }
 

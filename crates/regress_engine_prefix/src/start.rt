@@ -1,13 +1,19 @@
 //! Where a search may begin, told by bytes.
-ghost use Rattle.std.specs.Prelude.{◌≡◌, ℕ, Bool, false, IfOk, IfErr};
+ghost use Rattle.std.specs.Prelude.{◌≡◌, ◌⊎◌, ◌↔◌, ℕ, Bool, false, IfOk, IfErr, IfSome, IsTrue};
+ghost use Rattle.regress_meaning.specs.Text.{holds};
 ghost use Rattle.regress_front_nodes.specs.Trees.{tree};
 ghost use Rattle.regress_front_nodes.specs.WellFormed.{IsWellFormed};
 ghost use Rattle.regress_engine_prefix.specs.Prefixes.{IsLawful, LeadsCharacters};
-ghost use Rattle.regress_engine_prefix.specs.Starts.{IsStartOf, SaysNoMore, HitsBoundaries, IsAnchoredOnlyIf, IsAtStart, HoldsAtStart, KeepsSequence, KeepsLiteral, IsSameStart};
+ghost use Rattle.regress_engine_prefix.specs.Choosing.{TellsPair, IsOrPair, IsOrWord};
+ghost use Rattle.regress_engine_scanning.specs.Units.{AreAscii};
+ghost use Rattle.regress_engine_prefix.specs.Starts.{IsStartOf, SaysNoMore, HitsBoundaries, IsAnchoredOnlyIf, IsAtStart, HoldsAtStart, KeepsSequence, KeepsLiteral, IsSameStart, IsPlain, TellsLeads, KeepsAscii, BeginsCharacters};
 
-use crate::landmark::Landmark;
 use crate::prefix::{Prefix, prefix_of};
 use crate::reach::landmark_of;
+use crate::words::word_start_of;
+use regress_engine_scanning::{
+    BytePair, Landmark, NibbleSet, WordStart, are_ascii, is_beyond_ascii,
+};
 use regress_front_bytes::ByteBitmap;
 use regress_front_core::Error;
 use regress_front_nodes::Node;
@@ -31,6 +37,10 @@ pub enum StartPredicate {
     ByteBracket(ByteBitmap),
     /// At one of some bytes, where another byte stands by.
     ByteNear(ByteBitmap, Landmark),
+    /// At a byte of one set, behind which a byte of another stands.
+    BytePair(BytePair),
+    /// At a byte of one set, in front of which no byte of a word stands.
+    WordStart(WordStart),
     /// At the start of the text alone.
     StartAnchored,
 }
@@ -54,14 +64,49 @@ impl StartPredicate {
             StartPredicate::ByteNear(bitmap, landmark) => {
                 StartPredicate::ByteNear(*bitmap, *landmark)
             }
+            StartPredicate::BytePair(pair) => StartPredicate::BytePair(*pair),
+            StartPredicate::WordStart(word) => StartPredicate::WordStart(*word),
             StartPredicate::StartAnchored => StartPredicate::StartAnchored,
         })
+    }
+
+    /// Whether each byte that it tells is below 0x80, and it tells no landmark.
+    fn is_plain(&self) -> bool
+        requires { TellsLeads self.now }
+        ensures { IsTrue result ↔ IsPlain self.now }
+    {
+        match self {
+            StartPredicate::Arbitrary | StartPredicate::StartAnchored => true,
+            StartPredicate::ByteSet1(bytes) => are_ascii(bytes),
+            StartPredicate::ByteSet2(bytes) => are_ascii(bytes),
+            StartPredicate::ByteSet3(bytes) => are_ascii(bytes),
+            StartPredicate::ByteSeq(bytes) => are_ascii(bytes),
+            StartPredicate::ByteBracket(set) => !is_beyond_ascii(set),
+            StartPredicate::ByteNear(..)
+            | StartPredicate::BytePair(_)
+            | StartPredicate::WordStart(_) => false,
+        }
+    }
+
+    /// What says the same of 16-bit units: the predicate itself where it is plain, else `Arbitrary`.
+    fn for_units(self) -> StartPredicate
+        requires { TellsLeads self }
+        ensures plain { IsPlain result }
+        ensures kept { IsPlain self → result ≡ self }
+        ensures either { (result ≡ self) ⊎ (result ≡ StartPredicate.Arbitrary) }
+    {
+        if self.is_plain() {
+            self
+        } else {
+            StartPredicate::Arbitrary
+        }
     }
 }
 
 /// At the bytes of a set, by how many there are.
 fn of_set(set: ByteBitmap) -> StartPredicate
     requires { LeadsCharacters (Prefix.First set) }
+    ensures leads { TellsLeads result }
     ensures begins { SaysNoMore result (Prefix.First set) }
     ensures boundary { HitsBoundaries result }
     ensures anchored { IsAnchoredOnlyIf ⊥ result }
@@ -78,6 +123,7 @@ fn of_set(set: ByteBitmap) -> StartPredicate
 /// What a search looks for where this holds of each match.
 fn of_prefix(prefix: Prefix, multiline: bool) -> StartPredicate
     requires { LeadsCharacters prefix }
+    ensures leads { TellsLeads result }
     ensures begins { SaysNoMore result prefix }
     ensures boundary { HitsBoundaries result }
     ensures anchored { IsAnchoredOnlyIf (multiline ≡ false) result }
@@ -92,7 +138,49 @@ fn of_prefix(prefix: Prefix, multiline: bool) -> StartPredicate
             _ => StartPredicate::ByteSeq(bytes),
         },
         Prefix::First(set) => of_set(set),
+        Prefix::Pair(first, _) => of_set(first),
         _ => StartPredicate::Arbitrary,
+    }
+}
+
+/// More second bytes than this are not looked for: most bytes of a text would be among them.
+const MOST_SECOND: u32 = 128;
+
+/// Whether a set has none but punctuation, which few bytes of a text are: those are found faster by themselves.
+fn are_rare(set: &ByteBitmap) -> bool {
+    for byte in 0..=u8::MAX {
+        if set.contains(byte) && !byte.is_ascii_punctuation() {
+            return false;
+        }
+    }
+    true
+}
+
+/// The first and the second bytes of each match, where both are known, the first are frequent and the second are few.
+fn pair_of(prefix: &Prefix) -> Option<BytePair>
+    ensures { IfSome result (λ pair. TellsPair pair prefix.now) }
+{
+    let Prefix::Pair(first, second) = prefix else {
+        return None;
+    };
+    if second.count_bits() > MOST_SECOND || are_rare(first) {
+        return None;
+    }
+    Some(BytePair {
+        first: NibbleSet::new(first)?,
+        second: NibbleSet::new(second)?,
+    })
+}
+
+/// The same predicate, or of the bytes of a set those behind which another known byte stands.
+fn with_pair(start: StartPredicate, pair: Option<BytePair>) -> StartPredicate
+    ensures { IsOrPair start pair result }
+{
+    match (start, pair) {
+        (StartPredicate::ByteSet2(_), Some(pair)) => StartPredicate::BytePair(pair),
+        (StartPredicate::ByteSet3(_), Some(pair)) => StartPredicate::BytePair(pair),
+        (StartPredicate::ByteBracket(_), Some(pair)) => StartPredicate::BytePair(pair),
+        (start, _) => start,
     }
 }
 
@@ -120,6 +208,19 @@ fn with_landmark(
     }
 }
 
+/// The same predicate, or of the bytes of a set or a pair those at which a word begins.
+fn with_word(start: StartPredicate, word: Option<WordStart>) -> StartPredicate
+    ensures { IsOrWord start word result }
+{
+    match (start, word) {
+        (StartPredicate::ByteSet2(_), Some(word)) => StartPredicate::WordStart(word),
+        (StartPredicate::ByteSet3(_), Some(word)) => StartPredicate::WordStart(word),
+        (StartPredicate::ByteBracket(_), Some(word)) => StartPredicate::WordStart(word),
+        (StartPredicate::BytePair(_), Some(word)) => StartPredicate::WordStart(word),
+        (start, _) => start,
+    }
+}
+
 /// What the bytes begin with wherever a match of the tree begins.
 ///
 /// At the offset of each place of a text of UTF-8 from which the tree has an outcome the bytes begin as the predicate says; and
@@ -141,6 +242,35 @@ pub fn predicate_for_re(alloc: Global, regex: &Regex) -> Result<StartPredicate, 
     ensures refused { IfErr result (λ e. e ≡ Error.OutOfMemory) }
 {
     let prefix = prefix_of(alloc, &regex.node)?;
+    let pair = pair_of(&prefix);
+    let word = word_start_of(&regex.node, &prefix);
     let start = of_prefix(prefix, regex.flags.multiline);
-    Ok(with_landmark(alloc, &regex.node, start)?)
+    let start = with_landmark(alloc, &regex.node, start)?;
+    let start = with_pair(start, pair);
+    Ok(with_word(start, word))
+}
+
+/// What the 16-bit units begin with wherever a match of the tree begins, as `predicate_for_re` tells it of bytes.
+///
+/// It is plain: each byte that it tells is below 0x80, and stands for the unit of the same number, which is a character by itself
+/// in UTF-16 and in UCS-2. In each text, at each place from which the tree has an outcome, the characters begin so; and a literal
+/// of two or more such bytes with which the tree begins is a `ByteSeq`. Where nothing is told by such bytes it is `Arbitrary`. Asks
+/// for a well-formed tree, and errs with `OutOfMemory` alone.
+///
+/// ```rust
+/// let start = predicate_for_units(alloc, &regex)?; // of `abc` the `ByteSeq` of `abc`, of `é` `Arbitrary`
+/// ```
+pub fn predicate_for_units(alloc: Global, regex: &Regex) -> Result<StartPredicate, Error>
+    requires { (n : ℕ) × IsWellFormed n (tree regex.now.node) }
+    ensures plain { IfOk result IsPlain }
+    ensures characters { IfOk result (λ start. BeginsCharacters start (tree regex.now.node)) }
+    ensures literal { IfOk result (KeepsAscii (tree regex.now.node)) }
+    ensures begins { IfOk result (λ start. IsStartOf start (tree regex.now.node)) }
+    ensures boundary { IfOk result HitsBoundaries }
+    ensures anchored { IfOk result (IsAnchoredOnlyIf (regex.now.flags.multiline ≡ false)) }
+    ensures first { IfOk result (HoldsAtStart (tree regex.now.node)) }
+    ensures refused { IfErr result (λ e. e ≡ Error.OutOfMemory) }
+{
+    let prefix = prefix_of(alloc, &regex.node)?;
+    Ok(of_prefix(prefix, regex.flags.multiline).for_units())
 }

@@ -4,24 +4,26 @@ use Rattle.std.proofs.Common.{◌≡◌, ◌≢◌, ◌⊎◌, inl, inr, ℕ, su
 use Rattle.std.specs.Char.{len_utf8}
 use Rattle.std.specs.Str.{IsUtf8, IsAscii, IsCharBoundary}
 use Rattle.std.proofs.Common.{length-take-le}
-use Rattle.std.proofs.lemmas.Bool.{cases_lt, true≢false}
+use Rattle.std.proofs.lemmas.Bool.{cases_lt}
 use Rattle.std.proofs.lemmas.Str.{IsUtf8-from_ascii, chars-IsAscii, encodes-IsAscii, IsAscii-take}
 use Rattle.regress_meaning.specs.Table.{Table}
 use Rattle.regress_meaning.specs.TableParts.{is_code_point}
 use Rattle.regress_meaning.specs.Meaning.{Context, State, Forward}
 use Rattle.regress_meaning.specs.Inputs.{Tells, point_told, context_of}
-use Rattle.regress_meaning.specs.Offsets.{Reading, offset, of_utf8, of_utf16, of_ucs2}
+use Rattle.regress_meaning.specs.Offsets.{Reading, offset, of_utf8}
 use Rattle.regress_front_bytes.proofs.TextLemmas.{length-encodes, offset-le, place_of_boundary}
 use Rattle.regress_front_nodes.specs.Trees.{Tree}
 use Rattle.regress_front_nodes.specs.TreeMeaning.{node_outcomes}
 use Rattle.regress_front_nodes.specs.WellFormed.{IsWellFormed}
 use Rattle.regress_front_nodes.specs.ByteInputs.{TellsBytes}
-use Rattle.regress_engine_input.specs.Views.{View, Kind, utf8, ascii, utf16, ucs2, AreOfKind, are_bytes, in_bytes, input_of, input_of_kind, reading_of, reading_of_kind}
+use Rattle.regress_engine_input.specs.Views.{View, Kind, utf8, ascii, utf16, ucs2, AreOfKind, are_bytes, in_bytes, in_units, input_of, input_of_kind, reading_of, reading_of_kind}
 use Rattle.regress_engine_input.proofs.KindLemmas.{tells, tells_bytes as bytes-told}
 use Rattle.regress_engine_input.proofs.UnitTexts.{single_offset}
-use Rattle.regress_engine_prefix.specs.Starts.{BeginsAs, is_arbitrary, tells_bytes, HoldsAtStart, HitsBoundaries, Serves}
+use Rattle.regress_engine_input.proofs.LowUnits.{low-read, low-place}
+use Rattle.regress_engine_prefix.proofs.UnitLemmas.{units-begin, low-hit}
+use Rattle.regress_engine_prefix.specs.Starts.{BeginsAs, is_arbitrary, tells_bytes, HoldsAtStart, HitsBoundaries, IsPlain, Serves}
 use Rattle.regress_engine_prefix.specs.declared.start.StartPredicate.{StartPredicate}
-use Rattle.regress_engine_prefix.specs.declared.start.StartPredicate.TheVariants.{Arbitrary, ByteSet1, ByteSet2, ByteSet3, ByteSeq, ByteBracket, ByteNear, StartAnchored}
+use Rattle.regress_engine_prefix.specs.declared.start.StartPredicate.TheVariants.{Arbitrary, ByteSet1, ByteSet2, ByteSet3, ByteSeq, ByteBracket, ByteNear, BytePair, WordStart, StartAnchored}
 use Rattle.regress_engine_insn.specs.Instructions.{Program}
 use Rattle.regress_engine_insn.specs.Layout.{Target, IsLayout}
 use Rattle.regress_engine_runs.specs.States.{Whole, first_state}
@@ -37,7 +39,7 @@ use Rattle.regress_engine_search.specs.Answering.{FindsOn}
 use Rattle.regress_engine_search.specs.Search.{IsSearchable}
 use Rattle.regress_engine_search.specs.SearchProps.{rises}
 use Rattle.regress_engine_prefix.specs.Prefiltering.{IsNextHit}
-use Rattle.regress_engine_search.specs.Skipping.{MaySkip, Reaches, IsNextStart}
+use Rattle.regress_engine_search.specs.Skipping.{MaySkip, IsNextStart}
 use Rattle.regress_engine_search.proofs.SearchLemmas.{bytes-units}
 
 -- ---- bytes that hold a text
@@ -48,6 +50,13 @@ held-bytes utf8 units bytes e = cc
 held-bytes ascii units bytes e = cc
 held-bytes utf16 units bytes e = absurd (cc)
 held-bytes ucs2 units bytes e = absurd (cc)
+
+-- and so are 16-bit units that hold one
+pub held-units : (kind : Kind) (units held : List ℕ) → Some held ≡ in_units kind (Some units) → (are_bytes kind ≡ false) × (held ≡ units)
+held-units utf8 units held e = absurd (cc)
+held-units ascii units held e = absurd (cc)
+held-units utf16 units held e = (refl, cc)
+held-units ucs2 units held e = (refl, cc)
 
 -- a place lies in the text
 pub place-lies : (v : View) → AreOfKind v.kind v.units → (o : ℕ) → IsAtPlace (reading_of v) o → o ≤ length v.units
@@ -78,6 +87,23 @@ module _ (t : Tree) (start : StartPredicate) (table : Table) (unicode units : Bo
   without_bytes (ByteSeq _) told first reading context points s some bytes = absurd (cc)
   without_bytes (ByteBracket _) told first reading context points s some bytes = absurd (cc)
   without_bytes (ByteNear _ _) told first reading context points s some bytes = absurd (cc)
+  without_bytes (BytePair _) told first reading context points s some bytes = absurd (cc)
+  without_bytes (WordStart _) told first reading context points s some bytes = absurd (cc)
+
+  -- where the characters begin so, the units that hold them do
+  by_units : (kind : Kind) (held : List ℕ) → AreOfKind kind held → are_bytes kind ≡ false → units ≡ true → (s : State)
+      → node_outcomes (context_of (reading_of_kind kind held) (input_of_kind kind table unicode held)) t Forward s ≢ []
+      → BeginsAs start held (offset (reading_of_kind kind held) s.place)
+  by_units kind held all are is s some = by_bytes (tells_bytes start) refl
+    where
+      points : All is_code_point (reading_of_kind kind held).points
+      points = (tells kind table unicode held all).points
+
+      by_bytes : (b : Bool) → tells_bytes start ≡ b → BeginsAs start held (offset (reading_of_kind kind held) s.place)
+      by_bytes true e =
+          units-begin (reading_of_kind kind held).points held (λ p. offset (reading_of_kind kind held) p) points (low-read kind held all are) start (serves.plain is) e s.place
+          ((serves.characters is).each _ points s some)
+      by_bytes false e = without_bytes start e serves.first (reading_of_kind kind held) _ points s some held
 
   pub outcomes-begin : (kind : Kind) (bytes : List ℕ) → AreOfKind kind bytes → are_bytes kind ≡ not units → (s : State) → s.place ≤ length (reading_of_kind kind bytes).points
       → node_outcomes (context_of (reading_of_kind kind bytes) (input_of_kind kind table unicode bytes)) t Forward s ≢ []
@@ -86,10 +112,8 @@ module _ (t : Tree) (start : StartPredicate) (table : Table) (unicode units : Bo
   outcomes-begin ascii bytes all same s room some =
       subst (BeginsAs start bytes) (ascii-offset bytes all s.place room ∙ sym (single_offset bytes s.place room))
       (serves.begins.each bytes (IsUtf8-from_ascii bytes all) _ (sym (chars-IsAscii bytes all)) s some)
-  outcomes-begin utf16 bytes all same s room some =
-      without_bytes start (serves.bytes (not-units units same)) serves.first (of_utf16 bytes) _ (tells utf16 table unicode bytes all).points s some bytes
-  outcomes-begin ucs2 bytes all same s room some =
-      without_bytes start (serves.bytes (not-units units same)) serves.first (of_ucs2 bytes) _ (tells ucs2 table unicode bytes all).points s some bytes
+  outcomes-begin utf16 bytes all same s room some = by_units utf16 bytes all refl (not-units units same) s some
+  outcomes-begin ucs2 bytes all same s room some = by_units ucs2 bytes all refl (not-units units same) s some
 
 -- what may be cut in bytes is a place
 cut-place : (kind : Kind) (bytes : List ℕ) → AreOfKind kind bytes → are_bytes kind ≡ true → (o : ℕ) → (IsUtf8 bytes → IsCharBoundary bytes o) → IsAtPlace (reading_of_kind kind bytes) o
@@ -98,10 +122,10 @@ cut-place ascii bytes all are o cut = let room = (cut (IsUtf8-from_ascii bytes a
 cut-place utf16 bytes all are o cut = absurd (cc)
 cut-place ucs2 bytes all are o cut = absurd (cc)
 
--- and so is where the text begins
-hit-at_place : (v : View) → AreOfKind v.kind v.units → (start : StartPredicate) → is_arbitrary start ≡ false → (tells_bytes start ≡ true → are_bytes v.kind ≡ true)
+-- and so is where a unit below 0x80 stands, and where the text begins
+hit-at_place : (v : View) → AreOfKind v.kind v.units → (start : StartPredicate) → is_arbitrary start ≡ false → (are_bytes v.kind ≡ false → IsPlain start)
     → HitsBoundaries start → (o : ℕ) → BeginsAs start v.units o → IsAtPlace (reading_of v) o
-hit-at_place v all start known are cuts o here = by_bytes (tells_bytes start) refl
+hit-at_place v all start known plain cuts o here = by_bytes (tells_bytes start) refl
   where
     at_start : (p : StartPredicate) → is_arbitrary p ≡ false → tells_bytes p ≡ false → BeginsAs p v.units o → o ≡ 0
     at_start StartAnchored known told here = here
@@ -112,9 +136,15 @@ hit-at_place v all start known are cuts o here = by_bytes (tells_bytes start) re
     at_start (ByteSeq _) known told here = absurd (cc)
     at_start (ByteBracket _) known told here = absurd (cc)
     at_start (ByteNear _ _) known told here = absurd (cc)
+    at_start (BytePair _) known told here = absurd (cc)
+    at_start (WordStart _) known told here = absurd (cc)
+
+    by_kind : tells_bytes start ≡ true → (b : Bool) → are_bytes v.kind ≡ b → IsAtPlace (reading_of v) o
+    by_kind told true are = cut-place v.kind v.units all are o (λ utf8. cuts known v.units utf8 o here)
+    by_kind told false are = let (b, there, low) = low-hit start (plain are) cuts told v.units o here in low-place v.kind v.units all are o b there low
 
     by_bytes : (b : Bool) → tells_bytes start ≡ b → IsAtPlace (reading_of v) o
-    by_bytes true e = cut-place v.kind v.units all (are e) o (λ utf8. cuts known v.units utf8 o here)
+    by_bytes true e = by_kind e (are_bytes v.kind) refl
     by_bytes false e = (0, omega arith, at_start start known e here)
 
 -- a search for the program of a tree may skip what its start predicate passes over
@@ -122,8 +152,8 @@ pub layout-skips : (target : Target) (v : View) → AreOfKind v.kind v.units →
     → (n : ℕ) (t : Tree) → IsWellFormed n t → IsLayout target n t → (start : StartPredicate) → Serves target.program.units t start → MaySkip target.program start v
 layout-skips target v all kind made n t formed layout start serves = record {
   begins = begins;
-  bytes = are;
-  places = λ known o here. hit-at_place v all start known are serves.boundary o here;
+  plain = plain;
+  places = λ known o here. hit-at_place v all start known plain serves.boundary o here;
 }
   where
     told : Tells (reading_of v) (input_of v)
@@ -132,12 +162,8 @@ layout-skips target v all kind made n t formed layout start serves = record {
     bytes : target.program.units ≡ false → TellsBytes (reading_of v) (input_of v)
     bytes none = bytes-told v.kind v.table v.unicode v.units all (bytes-units (are_bytes v.kind) target.program.units kind none)
 
-    are : tells_bytes start ≡ true → are_bytes v.kind ≡ true
-    are told = by_units target.program.units refl
-      where
-        by_units : (u : Bool) → target.program.units ≡ u → are_bytes v.kind ≡ true
-        by_units true e = absurd (true≢false (sym told ∙ serves.bytes e))
-        by_units false e = bytes-units (are_bytes v.kind) target.program.units kind e
+    plain : are_bytes v.kind ≡ false → IsPlain start
+    plain are = serves.plain (not-units target.program.units (sym are ∙ kind))
 
     begins : (o : ℕ) → IsAtPlace (reading_of v) o → (w : Whole) → Answers target.program (input_of v) o (Some w) → BeginsAs start v.units o
     begins o (p, room, e) w answers =
@@ -189,6 +215,8 @@ module _ (program : Program) (start : StartPredicate) (v : View) (all : AreOfKin
               anywhere (ByteSeq _) e = absurd (cc)
               anywhere (ByteBracket _) e = absurd (cc)
               anywhere (ByteNear _ _) e = absurd (cc)
+              anywhere (BytePair _) e = absurd (cc)
+              anywhere (WordStart _) e = absurd (cc)
               anywhere StartAnchored e = absurd (cc)
           by_order (inr more) = let same : from ≡ at = omega (arith, low, more) in subst (IsAtPlace (reading_of v)) same place
 

@@ -21,9 +21,9 @@ use Rattle.regress_engine_runs.specs.Items.{Lists}
 use Rattle.regress_engine_runs.specs.Meets.{IsAtPlace, AreAtPlaces, ReadsPlaces, referred}
 use Rattle.regress_engine_runs.proofs.ItemLemmas.{one_list}
 use Rattle.regress_engine_runs.proofs.OneAnswer.{IsComputed-prop}
-use Rattle.regress_engine_prefix.specs.Starts.{BeginsAs}
+use Rattle.regress_engine_prefix.specs.Starts.{BeginsAs, IsPlain}
 use Rattle.regress_engine_prefix.specs.declared.start.StartPredicate.{StartPredicate}
-use Rattle.regress_engine_prefix.specs.declared.start.StartPredicate.TheVariants.{Arbitrary, ByteSet1, ByteSet2, ByteSet3, ByteSeq, ByteBracket, ByteNear, StartAnchored}
+use Rattle.regress_engine_prefix.specs.declared.start.StartPredicate.TheVariants.{Arbitrary, ByteSet1, ByteSet2, ByteSet3, ByteSeq, ByteBracket, ByteNear, BytePair, WordStart, StartAnchored}
 use Rattle.regress_engine_search.specs.Skipping.{MaySkip}
 use Rattle.regress_engine_search.specs.Search.{Suits}
 use Rattle.regress_engine_search.specs.Search.{IsItemAtPlaces, Listed, IsSearchable}
@@ -186,11 +186,25 @@ BeginsAs-prop (ByteSet3 set) bytes at = bool-set _ true
 BeginsAs-prop (ByteSeq front) bytes at = list-set _ front.items
 BeginsAs-prop (ByteBracket set) bytes at = bool-set _ true
 BeginsAs-prop (ByteNear set landmark) bytes at = bool-set _ true
+BeginsAs-prop (BytePair pair) bytes at = bool-set _ true
+BeginsAs-prop (WordStart word) bytes at = bool-set _ true
 BeginsAs-prop StartAnchored bytes at = nat-set at 0
+
+IsPlain-prop : (start : StartPredicate) → IsProp (IsPlain start)
+IsPlain-prop Arbitrary = Unit-prop
+IsPlain-prop (ByteSet1 set) = Π_prop (λ b. Π_prop (λ held. le_prop))
+IsPlain-prop (ByteSet2 set) = Π_prop (λ b. Π_prop (λ held. le_prop))
+IsPlain-prop (ByteSet3 set) = Π_prop (λ b. Π_prop (λ held. le_prop))
+IsPlain-prop (ByteSeq front) = Π_prop (λ b. Π_prop (λ held. le_prop))
+IsPlain-prop (ByteBracket set) = Π_prop (λ b. Π_prop (λ held. le_prop))
+IsPlain-prop (ByteNear set landmark) = λ x y. absurd x
+IsPlain-prop (BytePair pair) = λ x y. absurd x
+IsPlain-prop (WordStart word) = λ x y. absurd x
+IsPlain-prop StartAnchored = Unit-prop
 
 pub MaySkip-prop : (program : Program) (start : StartPredicate) (v : View) → IsProp (MaySkip program start v)
 MaySkip-prop program start v x y = λ i. record {
   begins = (Π_prop (λ o. Π_prop (λ place. Π_prop (λ w. Π_prop (λ answers. BeginsAs-prop start v.units o))))) x.begins y.begins i;
-  bytes = (Π_prop (λ known. bool-set (are_bytes v.kind) true)) x.bytes y.bytes i;
+  plain = (Π_prop (λ units. IsPlain-prop start)) x.plain y.plain i;
   places = (Π_prop (λ known. Π_prop (λ o. Π_prop (λ begins. IsAtPlace-prop v o)))) x.places y.places i;
 }

@@ -79,7 +79,10 @@ impl<'r, Input: ExecutorInput> SearchContext<'r, Input> {
     {
         match self.input.bytes() {
             Some(bytes) => self.prefilter.find_from(bytes, offset),
-            None => self.prefilter.find_without_bytes(offset),
+            None => {
+                let units = self.input.units()?;
+                self.prefilter.find_from_units(units, offset)
+            }
         }
     }
 

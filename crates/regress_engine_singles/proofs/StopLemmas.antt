@@ -12,7 +12,7 @@ use Rattle.regress_engine_input.specs.Views.{View, Kind, utf8, ascii, utf16, ucs
 use Rattle.regress_engine_matchers.proofs.ByteLemmas.{in-bytes, byte_place, sees_byte}
 use Rattle.regress_engine_matchers.proofs.ViewLemmas.{view_reads}
 use Rattle.memchr.specs.Find.{IsFirstByte, is_byte3}
-use Rattle.regress_engine_prefix.proofs.PrefilterLemmas.{three-held}
+use Rattle.regress_engine_scanning.proofs.ByteLemmas.{three-held}
 use Rattle.regress_front_sets.specs.declared.interval.Interval.{Interval}
 use Rattle.regress_front_sets.specs.Intervals.{ends_of, in_interval}
 use Rattle.regress_front_sets.proofs.SetLemmas.{held-from, held-none}

@@ -30,6 +30,14 @@ left_outside (Some f) k program input dir = told_outside (Some f) k program inpu
 abbrev pub Unwinds : Held → Option Frame → Held → Type 0
 Unwinds h found k = (program : Program) (input : Input) (dir : Direction) → outside_of (work_of program input dir h) ≡ told_outside found k program input
 
+-- A record is put back: it is the lookaround or the atomic group outside of which is what was outside, or that is as it was.
+abbrev pub PutsBack : Held → Option Frame → Held → Type 0
+PutsBack h found k = (program : Program) (input : Input) (dir : Direction) → outside_of (work_of program input dir h) ≡ left_outside found k program input dir
+
+-- the work that the stacks stand for is the same
+abbrev pub IsSameWork : Held → Held → Type 0
+IsSameWork h k = (program : Program) (input : Input) (dir : Direction) → work_of program input dir k ≡ work_of program input dir h
+
 -- what is held stays sound, and the groups inside are there
 abbrev pub StaysUnwound : Held → Option Frame → Held → Type 0
 StaysUnwound h found k = (program : Program) (v : View) → IsHeld program v h → IsHeld program v k × IfSome found (HasGroups program)

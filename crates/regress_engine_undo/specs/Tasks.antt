@@ -1,8 +1,9 @@
 -- What the executor has still to do.
-use Rattle.std.specs.Prelude.{◌≡◌, ℕ, Bool, true, List, [], ◌∷◌, if◌then◌else◌}
+use Rattle.std.specs.Prelude.{◌≡◌, ℕ, Bool, true, List, [], ◌∷◌, if◌then◌else◌, slice_set}
 use Rattle.regress_meaning.specs.Inputs.{Input}
-use Rattle.regress_engine_insn.specs.Instructions.{Program}
-use Rattle.regress_engine_runs.specs.States.{Whole}
+use Rattle.regress_engine_insn.specs.Instructions.{LoopFields, Program}
+use Rattle.regress_engine_runs.specs.States.{Whole, Marks, onward}
+use Rattle.regress_engine_runs.specs.Runs.{choices, is_idle}
 use Rattle.regress_engine_runs.specs.UndoStack.{whole, stands_for}
 use Rattle.regress_engine_input.specs.Views.{View, direction_of}
 use Rattle.regress_engine_search.specs.Tasks.{Task, Leads}
@@ -33,10 +34,34 @@ abbrev pub GoesOnPast : (exit : ℕ) → List Whole → Spot → Held → (going
 GoesOnPast exit states p h going q k = (program : Program) (input : Input) → IsDead program input (direction_of p.forward) exit p.offset
     → Leads program input 0 (task_of program input states p h) (task program input going q k)
 
--- the same, where it is only told that no match can be reached
-abbrev pub GoesOnIf : (dead : Bool) → (exit : ℕ) → List Whole → Spot → Held → (going : Bool) → Spot → Held → Type 0
-GoesOnIf dead exit states p h going q k = (program : Program) (input : Input) → (dead ≡ true → IsDead program input (direction_of p.forward) exit p.offset)
-    → Leads program input 0 (task_of program input states p h) (task program input going q k)
+-- the states of two ways: at the next address, and at another
+abbrev pub two_ways : (target : ℕ) → Whole → List Whole
+two_ways target s = onward s ∷ record s { at = target } ∷ []
+
+-- the state at the next address, where a group has these marks
+abbrev pub with_marks : (group : ℕ) → Marks → Whole → List Whole
+with_marks group m s = onward (record s { groups = slice_set s.groups group m }) ∷ []
+
+-- the states to which the beginning of a repetition leads
+abbrev pub ways_in : LoopFields → Whole → List Whole
+ways_in f s = choices f s.at (record s { loops = slice_set s.loops f.loop_id (0, s.offset) })
+
+-- the states to which the end of an iteration leads, of a repetition that begins at an address
+abbrev pub ways_again : (begin : ℕ) → LoopFields → Whole → List Whole
+ways_again begin f s = if is_idle f s then [] else choices f begin s
+
+-- It continues to a spot, or failed, from what follows the state at another.
+abbrev pub GoesTo : (Whole → List Whole) → Spot → Held → (going : Bool) → Spot → Held → Type 0
+GoesTo next p h going q k = GoesOn (next (state_at p h)) p h going q k
+
+-- A repetition that begins at an address continues as it may, if no match can be reached from behind it.
+abbrev pub RepeatsPast : LoopFields → (begin : ℕ) → Spot → Held → (going : Bool) → Spot → Held → Type 0
+RepeatsPast f begin p h going q k = GoesOnPast f.exit (choices f begin (state_at p h)) p h going q k
+
+-- A repetition continues from what follows the state at a spot, where it may be told that no match can be reached from behind it.
+abbrev pub RepeatsIf : (dead : Bool) → (f : LoopFields) → (LoopFields → Whole → List Whole) → Spot → Held → (going : Bool) → Spot → Held → Type 0
+RepeatsIf dead f next p h going q k = (program : Program) (input : Input) → (dead ≡ true → IsDead program input (direction_of p.forward) f.exit p.offset)
+    → Leads program input 0 (task_of program input (next f (state_at p h)) p h) (task program input going q k)
 
 -- what is held stays sound
 abbrev pub StaysSound : Held → Held → Type 0

@@ -1,16 +1,13 @@
 //! How a goal is left: that of a lookaround or an atomic group, or that of the whole program.
 ghost use Rattle.std.specs.Prelude.{◌≡◌, ◌<◌, ◌≤◌, ℕ, map, length, option_map, IfOk, OnOk};
-ghost use Rattle.regress_meaning.specs.Meaning.{Direction};
-ghost use Rattle.regress_meaning.specs.Inputs.{Input};
 ghost use Rattle.regress_engine_insn.specs.Instructions.{Program};
 ghost use Rattle.regress_engine_input.specs.Views.{View};
 ghost use Rattle.regress_engine_runs.specs.States.{mixed};
 ghost use Rattle.regress_engine_search.specs.StateViews.{marks_of};
-ghost use Rattle.regress_engine_search.specs.Tasks.{outside_of};
 ghost use Rattle.regress_engine_undo.specs.Held.{held, undo_of, pushed, frame_of};
 ghost use Rattle.regress_engine_undo.specs.Sound.{IsHeld};
 ghost use Rattle.regress_engine_undo.specs.Tasks.{StaysSound};
-ghost use Rattle.regress_engine_undo.specs.Leaving.{left_outside, told_outside, work_of, StaysUnwound, Leaves, LeavesSound};
+ghost use Rattle.regress_engine_undo.specs.Leaving.{IsSameWork, Leaves, LeavesSound, PutsBack, StaysUnwound, Unwinds};
 
 use crate::memory::Memory;
 use crate::undo::{Frame, Spot, Undo};
@@ -21,7 +18,7 @@ impl Memory {
     /// Undoes a record without going on, or answers the frame that it is.
     fn put_back(&mut self, undo: Undo) -> Option<Frame>
         requires { (program : Program) × (v : View) × IsHeld program v (pushed (undo_of undo) (held self.old)) }
-        ensures rest { (program : Program) → (input : Input) → (dir : Direction) → outside_of (work_of program input dir (pushed (undo_of undo) (held self.old))) ≡ left_outside (option_map frame_of result) (held self.new) program input dir }
+        ensures rest { PutsBack (pushed (undo_of undo) (held self.old)) (option_map frame_of result) (held self.new) }
         ensures sound { StaysUnwound (pushed (undo_of undo) (held self.old)) (option_map frame_of result) (held self.new) }
         ensures stack { (held self.new).stack ≡ (held self.old).stack }
     {
@@ -47,7 +44,7 @@ impl Memory {
     /// none.
     fn unwind(&mut self) -> Option<Frame>
         requires { (program : Program) × (v : View) × IsHeld program v (held self.old) }
-        ensures rest { (program : Program) → (input : Input) → (dir : Direction) → outside_of (work_of program input dir (held self.old)) ≡ told_outside (option_map frame_of result) (held self.new) program input }
+        ensures rest { Unwinds (held self.old) (option_map frame_of result) (held self.new) }
         ensures sound { StaysUnwound (held self.old) (option_map frame_of result) (held self.new) }
     {
         while let Some(undo) = self.pop() {
@@ -69,7 +66,7 @@ impl Memory {
         requires count { length others.now ≡ length (held self.old).groups }
         ensures loops { OnOk result ((held self.new).loops ≡ (held self.old).loops) }
         ensures groups { OnOk result ((held self.new).groups ≡ mixed 0 first last (map marks_of others.now) (held self.old).groups) }
-        ensures same { OnOk result ((program : Program) → (input : Input) → (dir : Direction) → work_of program input dir (held self.new) ≡ work_of program input dir (held self.old)) }
+        ensures same { OnOk result (IsSameWork (held self.old) (held self.new)) }
         ensures sound { OnOk result (StaysSound (held self.old) (held self.new)) }
     {
         for group in first..last {

@@ -1,18 +1,14 @@
 //! Steps that change what an executor holds: ways out, groups, repetitions, lookarounds and atomic groups.
-ghost use Rattle.std.specs.Prelude.{◌≡◌, ◌==◌, ◌&&◌, nat_lt, ◌+◌, ◌^◌, ◌<◌, ◌≤◌, ℕ, true, if◌then◌else◌, [], ◌∷◌, length, get_or, slice_set, not, IfOk, OnOk};
-ghost use Rattle.regress_engine_insn.specs.Instructions.{Program, Stands};
+ghost use Rattle.std.specs.Prelude.{◌≡◌, ◌==◌, ◌&&◌, nat_lt, ◌+◌, ◌^◌, ◌<◌, true, length, IfOk, OnOk};
 ghost use Rattle.regress_engine_insn.specs.InsnViews.{fields};
-ghost use Rattle.regress_engine_input.specs.Views.{View, direction_of};
-ghost use Rattle.regress_meaning.specs.Inputs.{Input};
-ghost use Rattle.regress_engine_runs.specs.States.{unset, onward, begun, ended};
-ghost use Rattle.regress_engine_runs.specs.Runs.{choices, is_idle};
+ghost use Rattle.regress_engine_input.specs.Views.{direction_of};
+ghost use Rattle.regress_engine_runs.specs.States.{begun, ended};
+ghost use Rattle.regress_engine_runs.specs.Runs.{choices};
 ghost use Rattle.regress_engine_runs.specs.UndoStack.{frame};
 ghost use Rattle.regress_engine_search.specs.StateViews.{marks_of};
-ghost use Rattle.regress_engine_search.specs.Tasks.{Leads};
 ghost use Rattle.regress_engine_undo.specs.Held.{held, pushed, loop_written};
-ghost use Rattle.regress_engine_undo.specs.Sound.{IsHeld};
 ghost use Rattle.regress_engine_search.specs.Submatches.{submatch_of, reads_forward};
-ghost use Rattle.regress_engine_undo.specs.Tasks.{state_at, task, GoesOn, GoesOnPast, GoesOnIf, StaysSound};
+ghost use Rattle.regress_engine_undo.specs.Tasks.{ways_again, ways_in, with_marks, two_ways, GoesTo, RepeatsIf, RepeatsPast, StaysSound};
 
 use crate::memory::Memory;
 use crate::undo::{Frame, Spot, Undo};
@@ -80,7 +76,7 @@ impl Memory {
     #[inline]
     pub fn fork(&mut self, target: usize, spot: &mut Spot) -> Result<(), AllocError>
         requires { spot.old.at + 1 < 2 ^ 64 }
-        ensures leads { OnOk result (GoesOn (onward (state_at spot.old (held self.old)) ∷ record (state_at spot.old (held self.old)) { at = target } ∷ []) spot.old (held self.old) true spot.new (held self.new)) }
+        ensures leads { OnOk result (GoesTo (two_ways target) spot.old (held self.old) true spot.new (held self.new)) }
         ensures sound { OnOk result (StaysSound (held self.old) (held self.new)) }
     {
         self.push(Undo::Resume {
@@ -105,7 +101,7 @@ impl Memory {
     ) -> Result<(), AllocError>
         requires room { spot.old.at + 1 < 2 ^ 64 }
         requires there { group < length (held self.old).groups }
-        ensures leads { OnOk result (GoesOn (onward (record (state_at spot.old (held self.old)) { groups = slice_set (held self.old).groups group (marks_of marks) }) ∷ []) spot.old (held self.old) true spot.new (held self.new)) }
+        ensures leads { OnOk result (GoesTo (with_marks group (marks_of marks)) spot.old (held self.old) true spot.new (held self.new)) }
         ensures sound { OnOk result (StaysSound (held self.old) (held self.new)) }
     {
         self.write_group(group, marks)?;
@@ -154,7 +150,7 @@ impl Memory {
     ) -> Result<bool, AllocError>
         requires there { repetition.now.loop_id < length (held self.old).loops }
         requires begin { begin + 1 < 2 ^ 64 }
-        ensures leads { IfOk result (λ going. GoesOn (choices (fields repetition.now) begin (state_at spot.old (held self.old))) spot.old (held self.old) going spot.new (held self.new)) }
+        ensures leads { IfOk result (λ going. GoesTo (choices (fields repetition.now) begin) spot.old (held self.old) going spot.new (held self.new)) }
         ensures sound { OnOk result (StaysSound (held self.old) (held self.new)) }
     {
         let id = repetition.loop_id as usize;
@@ -198,7 +194,7 @@ impl Memory {
     ) -> Result<bool, AllocError>
         requires there { repetition.now.loop_id < length (held self.old).loops }
         requires begin { begin + 1 < 2 ^ 64 }
-        ensures leads { IfOk result (λ going. GoesOnPast repetition.now.exit (choices (fields repetition.now) begin (state_at spot.old (held self.old))) spot.old (held self.old) going spot.new (held self.new)) }
+        ensures leads { IfOk result (λ going. RepeatsPast (fields repetition.now) begin spot.old (held self.old) going spot.new (held self.new)) }
         ensures sound { OnOk result (StaysSound (held self.old) (held self.new)) }
     {
         let id = repetition.loop_id as usize;
@@ -221,7 +217,7 @@ impl Memory {
     ) -> Result<bool, AllocError>
         requires there { repetition.now.loop_id < length (held self.old).loops }
         requires begin { begin + 1 < 2 ^ 64 }
-        ensures leads { IfOk result (λ going. GoesOnIf dead repetition.now.exit (choices (fields repetition.now) begin (state_at spot.old (held self.old))) spot.old (held self.old) going spot.new (held self.new)) }
+        ensures leads { IfOk result (λ going. RepeatsIf dead (fields repetition.now) (λ f. choices f begin) spot.old (held self.old) going spot.new (held self.new)) }
         ensures sound { OnOk result (StaysSound (held self.old) (held self.new)) }
     {
         if dead {
@@ -246,7 +242,7 @@ impl Memory {
     ) -> Result<bool, AllocError>
         requires there { repetition.now.loop_id < length (held self.old).loops }
         requires room { spot.old.at + 1 < 2 ^ 64 }
-        ensures leads { IfOk result (λ going. GoesOnIf dead repetition.now.exit (choices (fields repetition.now) spot.old.at (record (state_at spot.old (held self.old)) { loops = slice_set (held self.old).loops repetition.now.loop_id (0, spot.old.offset) })) spot.old (held self.old) going spot.new (held self.new)) }
+        ensures leads { IfOk result (λ going. RepeatsIf dead (fields repetition.now) ways_in spot.old (held self.old) going spot.new (held self.new)) }
         ensures sound { OnOk result (StaysSound (held self.old) (held self.new)) }
     {
         self.write_loop(repetition.loop_id as usize, LoopData::new(spot.offset))?;
@@ -270,7 +266,7 @@ impl Memory {
     ) -> Result<bool, AllocError>
         requires there { repetition.now.loop_id < length (held self.old).loops }
         requires begin { begin + 1 < 2 ^ 64 }
-        ensures leads { IfOk result (λ going. GoesOnIf dead repetition.now.exit (if is_idle (fields repetition.now) (state_at spot.old (held self.old)) then [] else choices (fields repetition.now) begin (state_at spot.old (held self.old))) spot.old (held self.old) going spot.new (held self.new)) }
+        ensures leads { IfOk result (λ going. RepeatsIf dead (fields repetition.now) (ways_again begin) spot.old (held self.old) going spot.new (held self.new)) }
         ensures sound { OnOk result (StaysSound (held self.old) (held self.new)) }
     {
         let entered = self.loop_data(repetition.loop_id as usize);

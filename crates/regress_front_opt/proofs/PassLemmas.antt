@@ -1,5 +1,5 @@
 -- From what a pass does at a node to what it does in all of a tree.
-use Rattle.std.proofs.Common.{◌≡◌, ℕ, zero, suc, ◌<◌, Bool, true, false, ◌||◌, List, [], ◌∷◌, ◌++◌, length, map, get_or, set, drop, take, Result, Ok, Err, All, Option, le_of_suc-le-suc, refl, sym, ap, ◌∙◌, subst, arith}
+use Rattle.std.proofs.Common.{◌≡◌, ℕ, zero, suc, ◌<◌, Bool, true, false, ◌||◌, List, [], ◌∷◌, ◌++◌, length, map, get_or, set, drop, Result, Ok, Err, All, Option, le_of_suc-le-suc, refl, sym, ap, ◌∙◌, subst, arith}
 use Rattle.std.proofs.lemmas.List.Elements.{All-nil, All-cons, All-append}
 use Rattle.std.specs.Result.{IsErrAnd}
 use Rattle.std.proofs.lemmas.Result.{err_from_is_err_and}
@@ -9,11 +9,11 @@ use Rattle.regress_front_core.specs.declared.error.Error.TheVariants.{OutOfMemor
 use Rattle.regress_front_nodes.specs.declared.node.Node.{Node}
 use Rattle.regress_front_nodes.specs.Trees.{Tree, tree, cat_of, alt, capture, submatch, Submatch, loop, single_loop}
 use Rattle.regress_front_nodes.specs.WellFormed.{AreLawful}
-use Rattle.regress_front_nodes.specs.TreeMeaning.{submatch_direction, direction}
+use Rattle.regress_front_nodes.specs.TreeMeaning.{submatch_direction}
 use Rattle.regress_front_rules.specs.NormalForm.{nodes_below, Nowhere}
-use Rattle.regress_front_rules.specs.Rules.{RewritesAtRoot, Rewrites, there, in_part, in_first, in_second, in_capture, in_submatch, in_loop, in_single_loop, Reaches, stays, and_then}
+use Rattle.regress_front_rules.specs.Rules.{HasLaws, RewritesAtRoot, Rewrites, there, in_part, in_first, in_second, in_capture, in_submatch, in_loop, in_single_loop, Reaches, stays, and_then}
 use Rattle.regress_front_opt.specs.declared.action.PassAction.{PassAction}
-use Rattle.regress_front_opt.specs.Passes.{HasLaws, Advances, IsPassed, IsVisited, IsVisitedHere, IsVisitedBelow, AreVisited}
+use Rattle.regress_front_opt.specs.Passes.{Advances, IsPassed, IsVisited, IsVisitedHere, IsVisitedBelow, AreVisited}
 use Rattle.regress_front_rules.proofs.KeepLemmas.{reaches-then, reaches-in, reaches-keeps, reaches-weight, rewrites-rewritten}
 use Rattle.regress_front_rules.specs.Weight.{weight}
 use Rattle.regress_front_rules.proofs.PlaceLemmas.{nowhere-parts}
@@ -25,6 +25,10 @@ advances-reaches a = and_then a.first a.others
 
 pub root-advances : {dir : Direction} {t u : Tree} → RewritesAtRoot dir t u → Advances dir t u
 root-advances {u = u} h = record { next = u; first = there h; others = stays }
+
+-- a choice whose words are shared, where the node stands in no lookbehind
+pub shared-advances : (behind : Bool) (t a b c d u : Tree) → behind ≡ false → t ≡ alt c d → a ≡ c → b ≡ d → RewritesAtRoot Forward (alt a b) u → Advances (direction behind) t u
+shared-advances behind t a b c d u e f g h r = rw (e, f, ← g, ← h) (root-advances r)
 
 pub advances-then : {dir : Direction} {t u v : Tree} → Advances dir t u → Reaches dir u v → Advances dir t v
 advances-then a h = record { next = a.next; first = a.first; others = reaches-then a.others h }

@@ -227,16 +227,6 @@ flattened-Cat n ps e =
 pub flattened-other : (t : Tree) → is_cat t ≡ false → is_empty t ≡ false → flattened (t ∷ []) ≡ t ∷ []
 flattened-other t h k = rw (h, k) refl
 
--- the same element at a place from which on two lists agree
-pub same-at : (ns ms : List Node) (i : ℕ) (d : Node) → drop i ns ≡ drop i ms → get_or ns i d ≡ get_or ms i d
-same-at ns ms i d e = sym (get_or-drop-zero ns i d) ∙ ap (λ xs. get_or xs 0 d) e ∙ get_or-drop-zero ms i d
-  where
-    get_or-drop-zero : (xs : List Node) (i : ℕ) (d : Node) → get_or (drop i xs) 0 d ≡ get_or xs i d
-    get_or-drop-zero [] zero d = refl
-    get_or-drop-zero [] (suc i) d = refl
-    get_or-drop-zero (x ∷ xs) zero d = refl
-    get_or-drop-zero (x ∷ xs) (suc i) d = get_or-drop-zero xs i d
-
 -- one more is moved
 pub flattened-more : (ns : List Node) (i : ℕ) (d : Node) → i < length ns → flattened (map tree (take (i + 1) ns)) ≡ flattened (map tree (take i ns)) ++ flattened (tree (get_or ns i d) ∷ [])
 flattened-more ns i d l =

@@ -12,11 +12,11 @@ use Rattle.regress_front_nodes.specs.Sizes.{size, loops}
 use Rattle.regress_front_nodes.specs.WellFormed.{group_ids}
 use Rattle.regress_front_rules.specs.NormalForm.{is_unrollable, has_no_group}
 use Rattle.regress_front_rules.specs.Rules as rules
-use Rattle.regress_front_rules.specs.Rules.{copies, unrolled}
+use Rattle.regress_front_rules.specs.Rules.{HasLaws, copies, unrolled}
 use Rattle.regress_front_rules.proofs.RuleLemmas.{small_loop}
 use Rattle.regress_front_rules.proofs.ClauseLemmas.{nesting-size}
 use Rattle.regress_front_opt.specs.Shapes.{is_flat, MayBeUnrolled}
-use Rattle.regress_front_opt.specs.Passes.{HasLaws, Advances}
+use Rattle.regress_front_opt.specs.Passes.{Advances}
 use Rattle.regress_front_opt.proofs.PassLemmas.{root-advances}
 use Rattle.regress_front_opt.proofs.ShapeLemmas.{zero-sum, none-found}
 

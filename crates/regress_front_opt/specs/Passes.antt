@@ -1,5 +1,5 @@
 -- What passes do at a node, and in all of a tree.
-use Rattle.std.specs.Prelude.{◌≡◌, ℕ, Bool, true, false, List, [], ◌∷◌, Option, Some, None, Result, Ok, Err, All}
+use Rattle.std.specs.Prelude.{◌≡◌, ℕ, Bool, true, false, List, Option, Some, None, Result, Ok, Err, All}
 use Rattle.regress_meaning.specs.Meaning.{Direction, Forward}
 use Rattle.regress_front_core.specs.declared.error.Error.{Error}
 use Rattle.regress_front_core.specs.declared.error.Error.TheVariants.{OutOfMemory}
@@ -9,15 +9,10 @@ use Rattle.regress_front_nodes.specs.declared.node.Node.{Node}
 use Rattle.regress_front_nodes.specs.Trees.{Tree, tree, empty, cat_of}
 use Rattle.regress_front_nodes.specs.TreeMeaning.{bracket_has}
 use Rattle.regress_front_nodes.specs.Characters.{Takes}
-use Rattle.regress_front_nodes.specs.WellFormed.{AreLawful}
 use Rattle.regress_front_opt.specs.declared.action.PassAction.{PassAction}
 use Rattle.regress_front_opt.specs.declared.action.PassAction.TheVariants.{Keep, Modified, Remove, Replace}
 use Rattle.regress_front_rules.specs.NormalForm.{nodes_below, Nowhere, IsNormal}
 use Rattle.regress_front_rules.specs.Rules.{is_bracket, Rewrites, Reaches}
-
--- it is lawful, as a part of a tree of some number of groups
-abbrev pub HasLaws : Tree → Type 0
-HasLaws t = (n : ℕ) × AreLawful n t
 
 -- One rule makes another tree of the first, and rules one after another lead from there to the second.
 pub record Advances (dir : Direction) (t u : Tree) : Type 0 where

@@ -3,7 +3,7 @@ ghost use Rattle.std.specs.Prelude.{◌≡◌, false, encode_utf8, IfOk, MatchOp
 ghost use Rattle.regress_meaning.specs.TableParts.{is_surrogate};
 ghost use Rattle.regress_front_nodes.specs.Trees.{tree, char};
 ghost use Rattle.regress_front_rules.specs.NormalForm.{is_loose_char};
-ghost use Rattle.regress_front_opt.specs.Passes.{HasLaws};
+ghost use Rattle.regress_front_rules.specs.Rules.{HasLaws};
 
 use crate::action::PassAction;
 use crate::passing::Pass;

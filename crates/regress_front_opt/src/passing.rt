@@ -2,7 +2,8 @@
 ghost use Rattle.std.specs.Prelude.{Bool};
 ghost use Rattle.regress_front_nodes.specs.Trees.{Tree, tree};
 ghost use Rattle.regress_front_nodes.specs.TreeMeaning.{direction};
-ghost use Rattle.regress_front_opt.specs.Passes.{HasLaws, IsPassed};
+ghost use Rattle.regress_front_rules.specs.Rules.{HasLaws};
+ghost use Rattle.regress_front_opt.specs.Passes.{IsPassed};
 
 use crate::action::PassAction;
 use regress_front_nodes::Node;

@@ -1,10 +1,12 @@
 //! Rounds of passes.
-ghost use Rattle.std.specs.Prelude.{◌≡◌, ℕ, OnOk, IfErr};
+ghost use Rattle.std.specs.Prelude.{◌≡◌, ℕ, false, OnOk, IfErr};
+ghost use Rattle.regress_meaning.specs.Meaning.{Forward};
 ghost use Rattle.regress_front_nodes.specs.Trees.{tree};
 ghost use Rattle.regress_front_nodes.specs.WellFormed.{IsWellFormed};
 ghost use Rattle.regress_front_rules.specs.Laws.{IsRewritten};
 ghost use Rattle.regress_front_rules.specs.NormalForm.{IsNormal};
-ghost use Rattle.regress_front_opt.specs.Passes.{HasLaws, IsRound};
+ghost use Rattle.regress_front_rules.specs.Rules.{HasLaws, Reaches};
+ghost use Rattle.regress_front_opt.specs.Passes.{IsRound, IsVisited};
 
 use crate::brackets::SimpleBrackets;
 use crate::cats::ShortCats;
@@ -15,6 +17,7 @@ use crate::flattening::FlattenedCats;
 use crate::idling::IdleLoops;
 use crate::joining::JoinedLiterals;
 use crate::letters::SpelledChars;
+use crate::sharing::SharedWords;
 use crate::single_loops::SingleLoops;
 use crate::unrolling::UnrolledLoops;
 use crate::visiting::visit;
@@ -34,13 +37,33 @@ fn round(alloc: Global, node: &mut Node) -> Result<bool, Error>
         Then(leaves, Then(LostCats, Then(IdleLoops, UnrolledLoops))),
         Then(sequences, Then(EmptyChoices, SingleLoops)),
     );
-    visit(&passes, alloc, false, node)
+    visit(&passes, alloc, false, false, node)
+}
+
+/// Rounds until nothing changes.
+fn settle(alloc: Global, node: &mut Node) -> Result<(), Error>
+    requires { HasLaws (tree node.old) }
+    ensures reached { Reaches Forward (tree node.old) (tree node.new) }
+    ensures normal { OnOk result (IsNormal (tree node.new)) }
+    ensures refused { IfErr result (λ e. e ≡ Error.OutOfMemory) }
+{
+    while round(alloc, node)? {}
+    Ok(())
+}
+
+/// Lets the words of each choice share what they begin with, and answers whether some do.
+fn share(alloc: Global, node: &mut Node) -> Result<bool, Error>
+    requires { HasLaws (tree node.old) }
+    ensures { IsVisited Forward (λ _. false) (tree node.old) (tree node.new) result }
+{
+    visit(&SharedWords, alloc, true, false, node)
 }
 
 /// Rewrites a pattern's tree to one that is searched faster and matches the same.
 ///
-/// Asks for a well-formed tree. It is rewritten in its place, in rounds, until no pass changes anything. It errs with
-/// `Error::OutOfMemory` alone, and then the tree is rewritten in part: it still matches the same.
+/// Asks for a well-formed tree. It is rewritten in its place, in rounds, until no pass changes anything; then words share what
+/// they begin with, and where some do rounds follow again. It errs with `Error::OutOfMemory` alone, and then the tree is
+/// rewritten in part: it still matches the same.
 ///
 /// ```rust
 /// let mut regex = try_parse(alloc, &[0x61, 0x2A], Flags::default(), &tables)?; // /a*/
@@ -53,6 +76,9 @@ pub fn optimize(alloc: Global, regex: &mut Regex) -> Result<(), Error>
     ensures kept { (regex.new.flags ≡ regex.old.flags) × (regex.new.tables ≡ regex.old.tables) }
     ensures refused { IfErr result (λ e. e ≡ Error.OutOfMemory) }
 {
-    while round(alloc, &mut regex.node)? {}
+    settle(alloc, &mut regex.node)?;
+    if share(alloc, &mut regex.node)? {
+        settle(alloc, &mut regex.node)?;
+    }
     Ok(())
 }

@@ -6,7 +6,7 @@ ghost use Rattle.std.specs.Str.{IsUtf8};
 ghost use Rattle.regress_meaning.specs.Tokens.{greatest};
 ghost use Rattle.regress_front_nodes.specs.Trees.{tree, cat_of};
 ghost use Rattle.regress_front_nodes.specs.Sizes.{size};
-ghost use Rattle.regress_front_opt.specs.Passes.{HasLaws};
+ghost use Rattle.regress_front_rules.specs.Rules.{HasLaws};
 ghost use Rattle.regress_front_opt.specs.Shapes.{is_flat};
 
 use regress_front_nodes::Node;

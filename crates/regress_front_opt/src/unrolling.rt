@@ -6,8 +6,7 @@ ghost use Rattle.regress_front_nodes.specs.Forms.{nesting, deepest_copy};
 ghost use Rattle.regress_front_nodes.specs.Sizes.{size};
 ghost use Rattle.regress_front_nodes.specs.WellFormed.{group_ids};
 ghost use Rattle.regress_front_rules.specs.NormalForm.{is_unrollable, largest_copied};
-ghost use Rattle.regress_front_rules.specs.Rules.{copies, unrolled};
-ghost use Rattle.regress_front_opt.specs.Passes.{HasLaws};
+ghost use Rattle.regress_front_rules.specs.Rules.{HasLaws, copies, unrolled};
 ghost use Rattle.regress_front_opt.specs.Shapes.{MayBeUnrolled, is_flat};
 
 use crate::action::PassAction;

@@ -14,12 +14,13 @@ use Rattle.regress_front_nodes.specs.WellFormed.{group_ids, goals, last_part, Ar
 use Rattle.regress_front_nodes.specs.Characters.{is_character}
 use Rattle.regress_front_nodes.proofs.PieceLemmas.{scalar-from}
 use Rattle.regress_front_nodes.proofs.OptionLemmas.{option_or-none}
-use Rattle.regress_front_rules.specs.Rules.{joined, unrolled, is_bracket, RewritesAtRoot, flattens, drops_empty, is_one_part, is_no_part, joins, spells, lists, is_empty_choice, is_lost, unrolls, loops_one, idles, skips, once, Rewrites, there, in_part, in_first, in_second, in_capture, in_submatch, in_loop, in_single_loop, Reaches, stays, and_then}
+use Rattle.regress_front_rules.specs.Rules.{joined, unrolled, is_bracket, RewritesAtRoot, flattens, drops_empty, is_one_part, is_no_part, joins, spells, lists, is_empty_choice, is_lost, unrolls, loops_one, idles, skips, shares, once, Rewrites, there, in_part, in_first, in_second, in_capture, in_submatch, in_loop, in_single_loop, Reaches, stays, and_then}
 use Rattle.regress_front_rules.specs.Weight.{pending, bulk, weight}
 use Rattle.regress_front_rules.specs.Kept.{Keeps}
 use Rattle.regress_front_rules.proofs.IdleLemmas.{idle-groups, none-of}
 use Rattle.regress_front_rules.specs.NormalForm.{is_idle}
 use Rattle.regress_front_rules.proofs.RuleLemmas.{IsLostCat, lost-parts, IsSmallLoop, small_loop, spelled-chars}
+use Rattle.regress_front_rules.proofs.WordLemmas.{words-ids, words-goals, words-loops, words-pending, words-lawful}
 use Rattle.regress_front_rules.proofs.OneLemmas.{rewrites-one}
 use Rattle.regress_front_rules.proofs.MeasureLemmas.{size-append, bulk-append, pending-append, loops-append, goals-append, ids-append, names-append, lawful-append, pending-loops, bulk-size, size-copies, bulk-copies, pending-copies, loops-copies, goals-copies, ids-copies, no_names, lawful-copies}
 
@@ -137,7 +138,7 @@ joins-rewritten dir xs ys vs = record {
     lawful = λ n l. ((joined-lawful dir xs ys l.0 l.1.0).0, l.1.1);
     no_larger = λ n l. let (a, b) = joined-lawful dir xs ys l.0 l.1.0 in omega (arith, b);
   };
-  lighter = λ n l. omega arith;
+  lighter = λ n l. let (a, b) = joined-lawful dir xs ys l.0 l.1.0 in omega (arith, b);
 }
   where
     by_rest : (vs : List Tree) → last_part (cat_of (bytes xs ∷ bytes ys ∷ vs)) ≡ goal → last_part (cat_of (bytes (joined dir xs ys) ∷ vs)) ≡ goal
@@ -146,7 +147,7 @@ joins-rewritten dir xs ys vs = record {
 
 spells-rewritten : (c : ℕ) → is_surrogate c ≡ false → IsRewritten (char c) (bytes (encode_utf8 c))
 spells-rewritten c e = leaf-rewritten (char c) (bytes (encode_utf8 c)) refl refl refl refl refl refl
-    (λ n h. ((omega (arith, length-encode c, (len_utf8_bounds c).0), IsUtf8-encode c (scalar-from c h e)), omega (arith, ap length (spelled-chars c h e)), omega arith))
+    (λ n h. ((omega (arith, length-encode c, (len_utf8_bounds c).0), IsUtf8-encode c (scalar-from c h e)), omega (arith, ap length (spelled-chars c h e)), omega (arith, ap length (spelled-chars c h e))))
 
 lists-rewritten : (inverted : Bool) (intervals : List (ℕ × ℕ)) (t : Tree) → is_bracket t ≡ false → is_character t ≡ true → AreLawful 0 t → IsRewritten (bracket inverted intervals) t
 lists-rewritten inverted intervals (char c) k e h = leaf-rewritten (bracket inverted intervals) (char c) refl refl refl refl refl refl (λ n l. (h, omega arith, omega arith))
@@ -183,7 +184,7 @@ unrolls-rewritten a first last least most greedy s =
         no_larger = λ n l. omega (arith, before, after, none, s.few, s.small, size-copies least a (rest ∷ []) s.small);
       };
       lighter = λ n l.
-          let bounded : bulk a ≤ 3840 = omega (arith, bulk-size n a l.2, s.small) in
+          let bounded : bulk a ≤ 8960 = omega (arith, bulk-size n a l.2, s.small) in
           omega (arith, before, after, none, s.few, bulk-copies least a (rest ∷ []) bounded);
     }
 
@@ -301,6 +302,9 @@ root-rewritten (unrolls {a} {first} {last} {least} {most} {greedy} e) = unrolls-
 root-rewritten (loops_one {a} {first} {last} {least} {most} {greedy} e) = single-rewritten a first last least most greedy e
 root-rewritten (idles {a} {first} {last} {least} {most} {greedy} e) = idle-rewritten a first last least most greedy e
 root-rewritten (skips {a} {first} {last} {least} {most} {greedy} e h) = skipped-rewritten a first last least most greedy (none-of (group_ids a) h)
+root-rewritten (shares {a} {b} {u} e h k alike lawful larger lighter) =
+    leaf-rewritten (alt a b) u (words-ids (alt a b) h) (words-ids u k) (words-goals (alt a b) h) (words-goals u k) (words-loops u k) (words-pending u k)
+    (λ n l. (words-lawful n u k lawful, larger, lighter))
 
 first-rewritten : (a b c : Tree) → IsRewritten a b → IsRewritten (alt a c) (alt b c)
 first-rewritten a b c h =

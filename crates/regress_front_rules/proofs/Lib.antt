@@ -2,6 +2,7 @@ pub mod StepLemmas
 pub mod InsideLemmas
 pub mod LoopLemmas
 pub mod IdleLemmas
+pub mod WordLemmas
 pub mod RuleLemmas
 pub mod OneLemmas
 pub mod MeasureLemmas

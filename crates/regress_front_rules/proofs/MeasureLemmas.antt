@@ -1,5 +1,5 @@
 -- Measures of parts one after another, and of copies.
-use Rattle.std.proofs.Common.{◌≡◌, ℕ, zero, suc, ◌+◌, ◌*◌, ◌<◌, ◌≤◌, Bool, true, false, List, [], ◌∷◌, ◌++◌, Option, None, length, chars, nat_le, if◌then◌else◌, IsUtf8, refl, sym, ap, ◌∙◌, arith}
+use Rattle.std.proofs.Common.{◌≡◌, ℕ, zero, suc, ◌+◌, ◌*◌, ◌<◌, ◌≤◌, Bool, true, false, List, [], ◌∷◌, ◌++◌, None, length, chars, nat_le, if◌then◌else◌, IsUtf8, refl, sym, ap, ◌∙◌, arith}
 use Rattle.std.specs.Option.{option_or}
 use Rattle.std.proofs.lemmas.List.{append_assoc}
 use Rattle.std.proofs.lemmas.Str.{chars-encodes}
@@ -68,8 +68,8 @@ some-chars bs h (c ∷ cs, (scalars, encodes)) =
     let same : chars bs ≡ c ∷ cs = ap chars (sym encodes) ∙ chars-encodes (c ∷ cs) scalars in
     rw same (omega arith)
 
--- a lawful tree has at most three times its size in bulk
-pub bulk-size : (n : ℕ) (t : Tree) → AreLawful n t → bulk t ≤ 3 * size t
+-- a lawful tree has at most seven times its size in bulk
+pub bulk-size : (n : ℕ) (t : Tree) → AreLawful n t → bulk t ≤ 7 * size t
 bulk-size n (bytes bs) h = omega (arith, some-chars bs h.0 h.1)
 bulk-size n (cat a b) h = omega (arith, bulk-size n a h.0, bulk-size n b h.1)
 bulk-size n (alt a b) h = omega (arith, bulk-size n a h.0, bulk-size n b h.1)
@@ -85,7 +85,7 @@ pub size-copies : (k : ℕ) (a : Tree) (rest : List Tree) → size a ≤ largest
 size-copies zero a rest h = omega arith
 size-copies (suc k) a rest h = omega (arith, size-copies k a rest h)
 
-pub bulk-copies : (k : ℕ) (a : Tree) (rest : List Tree) → bulk a ≤ 3840 → bulk (cat_of (copies k a rest)) ≤ 3840 * k + bulk (cat_of rest)
+pub bulk-copies : (k : ℕ) (a : Tree) (rest : List Tree) → bulk a ≤ 8960 → bulk (cat_of (copies k a rest)) ≤ 8960 * k + bulk (cat_of rest)
 bulk-copies zero a rest h = omega arith
 bulk-copies (suc k) a rest h = omega (arith, bulk-copies k a rest h)
 

@@ -1,20 +1,22 @@
 -- Each tree reaches one in normal form: where a node breaks a clause a rule applies, and each rule lowers the weight.
 use Rattle.std.proofs.Common.{◌≡◌, ℕ, zero, suc, ◌<◌, ◌⊎◌, Bool, true, false, List, [], ◌∷◌, ◌++◌, All, subst, refl, sym, ap, inl, inr, arith, append_assoc, nat_le, if◌then◌else◌}
-use Rattle.std.proofs.lemmas.Bool.{false≢true}
+use Rattle.std.proofs.lemmas.Bool.{false≢true, and_parts}
 use Rattle.std.proofs.lemmas.List.Elements.{All-nil, All-cons, All-append}
 use Rattle.regress_meaning.specs.Meaning.{Direction}
 use Rattle.regress_front_nodes.specs.Trees.{Tree, empty, bytes, cat, no_part, cat_of, alt, capture, submatch, loop, single_loop}
-use Rattle.regress_front_nodes.specs.TreeMeaning.{submatch_direction, direction}
+use Rattle.regress_front_nodes.specs.TreeMeaning.{submatch_direction}
 use Rattle.regress_front_nodes.specs.Forms.{is_cat, parts}
 use Rattle.regress_front_nodes.specs.WellFormed.{AreLawful}
 use Rattle.regress_front_nodes.specs.Characters.{is_character}
 use Rattle.regress_front_nodes.proofs.NodeLemmas.{is_cat-cat_of}
 use Rattle.regress_front_rules.specs.NormalForm.{nodes_below, Nowhere, is_short_cat, has_loose_part, has_split_literal, is_loose_char, is_unrollable, is_loop_of_one, is_empty_choice, is_lost_cat, IsNormal, is_idle_loop}
 use Rattle.regress_front_rules.specs.Rules as rules
-use Rattle.regress_front_rules.specs.Rules.{joined, copies, RewritesAtRoot, flattens, drops_empty, is_one_part, is_no_part, joins, spells, lists, is_lost, unrolls, loops_one, Rewrites, there, in_part, in_first, in_second, in_capture, in_submatch, in_loop, in_single_loop, Reaches, stays, and_then, idles, skips}
+use Rattle.regress_front_rules.specs.Rules.{joined, copies, RewritesAtRoot, flattens, drops_empty, is_one_part, is_no_part, joins, spells, lists, is_lost, unrolls, loops_one, Rewrites, there, in_part, in_first, in_second, in_capture, in_submatch, in_loop, in_single_loop, Reaches, stays, and_then, idles, skips, shares}
+use Rattle.regress_front_rules.specs.Words.{is_of_words}
 use Rattle.regress_front_rules.specs.Weight.{weight}
 use Rattle.regress_front_rules.specs.Laws.{IsListed, AreListed, IsRedex, NormalFormsAreReached}
 use Rattle.regress_front_rules.proofs.ClauseLemmas.{short_cat, loose_part, split_literal, loose_char, unrollable_loop, loop_of_one, empty_choice, lost_cat, idle_loop}
+use Rattle.regress_front_rules.proofs.WordLemmas.{cat-words}
 use Rattle.regress_front_rules.proofs.RewriteLemmas.{all-right}
 
 -- ---- parts stay lists
@@ -54,6 +56,14 @@ listed-character (loop a first last least most greedy) h = absurd (false≢true 
 listed-character (single_loop a least most greedy) h = absurd (false≢true h)
 listed-character _ h = tt
 
+words-listed : (t : Tree) → is_of_words t ≡ true → AreListed t
+words-listed empty h = tt
+words-listed (bytes bs) h = tt
+words-listed (cat a b) h = let p = cat-words a b h in (words-listed a p.0, words-listed b p.1, p.2)
+words-listed no_part h = tt
+words-listed (alt a b) h = let p = and_parts (is_of_words a) (is_of_words b) h in (words-listed a p.0, words-listed b p.1)
+words-listed _ h = absurd (false≢true h)
+
 root-listed : {dir : Direction} {t u : Tree} → RewritesAtRoot dir t u → AreListed t → AreListed u
 root-listed (flattens ts us vs) l = let (a, b) = listed-apart ts (cat_of us ∷ vs) l in listed-append ts (us ++ vs) a (listed-append us vs b.0 b.1)
 root-listed (drops_empty ts vs) l = let (a, b) = listed-apart ts (empty ∷ vs) l in listed-append ts vs a b.1
@@ -74,6 +84,7 @@ root-listed (idles {a} {first} {last} {least} e) l = once-listed (nat_le 1 least
     once-listed true = l
     once-listed false = tt
 root-listed (skips e h) l = tt
+root-listed (shares {u = u} e h k alike lawful larger lighter) l = words-listed u k
 
 -- a rule somewhere leaves each `Cat` a list of parts
 pub rewrites-listed : {dir : Direction} {t u : Tree} → Rewrites dir t u → AreListed t → AreListed u

@@ -15,7 +15,7 @@ use Rattle.regress_front_nodes.specs.TreeMeaning.{bracket_has}
 use Rattle.regress_front_nodes.specs.Characters.{Takes}
 use Rattle.regress_front_nodes.proofs.NodeLemmas.{takes_one-cat_of, same_text-same}
 use Rattle.regress_front_nodes.proofs.PieceLemmas.{scalar-from}
-use Rattle.regress_front_rules.specs.Rules.{is_bracket, flattens, drops_empty, is_one_part, is_no_part, joins, spells, lists, is_empty_choice, is_lost, unrolls, loops_one, idles, skips, Rewrites, there, in_part, in_first, in_second, in_capture, in_submatch, in_loop, in_single_loop}
+use Rattle.regress_front_rules.specs.Rules.{is_bracket, flattens, drops_empty, is_one_part, is_no_part, joins, spells, lists, is_empty_choice, is_lost, unrolls, loops_one, idles, skips, shares, Rewrites, there, in_part, in_first, in_second, in_capture, in_submatch, in_loop, in_single_loop}
 use Rattle.regress_front_rules.proofs.RuleLemmas.{spelled-chars}
 
 -- a `Bracket` that takes something takes no more as a set of none
@@ -65,6 +65,7 @@ rewrites-one (there (unrolls e)) n l h = absurd (false≢true h)
 rewrites-one (there (loops_one e)) n l h = absurd (false≢true h)
 rewrites-one (there (idles e)) n l h = absurd (false≢true h)
 rewrites-one (there (skips e k)) n l h = absurd (false≢true h)
+rewrites-one (there (shares e f k alike lawful larger lighter)) n l h = absurd (false≢true h)
 rewrites-one (in_part {a = a} ts vs r) n l h = absurd (no_cat (ts ++ a ∷ vs) h)
 rewrites-one (in_first r) n l h = absurd (false≢true h)
 rewrites-one (in_second r) n l h = absurd (false≢true h)

@@ -8,7 +8,6 @@ use Rattle.regress_front_nodes.specs.Trees.{Tree, cat_of}
 use Rattle.regress_front_nodes.specs.TreeMeaning.{submatch_direction, node_outcomes}
 use Rattle.regress_front_nodes.specs.Alike.{distinct, GoAlike}
 use Rattle.regress_front_nodes.specs.WellFormed.{AreLawful}
-use Rattle.regress_front_nodes.specs.TreeMeaning.{direction}
 use Rattle.regress_front_nodes.proofs.DistinctLemmas.{joined-alike, followed-alike, changed-alike, submatched-alike, iterated-alike}
 use Rattle.regress_front_rules.specs.Rules.{Rewrites, there, in_part, in_first, in_second, in_capture, in_submatch, in_loop, in_single_loop, Reaches, stays, and_then}
 use Rattle.regress_front_rules.specs.Laws.{RulesAreRight, WholesAreRight}

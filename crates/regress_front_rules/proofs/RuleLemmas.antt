@@ -24,11 +24,12 @@ use Rattle.regress_front_nodes.proofs.SequenceLemmas.{cat_of-append}
 use Rattle.regress_front_nodes.proofs.PieceLemmas.{scalar-from}
 use Rattle.regress_front_nodes.proofs.NodeLemmas.{always_fails-nothing, parts-cat_of}
 use Rattle.regress_front_rules.specs.NormalForm.{is_unrollable, is_lost_cat, has_no_group}
-use Rattle.regress_front_rules.specs.Rules.{joined, RewritesAtRoot, flattens, drops_empty, is_one_part, is_no_part, joins, spells, lists, is_empty_choice, is_lost, unrolls, loops_one, idles, skips}
+use Rattle.regress_front_rules.specs.Rules.{joined, RewritesAtRoot, flattens, drops_empty, is_one_part, is_no_part, joins, spells, lists, is_empty_choice, is_lost, unrolls, loops_one, idles, skips, shares}
 use Rattle.regress_front_rules.proofs.StepLemmas.{literals-joined}
 use Rattle.regress_front_rules.proofs.InsideLemmas.{tree-inside}
 use Rattle.regress_front_rules.proofs.LoopLemmas.{unrolled-same, single-same}
 use Rattle.regress_front_rules.proofs.IdleLemmas.{none-of, idle-alike, skipped-alike}
+use Rattle.regress_front_rules.proofs.WordLemmas.{words-same}
 
 pub parts-lawful : (n : ℕ) (ts us : List Tree) → AreLawful n (cat_of (ts ++ us)) → AreLawful n (cat_of ts) × AreLawful n (cat_of us)
 parts-lawful n [] us h = (tt, h)
@@ -170,3 +171,4 @@ module _ (w : Context) (valid : All is_code_point w.text) where
       same-alike _ _ (single-same w a first last least most greedy dir (takes_one-groups a e) h.0)
   root-alike {dir} (idles {a} {first} {last} {least} {most} {greedy} e) n h = λ s inside. idle-alike w a first last least most greedy dir n e h s
   root-alike {dir} (skips {a} {first} {last} {least} {most} {greedy} e k) n h = λ s inside. skipped-alike w a first last least most greedy dir n e k h s
+  root-alike {dir} (shares {a} {b} {u} e h k alike lawful larger lighter) n l = λ s inside. ap distinct (words-same w dir e (alt a b) u h k alike s inside)

@@ -1,4 +1,5 @@
 pub mod NormalForm
+pub mod Words
 pub mod Rules
 pub mod Weight
 pub mod Kept

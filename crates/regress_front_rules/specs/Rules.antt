@@ -1,12 +1,21 @@
--- The rules by which a tree is rewritten. Only the joining of literals looks at the direction in which the tree is read.
-use Rattle.std.specs.Prelude.{◌≡◌, ℕ, zero, suc, ◌-◌, Bool, true, false, List, [], ◌∷◌, ◌++◌, encode_utf8, Option, nat_le, if◌then◌else◌}
+-- The rules by which a tree is rewritten. Only the joining of literals looks at the direction in which the tree is read, and
+-- the sharing of what words begin with asks that it is read forward.
+use Rattle.std.specs.Prelude.{◌≡◌, ℕ, zero, suc, ◌-◌, ◌<◌, ◌≤◌, Bool, true, false, List, [], ◌∷◌, ◌++◌, encode_utf8, Option, nat_le, if◌then◌else◌}
 use Rattle.regress_meaning.specs.TableParts.{is_surrogate}
 use Rattle.regress_meaning.specs.Meaning.{Direction, Forward, Backward}
 use Rattle.regress_front_nodes.specs.Trees.{Tree, empty, char, bytes, char_set, cat_of, no_part, alt, capture, bracket, submatch, Submatch, loop, single_loop}
-use Rattle.regress_front_nodes.specs.TreeMeaning.{submatch_direction, bracket_has, direction}
+use Rattle.regress_front_nodes.specs.TreeMeaning.{submatch_direction, bracket_has}
 use Rattle.regress_front_nodes.specs.Characters.{Takes}
 use Rattle.regress_front_nodes.specs.Singles.{takes_one}
+use Rattle.regress_front_nodes.specs.Sizes.{size}
+use Rattle.regress_front_nodes.specs.WellFormed.{AreLawful}
 use Rattle.regress_front_rules.specs.NormalForm.{is_lost_cat, is_unrollable, is_idle, has_no_group}
+use Rattle.regress_front_rules.specs.Words.{is_of_words, words, AreFoundAlike}
+use Rattle.regress_front_rules.specs.Weight.{bulk}
+
+-- it is lawful, as a part of a tree of some number of groups
+abbrev pub HasLaws : Tree → Type 0
+HasLaws t = (n : ℕ) × AreLawful n t
 
 -- Two literals as one. Parts stand in the order in which they are read, a literal in that of the text: so where a tree is
 -- read backward, the bytes of the second stand before those of the first.
@@ -63,6 +72,9 @@ pub data RewritesAtRoot (dir : Direction) : Tree → Tree → Type 0 where
   idles : {a : Tree} {first last least most : ℕ} {greedy : Bool} → is_idle a ≡ true → RewritesAtRoot dir (loop a first last least most greedy) (once a least)
   -- a loop that is never entered, and holds no group, is `Empty`
   skips : {a : Tree} {first last least most : ℕ} {greedy : Bool} → most ≡ 0 → has_no_group a ≡ true → RewritesAtRoot dir (loop a first last least most greedy) empty
+  -- a choice between words is any lighter tree of these words that is no larger: words share what they begin with
+  shares : {a b u : Tree} → dir ≡ Forward → is_of_words (alt a b) ≡ true → is_of_words u ≡ true → AreFoundAlike (words (alt a b)) (words u)
+      → AreLawful 0 u → size u ≤ size (alt a b) → bulk u < bulk (alt a b) → RewritesAtRoot dir (alt a b) u
 
 -- One rule makes the second tree of the first, there or somewhere below. The direction is that in which the first is read.
 pub data Rewrites : Direction → Tree → Tree → Type 0 where

@@ -1,5 +1,5 @@
 -- A number that each rule lowers, so that rounds of rewriting end, and a number that none raises, which bounds the size.
-use Rattle.std.specs.Prelude.{ℕ, ◌+◌, ◌*◌, if◌then◌else◌, nat_le}
+use Rattle.std.specs.Prelude.{ℕ, ◌+◌, ◌*◌, if◌then◌else◌, nat_le, length, chars}
 use Rattle.regress_front_nodes.specs.Trees.{Tree, empty, goal, char, bytes, byte_set, char_set, cat, no_part, alt, any, any_in_line, line_start, line_end, boundary, capture, back, bracket, string_set, submatch, loop, single_loop}
 use Rattle.regress_front_nodes.specs.Sizes.{size}
 
@@ -28,20 +28,21 @@ pending (back k icase) = 0
 pending (bracket inverted intervals) = 0
 pending (string_set strings icase) = 0
 
--- How many nodes there are, where a literal counts as one, and what a rule makes simpler counts more than what it becomes.
+-- How many nodes there are, where a literal counts as one and as four for each of its characters, since what shares one is up
+-- to three nodes more, and where what a rule makes simpler counts more than what it becomes.
 abbrev pub bulk : Tree → ℕ
-bulk (char c) = 2
+bulk (char c) = 6
 bulk (cat a b) = bulk a + bulk b
 bulk no_part = 2
 bulk (alt a b) = bulk a + bulk b + 1
 bulk (capture k name a) = bulk a + 1
-bulk (bracket inverted intervals) = 3
+bulk (bracket inverted intervals) = 7
 bulk (submatch kind first last a) = bulk a + 1
 bulk (loop a first last least most greedy) = bulk a + 2
 bulk (single_loop a least most greedy) = bulk a + 1
 bulk empty = 1
 bulk goal = 1
-bulk (bytes bs) = 1
+bulk (bytes bs) = 4 * length (chars bs) + 1
 bulk (byte_set bs) = 1
 bulk (char_set cs) = 1
 bulk any = 1
@@ -54,7 +55,7 @@ bulk (string_set strings icase) = 1
 
 -- more than the copies of a body weigh
 abbrev pub most_weight : ℕ
-most_weight = 20000
+most_weight = 50000
 
 -- The weight of a tree, which each rule lowers: unrolling a loop raises the bulk, but leaves one less to be unrolled.
 abbrev pub weight : Tree → ℕ

@@ -1,6 +1,6 @@
 use Rattle.std.proofs.Common.{◌≡◌, subst, sym, ◌∙◌, arith, rules}
 use Rattle.regress_engine_prefix.specs.Reaches.{StandsAt}
-use Rattle.regress_engine_prefix.specs.declared.landmark.Landmark.TheVariants.{Ahead}
+use Rattle.regress_engine_scanning.specs.declared.landmark.Landmark.TheVariants.{Ahead}
 use Rattle.regress_engine_prefix.proofs.ReachLemmas.{Stands-over, Stands-behind}
 use Rattle.regress_engine_prefix.proofs.reach.seen_over.Goals as goal
 

@@ -26,3 +26,6 @@ returns-in_default-as_slice-clause-boundary c = λ known bytes utf8 at begins.
 
 pub returns-in-First-clause-begins : goal.returns-in-First-clause-begins
 returns-in-First-clause-begins c = λ place bytes at end zero held. c.of_set.ensures.begins place bytes at end zero (rw c.in-First.is at held)
+
+pub returns-in-Pair-clause-begins : goal.returns-in-Pair-clause-begins
+returns-in-Pair-clause-begins c = λ place bytes at end zero held. c.of_set-in-Pair.ensures.begins place bytes at end zero (rw c.in-Pair.is at held).0

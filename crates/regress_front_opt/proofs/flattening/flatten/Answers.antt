@@ -3,7 +3,8 @@ use Rattle.std.proofs.lemmas.List.{drop-set-lt}
 use Rattle.std.proofs.lemmas.Grind.{drop_more_same}
 use Rattle.regress_front_nodes.specs.Trees.{tree}
 use Rattle.regress_front_opt.specs.Shapes.{flattened, room_of}
-use Rattle.regress_front_opt.proofs.ShapeLemmas.{flattened-more, room-left, same-at}
+use Rattle.regress_front_words.proofs.ShareLemmas.{same-at}
+use Rattle.regress_front_opt.proofs.ShapeLemmas.{flattened-more, room-left}
 use Rattle.regress_front_opt.proofs.flattening.flatten.Goals as goal
 
 pub loop-part-preserved : goal.loop-part-preserved

@@ -4,7 +4,7 @@ use Rattle.std.proofs.lemmas.List.{drop-set-lt, drop_all, append-nil}
 use Rattle.std.proofs.lemmas.Grind.{drop_more_same}
 use Rattle.regress_front_nodes.specs.Trees.{tree}
 use Rattle.regress_front_opt.specs.Shapes.{Joins, as_they_are}
-use Rattle.regress_front_opt.proofs.ShapeLemmas.{same-at}
+use Rattle.regress_front_words.proofs.ShareLemmas.{same-at}
 use Rattle.regress_front_opt.proofs.JoinLemmas.{joins-more}
 use Rattle.regress_front_opt.proofs.joining.join_in_order.Goals as goal
 

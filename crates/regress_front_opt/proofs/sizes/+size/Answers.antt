@@ -4,7 +4,7 @@ use Rattle.regress_front_nodes.specs.Sizes.{size}
 use Rattle.regress_front_nodes.specs.Forms.{nesting}
 use Rattle.regress_front_nodes.proofs.TreeLaws.{tree-Cat}
 use Rattle.regress_front_nodes.proofs.ChangeLemmas.{nesting-part}
-use Rattle.regress_front_opt.specs.Passes.{HasLaws}
+use Rattle.regress_front_rules.specs.Rules.{HasLaws}
 use Rattle.regress_front_opt.proofs.PassLemmas.{part-laws}
 use Rattle.regress_front_opt.proofs.UnrollLemmas.{size-parts, size-more}
 use Rattle.regress_front_opt.proofs.sizes.+size.Goals as goal

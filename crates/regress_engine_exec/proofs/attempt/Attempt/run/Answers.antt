@@ -1,13 +1,12 @@
-use Rattle.std.proofs.Common.{ℕ, true, false, [], replicate, sym, ap, ap₂, ◌∙◌, subst}
+use Rattle.std.proofs.Common.{ℕ, true, false, [], replicate, ap₂, ◌∙◌, subst}
 use Rattle.regress_engine_code.specs.Standing.{program_of}
 use Rattle.regress_engine_input.specs.Views.{input_of, direction_of}
 use Rattle.regress_engine_runs.specs.States.{unset}
-use Rattle.regress_engine_search.proofs.TaskLemmas.{tried-stands, tried-reads, tried-on, tried-less, tried-ends}
-use Rattle.regress_engine_undo.specs.declared.undo.Spot.{Spot}
+use Rattle.regress_engine_search.proofs.TaskLemmas.{tried-stands, tried-reads, tried-on, tried-less}
 use Rattle.regress_engine_undo.specs.Held.{Held, held}
 use Rattle.regress_engine_undo.specs.Tasks.{task, state_at}
 use Rattle.regress_engine_exec.specs.Trying.{Steps}
-use Rattle.regress_engine_exec.proofs.TryLemmas.{trying-first, trying-way, trying-fails, steps-led, steps-held, steps-back}
+use Rattle.regress_engine_exec.proofs.TryLemmas.{trying-first, trying-way, trying-ends, trying-fails, steps-led, steps-held, steps-back}
 use Rattle.regress_engine_exec.proofs.attempt.Attempt.run.Goals as goal
 
 pub steps-init : goal.steps-init
@@ -16,7 +15,7 @@ steps-init g c =
     let v = g.Input.InputIndexer.view c.args.self.now.input in
     let ends = c.args.self.now.ends in
     trying-way program v ends.0.0 ends.0.1 c.args.self.now.start 0 c.args.first (held c.begin.new.self) c.requires.begun
-    (trying-first program v c.args.self.now.start ends (held c.begin.new.self) c.requires.reads
+    (trying-first program (g.Input.Shown.shown c.args.self.now.input) v (g.met.Input.ExecutorInput.shows c.args.self.now.input) c.args.self.now.start ends (held c.begin.new.self) c.requires.reads
     (c.in_ok-begin.ensures ∙ ap₂ (λ (l n : ℕ). blank l n) c.loops.ensures c.groups.ensures))
   where
     blank : ℕ → ℕ → Held
@@ -37,9 +36,9 @@ pub returns-in_default : goal.returns-in_default
 returns-in_default g c =
     let program = program_of c.args.self.now.program.now in
     let v = g.Input.InputIndexer.view c.args.self.now.input in
-    let ended = subst (λ x. Steps program (input_of v) c.steps.spot (held c.steps.memory) x c.step.new.spot (held c.step.new.memory)) c.in_default.is c.in_ok-going.ensures.leads in
-    tried-ends program v c.args.self.now.start c.args.self.now.ends (task program (input_of v) true c.steps.spot (held c.steps.memory)) (state_at c.steps.spot (held c.steps.memory)) c.steps.invariant.tried ended.2
-    c.step.new.spot.offset (held c.step.new.memory).groups (ap (λ (x : Spot). x.offset) (sym ended.0)) (sym ended.1)
+    trying-ends program (g.Input.Shown.shown c.args.self.now.input) v (g.met.Input.ExecutorInput.shows c.args.self.now.input) c.args.self.now.start c.args.self.now.ends
+    c.steps.spot c.step.new.spot (held c.steps.memory) (held c.step.new.memory) c.steps.invariant.tried
+    (subst (λ x. Steps (record { program = program; view = v }) c.steps.spot (held c.steps.memory) c.step.new.spot (held c.step.new.memory) x) c.in_default.is c.in_ok-going.ensures.leads)
 
 pub steps-smaller-then-going : goal.steps-smaller-then-going
 steps-smaller-then-going g c =
@@ -62,7 +61,7 @@ pub returns-then-not-branch : goal.returns-then-not-branch
 returns-then-not-branch g c =
     let program = program_of c.args.self.now.program.now in
     let v = g.Input.InputIndexer.view c.args.self.now.input in
-    trying-fails program v c.args.self.now.start c.args.self.now.ends c.back.new.spot (held c.back.new.memory)
+    trying-fails program (g.Input.Shown.shown c.args.self.now.input) v (g.met.Input.ExecutorInput.shows c.args.self.now.input) c.args.self.now.start c.args.self.now.ends c.back.new.spot (held c.back.new.memory)
     (tried-on program v _ _ 1 _ (task program (input_of v) false c.back.new.spot (held c.back.new.memory))
     (steps-back program v c.steps.spot c.step.new.spot c.back.new.spot (held c.steps.memory) (held c.step.new.memory) (held c.back.new.memory) _ false c.if-not-branch.true
     (steps-led program v c.steps.spot c.step.new.spot (held c.steps.memory) (held c.step.new.memory) _ c.in-Some.going false c.in-Some.is c.if-going.false c.in_ok-going.ensures.leads) c.in_ok-back.ensures.leads)

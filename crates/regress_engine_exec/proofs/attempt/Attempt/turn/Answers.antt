@@ -1,7 +1,7 @@
 use Rattle.std.proofs.Common.{◌≡◌, ℕ, ◌+◌, subst}
 use Rattle.regress_engine_insn.specs.Instructions.{Instruction, LoopFields, Program, Stands}
 use Rattle.regress_engine_insn.specs.Instructions as code
-use Rattle.regress_engine_insn.specs.InsnViews.{instruction, fields}
+use Rattle.regress_engine_insn.specs.InsnViews.{fields}
 use Rattle.regress_engine_code.specs.Standing.{program_of}
 use Rattle.regress_engine_input.specs.Views.{View, input_of}
 use Rattle.regress_engine_runs.proofs.RunViews.{one_stands}

@@ -1,14 +1,14 @@
-use Rattle.std.proofs.Common.{ap, ◌∙◌, subst, refl, inl}
+use Rattle.std.proofs.Common.{sym, subst, refl, inl}
 use Rattle.regress_engine_code.specs.Standing.{program_of}
-use Rattle.regress_engine_input.specs.Views.{input_of}
+use Rattle.regress_engine_input.specs.Views.{reading_of}
+use Rattle.regress_engine_runs.specs.Meets.{IsAtPlace}
 use Rattle.regress_engine_search.specs.Search.{IsSearchable}
 use Rattle.regress_engine_exec.proofs.search.BacktrackExecutor.run_at.Goals as goal
 
 pub invariant_of-attempt : goal.invariant_of-attempt
 invariant_of-attempt g c =
     let context = c.args.self.now.context in
-    let searchable = subst (IsSearchable (program_of context.program.now)) (g.met.Input.ExecutorInput.shows context.input) context.searchable in
-    record { ends = searchable.ends c.args.offset c.requires }
+    record { ends = context.searchable.ends c.args.offset (subst (λ x. IsAtPlace (reading_of x) c.args.offset) (sym (g.met.Input.ExecutorInput.shows context.input)) c.requires) }
 
 pub run-requires-clause-suits : goal.run-requires-clause-suits
 run-requires-clause-suits g c =

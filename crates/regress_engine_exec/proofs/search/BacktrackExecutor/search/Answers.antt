@@ -1,7 +1,8 @@
 use Rattle.std.proofs.Common.{sym, subst, arith}
 use Rattle.regress_meaning.specs.Meaning.{Forward}
 use Rattle.regress_engine_code.specs.Standing.{program_of}
-use Rattle.regress_engine_input.specs.Views.{input_of}
+use Rattle.regress_engine_input.specs.Views.{input_of, reading_of}
+use Rattle.regress_engine_runs.specs.Meets.{IsAtPlace}
 use Rattle.regress_engine_search.specs.Answering.{IsAnswer}
 use Rattle.regress_engine_search.specs.Search.{IsSearchable}
 use Rattle.regress_engine_search.specs.Skipping.{Reaches, IsNextStart}
@@ -19,9 +20,8 @@ invariant_of-attempt g c =
     let context = c.args.self.now.context in
     let program = program_of context.program.now in
     let v = g.Input.InputIndexer.view context.input in
-    let searchable = subst (IsSearchable program) (g.met.Input.ExecutorInput.shows context.input) context.searchable in
     let there : Reaches program v c.places.from c.in-Some.start = subst (IsNextStart program v c.places.from) c.in-Some.is c.next_start.ensures.start in
-    record { ends = searchable.ends c.in-Some.start there.place }
+    record { ends = context.searchable.ends c.in-Some.start (subst (λ x. IsAtPlace (reading_of x) c.in-Some.start) (sym (g.met.Input.ExecutorInput.shows context.input)) there.place) }
 
 pub run-requires-clause-reads : goal.run-requires-clause-reads
 run-requires-clause-reads g c =

@@ -12,7 +12,7 @@ returns-in_err-index c =
     let rest : take (length text - c.args.offset) (drop c.args.offset text) ≡ drop c.args.offset text = take_all _ _ (omega (arith, size)) in
     let none : IsNextHit start (drop c.args.offset text) 0 None = subst (λ bytes. IsNextHit start bytes 0 None) rest c.in_err-index.ensures.first in
     let same : ◌≡◌ {A = Option ℕ} None c.from_residual.result = search rules in
-    subst (IsNextHit start text c.args.offset) same (found-behind start (search rules) (other_than_near start c.in_default.not-ByteNear) text c.args.offset None none)
+    subst (IsNextHit start text c.args.offset) same (found-behind start (search rules) (other_than_near start c.in_default.not-ByteNear c.in_default-start.not-WordStart) text c.args.offset None none)
 
 pub returns : goal.returns
 returns c =
@@ -22,8 +22,12 @@ returns c =
     let rest : take (length text - c.args.offset) (drop c.args.offset text) ≡ drop c.args.offset text = take_all _ _ (omega (arith, size)) in
     let index = c.in_ok-index.index in
     let some : IsNextHit start (drop c.args.offset text) 0 (Some index) = subst (λ bytes. IsNextHit start bytes 0 (Some index)) rest c.in_ok-index.ensures.first in
-    found-behind start (search rules) (other_than_near start c.in_default.not-ByteNear) text c.args.offset (Some index) some
+    found-behind start (search rules) (other_than_near start c.in_default.not-ByteNear c.in_default-start.not-WordStart) text c.args.offset (Some index) some
 
 pub returns-in-ByteNear : goal.returns-in-ByteNear
 returns-in-ByteNear c =
     subst (λ p. IsNextHit p c.args.text.now c.args.offset c.find_near.result) (sym c.in-ByteNear.is) c.find_near.ensures.least
+
+pub returns-in-WordStart : goal.returns-in-WordStart
+returns-in-WordStart c =
+    subst (λ p. IsNextHit p c.args.text.now c.args.offset c.find.result) (sym c.in-WordStart.is) c.find.ensures.least

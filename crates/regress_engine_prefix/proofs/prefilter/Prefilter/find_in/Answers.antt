@@ -2,7 +2,7 @@ use Rattle.std.proofs.Common.{subst, sym, ap, ◌∙◌}
 use Rattle.memchr.specs.Find.{FindsNeedle}
 use Rattle.regress_front_bytes.specs.Bitmaps.{byte_bitmap_contains}
 use Rattle.regress_engine_prefix.specs.Prefiltering.{IsNextHit, literal_of}
-use Rattle.regress_engine_prefix.proofs.PrefilterLemmas.{needle-least, position-least}
+use Rattle.regress_engine_scanning.proofs.ByteLemmas.{needle-least, position-least}
 use Rattle.regress_engine_prefix.proofs.prefilter.Prefilter.find_in.Goals as goal
 
 pub returns-in-ByteSeq-clause-first : goal.returns-in-ByteSeq-clause-first
@@ -19,3 +19,11 @@ returns-in-ByteBracket-clause-first c =
 pub returns-in-ByteNear-clause-first : goal.returns-in-ByteNear-clause-first
 returns-in-ByteNear-clause-first c =
     subst (λ p. IsNextHit p c.args.bytes.now 0 c.find_near.result) (sym c.in-ByteNear.is) c.find_near.ensures.least
+
+pub returns-in-BytePair-clause-first : goal.returns-in-BytePair-clause-first
+returns-in-BytePair-clause-first c =
+    subst (λ p. IsNextHit p c.args.bytes.now 0 c.find-in-BytePair.result) (sym c.in-BytePair.is) c.find-in-BytePair.ensures.least
+
+pub returns-in-WordStart-clause-first : goal.returns-in-WordStart-clause-first
+returns-in-WordStart-clause-first c =
+    subst (λ p. IsNextHit p c.args.bytes.now 0 c.find-in-WordStart.result) (sym c.in-WordStart.is) c.find-in-WordStart.ensures.least

@@ -5,7 +5,7 @@ use Rattle.regress_front_nodes.specs.Trees.{tree}
 use Rattle.regress_front_nodes.specs.TreeMeaning.{direction}
 use Rattle.regress_front_nodes.proofs.TreeLaws.{tree-Loop}
 use Rattle.regress_front_rules.specs.NormalForm.{is_unrollable}
-use Rattle.regress_front_opt.specs.Passes.{HasLaws}
+use Rattle.regress_front_rules.specs.Rules.{HasLaws}
 use Rattle.regress_front_opt.proofs.NodeKinds.{no-short-loop}
 use Rattle.regress_front_opt.proofs.PassLemmas.{passed-refused}
 use Rattle.regress_front_opt.proofs.UnrollLemmas.{may-be-unrolled, unrolled-advances}

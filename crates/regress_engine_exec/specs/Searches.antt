@@ -1,0 +1,20 @@
+-- What an executor searches, and what it holds.
+use Rattle.std.specs.Prelude.{List, map}
+use Rattle.regress_engine_insn.specs.Instructions.{Program}
+use Rattle.regress_engine_code.specs.Standing.{program_of}
+use Rattle.regress_engine_runs.specs.States.{Marks}
+use Rattle.regress_engine_search.specs.Search.{Search}
+use Rattle.regress_engine_search.specs.StateViews.{marks_of}
+use Rattle.regress_engine_exec.specs.declared.search.BacktrackExecutor.{BacktrackExecutor}
+
+-- what is searched
+abbrev pub search_in : {I : Type 0} {g : _} → BacktrackExecutor I g → Search
+search_in {g = g} e = record { compiled = e.context.program.now; view = g.shown e.context.input; searchable = e.context.searchable }
+
+-- the program
+abbrev pub program_in : {I : Type 0} {g : _} → BacktrackExecutor I g → Program
+program_in e = program_of e.context.program.now
+
+-- the groups that are held
+abbrev pub groups_in : {I : Type 0} {g : _} → BacktrackExecutor I g → List Marks
+groups_in e = map marks_of e.scratch.memory.groups.items

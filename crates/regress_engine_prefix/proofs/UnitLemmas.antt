@@ -1,0 +1,181 @@
+-- What start predicates say of 16-bit units, where each byte that they tell is below 0x80.
+use Rattle.std.proofs.Common.{◌≡◌, ◌⊎◌, inl, inr, ℕ, suc, ◌+◌, ◌<◌, ◌≤◌, Bool, true, List, [], ◌∷◌, ◌++◌, length, take, drop, slice_get, Option, Some, None, IfSome, All, encode_utf8_all, refl, sym, ap, ◌∙◌, subst, arith, drop-cons}
+use Rattle.std.specs.Prelude.{encode_utf8}
+use Rattle.std.specs.Str.{IsCharBoundary}
+use Rattle.std.proofs.lemmas.Option.{slice_get_within, get_or_from_slice_get}
+use Rattle.std.proofs.lemmas.List.Elements.{All-head, All-drop}
+use Rattle.std.proofs.lemmas.Str.{encode_ascii, IsUtf8-from_ascii}
+use Rattle.regress_meaning.specs.TableParts.{is_code_point}
+use Rattle.regress_meaning.specs.Text.{holds}
+use Rattle.regress_meaning.specs.Meaning.{Forward, is_some_and}
+use Rattle.regress_front_sets.proofs.FirstByteLemmas.{lead}
+use Rattle.regress_front_nodes.specs.Trees.{Tree}
+use Rattle.regress_front_nodes.specs.TreeMeaning.{node_outcomes}
+use Rattle.regress_engine_prefix.specs.Prefixes.{first_literal, HasBytes, Foretells}
+use Rattle.regress_engine_scanning.specs.Units.{AreAscii}
+use Rattle.regress_engine_prefix.specs.Starts.{BeginsAs, SaysNoMore, HitsBoundaries, tells_bytes, IsSequence, KeepsSequence, IsPlain, KeepsAscii, BeginsCharacters}
+use Rattle.regress_engine_prefix.specs.declared.prefix.Prefix.{Prefix}
+use Rattle.regress_engine_prefix.specs.declared.start.StartPredicate.{StartPredicate}
+use Rattle.regress_engine_prefix.specs.declared.start.StartPredicate.TheVariants.{Arbitrary, ByteSet1, ByteSet2, ByteSet3, ByteSeq, ByteBracket, ByteNear, StartAnchored}
+use Rattle.regress_engine_prefix.specs.declared.start.StartPredicate.TheVariants as variant
+use Rattle.regress_engine_scanning.proofs.AsciiLemmas.{first-held, rest-held}
+use Rattle.regress_engine_prefix.proofs.LeadLemmas.{has-lead}
+use Rattle.regress_engine_prefix.proofs.ReachLemmas.{low-lead}
+use Rattle.regress_engine_scanning.proofs.ByteLemmas.{slice_get-behind, drop-behind}
+use Rattle.regress_engine_prefix.proofs.StartLemmas.{some-holds, front-first}
+
+-- ---- from prefixes to characters
+
+-- what is foretold of a tree is so of the characters of each text
+pub begins-characters : (start : StartPredicate) (prefix : Prefix) (t : Tree) → SaysNoMore start prefix → Foretells prefix t → BeginsCharacters start t
+begins-characters start prefix t says told = record {
+  each = λ context points s some.
+      let held = some-holds prefix context s (node_outcomes context t Forward s) some (told.each context points s) in
+      says s.place (encode_utf8_all (drop s.place context.text)) 0 held.0 (λ e. refl) held.1;
+}
+
+-- what holds of a predicate and of the one that says nothing holds of either
+pub of-either : (P : StartPredicate → Type 0) (start result : StartPredicate) → P start → P Arbitrary → (result ≡ start) ⊎ (result ≡ Arbitrary) → P result
+of-either P start result h none (inl same) = subst P (sym same) h
+of-either P start result h none (inr other) = subst P (sym other) none
+
+-- a literal of bytes below 0x80 is looked for in units too
+pub keeps-ascii : (start result : StartPredicate) (prefix : Prefix) (t : Tree) → KeepsSequence prefix start → Foretells prefix t → (IsPlain start → result ≡ start) → KeepsAscii t result
+keeps-ascii start result prefix t keeps told kept = by_literal (first_literal t) told.spelled
+  where
+    is-plain : (p : StartPredicate) (bs : List ℕ) → IsSequence p bs → AreAscii (holds bs) → IsPlain p
+    is-plain (ByteSeq front) bs e low = subst (λ (xs : List ℕ). AreAscii (holds xs)) (sym e) low
+    is-plain Arbitrary bs e low = absurd e
+    is-plain (ByteSet1 _) bs e low = absurd e
+    is-plain (ByteSet2 _) bs e low = absurd e
+    is-plain (ByteSet3 _) bs e low = absurd e
+    is-plain (ByteBracket _) bs e low = absurd e
+    is-plain (ByteNear _ _) bs e low = absurd e
+    is-plain (variant.BytePair _) bs e low = absurd e
+    is-plain (variant.WordStart _) bs e low = absurd e
+    is-plain StartAnchored bs e low = absurd e
+
+    by_literal : (o : Option (List ℕ)) → IfSome o (HasBytes prefix) → IfSome o (λ bs. 2 ≤ length bs → AreAscii (holds bs) → IsSequence result bs)
+    by_literal None h = tt
+    by_literal (Some bs) h = λ long low.
+        let there = keeps bs h long in subst (λ p. IsSequence p bs) (sym (kept (is-plain start bs there low))) there
+
+-- ---- bytes below 0x80
+
+front-found : (xs ys : List ℕ) (b : ℕ) → slice_get xs 0 ≡ Some b → slice_get (xs ++ ys) 0 ≡ Some b
+front-found [] ys b e = absurd (cc)
+front-found (x ∷ xs) ys b e = e
+
+-- a character that begins with one is that byte alone
+low-first : (c : ℕ) (cs : List ℕ) (b : ℕ) → is_code_point c → slice_get (encode_utf8_all (c ∷ cs)) 0 ≡ Some b → b < 0x80
+    → (c ≡ b) × (encode_utf8_all (c ∷ cs) ≡ c ∷ encode_utf8_all cs)
+low-first c cs b point e low =
+    let begins : slice_get (encode_utf8_all (c ∷ cs)) 0 ≡ Some (lead c) = front-found (encode_utf8 c) (encode_utf8_all cs) (lead c) (has-lead c) in
+    let same : lead c ≡ b = cc in
+    let small : c < 128 = low-lead c point (omega (arith, same, low)) in
+    let whole : encode_utf8_all (c ∷ cs) ≡ c ∷ encode_utf8_all cs = ap (λ (xs : List ℕ). xs ++ encode_utf8_all cs) (encode_ascii c small) in
+    let first : slice_get (encode_utf8_all (c ∷ cs)) 0 ≡ Some c = ap (λ (xs : List ℕ). slice_get xs 0) whole in
+    (cc, whole)
+
+-- ---- units that hold each character below 0x80 as it is
+
+module _ (points units : List ℕ) (at : ℕ → ℕ) (valid : All is_code_point points)
+    (reads : (p c : ℕ) → slice_get points p ≡ Some c → c < 0x80 → (slice_get units (at p) ≡ Some c) × (at (suc p) ≡ suc (at p))) where
+  here : (p : ℕ) (c : ℕ) (cs : List ℕ) → drop p points ≡ c ∷ cs → slice_get points p ≡ Some c
+  here p c cs e =
+      let same : p + 0 ≡ p = omega arith in
+      ap (slice_get points) (sym same) ∙ sym (slice_get-behind points p 0) ∙ ap (λ (xs : List ℕ). slice_get xs 0) e
+
+  -- a test that lets through such bytes alone
+  test-units : (test : ℕ → Bool) → AreAscii test → (p : ℕ) → is_some_and (slice_get (encode_utf8_all (drop p points)) 0) test ≡ true
+      → is_some_and (slice_get units (at p)) test ≡ true
+  test-units test low p e = by_rest (drop p points) refl (All-drop is_code_point p points valid) e
+    where
+      by_byte : (c : ℕ) (cs : List ℕ) → drop p points ≡ c ∷ cs → is_code_point c → (o : Option ℕ) → slice_get (encode_utf8_all (c ∷ cs)) 0 ≡ o
+          → is_some_and o test ≡ true → is_some_and (slice_get units (at p)) test ≡ true
+      by_byte c cs rest point None is passes = absurd (cc)
+      by_byte c cs rest point (Some b) is passes =
+          let small = low b passes in
+          let same = (low-first c cs b point is small).0 in
+          let unit = (reads p c (here p c cs rest) (omega (arith, same, small))).0 in
+          ap (λ (o : Option ℕ). is_some_and o test) (unit ∙ ap Some same) ∙ passes
+
+      by_rest : (cs : List ℕ) → drop p points ≡ cs → All is_code_point cs → is_some_and (slice_get (encode_utf8_all cs) 0) test ≡ true
+          → is_some_and (slice_get units (at p)) test ≡ true
+      by_rest [] rest all passes = absurd (cc)
+      by_rest (c ∷ cs) rest all passes = by_byte c cs rest (All-head is_code_point c cs all) (slice_get (encode_utf8_all (c ∷ cs)) 0) refl passes
+
+  -- such bytes one behind another
+  front-units : (front : List ℕ) → AreAscii (holds front) → (p : ℕ) → take (length front) (encode_utf8_all (drop p points)) ≡ front
+      → take (length front) (drop (at p) units) ≡ front
+  front-units [] low p e = refl
+  front-units (f ∷ front) low p e = by_rest (front-units front (λ b held. low b (rest-held f front b held))) (drop p points) refl (All-drop is_code_point p points valid) e
+    where
+      by_rest : ((q : ℕ) → take (length front) (encode_utf8_all (drop q points)) ≡ front → take (length front) (drop (at q) units) ≡ front)
+          → (cs : List ℕ) → drop p points ≡ cs → All is_code_point cs → take (length (f ∷ front)) (encode_utf8_all cs) ≡ f ∷ front
+          → take (length (f ∷ front)) (drop (at p) units) ≡ f ∷ front
+      by_rest on [] rest all is = absurd (cc)
+      by_rest on (c ∷ cs) rest all is =
+          let small = low f (first-held f front) in
+          let first : slice_get (encode_utf8_all (c ∷ cs)) 0 ≡ Some f = front-first (f ∷ front) (encode_utf8_all (c ∷ cs)) (omega arith) is in
+          let (same, whole) = low-first c cs f (All-head is_code_point c cs all) first small in
+          let unit = reads p c (here p c cs rest) (omega (arith, same, small)) in
+          let room = slice_get_within units (at p) c unit.0 in
+          let value = get_or_from_slice_get units (at p) c 0 unit.0 in
+          let cut : drop (at p) units ≡ c ∷ drop (suc (at p)) units = drop-cons units (at p) 0 room ∙ ap (λ x. x ∷ drop (suc (at p)) units) value in
+          let next : p + 1 ≡ suc p = omega arith in
+          let behind : drop (suc p) points ≡ cs = ap (λ n. drop n points) (sym next) ∙ sym (drop-behind points p 1) ∙ ap (drop 1) rest in
+          let more : take (length front) (encode_utf8_all cs) ≡ front = ap (drop 1) (sym (ap (take (length (f ∷ front))) whole) ∙ is) in
+          let rests : take (length front) (drop (at (suc p)) units) ≡ front = on (suc p) (ap (λ (xs : List ℕ). take (length front) (encode_utf8_all xs)) behind ∙ more) in
+          let ends : take (length front) (drop (suc (at p)) units) ≡ front = ap (λ n. take (length front) (drop n units)) (sym unit.1) ∙ rests in
+          ap (take (length (f ∷ front))) cut ∙ ap (λ (xs : List ℕ). c ∷ xs) ends ∙ ap (λ x. x ∷ front) same
+
+  -- where characters begin so, the units do
+  pub units-begin : (start : StartPredicate) → IsPlain start → tells_bytes start ≡ true → (p : ℕ) → BeginsAs start (encode_utf8_all (drop p points)) 0 → BeginsAs start units (at p)
+  units-begin (ByteSet1 set) plain told p e = test-units (holds set) plain p e
+  units-begin (ByteSet2 set) plain told p e = test-units (holds set) plain p e
+  units-begin (ByteSet3 set) plain told p e = test-units (holds set) plain p e
+  units-begin (ByteSeq front) plain told p e = front-units front.items plain p e
+  units-begin (ByteBracket set) plain told p e = test-units _ plain p e
+  units-begin (ByteNear set landmark) plain told p e = absurd plain
+  units-begin (variant.BytePair pair) plain told p e = absurd plain
+  units-begin (variant.WordStart word) plain told p e = absurd plain
+  units-begin Arbitrary plain told p e = absurd (cc)
+  units-begin StartAnchored plain told p e = absurd (cc)
+
+-- ---- where units begin so
+
+-- a unit below 0x80 stands there
+abbrev pub HasLow : List ℕ → ℕ → Type 0
+HasLow units o = (b : ℕ) × (slice_get units o ≡ Some b) × (b < 0x80)
+
+test-low : (test : ℕ → Bool) → AreAscii test → (units : List ℕ) (o : ℕ) → is_some_and (slice_get units o) test ≡ true → HasLow units o
+test-low test low units o e = by_unit (slice_get units o) refl e
+  where
+    by_unit : (x : Option ℕ) → slice_get units o ≡ x → is_some_and x test ≡ true → HasLow units o
+    by_unit None is passes = absurd (cc)
+    by_unit (Some b) is passes = (b, is, low b passes)
+
+front-low : (front : List ℕ) → AreAscii (holds front) → 0 < length front → (units : List ℕ) (o : ℕ) → take (length front) (drop o units) ≡ front → HasLow units o
+front-low [] low some units o e = absurd (omega (arith, some))
+front-low (f ∷ front) low some units o e =
+    let same : o + 0 ≡ o = omega arith in
+    (f, ap (slice_get units) (sym same) ∙ sym (slice_get-behind units o 0) ∙ front-first (f ∷ front) (drop o units) some e, low f (first-held f front))
+
+-- bytes that stand at boundaries alone are some
+some-front : (front : List ℕ) → ((at : ℕ) → take (length front) (drop at []) ≡ front → IsCharBoundary [] at) → 0 < length front
+some-front [] cuts = absurd (let inside = (cuts 1 refl).0 in omega (arith, inside))
+some-front (f ∷ front) cuts = omega arith
+
+pub low-hit : (start : StartPredicate) → IsPlain start → HitsBoundaries start → tells_bytes start ≡ true → (units : List ℕ) (o : ℕ) → BeginsAs start units o → HasLow units o
+low-hit (ByteSet1 set) plain cuts told units o e = test-low (holds set) plain units o e
+low-hit (ByteSet2 set) plain cuts told units o e = test-low (holds set) plain units o e
+low-hit (ByteSet3 set) plain cuts told units o e = test-low (holds set) plain units o e
+low-hit (ByteSeq front) plain cuts told units o e =
+    front-low front.items plain (some-front front.items (λ at. cuts refl [] (IsUtf8-from_ascii [] (λ i. omega arith)) at)) units o e
+low-hit (ByteBracket set) plain cuts told units o e = test-low _ plain units o e
+low-hit (ByteNear set landmark) plain cuts told units o e = absurd plain
+low-hit (variant.BytePair pair) plain cuts told units o e = absurd plain
+low-hit (variant.WordStart word) plain cuts told units o e = absurd plain
+low-hit Arbitrary plain cuts told units o e = absurd (cc)
+low-hit StartAnchored plain cuts told units o e = absurd (cc)

@@ -1,0 +1,6 @@
+use Rattle.std.proofs.Common.{rules}
+use Rattle.regress_engine_scanning.proofs.ScanLemmas.{marks-three}
+use Rattle.regress_engine_scanning.proofs.units.ArrayU83UnitSet.marks.Goals as goal
+
+pub returns : goal.returns
+returns c = marks-three c.args.self.now c.args.units c.fits-units.0 c.from.result c.from-2.result c.from-3.result (search rules) (search rules) (search rules) (search rules)

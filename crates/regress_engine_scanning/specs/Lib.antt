@@ -1,0 +1,6 @@
+pub mod Least
+pub mod Units
+pub mod NibbleSets
+pub mod BytePairs
+pub mod WordStarts
+pub mod Landmarks

@@ -1,0 +1,185 @@
+//! Searches among 16-bit units for bytes, each of which is the unit of the same number.
+ghost use Rattle.std.specs.Prelude.{◌≡◌, ◌↔◌, ◌<◌, ◌≤◌, ℕ, Bool, length, map, take, drop, IfSome, IsTrue};
+ghost use Rattle.std.specs.Simd.Lanes.{mask_l};
+ghost use Rattle.memchr.specs.Find.{OccursAt};
+ghost use Rattle.regress_meaning.specs.Text.{holds};
+ghost use Rattle.regress_front_bytes.specs.Bitmaps.{byte_bitmap_contains};
+ghost use Rattle.regress_engine_scanning.specs.Least.{IsLeast};
+ghost use Rattle.regress_engine_scanning.specs.Units.{AreAscii};
+ghost use Rattle.regress_engine_scanning.specs.Units.{IsNextUnit};
+
+use regress_front_bytes::ByteBitmap;
+use std::simd::prelude::*;
+
+/// How many units are tested at once.
+const LANES: usize = 32;
+
+/// A set of units, tested one by one or many at once: some bytes, each of which is the unit of the same number.
+pub trait UnitSet {
+    // a unit is a member
+    ghost contains: { Self → ℕ → Bool };
+
+    /// Whether a unit is a member: of `[b'a']` the unit 0x61 is one.
+    fn contains(&self, unit: u16) -> bool
+        ensures { result ≡ contains self.now unit };
+
+    /// Which of 32 units are members, a bit for each: of `[b'a']`, where it stands first alone, 1.
+    fn marks(&self, units: u16x32) -> u64
+        ensures { result ≡ mask_l (map (contains self.now) units) };
+}
+
+impl UnitSet for [u8; 1] {
+    ghost contains = { holds };
+
+    #[inline(always)]
+    fn contains(&self, unit: u16) -> bool {
+        let [first] = *self;
+        unit == u16::from(first)
+    }
+
+    #[inline(always)]
+    fn marks(&self, units: u16x32) -> u64 {
+        let [first] = *self;
+        units.simd_eq(u16x32::splat(u16::from(first))).to_bitmask()
+    }
+}
+
+impl UnitSet for [u8; 2] {
+    ghost contains = { holds };
+
+    #[inline(always)]
+    fn contains(&self, unit: u16) -> bool {
+        let [first, second] = *self;
+        unit == u16::from(first) || unit == u16::from(second)
+    }
+
+    #[inline(always)]
+    fn marks(&self, units: u16x32) -> u64 {
+        let [first, second] = *self;
+        (units.simd_eq(u16x32::splat(u16::from(first)))
+            | units.simd_eq(u16x32::splat(u16::from(second)))).to_bitmask()
+    }
+}
+
+impl UnitSet for [u8; 3] {
+    ghost contains = { holds };
+
+    #[inline(always)]
+    fn contains(&self, unit: u16) -> bool {
+        let [first, second, third] = *self;
+        unit == u16::from(first) || unit == u16::from(second) || unit == u16::from(third)
+    }
+
+    #[inline(always)]
+    fn marks(&self, units: u16x32) -> u64 {
+        let [first, second, third] = *self;
+        (units.simd_eq(u16x32::splat(u16::from(first)))
+            | units.simd_eq(u16x32::splat(u16::from(second)))
+            | units.simd_eq(u16x32::splat(u16::from(third)))).to_bitmask()
+    }
+}
+
+/// Where a member first stands from an index on, by one unit after another.
+fn first_from<Set: UnitSet>(set: &Set, units: &[u16], from: usize) -> Option<usize>
+    requires { from ≤ length units.now }
+    ensures least { IsNextUnit (Set.contains set.now) units.now from result }
+    ensures inside { IfSome result (λ k. k < length units.now) }
+{
+    for index in from..units.len() {
+        if set.contains(units[index]) {
+            return Some(index);
+        }
+    }
+    None
+}
+
+/// Where a member first stands from an index on, by many units at once. Asks that the index lies among the units.
+///
+/// ```rust
+/// let index = find_member(&[b'b'], &[0x61, 0x62], 0); // `Some(1)`
+/// ```
+#[inline(always)]
+pub fn find_member<Set: UnitSet>(set: &Set, units: &[u16], from: usize) -> Option<usize>
+    requires { from ≤ length units.now }
+    ensures least { IsNextUnit (Set.contains set.now) units.now from result }
+    ensures inside { IfSome result (λ k. k < length units.now) }
+{
+    let mut at = from;
+    while units.len() - at >= LANES {
+        let marks = set.marks(u16x32::from_slice(&units[at..]));
+        if marks != 0 {
+            return Some(at + marks.trailing_zeros() as usize);
+        }
+        at += LANES;
+    }
+    first_from(set, units, at)
+}
+
+/// Whether a unit is a byte of a set, all of whose bytes are below 0x80.
+#[inline(always)]
+fn is_byte_of(set: &ByteBitmap, unit: u16) -> bool
+    requires { AreAscii (byte_bitmap_contains set.now) }
+    ensures { result ≡ byte_bitmap_contains set.now unit }
+{
+    match u8::try_from(unit) {
+        Ok(byte) => set.contains(byte),
+        Err(_) => false,
+    }
+}
+
+/// Where a byte of a set first stands from an index on. Asks that all bytes of the set are below 0x80, and that the index lies
+/// among the units.
+///
+/// ```rust
+/// let index = find_byte_of(&ByteBitmap::new(b"bc"), &[0x61, 0x62], 0); // `Some(1)`
+/// ```
+pub fn find_byte_of(set: &ByteBitmap, units: &[u16], from: usize) -> Option<usize>
+    requires ascii { AreAscii (byte_bitmap_contains set.now) }
+    requires inside { from ≤ length units.now }
+    ensures { IsNextUnit (byte_bitmap_contains set.now) units.now from result }
+{
+    for index in from..units.len() {
+        if is_byte_of(set, units[index]) {
+            return Some(index);
+        }
+    }
+    None
+}
+
+/// Whether these bytes stand at an index.
+fn stand_at(bytes: &[u8], units: &[u16], index: usize) -> bool
+    requires { index ≤ length units.now }
+    ensures { IsTrue result ↔ OccursAt units.now bytes.now index }
+{
+    if bytes.len() > units.len() - index {
+        return false;
+    }
+    for k in 0..bytes.len() {
+        if units[index + k] != u16::from(bytes[k]) {
+            return false;
+        }
+    }
+    true
+}
+
+/// Where these bytes first stand from an index on. Asks that the index lies among the units.
+///
+/// ```rust
+/// let index = find_sequence(b"ab", &[0x61, 0x61, 0x62], 0); // `Some(1)`
+/// ```
+pub fn find_sequence(bytes: &[u8], units: &[u16], from: usize) -> Option<usize>
+    requires { from ≤ length units.now }
+    ensures { IsLeast (λ k. take (length bytes.now) (drop k units.now) ≡ bytes.now) from result }
+{
+    let Some(first) = bytes.first() else {
+        return Some(from);
+    };
+    let mut at = from;
+    while let Some(index) = find_member(&[*first], units, at) {
+        if stand_at(bytes, units, index) {
+            return Some(index);
+        }
+        at = index + 1;
+    }
+    None
+}
