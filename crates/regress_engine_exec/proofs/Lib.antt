@@ -1,2 +1,3 @@
 pub mod TryLemmas
 pub mod WayLemmas
+pub mod RememberLemmas

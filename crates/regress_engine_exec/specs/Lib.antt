@@ -1,3 +1,4 @@
 pub mod Trying
 pub mod Attempts
 pub mod Searches
+pub mod Remembering

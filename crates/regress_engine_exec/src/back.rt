@@ -14,9 +14,11 @@ ghost use Rattle.regress_engine_undo.specs.Held.{held, undo_of, pushed};
 ghost use Rattle.regress_engine_search.specs.Search.{Suits};
 ghost use Rattle.regress_engine_undo.specs.Dead.{GivesFrom, TakesFrom};
 ghost use Rattle.regress_engine_exec.specs.Attempts.{world};
+ghost use Rattle.regress_engine_exec.specs.Remembering.{IsUnderWay, Remembers};
 ghost use Rattle.regress_engine_exec.specs.Trying.{advanced, GoesBack, IsHeldIn, Undoes};
 
 use crate::attempt::Attempt;
+use crate::remembered::Remembered;
 use regress_engine_advance::{
     advance, any_in_line, ascii_bracket, beside, other_ahead, taken_first,
 };
@@ -289,15 +291,24 @@ impl<'a, Input: ExecutorInput> Attempt<'a, Input> {
         }
     }
 
-    /// Undoes records until there is a state to be tried, and answers whether there is one.
-    pub(crate) fn back(&self, memory: &mut Memory, spot: &mut Spot) -> Result<bool, AllocError>
+    /// Undoes records until there is a state to be tried, and answers whether there is one. What they show to fail is remembered.
+    pub(crate) fn back(
+        &self,
+        memory: &mut Memory,
+        remembered: &mut Remembered,
+        spot: &mut Spot,
+    ) -> Result<bool, AllocError>
         requires suits { Suits (program_of self.now.program.now) (Input.view self.now.input) }
         requires sound { IsHeldIn (world Input.view self.now) (held memory.old) }
+        requires tried { IsUnderWay (world Input.view self.now) false spot.old (held memory.old) }
+        requires so { Remembers (world Input.view self.now) remembered.old }
         ensures leads { IfOk result (GoesBack (world Input.view self.now) spot.old (held memory.old) spot.new (held memory.new)) }
         ensures sound { OnOk result (IsHeldIn (world Input.view self.now) (held memory.new)) }
         ensures exhausted { IfOk result (λ going. going ≡ false → (held memory.new).stack ≡ []) }
+        ensures so { OnOk result (Remembers (world Input.view self.now) remembered.new) }
     {
         while let Some(undo) = memory.pop() {
+            self.learn(&undo, memory, remembered, spot);
             if self.undo(undo, memory, spot)? {
                 return Ok(true);
             }

@@ -5,6 +5,8 @@ mod attempt;
 mod back;
 mod executor;
 mod producer;
+mod remembered;
+mod run;
 mod scratch;
 mod search;
 mod singles;

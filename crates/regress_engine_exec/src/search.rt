@@ -13,6 +13,7 @@ ghost use Rattle.regress_engine_search.specs.Answering.{IsAnswer, IsFound, IsOut
 ghost use Rattle.regress_engine_search.specs.Search.{IsMadeOf, IsItemAtPlaces, IsWritten};
 
 use crate::attempt::Attempt;
+use crate::remembered::Remembered;
 use crate::scratch::Scratch;
 use regress_engine_advance::beside;
 use regress_engine_code::CompiledRegex;
@@ -92,6 +93,7 @@ impl<'r, Input: ExecutorInput> BacktrackExecutor<'r, Input> {
         ensures kept { self.new.context ≡ self.old.context }
     {
         let context = &self.context;
+        let mut remembered = Remembered::new();
         let mut from = offset;
         'places: loop {
             let Some(start) = context.next_start(from) else {
@@ -113,6 +115,7 @@ impl<'r, Input: ExecutorInput> BacktrackExecutor<'r, Input> {
                 first,
                 &mut self.scratch.memory,
                 &mut self.scratch.answer,
+                &mut remembered,
             )? {
                 return Ok(Some((start, end)));
             }
@@ -134,7 +137,13 @@ impl<'r, Input: ExecutorInput> BacktrackExecutor<'r, Input> {
             input: self.context.input,
             start: offset,
         };
-        attempt.run(0, &mut self.scratch.memory, &mut self.scratch.answer)
+        let mut remembered = Remembered::new();
+        attempt.run(
+            0,
+            &mut self.scratch.memory,
+            &mut self.scratch.answer,
+            &mut remembered,
+        )
     }
 
     /// The match at the least place from an offset on: that of the program's run from there, begun at the first instruction

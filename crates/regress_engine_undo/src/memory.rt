@@ -98,6 +98,18 @@ impl Memory {
         self.loops[id]
     }
 
+    /// The loops' data, in the order of their numbers.
+    ///
+    /// ```rust
+    /// let count = memory.loops()[0].iters;
+    /// ```
+    #[inline]
+    pub fn loops(&self) -> &[LoopData<usize>]
+        ensures { map loop_of result.now ≡ (held self.now).loops }
+    {
+        &self.loops
+    }
+
     /// The marks of a group. Asks that it is there.
     ///
     /// ```rust

@@ -6,13 +6,25 @@ use Rattle.regress_engine_search.proofs.TaskLemmas.{leads-then, leads-same}
 use Rattle.regress_engine_undo.specs.Held.{Held, held, pushed, undo_of}
 use Rattle.regress_engine_undo.specs.Sound.{IsHeld}
 use Rattle.regress_engine_undo.specs.Tasks.{task}
+use Rattle.regress_engine_exec.specs.Trying.{World}
+use Rattle.regress_engine_exec.specs.Remembering.{IsUnderWay}
+use Rattle.regress_engine_exec.proofs.RememberLemmas.{under-way-on}
 use Rattle.regress_engine_exec.proofs.attempt.Attempt.back.Goals as goal
 
 pub loop-undo-init : goal.loop-undo-init
-loop-undo-init g c = record { leads = leads-same _ _ _; sound = c.requires.sound }
+loop-undo-init g c = record { leads = leads-same _ _ _; sound = c.requires.sound; so = c.requires.so }
 
 pub undo-requires-clause-sound : goal.undo-requires-clause-sound
 undo-requires-clause-sound g c = subst (IsHeld (program_of c.args.self.now.program.now) (g.Input.InputIndexer.view c.args.self.now.input)) c.in-Some.ensures c.loop-undo.invariant.sound
+
+pub learn-requires-clause-sound : goal.learn-requires-clause-sound
+learn-requires-clause-sound g c = subst (IsHeld (program_of c.args.self.now.program.now) (g.Input.InputIndexer.view c.args.self.now.input)) c.in-Some.ensures c.loop-undo.invariant.sound
+
+pub learn-requires-clause-tried : goal.learn-requires-clause-tried
+learn-requires-clause-tried g c =
+    let w : World = record { program = program_of c.args.self.now.program.now; view = g.Input.InputIndexer.view c.args.self.now.input } in
+    subst (IsUnderWay w false c.loop-undo.spot) c.in-Some.ensures
+    (under-way-on w 0 false false c.args.spot.now c.loop-undo.spot (held c.args.memory.now) (held c.loop-undo.memory) c.loop-undo.invariant.leads c.requires.tried)
 
 pub loop-undo-smaller : goal.loop-undo-smaller
 loop-undo-smaller g c =
@@ -30,6 +42,7 @@ loop-undo-preserved g c =
           (subst (λ b. Leads program input 0 (task program input false c.loop-undo.spot (pushed (undo_of c.in-Some.undo) (held c.pop.new.self))) (task program input b c.undo.new.spot (held c.undo.new.memory))) c.if-branch.false
           c.in_ok-undo.ensures.leads));
       sound = c.in_ok-undo.ensures.sound;
+      so = c.learn.ensures;
     }
 
 pub returns-then-branch-clause-leads : goal.returns-then-branch-clause-leads

@@ -59,7 +59,7 @@ returns-in-Some-2-clause-found g c =
     let all = g.met.Input.InputIndexer.are_of_kind context.input in
     let there : Reaches program v c.places.from c.in-Some.start = subst (IsNextStart program v c.places.from) c.in-Some.is c.next_start.ensures.start in
     search-found program v all c.args.offset c.in-Some.start c.in-Some-2.end (held c.run.new.memory).groups (there.on c.args.offset c.places.invariant.finds)
-    (subst (λ x. IsAnswer program (input_of v) c.in-Some.start x (held c.run.new.memory).groups) c.in-Some-2.is c.in_ok-end.ensures)
+    (subst (λ x. IsAnswer program (input_of v) c.in-Some.start x (held c.run.new.memory).groups) c.in-Some-2.is c.in_ok-end.ensures.answer)
 
 pub beside-requires : goal.beside-requires
 beside-requires g c =
@@ -78,7 +78,7 @@ returns-in_default-beside-clause-found g c =
     let all = g.met.Input.InputIndexer.are_of_kind context.input in
     let there : Reaches program v c.places.from c.in-Some.start = subst (IsNextStart program v c.places.from) c.in-Some.is c.next_start.ensures.start in
     search-none program v all c.args.offset c.in-Some.start (held c.run.new.memory).groups (there.on c.args.offset c.places.invariant.finds)
-    (subst (λ x. IsAnswer program (input_of v) c.in-Some.start x (held c.run.new.memory).groups) c.in_default-2.is c.in_ok-end.ensures) (sym c.in_default-beside.ensures)
+    (subst (λ x. IsAnswer program (input_of v) c.in-Some.start x (held c.run.new.memory).groups) c.in_default-2.is c.in_ok-end.ensures.answer) (sym c.in_default-beside.ensures)
 
 pub places-smaller : goal.places-smaller
 places-smaller g c =
@@ -100,8 +100,9 @@ places-preserved g c =
     let there : Reaches program v c.places.from c.in-Some.start = subst (IsNextStart program v c.places.from) c.in-Some.is c.next_start.ensures.start in
     record {
       finds = search-on program v all c.args.offset c.in-Some.start _ c.in-Some-beside.behind (held c.run.new.memory).groups (there.on c.args.offset c.places.invariant.finds)
-          (subst (λ x. IsAnswer program (input_of v) c.in-Some.start x (held c.run.new.memory).groups) c.in_default-2.is c.in_ok-end.ensures) (sym c.in-Some-beside.ensures);
+          (subst (λ x. IsAnswer program (input_of v) c.in-Some.start x (held c.run.new.memory).groups) c.in_default-2.is c.in_ok-end.ensures.answer) (sym c.in-Some-beside.ensures);
       place = next-place v all Forward c.in-Some.start _ c.in-Some-beside.behind there.place (sym c.in-Some-beside.ensures);
+      so = c.in_ok-end.ensures.so;
     }
 
 pub known_at-requires-clause-place : goal.known_at-requires-clause-place
@@ -132,4 +133,4 @@ places-preserved-in-Passed g c =
     let v = g.Input.InputIndexer.view context.input in
     let there : Reaches program v c.places.from c.in-Some.start = subst (IsNextStart program v c.places.from) c.in-Some.is c.next_start.ensures.start in
     let passes : PassesOver program v c.in-Some.start c.in-Passed.past = subst (IsKnown program v c.in-Some.start) c.in-Passed.is c.known_at.ensures in
-    record { finds = passes.on c.args.offset (there.on c.args.offset c.places.invariant.finds); place = passes.place }
+    record { finds = passes.on c.args.offset (there.on c.args.offset c.places.invariant.finds); place = passes.place; so = c.places.invariant.so }
