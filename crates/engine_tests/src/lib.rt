@@ -7,6 +7,8 @@ mod code;
 #[cfg(test)]
 mod evaluated;
 #[cfg(test)]
+mod failures;
+#[cfg(test)]
 mod found;
 #[cfg(test)]
 mod inputs;

@@ -1,10 +1,16 @@
 -- What is remembered of failures.
-use Rattle.std.proofs.Common.{◌≡◌, ℕ, Bool, true, false, Option, Some, None, ap, sym, subst, ◌∙◌, length}
+use mathlib.Core.HLevel.{Σ_prop_path, Π_prop}
+use Rattle.std.specs.Coded.{codes}
+use Rattle.std.proofs.Common.{◌≡◌, ℕ, suc, ◌+◌, ◌<◌, Bool, true, false, List, Option, Some, None, IfSome, ap, sym, subst, ◌∙◌, length, arith}
+use Rattle.std.proofs.Math.Logic.{∥∥₁_elim, ∥∥₁_map}
+use Rattle.regress_meaning.specs.Meaning.{Direction}
 use Rattle.regress_meaning.specs.Inputs.{Input}
 use Rattle.regress_engine_input.specs.Views.{View, AreOfKind, input_of}
 use Rattle.regress_engine_insn.specs.Instructions.{Program}
 use Rattle.regress_engine_runs.specs.States.{Whole}
-use Rattle.regress_engine_runs.specs.UndoStack.{tried}
+use Rattle.regress_engine_runs.specs.Computed.{run}
+use Rattle.regress_engine_runs.specs.UndoStack.{Fails, tried}
+use Rattle.regress_engine_runs.proofs.Computed.{computed-runs, runs-computed}
 use Rattle.regress_engine_search.specs.Tasks.{Leads}
 use Rattle.regress_engine_search.specs.Search.{Suits}
 use Rattle.regress_engine_search.proofs.TaskLemmas.{leads-then, tried-on}
@@ -13,12 +19,12 @@ use Rattle.regress_engine_undo.specs.Held.{Held, pushed}
 use Rattle.regress_engine_undo.specs.Sound.{IsHeld, IsSound}
 use Rattle.regress_engine_undo.specs.Tasks.{task, state_at}
 use Rattle.regress_engine_memory.specs.declared.failures.Failures.{Failures}
-use Rattle.regress_engine_memory.specs.Deciding.{flow_of}
-use Rattle.regress_engine_memory.specs.Flow.{IsFlow}
+use Rattle.regress_engine_memory.specs.Deciding.{is_flow}
 use Rattle.regress_engine_memory.specs.Held.{FailsIfFree}
 use Rattle.regress_engine_memory.specs.Planes.{AreKnown}
 use Rattle.regress_engine_memory.specs.Remembered.{keyed_of}
 use Rattle.regress_engine_memory.specs.TableViews.{table_of}
+use Rattle.regress_engine_memory.proofs.Deciding.{decides}
 use Rattle.regress_engine_memory.proofs.HeldLemmas.{learns-held}
 use Rattle.regress_engine_exec.specs.Trying.{World, Steps}
 use Rattle.regress_engine_exec.specs.Remembering.{AreOf, IsUnderWay}
@@ -53,6 +59,46 @@ module _ (w : World) where
       → ((program : Program) → (input : Input) → AreKnown program input old → FailsIfFree program input (keyed_of (table_of old.table)) (length w.view.units) s h.loops → AreKnown program input new)
       → p.forward ≡ s.forward → length h.loops ≡ w.program.loops → IsUnderWay w false p (pushed (tried s.at s.offset) h) → AreOf w new
   learned old new p s h all suits so same grows turned count (n, r, tries) = record {
-    flow = subst (λ t. IsFlow (flow_of (table_of t)) w.program) (sym same) so.flow;
-    known = grows w.program (input_of w.view) so.known (learns-held w.view all w.program suits (keyed_of (table_of old.table)) so.flow p s h turned count n r tries);
+    tested = subst (λ t. is_flow (table_of t) w.program ≡ true) (sym same) so.tested;
+    known = grows w.program (input_of w.view) so.known
+        (learns-held w.view all w.program suits (keyed_of (table_of old.table)) (decides (table_of old.table) w.program so.tested) p s h turned count n r tries);
   }
+
+-- ---- what is remembered is kept beside an executor, truncated
+
+bool-set : IsSet Bool
+bool-set = hlevel codes
+
+whole-set : IsSet Whole
+whole-set = hlevel codes
+
+counted-set : IsSet (Option (ℕ × Option Whole))
+counted-set = hlevel (codes, whole-set)
+
+module _ (program : Program) (input : Input) where
+  -- that a run has no answer is known by its computation, which is one
+  fails-computed : Direction → List Whole → Type 0
+  fails-computed dir ss = (n : ℕ) × ((f : ℕ) → n < f → run program input f dir ss ≡ Some (n, None))
+
+  fails-computed-prop : (dir : Direction) (ss : List Whole) → IsProp (fails-computed dir ss)
+  fails-computed-prop dir ss x y =
+      Σ_prop_path (λ (n : ℕ). Π_prop (λ f. Π_prop (λ more. counted-set (run program input f dir ss) (Some (n, None))))) same
+    where
+      same : x.0 ≡ y.0
+      same =
+          let e : ◌≡◌ {A = Option (ℕ × Option Whole)} (Some (x.0, None)) (Some (y.0, None)) =
+              sym (x.1 (suc (x.0 + y.0)) (omega arith)) ∙ y.1 (suc (x.0 + y.0)) (omega arith) in
+          cc
+
+  fails-anyway : (dir : Direction) (ss : List Whole) → ∥ Fails program input dir ss ∥₁ → Fails program input dir ss
+  fails-anyway dir ss t =
+      let c = ∥∥₁_elim t (fails-computed-prop dir ss) (λ x. (x.0, λ f more. runs-computed program input x.1 f more)) in
+      (c.0, computed-runs program input (suc c.0) dir ss c.0 None (c.1 (suc c.0) (omega arith)))
+
+-- what is remembered is so, where some proof of it is kept
+pub remembers-anyway : (w : World) {B : Type 0} (of : B → Failures) (o : Option B) → ∥ IfSome o (λ b. AreOf w (of b)) ∥₁ → IfSome o (λ b. AreOf w (of b))
+remembers-anyway w of None t = tt
+remembers-anyway w of (Some b) t = record {
+  tested = ∥∥₁_elim t (bool-set (is_flow (table_of (of b).table) w.program) true) (λ x. x.tested);
+  known = λ k o p here bit loops groups count has. fails-anyway w.program (input_of w.view) _ _ (∥∥₁_map t (λ x. x.known k o p here bit loops groups count has));
+}

@@ -7,21 +7,20 @@ use Rattle.regress_engine_undo.specs.declared.undo.Spot.{Spot}
 use Rattle.regress_engine_undo.specs.Held.{Held}
 use Rattle.regress_engine_undo.specs.Tasks.{task}
 use Rattle.regress_engine_memory.specs.declared.failures.Failures.{Failures}
-use Rattle.regress_engine_memory.specs.Deciding.{flow_of}
-use Rattle.regress_engine_memory.specs.Flow.{IsFlow}
+use Rattle.regress_engine_memory.specs.Deciding.{is_flow}
 use Rattle.regress_engine_memory.specs.Planes.{AreKnown}
 use Rattle.regress_engine_memory.specs.TableViews.{table_of}
 use Rattle.regress_engine_exec.specs.Trying.{World}
 use Rattle.regress_engine_exec.specs.declared.remembered.Remembered.{Remembered}
 
--- Failures are a world's: their table is true of its program, and all that is kept is known to fail in it.
+-- Failures are a world's: their table passes the test with its program, and all that is kept is known to fail in it.
 pub record AreOf (w : World) (f : Failures) : Type 0 where
-  pub flow : IsFlow (flow_of (table_of f.table)) w.program
+  pub tested : is_flow (table_of f.table) w.program ≡ true
   pub known : AreKnown w.program (input_of w.view) f
 
 -- what is remembered, if anything, is a world's
 abbrev pub Remembers : World → Remembered → Type 0
-Remembers w m = IfSome m.failures (AreOf w)
+Remembers w m = IfSome m.failures (λ f. AreOf w f.value)
 
 -- a run is tried, going on at a spot or back from it
 abbrev pub IsUnderWay : World → (going : Bool) → Spot → Held → Type 0

@@ -5,6 +5,7 @@ use Rattle.regress_engine_code.specs.Standing.{program_of}
 use Rattle.regress_engine_runs.specs.States.{Marks}
 use Rattle.regress_engine_search.specs.Search.{Search}
 use Rattle.regress_engine_search.specs.StateViews.{marks_of}
+use Rattle.regress_engine_exec.specs.declared.scratch.Scratch.{Scratch}
 use Rattle.regress_engine_exec.specs.declared.search.BacktrackExecutor.{BacktrackExecutor}
 
 -- what is searched
@@ -16,5 +17,9 @@ abbrev pub program_in : {I : Type 0} {g : _} → BacktrackExecutor I g → Progr
 program_in e = program_of e.context.program.now
 
 -- the groups that are held
+abbrev pub groups_of : Scratch → List Marks
+groups_of s = map marks_of s.memory.groups.items
+
+-- the same by an executor
 abbrev pub groups_in : {I : Type 0} {g : _} → BacktrackExecutor I g → List Marks
-groups_in e = map marks_of e.scratch.memory.groups.items
+groups_in e = groups_of e.scratch

@@ -1,10 +1,9 @@
 //! Going back to a state that is still to be tried.
-ghost use Rattle.std.specs.Prelude.{◌≡◌, ◌<◌, ℕ, true, false, List, [], ◌∷◌, length, map, nat_lt, is_some, IfOk, IfSome, OnOk};
+ghost use Rattle.std.specs.Prelude.{◌≡◌, ◌<◌, ℕ, true, false, List, [], ◌∷◌, length, map, is_some, IfOk, IfSome, OnOk};
 ghost use Rattle.regress_engine_insn.specs.InsnViews.{instruction};
 ghost use Rattle.regress_engine_insn.specs.Instructions.{byte_seq};
 ghost use Rattle.regress_engine_code.specs.Standing.{program_of};
-ghost use Rattle.regress_engine_input.specs.Views.{direction_of, input_of, reading_of};
-ghost use Rattle.regress_engine_runs.specs.Runs.{gap};
+ghost use Rattle.regress_engine_input.specs.Views.{input_of, reading_of};
 ghost use Rattle.regress_engine_runs.specs.Meets.{IsAtPlace};
 ghost use Rattle.regress_engine_runs.specs.UndoStack.{give_back, take_on};
 ghost use Rattle.regress_engine_search.specs.Ready.{IsBody, IsReady};
@@ -25,17 +24,9 @@ use regress_engine_advance::{
 use regress_engine_insn::Insn;
 use regress_engine_search::ExecutorInput;
 use regress_engine_singles::first_byte;
-use regress_engine_undo::{Frame, Memory, Spot, Undo};
+use regress_engine_undo::{Frame, Memory, Spot, Undo, is_ahead};
 use regress_front_core::GroupData;
 use std::alloc::AllocError;
-
-/// Whether the second offset is ahead of the first, forward or backward.
-#[inline]
-fn is_ahead(forward: bool, near: usize, far: usize) -> bool
-    ensures { result ≡ nat_lt 0 (gap (direction_of forward) near far) }
-{
-    if forward { near < far } else { far < near }
-}
 
 /// Goes on behind a lookaround or an atomic group whose contents have no answer, where it is negated, and answers whether it
 /// is.
@@ -305,8 +296,9 @@ impl<'a, Input: ExecutorInput> Attempt<'a, Input> {
         ensures leads { IfOk result (GoesBack (world Input.view self.now) spot.old (held memory.old) spot.new (held memory.new)) }
         ensures sound { OnOk result (IsHeldIn (world Input.view self.now) (held memory.new)) }
         ensures exhausted { IfOk result (λ going. going ≡ false → (held memory.new).stack ≡ []) }
-        ensures so { OnOk result (Remembers (world Input.view self.now) remembered.new) }
+        ensures so { Remembers (world Input.view self.now) remembered.new }
     {
+        self.count_back(remembered);
         while let Some(undo) = memory.pop() {
             self.learn(&undo, memory, remembered, spot);
             if self.undo(undo, memory, spot)? {

@@ -4,30 +4,41 @@ ghost use Rattle.regress_engine_code.specs.Standing.{program_of};
 ghost use Rattle.regress_engine_search.specs.Search.{Suits};
 ghost use Rattle.regress_engine_undo.specs.Held.{held, undo_of, pushed};
 ghost use Rattle.regress_engine_exec.specs.Attempts.{world};
-ghost use Rattle.regress_engine_exec.specs.Remembering.{Drops, IsUnderWay, Remembers};
+ghost use Rattle.regress_engine_exec.specs.Remembering.{AreOf, Drops, IsUnderWay, Remembers};
 ghost use Rattle.regress_engine_exec.specs.Trying.{IsHeldIn, Steps, World};
 
 use crate::attempt::Attempt;
 use regress_engine_insn::Insn;
-use regress_engine_memory::Failures;
+use regress_engine_memory::{Failures, FlowTable};
 use regress_engine_search::ExecutorInput;
 use regress_engine_undo::{Memory, Spot, Undo};
 use regress_front_core::GroupData;
-use std::alloc::AllocError;
+use std::alloc::{AllocError, Global};
+
+/// What is known to fail takes at most so many blocks of 32 bytes: 64 MB.
+const MOST_BLOCKS: usize = 1 << 21;
 
 /// What is remembered of failures in one text, of one program.
 #[derive(Debug, Drop)]
 pub(crate) struct Remembered {
+    alloc: Global,
+    /// How often runs may still go back before failures are kept; 0 where that has been begun.
+    spare: usize,
     /// What is known to fail, where it is kept.
-    pub(crate) failures: Option<Failures>,
+    failures: Option<Box<Failures>>,
 }
 
 impl Remembered {
-    /// Nothing is remembered.
-    pub(crate) fn new() -> Remembered
+    /// Nothing is remembered. Failures are kept once runs have gone back more often than normal searches do in a text of so many
+    /// units.
+    pub(crate) fn new(alloc: Global, length: usize) -> Remembered
         ensures { (w : World) → Remembers w result }
     {
-        Remembered { failures: None }
+        Remembered {
+            alloc,
+            spare: length.saturating_add(64).saturating_mul(16),
+            failures: None,
+        }
     }
 }
 
@@ -37,11 +48,17 @@ impl<'a, Input: ExecutorInput> Attempt<'a, Input> {
     fn is_choice(&self, at: usize) -> bool {
         matches!(
             self.program.insns().get(at),
-            Some(Insn::Alt { .. } | Insn::EnterLoop(_) | Insn::LoopAgain { .. })
+            Some(
+                Insn::Alt { .. }
+                    | Insn::EnterLoop(_)
+                    | Insn::LoopAgain { .. }
+                    | Insn::Loop1CharBody { .. }
+            )
         )
     }
 
     /// Whether the state at a spot is known to fail. If not, and failures are kept, it is recorded that it is tried.
+    #[inline(never)]
     fn is_dropped(
         &self,
         memory: &mut Memory,
@@ -72,7 +89,7 @@ impl<'a, Input: ExecutorInput> Attempt<'a, Input> {
     }
 
     /// Does the instruction at a spot, as `step` does; or drops the state there, where that is known to fail.
-    #[inline]
+    #[inline(always)]
     pub(crate) fn try_step(
         &self,
         memory: &mut Memory,
@@ -87,11 +104,42 @@ impl<'a, Input: ExecutorInput> Attempt<'a, Input> {
         ensures leads { IfOk result (Steps (world Input.view self.now) spot.old (held memory.old) spot.new (held memory.new)) }
         ensures sound { IfOk result (λ left. IfSome left (λ going. IsHeldIn (world Input.view self.now) (held memory.new))) }
     {
-        if self.is_dropped(memory, remembered, spot)? {
+        if remembered.failures.is_some() && self.is_dropped(memory, remembered, spot)? {
             return Ok(Some(false));
         }
         let left = self.step(memory, answer, spot)?;
         Ok(left)
+    }
+
+    /// What is known to fail where that is begun: nothing. `None` where the program's table does not pass its test, or where memory
+    /// is refused.
+    #[cold]
+    fn nothing_known(&self, alloc: Global) -> Option<Box<Failures>>
+        ensures { IfSome result (λ failures. AreOf (world Input.view self.now) failures.value) }
+    {
+        let Ok(Some(table)) = FlowTable::of(
+            alloc,
+            self.program.insns(),
+            self.program.loops() as usize,
+        ) else {
+            return None;
+        };
+        Box::new(alloc, Failures::new(alloc, table, MOST_BLOCKS)).ok()
+    }
+
+    /// Counts that a run goes back. Where that was often, failures are kept from now on.
+    #[inline]
+    pub(crate) fn count_back(&self, remembered: &mut Remembered)
+        requires { Remembers (world Input.view self.now) remembered.old }
+        ensures { Remembers (world Input.view self.now) remembered.new }
+    {
+        if remembered.spare == 0 {
+            return;
+        }
+        remembered.spare -= 1;
+        if remembered.spare == 0 {
+            remembered.failures = self.nothing_known(remembered.alloc);
+        }
     }
 
     /// Learns what a record shows that is about to be undone: where it is that of a state that was tried, no run from there has an

@@ -18,7 +18,8 @@ use std::alloc::AllocError;
 
 impl<'a, Input: ExecutorInput> Attempt<'a, Input> {
     /// Runs the program from the offset, at an address to which the run comes with nothing changed. It answers where the run's
-    /// answer ends, whose groups `memory` then has, or `None` where the run has none. `answer` is room for groups. What it learns of failures is remembered.
+    /// answer ends, whose groups `memory` then has, or `None` where the run has none. `answer` is room for groups. What it learns of
+    /// failures is remembered.
     pub(crate) fn run(
         &self,
         first: usize,
@@ -32,7 +33,7 @@ impl<'a, Input: ExecutorInput> Attempt<'a, Input> {
         requires so { Remembers (world Input.view self.now) remembered.old }
         ensures answer { IfOk result (λ found. IsAnswer (program_of self.now.program.now) (input_of (Input.view self.now.input))
             self.now.start found (held memory.new).groups) }
-        ensures so { OnOk result (Remembers (world Input.view self.now) remembered.new) }
+        ensures so { Remembers (world Input.view self.now) remembered.new }
     {
         memory.begin(
             self.program.loops() as usize,

@@ -11,25 +11,27 @@ ghost use Rattle.regress_engine_runs.specs.Items.{Finds};
 ghost use Rattle.regress_engine_runs.specs.Meets.{IsAtPlace};
 ghost use Rattle.regress_engine_search.specs.Answering.{IsAnswer, IsFound, IsOutcome};
 ghost use Rattle.regress_engine_search.specs.Search.{IsMadeOf, IsItemAtPlaces, IsWritten};
+ghost use Rattle.regress_engine_exec.specs.Attempts.{world_of};
+ghost use Rattle.regress_engine_exec.specs.Remembering.{Remembers};
 
-use crate::attempt::Attempt;
+use crate::finding::{first_from, run_from};
 use crate::remembered::Remembered;
 use crate::scratch::Scratch;
-use regress_engine_advance::beside;
 use regress_engine_code::CompiledRegex;
 use regress_engine_inputs::Utf8Input;
-use regress_engine_leading::{Beginning, known_at};
 use regress_engine_search::{ExecutorInput, SearchContext, Shown, fill_slots};
 use regress_match::{Match, MatchProducer, Range};
 use std::alloc::{AllocError, Global};
 
-/// Finds the matches of a program in a text. It holds one state and one stack of what is to be undone, its scratch, which it keeps
-/// from one search to the next, and no call of it calls it again.
+/// Finds the matches of a program in a text. It holds one state and one stack of what is to be undone, its scratch, and what it
+/// remembers of failures; it keeps these from one search to the next, and no call of it calls it again.
 #[derive(Debug, Drop)]
 pub struct BacktrackExecutor<'r, Input: Shown> {
     alloc: Global,
     pub(crate) context: SearchContext<'r, Input>,
     scratch: Scratch,
+    remembered: Remembered,
+    ghost so: { ∥ Remembers (world_of context.program.now (Input.shown context.input)) remembered ∥₁ },
 }
 
 impl<'r, Input: ExecutorInput> BacktrackExecutor<'r, Input> {
@@ -69,10 +71,13 @@ impl<'r, Input: ExecutorInput> BacktrackExecutor<'r, Input> {
         ensures program { (⟦<BacktrackExecutor<'r, Input> as MatchProducer>⟧.search_of result).compiled ≡ program.entry.now }
         ensures text { (⟦<BacktrackExecutor<'r, Input> as MatchProducer>⟧.search_of result).view ≡ Input.view input }
     {
+        let context = SearchContext::new(program, input);
+        let remembered = Remembered::new(alloc, context.text_len());
         BacktrackExecutor {
             alloc,
-            context: SearchContext::new(program, input),
+            context,
             scratch,
+            remembered,
         }
     }
 
@@ -85,45 +90,19 @@ impl<'r, Input: ExecutorInput> BacktrackExecutor<'r, Input> {
         self.scratch
     }
 
-    /// Searches from an offset on, where the text goes on as the program's start predicate says. It answers the offset from
-    /// which the first run has an answer, and where that ends; the answer's groups are then held.
+    /// Searches from an offset on. It answers the offset from which the first run has an answer, and where that ends; the answer's
+    /// groups are then held.
     fn search(&mut self, offset: usize) -> Result<Option<(usize, usize)>, AllocError>
         requires { IsAtPlace (reading_of (Input.view self.old.context.input)) offset }
         ensures found { IfOk result (λ found. IsFound (program_in self.old) (input_of (Input.view self.old.context.input)) offset found (groups_in self.new)) }
         ensures kept { self.new.context ≡ self.old.context }
     {
-        let context = &self.context;
-        let mut remembered = Remembered::new();
-        let mut from = offset;
-        'places: loop {
-            let Some(start) = context.next_start(from) else {
-                return Ok(None);
-            };
-            let first = match known_at(context.program, &context.input, start) {
-                Beginning::Passed(past) => {
-                    from = past;
-                    continue;
-                }
-                Beginning::At(first) => first,
-            };
-            let attempt = Attempt {
-                program: context.program,
-                input: context.input,
-                start,
-            };
-            if let Some(end) = attempt.run(
-                first,
-                &mut self.scratch.memory,
-                &mut self.scratch.answer,
-                &mut remembered,
-            )? {
-                return Ok(Some((start, end)));
-            }
-            let Some((_, behind)) = beside(&context.input, true, start) else {
-                return Ok(None);
-            };
-            from = behind;
-        }
+        first_from(
+            &self.context,
+            &mut self.scratch,
+            &mut self.remembered,
+            offset,
+        )
     }
 
     /// Runs the program from an offset. It answers where the run's answer ends, whose groups are then held.
@@ -132,17 +111,11 @@ impl<'r, Input: ExecutorInput> BacktrackExecutor<'r, Input> {
         ensures answer { IfOk result (λ end. IsAnswer (program_in self.old) (input_of (Input.view self.old.context.input)) offset end (groups_in self.new)) }
         ensures kept { self.new.context ≡ self.old.context }
     {
-        let attempt = Attempt {
-            program: self.context.program,
-            input: self.context.input,
-            start: offset,
-        };
-        let mut remembered = Remembered::new();
-        attempt.run(
-            0,
-            &mut self.scratch.memory,
-            &mut self.scratch.answer,
-            &mut remembered,
+        run_from(
+            &self.context,
+            &mut self.scratch,
+            &mut self.remembered,
+            offset,
         )
     }
 

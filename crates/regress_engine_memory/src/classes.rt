@@ -2,7 +2,6 @@
 ghost use Rattle.std.specs.Prelude.{◌≡◌, ◌+◌, ◌<◌, ℕ, true, false, get_or, map};
 ghost use Rattle.regress_meaning.specs.Text.{holds};
 ghost use Rattle.regress_engine_input.specs.Views.{direction_of};
-ghost use Rattle.regress_engine_runs.specs.UndoStack.{IsPast};
 ghost use Rattle.regress_engine_search.specs.StateViews.{loop_of};
 ghost use Rattle.regress_engine_memory.specs.Deciding.{flow_of, live_at};
 ghost use Rattle.regress_engine_memory.specs.Keys.{class_of};
@@ -11,7 +10,7 @@ ghost use Rattle.regress_engine_memory.specs.TableViews.{table_of};
 ghost use Rattle.regress_engine_memory.specs.Under.{HasMoved, room};
 
 use crate::flow::FlowTable;
-use regress_engine_undo::Spot;
+use regress_engine_undo::{Spot, is_ahead};
 use regress_front_core::LoopData;
 use std::alloc::{AllocError, Global};
 
@@ -40,16 +39,6 @@ fn room_left(last: usize, spot: &Spot) -> usize
     }
 }
 
-/// Whether an offset is past another one, read forward or backward.
-fn is_past(entry: usize, spot: &Spot) -> bool
-    ensures { result ≡ true → IsPast (direction_of spot.now.forward) entry spot.now.offset }
-{
-    if spot.forward {
-        entry < spot.offset
-    } else {
-        spot.offset < entry
-    }
-}
 
 impl FlowTable {
     /// How many iterations of a loop have begun, as far as it matters.
@@ -107,7 +96,7 @@ impl FlowTable {
             → counts.iters + 1 + room last (direction_of spot.now.forward) spot.now.offset < (flow_of (table_of self.now)).most id }
     {
         let bounds = self.bounds(id);
-        if counts.iters > bounds.least && !is_past(counts.entry, spot) {
+        if counts.iters > bounds.least && !is_ahead(spot.forward, counts.entry, spot.offset) {
             return false;
         }
         let left = bounds.most.saturating_sub(room_left(last, spot));

@@ -1,9 +1,8 @@
 //! How a table of what is told of a program's addresses is made: in one pass, and then it is tested.
-ghost use Rattle.std.specs.Prelude.{◌≡◌, IfOk, IfSome, map};
+ghost use Rattle.std.specs.Prelude.{◌≡◌, true, IfOk, IfSome, map};
 ghost use Rattle.regress_engine_insn.specs.Instructions.{Program};
 ghost use Rattle.regress_engine_insn.specs.InsnViews.{instruction};
-ghost use Rattle.regress_engine_memory.specs.Deciding.{flow_of};
-ghost use Rattle.regress_engine_memory.specs.Flow.{IsFlow};
+ghost use Rattle.regress_engine_memory.specs.Deciding.{is_flow};
 ghost use Rattle.regress_engine_memory.specs.TableViews.{table_of};
 
 use crate::flow::{Bounds, FlowTable};
@@ -137,7 +136,7 @@ impl FlowTable {
     /// ```
     pub fn of(alloc: Global, insns: &[Insn], loops: usize) -> Result<Option<FlowTable>, AllocError>
         ensures { IfOk result (λ found. IfSome found (λ table. (program : Program) → program.instructions ≡ map instruction insns.now
-            → IsFlow (flow_of (table_of table)) program)) }
+            → is_flow (table_of table) program ≡ true)) }
     {
         let table = FlowTable::suggested(alloc, insns, loops)?;
         if table.is_flow(insns) {

@@ -8,4 +8,4 @@ mod undo;
 
 pub use memory::Memory;
 pub use steps::{begun, ended};
-pub use undo::{Frame, Spot, Undo};
+pub use undo::{Frame, Spot, Undo, is_ahead};

@@ -1,4 +1,9 @@
 //! What an executor undoes, and where it goes on.
+ghost use Rattle.std.specs.Prelude.{◌≡◌, true, nat_lt};
+ghost use Rattle.regress_engine_input.specs.Views.{direction_of};
+ghost use Rattle.regress_engine_runs.specs.Runs.{gap};
+ghost use Rattle.regress_engine_runs.specs.UndoStack.{IsPast};
+
 use regress_engine_search::Submatch;
 use regress_front_core::{CaptureGroupID, GroupData, LoopData};
 
@@ -11,6 +16,19 @@ pub struct Spot {
     pub offset: usize,
     /// Whether the text is read forward.
     pub forward: bool,
+}
+
+/// Whether the second offset is ahead of the first, read forward or backward.
+///
+/// ```rust
+/// let moved = is_ahead(spot.forward, 3, spot.offset);
+/// ```
+#[inline]
+pub fn is_ahead(forward: bool, near: usize, far: usize) -> bool
+    ensures gap { result ≡ nat_lt 0 (gap (direction_of forward) near far) }
+    ensures past { result ≡ true → IsPast (direction_of forward) near far }
+{
+    if forward { near < far } else { far < near }
 }
 
 /// A lookaround or an atomic group whose contents are tried.

@@ -12,7 +12,7 @@ use Rattle.regress_engine_exec.proofs.RememberLemmas.{under-way-on}
 use Rattle.regress_engine_exec.proofs.attempt.Attempt.back.Goals as goal
 
 pub loop-undo-init : goal.loop-undo-init
-loop-undo-init g c = record { leads = leads-same _ _ _; sound = c.requires.sound; so = c.requires.so }
+loop-undo-init g c = record { leads = leads-same _ _ _; sound = c.requires.sound; so = c.count_back.ensures }
 
 pub undo-requires-clause-sound : goal.undo-requires-clause-sound
 undo-requires-clause-sound g c = subst (IsHeld (program_of c.args.self.now.program.now) (g.Input.InputIndexer.view c.args.self.now.input)) c.in-Some.ensures c.loop-undo.invariant.sound

@@ -34,7 +34,7 @@ returns-then-not-is_ahead-clause-leads g c =
     let dead = c.in-Some.ensures.dead input c.args.forward c.places.back
     (λ gs. none-is _ (sym c.is_some.ensures ∙ c.if-is_some.false) ∙ c.advance.ensures ∙ taking-any program input i (direction_of c.args.forward) (map marks_of c.args.groups.now) gs c.places.back c.in-Some.ensures.takes) in
     gives-then program input c.args.forward c.args.at c.args.near c.args.far c.places.back None c.places.invariant.gives
-    (gives-last program input c.args.forward c.args.at c.args.near c.places.back dead (none-ahead _ c.if-not-is_ahead.ensures))
+    (gives-last program input c.args.forward c.args.at c.args.near c.places.back dead (none-ahead _ c.if-not-is_ahead.ensures.gap))
 
 pub returns-in_default-beside-clause-leads : goal.returns-in_default-beside-clause-leads
 returns-in_default-beside-clause-leads g c =
@@ -52,7 +52,7 @@ places-smaller g c =
     let v = g.Input.InputIndexer.view c.args.self.now.input in
     let input = input_of v in
     nearer input (moves v) c.args.forward c.args.near c.places.back _ c.in-Some-beside.before
-    (ap (λ d. input.next d c.places.back) (sym (direction_of-against c.args.forward)) ∙ sym c.in-Some-beside.ensures) (some-ahead _ c.if-not-is_ahead.ensures)
+    (ap (λ d. input.next d c.places.back) (sym (direction_of-against c.args.forward)) ∙ sym c.in-Some-beside.ensures) (some-ahead _ c.if-not-is_ahead.ensures.gap)
 
 pub places-preserved : goal.places-preserved
 places-preserved g c =
@@ -65,7 +65,7 @@ places-preserved g c =
     (λ gs. none-is _ (sym c.is_some.ensures ∙ c.if-is_some.false) ∙ c.advance.ensures ∙ taking-any program input i (direction_of c.args.forward) (map marks_of c.args.groups.now) gs c.places.back c.in-Some.ensures.takes) in
     record {
       gives = gives-then program input c.args.forward c.args.at c.args.near c.args.far c.places.back (Some c.in-Some-beside.before) c.places.invariant.gives
-          (gives-over program input c.args.forward c.args.at c.args.near c.places.back _ c.in-Some-beside.before (moves v) dead (some-ahead _ c.if-not-is_ahead.ensures)
+          (gives-over program input c.args.forward c.args.at c.args.near c.places.back _ c.in-Some-beside.before (moves v) dead (some-ahead _ c.if-not-is_ahead.ensures.gap)
           (ap (λ d. input.next d c.places.back) (sym (direction_of-against c.args.forward)) ∙ sym c.in-Some-beside.ensures));
       place = next-place v all (direction_of (not c.args.forward)) c.places.back _ c.in-Some-beside.before c.places.invariant.place (sym c.in-Some-beside.ensures);
     }

@@ -22,7 +22,7 @@ returns-then-not-is_ahead-clause-leads g c =
     let program = program_of c.args.self.now.program.now in
     let input = input_of (g.Input.InputIndexer.view c.args.self.now.input) in
     leads-then program input 0 0 (c.in-Some.ensures.leads c.args.spot.now (held c.args.memory.now) refl)
-    (give_back-last program input c.args.spot.now (held c.args.memory.now) c.args.at c.args.near c.in-Some.way (none-ahead _ c.if-not-is_ahead.ensures))
+    (give_back-last program input c.args.spot.now (held c.args.memory.now) c.args.at c.args.near c.in-Some.way (none-ahead _ c.if-not-is_ahead.ensures.gap))
 
 pub returns-then-not-is_ahead-clause-sound : goal.returns-then-not-is_ahead-clause-sound
 returns-then-not-is_ahead-clause-sound g c = (held-give_back _ _ (held c.args.memory.now) c.args.at c.args.near c.args.far c.requires.sound).1
@@ -49,7 +49,7 @@ returns-clause-leads g c =
     let input = input_of v in
     leads-then program input 0 0 (c.in-Some.ensures.leads c.args.spot.now (held c.args.memory.now) refl)
     (give_back-more program input c.args.spot.now (held c.args.memory.now) (held c.push.new.self) c.args.at c.args.near c.in-Some.way _ c.in-Some-beside.next (moves v)
-    (some-ahead _ c.if-not-is_ahead.ensures) (ap (λ d. input.next d c.in-Some.way) (sym (direction_of-against c.args.spot.now.forward)) ∙ sym c.in-Some-beside.ensures) c.in_ok-push.ensures)
+    (some-ahead _ c.if-not-is_ahead.ensures.gap) (ap (λ d. input.next d c.in-Some.way) (sym (direction_of-against c.args.spot.now.forward)) ∙ sym c.in-Some-beside.ensures) c.in_ok-push.ensures)
 
 pub returns-clause-sound : goal.returns-clause-sound
 returns-clause-sound g c =

@@ -13,11 +13,11 @@ use Rattle.regress_engine_singles.specs.Passed.{PassesOver}
 use Rattle.regress_engine_undo.specs.Held.{held}
 use Rattle.regress_engine_leading.specs.Known.{IsKnown}
 use Rattle.regress_engine_exec.proofs.WayLemmas.{way-comes}
-use Rattle.regress_engine_exec.proofs.search.BacktrackExecutor.search.Goals as goal
+use Rattle.regress_engine_exec.proofs.finding.first_from.Goals as goal
 
 pub invariant_of-attempt : goal.invariant_of-attempt
 invariant_of-attempt g c =
-    let context = c.args.self.now.context in
+    let context = c.args.context.now in
     let program = program_of context.program.now in
     let v = g.Input.InputIndexer.view context.input in
     let there : Reaches program v c.places.from c.in-Some.start = subst (IsNextStart program v c.places.from) c.in-Some.is c.next_start.ensures.start in
@@ -25,7 +25,7 @@ invariant_of-attempt g c =
 
 pub run-requires-clause-reads : goal.run-requires-clause-reads
 run-requires-clause-reads g c =
-    let context = c.args.self.now.context in
+    let context = c.args.context.now in
     let program = program_of context.program.now in
     let v = g.Input.InputIndexer.view context.input in
     let searchable = subst (IsSearchable program) (g.met.Input.ExecutorInput.shows context.input) context.searchable in
@@ -34,26 +34,26 @@ run-requires-clause-reads g c =
 
 pub run-requires-clause-suits : goal.run-requires-clause-suits
 run-requires-clause-suits g c =
-    let context = c.args.self.now.context in
+    let context = c.args.context.now in
     let searchable = subst (IsSearchable (program_of context.program.now)) (g.met.Input.ExecutorInput.shows context.input) context.searchable in
     searchable.suits
 
 pub run-requires-clause-begun : goal.run-requires-clause-begun
 run-requires-clause-begun g c =
-    let context = c.args.self.now.context in
+    let context = c.args.context.now in
     way-comes (program_of context.program.now) (input_of (g.Input.InputIndexer.view context.input)) c.in-Some.start c.in-At.first
     (subst (IsKnown (program_of context.program.now) (g.Input.InputIndexer.view context.input) c.in-Some.start) c.in-At.is c.known_at.ensures)
 
 pub returns-in_default-clause-found : goal.returns-in_default-clause-found
 returns-in_default-clause-found g c =
-    let context = c.args.self.now.context in
+    let context = c.args.context.now in
     let program = program_of context.program.now in
     let v = g.Input.InputIndexer.view context.input in
     subst (IsNextStart program v c.places.from) c.in_default.is c.next_start.ensures.start c.args.offset c.places.invariant.finds
 
 pub returns-in-Some-2-clause-found : goal.returns-in-Some-2-clause-found
 returns-in-Some-2-clause-found g c =
-    let context = c.args.self.now.context in
+    let context = c.args.context.now in
     let program = program_of context.program.now in
     let v = g.Input.InputIndexer.view context.input in
     let all = g.met.Input.InputIndexer.are_of_kind context.input in
@@ -63,7 +63,7 @@ returns-in-Some-2-clause-found g c =
 
 pub beside-requires : goal.beside-requires
 beside-requires g c =
-    let context = c.args.self.now.context in
+    let context = c.args.context.now in
     let program = program_of context.program.now in
     let v = g.Input.InputIndexer.view context.input in
     let all = g.met.Input.InputIndexer.are_of_kind context.input in
@@ -72,7 +72,7 @@ beside-requires g c =
 
 pub returns-in_default-beside-clause-found : goal.returns-in_default-beside-clause-found
 returns-in_default-beside-clause-found g c =
-    let context = c.args.self.now.context in
+    let context = c.args.context.now in
     let program = program_of context.program.now in
     let v = g.Input.InputIndexer.view context.input in
     let all = g.met.Input.InputIndexer.are_of_kind context.input in
@@ -82,7 +82,7 @@ returns-in_default-beside-clause-found g c =
 
 pub places-smaller : goal.places-smaller
 places-smaller g c =
-    let context = c.args.self.now.context in
+    let context = c.args.context.now in
     let program = program_of context.program.now in
     let v = g.Input.InputIndexer.view context.input in
     let all = g.met.Input.InputIndexer.are_of_kind context.input in
@@ -93,7 +93,7 @@ places-smaller g c =
 
 pub places-preserved : goal.places-preserved
 places-preserved g c =
-    let context = c.args.self.now.context in
+    let context = c.args.context.now in
     let program = program_of context.program.now in
     let v = g.Input.InputIndexer.view context.input in
     let all = g.met.Input.InputIndexer.are_of_kind context.input in
@@ -107,7 +107,7 @@ places-preserved g c =
 
 pub known_at-requires-clause-place : goal.known_at-requires-clause-place
 known_at-requires-clause-place g c =
-    let context = c.args.self.now.context in
+    let context = c.args.context.now in
     let program = program_of context.program.now in
     let v = g.Input.InputIndexer.view context.input in
     let there : Reaches program v c.places.from c.in-Some.start = subst (IsNextStart program v c.places.from) c.in-Some.is c.next_start.ensures.start in
@@ -115,7 +115,7 @@ known_at-requires-clause-place g c =
 
 pub places-smaller-in-Passed : goal.places-smaller-in-Passed
 places-smaller-in-Passed g c =
-    let context = c.args.self.now.context in
+    let context = c.args.context.now in
     let program = program_of context.program.now in
     let v = g.Input.InputIndexer.view context.input in
     let all = g.met.Input.InputIndexer.are_of_kind context.input in
@@ -128,7 +128,7 @@ places-smaller-in-Passed g c =
 
 pub places-preserved-in-Passed : goal.places-preserved-in-Passed
 places-preserved-in-Passed g c =
-    let context = c.args.self.now.context in
+    let context = c.args.context.now in
     let program = program_of context.program.now in
     let v = g.Input.InputIndexer.view context.input in
     let there : Reaches program v c.places.from c.in-Some.start = subst (IsNextStart program v c.places.from) c.in-Some.is c.next_start.ensures.start in

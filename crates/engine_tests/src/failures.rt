@@ -1,0 +1,141 @@
+//! What is remembered of failures: a table that tells nothing, and a memory that learns nothing, are proved too, and only slower.
+
+use crate::code::program;
+use crate::parsed::rewritten;
+use regress_engine_code::emit;
+use regress_engine_exec::BacktrackExecutor;
+use regress_engine_inputs::Utf8Input;
+use regress_engine_memory::{Failures, FlowTable};
+use regress_engine_undo::Spot;
+use regress_front_core::LoopData;
+use regress_front_tables::Tables;
+use std::alloc::Global;
+use std::test::Fail;
+
+/// A pattern, and at how many addresses of its program failures may be learned: from there on no group is referred to.
+const CALM: &[(&str, usize)] = &[
+    ("ab", 2),
+    ("(x+x+)+y", 13),
+    ("(?:a|ab)*c", 8),
+    ("(?:a*)*b", 6),
+    ("(?:a|b){2,40}c", 16),
+    ("(?=(?:a+)+b)c", 13),
+    ("(?<!a*b)c", 7),
+    ("(?>a|ab)*c", 10),
+    (r"(a)b\1c", 2),
+    (r"(?:(a)|b)*\1", 1),
+];
+
+#[test]
+fn failures_may_be_learned_where_no_group_is_referred_to(rt: HostRuntime) -> Result<(), Fail> {
+    let alloc = rt.alloc();
+    let tables = Tables::small(alloc)?;
+    for (pattern, calm) in CALM {
+        let program = emit(alloc, &rewritten(alloc, pattern, "", &tables)?)?;
+        let found = FlowTable::of(alloc, program.insns(), program.loops() as usize)?;
+        let Some(table) = found else {
+            return Err(Fail::new(format!(in alloc; "{pattern}: no table")?));
+        };
+        let mut count: usize = 0;
+        for at in 0..program.insns().len() {
+            count = count.saturating_add(usize::from(table.is_calm(at)));
+        }
+        if count != *calm {
+            return Err(Fail::new(format!(in alloc; "{pattern}: {count}")?));
+        }
+    }
+    Ok(())
+}
+
+/// What is known of three spots, once a failure was learned at the first, where so many blocks may be taken: of the same spot, of
+/// one at another offset, and of one that is read backward.
+fn known_of(alloc: Global, room: usize) -> Result<Option<(bool, bool, bool)>, Fail> {
+    let tables = Tables::small(alloc)?;
+    let program = program(alloc, "a|b", "", false, &tables)?;
+    let Some(table) = FlowTable::of(alloc, program.insns(), program.loops() as usize)? else {
+        return Ok(None);
+    };
+    let loops: &[LoopData<usize>] = &[];
+    let spot = Spot {
+        at: 0,
+        offset: 700,
+        forward: true,
+    };
+    let other = Spot {
+        offset: 701,
+        ..spot
+    };
+    let back = Spot {
+        forward: false,
+        ..spot
+    };
+    let mut failures = Failures::new(alloc, table, room);
+    failures.learn(&spot, loops, 1000);
+    Ok(Some((
+        failures.is_known(&spot, loops),
+        failures.is_known(&other, loops),
+        failures.is_known(&back, loops),
+    )))
+}
+
+#[test]
+fn a_failure_is_known_where_there_is_room(rt: HostRuntime) -> Result<(), Fail> {
+    assert!(rt; known_of(rt.alloc(), 0)? == Some((false, false, false)));
+    assert!(rt; known_of(rt.alloc(), 2)? == Some((false, false, false)));
+    assert!(rt; known_of(rt.alloc(), 3)? == Some((true, false, false)));
+    Ok(())
+}
+
+/// A pattern that has very many ways through a text, a piece of that, how often it stands, what ends it, and the first match.
+type HostileRow = (
+    &'static str,
+    &'static str,
+    usize,
+    &'static str,
+    Option<(usize, usize)>,
+);
+
+const HOSTILE: &[HostileRow] = &[
+    ("(x+x+)+y", "x", 1000, "", None),
+    ("(x+x+)+y", "x", 1000, "y", Some((0, 1001))),
+    ("(a|a)*b", "a", 20_000, "", None),
+    ("(?:a|ab)*c", "ab", 20_000, "", None),
+    ("(?:a|ab)*c", "ab", 20_000, "c", Some((0, 40_001))),
+    ("^(([a-z])+.)+[A-Z]([a-z])+$", "a", 200, "", None),
+    (
+        "^(([a-z])+.)+[A-Z]([a-z])+$",
+        "a",
+        200,
+        "Ab",
+        Some((0, 202)),
+    ),
+    ("(a+)+$", "a", 1000, "!", Some((1001, 1001))),
+    ("(.*)*x", "a", 500, "", None),
+    ("(?:a|a?)+$", "a", 1000, "b", Some((1001, 1001))),
+    (r"(\w+\s?)*$", "a", 1000, "!", Some((1001, 1001))),
+    ("(?:(?:a?)*)*b", "a", 500, "", None),
+    ("(?:a?(?:a|a))*?b", "a", 1000, "", None),
+    ("(?=(?:a|a)*b)a", "a", 500, "", None),
+    ("(?>(?:a|a)*b)|a+c", "a", 500, "", None),
+    ("(?<=b(?:a|a)*)c", "a", 1000, "c", None),
+    ("a?(?=(?:a?)*b)a", "ab", 1, "", Some((0, 1))),
+];
+
+/// The first match of a pattern in a text, by the executor that undoes.
+fn first_match(alloc: Global, pattern: &str, text: &str) -> Result<Option<(usize, usize)>, Fail> {
+    let tables = Tables::small(alloc)?;
+    let program = emit(alloc, &rewritten(alloc, pattern, "", &tables)?)?;
+    let mut executor = BacktrackExecutor::new(alloc, &program, text);
+    let found = executor.find_from(0)?;
+    Ok(found.map(|m| (m.start(), m.end())))
+}
+
+#[test]
+fn patterns_of_many_ways_are_searched_soon(rt: HostRuntime) -> Result<(), Fail> {
+    for (pattern, piece, count, end, expected) in HOSTILE {
+        let mut text = piece.repeat(rt.alloc(), *count)?;
+        text.push_str(end)?;
+        assert!(rt; first_match(rt.alloc(), pattern, text.as_str())? == *expected);
+    }
+    Ok(())
+}

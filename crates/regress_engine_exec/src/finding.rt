@@ -1,0 +1,83 @@
+//! The first place of a text from which a run has an answer.
+ghost use Rattle.std.specs.Prelude.{IfOk, OnOk};
+ghost use Rattle.regress_engine_code.specs.Standing.{program_of};
+ghost use Rattle.regress_engine_input.specs.Views.{input_of, reading_of};
+ghost use Rattle.regress_engine_runs.specs.Meets.{IsAtPlace};
+ghost use Rattle.regress_engine_search.specs.Answering.{IsAnswer, IsFound};
+ghost use Rattle.regress_engine_exec.specs.Attempts.{searched};
+ghost use Rattle.regress_engine_exec.specs.Remembering.{Remembers};
+ghost use Rattle.regress_engine_exec.specs.Searches.{groups_of};
+
+use crate::attempt::Attempt;
+use crate::remembered::Remembered;
+use crate::scratch::Scratch;
+use regress_engine_advance::beside;
+use regress_engine_leading::{Beginning, known_at};
+use regress_engine_search::{ExecutorInput, SearchContext};
+use std::alloc::AllocError;
+
+/// Searches from an offset on, where the text goes on as the program's start predicate says. It answers the offset from which the
+/// first run has an answer, and where that ends; the scratch has the answer's groups.
+#[inline(always)]
+pub(crate) fn first_from<Input: ExecutorInput>(
+    context: &SearchContext<'_, Input>,
+    scratch: &mut Scratch,
+    remembered: &mut Remembered,
+    offset: usize,
+) -> Result<Option<(usize, usize)>, AllocError>
+    requires place { IsAtPlace (reading_of (Input.view context.now.input)) offset }
+    requires so { Remembers (searched Input.view context.now) remembered.old }
+    ensures found { IfOk result (λ found. IsFound (program_of context.now.program.now) (input_of (Input.view context.now.input)) offset found (groups_of scratch.new)) }
+    ensures so { Remembers (searched Input.view context.now) remembered.new }
+{
+    let mut from = offset;
+    'places: loop {
+        let Some(start) = context.next_start(from) else {
+            return Ok(None);
+        };
+        let first = match known_at(context.program, &context.input, start) {
+            Beginning::Passed(past) => {
+                from = past;
+                continue;
+            }
+            Beginning::At(first) => first,
+        };
+        let attempt = Attempt {
+            program: context.program,
+            input: context.input,
+            start,
+        };
+        if let Some(end) = attempt.run(
+            first,
+            &mut scratch.memory,
+            &mut scratch.answer,
+            remembered,
+        )? {
+            return Ok(Some((start, end)));
+        }
+        let Some((_, behind)) = beside(&context.input, true, start) else {
+            return Ok(None);
+        };
+        from = behind;
+    }
+}
+
+/// Runs the program from an offset. It answers where the run's answer ends, whose groups the scratch has.
+pub(crate) fn run_from<Input: ExecutorInput>(
+    context: &SearchContext<'_, Input>,
+    scratch: &mut Scratch,
+    remembered: &mut Remembered,
+    offset: usize,
+) -> Result<Option<usize>, AllocError>
+    requires place { IsAtPlace (reading_of (Input.view context.now.input)) offset }
+    requires so { Remembers (searched Input.view context.now) remembered.old }
+    ensures answer { IfOk result (λ end. IsAnswer (program_of context.now.program.now) (input_of (Input.view context.now.input)) offset end (groups_of scratch.new)) }
+    ensures so { Remembers (searched Input.view context.now) remembered.new }
+{
+    let attempt = Attempt {
+        program: context.program,
+        input: context.input,
+        start: offset,
+    };
+    attempt.run(0, &mut scratch.memory, &mut scratch.answer, remembered)
+}
