@@ -57,8 +57,36 @@ impl<'a, Input: ExecutorInput> Attempt<'a, Input> {
         )
     }
 
-    /// Whether the state at a spot is known to fail. If not, and failures are kept, it is recorded that it is tried.
+    /// Whether the state at a spot is known to fail. If not, it is recorded that it is tried, where two ways may lead on.
     #[inline(never)]
+    fn is_known(
+        &self,
+        memory: &mut Memory,
+        failures: &Failures,
+        spot: &Spot,
+    ) -> Result<bool, AllocError>
+        requires sound { IsHeldIn (world Input.view self.now) (held memory.old) }
+        requires so { AreOf (world Input.view self.now) failures.now }
+        ensures leads { IfOk result (Drops (world Input.view self.now) spot.now (held memory.old) (held memory.new)) }
+        ensures sound { OnOk result (IsHeldIn (world Input.view self.now) (held memory.new)) }
+        ensures loops { OnOk result ((held memory.new).loops ≡ (held memory.old).loops) }
+        ensures groups { OnOk result ((held memory.new).groups ≡ (held memory.old).groups) }
+    {
+        if !self.is_choice(spot.at) {
+            return Ok(false);
+        }
+        if failures.is_known(spot, memory.loops()) {
+            return Ok(true);
+        }
+        memory.push(Undo::Tried {
+            at: spot.at,
+            offset: spot.offset,
+        })?;
+        Ok(false)
+    }
+
+    /// Whether the state at a spot is dropped: where failures are kept, and it is known to fail.
+    #[inline(always)]
     fn is_dropped(
         &self,
         memory: &mut Memory,
@@ -72,20 +100,10 @@ impl<'a, Input: ExecutorInput> Attempt<'a, Input> {
         ensures loops { OnOk result ((held memory.new).loops ≡ (held memory.old).loops) }
         ensures groups { OnOk result ((held memory.new).groups ≡ (held memory.old).groups) }
     {
-        let Some(failures) = &remembered.failures else {
-            return Ok(false);
-        };
-        if !self.is_choice(spot.at) {
-            return Ok(false);
+        match &remembered.failures {
+            Some(failures) => self.is_known(memory, failures, spot),
+            None => Ok(false),
         }
-        if failures.is_known(spot, memory.loops()) {
-            return Ok(true);
-        }
-        memory.push(Undo::Tried {
-            at: spot.at,
-            offset: spot.offset,
-        })?;
-        Ok(false)
     }
 
     /// Does the instruction at a spot, as `step` does; or drops the state there, where that is known to fail.
@@ -104,7 +122,7 @@ impl<'a, Input: ExecutorInput> Attempt<'a, Input> {
         ensures leads { IfOk result (Steps (world Input.view self.now) spot.old (held memory.old) spot.new (held memory.new)) }
         ensures sound { IfOk result (λ left. IfSome left (λ going. IsHeldIn (world Input.view self.now) (held memory.new))) }
     {
-        if remembered.failures.is_some() && self.is_dropped(memory, remembered, spot)? {
+        if self.is_dropped(memory, remembered, spot)? {
             return Ok(Some(false));
         }
         let left = self.step(memory, answer, spot)?;
