@@ -118,7 +118,10 @@ const HOSTILE: &[HostileRow] = &[
     ("(?=(?:a|a)*b)a", "a", 500, "", None),
     ("(?>(?:a|a)*b)|a+c", "a", 500, "", None),
     ("(?<=b(?:a|a)*)c", "a", 1000, "c", None),
-    ("a?(?=(?:a?)*b)a", "ab", 1, "", Some((0, 1))),
+    ("(?:(a|a){127}!)+?", "a", 200, "", None),
+    ("(?:a|aa){200}b", "a", 300, "", None),
+    // What is known of an iteration that has taken nothing is not known of one that has.
+    ("(?:x|x)*y|a?(?=(?:a?)*b)a", "x", 30, "ab", Some((30, 31))),
 ];
 
 /// The first match of a pattern in a text, by the executor that undoes.

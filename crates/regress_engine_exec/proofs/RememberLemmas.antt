@@ -77,7 +77,7 @@ counted-set = hlevel (codes, whole-set)
 
 module _ (program : Program) (input : Input) where
   -- that a run has no answer is known by its computation, which is one
-  fails-computed : Direction → List Whole → Type 0
+  abbrev fails-computed : Direction → List Whole → Type 0
   fails-computed dir ss = (n : ℕ) × ((f : ℕ) → n < f → run program input f dir ss ≡ Some (n, None))
 
   fails-computed-prop : (dir : Direction) (ss : List Whole) → IsProp (fails-computed dir ss)
@@ -88,7 +88,7 @@ module _ (program : Program) (input : Input) where
       same =
           let e : ◌≡◌ {A = Option (ℕ × Option Whole)} (Some (x.0, None)) (Some (y.0, None)) =
               sym (x.1 (suc (x.0 + y.0)) (omega arith)) ∙ y.1 (suc (x.0 + y.0)) (omega arith) in
-          cc
+          ap (λ (o : Option (ℕ × Option Whole)). elim o [ None ↦ 0 | Some a ↦ a.0 ]) e
 
   fails-anyway : (dir : Direction) (ss : List Whole) → ∥ Fails program input dir ss ∥₁ → Fails program input dir ss
   fails-anyway dir ss t =

@@ -142,7 +142,10 @@ impl<'a, Input: ExecutorInput> Attempt<'a, Input> {
         ) else {
             return None;
         };
-        Box::new(alloc, Failures::new(alloc, table, MOST_BLOCKS)).ok()
+        match Box::new(alloc, Failures::new(alloc, table, MOST_BLOCKS)) {
+            Ok(failures) => Some(failures),
+            Err(_) => None,
+        }
     }
 
     /// Counts that a run goes back. Where that was often, failures are kept from now on.

@@ -15,7 +15,7 @@ use regress_front_core::LoopData;
 use std::alloc::{AllocError, Global};
 
 /// A loop is counted that has at most so many iterations.
-const MOST_COUNTED: usize = 64;
+const MOST_COUNTED: usize = 256;
 
 /// The data of a loop; of one that is not there those before any iteration.
 fn data_of(loops: &[LoopData<usize>], id: usize) -> LoopData<usize>

@@ -16,9 +16,10 @@ returns g c =
     let w : World = record { program = program_of c.args.self.now.program.now; view = g.Input.InputIndexer.view c.args.self.now.input } in
     let s : Spot = record { at = c.in-Tried.at; offset = c.in-Tried.offset; forward = c.args.spot.now.forward } in
     let h = held c.args.memory.now in
-    let keyed = keyed_of (table_of c.in-Some.failures.table) in
-    learned w c.in-Some.failures c.learn.new.self c.args.spot.now s h (g.met.Input.InputIndexer.are_of_kind c.args.self.now.input) c.requires.suits
-    (subst (λ x. IfSome x (AreOf w)) c.in-Some.is c.requires.so) c.learn.ensures.table
+    let old = c.deref_mut.result.now in
+    let keyed = keyed_of (table_of old.table) in
+    learned w old c.learn.new.self c.args.spot.now s h (g.met.Input.InputIndexer.are_of_kind c.args.self.now.input) c.requires.suits
+    (subst (AreOf w) (sym c.deref_mut.ensures.value) (subst (λ x. IfSome x (λ f. AreOf w f.value)) c.in-Some.is c.requires.so)) c.learn.ensures.table
     (λ program input known fails. c.learn.ensures.known program input known
     (subst (FailsIfFree program input keyed c.pos_to_offset-last.result s) (sym c.loops.ensures)
     (subst (λ (last : ℕ). FailsIfFree program input keyed last s h.loops) (sym (c.pos_to_offset-last.ensures ∙ c.right_end.ensures)) fails)))
