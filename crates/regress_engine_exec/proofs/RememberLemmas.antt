@@ -96,9 +96,9 @@ module _ (program : Program) (input : Input) where
       (c.0, computed-runs program input (suc c.0) dir ss c.0 None (c.1 (suc c.0) (omega arith)))
 
 -- what is remembered is so, where some proof of it is kept
-pub remembers-anyway : (w : World) {B : Type 0} (of : B → Failures) (o : Option B) → ∥ IfSome o (λ b. AreOf w (of b)) ∥₁ → IfSome o (λ b. AreOf w (of b))
-remembers-anyway w of None t = tt
-remembers-anyway w of (Some b) t = record {
+pub remembers-anyway : (w : World) {B : Type 0} (o : Option B) (of : B → Failures) → ∥ IfSome o (λ b. AreOf w (of b)) ∥₁ → IfSome o (λ b. AreOf w (of b))
+remembers-anyway w None of t = tt
+remembers-anyway w (Some b) of t = record {
   tested = ∥∥₁_elim t (bool-set (is_flow (table_of (of b).table) w.program) true) (λ x. x.tested);
   known = λ k o p here bit loops groups count has. fails-anyway w.program (input_of w.view) _ _ (∥∥₁_map t (λ x. x.known k o p here bit loops groups count has));
 }

@@ -9,10 +9,10 @@ use Rattle.regress_engine_exec.proofs.finding.first_from.Given as goal
 -- what a search from here finds is what is searched for, and what is remembered is so
 abbrev pub invariant-places : goal.invariant-places
 invariant-places g l = record {
-  finds : FindsOn (program_of l.context.now.program.now) (input_of (g.Input.InputIndexer.view l.context.now.input)) l.offset l.from;
-  place : IsAtPlace (reading_of (g.Input.InputIndexer.view l.context.now.input)) l.from;
-  so : Remembers (record { program = program_of l.context.now.program.now; view = g.Input.InputIndexer.view l.context.now.input }) l.remembered;
+  finds : FindsOn (program_of l.context.program.now) (input_of (g.Input.InputIndexer.view l.context.input)) l.offset l.from;
+  place : IsAtPlace (reading_of (g.Input.InputIndexer.view l.context.input)) l.from;
+  so : Remembers (record { program = program_of l.context.program.now; view = g.Input.InputIndexer.view l.context.input }) l.remembered;
 }
 
 abbrev pub decreases-places : goal.decreases-places
-decreases-places g l = length (g.Input.InputIndexer.view l.context.now.input).units - l.from
+decreases-places g l = length (g.Input.InputIndexer.view l.context.input).units - l.from
