@@ -87,7 +87,7 @@ module _ (program : Program) (input : Input) where
       same : x.0 ≡ y.0
       same =
           let e : ◌≡◌ {A = Option (ℕ × Option Whole)} (Some (x.0, None)) (Some (y.0, None)) =
-              sym (x.1 (suc (x.0 + y.0)) (omega arith)) ∙ y.1 (suc (x.0 + y.0)) (omega arith) in
+          sym (x.1 (suc (x.0 + y.0)) (omega arith)) ∙ y.1 (suc (x.0 + y.0)) (omega arith) in
           ap (λ (o : Option (ℕ × Option Whole)). elim o [ None ↦ 0 | Some a ↦ a.0 ]) e
 
   fails-anyway : (dir : Direction) (ss : List Whole) → ∥ Fails program input dir ss ∥₁ → Fails program input dir ss

@@ -1,5 +1,5 @@
 //! The run from one offset.
-ghost use Rattle.std.specs.Prelude.{true, IfOk, OnOk};
+ghost use Rattle.std.specs.Prelude.{true, IfOk};
 ghost use Rattle.regress_engine_code.specs.Standing.{program_of};
 ghost use Rattle.regress_engine_input.specs.Views.{input_of};
 ghost use Rattle.regress_engine_search.specs.Answering.{IsAnswer};

@@ -39,7 +39,6 @@ fn room_left(last: usize, spot: &Spot) -> usize
     }
 }
 
-
 impl FlowTable {
     /// How many iterations of a loop have begun, as far as it matters.
     pub(crate) fn class(&self, id: usize, count: usize) -> usize

@@ -1,6 +1,5 @@
-use Rattle.std.proofs.Common.{ℕ, List, false, refl, sym, subst, ◌∙◌, IfSome}
+use Rattle.std.proofs.Common.{ℕ, false, refl, sym, subst, ◌∙◌, IfSome}
 use Rattle.regress_engine_code.specs.Standing.{program_of}
-use Rattle.regress_engine_input.specs.Views.{input_of}
 use Rattle.regress_engine_undo.specs.declared.undo.Spot.{Spot}
 use Rattle.regress_engine_undo.specs.Held.{held, pushed, undo_of}
 use Rattle.regress_engine_memory.specs.Held.{FailsIfFree}

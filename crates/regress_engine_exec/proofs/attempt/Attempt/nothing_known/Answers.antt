@@ -13,7 +13,7 @@ pub returns-in-Ok : goal.returns-in-Ok
 returns-in-Ok g c =
     let w : World = record { program = program_of c.args.self.now.program.now; view = g.Input.InputIndexer.view c.args.self.now.input } in
     let tested = subst (λ x. IfSome x (λ table. (program : Program) → program.instructions ≡ map instruction c.insns.result.now → is_flow (table_of table) program ≡ true))
-        c.in-Ok-Some.field-0-is c.in-Ok-Some.ensures in
+    c.in-Ok-Some.field-0-is c.in-Ok-Some.ensures in
     subst (AreOf w) (sym c.in-Ok.ensures.ok) (record {
       tested = subst (λ t. is_flow (table_of t) w.program ≡ true) (sym c.new.ensures.table) (tested w.program (ap (map instruction) (sym c.insns.ensures)));
       known = c.new.ensures.known w.program (input_of w.view);

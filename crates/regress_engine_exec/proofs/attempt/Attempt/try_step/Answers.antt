@@ -1,6 +1,6 @@
-use Rattle.std.proofs.Common.{true, false, subst}
+use Rattle.std.proofs.Common.{true, subst}
 use Rattle.regress_engine_code.specs.Standing.{program_of}
-use Rattle.regress_engine_input.specs.Views.{direction_of, input_of}
+use Rattle.regress_engine_input.specs.Views.{direction_of}
 use Rattle.regress_engine_search.proofs.TaskLemmas.{tried-stands, tried-reads}
 use Rattle.regress_engine_undo.specs.Held.{held}
 use Rattle.regress_engine_undo.specs.Tasks.{state_at}
