@@ -9,7 +9,7 @@ use Rattle.regress_front_core.specs.declared.error.Error.TheVariants.{OutOfMemor
 use Rattle.regress_front_nodes.specs.declared.node.Node.{Node}
 use Rattle.regress_front_nodes.specs.Trees.{Tree, tree, cat_of, alt, capture, submatch, Submatch, loop, single_loop}
 use Rattle.regress_front_nodes.specs.WellFormed.{AreLawful}
-use Rattle.regress_front_nodes.specs.TreeMeaning.{submatch_direction}
+use Rattle.regress_front_nodes.specs.TreeMeaning.{direction, submatch_direction}
 use Rattle.regress_front_rules.specs.NormalForm.{nodes_below, Nowhere}
 use Rattle.regress_front_rules.specs.Rules.{HasLaws, RewritesAtRoot, Rewrites, there, in_part, in_first, in_second, in_capture, in_submatch, in_loop, in_single_loop, Reaches, stays, and_then}
 use Rattle.regress_front_opt.specs.declared.action.PassAction.{PassAction}
