@@ -1,3 +1,4 @@
+pub mod SumLemmas
 pub mod BracketLemmas
 pub mod AlikeLemmas
 pub mod StringLemmas
@@ -11,3 +12,4 @@ pub mod LowerableLemmas
 pub mod LoweringLemmas
 pub mod TextTerms
 pub mod TextSteps
+pub mod CostLemmas

@@ -4,9 +4,12 @@
 mod alike;
 mod arms;
 mod brackets;
+mod costs;
 mod lawful;
+mod limit;
 mod lowering;
 mod parse;
 mod wholes;
 
+pub use limit::LimitError;
 pub use parse::{try_parse, try_parse_whole_text};
