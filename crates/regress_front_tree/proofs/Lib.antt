@@ -12,4 +12,6 @@ pub mod LowerableLemmas
 pub mod LoweringLemmas
 pub mod TextTerms
 pub mod TextSteps
+pub mod LeftLemmas
+pub mod CostSteps
 pub mod CostLemmas

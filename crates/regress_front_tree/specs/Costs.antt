@@ -60,14 +60,19 @@ pub record IsTreeWithin (limit : ℕ) (made : Pattern → Pattern) (table : Tabl
   pub within : whole_cost table (made p) ≤ limit
   pub spread : spread t ≤ whole_cost table (made p)
 
--- What is made of the pattern that a text spells within the limits costs more than the limit.
-pub record CostsMore (limit : ℕ) (made : Pattern → Pattern) (table : Table) (o : Options) (text : List ℕ) : Type 0 where
+-- The pattern that a text spells within the limits has a greater size than the limit.
+pub record IsLarger (size : Pattern → ℕ) (limit : ℕ) (table : Table) (o : Options) (text : List ℕ) : Type 0 where
   pub pattern : Pattern
   pub spelled : Spells table o text pattern
   pub within : WithinLimits pattern
-  pub more : limit < whole_cost table (made pattern)
+  pub larger : limit < size pattern
 
--- A refusal that may be met where a limit is given: that it is passed, or one that the pattern may meet without one.
+-- A refusal that may be met where patterns have this size, and no greater than the limit: that it is greater, or one that the
+-- pattern may meet without a limit.
+abbrev pub MayRefuseLarger : (Pattern → ℕ) → ℕ → Table → Options → List ℕ → LimitError → Type 0
+MayRefuseLarger size limit table o text PastLimit = IsLarger size limit table o text
+MayRefuseLarger size limit table o text (Refused e) = MayRefuse table o text e
+
+-- One that may be met where what is made of a pattern may cost no more than the limit.
 abbrev pub MayRefuseWithin : ℕ → (Pattern → Pattern) → Table → Options → List ℕ → LimitError → Type 0
-MayRefuseWithin limit made table o text PastLimit = CostsMore limit made table o text
-MayRefuseWithin limit made table o text (Refused e) = MayRefuse table o text e
+MayRefuseWithin limit made table = MayRefuseLarger (λ p. whole_cost table (made p)) limit table

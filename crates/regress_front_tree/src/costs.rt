@@ -1,5 +1,5 @@
 //! What a pattern costs, told of its syntax tree.
-ghost use Rattle.std.specs.Prelude.{◌≡◌, ◌+◌, ◌-◌, [], chars, map, sum_by, unwrap_or};
+ghost use Rattle.std.specs.Prelude.{◌≡◌, ◌+◌, ◌-◌, [], chars, map, nat_le, sum_by, unwrap_or};
 ghost use Rattle.regress_front_class_values.specs.ClassValues.{lists};
 ghost use Rattle.regress_front_tables.specs.TableViews.{table};
 ghost use Rattle.regress_front_tokens.specs.Trees.{tree, class_view, trees_of, choice_of};
@@ -105,7 +105,7 @@ fn repetition_left(
 
 /// What is left of an amount where a part of a pattern is paid. Calls go as deep as the pattern nests.
 #[cycle(syntax_left)]
-pub(crate) fn syntax_left(tables: &Tables, syntax: &Syntax, amount: usize) -> Option<usize>
+fn syntax_left(tables: &Tables, syntax: &Syntax, amount: usize) -> Option<usize>
     ensures { Leaves amount (cost (table tables.now) (tree syntax.now)) result }
 {
     match syntax {
@@ -173,4 +173,14 @@ fn arms_left(tables: &Tables, arms: &[Syntax], amount: usize) -> Option<usize>
         return amount.checked_sub(1);
     }
     each_left(tables, arms, amount)?.checked_sub(arms.len() - 1)
+}
+
+/// Whether a part of a pattern, and so much around it, costs no more than a limit.
+pub(crate) fn is_within(tables: &Tables, syntax: &Syntax, around: usize, limit: usize) -> bool
+    ensures { result ≡ nat_le (cost (table tables.now) (tree syntax.now) + around) limit }
+{
+    match syntax_left(tables, syntax, limit) {
+        Some(left) => around <= left,
+        None => false,
+    }
 }

@@ -4,6 +4,7 @@
 mod alike;
 mod arms;
 mod brackets;
+mod cheap;
 mod costs;
 mod lawful;
 mod limit;
@@ -12,4 +13,4 @@ mod parse;
 mod wholes;
 
 pub use limit::LimitError;
-pub use parse::{try_parse, try_parse_whole_text};
+pub use parse::{try_parse, try_parse_whole_text, try_parse_whole_text_within, try_parse_within};
