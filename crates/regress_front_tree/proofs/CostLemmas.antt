@@ -143,10 +143,13 @@ value-cost table folded (nested false a) = value-cost table folded a
 class_arms-spread : (icase : Bool) (ss : List (List ℕ)) (characters : Tree) (none has_empty : Bool) (t : Tree) → spread characters ≡ 1 → (length ss == 0) ≡ none
     → HasArms ((if none then [] else string_set ss icase ∷ []) ++ (characters ∷ (if has_empty then string_set ([] ∷ []) icase ∷ [] else []))) t
     → spread t ≤ strings_cost ss + empty_cost has_empty + 1
-class_arms-spread icase ss characters true true t one none arms = omega (arith, one, arms-spread arms)
+class_arms-spread icase ss characters true true t one none arms =
+    let alone = sum_by-cons (λ (s : List ℕ). length s) [] [] in
+    omega (arith, one, arms-spread arms, alone)
 class_arms-spread icase ss characters true false t one none arms = omega (arith, one, arms-spread arms)
 class_arms-spread icase ss characters false true t one none arms =
-    omega (arith, one, arms-spread arms, strings-parts ss, eqb-false (length ss) 0 none)
+    let alone = sum_by-cons (λ (s : List ℕ). length s) [] [] in
+    omega (arith, one, arms-spread arms, alone, strings-parts ss, eqb-false (length ss) 0 none)
 class_arms-spread icase ss characters false false t one none arms =
     omega (arith, one, arms-spread arms, strings-parts ss, eqb-false (length ss) 0 none)
 
