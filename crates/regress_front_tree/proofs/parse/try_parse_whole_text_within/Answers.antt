@@ -3,6 +3,8 @@ use Rattle.std.proofs.lemmas.Result.{err_from_is_err_and}
 use Rattle.regress_meaning.specs.Table.{Table}
 use Rattle.regress_meaning.specs.Flags.{Options}
 use Rattle.regress_meaning.specs.WholeText.{whole_text}
+use Rattle.regress_front_core.specs.FlagWords.{options}
+use Rattle.regress_front_tables.specs.TableViews.{table}
 use Rattle.regress_front_nodes.specs.Trees.{tree}
 use Rattle.regress_front_tree.specs.Costs.{cost, MayRefuseLarger, MayRefuseWithin}
 use Rattle.regress_front_tree.specs.declared.limit.LimitError.{LimitError}
@@ -25,4 +27,4 @@ returns-clause-accepted c =
 pub returns-in_err-node-clause-refused : goals.returns-in_err-node-clause-refused
 returns-in_err-node-clause-refused c =
     let answered = err_from_is_err_and c.from_residual.result c.from_residual.ensures.1 in
-    rw (answered.1, answered.2) (refused-whole _ _ _ _ _ c.in_err-node.ensures.refused)
+    rw (answered.1, answered.2) (refused-whole c.args.limit (table c.args.tables.now) (options c.args.flags) c.args.pattern.now _ c.in_err-node.ensures.refused)
