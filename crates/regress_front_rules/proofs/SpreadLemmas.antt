@@ -3,7 +3,7 @@ use Rattle.std.proofs.Common.{◌≡◌, ℕ, zero, suc, ◌+◌, ◌-◌, ◌*�
 use Rattle.std.proofs.Math.Nat.{mul-le-mul}
 use Rattle.std.proofs.lemmas.Bool.{le-leb}
 use Rattle.regress_meaning.specs.Meaning.{Direction}
-use Rattle.regress_front_nodes.specs.Trees.{Tree, empty, char, bytes, byte_set, char_set, cat, no_part, cat_of, alt, any, any_in_line, capture, bracket, submatch, loop, single_loop}
+use Rattle.regress_front_nodes.specs.Trees.{Tree, empty, char, bytes, byte_set, char_set, cat, cat_of, alt, any, any_in_line, capture, bracket, submatch, loop, single_loop}
 use Rattle.regress_front_nodes.specs.Sizes.{size, loops, spread, unrolling, most_unrolled, largest_unrolled}
 use Rattle.regress_front_nodes.specs.WellFormed.{AreLawful}
 use Rattle.regress_front_nodes.specs.Characters.{is_character}

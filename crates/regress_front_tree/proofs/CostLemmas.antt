@@ -1,13 +1,13 @@
 -- A lowered tree spreads no further than its pattern costs.
-use Rattle.std.proofs.Common.{◌≡◌, ℕ, ◌+◌, ◌-◌, ◌*◌, ◌<◌, ◌≤◌, Bool, true, false, not, cond, ◌&&◌, ◌||◌, ◌==◌, List, [], ◌∷◌, ◌++◌, length, nat_le, min, map, filter, reverse, fold, sum_by, Some, None, All, if◌then◌else◌, refl, sym, ap, ◌∙◌, subst, arith, length-append}
+use Rattle.std.proofs.Common.{◌≡◌, ℕ, ◌+◌, ◌*◌, ◌≤◌, Bool, true, false, not, ◌&&◌, ◌==◌, List, [], ◌∷◌, ◌++◌, length, nat_le, min, map, filter, reverse, sum_by, All, if◌then◌else◌, refl, arith, length-append}
 use Rattle.std.specs.Option.{unwrap_or}
 use Rattle.std.proofs.Math.Nat.{mul-le-mul}
-use Rattle.std.proofs.lemmas.Bool.{ne_eqb, eqb-true, eqb-false}
+use Rattle.std.proofs.lemmas.Bool.{ne_eqb, eqb-false}
 use Rattle.std.proofs.lemmas.List.{length-reverse, reverse-append}
 use Rattle.std.proofs.lemmas.List.Elements.{All-head, All-tail}
 use Rattle.std.proofs.lemmas.List.Sums.{sum_by-cons, sum_by-append}
 use Rattle.regress_meaning.specs.Table.{Table}
-use Rattle.regress_meaning.specs.Class.{Class, Strings, of_list, value_of, among, no_string, range, digits, spaces, words, property, sequences, strings, union, intersection, difference, complement, nested}
+use Rattle.regress_meaning.specs.Class.{Class, value_of, among, no_string, range, digits, spaces, words, property, sequences, strings, union, intersection, difference, complement, nested}
 use Rattle.regress_meaning.specs.Pattern.{Pattern, Settings, character}
 use Rattle.regress_front_tokens.specs.Trees.{sequence_of, choice_of}
 use Rattle.regress_front_nodes.specs.Trees.{Tree, char, bytes, byte_set, char_set, any, any_in_line, bracket, back, string_set, cat_of}
@@ -15,7 +15,7 @@ use Rattle.regress_front_nodes.specs.Sizes.{size, spread, unrolling, most_unroll
 use Rattle.regress_front_nodes.specs.Characters.{is_character}
 use Rattle.regress_front_nodes.specs.Forms.{cat_made, in_reading_order}
 use Rattle.regress_front_tree.specs.Costs.{strings_cost, class_cost, cost}
-use Rattle.regress_front_tree.specs.Lowering.{HasArms, one_arm, two_halves, class_arms, class_value, is_piece, LowersClass, Lowers, of_character, of_any, of_class, of_negated_class, of_class_escape, of_terms, of_arms, of_capture, of_group, of_modified, of_repeated, of_look, of_atomic, of_reference, of_line_start, of_line_end, of_word_boundary, LowersAll, no_pattern, and_next, LowersTerms, no_term, next_term, next_text}
+use Rattle.regress_front_tree.specs.Lowering.{HasArms, one_arm, two_halves, class_value, is_piece, LowersClass, Lowers, of_character, of_any, of_class, of_negated_class, of_class_escape, of_terms, of_arms, of_capture, of_group, of_modified, of_repeated, of_look, of_atomic, of_reference, of_line_start, of_line_end, of_word_boundary, LowersAll, no_pattern, and_next, LowersTerms, no_term, next_term, next_text}
 use Rattle.regress_front_tree.proofs.SumLemmas.{sum_by-filter}
 use Rattle.regress_front_tree.proofs.TextTerms.{pieces-size}
 

@@ -184,7 +184,7 @@ const END_COST: usize = 2;
 const ENDS_COST: usize = 7;
 
 /// Reads a pattern as `try_parse` does, if it costs no more than a limit, which is told before there is a tree: a pattern of
-/// 44 kilobytes may spell sixteen million references, and so may a short one with repetitions of repetitions.
+/// 44 kilobytes may spell sixteen million references.
 ///
 /// It costs about a node for each character, one for each group of a name that a reference tells, one for each group that a
 /// repetition resets, and those of each copy that unrolling makes of a small body. The tree, rewritten or not, has no more nodes
@@ -194,7 +194,7 @@ const ENDS_COST: usize = 7;
 /// `try_parse` errs with.
 ///
 /// ```rust
-/// let regex = try_parse_within(alloc, &[0x61, 0x2A], Flags::default(), &tables, 1000)?; // `a*`, which costs 4
+/// let regex = try_parse_within(alloc, &[0x61, 0x2A], Flags::default(), &tables, 1000)?; // `a*`
 /// ```
 pub fn try_parse_within<'u>(
     alloc: Global,

@@ -1,4 +1,4 @@
-use Rattle.std.proofs.Common.{◌≡◌, ◌+◌, map, sum_by, arith, ap, ◌∙◌}
+use Rattle.std.proofs.Common.{◌≡◌, ◌+◌, map, sum_by, arith}
 use Rattle.regress_front_tables.specs.TableViews.{table}
 use Rattle.regress_front_tokens.specs.Trees.{class_view}
 use Rattle.regress_front_tokens.proofs.ClassViews.{class_view-Union, class_view-Intersection, class_view-Difference}

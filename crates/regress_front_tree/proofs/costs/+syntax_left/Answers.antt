@@ -1,4 +1,4 @@
-use Rattle.std.proofs.Common.{◌≡◌, ◌+◌, ◌-◌, ◌<◌, ◌≤◌, ℕ, length, map, sum_by, take, take_all, arith, sym, ap, subst, ◌∙◌}
+use Rattle.std.proofs.Common.{◌≡◌, ◌+◌, ◌<◌, ℕ, length, map, sum_by, take_all, arith, sym, ap, ◌∙◌}
 use Rattle.std.proofs.lemmas.List.{length-map}
 use Rattle.std.proofs.lemmas.Bool.{eqb-false}
 use Rattle.regress_front_tables.specs.TableViews.{table}
@@ -7,7 +7,7 @@ use Rattle.regress_front_tokens.specs.declared.syntax.Term.{Term}
 use Rattle.regress_front_tokens.specs.declared.syntax.Syntax.{Syntax}
 use Rattle.regress_front_tokens.proofs.TreeLaws.{tree-Alternative}
 use Rattle.regress_front_tree.specs.Costs.{cost}
-use Rattle.regress_front_tree.proofs.LeftLemmas.{none-left, then-left, less-left}
+use Rattle.regress_front_tree.proofs.LeftLemmas.{none-left, less-left}
 use Rattle.regress_front_tree.proofs.SumLemmas.{sum_by-flat_map, sum-more, sum-within}
 use Rattle.regress_front_tree.proofs.CostSteps.{sequence-cost, choice-cost, characters-cost, one-cost}
 use Rattle.regress_front_tree.proofs.costs.+syntax_left.Goals as goal

@@ -1,10 +1,3 @@
-use Rattle.std.proofs.Common.{false}
-use Rattle.regress_meaning.specs.Flags.{is_unicode, first_settings}
-use Rattle.regress_front_tables.specs.TableViews.{table}
-use Rattle.regress_front_core.specs.FlagWords.{options}
-use Rattle.regress_front_tokens.specs.Trees as parsed
-use Rattle.regress_front_nodes.specs.Trees.{tree}
-use Rattle.regress_front_tree.specs.Lowering.{Lowers}
 use Rattle.regress_front_tree.proofs.parse.lowered.Goals as goals
 
 pub returns : goals.returns

@@ -1,4 +1,3 @@
-use Rattle.std.proofs.Common.{◌≡◌}
 use Rattle.regress_front_tables.specs.TableViews.{table}
 use Rattle.regress_front_core.specs.FlagWords.{options}
 use Rattle.regress_front_tokens.specs.Trees as parsed

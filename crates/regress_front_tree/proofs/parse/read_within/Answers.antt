@@ -1,4 +1,4 @@
-use Rattle.std.proofs.Common.{◌≡◌, sym}
+use Rattle.std.proofs.Common.{sym}
 use Rattle.std.proofs.lemmas.Bool.{leb-true, leb-false}
 use Rattle.regress_front_tables.specs.TableViews.{table}
 use Rattle.regress_front_core.specs.FlagWords.{options}

@@ -1,4 +1,4 @@
-use Rattle.std.proofs.Common.{◌≡◌, arith}
+use Rattle.std.proofs.Common.{arith}
 use Rattle.regress_front_nodes.specs.Trees.{tree}
 use Rattle.regress_front_tree.proofs.parse.try_parse_within.Goals as goals
 
