@@ -8,6 +8,7 @@ mod ascii;
 mod asking;
 pub mod backends;
 mod laws;
+mod limited;
 mod matches;
 mod programs;
 mod replacing;

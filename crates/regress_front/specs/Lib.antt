@@ -40,5 +40,6 @@ pub use Rattle.regress_front_tables.specs.TableTexts
 pub use Rattle.regress_front_tables.specs.TableViews
 pub use Rattle.regress_front_tables.specs.Telling
 pub use Rattle.regress_front_tokens.specs.Escapes
+pub use Rattle.regress_front_tree.specs.Costs
 pub use Rattle.regress_front_tree.specs.Lowered
 pub use Rattle.regress_front_tree.specs.Parsed

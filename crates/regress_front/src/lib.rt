@@ -50,4 +50,6 @@ pub use regress_front_tables::{
     TableError, TableLaw, TableParts, Tables, add_icase_code_points, closure, expand_code_point,
     fold, fold_is_idempotent, lawful_parts_break_no_law, unfold_char,
 };
-pub use regress_front_tree::{try_parse, try_parse_whole_text};
+pub use regress_front_tree::{
+    LimitError, try_parse, try_parse_whole_text, try_parse_whole_text_within, try_parse_within,
+};

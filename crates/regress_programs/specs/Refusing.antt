@@ -6,6 +6,9 @@ use Rattle.regress_meaning.specs.Pattern.{Pattern}
 use Rattle.regress_meaning.specs.WholeText.{whole_text}
 use Rattle.regress_front_core.specs.declared.error.Error.{Error}
 use Rattle.regress_front_core.specs.declared.error.Error.TheVariants.{TooLarge}
+use Rattle.regress_front.specs.Costs.{whole_cost, IsLarger}
+use Rattle.regress_front_tree.specs.declared.limit.LimitError.{LimitError}
+use Rattle.regress_front_tree.specs.declared.limit.LimitError.TheVariants.{PastLimit, Refused}
 use Rattle.regress_front.specs.Refusals as reading
 use Rattle.regress_front.specs.Trees.{Tree}
 use Rattle.regress_front.specs.Sizes.{loops}
@@ -30,6 +33,11 @@ MayRefuseMade made table o text e = reading.MayRefuse table o text e
 -- one that the pattern itself may meet
 abbrev pub MayRefuseRegex : Table → Options → List ℕ → Error → Type 0
 MayRefuseRegex = MayRefuseMade (λ p. p)
+
+-- one that the pattern itself may meet where it may cost no more than a limit
+abbrev pub MayRefuseRegexWithin : ℕ → Table → Options → List ℕ → LimitError → Type 0
+MayRefuseRegexWithin limit table o text PastLimit = IsLarger (whole_cost table) limit table o text
+MayRefuseRegexWithin limit table o text (Refused e) = MayRefuseRegex table o text e
 
 -- one that the pattern over a whole text may meet
 abbrev pub MayRefuseWholeText : Table → Options → List ℕ → Error → Type 0

@@ -1,5 +1,5 @@
 //! The programs of a pattern.
-ghost use Rattle.std.specs.Prelude.{◌≡◌, ◌≤◌, ◌≢◌, ℕ, List, false, true, All, IfOk, IfErr, IsOkUnless, length};
+ghost use Rattle.std.specs.Prelude.{◌≡◌, ◌≤◌, ◌≢◌, ◌*◌, ℕ, List, false, true, All, IfOk, IfErr, IsOkUnless, length};
 ghost use Rattle.regress_engine.specs.Standing.{IsCopyOf};
 ghost use Rattle.regress_meaning.specs.Table.{Table};
 ghost use Rattle.regress_meaning.specs.Pattern.{Pattern};
@@ -8,13 +8,17 @@ ghost use Rattle.regress_meaning.specs.WholeText.{whole_text};
 ghost use Rattle.regress_front.specs.TableViews.{table};
 ghost use Rattle.regress_front.specs.FlagWords.{options};
 ghost use Rattle.regress_front.specs.RewritingLaws.{IsRewritten};
+ghost use Rattle.regress_front.specs.Sizes.{spread};
 ghost use Rattle.regress_front.specs.Trees.{tree};
 ghost use Rattle.regress_front.specs.WellFormed.{IsWellFormed};
 ghost use Rattle.regress_programs.specs.Programs.{IsReadFrom, AreProgramsOf};
-ghost use Rattle.regress_programs.specs.Refusing.{MayRefuseMade, MayRefuseRegex, MayRefuseWholeText};
+ghost use Rattle.regress_programs.specs.Refusing.{MayRefuseMade, MayRefuseRegex, MayRefuseRegexWithin, MayRefuseWholeText};
 
 use regress_engine::{CompiledRegex, emit, emit_units};
-use regress_front::{Error, Flags, Tables, ir, optimize, try_parse, try_parse_whole_text};
+use regress_engine_runs::spreads_bound_counts;
+use regress_front::{
+    Error, Flags, LimitError, Tables, ir, optimize, try_parse, try_parse_whole_text, try_parse_within,
+};
 use std::alloc::Global;
 
 /// The programs of a pattern: of bytes, and of units.
@@ -52,7 +56,10 @@ impl Compiled {
             IfErr result (MayRefuseMade made t o text) }
         ensures fits { (made : Pattern → Pattern) → (t : Table) → (o : Options) → (text : List ℕ) → (p : Pattern) → IsReadFrom made t o text p regex.entry →
             o.sets ≡ false → length text ≤ 10000 → IfErr result (λ e. e ≢ Error.TooLarge) }
+        ensures small { IfOk result (λ c. (length c.byte_program.insns.items ≤ 2 * spread (tree regex.entry.node))
+            × (length c.unit_program.insns.items ≤ 2 * spread (tree regex.entry.node))) }
     {
+        spreads_bound_counts();
         let unit_program = emit_units(alloc, &regex)?;
         rewrite(alloc, &mut regex)?;
         let byte_program = emit(alloc, &regex)?;
@@ -82,6 +89,30 @@ impl Compiled {
     {
         let tree = try_parse(alloc, points, flags, tables)?;
         Compiled::of_tree(alloc, tree)
+    }
+
+    /// Compiles a pattern as `new` does, if it costs no more than a limit, which is told before there is a tree. Each of its
+    /// programs has at most two instructions for each node that the limit allows.
+    ///
+    /// Asks what `new` asks. Refused as `Regex::with_limit` says.
+    ///
+    /// ```rust
+    /// let compiled = Compiled::new_within(alloc, &[0x61, 0x2B], Flags::default(), &tables, 1000)?; // `a+`
+    /// ```
+    pub fn new_within(
+        alloc: Global,
+        points: &[u32],
+        flags: Flags,
+        tables: &Tables,
+        limit: usize,
+    ) -> Result<Compiled, LimitError>
+        requires { All (λ c. c ≤ 0x10_FFFF) points.now }
+        ensures accepted { IfOk result (λ c. AreProgramsOf (λ p. p) (table tables.now) (options flags) points.now c.byte_program c.unit_program) }
+        ensures small { IfOk result (λ c. (length c.byte_program.insns.items ≤ 2 * limit) × (length c.unit_program.insns.items ≤ 2 * limit)) }
+        ensures refused { IfErr result (MayRefuseRegexWithin limit (table tables.now) (options flags) points.now) }
+    {
+        let tree = try_parse_within(alloc, points, flags, tables, limit)?;
+        Ok(Compiled::of_tree(alloc, tree)?)
     }
 
     /// Compiles a pattern over a whole text: `(?-m:^)(?:P)(?-m:$)` for the pattern P.
