@@ -11,3 +11,4 @@ pub mod LowerableLemmas
 pub mod LoweringLemmas
 pub mod TextTerms
 pub mod TextSteps
+pub mod CostLemmas
