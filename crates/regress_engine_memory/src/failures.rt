@@ -6,15 +6,19 @@ ghost use Rattle.regress_engine_search.specs.StateViews.{loop_of};
 ghost use Rattle.regress_engine_memory.specs.BitViews.{has};
 ghost use Rattle.regress_engine_memory.specs.Held.{FailsIfFree, FailsWith};
 ghost use Rattle.regress_engine_memory.specs.Keys.{FailsAt};
+ghost use Rattle.regress_engine_memory.specs.Needs.{need};
 ghost use Rattle.regress_engine_memory.specs.Planes.{AreKnown, IsPlaneOf, key_in};
 ghost use Rattle.regress_engine_memory.specs.Remembered.{keyed_of};
-ghost use Rattle.regress_engine_memory.specs.TableViews.{table_of};
+ghost use Rattle.regress_engine_memory.specs.TableViews.{needs_of, table_of};
 
 use crate::bits::Bits;
 use crate::flow::FlowTable;
 use regress_engine_undo::Spot;
 use regress_front_core::LoopData;
 use std::alloc::{AllocError, Global};
+
+/// At most so many planes of an address are looked at, those that were made last. A loop of very many iterations has one for each.
+const MOST_TRIED: usize = 1024;
 
 /// An address, read in a direction, with the classes of the loops that are live there, and the offsets at which it fails.
 #[derive(Debug, Drop)]
@@ -59,6 +63,18 @@ impl Failures {
         }
     }
 
+    /// How many units a run takes from an address on, at least.
+    ///
+    /// ```rust
+    /// let units = failures.need(0);
+    /// ```
+    #[inline]
+    pub fn need(&self, at: usize) -> usize
+        ensures { result ≡ need (needs_of self.now.table) at }
+    {
+        self.table.need(at)
+    }
+
     /// The plane of a spot and of the loops that are held, if there is one.
     fn find(&self, spot: &Spot, loops: &[LoopData<usize>]) -> Option<usize>
         ensures { IfSome result (λ k. (p : Plane) × (slice_get self.now.planes.items k ≡ Some p)
@@ -69,7 +85,7 @@ impl Failures {
         } else {
             None
         };
-        for _ in 0..self.planes.len() {
+        for _ in 0..self.planes.len().min(MOST_TRIED) {
             let k = next?;
             if k >= self.planes.len() {
                 return None;
