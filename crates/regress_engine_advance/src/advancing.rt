@@ -25,7 +25,7 @@ use regress_front_core::GroupData;
 /// ```rust
 /// let behind = advance(&program, &input, &Insn::MatchAny, true, &groups, 0);
 /// ```
-#[inline]
+#[inline(always)]
 pub fn advance<Input: CharInput>(
     program: &CompiledRegex,
     input: &Input,

@@ -57,7 +57,7 @@ pub fn is_word<Input: CharInput>(input: &Input, folded: bool, c: Input::Element)
 /// ```rust
 /// let word = word_beside(&input, false, true, 0);
 /// ```
-#[inline]
+#[inline(always)]
 pub fn word_beside<Input: CharInput>(
     input: &Input,
     folded: bool,
@@ -80,7 +80,7 @@ pub fn word_beside<Input: CharInput>(
 /// ```rust
 /// let edge = boundary(&input, false, 0);
 /// ```
-#[inline]
+#[inline(always)]
 pub fn boundary<Input: CharInput>(input: &Input, folded: bool, offset: usize) -> bool
     requires { CanRead (Input.view input.now) offset }
     ensures { result ≡ at_boundary (input_of (Input.view input.now)) folded offset }

@@ -71,7 +71,7 @@ pub fn bytes_beside<Input: InputIndexer>(
 }
 
 /// The offset behind the bytes of an instruction, where it has some and they stand beside an offset, which may be any.
-#[inline]
+#[inline(always)]
 pub(crate) fn byte_seq<Input: InputIndexer>(
     program: &CompiledRegex,
     input: &Input,

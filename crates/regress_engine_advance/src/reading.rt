@@ -57,7 +57,7 @@ fn ascii_before<Input: InputIndexer>(
 /// ```rust
 /// let read = beside(&input, true, 0);
 /// ```
-#[inline]
+#[inline(always)]
 pub fn beside<Input: InputIndexer>(
     input: &Input,
     forward: bool,

@@ -21,7 +21,7 @@ use regress_engine_matchers::CharInput;
 use regress_engine_singles::is_assertion;
 
 /// The offset behind the character ahead of one, where a class matches that.
-#[inline]
+#[inline(always)]
 pub(crate) fn class_ahead<Input: CharInput>(
     program: &CompiledRegex,
     input: &Input,

@@ -15,7 +15,7 @@ use Rattle.regress_meaning.specs.Table.{Table}
 use Rattle.regress_meaning.specs.TableParts.{is_code_point, is_surrogate}
 use Rattle.regress_front_nodes.specs.Trees.{Tree}
 use Rattle.regress_front_nodes.specs.Trees as tree
-use Rattle.regress_front_nodes.specs.Sizes.{size, loops}
+use Rattle.regress_front_nodes.specs.Sizes.{size, loops, spread}
 use Rattle.regress_front_nodes.specs.Pieces.{expansion, bytes_before, before, pieces_of}
 use Rattle.regress_front_nodes.specs.WellFormed.{AreCharacters, AreLawful, IsWellFormed}
 use Rattle.regress_front_nodes.proofs.PieceLemmas.{expansion-points, scalar-from}
@@ -182,3 +182,30 @@ module _ (units : Bool) (table : Table) (unicode : Bool) where
           by_place : (k < n) ⊎ (n ≤ k) → k < n
           by_place (inl less) = less
           by_place (inr more) = let none = outside_none 0 n t formed.numbered k (within-false 0 n k (inr more)) in absurd (omega (arith, some, none))
+
+  -- A tree has at most two instructions for each node that it may spread over.
+  pub spread-bounded : (n : ℕ) (t : Tree) → AreLawful n t → count units table unicode t ≤ 2 * spread t
+  unfolding count
+  spread-bounded n (tree.bytes bs) lawful = omega (arith, literal-bounded units bs lawful)
+  spread-bounded n (tree.cat a b) lawful = omega (arith, spread-bounded n a lawful.0, spread-bounded n b lawful.1)
+  spread-bounded n (tree.alt a b) lawful = omega (arith, spread-bounded n a lawful.0, spread-bounded n b lawful.1)
+  spread-bounded n (tree.capture k name a) lawful = omega (arith, spread-bounded n a lawful.1)
+  spread-bounded n (tree.submatch kind first last a) lawful = omega (arith, spread-bounded n a lawful.1)
+  spread-bounded n (tree.loop a first last least most greedy) lawful = omega (arith, spread-bounded n a lawful.2)
+  spread-bounded n (tree.single_loop a least most greedy) lawful = omega arith
+  spread-bounded n (tree.string_set [] icase) lawful = omega arith
+  spread-bounded n (tree.string_set (cs ∷ strings) icase) lawful =
+      let few = strings-bounded icase (cs ∷ strings) lawful in omega (arith, few)
+  spread-bounded n tree.empty lawful = omega arith
+  spread-bounded n tree.no_part lawful = omega arith
+  spread-bounded n tree.goal lawful = omega arith
+  spread-bounded n (tree.char c) lawful = omega arith
+  spread-bounded n (tree.byte_set bs) lawful = omega arith
+  spread-bounded n (tree.char_set cs) lawful = omega arith
+  spread-bounded n tree.any lawful = omega arith
+  spread-bounded n tree.any_in_line lawful = omega arith
+  spread-bounded n (tree.line_start multiline) lawful = omega arith
+  spread-bounded n (tree.line_end multiline) lawful = omega arith
+  spread-bounded n (tree.boundary inverted folded) lawful = omega arith
+  spread-bounded n (tree.back k icase) lawful = omega arith
+  spread-bounded n (tree.bracket inverted intervals) lawful = omega arith

@@ -6,8 +6,8 @@ ghost use Rattle.regress_meaning.specs.Matches.{Item};
 ghost use Rattle.regress_meaning.specs.Offsets.{Reading, Begins, offset, told};
 ghost use Rattle.regress_meaning.specs.Inputs.{Input, Tells, ascii_input, context_of, ucs2_input, utf16_input, utf8_input};
 ghost use Rattle.regress_front_nodes.specs.Trees.{Tree};
-ghost use Rattle.regress_front_nodes.specs.Sizes.{loops, size};
-ghost use Rattle.regress_front_nodes.specs.WellFormed.{IsWellFormed};
+ghost use Rattle.regress_front_nodes.specs.Sizes.{loops, size, spread};
+ghost use Rattle.regress_front_nodes.specs.WellFormed.{AreLawful, IsWellFormed};
 ghost use Rattle.regress_front_nodes.specs.NodeMatches.{node_first_match, node_match_list};
 ghost use Rattle.regress_front_nodes.specs.ByteInputs.{TellsBytes};
 ghost use Rattle.regress_engine_insn.specs.Instructions.{Program};
@@ -80,4 +80,9 @@ pub fn inputs_move_on()
 /// A well-formed tree of n groups has at most three instructions for each node of its size, and for each loop n more.
 pub fn counts_are_bounded()
     ensures { (units : Bool) → (table : Table) → (unicode : Bool) → (n : ℕ) → (t : Tree) → IsWellFormed n t → count units table unicode t ≤ 3 * size t + loops t * n }
+{}
+
+/// A lawful tree has at most two instructions for each node that it may spread over, in bytes and in units.
+pub fn spreads_bound_counts()
+    ensures { (units : Bool) → (table : Table) → (unicode : Bool) → (n : ℕ) → (t : Tree) → AreLawful n t → count units table unicode t ≤ 2 * spread t }
 {}

@@ -1,6 +1,6 @@
 //! Classes of few intervals.
 ghost use Rattle.std.specs.Prelude.{◌≡◌};
-ghost use Rattle.regress_meaning.specs.TableParts.{in_intervals};
+ghost use Rattle.regress_meaning.specs.TableParts.{in_intervals, IntervalsRise};
 ghost use Rattle.regress_front_sets.specs.Intervals.{ends_of};
 ghost use Rattle.regress_front_nodes.specs.TreeMeaning.{bracket_has};
 
@@ -11,7 +11,7 @@ use regress_front_nodes::BracketContents;
 use regress_front_sets::Interval;
 
 /// Up to so many intervals are gone over one by one, since that is faster than to halve them.
-const FEW_INTERVALS: usize = 8;
+const FEW_INTERVALS: usize = 16;
 
 /// One character that a class matches. Few intervals are gone over one by one.
 #[derive(Debug, Clone, Copy)]
@@ -20,15 +20,19 @@ pub struct ScannedBracket<'a> {
     pub bc: &'a BracketContents,
 }
 
-/// Whether a number lies in one of some intervals, told by going over all of them.
+/// Whether a number lies in one of some intervals, told by going over those that do not begin above it.
 #[inline]
 #[tactic(auto, unfolding(regress_meaning::specs::TableParts::in_intervals))]
 fn lies_in_any(intervals: &[Interval], number: u32) -> bool
+    requires { IntervalsRise (ends_of intervals.now) }
     ensures { result ≡ in_intervals (ends_of intervals.now) number }
 {
     for interval in intervals {
         if interval.contains(number) {
             return true;
+        }
+        if number < interval.first {
+            return false;
         }
     }
     false

@@ -13,7 +13,7 @@ use regress_engine_matchers::SingleCharMatcher;
 /// ```rust
 /// let behind = scan_while(&input, Forward::new(), &MatchAny::new(), usize::MAX, 0);
 /// ```
-#[inline]
+#[inline(always)]
 pub fn scan_while<Input: InputIndexer, Dir: Direction, Matcher: SingleCharMatcher<Input, Dir>>(
     input: &Input,
     dir: Dir,

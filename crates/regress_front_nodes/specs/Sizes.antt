@@ -1,5 +1,5 @@
 -- How large a tree is.
-use Rattle.std.specs.Prelude.{ℕ, ◌+◌, length, chars, sum_by}
+use Rattle.std.specs.Prelude.{ℕ, ◌+◌, ◌-◌, ◌*◌, ◌&&◌, length, chars, sum_by, nat_le, min, if◌then◌else◌}
 use Rattle.regress_front_nodes.specs.Trees.{Tree, empty, goal, char, bytes, byte_set, char_set, cat, no_part, alt, any, any_in_line, line_start, line_end, boundary, capture, back, bracket, string_set, submatch, loop, single_loop}
 
 -- How many nodes there are. A literal counts as its characters, and a set of strings also for each string and for each
@@ -50,3 +50,40 @@ loops (boundary inverted folded) = 0
 loops (back k icase) = 0
 loops (bracket inverted intervals) = 0
 loops (string_set strings icase) = 0
+
+-- a body is unrolled at most this often
+abbrev pub most_unrolled : ℕ
+most_unrolled = 5
+
+-- a body of more nodes is not unrolled
+abbrev pub largest_unrolled : ℕ
+largest_unrolled = 1280
+
+-- how many nodes unrolling may add to a loop that matches at least so often a body of so many nodes: a copy for each of these
+-- times, and the end of the `Cat` around them
+abbrev pub unrolling : (least body : ℕ) → ℕ
+unrolling least body = if nat_le 1 least && nat_le least most_unrolled then least * min body largest_unrolled + 1 else 0
+
+-- How far a tree may spread: its nodes, those that unrolling adds, and one for each group that a loop resets.
+abbrev pub spread : Tree → ℕ
+spread (bytes bs) = length (chars bs)
+spread (cat a b) = spread a + spread b
+spread (alt a b) = spread a + spread b + 1
+spread (capture k name a) = spread a + 1
+spread (string_set strings icase) = 1 + length strings + sum_by length strings
+spread (submatch kind first last a) = spread a + 1
+spread (loop a first last least most greedy) = spread a + 1 + (last - first) + unrolling least (spread a)
+spread (single_loop a least most greedy) = spread a + 1
+spread empty = 1
+spread goal = 1
+spread (char c) = 1
+spread (byte_set bs) = 1
+spread (char_set cs) = 1
+spread no_part = 1
+spread any = 1
+spread any_in_line = 1
+spread (line_start multiline) = 1
+spread (line_end multiline) = 1
+spread (boundary inverted folded) = 1
+spread (back k icase) = 1
+spread (bracket inverted intervals) = 1

@@ -7,6 +7,7 @@ pub mod RuleLemmas
 pub mod OneLemmas
 pub mod MeasureLemmas
 pub mod KeepLemmas
+pub mod SpreadLemmas
 pub mod RewriteLemmas
 pub mod PlaceLemmas
 pub mod ClauseLemmas

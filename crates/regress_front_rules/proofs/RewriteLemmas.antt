@@ -15,6 +15,7 @@ use Rattle.regress_front_rules.proofs.InsideLemmas.{tree-inside}
 use Rattle.regress_front_rules.proofs.MeasureLemmas.{pending-loops}
 use Rattle.regress_front_rules.proofs.RuleLemmas.{parts-lawful, behind-alike, root-alike}
 use Rattle.regress_front_rules.proofs.KeepLemmas.{rewrites-rewritten, reaches-keeps, reaches-weight}
+use Rattle.regress_front_rules.proofs.SpreadLemmas.{reaches-spread}
 
 module _ (w : Context) (valid : All is_code_point w.text) where
   abbrev go : Direction → Tree → Outcomes
@@ -77,5 +78,6 @@ wholes-right n t u h f =
       named = k.named;
       few_loops = k.few_loops;
       few_nodes = omega (arith, k.no_larger n f.lawful, pending-loops t);
+      few_spread = reaches-spread h n f.lawful;
       no_heavier = reaches-weight h n f.lawful;
     }

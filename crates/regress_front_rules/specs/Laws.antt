@@ -7,7 +7,7 @@ use Rattle.regress_front_nodes.specs.Trees.{Tree, tree, empty, goal, char, bytes
 use Rattle.regress_front_nodes.specs.TreeMeaning.{node_outcomes}
 use Rattle.regress_front_nodes.specs.Alike.{IsAlike}
 use Rattle.regress_front_nodes.specs.Forms.{is_cat, parts, nesting}
-use Rattle.regress_front_nodes.specs.Sizes.{size, loops}
+use Rattle.regress_front_nodes.specs.Sizes.{size, loops, spread}
 use Rattle.regress_front_nodes.specs.WellFormed.{AreLawful, IsWellFormed, name_by_number}
 use Rattle.regress_front_rules.specs.NormalForm.{is_short_cat, has_loose_part, has_split_literal, is_loose_char, is_unrollable, is_loop_of_one, is_empty_choice, is_idle_loop, is_lost_cat, IsNormal}
 use Rattle.regress_front_rules.specs.Rules.{RewritesAtRoot, Rewrites, Reaches}
@@ -41,6 +41,8 @@ pub record IsRewritten (n : ℕ) (t u : Tree) : Type 0 where
   pub few_loops : loops u ≤ loops t
   -- for each loop there are at most so many nodes more
   pub few_nodes : size u ≤ size t + most_added * loops t
+  -- it spreads no further
+  pub few_spread : spread u ≤ spread t
   -- it is no heavier
   pub no_heavier : weight u ≤ weight t
 

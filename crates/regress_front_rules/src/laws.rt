@@ -15,7 +15,7 @@ pub fn rules_keep_the_rest()
 {}
 
 /// Rules one after another lead from a well-formed tree to one that means the same, is well formed, names its groups alike,
-/// and is larger by at most 6401 nodes for each loop.
+/// spreads no further, and is larger by at most 6401 nodes for each loop.
 pub fn wholes_are_right()
     ensures { WholesAreRight }
 {}

@@ -1,5 +1,5 @@
 -- What nodes of characters and classes match.
-use Rattle.std.proofs.Common.{◌≡◌, ℕ, suc, ◌<◌, ◌≤◌, Bool, true, false, not, cond, ◌&&◌, ◌||◌, ◌==◌, nat_lt, List, [], ◌∷◌, length, get_or, filter, All, refl, sym, ap, subst, ◌∙◌, inl, inr, arith, Vec, Global, vec_len, if◌then◌else◌}
+use Rattle.std.proofs.Common.{◌≡◌, ℕ, suc, ◌<◌, ◌≤◌, Bool, true, false, not, cond, ◌&&◌, ◌||◌, ◌==◌, nat_lt, List, [], ◌∷◌, length, get_or, filter, sum_by, All, refl, sym, ap, subst, ◌∙◌, inl, inr, arith, Vec, Global, vec_len, if◌then◌else◌}
 use lib.Pointwise.{bytes_decides}
 use Rattle.std.specs.List.{list_any}
 use Rattle.std.specs.List.Sorted.{IsPermutation, IsSortedBy}
@@ -8,7 +8,7 @@ use Rattle.std.proofs.lemmas.List.Folds.{list_any_at}
 use Rattle.std.specs.Ordering.{is_lt, nat_cmp}
 use Rattle.std.specs.declared.cmp.Ordering.TheVariants.{Less, Equal, Greater}
 use Rattle.std.proofs.lemmas.List.Elements.{All-map, All-filter}
-use Rattle.std.proofs.lemmas.List.Sorted.{sorted_far, list_any-IsPermutation, IsStrictWeakOrder-by_number, IsStrictWeakOrder-flip}
+use Rattle.std.proofs.lemmas.List.Sorted.{sorted_far, sum_by-IsPermutation, list_any-IsPermutation, IsStrictWeakOrder-by_number, IsStrictWeakOrder-flip}
 use Rattle.std.proofs.lemmas.Map.Views.{All-map-IsPermutation}
 use Rattle.regress_meaning.specs.Text.{same_text, holds}
 use Rattle.regress_meaning.specs.Table.{Table, canon, last_code_point}
@@ -25,6 +25,7 @@ use Rattle.regress_front_nodes.specs.Characters.{Takes}
 use Rattle.regress_front_tree.specs.Lowering.{AreByLength, LengthsFall}
 use Rattle.regress_front_class_values.specs.ClassValues.{lists}
 use Rattle.regress_front_class_values.proofs.ClassLemmas.{among-lists, filter-lists}
+use Rattle.regress_front_tree.proofs.SumLemmas.{sum_by-map}
 use Rattle.std.proofs.Math.Bool.{or-false}
 
 -- ---- strings of a class
@@ -99,6 +100,10 @@ sorted-by_length strings kept ordered sorted is_kept moved order is points =
       order = subst LengthsFall (sym is) (lengths-fall ordered far);
       points = subst (All (All is_code_point)) (sym is) (All-map-IsPermutation (λ (s : Vec ℕ Global). s.items) (All is_code_point) kept ordered moved
           (subst (All (All is_code_point)) (sym longer) (All-filter is_longer (All is_code_point) (lists strings) points)));
+      often = λ f.
+          ap (sum_by f) is ∙ sum_by-map f (λ (s : Vec ℕ Global). s.items) ordered
+          ∙ sum_by-IsPermutation (λ (s : Vec ℕ Global). f s.items) kept ordered moved
+          ∙ sym (sum_by-map f (λ (s : Vec ℕ Global). s.items) kept) ∙ ap (sum_by f) longer;
     }
 
 only-one : (cs : List ℕ) (c : ℕ) → holds cs c ≡ true → length cs ≡ 1 → (d : ℕ) → holds cs d ≡ (c == d)

@@ -1,3 +1,4 @@
+pub mod SumLemmas
 pub mod BracketLemmas
 pub mod AlikeLemmas
 pub mod StringLemmas
@@ -11,3 +12,6 @@ pub mod LowerableLemmas
 pub mod LoweringLemmas
 pub mod TextTerms
 pub mod TextSteps
+pub mod LeftLemmas
+pub mod CostSteps
+pub mod CostLemmas

@@ -1,5 +1,5 @@
 -- How the tree of a pattern is lowered to nodes: case closed by the table, classes as sets, parts in the order of reading.
-use Rattle.std.specs.Prelude.{◌≡◌, ℕ, suc, ◌+◌, ◌≤◌, Bool, true, false, not, ◌&&◌, ◌||◌, ◌==◌, List, [], ◌∷◌, ◌++◌, length, Option, if◌then◌else◌, map, All, IfSome, ◌≢◌}
+use Rattle.std.specs.Prelude.{◌≡◌, ℕ, suc, ◌+◌, ◌≤◌, Bool, true, false, not, ◌&&◌, ◌||◌, ◌==◌, List, [], ◌∷◌, ◌++◌, length, Option, if◌then◌else◌, map, filter, sum_by, All, IfSome, ◌≢◌}
 use Rattle.regress_meaning.specs.Table.{Table}
 use Rattle.regress_meaning.specs.TableParts.{is_code_point}
 use Rattle.regress_meaning.specs.Class.{Class, Strings, value_of, among}
@@ -28,6 +28,8 @@ pub record AreByLength (strings others : List (List ℕ)) : Type 0 where
   pub members : (s : List ℕ) → among strings s ≡ (not (length s == 0) && among others s)
   pub order : LengthsFall strings
   pub points : All (All is_code_point) strings
+  -- each is among them as often as there
+  pub often : (f : List ℕ → ℕ) → sum_by f strings ≡ sum_by f (filter (λ s. not (length s == 0)) others)
 
 -- the arms of a class: its longer strings, its single characters, and the empty string as a set of its own
 abbrev pub class_arms : Bool → List (List ℕ) → Tree → Bool → List Tree
