@@ -24,7 +24,8 @@ impl Regex {
     /// bytes. It answers the range of the match, or `None` where there is none; then the slots stay as they were.
     ///
     /// The scratch is what the search needs room for; it is kept, for searches of whatever regexes and texts, so that a search
-    /// asks for no memory but where it needs more room than all before it.
+    /// asks for no memory but where it needs more room than all before it, or has gone back so often that it remembers what
+    /// fails.
     ///
     /// Asks that a search may begin at `start`, as `is_start` tells. Past the end of the text there is none. Errs with
     /// `OutOfMemory` alone, and then the slots stay as they were.

@@ -5,7 +5,7 @@ use std::alloc::Global;
 
 /// Room that an executor needs for every run: the groups and loops of the run, and what is to be undone. It grows as a run needs
 /// it and is kept from one search to the next, whatever program and text these are of, so that a search asks for memory only
-/// where it needs more room than all before it.
+/// where it needs more room than all before it, or has gone back so often that it remembers failures.
 #[derive(Debug, Drop)]
 pub struct Scratch {
     pub(crate) memory: Memory,

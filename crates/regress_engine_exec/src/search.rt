@@ -146,7 +146,8 @@ impl<'r, Input: ExecutorInput> BacktrackExecutor<'r, Input> {
 
     /// Finds what `find_from` does, and writes it to `slots`: the range of the match, then that of each group, as many as there is
     /// room for, and behind the last group `None`. It answers the range of the match; where there is none it answers `None`, and
-    /// the slots stay as they were, as they do where memory is refused. Only the scratch may grow: it asks for no other memory.
+    /// the slots stay as they were, as they do where memory is refused. Only the scratch may grow, and what is remembered of
+    /// failures once runs have gone back often: it asks for no other memory.
     ///
     /// Asks that the offset is that of a place of the text.
     ///
