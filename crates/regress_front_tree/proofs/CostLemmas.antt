@@ -14,9 +14,9 @@ use Rattle.regress_front_nodes.specs.Trees.{Tree, char, bytes, byte_set, char_se
 use Rattle.regress_front_nodes.specs.Sizes.{size, spread, unrolling, most_unrolled, largest_unrolled}
 use Rattle.regress_front_nodes.specs.Characters.{is_character}
 use Rattle.regress_front_nodes.specs.Forms.{cat_made, in_reading_order}
-use Rattle.regress_front_tree.specs.Costs.{strings_cost, class_cost, cost}
+use Rattle.regress_front_costs.specs.Costs.{strings_cost, class_cost, cost}
 use Rattle.regress_front_tree.specs.Lowering.{HasArms, one_arm, two_halves, class_value, is_piece, LowersClass, Lowers, of_character, of_any, of_class, of_negated_class, of_class_escape, of_terms, of_arms, of_capture, of_group, of_modified, of_repeated, of_look, of_atomic, of_reference, of_line_start, of_line_end, of_word_boundary, LowersAll, no_pattern, and_next, LowersTerms, no_term, next_term, next_text}
-use Rattle.regress_front_tree.proofs.SumLemmas.{sum_by-filter}
+use Rattle.regress_front_costs.proofs.SumLemmas.{sum_by-filter}
 use Rattle.regress_front_tree.proofs.TextTerms.{pieces-size}
 
 -- more of a body is not less unrolled

@@ -1,5 +1,5 @@
 use Rattle.std.proofs.Common.{◌≡◌, ◌+◌, length, sum_by, take, Vec, Global, ℕ}
-use Rattle.regress_front_tree.proofs.costs.strings_left.Given as goal
+use Rattle.regress_front_costs.proofs.costs.strings_left.Given as goal
 
 -- what is left, with what the strings so far cost
 abbrev pub invariant-loop-string : goal.invariant-loop-string

@@ -6,12 +6,12 @@ use Rattle.regress_front_tokens.specs.Trees.{tree, term_trees, trees_of}
 use Rattle.regress_front_tokens.specs.declared.syntax.Term.{Term}
 use Rattle.regress_front_tokens.specs.declared.syntax.Syntax.{Syntax}
 use Rattle.regress_front_tokens.proofs.TreeLaws.{tree-Alternative}
-use Rattle.regress_front_tree.specs.Costs.{cost}
-use Rattle.regress_front_tree.proofs.LeftLemmas.{none-left, less-left}
-use Rattle.regress_front_tree.proofs.SumLemmas.{sum_by-flat_map, sum-more, sum-within}
-use Rattle.regress_front_tree.proofs.CostSteps.{sequence-cost, choice-cost, characters-cost, one-cost}
-use Rattle.regress_front_tree.proofs.costs.+syntax_left.Goals as goal
-use Rattle.regress_front_tree.proofs.costs.+syntax_left.Goals.{terms_left-in-Text+in_ok-left-in-Text, terms_left-in-One+in_ok-left-in-One}
+use Rattle.regress_front_costs.specs.Costs.{cost}
+use Rattle.regress_front_costs.proofs.LeftLemmas.{none-left, less-left}
+use Rattle.regress_front_costs.proofs.SumLemmas.{sum_by-flat_map, sum-more, sum-within}
+use Rattle.regress_front_costs.proofs.CostSteps.{sequence-cost, choice-cost, characters-cost, one-cost}
+use Rattle.regress_front_costs.proofs.costs.+syntax_left.Goals as goal
+use Rattle.regress_front_costs.proofs.costs.+syntax_left.Goals.{terms_left-in-Text+in_ok-left-in-Text, terms_left-in-One+in_ok-left-in-One}
 
 pub arms_left-returns-in_err-each_left : goal.arms_left-returns-in_err-each_left
 arms_left-returns-in_err-each_left t c =

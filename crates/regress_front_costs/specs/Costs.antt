@@ -7,11 +7,9 @@ use Rattle.regress_meaning.specs.Pattern.{Pattern, class, class_escape, sequence
 use Rattle.regress_meaning.specs.Grammar.{Spells}
 use Rattle.regress_meaning.specs.Limits.{WithinLimits}
 use Rattle.regress_front_core.specs.Refusals.{MayRefuse}
-use Rattle.regress_front_nodes.specs.Sizes.{spread, unrolling}
-use Rattle.regress_front_nodes.specs.Trees.{Tree}
-use Rattle.regress_front_tree.specs.Parsed.{IsTreeMade}
-use Rattle.regress_front_tree.specs.declared.limit.LimitError.{LimitError}
-use Rattle.regress_front_tree.specs.declared.limit.LimitError.TheVariants.{PastLimit, Refused}
+use Rattle.regress_front_nodes.specs.Sizes.{unrolling}
+use Rattle.regress_front_costs.specs.declared.limit.LimitError.{LimitError}
+use Rattle.regress_front_costs.specs.declared.limit.LimitError.TheVariants.{PastLimit, Refused}
 
 -- of strings: three for each, and one for each of its code points
 abbrev pub strings_cost : List (List ℕ) → ℕ
@@ -53,12 +51,6 @@ module _ (table : Table) where
 abbrev pub Leaves : (amount cost : ℕ) → Option ℕ → Type 0
 Leaves amount cost (Some rest) = rest + cost ≡ amount
 Leaves amount cost None = amount < cost
-
--- The tree of what is made of a pattern whose cost is within the limit: it spreads no further than that cost.
-pub record IsTreeWithin (limit : ℕ) (made : Pattern → Pattern) (table : Table) (o : Options) (text : List ℕ) (p : Pattern) (t : Tree) : Type 0 where
-  pub of_text : IsTreeMade made table o text p t
-  pub within : whole_cost table (made p) ≤ limit
-  pub spread : spread t ≤ whole_cost table (made p)
 
 -- The pattern that a text spells within the limits has a greater size than the limit.
 pub record IsLarger (size : Pattern → ℕ) (limit : ℕ) (table : Table) (o : Options) (text : List ℕ) : Type 0 where

@@ -2,10 +2,10 @@ use Rattle.std.proofs.Common.{◌≡◌, ◌+◌, map, sum_by, arith}
 use Rattle.regress_front_tables.specs.TableViews.{table}
 use Rattle.regress_front_tokens.specs.Trees.{class_view}
 use Rattle.regress_front_tokens.proofs.ClassViews.{class_view-Union, class_view-Intersection, class_view-Difference}
-use Rattle.regress_front_tree.specs.Costs.{class_cost}
-use Rattle.regress_front_tree.proofs.LeftLemmas.{none-left, then-left}
-use Rattle.regress_front_tree.proofs.CostSteps.{union-cost, intersection-cost, difference-cost}
-use Rattle.regress_front_tree.proofs.costs.+class_left.Goals as goal
+use Rattle.regress_front_costs.specs.Costs.{class_cost}
+use Rattle.regress_front_costs.proofs.LeftLemmas.{none-left, then-left}
+use Rattle.regress_front_costs.proofs.CostSteps.{union-cost, intersection-cost, difference-cost}
+use Rattle.regress_front_costs.proofs.costs.+class_left.Goals as goal
 
 pub class_left-returns-in_err-class_left-in-Intersection : goal.class_left-returns-in_err-class_left-in-Intersection
 class_left-returns-in_err-class_left-in-Intersection t c =

@@ -14,7 +14,7 @@ pub enum LimitError {
 }
 
 impl From<Error> for LimitError {
-    ghost use Rattle.regress_front_tree.specs.declared.limit.LimitError.TheVariants.{Refused};
+    ghost use Rattle.regress_front_costs.specs.declared.limit.LimitError.TheVariants.{Refused};
 
     ghost from_gives = { λ refused e. e ≡ Refused refused };
 
@@ -24,7 +24,7 @@ impl From<Error> for LimitError {
 }
 
 impl From<AllocError> for LimitError {
-    ghost use Rattle.regress_front_tree.specs.declared.limit.LimitError.TheVariants.{Refused};
+    ghost use Rattle.regress_front_costs.specs.declared.limit.LimitError.TheVariants.{Refused};
     ghost use Rattle.regress_front_core.specs.declared.error.Error.TheVariants.{OutOfMemory};
 
     ghost from_gives = { λ _ e. e ≡ Refused OutOfMemory };

@@ -1,8 +1,8 @@
 use Rattle.std.proofs.Common.{◌≡◌, ◌+◌, sum_by, take}
 use Rattle.regress_front_tables.specs.TableViews.{table}
 use Rattle.regress_front_tokens.specs.Trees.{tree, term_trees}
-use Rattle.regress_front_tree.specs.Costs.{cost}
-use Rattle.regress_front_tree.proofs.costs.+syntax_left.Given as goal
+use Rattle.regress_front_costs.specs.Costs.{cost}
+use Rattle.regress_front_costs.proofs.costs.+syntax_left.Given as goal
 
 -- what is left, with what the alternatives so far cost
 abbrev pub invariant-each_left-loop-part : goal.invariant-each_left-loop-part

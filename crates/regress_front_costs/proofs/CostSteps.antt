@@ -5,7 +5,7 @@ use Rattle.regress_meaning.specs.Table.{Table}
 use Rattle.regress_meaning.specs.Class.{Class, intersection, difference}
 use Rattle.regress_meaning.specs.Pattern.{Pattern, character}
 use Rattle.regress_front_tokens.specs.Trees.{union_of, sequence_of, choice_of}
-use Rattle.regress_front_tree.specs.Costs.{class_cost, cost}
+use Rattle.regress_front_costs.specs.Costs.{class_cost, cost}
 
 module _ (table : Table) where
   -- members side by side

@@ -4,10 +4,10 @@ ghost use Rattle.regress_front_class_values.specs.ClassValues.{lists};
 ghost use Rattle.regress_front_tables.specs.TableViews.{table};
 ghost use Rattle.regress_front_tokens.specs.Trees.{tree, class_view, trees_of, choice_of};
 ghost use Rattle.regress_front_nodes.specs.Sizes.{unrolling};
-ghost use Rattle.regress_front_tree.specs.Costs.{Leaves, strings_cost, class_cost, cost};
+ghost use Rattle.regress_front_costs.specs.Costs.{Leaves, strings_cost, class_cost, cost};
 
-use regress_front_syntax::{Class, Quantifier, Syntax, Term};
 use regress_front_tables::{CaptureGroupID, CodePoint, Tables};
+use regress_front_tokens::{Class, Quantifier, Syntax, Term};
 use std::ops::Range;
 
 /// A body is unrolled at most this often.
@@ -176,7 +176,7 @@ fn arms_left(tables: &Tables, arms: &[Syntax], amount: usize) -> Option<usize>
 }
 
 /// Whether a part of a pattern, and so much around it, costs no more than a limit.
-pub(crate) fn is_within(tables: &Tables, syntax: &Syntax, around: usize, limit: usize) -> bool
+pub fn is_within(tables: &Tables, syntax: &Syntax, around: usize, limit: usize) -> bool
     ensures { result ≡ nat_le (cost (table tables.now) (tree syntax.now) + around) limit }
 {
     match syntax_left(tables, syntax, limit) {

@@ -1,7 +1,7 @@
 -- What is left of an amount, by parts of a cost.
 use Rattle.std.proofs.Common.{◌≡◌, ℕ, ◌+◌, ◌-◌, ◌<◌, ◌≤◌, Option, Some, None, sym, subst, arith}
 use Rattle.std.specs.Prelude.{SomeIff}
-use Rattle.regress_front_tree.specs.Costs.{Leaves}
+use Rattle.regress_front_costs.specs.Costs.{Leaves}
 
 -- nothing, where a part of the cost is too much
 pub none-left : (amount part whole : ℕ) (o : Option ℕ) → o ≡ None → amount < part → part ≤ whole → Leaves amount whole o
