@@ -32,10 +32,10 @@ returns-in_err-tree-clause-refused c =
     rw (answered.1, answered.2) (read-refused-within c.args.limit whole_text _ _ _ _ c.in_err-tree.ensures.refused)
 
 pub returns-in_err-tree-clause-fits : goal.returns-in_err-tree-clause-fits
-returns-in_err-tree-clause-fits c =
+returns-in_err-tree-clause-fits c = λ plain short.
     let answered = err_from_is_err_and c.from_residual.result c.from_residual.ensures.1 in
     let refused = read-refused-within c.args.limit whole_text _ _ _ _ c.in_err-tree.ensures.refused in
-    rw (answered.1, answered.2) (refused-fits-within c.args.limit whole_text _ _ _ _ refused)
+    rw (answered.1, answered.2) (refused-fits-within c.args.limit whole_text _ _ _ _ refused plain short)
 
 pub returns-in_err-of_tree-clause-refused : goal.returns-in_err-of_tree-clause-refused
 returns-in_err-of_tree-clause-refused c =
@@ -45,8 +45,8 @@ returns-in_err-of_tree-clause-refused c =
     rw (answered.1, answered.2) refused
 
 pub returns-in_err-of_tree-clause-fits : goal.returns-in_err-of_tree-clause-fits
-returns-in_err-of_tree-clause-fits c =
+returns-in_err-of_tree-clause-fits c = λ plain short.
     let (p, small) = c.in_ok-tree.ensures.accepted in
     let refused = c.in_err-of_tree.ensures.refused whole_text _ _ _ p (small.of_text, ap table c.in_ok-tree.ensures.kept.1, ap options c.in_ok-tree.ensures.kept.0) in
     let answered = err_from_is_err_and c.from_residual-in_err-of_tree.result c.from_residual-in_err-of_tree.ensures.1 in
-    rw (answered.1, answered.2) (refused-fits-within c.args.limit whole_text _ _ _ (Refused c.in_err-of_tree.field-0) refused)
+    rw (answered.1, answered.2) (refused-fits-within c.args.limit whole_text _ _ _ (Refused c.in_err-of_tree.field-0) refused plain short)
