@@ -175,7 +175,11 @@ fn arms_left(tables: &Tables, arms: &[Syntax], amount: usize) -> Option<usize>
     each_left(tables, arms, amount)?.checked_sub(arms.len() - 1)
 }
 
-/// Whether a part of a pattern, and so much around it, costs no more than a limit.
+/// Whether a part of a pattern, and so much around it, costs no more than a limit. The count stops as soon as that is passed.
+///
+/// ```rust
+/// let cheap = is_within(&tables, &syntax, 2, 1_000_000);
+/// ```
 pub fn is_within(tables: &Tables, syntax: &Syntax, around: usize, limit: usize) -> bool
     ensures { result ≡ nat_le (cost (table tables.now) (tree syntax.now) + around) limit }
 {
