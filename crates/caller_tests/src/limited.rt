@@ -1,23 +1,23 @@
-//! Patterns that may cost no more than a limit.
+//! Patterns of which a program may have no more instructions than a limit.
 
 use regress::{CompileError, DEFAULT_LIMIT, Error, Flags, Regex, Tables};
 use std::alloc::{AllocError, Global};
 use std::test::Fail;
 
-/// Patterns, their flags, and what each costs.
-const COSTS: &[(&str, &str, usize)] = &[
-    ("", "", 3),
-    ("a", "", 4),
-    ("abc", "", 6),
-    ("a|b", "", 7),
-    ("(a)", "", 6),
-    ("(?:a)", "", 5),
-    (r"(?<n>a)\k<n>", "", 8),
-    (r"(?:(?<n>a)|(?<n>b))\k<n>", "", 15),
-    ("(?:(a)(b))*", "", 13),
-    ("a{5}", "", 11),
-    ("a{6}", "", 5),
-    (r"[a\q{bc|d}]", "v", 13),
+/// Patterns, their flags, and how many instructions a program of each may have.
+const MOST: &[(&str, &str, usize)] = &[
+    ("", "", 6),
+    ("a", "", 8),
+    ("abc", "", 12),
+    ("a|b", "", 14),
+    ("(a)", "", 12),
+    ("(?:a)", "", 10),
+    (r"(?<n>a)\k<n>", "", 16),
+    (r"(?:(?<n>a)|(?<n>b))\k<n>", "", 30),
+    ("(?:(a)(b))*", "", 26),
+    ("a{5}", "", 22),
+    ("a{6}", "", 10),
+    (r"[a\q{bc|d}]", "v", 26),
 ];
 
 /// Why a pattern is refused under a limit; `None` where it is accepted.
@@ -32,10 +32,10 @@ fn refusal(
 }
 
 #[test]
-fn a_limit_refuses_what_costs_one_more(rt: HostRuntime) -> Result<(), Fail> {
-    for (pattern, letters, cost) in COSTS {
-        let at_limit = refusal(rt.alloc(), pattern, letters, *cost)?;
-        let past_limit = refusal(rt.alloc(), pattern, letters, cost.saturating_sub(1))?;
+fn a_limit_refuses_what_may_have_one_more(rt: HostRuntime) -> Result<(), Fail> {
+    for (pattern, letters, most) in MOST {
+        let at_limit = refusal(rt.alloc(), pattern, letters, *most)?;
+        let past_limit = refusal(rt.alloc(), pattern, letters, most.saturating_sub(1))?;
         if at_limit.is_some() || past_limit != Some(CompileError::PastLimit) {
             return Err(Fail::new(*pattern));
         }
@@ -70,24 +70,24 @@ fn sixteen_million_references_pass_the_default(rt: HostRuntime) -> Result<(), Fa
 }
 
 #[test]
-fn the_ends_of_a_text_cost_five_more(rt: HostRuntime) -> Result<(), Fail> {
+fn the_ends_of_a_text_may_have_ten_more(rt: HostRuntime) -> Result<(), Fail> {
     let tables = Tables::small(rt.alloc())?;
     let flags = Flags::default();
-    let whole = Regex::whole_text_with_limit(rt.alloc(), "a", flags, &tables, 9)?;
+    let whole = Regex::whole_text_with_limit(rt.alloc(), "a", flags, &tables, 18)?;
     assert!(rt; whole.is_match("a")? && !whole.is_match("ba")?);
-    let refused = Regex::whole_text_with_limit(rt.alloc(), "a", flags, &tables, 8).err();
+    let refused = Regex::whole_text_with_limit(rt.alloc(), "a", flags, &tables, 17).err();
     assert!(rt; refused == Some(CompileError::PastLimit));
     Ok(())
 }
 
 #[test]
-fn code_points_and_units_cost_the_same(rt: HostRuntime) -> Result<(), Fail> {
+fn code_points_and_units_have_the_same_limit(rt: HostRuntime) -> Result<(), Fail> {
     let tables = Tables::small(rt.alloc())?;
     let flags = Flags::default();
-    let points = Regex::from_unicode_with_limit(rt.alloc(), &[0x61], flags, &tables, 4)?;
-    let units = Regex::from_utf16_with_limit(rt.alloc(), &[0x61], flags, &tables, 4)?;
+    let points = Regex::from_unicode_with_limit(rt.alloc(), &[0x61], flags, &tables, 8)?;
+    let units = Regex::from_utf16_with_limit(rt.alloc(), &[0x61], flags, &tables, 8)?;
     assert!(rt; points.is_match("ba")? && units.is_match("ba")?);
-    let refused = Regex::from_utf16_with_limit(rt.alloc(), &[0x61], flags, &tables, 3).err();
+    let refused = Regex::from_utf16_with_limit(rt.alloc(), &[0x61], flags, &tables, 7).err();
     assert!(rt; refused == Some(CompileError::PastLimit));
     Ok(())
 }

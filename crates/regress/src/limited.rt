@@ -1,4 +1,4 @@
-//! Patterns that may cost no more than a limit.
+//! Patterns of which a program may have no more instructions than a limit.
 ghost use Rattle.std.specs.Prelude.{◌≡◌, ◌≢◌, ◌≤◌, false, All, IfOk, IfErr, chars, length};
 ghost use Rattle.regress_meaning.specs.Flags.{is_unicode};
 ghost use Rattle.regress_meaning.specs.WholeText.{whole_text};
@@ -16,7 +16,7 @@ use regress_programs::Compiled;
 use std::alloc::Global;
 use std::sync::ArcStr;
 
-/// A limit for patterns of strangers that refuses hardly any pattern that a person writes.
+/// A limit for patterns of strangers, in instructions, that refuses hardly any pattern that a person writes.
 ///
 /// ```rust
 /// let regex = Regex::with_limit(alloc, "a+b", Flags::default(), &tables, DEFAULT_LIMIT)?;
@@ -26,14 +26,16 @@ pub const DEFAULT_LIMIT: usize = 1_000_000;
 impl Regex {
     ghost use Rattle.regress.specs.Standing.{source_of};
 
-    /// Compiles a pattern as `with_flags` does, if it costs no more than a limit. That is told before anything of its size is
-    /// made. It is for patterns of strangers, of which a short one may stand for a very large program.
+    /// Compiles a pattern as `with_flags` does, if neither of its two programs may have more instructions than a limit. That is
+    /// told before anything of their size is made. It is for patterns of strangers, of which a short one may stand for a very
+    /// large program.
     ///
     /// A pattern costs about a node for each character. It costs one for each group of a name that a reference tells, for each
     /// group that a repetition resets, and for each node of each copy of a small body that unrolling makes. Each of the two
     /// programs has at most two instructions for each.
     ///
-    /// Refused as `PastLimit` exactly where the text spells a pattern that costs more, and else as `with_flags` says.
+    /// Refused as `PastLimit` exactly where the text spells a pattern of which twice the cost is more than the limit, and else as
+    /// `with_flags` says.
     ///
     /// ```rust
     /// let regex = Regex::with_limit(alloc, "a+b", Flags::default(), &tables, 1_000_000)?;
@@ -53,7 +55,7 @@ impl Regex {
     {
         let points = code_points(alloc, pattern)?;
         let source = ArcStr::from_str(alloc, pattern)?;
-        let compiled = Compiled::new_within(alloc, &points, flags, tables, limit)?;
+        let compiled = Compiled::new_within(alloc, &points, flags, tables, limit / 2)?;
         Ok(Regex {
             alloc,
             source: Some(source),
@@ -61,7 +63,8 @@ impl Regex {
         })
     }
 
-    /// Compiles a pattern that is given as code points as `from_unicode` does, if it costs no more than a limit.
+    /// Compiles a pattern that is given as code points as `from_unicode` does, within a limit as `with_limit` has
+    /// it.
     ///
     /// Asks that all are code points, as `are_code_points` tells. Refused as `with_limit` says.
     ///
@@ -83,7 +86,7 @@ impl Regex {
         ensures fits { (options flags).sets ≡ false → length points.now ≤ 10000 → IfErr result (λ e. e ≢ CompileError.Pattern Error.TooLarge) }
     {
         let source = ArcStr::from_string(text_of(alloc, points)?)?;
-        let compiled = Compiled::new_within(alloc, points, flags, tables, limit)?;
+        let compiled = Compiled::new_within(alloc, points, flags, tables, limit / 2)?;
         Ok(Regex {
             alloc,
             source: Some(source),
@@ -91,7 +94,7 @@ impl Regex {
         })
     }
 
-    /// Compiles a pattern that is given in 16-bit units as `from_utf16` does, if it costs no more than a limit.
+    /// Compiles a pattern that is given in 16-bit units as `from_utf16` does, within a limit as `with_limit` has it.
     ///
     /// Refused as `with_limit` says.
     ///
@@ -115,9 +118,10 @@ impl Regex {
         Regex::from_unicode_with_limit(alloc, &points, flags, tables, limit)
     }
 
-    /// Compiles a pattern over a whole text as `whole_text` does, if what is made of it costs no more than a limit.
+    /// Compiles a pattern over a whole text as `whole_text` does, if neither program of what is made of it may have more
+    /// instructions than a limit.
     ///
-    /// Refused as `PastLimit` exactly where it costs more, and else as `whole_text` says.
+    /// Refused as `PastLimit` exactly where twice its cost is more than the limit, and else as `whole_text` says.
     ///
     /// ```rust
     /// let year = Regex::whole_text_with_limit(alloc, r"\d\d|\d{4}", Flags::default(), &tables, 1000)?;
@@ -137,7 +141,7 @@ impl Regex {
     {
         let points = code_points(alloc, pattern)?;
         let source = ArcStr::from_str(alloc, pattern)?;
-        let compiled = Compiled::whole_text_within(alloc, &points, flags, tables, limit)?;
+        let compiled = Compiled::whole_text_within(alloc, &points, flags, tables, limit / 2)?;
         Ok(Regex {
             alloc,
             source: Some(source),
