@@ -1,5 +1,5 @@
 use Rattle.regress_c.proofs.CodeLemmas.{as-given, refusal-ok, refusal-err}
-use Rattle.regress_c.proofs.compiling.regress_raw_compile_units.Goals as goal
+use Rattle.regress_c.proofs.compiling.regress_raw_compile_units_within.Goals as goal
 
 pub returns-clause-compiled : goal.returns-clause-compiled
 returns-clause-compiled c = rw (as-given c.tell.result c.tell.type_inv) (λ ps holds. refusal-ok c.compile.result c.tell.result _ c.tell.ensures.code (c.compile.ensures.compiled ps holds))
