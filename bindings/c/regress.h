@@ -76,6 +76,9 @@ extern "C" {
 /* Both ends of the range of a group that took no part in a match. */
 #define REGRESS_UNSET SIZE_MAX
 
+/* How many instructions a program of a pattern may have, where a call takes no limit. */
+#define REGRESS_DEFAULT_LIMIT 1000000
+
 /* What calls answer. */
 enum regress_code {
   /* All is well. Of a call that searches: nothing was found. */
@@ -113,7 +116,9 @@ enum regress_code {
   /* Unicode's data breaks a law of tables. No data that the library has does. */
   REGRESS_BROKEN_TABLES = -16,
   /* Two handles of one call are the same. */
-  REGRESS_SAME_HANDLE = -17
+  REGRESS_SAME_HANDLE = -17,
+  /* A program of the pattern may have more instructions than the limit allows. */
+  REGRESS_PAST_LIMIT = -18
 };
 
 /* A handle: {0}, or what a call put there. */
@@ -162,6 +167,12 @@ int32_t regress_raw_compile_units(const uint16_t *pattern, size_t length, const 
                                   regress_tables *tables, regress_pattern *out, regress_error *error);
 int32_t regress_raw_compile_whole(const uint8_t *pattern, size_t length, const uint8_t *flags, size_t flags_length,
                                   regress_tables *tables, regress_pattern *out, regress_error *error);
+int32_t regress_raw_compile_within(const uint8_t *pattern, size_t length, const uint8_t *flags, size_t flags_length, size_t limit,
+                                   regress_tables *tables, regress_pattern *out, regress_error *error);
+int32_t regress_raw_compile_units_within(const uint16_t *pattern, size_t length, const uint8_t *flags, size_t flags_length,
+                                         size_t limit, regress_tables *tables, regress_pattern *out, regress_error *error);
+int32_t regress_raw_compile_whole_within(const uint8_t *pattern, size_t length, const uint8_t *flags, size_t flags_length,
+                                         size_t limit, regress_tables *tables, regress_pattern *out, regress_error *error);
 int32_t regress_raw_pattern_text(regress_pattern *pattern, uint8_t *buffer, size_t room, size_t *written);
 int32_t regress_raw_group_count(regress_pattern *pattern);
 int32_t regress_raw_group_name(regress_pattern *pattern, size_t number, uint8_t *buffer, size_t room, size_t *written);
@@ -275,6 +286,9 @@ static inline int32_t regress_tables_unicode(regress_tables *out) {
  * are taken and change nothing: which call is made says where a match may begin, and what is told of it. What is refused is told
  * in `error`, which may be null.
  *
+ * A pattern is REGRESS_PAST_LIMIT where a program of it may have more than REGRESS_DEFAULT_LIMIT instructions; a call that ends in
+ * _within takes another limit.
+ *
  * The caller keeps: `pattern` points to `length` bytes, `flags` ends with a null byte, and no other call has either handle. */
 static inline int32_t regress_compile(const char *pattern, size_t length, const char *flags, regress_tables *tables,
                                       regress_pattern *out, regress_error *error) {
@@ -311,6 +325,47 @@ static inline int32_t regress_compile_whole(const char *pattern, size_t length, 
   if (tables == out) return REGRESS_SAME_HANDLE;
   return regress_raw_compile_whole(text, length, (const uint8_t *)letters, strlen(letters), tables, out,
                                    error == NULL ? &unread : error);
+}
+
+/* Compiles as regress_compile does, within a limit on how many instructions a program of the pattern may have. There are two
+ * programs, one for texts in bytes and one for texts in units, and neither has more. A short pattern may stand for a large program:
+ * `\\k<n>` may name many groups, a repetition resets the groups in it, and a small body that is repeated is copied.
+ *
+ * The pattern is REGRESS_PAST_LIMIT exactly where it may have more: two instructions for each node of what it costs. That is told
+ * before anything of that size is made. A service that takes patterns of strangers sets it; SIZE_MAX is no limit. */
+static inline int32_t regress_compile_within(const char *pattern, size_t length, const char *flags, size_t limit,
+                                             regress_tables *tables, regress_pattern *out, regress_error *error) {
+  regress_error unread;
+  const uint8_t *text = regress_bytes_given(pattern, length);
+  const char *letters = flags == NULL ? "" : flags;
+  if (text == NULL || tables == NULL || out == NULL) return REGRESS_NULL;
+  if (tables == out) return REGRESS_SAME_HANDLE;
+  return regress_raw_compile_within(text, length, (const uint8_t *)letters, strlen(letters), limit, tables, out,
+                                    error == NULL ? &unread : error);
+}
+
+/* Compiles as regress_compile_units does, within such a limit. */
+static inline int32_t regress_compile_units_within(const uint16_t *pattern, size_t length, const char *flags, size_t limit,
+                                                   regress_tables *tables, regress_pattern *out, regress_error *error) {
+  regress_error unread;
+  const uint16_t *text = regress_units_given(pattern, length);
+  const char *letters = flags == NULL ? "" : flags;
+  if (text == NULL || tables == NULL || out == NULL) return REGRESS_NULL;
+  if (tables == out) return REGRESS_SAME_HANDLE;
+  return regress_raw_compile_units_within(text, length, (const uint8_t *)letters, strlen(letters), limit, tables, out,
+                                          error == NULL ? &unread : error);
+}
+
+/* Compiles as regress_compile_whole does, within such a limit on the programs of the whole. */
+static inline int32_t regress_compile_whole_within(const char *pattern, size_t length, const char *flags, size_t limit,
+                                                   regress_tables *tables, regress_pattern *out, regress_error *error) {
+  regress_error unread;
+  const uint8_t *text = regress_bytes_given(pattern, length);
+  const char *letters = flags == NULL ? "" : flags;
+  if (text == NULL || tables == NULL || out == NULL) return REGRESS_NULL;
+  if (tables == out) return REGRESS_SAME_HANDLE;
+  return regress_raw_compile_whole_within(text, length, (const uint8_t *)letters, strlen(letters), limit, tables, out,
+                                          error == NULL ? &unread : error);
 }
 
 /* Copies the text of an error's code to `buffer`, as `out of memory`. It goes as regress_pattern_text does. The caller keeps: `buffer`

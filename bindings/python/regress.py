@@ -19,6 +19,7 @@ import ctypes
 import ctypes.util
 import functools
 import itertools
+import operator
 import os
 import re
 import sys
@@ -26,8 +27,8 @@ from array import array
 from types import MappingProxyType
 
 __all__ = [
-    "Match", "Pattern", "compile", "error", "escape", "findall", "finditer", "fullmatch", "match", "purge", "search", "split",
-    "sub", "subn",
+    "LIMIT", "Match", "Pattern", "compile", "error", "escape", "findall", "finditer", "fullmatch", "match", "purge", "search",
+    "split", "sub", "subn",
 ]
 
 # ----------------------------------------------------------------------------------------------------------------------------
@@ -76,13 +77,13 @@ def _call(name, *kinds, answers=_Code):
     return function
 
 
-_source = (_Bytes, _Size, _Bytes, _Size, _HandleOut, _HandleOut, ctypes.POINTER(_Failure))
+_source = (_Bytes, _Size, _Bytes, _Size, _Size, _HandleOut, _HandleOut, ctypes.POINTER(_Failure))
 _copy = (_Bytes, _Size, _SizeOut)
 _call("free", _HandleOut, answers=None)
 _tables_unicode = _call("tables_unicode", _HandleOut)
-_compile = _call("compile", *_source)
-_compile_whole = _call("compile_whole", *_source)
-_compile_units = _call("compile_units", *_source)
+_compile = _call("compile_within", *_source)
+_compile_whole = _call("compile_whole_within", *_source)
+_compile_units = _call("compile_units_within", *_source)
 _search_new = _call("search_new", _HandleOut, _HandleOut)
 _group_count = _call("group_count", _HandleOut)
 _group_name = _call("group_name", _HandleOut, _Size, *_copy)
@@ -298,11 +299,11 @@ def _refused(failure, source, flags, prefix):
     return error(text, source, len(prefix) if failure.code == _SYNTAX else None, failure.code)
 
 
-def _compiled(source, flags, is_whole=False):
-    """A handle of a compiled pattern."""
+def _compiled(source, flags, limit, is_whole=False):
+    """A handle of a compiled pattern, of which no program has more instructions than the limit."""
     handle, failure = _Handle(), _Failure()
     letters = flags.encode("utf-8", "replace")
-    words = (letters, len(letters), _tables(), handle, failure)
+    words = (letters, len(letters), min(limit, _UNSET), _tables(), handle, failure)
     try:
         encoded = source.encode()
     except UnicodeEncodeError:
@@ -325,18 +326,26 @@ def _search_of(pattern):
     return search
 
 
+# How many instructions a program of a pattern may have, where nothing else is said: `REGRESS_DEFAULT_LIMIT`.
+LIMIT = 1_000_000
+# How many the ends of a text take beside a pattern, which the limit of the pattern does not count.
+_ENDS = 32
+
+
 class Pattern:
     """A compiled pattern. `compile` makes one; it may be copied, pickled, compared and used as a key."""
 
     __slots__ = (
-        "pattern", "flags", "groups", "groupindex", "_numbers", "_compiled", "_search", "_whole", "_ending", "__weakref__",
+        "pattern", "flags", "limit", "groups", "groupindex", "_numbers", "_compiled", "_search", "_whole", "_ending", "__weakref__",
     )
 
-    def __init__(self, pattern, flags=""):
+    def __init__(self, pattern, flags="", limit=LIMIT):
         if not isinstance(pattern, str) or not isinstance(flags, str):
             raise TypeError("a pattern and its flags are strings")
-        self.pattern, self.flags, self._whole, self._ending = pattern, flags, None, None
-        self._compiled = _compiled(pattern, flags)
+        self.pattern, self.flags, self.limit, self._whole, self._ending = pattern, flags, operator.index(limit), None, None
+        if self.limit < 0:
+            raise ValueError("a limit is not negative")
+        self._compiled = _compiled(pattern, flags, self.limit)
         self._search = _search_of(self._compiled)
         self.groups = _group_count(self._compiled)
         self._numbers = self._numbers_by_name()
@@ -353,7 +362,7 @@ class Pattern:
         return names
 
     def __reduce__(self):
-        return compile, (self.pattern, self.flags)
+        return compile, (self.pattern, self.flags, self.limit)
 
     def __copy__(self):
         return self
@@ -413,9 +422,9 @@ class Pattern:
         """A search of the pattern where it has to end with the text: of the library's whole texts, or behind `pos`, where these
         never begin, of the pattern in a group before the end."""
         if pos <= 0:
-            self._whole = self._whole or _search_of(_compiled(self.pattern, self.flags, is_whole=True))
+            self._whole = self._whole or _search_of(_compiled(self.pattern, self.flags, self.limit + _ENDS, is_whole=True))
             return self._whole
-        self._ending = self._ending or _search_of(_compiled(_ended(self.pattern), self.flags))
+        self._ending = self._ending or _search_of(_compiled(_ended(self.pattern), self.flags, self.limit + _ENDS))
         return self._ending
 
     def finditer(self, string, pos=0, endpos=sys.maxsize):
@@ -598,14 +607,17 @@ _REFERENCE = re.compile(r"\$([$&`']|[0-9]{1,2}|<[^>]*>)")
 _pattern = functools.lru_cache(maxsize=512)(Pattern)
 
 
-def compile(pattern, flags=""):
+def compile(pattern, flags="", limit=LIMIT):
     """Compiles a pattern, with a text of ECMAScript's flags; `d`, `g` and `y` are taken and change nothing. The patterns that were
-    compiled last are kept."""
+    compiled last are kept.
+
+    A pattern is refused where a program of it, for texts in bytes or in units, may have more instructions than `limit`. That is told
+    before anything of that size is made: a short pattern by a stranger may stand for a very large program."""
     if isinstance(pattern, Pattern):
-        if flags:
-            raise ValueError("a compiled pattern has its flags")
+        if flags or limit != LIMIT:
+            raise ValueError("a compiled pattern has its flags and its limit")
         return pattern
-    return _pattern(pattern, flags)
+    return _pattern(pattern, flags, limit)
 
 
 def purge():

@@ -84,6 +84,33 @@ static void compiling(void) {
   regress_free(&made);
 }
 
+/* A pattern that costs five nodes, of two instructions each, and over a whole text ten. */
+static void compiling_within(void) {
+  regress_pattern made = {0};
+  regress_error error;
+  const uint16_t ab[] = {'a', 'b'};
+  char many[12 * 800 + 8] = "";
+  CHECK(regress_compile_within(TEXT("ab"), "", 9, &tables, &made, &error) == REGRESS_PAST_LIMIT);
+  CHECK(error.code == REGRESS_PAST_LIMIT && error.place == 0 && strcmp(error.text, "pattern costs more than its limit") == 0);
+  CHECK(regress_compile_within(TEXT("ab"), "", 0, &tables, &made, NULL) == REGRESS_PAST_LIMIT);
+  CHECK(regress_compile_within(TEXT("a("), "", 0, &tables, &made, &error) == REGRESS_SYNTAX && error.place == 2);
+  CHECK(regress_compile_within(TEXT("ab"), "", 10, &tables, &made, &error) == REGRESS_OK && error.code == REGRESS_OK);
+  CHECK(regress_compile_within(TEXT("ab"), "", SIZE_MAX, &tables, &made, NULL) == REGRESS_OK);
+  CHECK(regress_compile_units_within(ab, 2, "u", 9, &tables, &made, &error) == REGRESS_PAST_LIMIT);
+  CHECK(regress_compile_units_within(ab, 2, "u", 10, &tables, &made, &error) == REGRESS_OK);
+  CHECK(regress_compile_whole_within(TEXT("ab"), "", 19, &tables, &made, &error) == REGRESS_PAST_LIMIT);
+  CHECK(regress_compile_whole_within(TEXT("ab"), "", 20, &tables, &made, &error) == REGRESS_OK);
+  /* 800 groups of one name, and 800 times a reference to all of them, which may take 1,280,000 instructions. */
+  for (int k = 0; k < 800; k++) strcat(many, k == 0 ? "(?:(?<n>)" : "|(?<n>)");
+  strcat(many, ")");
+  for (int k = 0; k < 800; k++) strcat(many, "\\k<n>");
+  CHECK(regress_compile(many, strlen(many), "", &tables, &made, &error) == REGRESS_PAST_LIMIT);
+  CHECK(regress_compile_whole(many, strlen(many), "", &tables, &made, &error) == REGRESS_PAST_LIMIT);
+  CHECK(regress_compile_within(many, strlen(many), "", REGRESS_DEFAULT_LIMIT, &tables, &made, &error) == REGRESS_PAST_LIMIT);
+  CHECK(regress_group_count(&made) == 0);
+  regress_free(&made);
+}
+
 static void asking(void) {
   regress_pattern named = {0};
   char buffer[16];
@@ -224,6 +251,7 @@ static void empty_matches(void) {
 int main(void) {
   handles();
   compiling();
+  compiling_within();
   asking();
   replacing();
   searching();

@@ -258,14 +258,20 @@ static void making(void) {
   CHECK(out.held == NULL);
 }
 
+/* A limit that the patterns here keep. */
+#define LIMIT 1000
+
 /* The calls that compile, over a text of ASCII, or of one unit. */
-enum { BY_BYTES, BY_WHOLE, BY_UNITS, COMPILERS };
+enum { BY_BYTES, BY_WHOLE, BY_UNITS, BY_BYTES_WITHIN, BY_WHOLE_WITHIN, BY_UNITS_WITHIN, COMPILERS };
 
 static int32_t compile(int by, const char *text, size_t length, const char *flags, regress_handle *from, regress_handle *to,
                        regress_error *error) {
   uint16_t unit[1] = {'('};
   if (text != NULL && length > 0) unit[0] = (unsigned char)text[0];
   if (by == BY_UNITS) return regress_compile_units(text == NULL ? NULL : unit, length, flags, from, to, error);
+  if (by == BY_UNITS_WITHIN) return regress_compile_units_within(text == NULL ? NULL : unit, length, flags, LIMIT, from, to, error);
+  if (by == BY_BYTES_WITHIN) return regress_compile_within(text, length, flags, LIMIT, from, to, error);
+  if (by == BY_WHOLE_WITHIN) return regress_compile_whole_within(text, length, flags, LIMIT, from, to, error);
   return (by == BY_WHOLE ? regress_compile_whole : regress_compile)(text, length, flags, from, to, error);
 }
 
@@ -276,7 +282,7 @@ static void compiling(int by) {
   CHECK(regress_share(&pattern, &out) == REGRESS_OK);
   for (size_t k = 0; k < COUNT(wrong); k++)
     CHECK(compile(by, "a", 1, "", wrong[k], &out, &error) == REGRESS_WRONG_HANDLE && error.code == REGRESS_WRONG_HANDLE);
-  for (size_t k = 0; k < COUNT(not_utf8) && by != BY_UNITS; k++)
+  for (size_t k = 0; k < COUNT(not_utf8) && by != BY_UNITS && by != BY_UNITS_WITHIN; k++)
     CHECK(compile(by, not_utf8[k], strlen(not_utf8[k]), "", &tables, &out, &error) == REGRESS_NOT_UTF8);
   CHECK(compile(by, "a", 1, "", NULL, &out, &error) == REGRESS_NULL);
   CHECK(compile(by, "a", 1, "", &tables, NULL, &error) == REGRESS_NULL);
@@ -295,7 +301,8 @@ static void compiling(int by) {
 }
 
 int main(void) {
-  static const char *const names[] = {"compile", "compile_whole", "compile_units"};
+  static const char *const names[] = {"compile",        "compile_whole",        "compile_units",
+                                      "compile_within", "compile_whole_within", "compile_units_within"};
   CHECK(regress_tables_small(&tables) == REGRESS_OK && regress_tables_small(&freed) == REGRESS_OK);
   CHECK(regress_compile("(?<n>a+)b|(x)|b", 15, "", &tables, &pattern, NULL) == REGRESS_OK);
   CHECK(regress_search_new(&pattern, &search) == REGRESS_OK);

@@ -44,6 +44,7 @@ static int32_t compile_units(void) {
   static const uint16_t units[] = {'(', 'a', '|', 0xD83D, 0xDE00, ')', '+'};
   return regress_compile_units(units, 7, "u", &tables, &out, NULL);
 }
+static int32_t compile_within(void) { return regress_compile_within(SOURCE, sizeof SOURCE - 1, "iu", 1000, &tables, &out, NULL); }
 static int32_t share(void) { return regress_share(&pattern, &out); }
 static int32_t make_search(void) { return regress_search_new(&pattern, &out); }
 static int32_t text_of(void) { return regress_pattern_text(&pattern, buffer, sizeof buffer, &written); }
@@ -62,7 +63,7 @@ static const struct {
   int32_t (*call)(void);
   int requests;
 } calls[] = {{"tables_small", make_tables, 1}, {"compile", compile, 1},         {"compile_whole", compile_whole, 1},
-             {"compile_units", compile_units, 1}, {"share", share, 1},          {"search_new", make_search, 1},
+             {"compile_units", compile_units, 1}, {"compile_within", compile_within, 1}, {"share", share, 1},          {"search_new", make_search, 1},
              {"pattern_text", text_of, 0},     {"group_name", name, 0},         {"group_numbers", numbers, 0},
              {"replace", replace, 1},          {"replace_all", replace_all, 1}, {"escape", escape, 1}};
 

@@ -31,6 +31,24 @@ class Refused(unittest.TestCase):
             refused = self.refusal(pattern)
             self.assertEqual((refused.code, refused.pos), (code, None))
 
+    def test_a_limit(self):
+        for pattern in ("ab", "\ud83db"):
+            self.assertEqual(regress.compile(pattern, limit=10).fullmatch(pattern).group(), pattern)
+            with self.assertRaises(regress.error) as caught:
+                regress.compile(pattern, limit=9)
+            refused = caught.exception
+            self.assertEqual((refused.msg, refused.pos, refused.code), ("pattern costs more than its limit", None, -18))
+        # 800 groups of one name, and 800 times a reference to all of them, which may take 1,280,000 instructions.
+        many = "(?:" + "|".join(["(?<n>)"] * 800) + ")" + r"\k<n>" * 800
+        self.assertEqual(self.refusal(many).code, -18)
+        self.assertEqual(regress.compile(many, limit=2_000_000).groups, 800)
+        self.assertEqual(regress.compile("a", limit=2**64).limit, 2**64)
+        for limit, raised in [(-1, ValueError), (1.5, TypeError), ("9", TypeError)]:
+            with self.assertRaises(raised):
+                regress.compile("a", limit=limit)
+        with self.assertRaises(ValueError):
+            regress.compile(regress.compile("a"), limit=9)
+
     def test_flags(self):
         refused = self.refusal("a", "ix")
         self.assertEqual((refused.pattern, refused.pos, refused.code), ("ix", 1, -12))

@@ -19,6 +19,8 @@ class Keeping(unittest.TestCase):
             again = pickle.loads(pickle.dumps(pattern, protocol))
             self.assertEqual(again, pattern)
             self.assertEqual(again.search("in 2025")["year"], "2025")
+        limited = pickle.loads(pickle.dumps(regress.compile("ab", limit=10)))
+        self.assertEqual((limited.pattern, limited.limit), ("ab", 10))
         self.assertIs(copy.copy(pattern), pattern)
         self.assertIs(copy.deepcopy([pattern])[0], pattern)
 

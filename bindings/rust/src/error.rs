@@ -17,7 +17,7 @@ pub struct Error {
 
 impl Error {
     /// Where reading stopped, in bytes of the pattern, or in code points of one that was given as such. `None` where the pattern goes
-    /// over a limit.
+    /// over a limit, as over that of [`RegexBuilder::size_limit`](crate::RegexBuilder::size_limit).
     ///
     /// ```
     /// let refused = regress_proved::Regex::new("ab*{2}").unwrap_err();

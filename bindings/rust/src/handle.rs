@@ -94,13 +94,22 @@ impl Handle {
         other
     }
 
-    fn compile<T>(call: sys::Compile<T>, pattern: &[T], flags: Flags) -> Result<Handle, Error> {
+    fn compile<T>(call: sys::Compile<T>, pattern: &[T], flags: Flags, limit: usize) -> Result<Handle, Error> {
         let letters = flags.letters();
         let (mut tables, mut made) = (tables(), Handle::empty());
         let mut failure = Failure { code: 0, place: 0, text: [0; 64] };
         // SAFETY: slices with their lengths, and values that are borrowed for this call alone.
         let code = unsafe {
-            call(pattern.as_ptr(), pattern.len(), letters.as_ptr(), letters.len(), &mut tables.0, &mut made.0, &mut failure)
+            call(
+                pattern.as_ptr(),
+                pattern.len(),
+                letters.as_ptr(),
+                letters.len(),
+                limit,
+                &mut tables.0,
+                &mut made.0,
+                &mut failure,
+            )
         };
         if code < 0 && failure.code == code && code != sys::OUT_OF_MEMORY {
             return Err(Error::of_failure(&failure));
@@ -110,13 +119,13 @@ impl Handle {
     }
 
     /// A pattern that is given in UTF-8.
-    pub fn of_text(pattern: &str, flags: Flags) -> Result<Handle, Error> {
-        Handle::compile(sys::regress_raw_compile, pattern.as_bytes(), flags)
+    pub fn of_text(pattern: &str, flags: Flags, limit: usize) -> Result<Handle, Error> {
+        Handle::compile(sys::regress_raw_compile_within, pattern.as_bytes(), flags, limit)
     }
 
     /// A pattern that is given in 16-bit units.
     pub fn of_units(pattern: &[u16], flags: Flags) -> Result<Handle, Error> {
-        Handle::compile(sys::regress_raw_compile_units, pattern, flags)
+        Handle::compile(sys::regress_raw_compile_units_within, pattern, flags, sys::DEFAULT_LIMIT)
     }
 
     /// How many capturing groups a pattern has.

@@ -20,6 +20,7 @@
 //! call here panics.
 #![warn(missing_docs)]
 
+mod builder;
 mod error;
 mod flags;
 mod found;
@@ -30,6 +31,7 @@ mod regex;
 mod replacing;
 mod sys;
 
+pub use builder::RegexBuilder;
 pub use error::Error;
 pub use flags::Flags;
 pub use found::{Groups, Match, NamedGroups, Range};

@@ -6,6 +6,7 @@ use crate::handle::{escaped, Handle, Text};
 use crate::matches::{AsciiMatches, Matches};
 use crate::pool::Pool;
 use crate::replacing::{expand, replaced};
+use crate::sys;
 use std::str::FromStr;
 use std::sync::Arc;
 
@@ -38,7 +39,8 @@ impl Regex {
         Regex::with_flags(pattern, Flags::default())
     }
 
-    /// Compiles a pattern with flags, which may be given as [`Flags`] or by their letters.
+    /// Compiles a pattern with flags, which may be given as [`Flags`] or by their letters. One is refused that may become more than
+    /// 1,000,000 instructions; [`RegexBuilder`](crate::RegexBuilder) takes another limit.
     ///
     /// ```
     /// let greek = regress_proved::Regex::with_flags(r"^\p{Script=Greek}+$", "iu")?;
@@ -49,7 +51,7 @@ impl Regex {
     where
         F: Into<Flags>,
     {
-        Handle::of_text(pattern, flags.into()).map(Regex::of)
+        Regex::within(pattern, flags.into(), sys::DEFAULT_LIMIT)
     }
 
     /// Compiles a pattern that is given in code points, among which may be halves of pairs.
@@ -61,11 +63,16 @@ impl Regex {
         let flags = flags.into();
         if let Some(text) = pattern.clone().map(char::from_u32).collect::<Option<String>>() {
             let place_in = |place| text.char_indices().take_while(|(at, _)| *at < place).count();
-            return Handle::of_text(&text, flags).map(Regex::of).map_err(|refused| refused.placed(place_in));
+            return Regex::within(&text, flags, sys::DEFAULT_LIMIT).map_err(|refused| refused.placed(place_in));
         }
         let units = units_of(pattern, flags)?;
         let place_in = |place| char::decode_utf16(units.iter().copied().take(place)).count();
         Handle::of_units(&units, flags).map(Regex::of).map_err(|refused| refused.placed(place_in))
+    }
+
+    /// Compiles a pattern of which no program may have more instructions than the limit.
+    pub(crate) fn within(pattern: &str, flags: Flags, limit: usize) -> Result<Regex, Error> {
+        Handle::of_text(pattern, flags, limit).map(Regex::of)
     }
 
     fn of(mut pattern: Handle) -> Regex {

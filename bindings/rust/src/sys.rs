@@ -8,6 +8,9 @@ pub const OUT_OF_MEMORY: i32 = -1;
 pub const NO_ROOM: i32 = -6;
 pub const SYNTAX: i32 = -7;
 
+/// `REGRESS_DEFAULT_LIMIT`.
+pub const DEFAULT_LIMIT: usize = 1_000_000;
+
 /// `regress_handle`.
 #[repr(C)]
 pub struct RawHandle {
@@ -30,12 +33,13 @@ pub struct Failure {
     pub text: [u8; 64],
 }
 
-/// A call that compiles a pattern, of bytes or of units.
+/// A call that compiles a pattern, of bytes or of units, within a limit.
 pub type Compile<T> = unsafe extern "C" fn(
     pattern: *const T,
     length: usize,
     flags: *const u8,
     flags_length: usize,
+    limit: usize,
     tables: *mut RawHandle,
     out: *mut RawHandle,
     error: *mut Failure,
@@ -57,20 +61,22 @@ extern "C" {
     pub fn regress_raw_free(handle: *mut RawHandle);
     pub fn regress_raw_share(handle: *mut RawHandle, out: *mut RawHandle) -> i32;
     pub fn regress_raw_tables_unicode(out: *mut RawHandle) -> i32;
-    pub fn regress_raw_compile(
+    pub fn regress_raw_compile_within(
         pattern: *const u8,
         length: usize,
         flags: *const u8,
         flags_length: usize,
+        limit: usize,
         tables: *mut RawHandle,
         out: *mut RawHandle,
         error: *mut Failure,
     ) -> i32;
-    pub fn regress_raw_compile_units(
+    pub fn regress_raw_compile_units_within(
         pattern: *const u16,
         length: usize,
         flags: *const u8,
         flags_length: usize,
+        limit: usize,
         tables: *mut RawHandle,
         out: *mut RawHandle,
         error: *mut Failure,

@@ -1,6 +1,6 @@
 //! Each name of the crate `regress` 0.12, used as a program of it does.
 #![allow(clippy::single_range_in_vec_init)]
-use regress_proved::{escape, AsciiMatches, Error, Flags, Groups, Match, Matches, NamedGroups, Range, Regex};
+use regress_proved::{escape, AsciiMatches, Error, Flags, Groups, Match, Matches, NamedGroups, Range, Regex, RegexBuilder};
 use std::str::FromStr;
 
 fn spans(matches: impl Iterator<Item = Match>) -> Vec<Range> {
@@ -43,6 +43,21 @@ fn patterns_are_refused() {
     let with_a_half = [0xD800].into_iter().chain(r"😀\p{Nothing}".chars().map(u32::from));
     let behind_a_half = Regex::from_unicode(with_a_half.collect::<Vec<_>>().into_iter(), "u").unwrap_err().place().unwrap();
     assert_eq!((in_bytes - in_points, in_points - behind_a_half), (4, 1));
+}
+
+#[test]
+fn patterns_are_limited() {
+    let mut builder = RegexBuilder::new("AB");
+    assert!(builder.flags("i").size_limit(10).build().unwrap().find("ab").is_some());
+    let refused = builder.size_limit(9).build().unwrap_err();
+    assert_eq!((refused.text.as_str(), refused.place()), ("pattern costs more than its limit", None));
+    assert!(RegexBuilder::new("AB").size_limit(usize::MAX).build().is_ok());
+    assert_eq!(RegexBuilder::new("a(b").size_limit(0).build().unwrap_err().place(), Some(3));
+    // 800 groups of one name, and 800 times a reference to all of them, which may take 1,280,000 instructions.
+    let many = format!("(?:{}){}", ["(?<n>)"; 800].join("|"), r"\k<n>".repeat(800));
+    assert_eq!(Regex::new(&many).unwrap_err(), refused);
+    assert_eq!(Regex::from_unicode(many.chars().map(u32::from), "").unwrap_err(), refused);
+    assert!(RegexBuilder::new(&many).size_limit(2_000_000).build().is_ok());
 }
 
 #[test]

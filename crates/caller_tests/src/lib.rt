@@ -9,6 +9,8 @@ mod closures;
 #[cfg(test)]
 mod example;
 #[cfg(test)]
+mod limited;
+#[cfg(test)]
 mod loops;
 #[cfg(test)]
 mod matches;

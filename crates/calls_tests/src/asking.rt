@@ -1,8 +1,8 @@
 //! What is asked of a pattern, and texts that are copied.
 
 use regress_calls::{
-    CallError, Slot, Source, compile, escape, group_count, group_name, group_numbers,
-    put_small_tables, replace_all, share,
+    CallError, DEFAULT_LIMIT, Slot, Source, compile, escape, group_count, group_name,
+    group_numbers, put_small_tables, replace_all, share,
 };
 
 #[test]
@@ -36,7 +36,15 @@ fn asks_a_pattern(rt: HostRuntime) {
     let mut other = Slot::empty();
     put_small_tables(alloc, &mut tables).expect(&rt, "tables");
     let source = Source::Utf8("(?<n>a)|(b)(?<n>c)");
-    compile(alloc, source, b"g", &mut tables, &mut pattern).expect(&rt, "a pattern");
+    compile(
+        alloc,
+        source,
+        b"g",
+        DEFAULT_LIMIT,
+        &mut tables,
+        &mut pattern,
+    )
+    .expect(&rt, "a pattern");
     share(alloc, &mut pattern, &mut other).expect(&rt, "a share");
     assert_eq!(rt; group_count(alloc, &mut other), Ok(3));
     assert_eq!(rt;

@@ -1,7 +1,8 @@
 //! Matches that are found by handles.
 
 use regress_calls::{
-    Slot, Source, Text, TextRange, compile, find, find_many, free, put_search, put_small_tables,
+    DEFAULT_LIMIT, Slot, Source, Text, TextRange, compile, find, find_many, free, put_search,
+    put_small_tables,
 };
 
 const UNSET: TextRange = TextRange { start: 0, end: 0 };
@@ -19,7 +20,7 @@ fn finds_a_match_by_handles(rt: HostRuntime) {
     let mut search = Slot::empty();
     put_small_tables(alloc, &mut tables).expect(&rt, "tables");
     let source = Source::Utf8("(?<as>a+)b|(x)");
-    compile(alloc, source, b"", &mut tables, &mut pattern).expect(&rt, "a pattern");
+    compile(alloc, source, b"", DEFAULT_LIMIT, &mut tables, &mut pattern).expect(&rt, "a pattern");
     free(alloc, &mut tables);
     put_search(alloc, &mut pattern, &mut search).expect(&rt, "a search");
     let mut ranges = [UNSET; 4];
@@ -42,7 +43,15 @@ fn finds_many_matches_by_steps(rt: HostRuntime) {
     let mut search = Slot::empty();
     put_small_tables(alloc, &mut tables).expect(&rt, "tables");
     let source = Source::Utf8("a*");
-    compile(alloc, source, b"u", &mut tables, &mut pattern).expect(&rt, "a pattern");
+    compile(
+        alloc,
+        source,
+        b"u",
+        DEFAULT_LIMIT,
+        &mut tables,
+        &mut pattern,
+    )
+    .expect(&rt, "a pattern");
     put_search(alloc, &mut pattern, &mut search).expect(&rt, "a search");
     let mut ranges = [UNSET; 3];
     let mut start = 0;

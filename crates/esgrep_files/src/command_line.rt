@@ -102,6 +102,13 @@ fn with_patterns<'a>(alloc: Global, command: Command<'a>) -> Result<Command<'a>,
         "The flags of the patterns, in the place of u",
     )
     .allow_hyphen_values(true);
+    let size_limit = option(
+        alloc,
+        "regex-size-limit",
+        "N",
+        "Refuse a pattern that may become more than N instructions, in the place of 1000000",
+    )
+    .value_parser(value_parser!(u32));
     command
         .arg(pattern)?
         .arg(file)?
@@ -115,6 +122,7 @@ fn with_patterns<'a>(alloc: Global, command: Command<'a>) -> Result<Command<'a>,
         ))?
         .arg(flag(alloc, 'x', "line-regexp", "A match takes the whole line"))?
         .arg(flags)?
+        .arg(size_limit)?
         .arg(flag(
             alloc,
             'U',

@@ -2,7 +2,7 @@
 
 use crate::refusal::Refusal;
 use crate::settings::Settings;
-use regress::{Error, Flags, Regex, Tables, escape, syntax_error};
+use regress::{CompileError, Flags, Regex, Tables, escape, syntax_error};
 use regress_unicode::unicode_tables;
 use std::alloc::{AllocError, Global};
 use std::fs;
@@ -23,14 +23,21 @@ fn flags(alloc: Global, settings: &Settings<'_>) -> Result<Flags, Refusal> {
     Ok(flags)
 }
 
-/// Why a pattern is refused: with a caret where it is none.
+/// Why a pattern is refused: with a caret where it is none, and past the limit with that.
 fn refusal(
     alloc: Global,
-    error: Error,
+    error: CompileError,
     pattern: &str,
     flags: Flags,
     tables: &Tables,
+    limit: usize,
 ) -> Result<Refusal, AllocError> {
+    if matches!(error, CompileError::PastLimit) {
+        let told = format!(in alloc;
+            "a pattern may become more than {limit} instructions, which --regex-size-limit sets"
+        )?;
+        return Ok(Refusal::Told(told));
+    }
     let told = match syntax_error(alloc, pattern, flags, tables) {
         Ok(Some(refused)) => refused.display(pattern).to_string(alloc)?,
         _ => error.to_string(alloc)?,
@@ -38,24 +45,31 @@ fn refusal(
     Ok(Refusal::Told(told))
 }
 
-/// A pattern is compiled.
-fn compile(alloc: Global, pattern: &str, flags: Flags, tables: &Tables) -> Result<Regex, Refusal> {
-    match Regex::with_flags(alloc, pattern, flags, tables) {
+/// A pattern is compiled within a limit.
+fn compile(
+    alloc: Global,
+    pattern: &str,
+    flags: Flags,
+    tables: &Tables,
+    limit: usize,
+) -> Result<Regex, Refusal> {
+    match Regex::with_limit(alloc, pattern, flags, tables, limit) {
         Ok(regex) => Ok(regex),
-        Err(error) => Err(refusal(alloc, error, pattern, flags, tables)?),
+        Err(error) => Err(refusal(alloc, error, pattern, flags, tables, limit)?),
     }
 }
 
-/// A pattern is compiled for matches that take a whole line.
+/// A pattern is compiled within a limit for matches that take a whole line.
 fn whole_line(
     alloc: Global,
     pattern: &str,
     flags: Flags,
     tables: &Tables,
+    limit: usize,
 ) -> Result<Regex, Refusal> {
-    match Regex::whole_text(alloc, pattern, flags, tables) {
+    match Regex::whole_text_with_limit(alloc, pattern, flags, tables, limit) {
         Ok(regex) => Ok(regex),
-        Err(error) => Err(refusal(alloc, error, pattern, flags, tables)?),
+        Err(error) => Err(refusal(alloc, error, pattern, flags, tables, limit)?),
     }
 }
 
@@ -65,9 +79,10 @@ fn whole_word(
     pattern: &str,
     flags: Flags,
     tables: &Tables,
+    limit: usize,
 ) -> Result<Regex, Refusal> {
     let whole = format!(in alloc; "(?<!\\w)(?:{pattern})(?!\\w)")?;
-    compile(alloc, whole.as_str(), flags, tables)
+    compile(alloc, whole.as_str(), flags, tables, limit)
 }
 
 /// A pattern of the command line, with what the options ask of it.
@@ -78,18 +93,19 @@ fn asked(
     flags: Flags,
     tables: &Tables,
 ) -> Result<Regex, Refusal> {
+    let limit = settings.size_limit;
     let pattern = if settings.fixed {
         escape(alloc, text)?
     } else {
         String::from_str(alloc, text)?
     };
     if settings.whole_lines {
-        return whole_line(alloc, pattern.as_str(), flags, tables);
+        return whole_line(alloc, pattern.as_str(), flags, tables, limit);
     }
     // First alone: a text that is no pattern by itself may be one in a group.
-    let alone = compile(alloc, pattern.as_str(), flags, tables)?;
+    let alone = compile(alloc, pattern.as_str(), flags, tables, limit)?;
     if settings.words {
-        whole_word(alloc, pattern.as_str(), flags, tables)
+        whole_word(alloc, pattern.as_str(), flags, tables, limit)
     } else {
         Ok(alone)
     }

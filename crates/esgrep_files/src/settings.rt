@@ -2,6 +2,7 @@
 
 use clap::ArgMatches;
 use esgrep_rows::{Ending, Mode, Options};
+use regress::DEFAULT_LIMIT;
 use std::alloc::{AllocError, Global};
 
 /// When rows are in colours.
@@ -37,6 +38,8 @@ pub(crate) struct Settings<'a> {
     pub fixed: bool,
     pub words: bool,
     pub whole_lines: bool,
+    /// How many instructions a program of a pattern may have.
+    pub size_limit: usize,
     pub multiline: bool,
     pub replacement: Option<&'a str>,
     pub groups: bool,
@@ -159,6 +162,7 @@ impl<'a> Settings<'a> {
             fixed: matches.get_flag("fixed-strings"),
             words: matches.get_flag("word-regexp"),
             whole_lines: matches.get_flag("line-regexp"),
+            size_limit: number(matches, "regex-size-limit").unwrap_or(DEFAULT_LIMIT),
             multiline: matches.get_flag("multiline"),
             replacement: matches.get_str("replace"),
             groups: matches.get_flag("groups"),

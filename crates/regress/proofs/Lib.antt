@@ -10,3 +10,4 @@ pub mod ToldLemmas
 pub mod StepLemmas
 pub mod UnitLemmas
 pub mod NeededLemmas
+pub mod LimitedLemmas

@@ -4,6 +4,7 @@ pub use Rattle.regress_programs.specs.Refusing
 pub mod Positions
 pub mod Standing
 pub use Rattle.regress_programs.specs.Outcomes
+pub mod Limited
 pub mod Coming
 pub mod Answering
 pub mod Behind

@@ -8,6 +8,7 @@ mod ascii;
 mod asking;
 pub mod backends;
 mod laws;
+mod limited;
 mod matches;
 mod programs;
 mod replacing;
@@ -24,6 +25,7 @@ pub use laws::{
     escaped_texts_are_replaced_where_they_occur, no_opt_changes_no_match,
     parts_stand_between_the_matches, whole_matches_give_the_text_back,
 };
+pub use limited::DEFAULT_LIMIT;
 pub use matches::Matches;
 pub use regress_engine::{CompiledRegex, Scratch, is_unit_start, is_well_formed_utf16};
 pub use regress_errors::{

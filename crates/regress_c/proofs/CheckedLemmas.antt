@@ -2,7 +2,7 @@
 use Rattle.std.specs.Prelude.{ℕ, List}
 use Rattle.regress_meaning.specs.Offsets.{of_utf8}
 use Rattle.regress_calls.specs.declared.call_error.CallError.{CallError}
-use Rattle.regress_calls.specs.declared.call_error.CallError.TheVariants.{OutOfMemory, WrongHandle, Null, NotUtf8, BadStart, NoRoom, Syntax, TooDeep, TooManyGroups, TooManyLoops, TooLarge, UnknownFlag, RepeatedFlag, BothUnicodeFlags, NoGroup, BrokenTables, SameHandle}
+use Rattle.regress_calls.specs.declared.call_error.CallError.TheVariants.{OutOfMemory, WrongHandle, Null, NotUtf8, BadStart, NoRoom, Syntax, TooDeep, TooManyGroups, TooManyLoops, TooLarge, UnknownFlag, RepeatedFlag, BothUnicodeFlags, NoGroup, BrokenTables, SameHandle, PastLimit}
 use Rattle.regress_calls.specs.Handles.{Content}
 use Rattle.regress_calls.specs.Refusals.{MayRefuseCopy, MayRefuseCopyOf, MayRefuseCounted, MayRefuseMany, MayRefuseSearch}
 use Rattle.regress_c.specs.Checked.{MayRefuseChecked, MayRefuseCheckedMany}
@@ -27,6 +27,7 @@ checked-search c bytes start BothUnicodeFlags h = h
 checked-search c bytes start NoGroup h = h
 checked-search c bytes start BrokenTables h = h
 checked-search c bytes start SameHandle h = h
+checked-search c bytes start PastLimit h = h
 
 -- one for many matches
 pub checked-many : (c : Content) (bytes : List ℕ) (start room width : ℕ) (x : CallError) → MayRefuseMany c (of_utf8 bytes) start room width x → MayRefuseCheckedMany c bytes start room width x
@@ -47,6 +48,7 @@ checked-many c bytes start room width BothUnicodeFlags h = h
 checked-many c bytes start room width NoGroup h = h
 checked-many c bytes start room width BrokenTables h = h
 checked-many c bytes start room width SameHandle h = h
+checked-many c bytes start room width PastLimit h = h
 
 -- a call that counts groups
 pub checked-counted : (c : Content) (bytes : List ℕ) (x : CallError) → MayRefuseCounted c x → MayRefuseCheckedPattern c bytes x
@@ -67,6 +69,7 @@ checked-counted c bytes BothUnicodeFlags h = h
 checked-counted c bytes NoGroup h = h
 checked-counted c bytes BrokenTables h = h
 checked-counted c bytes SameHandle h = h
+checked-counted c bytes PastLimit h = h
 
 -- a copy
 pub checked-copy : (bytes : List ℕ) (x : CallError) → MayRefuseCopy x → MayRefuseCheckedCopy bytes x
@@ -87,6 +90,7 @@ checked-copy bytes BothUnicodeFlags h = h
 checked-copy bytes NoGroup h = h
 checked-copy bytes BrokenTables h = h
 checked-copy bytes SameHandle h = h
+checked-copy bytes PastLimit h = h
 
 -- a copy of what a pattern makes
 pub checked-copy_of : (c : Content) (text replacement : List ℕ) (x : CallError) → MayRefuseCopyOf c x → MayRefuseCheckedCopyOf c text replacement x
@@ -107,3 +111,4 @@ checked-copy_of c text replacement BothUnicodeFlags h = h
 checked-copy_of c text replacement NoGroup h = h
 checked-copy_of c text replacement BrokenTables h = h
 checked-copy_of c text replacement SameHandle h = h
+checked-copy_of c text replacement PastLimit h = h

@@ -3,7 +3,7 @@ use Rattle.std.specs.Prelude.{◌≡◌, ◌↔◌, ◌≤◌, IsTrue, ℕ, ℤ,
 use lib.Signed.{mag}
 use Rattle.std.proofs.Common.{◌∙◌, ◌<◌, w32, of_z, to_z, to_z-of_z, refl, sym, ap, subst, inl, inr, arith}
 use Rattle.regress_calls.specs.declared.call_error.CallError.{CallError}
-use Rattle.regress_calls.specs.declared.call_error.CallError.TheVariants.{OutOfMemory, WrongHandle, Null, NotUtf8, BadStart, NoRoom, Syntax, TooDeep, TooManyGroups, TooManyLoops, TooLarge, UnknownFlag, RepeatedFlag, BothUnicodeFlags, NoGroup, BrokenTables, SameHandle}
+use Rattle.regress_calls.specs.declared.call_error.CallError.TheVariants.{OutOfMemory, WrongHandle, Null, NotUtf8, BadStart, NoRoom, Syntax, TooDeep, TooManyGroups, TooManyLoops, TooLarge, UnknownFlag, RepeatedFlag, BothUnicodeFlags, NoGroup, BrokenTables, SameHandle, PastLimit}
 use Rattle.regress_calls.specs.Codes.{HoldsOfError, IfCount, IfError, code_of, done_code, errors, number_of, truth_code}
 use Rattle.regress_calls.specs.declared.compiling.Refusal.{Refusal}
 use Rattle.regress_c.specs.Checked.{IsTruthOf}
@@ -32,6 +32,7 @@ by-number BothUnicodeFlags Q h = h
 by-number NoGroup Q h = h
 by-number BrokenTables Q h = h
 by-number SameHandle Q h = h
+by-number PastLimit Q h = h
 
 -- of a count
 pub count-ok : (r : Result ℕ CallError) (n : ℤ) (P : ℕ → Type 0) → n ≡ code_of r → IfOk r P → IfCount n P
@@ -90,6 +91,7 @@ memory-alone BothUnicodeFlags same = absurd cc
 memory-alone NoGroup same = absurd cc
 memory-alone BrokenTables same = absurd cc
 memory-alone SameHandle same = absurd cc
+memory-alone PastLimit same = absurd cc
 
 pub done-memory : (r : Result Unit CallError) (n : ℤ) → n ≡ done_code r → n ≡ negsuc 0 → r ≡ Err OutOfMemory
 done-memory (Ok u) n e h = absurd cc

@@ -13,6 +13,6 @@ abbrev pub refusal_code : Result Unit Refusal → ℤ
 refusal_code (Ok u) = pos 0
 refusal_code (Err r) = negsuc (number_of r.error)
 
--- Why a pattern in bytes is not compiled: they are not UTF-8, or as any.
-abbrev pub MayRefuseText : Content → (whole : Bool) → (bytes letters : List ℕ) → CallError → Type 0
-MayRefuseText c whole bytes letters e = ((e ≡ NotUtf8) × ¬ (IsUtf8 bytes)) ⊎ MayRefuseCompile c whole (λ o. chars bytes) letters e
+-- Why a pattern in bytes is not compiled within a limit: they are not UTF-8, or as any.
+abbrev pub MayRefuseText : Content → (limit : ℕ) → (whole : Bool) → (bytes letters : List ℕ) → CallError → Type 0
+MayRefuseText c limit whole bytes letters e = ((e ≡ NotUtf8) × ¬ (IsUtf8 bytes)) ⊎ MayRefuseCompile c limit whole (λ o. chars bytes) letters e

@@ -6,8 +6,10 @@ use Rattle.regress_front_core.specs.declared.script_flags.FlagError.{FlagError}
 use Rattle.regress_front_core.specs.declared.script_flags.FlagError.TheVariants as flag
 use Rattle.regress_front_tables.specs.declared.tables.law.TableError.{TableError}
 use Rattle.regress_front_tables.specs.declared.tables.law.TableError.TheVariants as tables
+use Rattle.regress_errors.specs.declared.errors.CompileError.{CompileError}
+use Rattle.regress_errors.specs.declared.errors.CompileError.TheVariants as compiling
 use Rattle.regress_calls.specs.declared.call_error.CallError.{CallError}
-use Rattle.regress_calls.specs.declared.call_error.CallError.TheVariants.{OutOfMemory, WrongHandle, Null, NotUtf8, BadStart, NoRoom, Syntax, TooDeep, TooManyGroups, TooManyLoops, TooLarge, UnknownFlag, RepeatedFlag, BothUnicodeFlags, NoGroup, BrokenTables, SameHandle}
+use Rattle.regress_calls.specs.declared.call_error.CallError.TheVariants.{OutOfMemory, WrongHandle, Null, NotUtf8, BadStart, NoRoom, Syntax, TooDeep, TooManyGroups, TooManyLoops, TooLarge, UnknownFlag, RepeatedFlag, BothUnicodeFlags, NoGroup, BrokenTables, SameHandle, PastLimit}
 
 -- the number of an error: its code is one less than the number below zero
 abbrev pub number_of : CallError → ℕ
@@ -28,6 +30,7 @@ number_of BothUnicodeFlags = 13
 number_of NoGroup = 14
 number_of BrokenTables = 15
 number_of SameHandle = 16
+number_of PastLimit = 17
 
 -- what an error of the library is called
 abbrev pub of_error : Error → CallError
@@ -48,6 +51,13 @@ of_flag_error flag.BothUnicodeModes = BothUnicodeFlags
 abbrev pub of_table_error : TableError → CallError
 of_table_error (tables.Broken law c) = BrokenTables
 of_table_error tables.OutOfMemory = OutOfMemory
+
+-- what an error of compiling is called
+abbrev pub of_compile_error : CompileError → CallError
+of_compile_error (compiling.Pattern e) = of_error e
+of_compile_error (compiling.Flags e) = of_flag_error e
+of_compile_error (compiling.Table e) = of_table_error e
+of_compile_error compiling.PastLimit = PastLimit
 
 -- what a call answers as a number: a count, or the code of an error
 abbrev pub code_of : Result ℕ CallError → ℤ
@@ -74,7 +84,7 @@ IfCount (negsuc k) P = Unit {0}
 abbrev pub errors : List CallError
 errors =
     OutOfMemory ∷ WrongHandle ∷ Null ∷ NotUtf8 ∷ BadStart ∷ NoRoom ∷ Syntax ∷ TooDeep ∷ TooManyGroups ∷ TooManyLoops ∷ TooLarge
-    ∷ UnknownFlag ∷ RepeatedFlag ∷ BothUnicodeFlags ∷ NoGroup ∷ BrokenTables ∷ SameHandle ∷ []
+    ∷ UnknownFlag ∷ RepeatedFlag ∷ BothUnicodeFlags ∷ NoGroup ∷ BrokenTables ∷ SameHandle ∷ PastLimit ∷ []
 
 -- there is an error, and the fact holds of it
 abbrev pub HoldsOfError : Option CallError → (CallError → Type 0) → Type 0

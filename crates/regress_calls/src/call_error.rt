@@ -1,7 +1,7 @@
 //! Why a call is refused.
 ghost use Rattle.std.specs.Prelude.{◌≡◌};
 
-use regress::{Error, FlagError, TableError};
+use regress::{CompileError, Error, FlagError, TableError};
 use std::alloc::{AllocError, AllocFailed};
 use std::fmt;
 
@@ -42,6 +42,8 @@ pub enum CallError {
     BrokenTables,
     /// Two handles of one call are the same.
     SameHandle,
+    /// A program of the pattern may have more instructions than the limit allows.
+    PastLimit,
 }
 
 impl CallError {
@@ -74,6 +76,7 @@ impl CallError {
             CallError::NoGroup => -15,
             CallError::BrokenTables => -16,
             CallError::SameHandle => -17,
+            CallError::PastLimit => -18,
         }
     }
 
@@ -101,6 +104,7 @@ impl CallError {
             CallError::NoGroup => "no such group",
             CallError::BrokenTables => "broken tables",
             CallError::SameHandle => "the same handle twice",
+            CallError::PastLimit => "pattern costs more than its limit",
         }
     }
 }
@@ -129,6 +133,7 @@ pub fn text_of_code(code: i32) -> &'static str {
         -15 => CallError::NoGroup.text(),
         -16 => CallError::BrokenTables.text(),
         -17 => CallError::SameHandle.text(),
+        -18 => CallError::PastLimit.text(),
         _ => "no error",
     }
 }
@@ -179,6 +184,21 @@ impl From<TableError> for CallError {
         match refused {
             TableError::Broken { .. } => CallError::BrokenTables,
             TableError::OutOfMemory => CallError::OutOfMemory,
+        }
+    }
+}
+
+impl From<CompileError> for CallError {
+    ghost use Rattle.regress_calls.specs.Codes.{of_compile_error};
+
+    ghost from_gives = { λ refused e. e ≡ of_compile_error refused };
+
+    fn from(refused: CompileError) -> CallError {
+        match refused {
+            CompileError::Pattern(refused) => CallError::from(refused),
+            CompileError::Flags(refused) => CallError::from(refused),
+            CompileError::Table(refused) => CallError::from(refused),
+            CompileError::PastLimit => CallError::PastLimit,
         }
     }
 }

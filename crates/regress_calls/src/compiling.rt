@@ -5,8 +5,9 @@ ghost use Rattle.regress_meaning.specs.TableParts.{TableParts as Parts, table_of
 ghost use Rattle.regress_front.specs.FlagWords.{options};
 ghost use Rattle.regress_front.specs.TableViews.{table};
 ghost use Rattle.regress.specs.declared.api.Regex.{Regex as RegexValue};
-ghost use Rattle.regress_calls.specs.Codes.{of_error};
-ghost use Rattle.regress_calls.specs.Compiling.{IsCompiled, MayRefuseFlags, MayRefuseCompile, MayRefuseMeant, MayRefusePoints, is_whole, points_of_source};
+ghost use Rattle.regress.specs.Limited.{MayRefuseWithin};
+ghost use Rattle.regress_calls.specs.Codes.{of_compile_error};
+ghost use Rattle.regress_calls.specs.Compiling.{IsCompiled, MayRefuseFlags, MayRefuseCompile, MayRefusePoints, is_whole, meant, points_of_source};
 ghost use Rattle.regress_calls.specs.Handles.{OfPattern, OfTables, content};
 
 use crate::call_error::CallError;
@@ -14,7 +15,9 @@ use crate::held::Held;
 use crate::sharing::tables_in;
 use crate::slot::Slot;
 use crate::text::utf8;
-use regress::{Error, FlagError, Flags, Regex, Tables, syntax_error, syntax_error_in_units};
+use regress::{
+    CompileError, Error, FlagError, Flags, Regex, Tables, syntax_error, syntax_error_in_units,
+};
 use std::alloc::{AllocError, Global};
 use std::sync::Arc;
 
@@ -97,15 +100,23 @@ fn read_flags(letters: &str) -> Result<Flags, Refusal>
 }
 
 impl Source<'_> {
-    /// Compiles it.
-    fn compile(&self, alloc: Global, flags: Flags, tables: &Tables) -> Result<Regex, Error>
-        ensures compiled { IfOk result (λ r. IsCompiled (is_whole self.now) (points_of_source self.now (options flags)) (table tables.now) (options flags) r) }
-        ensures refused { IfErr result (MayRefuseMeant (is_whole self.now) (table tables.now) (options flags) (points_of_source self.now (options flags))) }
+    /// Compiles it within a limit.
+    fn compile(
+        &self,
+        alloc: Global,
+        flags: Flags,
+        tables: &Tables,
+        limit: usize,
+    ) -> Result<Regex, CompileError>
+        ensures compiled { IfOk result (λ r. IsCompiled limit (is_whole self.now) (points_of_source self.now (options flags)) (table tables.now) (options flags) r) }
+        ensures refused { IfErr result (MayRefuseWithin limit (meant (is_whole self.now)) (table tables.now) (options flags) (points_of_source self.now (options flags))) }
     {
         match self {
-            Source::Utf8(text) => Regex::with_flags(alloc, text, flags, tables),
-            Source::Units(units) => Regex::from_utf16(alloc, units, flags, tables),
-            Source::Whole(text) => Regex::whole_text(alloc, text, flags, tables),
+            Source::Utf8(text) => Regex::with_limit(alloc, text, flags, tables, limit),
+            Source::Units(units) => {
+                Regex::from_utf16_with_limit(alloc, units, flags, tables, limit)
+            }
+            Source::Whole(text) => Regex::whole_text_with_limit(alloc, text, flags, tables, limit),
         }
     }
 
@@ -129,11 +140,11 @@ fn refused(
     source: &Source<'_>,
     flags: Flags,
     tables: &Tables,
-    error: Error,
+    error: CompileError,
 ) -> Refusal
-    ensures { result.error ≡ of_error error }
+    ensures { result.error ≡ of_compile_error error }
 {
-    let Error::Syntax { text } = error else {
+    let CompileError::Pattern(Error::Syntax { text }) = error else {
         return Refusal::new(CallError::from(error), 0);
     };
     Refusal {
@@ -143,17 +154,19 @@ fn refused(
     }
 }
 
-/// The pattern that is compiled from a source, with flags and tables.
+/// The pattern that is compiled from a source, with flags and tables, within a limit.
 fn compiled(
     alloc: Global,
     source: &Source<'_>,
     flags: Flags,
     tables: &Tables,
+    limit: usize,
 ) -> Result<Box<Held>, Refusal>
-    ensures compiled { IfOk result (λ held. (r : RegexValue) × (content (Some held.value) ≡ OfPattern r) × IsCompiled (is_whole source.now) (points_of_source source.now (options flags)) (table tables.now) (options flags) r) }
-    ensures refused { IfErr result (λ e. MayRefusePoints (is_whole source.now) (table tables.now) (options flags) (points_of_source source.now (options flags)) e.error) }
+    ensures compiled { IfOk result (λ held. (r : RegexValue) × (content (Some held.value) ≡ OfPattern r)
+        × IsCompiled limit (is_whole source.now) (points_of_source source.now (options flags)) (table tables.now) (options flags) r) }
+    ensures refused { IfErr result (λ e. MayRefusePoints limit (is_whole source.now) (table tables.now) (options flags) (points_of_source source.now (options flags)) e.error) }
 {
-    match source.compile(alloc, flags, tables) {
+    match source.compile(alloc, flags, tables, limit) {
         Ok(regex) => Ok(boxed(alloc, regex)?),
         Err(error) => Err(refused(alloc, source, flags, tables, error)),
     }
@@ -170,26 +183,29 @@ fn boxed(alloc: Global, regex: Regex) -> Result<Box<Held>, CallError>
 }
 
 /// Compiles a pattern ("RegExpInitialize") with the tables that a handle holds, and puts it into another. `letters` are flags as
-/// ECMAScript has them.
+/// ECMAScript has them. Neither program of it may have more instructions than the limit; `DEFAULT_LIMIT` is one for patterns of
+/// strangers.
 ///
-/// Refused as `WrongHandle` where no tables are held, as `NotUtf8` or an error of flags where the letters are no flags, and else as
-/// `Regex::with_flags` says.
+/// Refused as `WrongHandle` where no tables are held, as `NotUtf8` or an error of flags where the letters are no flags, as
+/// `PastLimit` exactly where the pattern may have more instructions, and else as `Regex::with_flags` says.
 pub fn compile(
     alloc: Global,
     source: Source<'_>,
     letters: &[u8],
+    limit: usize,
     tables: &mut Slot,
     out: &mut Slot,
 ) -> Result<(), Refusal>
     ensures compiled { (ps : Parts) → content tables.old.held ≡ OfTables ps →
-        OnOk result ((r : RegexValue) × (content out.new.held ≡ OfPattern r) × IsCompiled (is_whole source.entry) (points_of_source source.entry (options_of (chars letters.now))) (table_of ps) (options_of (chars letters.now)) r) }
+        OnOk result ((r : RegexValue) × (content out.new.held ≡ OfPattern r)
+        × IsCompiled limit (is_whole source.entry) (points_of_source source.entry (options_of (chars letters.now))) (table_of ps) (options_of (chars letters.now)) r) }
     ensures kept { content tables.new.held ≡ content tables.old.held }
-    ensures refused { IfErr result (λ e. MayRefuseCompile (content tables.old.held) (is_whole source.entry) (points_of_source source.entry) letters.now e.error) }
+    ensures refused { IfErr result (λ e. MayRefuseCompile (content tables.old.held) limit (is_whole source.entry) (points_of_source source.entry) letters.now e.error) }
     ensures untouched { OnErr result (content out.new.held ≡ content out.old.held) }
 {
     let known = tables_in(alloc, tables)?;
     let flags = read_flags(utf8(letters)?)?;
-    match compiled(alloc, &source, flags, &known) {
+    match compiled(alloc, &source, flags, &known, limit) {
         Ok(held) => {
             out.put(alloc, held);
             Ok(())

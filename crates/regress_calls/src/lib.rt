@@ -25,6 +25,7 @@ pub use calls::{find, find_many, free, is_match, match_at};
 pub use compiling::{Refusal, Source, compile};
 pub use held::Held;
 pub use making::{put_search, put_small_tables, put_unicode_tables, share};
+pub use regress::DEFAULT_LIMIT;
 pub use search::Search;
 pub use slot::Slot;
 pub use text::{Text, utf8};

@@ -1,7 +1,7 @@
 //! One error for a function that makes tables, reads flags, compiles and searches.
 ghost use Rattle.std.specs.Prelude.{◌≡◌, Some};
 
-use regress_front::{Error, FlagError, TableError};
+use regress_front::{Error, FlagError, LimitError, TableError};
 use std::alloc::{AllocError, AllocFailed};
 use std::{error, fmt};
 
@@ -24,9 +24,11 @@ pub enum CompileError {
     Flags(FlagError),
     /// Tables are refused.
     Table(TableError),
+    /// A pattern costs more than the limit that was given.
+    PastLimit,
 }
 
-/// The text of the error that it holds.
+/// The text of the error that it holds, or that the limit is passed.
 impl fmt::Display for CompileError {
     ghost use Rattle.regress_errors.specs.ErrorTexts.{compile_error_text};
 
@@ -37,6 +39,7 @@ impl fmt::Display for CompileError {
             CompileError::Pattern(refused) => write!(f, "{refused}"),
             CompileError::Flags(refused) => write!(f, "{refused}"),
             CompileError::Table(refused) => write!(f, "{refused}"),
+            CompileError::PastLimit => f.write_str("pattern costs more than its limit"),
         }
     }
 }
@@ -50,6 +53,19 @@ impl From<Error> for CompileError {
 
     fn from(refused: Error) -> CompileError {
         CompileError::Pattern(refused)
+    }
+}
+
+impl From<LimitError> for CompileError {
+    ghost use Rattle.regress_errors.specs.ErrorTexts.{compile_error_of};
+
+    ghost from_gives = { λ refused e. e ≡ compile_error_of refused };
+
+    fn from(refused: LimitError) -> CompileError {
+        match refused {
+            LimitError::PastLimit => CompileError::PastLimit,
+            LimitError::Refused(refused) => CompileError::Pattern(refused),
+        }
     }
 }
 

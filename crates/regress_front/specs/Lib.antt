@@ -7,6 +7,7 @@ pub use Rattle.regress_front_core.specs.ErrorTexts
 pub use Rattle.regress_front_core.specs.FlagWords
 pub use Rattle.regress_front_core.specs.Quantifiers
 pub use Rattle.regress_front_core.specs.Refusals
+pub use Rattle.regress_front_costs.specs.Costs
 pub use Rattle.regress_front_nodes.specs.Alike
 pub use Rattle.regress_front_nodes.specs.Changes
 pub use Rattle.regress_front_nodes.specs.Characters

@@ -25,7 +25,7 @@ use Rattle.regress_front_nodes.specs.Characters.{Takes}
 use Rattle.regress_front_tree.specs.Lowering.{AreByLength, LengthsFall}
 use Rattle.regress_front_class_values.specs.ClassValues.{lists}
 use Rattle.regress_front_class_values.proofs.ClassLemmas.{among-lists, filter-lists}
-use Rattle.regress_front_tree.proofs.SumLemmas.{sum_by-map}
+use Rattle.regress_front_costs.proofs.SumLemmas.{sum_by-map}
 use Rattle.std.proofs.Math.Bool.{or-false}
 
 -- ---- strings of a class

@@ -1,22 +1,22 @@
 -- A lowered tree spreads no further than its pattern costs.
 use Rattle.std.proofs.Common.{◌≡◌, ℕ, ◌+◌, ◌*◌, ◌≤◌, Bool, true, false, not, ◌&&◌, ◌==◌, List, [], ◌∷◌, ◌++◌, length, nat_le, min, map, filter, reverse, sum_by, All, if◌then◌else◌, refl, arith, length-append}
-use Rattle.std.specs.Option.{unwrap_or}
 use Rattle.std.proofs.Math.Nat.{mul-le-mul}
-use Rattle.std.proofs.lemmas.Bool.{ne_eqb, eqb-false}
+use Rattle.std.proofs.lemmas.Bool.{eqb-false}
 use Rattle.std.proofs.lemmas.List.{length-reverse, reverse-append}
 use Rattle.std.proofs.lemmas.List.Elements.{All-head, All-tail}
-use Rattle.std.proofs.lemmas.List.Sums.{sum_by-cons, sum_by-append}
+use Rattle.std.proofs.lemmas.List.Sums.{sum_by-cons}
 use Rattle.regress_meaning.specs.Table.{Table}
-use Rattle.regress_meaning.specs.Class.{Class, value_of, among, no_string, range, digits, spaces, words, property, sequences, strings, union, intersection, difference, complement, nested}
+use Rattle.regress_meaning.specs.Class.{Class, among}
 use Rattle.regress_meaning.specs.Pattern.{Pattern, Settings, character}
 use Rattle.regress_front_tokens.specs.Trees.{sequence_of, choice_of}
 use Rattle.regress_front_nodes.specs.Trees.{Tree, char, bytes, byte_set, char_set, any, any_in_line, bracket, back, string_set, cat_of}
 use Rattle.regress_front_nodes.specs.Sizes.{size, spread, unrolling, most_unrolled, largest_unrolled}
 use Rattle.regress_front_nodes.specs.Characters.{is_character}
 use Rattle.regress_front_nodes.specs.Forms.{cat_made, in_reading_order}
-use Rattle.regress_front_tree.specs.Costs.{strings_cost, class_cost, cost}
+use Rattle.regress_front_costs.specs.Costs.{strings_cost, class_cost, cost}
 use Rattle.regress_front_tree.specs.Lowering.{HasArms, one_arm, two_halves, class_value, is_piece, LowersClass, Lowers, of_character, of_any, of_class, of_negated_class, of_class_escape, of_terms, of_arms, of_capture, of_group, of_modified, of_repeated, of_look, of_atomic, of_reference, of_line_start, of_line_end, of_word_boundary, LowersAll, no_pattern, and_next, LowersTerms, no_term, next_term, next_text}
-use Rattle.regress_front_tree.proofs.SumLemmas.{sum_by-filter}
+use Rattle.regress_front_costs.proofs.CostSteps.{sequence-cost, choice-cost}
+use Rattle.regress_front_costs.proofs.StringCosts.{strings-parts, empty_cost, parted, value-cost}
 use Rattle.regress_front_tree.proofs.TextTerms.{pieces-size}
 
 -- more of a body is not less unrolled
@@ -83,61 +83,7 @@ pieces-spread (u ∷ us) kinds =
     let IsPiece : Tree → Type 0 = λ v. is_piece v ≡ true in
     omega (arith, piece-spread u (All-head IsPiece u us kinds), pieces-spread us (All-tail IsPiece u us kinds))
 
--- ---- strings
-
--- what the strings of a list cost, by how many there are and how long they are
-strings-parts : (ss : List (List ℕ)) → strings_cost ss ≡ sum_by length ss + 3 * length ss
-strings-parts [] = refl
-strings-parts (s ∷ ss) =
-    let all = sum_by-cons (λ (r : List ℕ). length r + 3) s ss in
-    let lengths = sum_by-cons length s ss in
-    omega (arith, all, lengths, strings-parts ss)
-
--- what the empty string costs, where it is among them
-abbrev empty_cost : Bool → ℕ
-empty_cost has = if has then 3 else 0
-
--- the strings but the empty one, and the empty one, cost no more than all
-parted : (ss : List (List ℕ)) → strings_cost (filter (λ s. not (length s == 0)) ss) + empty_cost (among ss []) ≤ strings_cost ss
-parted [] = omega arith
-parted ([] ∷ ss) =
-    let all = sum_by-cons (λ (r : List ℕ). length r + 3) [] ss in
-    let fewer = sum_by-filter (λ (r : List ℕ). length r + 3) (λ (s : List ℕ). not (length s == 0)) ss in
-    omega (arith, all, fewer)
-parted ((c ∷ s) ∷ ss) =
-    let long : (length (c ∷ s) == 0) ≡ false = ne_eqb (length (c ∷ s)) 0 (λ e. omega arith) in
-    let all = sum_by-cons (λ (r : List ℕ). length r + 3) (c ∷ s) ss in
-    let kept = sum_by-cons (λ (r : List ℕ). length r + 3) (c ∷ s) (filter (λ (r : List ℕ). not (length r == 0)) ss) in
-    rw long (omega (arith, all, kept, parted ss))
-
 -- ---- classes
-
--- the strings that a class stands for cost no more than the class
-value-cost : (table : Table) (folded : Bool) (c : Class) → strings_cost (value_of table folded c).others ≤ class_cost table c
-unfolding value_of
-value-cost table folded no_string = omega arith
-value-cost table folded (range a b) = omega arith
-value-cost table folded digits = omega arith
-value-cost table folded spaces = omega arith
-value-cost table folded words = omega arith
-value-cost table folded (property key) = omega arith
-value-cost table folded (sequences key) = sum_by-filter (λ s. length s + 3) (λ s. not (length s == 1)) (unwrap_or (table.sequences key) [])
-value-cost table folded (strings ss) = sum_by-filter (λ s. length s + 3) (λ s. not (length s == 1)) ss
-value-cost table folded (union a b) =
-    let v = (value_of table folded a).others in
-    let w = (value_of table folded b).others in
-    omega (arith, sum_by-append (λ (s : List ℕ). length s + 3) v w, value-cost table folded a, value-cost table folded b)
-value-cost table folded (intersection a b) =
-    let v = (value_of table folded a).others in
-    let w = (value_of table folded b).others in
-    omega (arith, sum_by-filter (λ (s : List ℕ). length s + 3) (among w) v, value-cost table folded a)
-value-cost table folded (difference a b) =
-    let v = (value_of table folded a).others in
-    let w = (value_of table folded b).others in
-    omega (arith, sum_by-filter (λ (s : List ℕ). length s + 3) (λ (s : List ℕ). not (among w s)) v, value-cost table folded a)
-value-cost table folded (complement a) = omega arith
-value-cost table folded (nested true a) = omega arith
-value-cost table folded (nested false a) = value-cost table folded a
 
 -- the arms of a class spread no further than their strings cost
 class_arms-spread : (icase : Bool) (ss : List (List ℕ)) (characters : Tree) (none has_empty : Bool) (t : Tree) → spread characters ≡ 1 → (length ss == 0) ≡ none
@@ -163,11 +109,6 @@ module _ (table : Table) (unicode : Bool) where
 
 -- ---- patterns
 
-choice-cost : (table : Table) (p : Pattern) (ps : List Pattern)
-    → cost table (choice_of (p ∷ ps)) + 2 ≡ cost table (sequence_of (p ∷ ps)) + length (p ∷ ps)
-choice-cost table p [] = omega arith
-choice-cost table p (q ∷ ps) = omega (arith, choice-cost table q ps)
-
 text-cost : (table : Table) (cs : List ℕ) (ps : List Pattern) → cost table (sequence_of (map character cs ++ ps)) ≡ length cs + cost table (sequence_of ps)
 text-cost table [] ps = omega arith
 text-cost table (c ∷ cs) ps = omega (arith, text-cost table cs ps)
@@ -185,7 +126,7 @@ module _ (table : Table) (unicode : Bool) where
     cheap (of_arms {ps = []} {ts = ts} h a) = omega (arith, arms-spread a, (all-cheap h).0, (all-cheap h).1)
     cheap (of_arms {ps = p ∷ ps} {ts = ts} h a) =
         let rest = all-cheap h in
-        omega (arith, arms-spread a, choice-cost table p ps, rest.0, rest.1)
+        omega (arith, arms-spread a, choice-cost table (p ∷ ps) (omega arith), sequence-cost table (p ∷ ps), rest.0, rest.1)
     cheap (of_capture full h) = omega (arith, cheap h)
     cheap (of_group h) = cheap h
     cheap (of_modified h) = cheap h

@@ -1,4 +1,3 @@
-pub mod SumLemmas
 pub mod BracketLemmas
 pub mod AlikeLemmas
 pub mod StringLemmas
@@ -12,6 +11,4 @@ pub mod LowerableLemmas
 pub mod LoweringLemmas
 pub mod TextTerms
 pub mod TextSteps
-pub mod LeftLemmas
-pub mod CostSteps
 pub mod CostLemmas

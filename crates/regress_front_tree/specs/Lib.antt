@@ -3,4 +3,3 @@ pub mod Parsed
 pub mod Lowered
 pub mod Pairing
 pub mod Scopes
-pub mod Costs

@@ -4,7 +4,7 @@ ghost use Rattle.regress_meaning.specs.Table.{Table};
 ghost use Rattle.regress_meaning.specs.Pattern.{Pattern, Settings};
 ghost use Rattle.regress_front_nodes.specs.Trees.{Tree};
 ghost use Rattle.regress_front_nodes.specs.Sizes.{spread};
-ghost use Rattle.regress_front_tree.specs.Costs.{cost};
+ghost use Rattle.regress_front_costs.specs.Costs.{cost};
 ghost use Rattle.regress_front_tree.specs.Lowering.{Lowers};
 
 /// A lowered tree spreads no further than its pattern costs: it has no more nodes, with all that unrolling may add.

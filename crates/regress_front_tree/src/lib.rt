@@ -5,12 +5,9 @@ mod alike;
 mod arms;
 mod brackets;
 mod cheap;
-mod costs;
 mod lawful;
-mod limit;
 mod lowering;
 mod parse;
 mod wholes;
 
-pub use limit::LimitError;
 pub use parse::{try_parse, try_parse_whole_text, try_parse_whole_text_within, try_parse_within};

@@ -5,7 +5,10 @@ use Rattle.regress_meaning.specs.Table.{Table}
 use Rattle.regress_meaning.specs.Pattern.{Pattern, names_of}
 use Rattle.regress_meaning.specs.Flags.{Options, is_unicode}
 use Rattle.regress_front_core.specs.declared.error.Error.{Error}
-use Rattle.regress_front_core.specs.declared.error.Error.TheVariants.{TooLarge}
+use Rattle.regress_front_core.specs.declared.error.Error.TheVariants.{Syntax, TooDeep, TooManyGroups, TooManyLoops, TooLarge, OutOfMemory}
+use Rattle.regress_front_costs.specs.declared.limit.LimitError.{LimitError}
+use Rattle.regress_front_costs.specs.declared.limit.LimitError.TheVariants.{PastLimit, Refused}
+use Rattle.regress_front.specs.Costs.{MayRefuseWithin}
 use Rattle.regress_front.specs.FlagWords.{options}
 use Rattle.regress_front.specs.Parsed.{IsTreeMade}
 use Rattle.regress_front.specs.RewritingLaws.{IsRewritten}
@@ -27,7 +30,7 @@ use Rattle.regress_engine_code.specs.Written as code_refusals
 use Rattle.regress_engine_code.specs.Written.{AreTooMany}
 use Rattle.regress_engine_runs.proofs.SizeLemmas.{count-bounded}
 use Rattle.regress_programs.specs.Programs.{IsTreeFor, IsReadFrom, IsProgramOf}
-use Rattle.regress_programs.specs.Refusing.{PassesCount, MayRefuseMade}
+use Rattle.regress_programs.specs.Refusing.{PassesCount, MayRefuseMade, MayRefuseMadeWithin}
 
 -- a tree as it is parsed is one for what is made of the pattern
 pub parsed-for : (made : Pattern → Pattern) (t : Table) (o : Options) (text : List ℕ) (p : Pattern) (regex : ir.Regex) → IsTreeMade made t o text p (tree regex.node)
@@ -138,6 +141,23 @@ short-passes-none made t o text plain short passes = few passes.many
 -- so it is not refused as too large
 pub refused-fits : (made : Pattern → Pattern) (t : Table) (o : Options) (text : List ℕ) (e : Error) → MayRefuseMade made t o text e → o.sets ≡ false → length text ≤ 10000 → e ≢ TooLarge
 refused-fits made t o text e refused plain short large = short-passes-none made t o text plain short (subst (MayRefuseMade made t o text) large refused)
+
+-- nor where a limit is given
+pub refused-fits-within : (limit : ℕ) (made : Pattern → Pattern) (t : Table) (o : Options) (text : List ℕ) (e : LimitError) → MayRefuseMadeWithin limit made t o text e
+    → o.sets ≡ false → length text ≤ 10000 → e ≢ Refused TooLarge
+refused-fits-within limit made t o text e refused plain short large =
+    short-passes-none made t o text plain short (subst (MayRefuseMadeWithin limit made t o text) large refused)
+
+-- a refusal of its reading is one of the pattern
+pub read-refused-within : (limit : ℕ) (made : Pattern → Pattern) (t : Table) (o : Options) (text : List ℕ) (e : LimitError) → MayRefuseWithin limit made t o text e
+    → MayRefuseMadeWithin limit made t o text e
+read-refused-within limit made t o text PastLimit h = h
+read-refused-within limit made t o text (Refused (Syntax message)) h = h
+read-refused-within limit made t o text (Refused TooDeep) h = h
+read-refused-within limit made t o text (Refused TooManyGroups) h = h
+read-refused-within limit made t o text (Refused TooManyLoops) h = h
+read-refused-within limit made t o text (Refused TooLarge) h = absurd h
+read-refused-within limit made t o text (Refused OutOfMemory) h = h
 
 -- a copy of a program is made for the same
 pub copied-target : (compiled copy : CompiledRegex) → code.IsCopyOf compiled copy → target_of copy ≡ target_of compiled

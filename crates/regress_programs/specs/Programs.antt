@@ -1,5 +1,5 @@
 -- The programs that a compiled pattern holds.
-use Rattle.std.specs.Prelude.{◌≡◌, ℕ, List, length, map, chars}
+use Rattle.std.specs.Prelude.{◌≡◌, ℕ, ◌*◌, ◌≤◌, List, length, map, chars}
 use Rattle.regress_meaning.specs.Table.{Table}
 use Rattle.regress_meaning.specs.Pattern.{Pattern, names_of}
 use Rattle.regress_meaning.specs.Flags.{Options, is_unicode, first_settings}
@@ -7,6 +7,7 @@ use Rattle.regress_meaning.specs.Grammar.{Spells}
 use Rattle.regress_meaning.specs.Limits.{WithinLimits}
 use Rattle.regress_meaning.specs.Matches.{Item}
 use Rattle.regress_meaning.specs.Meaning.{Forward, outcomes}
+use Rattle.regress_front.specs.Costs.{whole_cost}
 use Rattle.regress_front.specs.TableViews.{table}
 use Rattle.regress_front.specs.FlagWords.{options}
 use Rattle.regress_front.specs.Trees.{Tree, tree}
@@ -56,3 +57,12 @@ pub record IsProgramOf (compiled : CompiledRegex) (t : Table) (o : Options) (p :
 abbrev pub AreProgramsOf : (Pattern → Pattern) → Table → Options → List ℕ → (byte_program unit_program : CompiledRegex) → Type 0
 AreProgramsOf made t o text byte_program unit_program =
     (p : Pattern) × Spells t o text p × WithinLimits p × IsProgramOf byte_program t o (made p) × IsProgramOf unit_program t o (made p)
+
+-- They are those of what is made of a pattern that costs no more than a limit.
+abbrev pub AreProgramsWithin : ℕ → (Pattern → Pattern) → Table → Options → List ℕ → (byte_program unit_program : CompiledRegex) → Type 0
+AreProgramsWithin limit made t o text byte_program unit_program =
+    (p : Pattern) × Spells t o text p × WithinLimits p × (whole_cost t (made p) ≤ limit) × IsProgramOf byte_program t o (made p) × IsProgramOf unit_program t o (made p)
+
+-- each program has at most two instructions for each of so many nodes
+abbrev pub HaveFewInstructions : ℕ → (byte_program unit_program : CompiledRegex) → Type 0
+HaveFewInstructions nodes byte_program unit_program = (length byte_program.insns.items ≤ 2 * nodes) × (length unit_program.insns.items ≤ 2 * nodes)

@@ -6,6 +6,9 @@ use Rattle.regress_meaning.specs.Pattern.{Pattern}
 use Rattle.regress_meaning.specs.WholeText.{whole_text}
 use Rattle.regress_front_core.specs.declared.error.Error.{Error}
 use Rattle.regress_front_core.specs.declared.error.Error.TheVariants.{TooLarge}
+use Rattle.regress_front.specs.Costs.{whole_cost, IsLarger}
+use Rattle.regress_front_costs.specs.declared.limit.LimitError.{LimitError}
+use Rattle.regress_front_costs.specs.declared.limit.LimitError.TheVariants.{PastLimit, Refused}
 use Rattle.regress_front.specs.Refusals as reading
 use Rattle.regress_front.specs.Trees.{Tree}
 use Rattle.regress_front.specs.Sizes.{loops}
@@ -34,3 +37,9 @@ MayRefuseRegex = MayRefuseMade (λ p. p)
 -- one that the pattern over a whole text may meet
 abbrev pub MayRefuseWholeText : Table → Options → List ℕ → Error → Type 0
 MayRefuseWholeText = MayRefuseMade whole_text
+
+-- A refusal that may be met where what is made of a pattern may cost no more than a limit: that it costs more, or one that may be
+-- met without a limit.
+abbrev pub MayRefuseMadeWithin : ℕ → (Pattern → Pattern) → Table → Options → List ℕ → LimitError → Type 0
+MayRefuseMadeWithin limit made table o text PastLimit = IsLarger (λ p. whole_cost table (made p)) limit table o text
+MayRefuseMadeWithin limit made table o text (Refused e) = MayRefuseMade made table o text e

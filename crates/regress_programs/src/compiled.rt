@@ -8,13 +8,18 @@ ghost use Rattle.regress_meaning.specs.WholeText.{whole_text};
 ghost use Rattle.regress_front.specs.TableViews.{table};
 ghost use Rattle.regress_front.specs.FlagWords.{options};
 ghost use Rattle.regress_front.specs.RewritingLaws.{IsRewritten};
+ghost use Rattle.regress_front.specs.Sizes.{spread};
 ghost use Rattle.regress_front.specs.Trees.{tree};
 ghost use Rattle.regress_front.specs.WellFormed.{IsWellFormed};
-ghost use Rattle.regress_programs.specs.Programs.{IsReadFrom, AreProgramsOf};
-ghost use Rattle.regress_programs.specs.Refusing.{MayRefuseMade, MayRefuseRegex, MayRefuseWholeText};
+ghost use Rattle.regress_programs.specs.Programs.{IsReadFrom, IsProgramOf, AreProgramsOf, AreProgramsWithin, HaveFewInstructions};
+ghost use Rattle.regress_programs.specs.Refusing.{MayRefuseMade, MayRefuseMadeWithin, MayRefuseRegex, MayRefuseWholeText};
 
 use regress_engine::{CompiledRegex, emit, emit_units};
-use regress_front::{Error, Flags, Tables, ir, optimize, try_parse, try_parse_whole_text};
+use regress_engine_runs::spreads_bound_counts;
+use regress_front::{
+    Error, Flags, LimitError, Tables, ir, optimize, try_parse, try_parse_whole_text,
+    try_parse_whole_text_within, try_parse_within,
+};
 use std::alloc::Global;
 
 /// The programs of a pattern: of bytes, and of units.
@@ -47,12 +52,14 @@ impl Compiled {
     fn of_tree(alloc: Global, mut regex: ir::Regex<'_>) -> Result<Compiled, Error>
         requires { (n : ℕ) × IsWellFormed n (tree regex.node) }
         ensures accepted { (made : Pattern → Pattern) → (t : Table) → (o : Options) → (text : List ℕ) → (p : Pattern) → IsReadFrom made t o text p regex.entry →
-            IfOk result (λ c. AreProgramsOf made t o text c.byte_program c.unit_program) }
+            IfOk result (λ c. IsProgramOf c.byte_program t o (made p) × IsProgramOf c.unit_program t o (made p)) }
         ensures refused { (made : Pattern → Pattern) → (t : Table) → (o : Options) → (text : List ℕ) → (p : Pattern) → IsReadFrom made t o text p regex.entry →
             IfErr result (MayRefuseMade made t o text) }
         ensures fits { (made : Pattern → Pattern) → (t : Table) → (o : Options) → (text : List ℕ) → (p : Pattern) → IsReadFrom made t o text p regex.entry →
             o.sets ≡ false → length text ≤ 10000 → IfErr result (λ e. e ≢ Error.TooLarge) }
+        ensures small { IfOk result (λ c. HaveFewInstructions (spread (tree regex.entry.node)) c.byte_program c.unit_program) }
     {
+        spreads_bound_counts();
         let unit_program = emit_units(alloc, &regex)?;
         rewrite(alloc, &mut regex)?;
         let byte_program = emit(alloc, &regex)?;
@@ -104,6 +111,54 @@ impl Compiled {
     {
         let tree = try_parse_whole_text(alloc, points, flags, tables)?;
         Compiled::of_tree(alloc, tree)
+    }
+
+    /// Compiles a pattern as `new` does, if it costs no more than a limit, which is told before there is a tree.
+    ///
+    /// Asks that all are code points. Refused as `Regex::with_limit` says.
+    ///
+    /// ```rust
+    /// let compiled = Compiled::new_within(alloc, &[0x61, 0x2B], Flags::default(), &tables, 1000)?; // `a+`
+    /// ```
+    pub fn new_within(
+        alloc: Global,
+        points: &[u32],
+        flags: Flags,
+        tables: &Tables,
+        limit: usize,
+    ) -> Result<Compiled, LimitError>
+        requires { All (λ c. c ≤ 0x10_FFFF) points.now }
+        ensures accepted { IfOk result (λ c. AreProgramsWithin limit (λ p. p) (table tables.now) (options flags) points.now c.byte_program c.unit_program) }
+        ensures small { IfOk result (λ c. HaveFewInstructions limit c.byte_program c.unit_program) }
+        ensures refused { IfErr result (MayRefuseMadeWithin limit (λ p. p) (table tables.now) (options flags) points.now) }
+        ensures fits { (options flags).sets ≡ false → length points.now ≤ 10000 → IfErr result (λ e. e ≢ LimitError.Refused Error.TooLarge) }
+    {
+        let tree = try_parse_within(alloc, points, flags, tables, limit)?;
+        Ok(Compiled::of_tree(alloc, tree)?)
+    }
+
+    /// Compiles a pattern over a whole text as `whole_text` does, if what is made of it costs no more than a limit.
+    ///
+    /// Asks that all are code points. Refused as `Regex::whole_text_with_limit` says.
+    ///
+    /// ```rust
+    /// let compiled = Compiled::whole_text_within(alloc, &[0x61, 0x2B], Flags::default(), &tables, 1000)?;
+    /// ```
+    pub fn whole_text_within(
+        alloc: Global,
+        points: &[u32],
+        flags: Flags,
+        tables: &Tables,
+        limit: usize,
+    ) -> Result<Compiled, LimitError>
+        requires { All (λ c. c ≤ 0x10_FFFF) points.now }
+        ensures accepted { IfOk result (λ c. AreProgramsWithin limit whole_text (table tables.now) (options flags) points.now c.byte_program c.unit_program) }
+        ensures small { IfOk result (λ c. HaveFewInstructions limit c.byte_program c.unit_program) }
+        ensures refused { IfErr result (MayRefuseMadeWithin limit whole_text (table tables.now) (options flags) points.now) }
+        ensures fits { (options flags).sets ≡ false → length points.now ≤ 10000 → IfErr result (λ e. e ≢ LimitError.Refused Error.TooLarge) }
+    {
+        let tree = try_parse_whole_text_within(alloc, points, flags, tables, limit)?;
+        Ok(Compiled::of_tree(alloc, tree)?)
     }
 
     /// The same programs once more. Errs with `OutOfMemory` alone.

@@ -6,9 +6,9 @@ use Rattle.regress_meaning.specs.WholeText.{whole_text}
 use Rattle.regress_front_core.specs.FlagWords.{options}
 use Rattle.regress_front_tables.specs.TableViews.{table}
 use Rattle.regress_front_nodes.specs.Trees.{tree}
-use Rattle.regress_front_tree.specs.Costs.{cost, MayRefuseLarger, MayRefuseWithin}
-use Rattle.regress_front_tree.specs.declared.limit.LimitError.{LimitError}
-use Rattle.regress_front_tree.specs.declared.limit.LimitError.TheVariants.{PastLimit, Refused}
+use Rattle.regress_front_costs.specs.Costs.{cost, MayRefuseLarger, MayRefuseWithin}
+use Rattle.regress_front_costs.specs.declared.limit.LimitError.{LimitError}
+use Rattle.regress_front_costs.specs.declared.limit.LimitError.TheVariants.{PastLimit, Refused}
 use Rattle.regress_front_tree.proofs.parse.try_parse_whole_text_within.Goals as goals
 
 -- what costs so much more is larger as a whole

@@ -1,4 +1,5 @@
-use Rattle.std.proofs.Common.{true, false}
+use Rattle.std.proofs.Common.{true, false, arith}
+use Rattle.regress_front.specs.Trees.{tree}
 use Rattle.std.proofs.lemmas.Result.{err_from_is_err_and}
 use Rattle.regress_programs.proofs.ProgramLemmas.{as-parsed, as-rewritten, read-program, program-refused, refused-fits}
 use Rattle.regress_programs.proofs.compiled.Compiled.of_tree.Goals as goal
@@ -37,9 +38,18 @@ returns-in_err-byte_program-clause-fits c = λ made t o text p from plain short.
 pub returns-clause-accepted : goal.returns-clause-accepted
 returns-clause-accepted c = λ made t o text p from.
     let read = as-rewritten made t o text p c.args.regex from c.rewrite.new.regex c.rewrite.ensures.rewritten c.rewrite.ensures.kept.0 c.rewrite.ensures.kept.1 in (
-      p,
-      from.0.spelled,
-      from.0.within,
       read-program made t o text p c.rewrite.new.regex read c.in_ok-byte_program.byte_program c.in_ok-byte_program.ensures.emitted,
       read-program made t o text p c.args.regex (as-parsed made t o text p c.args.regex from) c.in_ok-unit_program.unit_program c.in_ok-unit_program.ensures.emitted,
+    )
+
+pub returns-clause-small : goal.returns-clause-small
+returns-clause-small c =
+    let (n, formed) = c.requires in
+    let rewritten = c.rewrite.ensures.rewritten n formed in
+    let bytes = c.in_ok-byte_program.byte_program in
+    let units = c.in_ok-unit_program.unit_program in
+    let few_bytes = c.spreads_bound_counts.ensures bytes.units _ _ n (tree c.rewrite.new.regex.node) rewritten.well_formed.lawful in
+    let few_units = c.spreads_bound_counts.ensures units.units _ _ n (tree c.args.regex.node) formed.lawful in (
+      omega (arith, c.in_ok-byte_program.ensures.emitted.counted, few_bytes, rewritten.few_spread),
+      omega (arith, c.in_ok-unit_program.ensures.emitted.counted, few_units),
     )

@@ -1,4 +1,5 @@
 use Rattle.std.proofs.Common.{length, ap}
+use Rattle.std.proofs.lemmas.Result.{IfOk-weaker}
 use Rattle.regress_meaning.specs.Pattern.{names_of}
 use Rattle.regress_meaning.specs.WholeText.{whole_text}
 use Rattle.regress_front.specs.FlagWords.{options}
@@ -11,7 +12,8 @@ of_tree-requires c = let (p, of_text) = c.in_ok-tree.ensures.accepted in (length
 pub returns-clause-accepted : goal.returns-clause-accepted
 returns-clause-accepted c =
     let (p, of_text) = c.in_ok-tree.ensures.accepted in
-    c.of_tree.ensures.accepted whole_text _ _ _ p (of_text, ap table c.in_ok-tree.ensures.kept.1, ap options c.in_ok-tree.ensures.kept.0)
+    IfOk-weaker c.of_tree.result _ _ (λ compiled both. (p, of_text.spelled, of_text.within, both))
+    (c.of_tree.ensures.accepted whole_text _ _ _ p (of_text, ap table c.in_ok-tree.ensures.kept.1, ap options c.in_ok-tree.ensures.kept.0))
 
 pub returns-clause-refused : goal.returns-clause-refused
 returns-clause-refused c =

@@ -1,0 +1,4 @@
+pub mod SumLemmas
+pub mod LeftLemmas
+pub mod CostSteps
+pub mod StringCosts
