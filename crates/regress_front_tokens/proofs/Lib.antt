@@ -9,4 +9,3 @@ pub mod SpanLemmas
 pub mod TokenLemmas
 pub mod TreeLaws
 pub mod CountLemmas
-pub mod GroupSteps

@@ -12,7 +12,6 @@ use crate::mode::Mode;
 use crate::syntax::Class;
 use regress_front_tables::{CodePoint, Error, is_ascii_word};
 use std::alloc::{AllocError, Global};
-use std::rc::RcSlice;
 
 /// Why an escape is refused.
 pub const INVALID_ESCAPE: &str = "Invalid escape";
@@ -28,7 +27,7 @@ pub enum Escape {
     /// A class.
     Set(Class),
     /// Groups, by their numbers from 0.
-    Groups(RcSlice<u16>),
+    Groups(Vec<u16>),
 }
 
 /// Whether the code point is a letter of ASCII.
@@ -311,8 +310,7 @@ impl Cursor<'_> {
         };
         if number <= mode.names.len() {
             *self = ahead;
-            let group = number.saturating_sub(1) as u16;
-            return Ok(Escape::Groups(RcSlice::from_slice(alloc, &[group])?));
+            return Ok(Escape::Groups(vec![in alloc; number.saturating_sub(1) as u16]?));
         }
         self.octal_or_digit(mode, INVALID_REFERENCE)
     }
