@@ -1,5 +1,5 @@
 //! How many units a run has to take from each address on, at least, and the test of it.
-ghost use Rattle.std.specs.Prelude.{◌≡◌, ◌+◌, ◌^◌, ◌<◌, true, IfOk, IfSome, map, slice_get};
+ghost use Rattle.std.specs.Prelude.{◌≡◌, ◌+◌, ◌^◌, ◌<◌, map, slice_get};
 ghost use Rattle.regress_engine_insn.specs.Instructions.{Program};
 ghost use Rattle.regress_engine_insn.specs.InsnViews.{instruction};
 ghost use Rattle.regress_engine_runs.specs.Runs.{fields_of};
@@ -34,12 +34,8 @@ fn taken_by(insn: &Insn) -> usize
 
 impl Needs {
     /// How many units a run takes from an address on, at least.
-    ///
-    /// ```rust
-    /// let units = needs.from(0);
-    /// ```
     #[inline]
-    pub fn from(&self, at: usize) -> usize
+    pub(crate) fn from(&self, at: usize) -> usize
         ensures { result ≡ need self.now.units.items at }
     {
         if at < self.units.len() {
@@ -95,7 +91,7 @@ impl Needs {
     }
 
     /// Whether each instruction needs no more than it takes and what it leads to needs.
-    fn are_needs(&self, insns: &[Insn]) -> bool
+    pub(crate) fn are_needs(&self, insns: &[Insn]) -> bool
         ensures { (program : Program) → program.instructions ≡ map instruction insns.now → result ≡ are_needs self.now.units.items program }
     {
         for at in 0..insns.len() {
@@ -136,8 +132,15 @@ impl Needs {
         }
     }
 
+    /// Of no address anything is needed.
+    pub(crate) fn empty(alloc: Global) -> Needs {
+        Needs {
+            units: Vec::new(alloc),
+        }
+    }
+
     /// What the instructions of a program suggest, from the last address on, which nothing is told of yet.
-    fn suggested(alloc: Global, insns: &[Insn]) -> Result<Needs, AllocError> {
+    pub(crate) fn suggested(alloc: Global, insns: &[Insn]) -> Result<Needs, AllocError> {
         let mut units = Vec::new(alloc);
         units.resize(insns.len(), 0)?;
         let mut needs = Needs { units };
@@ -148,23 +151,5 @@ impl Needs {
             }
         }
         Ok(needs)
-    }
-
-    /// How many units the runs of a program take from each address on, at least, where its instructions lead on so. It errs only
-    /// where memory is refused.
-    ///
-    /// ```rust
-    /// let needs = Needs::of(alloc, program.insns())?;
-    /// ```
-    pub fn of(alloc: Global, insns: &[Insn]) -> Result<Option<Needs>, AllocError>
-        ensures { IfOk result (λ found. IfSome found (λ needs. (program : Program) → program.instructions ≡ map instruction insns.now
-            → are_needs needs.units.items program ≡ true)) }
-    {
-        let needs = Needs::suggested(alloc, insns)?;
-        if needs.are_needs(insns) {
-            Ok(Some(needs))
-        } else {
-            Ok(None)
-        }
     }
 }
