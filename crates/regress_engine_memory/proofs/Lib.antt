@@ -14,3 +14,4 @@ pub mod HeldLemmas
 pub mod ClassLemmas
 pub mod PlaneLemmas
 mod Rows
+pub mod Needing

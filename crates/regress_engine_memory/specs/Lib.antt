@@ -8,3 +8,4 @@ pub mod TableViews
 pub mod BitViews
 pub mod Remembered
 pub mod Planes
+pub mod Needs

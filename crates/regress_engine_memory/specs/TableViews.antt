@@ -1,5 +1,5 @@
 -- What a table of the code is to definitions.
-use Rattle.std.specs.Prelude.{ℕ, map}
+use Rattle.std.specs.Prelude.{ℕ, List, map}
 use Rattle.regress_engine_memory.specs.Deciding.{Table}
 use Rattle.regress_engine_memory.specs.declared.flow.Bounds.{Bounds}
 use Rattle.regress_engine_memory.specs.declared.flow.FlowTable.{FlowTable}
@@ -16,3 +16,7 @@ table_of t = record {
   loops = map (λ ids. ids.items) t.loops.items;
   bounds = map bounds_are t.bounds.items;
 }
+
+-- how many units are needed from each address on
+abbrev pub needs_of : FlowTable → List ℕ
+needs_of t = t.needs.units.items

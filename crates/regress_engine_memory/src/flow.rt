@@ -7,8 +7,10 @@ ghost use Rattle.regress_engine_insn.specs.InsnViews.{fields, instruction};
 ghost use Rattle.regress_engine_runs.specs.Meets.{referred};
 ghost use Rattle.regress_engine_runs.specs.Runs.{fields_of};
 ghost use Rattle.regress_engine_memory.specs.Deciding.{begins_anew, bounds_of, calm_at, ends_iteration, flows, hands, is_flow, is_told_of, live_at, writes};
-ghost use Rattle.regress_engine_memory.specs.TableViews.{bounds_are, table_of};
+ghost use Rattle.regress_engine_memory.specs.Needs.{need};
+ghost use Rattle.regress_engine_memory.specs.TableViews.{bounds_are, needs_of, table_of};
 
+use crate::needs::Needs;
 use regress_engine_insn::{Insn, LoopFields};
 
 /// How many iterations of a loop there are at least and at most.
@@ -20,8 +22,8 @@ pub struct Bounds {
     pub most: usize,
 }
 
-/// For each address of a program whether a group may be referred to from there on, and which loops' data may still be asked for;
-/// and the bounds of each loop.
+/// For each address of a program whether a group may be referred to from there on, which loops' data may still be asked for, and
+/// how many units a run takes from there on, at least; and the bounds of each loop.
 #[derive(Debug, Drop)]
 pub struct FlowTable {
     /// Whether no group is referred to from an address on.
@@ -32,6 +34,8 @@ pub struct FlowTable {
     pub(crate) loops: Vec<Vec<usize>>,
     /// The bounds of each loop.
     pub(crate) bounds: Vec<Bounds>,
+    /// How many units a run takes from an address on.
+    pub(crate) needs: Needs,
 }
 
 /// Whether each of some numbers is among others.
@@ -103,6 +107,18 @@ impl FlowTable {
         } else {
             Bounds { least: 0, most: 0 }
         }
+    }
+
+    /// How many units a run takes from an address on, at least.
+    ///
+    /// ```rust
+    /// let units = table.need(0);
+    /// ```
+    #[inline]
+    pub fn need(&self, at: usize) -> usize
+        ensures { result ≡ need (needs_of self.now) at }
+    {
+        self.needs.from(at)
     }
 
     /// Whether it may be led from one address to another with the data of all loops as they are.

@@ -1,8 +1,8 @@
 //! Laws of failures, each the contract of a function with an empty body.
-ghost use Rattle.std.specs.Prelude.{◌≡◌, ℕ, true, false, [], ◌∷◌, List, None, Some, Option, All, length};
+ghost use Rattle.std.specs.Prelude.{◌≡◌, ◌<◌, ℕ, true, false, [], ◌∷◌, List, None, Some, Option, All, length};
 ghost use Rattle.regress_meaning.specs.Meaning.{Direction};
 ghost use Rattle.regress_meaning.specs.Inputs.{Input};
-ghost use Rattle.regress_engine_input.specs.Views.{AreOfKind, View, input_of};
+ghost use Rattle.regress_engine_input.specs.Views.{AreOfKind, View, direction_of, input_of};
 ghost use Rattle.regress_engine_insn.specs.Instructions.{Instruction, Program};
 ghost use Rattle.regress_engine_runs.specs.Meets.{referred};
 ghost use Rattle.regress_engine_runs.specs.Runs.{Run, advance};
@@ -18,7 +18,8 @@ ghost use Rattle.regress_engine_memory.specs.Deciding.{Table, flow_of, is_flow};
 ghost use Rattle.regress_engine_memory.specs.Flow.{Flow, IsFlow};
 ghost use Rattle.regress_engine_memory.specs.Held.{FailsIfFree, FailsWith};
 ghost use Rattle.regress_engine_memory.specs.Keys.{AllFail, AreFree, ExitsFail, FailsAt, HaveKey, IsSteady, Key, Keyed};
-ghost use Rattle.regress_engine_memory.specs.Under.{AreUnder};
+ghost use Rattle.regress_engine_memory.specs.Needs.{are_needs, need};
+ghost use Rattle.regress_engine_memory.specs.Under.{AreUnder, room};
 
 /// A table that passes its test tells what is so of the program.
 pub fn tables_are_tested()
@@ -88,4 +89,13 @@ pub fn exits_are_learned()
 pub fn failures_are_kept()
     ensures { (program : Program) → (input : Input) → (keyed : Keyed) → (k : Key) → (ks : List Key) → FailsAt program input keyed k
         → AllFail program input keyed ks → AllFail program input keyed (k ∷ ks) }
+{}
+
+/// A state that is tried where fewer units of the text are left than a run from its address takes leads to what is left to be done,
+/// in fewer steps.
+pub fn short_states_are_dropped()
+    ensures { (needs : List ℕ) → (v : View) → AreOfKind v.kind v.units → (program : Program) → Suits program v → are_needs needs program ≡ true
+        → (p : Spot) → (h : Held) → room (length v.units) (direction_of p.forward) p.offset < need needs p.at
+        → (n : ℕ) → (r : Option Whole) → IsTried program v n r (task program (input_of v) true p h)
+        → Leads program (input_of v) 1 (task program (input_of v) true p h) (task program (input_of v) false p h) }
 {}

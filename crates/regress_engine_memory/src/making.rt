@@ -3,9 +3,11 @@ ghost use Rattle.std.specs.Prelude.{◌≡◌, true, IfOk, IfSome, map};
 ghost use Rattle.regress_engine_insn.specs.Instructions.{Program};
 ghost use Rattle.regress_engine_insn.specs.InsnViews.{instruction};
 ghost use Rattle.regress_engine_memory.specs.Deciding.{is_flow};
-ghost use Rattle.regress_engine_memory.specs.TableViews.{table_of};
+ghost use Rattle.regress_engine_memory.specs.Needs.{are_needs};
+ghost use Rattle.regress_engine_memory.specs.TableViews.{needs_of, table_of};
 
 use crate::flow::{Bounds, FlowTable};
+use crate::needs::Needs;
 use regress_engine_insn::{Insn, LoopFields};
 use std::alloc::{AllocError, Global};
 
@@ -53,6 +55,7 @@ impl FlowTable {
             scopes: Vec::new(alloc),
             loops: scopes,
             bounds,
+            needs: Needs::empty(alloc),
         })
     }
 
@@ -126,20 +129,21 @@ impl FlowTable {
                 regions.push(region)?;
             }
         }
+        table.needs = Needs::suggested(alloc, insns)?;
         Ok(table)
     }
 
-    /// The table of a program with so many loops, where its instructions lead on as it tells. It errs only where memory is refused.
+    /// The table of a program with so many loops, where its instructions lead on and take as much as it tells. It errs only where memory is refused.
     ///
     /// ```rust
     /// let table = FlowTable::of(alloc, program.insns(), program.loops() as usize)?;
     /// ```
     pub fn of(alloc: Global, insns: &[Insn], loops: usize) -> Result<Option<FlowTable>, AllocError>
         ensures { IfOk result (λ found. IfSome found (λ table. (program : Program) → program.instructions ≡ map instruction insns.now
-            → is_flow (table_of table) program ≡ true)) }
+            → (is_flow (table_of table) program ≡ true) × (are_needs (needs_of table) program ≡ true))) }
     {
         let table = FlowTable::suggested(alloc, insns, loops)?;
-        if table.is_flow(insns) {
+        if table.is_flow(insns) && table.needs.are_needs(insns) {
             Ok(Some(table))
         } else {
             Ok(None)
