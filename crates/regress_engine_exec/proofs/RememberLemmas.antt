@@ -23,7 +23,8 @@ use Rattle.regress_engine_memory.specs.Deciding.{is_flow}
 use Rattle.regress_engine_memory.specs.Held.{FailsIfFree}
 use Rattle.regress_engine_memory.specs.Planes.{AreKnown}
 use Rattle.regress_engine_memory.specs.Remembered.{keyed_of}
-use Rattle.regress_engine_memory.specs.TableViews.{table_of}
+use Rattle.regress_engine_memory.specs.Needs.{are_needs}
+use Rattle.regress_engine_memory.specs.TableViews.{needs_of, table_of}
 use Rattle.regress_engine_memory.proofs.Deciding.{decides}
 use Rattle.regress_engine_memory.proofs.HeldLemmas.{learns-held}
 use Rattle.regress_engine_exec.specs.Trying.{World, Steps}
@@ -60,6 +61,7 @@ module _ (w : World) where
       → p.forward ≡ s.forward → length h.loops ≡ w.program.loops → IsUnderWay w false p (pushed (tried s.at s.offset) h) → AreOf w new
   learned old new p s h all suits so same grows turned count (n, r, tries) = record {
     tested = subst (λ t. is_flow (table_of t) w.program ≡ true) (sym same) so.tested;
+    needed = subst (λ t. are_needs (needs_of t) w.program ≡ true) (sym same) so.needed;
     known = grows w.program (input_of w.view) so.known
         (learns-held w.view all w.program suits (keyed_of (table_of old.table)) (decides (table_of old.table) w.program so.tested) p s h turned count n r tries);
   }
@@ -100,5 +102,6 @@ pub remembers-anyway : (w : World) {B : Type 0} (o : Option B) (of : B → Failu
 remembers-anyway w None of t = tt
 remembers-anyway w (Some b) of t = record {
   tested = ∥∥₁_elim t (bool-set (is_flow (table_of (of b).table) w.program) true) (λ x. x.tested);
+  needed = ∥∥₁_elim t (bool-set (are_needs (needs_of (of b).table) w.program) true) (λ x. x.needed);
   known = λ k o p here bit loops groups count has. fails-anyway w.program (input_of w.view) _ _ (∥∥₁_map t (λ x. x.known k o p here bit loops groups count has));
 }

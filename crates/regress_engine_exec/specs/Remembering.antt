@@ -9,13 +9,15 @@ use Rattle.regress_engine_undo.specs.Tasks.{task}
 use Rattle.regress_engine_memory.specs.declared.failures.Failures.{Failures}
 use Rattle.regress_engine_memory.specs.Deciding.{is_flow}
 use Rattle.regress_engine_memory.specs.Planes.{AreKnown}
-use Rattle.regress_engine_memory.specs.TableViews.{table_of}
+use Rattle.regress_engine_memory.specs.Needs.{are_needs}
+use Rattle.regress_engine_memory.specs.TableViews.{needs_of, table_of}
 use Rattle.regress_engine_exec.specs.Trying.{World}
 use Rattle.regress_engine_exec.specs.declared.remembered.Remembered.{Remembered}
 
--- Failures are a world's: their table passes the test with its program, and all that is kept is known to fail in it.
+-- Failures are a world's: their table passes its tests with its program, and all that is kept is known to fail in it.
 pub record AreOf (w : World) (f : Failures) : Type 0 where
   pub tested : is_flow (table_of f.table) w.program ≡ true
+  pub needed : are_needs (needs_of f.table) w.program ≡ true
   pub known : AreKnown w.program (input_of w.view) f
 
 -- what is remembered, if anything, is a world's

@@ -1,6 +1,10 @@
 //! What is remembered of failures, so that a state that surely fails is dropped.
-ghost use Rattle.std.specs.Prelude.{◌≡◌, false, true, IfOk, IfSome, OnOk};
+ghost use Rattle.std.specs.Prelude.{◌≡◌, false, true, length, nat_lt, IfOk, IfSome, OnOk};
 ghost use Rattle.regress_engine_code.specs.Standing.{program_of};
+ghost use Rattle.regress_engine_input.specs.Views.{direction_of};
+ghost use Rattle.regress_engine_memory.specs.Needs.{need};
+ghost use Rattle.regress_engine_memory.specs.TableViews.{needs_of};
+ghost use Rattle.regress_engine_memory.specs.Under.{room};
 ghost use Rattle.regress_engine_search.specs.Search.{Suits};
 ghost use Rattle.regress_engine_undo.specs.Held.{held, undo_of, pushed};
 ghost use Rattle.regress_engine_exec.specs.Attempts.{world};
@@ -58,7 +62,7 @@ impl<'a, Input: ExecutorInput> Attempt<'a, Input> {
     }
 
     /// Whether the state at a spot is known to fail. If not, it is recorded that it is tried, where two ways may lead on.
-    #[inline(never)]
+    #[inline]
     fn is_known(
         &self,
         memory: &mut Memory,
@@ -85,7 +89,46 @@ impl<'a, Input: ExecutorInput> Attempt<'a, Input> {
         Ok(false)
     }
 
-    /// Whether the state at a spot is dropped: where failures are kept, and it is known to fail.
+    /// Whether fewer units of the text are left at a spot than a run from there takes.
+    #[inline]
+    fn is_short(&self, failures: &Failures, spot: &Spot) -> bool
+        ensures { result ≡ nat_lt (room (length (Input.view self.now.input).units) (direction_of spot.now.forward) spot.now.offset)
+            (need (needs_of failures.now.table) spot.now.at) }
+    {
+        let last = self.input.pos_to_offset(self.input.right_end());
+        let left = if spot.forward {
+            last.saturating_sub(spot.offset)
+        } else {
+            spot.offset
+        };
+        left < failures.need(spot.at)
+    }
+
+    /// Whether the state at a spot surely fails: it needs more text than there is, or is known to fail. If not, it may be recorded that
+    /// it is tried.
+    #[inline(never)]
+    fn surely_fails(
+        &self,
+        memory: &mut Memory,
+        failures: &Failures,
+        spot: &Spot,
+    ) -> Result<bool, AllocError>
+        requires suits { Suits (program_of self.now.program.now) (Input.view self.now.input) }
+        requires sound { IsHeldIn (world Input.view self.now) (held memory.old) }
+        requires tried { IsUnderWay (world Input.view self.now) true spot.now (held memory.old) }
+        requires so { AreOf (world Input.view self.now) failures.now }
+        ensures leads { IfOk result (Drops (world Input.view self.now) spot.now (held memory.old) (held memory.new)) }
+        ensures sound { OnOk result (IsHeldIn (world Input.view self.now) (held memory.new)) }
+        ensures loops { OnOk result ((held memory.new).loops ≡ (held memory.old).loops) }
+        ensures groups { OnOk result ((held memory.new).groups ≡ (held memory.old).groups) }
+    {
+        if self.is_short(failures, spot) {
+            return Ok(true);
+        }
+        self.is_known(memory, failures, spot)
+    }
+
+    /// Whether the state at a spot is dropped: where failures are kept, and it surely fails.
     #[inline(always)]
     fn is_dropped(
         &self,
@@ -93,7 +136,9 @@ impl<'a, Input: ExecutorInput> Attempt<'a, Input> {
         remembered: &Remembered,
         spot: &Spot,
     ) -> Result<bool, AllocError>
+        requires suits { Suits (program_of self.now.program.now) (Input.view self.now.input) }
         requires sound { IsHeldIn (world Input.view self.now) (held memory.old) }
+        requires tried { IsUnderWay (world Input.view self.now) true spot.now (held memory.old) }
         requires so { Remembers (world Input.view self.now) remembered.now }
         ensures leads { IfOk result (Drops (world Input.view self.now) spot.now (held memory.old) (held memory.new)) }
         ensures sound { OnOk result (IsHeldIn (world Input.view self.now) (held memory.new)) }
@@ -101,7 +146,7 @@ impl<'a, Input: ExecutorInput> Attempt<'a, Input> {
         ensures groups { OnOk result ((held memory.new).groups ≡ (held memory.old).groups) }
     {
         match &remembered.failures {
-            Some(failures) => self.is_known(memory, failures, spot),
+            Some(failures) => self.surely_fails(memory, failures, spot),
             None => Ok(false),
         }
     }

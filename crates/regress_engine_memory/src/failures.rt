@@ -6,9 +6,10 @@ ghost use Rattle.regress_engine_search.specs.StateViews.{loop_of};
 ghost use Rattle.regress_engine_memory.specs.BitViews.{has};
 ghost use Rattle.regress_engine_memory.specs.Held.{FailsIfFree, FailsWith};
 ghost use Rattle.regress_engine_memory.specs.Keys.{FailsAt};
+ghost use Rattle.regress_engine_memory.specs.Needs.{need};
 ghost use Rattle.regress_engine_memory.specs.Planes.{AreKnown, IsPlaneOf, key_in};
 ghost use Rattle.regress_engine_memory.specs.Remembered.{keyed_of};
-ghost use Rattle.regress_engine_memory.specs.TableViews.{table_of};
+ghost use Rattle.regress_engine_memory.specs.TableViews.{needs_of, table_of};
 
 use crate::bits::Bits;
 use crate::flow::FlowTable;
@@ -57,6 +58,18 @@ impl Failures {
             heads: Vec::new(alloc),
             room,
         }
+    }
+
+    /// How many units a run takes from an address on, at least.
+    ///
+    /// ```rust
+    /// let units = failures.need(0);
+    /// ```
+    #[inline]
+    pub fn need(&self, at: usize) -> usize
+        ensures { result ≡ need (needs_of self.now.table) at }
+    {
+        self.table.need(at)
     }
 
     /// The plane of a spot and of the loops that are held, if there is one.
