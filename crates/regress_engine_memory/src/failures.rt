@@ -17,6 +17,9 @@ use regress_engine_undo::Spot;
 use regress_front_core::LoopData;
 use std::alloc::{AllocError, Global};
 
+/// At most so many planes of an address are looked at, those that were made last. A loop of very many iterations has one for each.
+const MOST_TRIED: usize = 1024;
+
 /// An address, read in a direction, with the classes of the loops that are live there, and the offsets at which it fails.
 #[derive(Debug, Drop)]
 pub struct Plane {
@@ -82,7 +85,7 @@ impl Failures {
         } else {
             None
         };
-        for _ in 0..self.planes.len() {
+        for _ in 0..self.planes.len().min(MOST_TRIED) {
             let k = next?;
             if k >= self.planes.len() {
                 return None;
