@@ -3,7 +3,6 @@
 
 mod ahead;
 mod ascii;
-mod before;
 mod class;
 mod far;
 mod sparing;
@@ -12,7 +11,6 @@ mod taken;
 mod taking;
 
 pub use ahead::as_far_ahead;
-pub use before::taken_before;
 pub use class::ScannedBracket;
 pub use far::scan_while;
 pub use sparing::{is_possessive, turn_at};
