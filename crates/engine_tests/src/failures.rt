@@ -120,6 +120,9 @@ const HOSTILE: &[HostileRow] = &[
     ("(?<=b(?:a|a)*)c", "a", 1000, "c", None),
     ("(?:(a|a){127}!)+?", "a", 200, "", None),
     ("(?:a|aa){200}b", "a", 300, "", None),
+    // Fewer characters are left than a match needs.
+    ("(?:a?){300}a{300}", "a", 299, "", None),
+    (r"^(x|){65536,}?\n", "x", 1, "", None),
     // What is known of an iteration that has taken nothing is not known of one that has.
     ("(?:x|x)*y|a?(?=(?:a?)*b)a", "x", 30, "ab", Some((30, 31))),
 ];
