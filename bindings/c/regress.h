@@ -458,7 +458,8 @@ static inline int32_t regress_escape(const char *text, size_t length, char *buff
  * ------------------------------------------------------------------------------------------------------------------------- */
 
 /* Puts a search of a pattern into `out`. It keeps its memory from one call to the next, so that once it has searched, searches
- * like that one request none. It needs the handle of the pattern no more. The caller keeps: no other call has either handle. */
+ * like that one request none, but where they go back so often that they remember what fails. It needs the handle of the pattern
+ * no more. The caller keeps: no other call has either handle. */
 static inline int32_t regress_search_new(regress_pattern *pattern, regress_search *out) {
   if (pattern == NULL || out == NULL) return REGRESS_NULL;
   if (pattern == out) return REGRESS_SAME_HANDLE;
