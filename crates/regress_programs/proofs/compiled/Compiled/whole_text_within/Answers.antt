@@ -13,13 +13,9 @@ of_tree-requires c = let (p, small) = c.in_ok-tree.ensures.accepted in (length (
 
 pub returns-clause-accepted : goal.returns-clause-accepted
 returns-clause-accepted c =
-    let (p, small) = c.in_ok-tree.ensures.accepted in (
-      p,
-      small.of_text.spelled,
-      small.of_text.within,
-      small.within,
-      c.in_ok-of_tree.ensures.accepted whole_text _ _ _ p (small.of_text, ap table c.in_ok-tree.ensures.kept.1, ap options c.in_ok-tree.ensures.kept.0),
-    )
+    let (p, small) = c.in_ok-tree.ensures.accepted in
+    let (bytes, units) = c.in_ok-of_tree.ensures.accepted whole_text (table c.args.tables.now) (options c.args.flags) c.args.points.now p (small.of_text, ap table c.in_ok-tree.ensures.kept.1, ap options c.in_ok-tree.ensures.kept.0) in
+    (p, small.of_text.spelled, small.of_text.within, small.within, bytes, units)
 
 pub returns-clause-small : goal.returns-clause-small
 returns-clause-small c =
@@ -29,24 +25,24 @@ returns-clause-small c =
 pub returns-in_err-tree-clause-refused : goal.returns-in_err-tree-clause-refused
 returns-in_err-tree-clause-refused c =
     let answered = err_from_is_err_and c.from_residual.result c.from_residual.ensures.1 in
-    rw (answered.1, answered.2) (read-refused-within c.args.limit whole_text _ _ _ _ c.in_err-tree.ensures.refused)
+    rw (answered.1, answered.2) (read-refused-within c.args.limit whole_text (table c.args.tables.now) (options c.args.flags) c.args.points.now c.in_err-tree.field-0.0 c.in_err-tree.ensures.refused)
 
 pub returns-in_err-tree-clause-fits : goal.returns-in_err-tree-clause-fits
 returns-in_err-tree-clause-fits c = λ plain short.
     let answered = err_from_is_err_and c.from_residual.result c.from_residual.ensures.1 in
-    let refused = read-refused-within c.args.limit whole_text _ _ _ _ c.in_err-tree.ensures.refused in
-    rw (answered.1, answered.2) (refused-fits-within c.args.limit whole_text _ _ _ _ refused plain short)
+    let refused = read-refused-within c.args.limit whole_text (table c.args.tables.now) (options c.args.flags) c.args.points.now c.in_err-tree.field-0.0 c.in_err-tree.ensures.refused in
+    rw (answered.1, answered.2) (refused-fits-within c.args.limit whole_text (table c.args.tables.now) (options c.args.flags) c.args.points.now c.in_err-tree.field-0.0 refused plain short)
 
 pub returns-in_err-of_tree-clause-refused : goal.returns-in_err-of_tree-clause-refused
 returns-in_err-of_tree-clause-refused c =
     let (p, small) = c.in_ok-tree.ensures.accepted in
-    let refused = c.in_err-of_tree.ensures.refused whole_text _ _ _ p (small.of_text, ap table c.in_ok-tree.ensures.kept.1, ap options c.in_ok-tree.ensures.kept.0) in
+    let refused = c.in_err-of_tree.ensures.refused whole_text (table c.args.tables.now) (options c.args.flags) c.args.points.now p (small.of_text, ap table c.in_ok-tree.ensures.kept.1, ap options c.in_ok-tree.ensures.kept.0) in
     let answered = err_from_is_err_and c.from_residual-in_err-of_tree.result c.from_residual-in_err-of_tree.ensures.1 in
     rw (answered.1, answered.2) refused
 
 pub returns-in_err-of_tree-clause-fits : goal.returns-in_err-of_tree-clause-fits
 returns-in_err-of_tree-clause-fits c = λ plain short.
     let (p, small) = c.in_ok-tree.ensures.accepted in
-    let refused = c.in_err-of_tree.ensures.refused whole_text _ _ _ p (small.of_text, ap table c.in_ok-tree.ensures.kept.1, ap options c.in_ok-tree.ensures.kept.0) in
+    let refused = c.in_err-of_tree.ensures.refused whole_text (table c.args.tables.now) (options c.args.flags) c.args.points.now p (small.of_text, ap table c.in_ok-tree.ensures.kept.1, ap options c.in_ok-tree.ensures.kept.0) in
     let answered = err_from_is_err_and c.from_residual-in_err-of_tree.result c.from_residual-in_err-of_tree.ensures.1 in
-    rw (answered.1, answered.2) (refused-fits-within c.args.limit whole_text _ _ _ (Refused c.in_err-of_tree.field-0) refused plain short)
+    rw (answered.1, answered.2) (refused-fits-within c.args.limit whole_text (table c.args.tables.now) (options c.args.flags) c.args.points.now (Refused c.in_err-of_tree.field-0.0) refused plain short)
