@@ -6,7 +6,7 @@ use Rattle.regress.proofs.api.Regex.from_unicode_with_limit.Goals as goal
 
 pub returns-clause-accepted : goal.returns-clause-accepted
 returns-clause-accepted c =
-    let (p, spelled, within, cheap, programs) = c.in_ok-compiled.ensures.accepted in (p, spelled, within, twice-within _ c.args.limit cheap, programs)
+    let (p, spelled, within, cheap, bytes, units) = c.in_ok-compiled.ensures.accepted in (p, spelled, within, twice-within _ c.args.limit cheap, bytes, units)
 
 pub returns-clause-small : goal.returns-clause-small
 returns-clause-small c =

@@ -15,7 +15,7 @@ whole_text_within-requires c = rw (c.deref.ensures.value, c.in_ok-points.ensures
 pub returns-clause-accepted : goal.returns-clause-accepted
 returns-clause-accepted c =
     rw (← c.in_ok-points.ensures, ← c.deref.ensures.value)
-    (let (p, spelled, within, cheap, programs) = c.in_ok-compiled.ensures.accepted in (p, spelled, within, twice-within _ c.args.limit cheap, programs))
+    (let (p, spelled, within, cheap, bytes, units) = c.in_ok-compiled.ensures.accepted in (p, spelled, within, twice-within _ c.args.limit cheap, bytes, units))
 
 pub returns-clause-small : goal.returns-clause-small
 returns-clause-small c =
@@ -28,7 +28,7 @@ returns-in_err-compiled-clause-refused c =
     let answered = err_from_is_err_and c.from_residual-in_err-compiled.result c.from_residual-in_err-compiled.ensures.1 in
     let refused = refused-as c.args.limit whole_text t o _ _ c.in_err-compiled.ensures.refused in
     rw (answered.1, answered.2)
-    (subst (λ (points : List ℕ). MayRefuseWithin c.args.limit whole_text t o points (compile_error_of c.in_err-compiled.field-0))
+    (subst (λ (points : List ℕ). MayRefuseWithin c.args.limit whole_text t o points (compile_error_of c.in_err-compiled.field-0.0))
     (c.deref.ensures.value ∙ c.in_ok-points.ensures) refused)
 
 pub returns-in_err-compiled-clause-fits : goal.returns-in_err-compiled-clause-fits
