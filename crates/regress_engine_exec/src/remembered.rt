@@ -4,7 +4,7 @@ ghost use Rattle.regress_engine_code.specs.Standing.{program_of};
 ghost use Rattle.regress_engine_search.specs.Search.{Suits};
 ghost use Rattle.regress_engine_undo.specs.Held.{held, undo_of, pushed};
 ghost use Rattle.regress_engine_exec.specs.Attempts.{world};
-ghost use Rattle.regress_engine_exec.specs.Remembering.{AreOf, Drops, IsUnderWay, Remembers};
+ghost use Rattle.regress_engine_exec.specs.Remembering.{AreOf, Begins, Drops, IsUnderWay, MayUndo, Remembers};
 ghost use Rattle.regress_engine_exec.specs.Trying.{IsHeldIn, Steps, World};
 
 use crate::attempt::Attempt;
@@ -24,6 +24,8 @@ pub(crate) struct Remembered {
     alloc: Global,
     /// How often runs may still go back before failures are kept; 0 where that has been begun.
     spare: usize,
+    /// How many places one-character loops have passed over since runs went back, and four for each record that was undone.
+    pub(crate) passed: usize,
     /// What is known to fail, where it is kept.
     failures: Option<Box<Failures>>,
 }
@@ -37,6 +39,7 @@ impl Remembered {
         Remembered {
             alloc,
             spare: length.saturating_add(64).saturating_mul(16),
+            passed: 0,
             failures: None,
         }
     }
@@ -45,7 +48,7 @@ impl Remembered {
 impl<'a, Input: ExecutorInput> Attempt<'a, Input> {
     /// Whether the instruction at an address chooses between ways.
     #[inline]
-    fn is_choice(&self, at: usize) -> bool {
+    pub(crate) fn is_choice(&self, at: usize) -> bool {
         matches!(
             self.program.insns().get(at),
             Some(
@@ -85,24 +88,58 @@ impl<'a, Input: ExecutorInput> Attempt<'a, Input> {
         Ok(false)
     }
 
-    /// Whether the state at a spot is dropped: where failures are kept, and it is known to fail.
-    #[inline(always)]
-    fn is_dropped(
+    /// Begins the instruction at a spot where failures are kept: drops the state there if it is known to fail, or does a
+    /// one-character loop. It answers whether it continues, or `None` where the instruction is still to be done.
+    #[inline(never)]
+    fn begin_known(
         &self,
         memory: &mut Memory,
-        remembered: &Remembered,
-        spot: &Spot,
-    ) -> Result<bool, AllocError>
+        failures: &mut Failures,
+        spot: &mut Spot,
+    ) -> Result<Option<bool>, AllocError>
+        requires suits { Suits (program_of self.now.program.now) (Input.view self.now.input) }
         requires sound { IsHeldIn (world Input.view self.now) (held memory.old) }
-        requires so { Remembers (world Input.view self.now) remembered.now }
-        ensures leads { IfOk result (Drops (world Input.view self.now) spot.now (held memory.old) (held memory.new)) }
+        requires tried { IsUnderWay (world Input.view self.now) true spot.old (held memory.old) }
+        requires so { AreOf (world Input.view self.now) failures.old }
+        ensures leads { IfOk result (Begins (world Input.view self.now) spot.old (held memory.old) spot.new (held memory.new)) }
         ensures sound { OnOk result (IsHeldIn (world Input.view self.now) (held memory.new)) }
-        ensures loops { OnOk result ((held memory.new).loops ≡ (held memory.old).loops) }
-        ensures groups { OnOk result ((held memory.new).groups ≡ (held memory.old).groups) }
+        ensures so { AreOf (world Input.view self.now) failures.new }
     {
-        match &remembered.failures {
-            Some(failures) => self.is_known(memory, failures, spot),
-            None => Ok(false),
+        if self.is_known(memory, failures, spot)? {
+            return Ok(Some(false));
+        }
+        if let Some(Insn::Loop1CharBody {
+            min_iters,
+            max_iters,
+            greedy,
+        }) = self.program.insns().get(spot.at)
+        {
+            let going =
+                self.repeat_known(*min_iters, *max_iters, *greedy, memory, failures, spot)?;
+            return Ok(Some(going));
+        }
+        Ok(None)
+    }
+
+    /// Begins the instruction at a spot, if failures are kept.
+    #[inline(always)]
+    fn begin(
+        &self,
+        memory: &mut Memory,
+        remembered: &mut Remembered,
+        spot: &mut Spot,
+    ) -> Result<Option<bool>, AllocError>
+        requires suits { Suits (program_of self.now.program.now) (Input.view self.now.input) }
+        requires sound { IsHeldIn (world Input.view self.now) (held memory.old) }
+        requires tried { IsUnderWay (world Input.view self.now) true spot.old (held memory.old) }
+        requires so { Remembers (world Input.view self.now) remembered.old }
+        ensures leads { IfOk result (Begins (world Input.view self.now) spot.old (held memory.old) spot.new (held memory.new)) }
+        ensures sound { OnOk result (IsHeldIn (world Input.view self.now) (held memory.new)) }
+        ensures so { Remembers (world Input.view self.now) remembered.new }
+    {
+        match &mut remembered.failures {
+            Some(failures) => self.begin_known(memory, failures, spot),
+            None => Ok(None),
         }
     }
 
@@ -112,20 +149,21 @@ impl<'a, Input: ExecutorInput> Attempt<'a, Input> {
         &self,
         memory: &mut Memory,
         answer: &mut Vec<GroupData<usize>>,
-        remembered: &Remembered,
+        remembered: &mut Remembered,
         spot: &mut Spot,
     ) -> Result<Option<bool>, AllocError>
         requires suits { Suits (program_of self.now.program.now) (Input.view self.now.input) }
         requires sound { IsHeldIn (world Input.view self.now) (held memory.old) }
         requires tried { IsUnderWay (world Input.view self.now) true spot.old (held memory.old) }
-        requires so { Remembers (world Input.view self.now) remembered.now }
+        requires so { Remembers (world Input.view self.now) remembered.old }
         ensures leads { IfOk result (Steps (world Input.view self.now) spot.old (held memory.old) spot.new (held memory.new)) }
         ensures sound { IfOk result (λ left. IfSome left (λ going. IsHeldIn (world Input.view self.now) (held memory.new))) }
+        ensures so { Remembers (world Input.view self.now) remembered.new }
     {
-        if self.is_dropped(memory, remembered, spot)? {
-            return Ok(Some(false));
+        if let Some(going) = self.begin(memory, remembered, spot)? {
+            return Ok(Some(going));
         }
-        let left = self.step(memory, answer, spot)?;
+        let left = self.step(memory, answer, &mut remembered.passed, spot)?;
         Ok(left)
     }
 
@@ -148,7 +186,7 @@ impl<'a, Input: ExecutorInput> Attempt<'a, Input> {
         }
     }
 
-    /// Counts that a run goes back. Where that was often, failures are kept from now on.
+    /// Counts that a run goes back, and the places passed over since. Where that was often, failures are kept from now on.
     #[inline]
     pub(crate) fn count_back(&self, remembered: &mut Remembered)
         requires { Remembers (world Input.view self.now) remembered.old }
@@ -157,7 +195,9 @@ impl<'a, Input: ExecutorInput> Attempt<'a, Input> {
         if remembered.spare == 0 {
             return;
         }
-        remembered.spare -= 1;
+        let count = 1 + remembered.passed / 4;
+        remembered.passed = 0;
+        remembered.spare = remembered.spare.saturating_sub(count);
         if remembered.spare == 0 {
             remembered.failures = self.nothing_known(remembered.alloc);
         }
@@ -191,5 +231,57 @@ impl<'a, Input: ExecutorInput> Attempt<'a, Input> {
             forward: spot.forward,
         };
         failures.learn(&there, memory.loops(), last);
+    }
+
+    /// Undoes a record of a one-character loop where failures are kept. It answers whether there is a state to be tried, or `None`
+    /// of another record, which is still to be undone.
+    #[inline(never)]
+    fn undo_known(
+        &self,
+        undo: &Undo,
+        memory: &mut Memory,
+        failures: &mut Failures,
+        spot: &mut Spot,
+    ) -> Result<Option<bool>, AllocError>
+        requires suits { Suits (program_of self.now.program.now) (Input.view self.now.input) }
+        requires sound { IsHeldIn (world Input.view self.now) (pushed (undo_of undo.now) (held memory.old)) }
+        requires so { AreOf (world Input.view self.now) failures.old }
+        ensures leads { IfOk result (MayUndo (world Input.view self.now) (undo_of undo.now) spot.old (held memory.old) spot.new (held memory.new)) }
+        ensures sound { OnOk result (IsHeldIn (world Input.view self.now) (held memory.new)) }
+        ensures so { AreOf (world Input.view self.now) failures.new }
+    {
+        match undo {
+            Undo::GiveBack { at, near, far } => {
+                let going = self.give_back_known(*at, *near, *far, memory, failures, spot)?;
+                Ok(Some(going))
+            }
+            Undo::TakeOn { at, offset, left } => {
+                let going = self.take_on_known(*at, *offset, *left, memory, failures, spot)?;
+                Ok(Some(going))
+            }
+            _ => Ok(None),
+        }
+    }
+
+    /// Undoes a record of a one-character loop, if failures are kept.
+    #[inline(always)]
+    pub(crate) fn undo_loop(
+        &self,
+        undo: &Undo,
+        memory: &mut Memory,
+        remembered: &mut Remembered,
+        spot: &mut Spot,
+    ) -> Result<Option<bool>, AllocError>
+        requires suits { Suits (program_of self.now.program.now) (Input.view self.now.input) }
+        requires sound { IsHeldIn (world Input.view self.now) (pushed (undo_of undo.now) (held memory.old)) }
+        requires so { Remembers (world Input.view self.now) remembered.old }
+        ensures leads { IfOk result (MayUndo (world Input.view self.now) (undo_of undo.now) spot.old (held memory.old) spot.new (held memory.new)) }
+        ensures sound { OnOk result (IsHeldIn (world Input.view self.now) (held memory.new)) }
+        ensures so { Remembers (world Input.view self.now) remembered.new }
+    {
+        match &mut remembered.failures {
+            Some(failures) => self.undo_known(undo, memory, failures, spot),
+            None => Ok(None),
+        }
     }
 }
