@@ -19,9 +19,13 @@ use Rattle.regress_engine_undo.specs.Tasks.{task}
 use Rattle.regress_engine_undo.proofs.BackLemmas.{take_on-last, take_on-more}
 use Rattle.regress_engine_memory.specs.Held.{ExitsFailWith, FailsWith}
 use Rattle.regress_engine_memory.specs.Keys.{Keyed, class_of}
+use Rattle.regress_engine_memory.specs.Remembered.{keyed_of}
+use Rattle.regress_engine_memory.specs.TableViews.{table_of}
+use Rattle.regress_engine_memory.specs.declared.failures.Failures.{Failures}
 use Rattle.regress_engine_memory.proofs.Cutting.{far-after, given-far, given-over, taken-over}
-use Rattle.regress_engine_memory.proofs.HeldLemmas.{known-held}
+use Rattle.regress_engine_memory.proofs.HeldLemmas.{exits-end, exits-more, known-held}
 use Rattle.regress_engine_exec.specs.Trying.{World, GoesBack}
+use Rattle.regress_engine_exec.specs.Remembering.{IsBodyOf, RestFails}
 use Rattle.regress_engine_exec.proofs.WayLemmas.{leads-fewer}
 
 -- what leads nowhere fails, whatever is held
@@ -29,6 +33,12 @@ pub dead-fails : (program : Program) (input : Input) (keyed : Keyed) (s : Spot) 
     → FailsWith program input keyed s loops
 dead-fails program input keyed s loops dead =
     (λ id. class_of keyed id (get_or loops id (0, 0)).0, λ ls gs count has. fail-none program input (dead ls gs), λ id live. refl)
+
+-- from an exit on all fail, where it does, and what follows it
+pub exits-known : (w : World) (f : Failures) (i : Instruction) (s : Spot) (h : Held) → IsBodyOf w s.at i → FailsWith w.program (input_of w.view) (keyed_of (table_of f.table)) s h.loops
+    → RestFails w f i s h → ExitsFailWith w.program (input_of w.view) (keyed_of (table_of f.table)) s h.loops
+exits-known w f i s h body fails (inl stops) = exits-end w.program (input_of w.view) (keyed_of (table_of f.table)) s h.loops i body.0 body.1 h.groups fails stops
+exits-known w f i s h body fails (inr (q, on, known)) = exits-more w.program (input_of w.view) (keyed_of (table_of f.table)) s h.loops i body.0 body.1 h.groups fails q on known
 
 module _ (program : Program) (v : View) (keyed : Keyed) (h : Held) (count : length h.loops ≡ program.loops) (forward : Bool) (at : ℕ) (i : Instruction) (here : Stands program (at - 1) i) where
   abbrev input : Input

@@ -1,5 +1,5 @@
 -- What an executor remembers of failures.
-use Rattle.std.specs.Prelude.{◌≡◌, ℕ, ◌-◌, ◌<◌, Bool, true, false, Option, Some, None, IfSome, if◌then◌else◌}
+use Rattle.std.specs.Prelude.{◌≡◌, ℕ, ◌-◌, ◌<◌, Bool, true, false, Option, Some, None, IfSome, if◌then◌else◌, ◌⊎◌}
 use Rattle.regress_engine_input.specs.Views.{direction_of, input_of}
 use Rattle.regress_engine_insn.specs.Instructions.{Instruction, Stands}
 use Rattle.regress_engine_runs.specs.Closed.{takes_character}
@@ -13,9 +13,11 @@ use Rattle.regress_engine_undo.specs.Dead.{given_from}
 use Rattle.regress_engine_undo.specs.Tasks.{task}
 use Rattle.regress_engine_memory.specs.declared.failures.Failures.{Failures}
 use Rattle.regress_engine_memory.specs.Deciding.{is_flow}
+use Rattle.regress_engine_memory.specs.Held.{ExitsFailWith}
 use Rattle.regress_engine_memory.specs.Planes.{AreKnown}
+use Rattle.regress_engine_memory.specs.Remembered.{keyed_of}
 use Rattle.regress_engine_memory.specs.TableViews.{table_of}
-use Rattle.regress_engine_exec.specs.Trying.{World, GoesBack, Steps, Undoes}
+use Rattle.regress_engine_exec.specs.Trying.{World, advanced, GoesBack, Steps, Undoes}
 use Rattle.regress_engine_exec.specs.declared.exits.Exit.{Exit}
 use Rattle.regress_engine_exec.specs.declared.remembered.Remembered.{Remembered}
 
@@ -53,6 +55,11 @@ MayUndo w u p h q k (Some going) = Undoes w u p h q k going × (going ≡ false 
 -- what a one-character loop repeats that goes on at an address
 abbrev pub IsBodyOf : World → (at : ℕ) → Instruction → Type 0
 IsBodyOf w at i = Stands w.program (at - 1) i × (takes_character i ≡ true) × (0 < at)
+
+-- no exit follows one, behind one more iteration, or it is known that all that follow fail
+abbrev pub RestFails : World → Failures → Instruction → Spot → Held → Type 0
+RestFails w f i s h = (advanced w i s.forward h.groups s.offset ≡ None)
+    ⊎ ((q : ℕ) × (advanced w i s.forward h.groups s.offset ≡ Some q) × ExitsFailWith w.program (input_of w.view) (keyed_of (table_of f.table)) (record s { offset = q }) h.loops)
 
 -- what is held, with the record of an exit, if it may lead on
 abbrev pub taken_up : (at : ℕ) → Exit → Held → Held

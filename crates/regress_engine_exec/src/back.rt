@@ -324,6 +324,31 @@ impl<'a, Input: ExecutorInput> Attempt<'a, Input> {
         }
     }
 
+    /// Undoes a record, and answers whether there is a state to be tried. Where failures are kept, those of the exits of
+    /// one-character loops are learned.
+    #[inline(always)]
+    fn undo_one(
+        &self,
+        undo: Undo,
+        memory: &mut Memory,
+        remembered: &mut Remembered,
+        spot: &mut Spot,
+    ) -> Result<bool, AllocError>
+        requires suits { Suits (program_of self.now.program.now) (Input.view self.now.input) }
+        requires sound { IsHeldIn (world Input.view self.now) (pushed (undo_of undo) (held memory.old)) }
+        requires so { Remembers (world Input.view self.now) remembered.old }
+        ensures leads { IfOk result (Undoes (world Input.view self.now) (undo_of undo) spot.old (held memory.old) spot.new (held memory.new)) }
+        ensures sound { OnOk result (IsHeldIn (world Input.view self.now) (held memory.new)) }
+        ensures rest { IfOk result (λ going. going ≡ false → (held memory.new).stack ≡ (held memory.old).stack) }
+        ensures so { Remembers (world Input.view self.now) remembered.new }
+    {
+        if let Some(going) = self.undo_loop(&undo, memory, remembered, spot)? {
+            return Ok(going);
+        }
+        let going = self.undo(undo, &mut remembered.passed, memory, spot)?;
+        Ok(going)
+    }
+
     /// Undoes records until there is a state to be tried, and answers whether there is one. What they show to fail is remembered.
     pub(crate) fn back(
         &self,
@@ -344,14 +369,13 @@ impl<'a, Input: ExecutorInput> Attempt<'a, Input> {
         while let Some(undo) = memory.pop() {
             remembered.passed = remembered.passed.saturating_add(4);
             self.learn(&undo, memory, remembered, spot);
-            let going = match self.undo_loop(&undo, memory, remembered, spot)? {
-                Some(going) => going,
-                None => self.undo(undo, &mut remembered.passed, memory, spot)?,
-            };
-            if going {
+            if self.undo_one(undo, memory, remembered, spot)? {
                 return Ok(true);
             }
         }
+        remembered.passed = remembered
+            .passed
+            .saturating_add(spot.offset.abs_diff(self.start));
         Ok(false)
     }
 }

@@ -13,7 +13,7 @@ ghost use Rattle.regress_engine_memory.specs.Held.{FailsWith};
 ghost use Rattle.regress_engine_memory.specs.Remembered.{keyed_of};
 ghost use Rattle.regress_engine_memory.specs.TableViews.{table_of};
 ghost use Rattle.regress_engine_exec.specs.Attempts.{world};
-ghost use Rattle.regress_engine_exec.specs.Remembering.{AreOf, Drops, GivesUpTo, IsBodyOf, TakesUp};
+ghost use Rattle.regress_engine_exec.specs.Remembering.{AreOf, Drops, GivesUpTo, IsBodyOf, RestFails, TakesUp};
 ghost use Rattle.regress_engine_exec.specs.Trying.{Does, IsHeldIn, Undoes};
 
 use crate::attempt::Attempt;
@@ -39,12 +39,14 @@ impl<'a, Input: ExecutorInput> Attempt<'a, Input> {
         requires suits { Suits (program_of self.now.program.now) (Input.view self.now.input) }
         ensures { IfSome result (λ body. IsBodyOf (world Input.view self.now) at (instruction body.now)) }
     {
-        let before = at.checked_sub(2)?;
         let insns = self.program.insns();
-        match insns.get(before) {
-            Some(Insn::Loop1CharBody { .. }) => insns.get(before + 1),
-            _ => None,
+        if at < 2 || at - 1 >= insns.len() {
+            return None;
         }
+        if let Insn::Loop1CharBody { .. } = &insns[at - 2] {
+            return Some(&insns[at - 1]);
+        }
+        None
     }
 
     /// Whether an exit of a one-character loop surely fails: what is taken first there doesn't stand, or it is known.
@@ -72,6 +74,39 @@ impl<'a, Input: ExecutorInput> Attempt<'a, Input> {
         failures.is_known(exit, memory.loops())
     }
 
+    /// Whether no exit of a one-character loop follows one, or it is known that all that follow fail.
+    fn is_rest_known(
+        &self,
+        body: &Insn,
+        exit: &Spot,
+        memory: &Memory,
+        failures: &Failures,
+    ) -> bool
+        requires suits { Suits (program_of self.now.program.now) (Input.view self.now.input) }
+        requires sound { IsHeldIn (world Input.view self.now) (held memory.now) }
+        requires so { AreOf (world Input.view self.now) failures.now }
+        requires body { IsBodyOf (world Input.view self.now) exit.now.at (instruction body.now) }
+        requires place { IsAtPlace (reading_of (Input.view self.now.input)) exit.now.offset }
+        ensures { result ≡ true → RestFails (world Input.view self.now) failures.now (instruction body.now) exit.now (held memory.now) }
+    {
+        let Some(next) = advance(
+            self.program,
+            &self.input,
+            body,
+            exit.forward,
+            &memory.groups,
+            exit.offset,
+        ) else {
+            return true;
+        };
+        let further = Spot {
+            at: exit.at,
+            offset: next,
+            forward: exit.forward,
+        };
+        failures.are_exits_known(&further, memory.loops())
+    }
+
     /// Learns that all exits of a one-character loop from one on fail, where it fails, and that of the next one is known, if
     /// there is one. It answers whether that is new.
     fn learn_exit(
@@ -90,25 +125,9 @@ impl<'a, Input: ExecutorInput> Attempt<'a, Input> {
     {
         if failures.are_exits_known(exit, memory.loops())
             || !self.exit_fails(exit, memory, failures)
+            || !self.is_rest_known(body, exit, memory, failures)
         {
             return false;
-        }
-        if let Some(next) = advance(
-            self.program,
-            &self.input,
-            body,
-            exit.forward,
-            &memory.groups,
-            exit.offset,
-        ) {
-            let further = Spot {
-                at: exit.at,
-                offset: next,
-                forward: exit.forward,
-            };
-            if !failures.are_exits_known(&further, memory.loops()) {
-                return false;
-            }
         }
         failures.learn_exits(exit, memory.loops());
         failures.are_exits_known(exit, memory.loops())
@@ -161,22 +180,28 @@ impl<'a, Input: ExecutorInput> Attempt<'a, Input> {
         let Some(body) = self.body_before(at) else {
             return;
         };
-        let mut from = Spot {
+        let last = Spot {
             at,
             offset: far,
             forward,
         };
-        if let Some(next) = advance(
+        let Some(next) = advance(
             self.program,
             &self.input,
             body,
             forward,
             &memory.groups,
             far,
-        ) {
-            from.offset = next;
-        }
-        self.learn_back(body, &from, memory, failures);
+        ) else {
+            self.learn_back(body, &last, memory, failures);
+            return;
+        };
+        let failed = Spot {
+            at,
+            offset: next,
+            forward,
+        };
+        self.learn_back(body, &failed, memory, failures);
     }
 
     /// Records that the state at a spot is tried, unless its instruction does so itself.

@@ -24,7 +24,8 @@ pub(crate) struct Remembered {
     alloc: Global,
     /// How often runs may still go back before failures are kept; 0 where that has been begun.
     spare: usize,
-    /// How many places one-character loops have passed over since runs went back, and four for each record that was undone.
+    /// How many places were passed over since runs went back, by one-character loops and by runs that failed, and four for each
+    /// record that was undone.
     pub(crate) passed: usize,
     /// What is known to fail, where it is kept.
     failures: Option<Box<Failures>>,
@@ -89,7 +90,7 @@ impl<'a, Input: ExecutorInput> Attempt<'a, Input> {
     }
 
     /// Begins the instruction at a spot where failures are kept: drops the state there if it is known to fail, or does a
-    /// one-character loop. It answers whether it continues, or `None` where the instruction is still to be done.
+    /// one-character loop that may take the whole text. It answers whether it continues, or `None` where the instruction is still to be done.
     #[inline(never)]
     fn begin_known(
         &self,
@@ -108,17 +109,19 @@ impl<'a, Input: ExecutorInput> Attempt<'a, Input> {
         if self.is_known(memory, failures, spot)? {
             return Ok(Some(false));
         }
-        if let Some(Insn::Loop1CharBody {
+        let Insn::Loop1CharBody {
             min_iters,
             max_iters,
             greedy,
-        }) = self.program.insns().get(spot.at)
-        {
-            let going =
-                self.repeat_known(*min_iters, *max_iters, *greedy, memory, failures, spot)?;
-            return Ok(Some(going));
+        } = self.instruction(spot.at)
+        else {
+            return Ok(None);
+        };
+        if *max_iters < self.input.pos_to_offset(self.input.right_end()) {
+            return Ok(None);
         }
-        Ok(None)
+        let going = self.repeat_known(*min_iters, *max_iters, *greedy, memory, failures, spot)?;
+        Ok(Some(going))
     }
 
     /// Begins the instruction at a spot, if failures are kept.
