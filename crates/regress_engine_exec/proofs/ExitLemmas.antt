@@ -6,6 +6,7 @@ use Rattle.regress_engine_insn.specs.Instructions.{Instruction, Program, Stands}
 use Rattle.regress_engine_runs.specs.States.{Marks}
 use Rattle.regress_engine_runs.specs.Runs.{advance, after_times, as_far}
 use Rattle.regress_engine_runs.specs.UndoStack.{give_back, take_on}
+use Rattle.regress_engine_runs.proofs.RunViews.{one_stands}
 use Rattle.regress_engine_runs.proofs.Iterations.{far-all, far-stops}
 use Rattle.regress_engine_search.specs.Ready.{IsBody}
 use Rattle.regress_engine_search.specs.Search.{Suits}
@@ -15,6 +16,7 @@ use Rattle.regress_engine_singles.specs.Failing.{IsDead}
 use Rattle.regress_engine_singles.proofs.Failures.{fail-none}
 use Rattle.regress_engine_undo.specs.declared.undo.Spot.{Spot}
 use Rattle.regress_engine_undo.specs.Held.{Held, pushed}
+use Rattle.regress_engine_undo.specs.Dead.{given_from}
 use Rattle.regress_engine_undo.specs.Tasks.{task}
 use Rattle.regress_engine_undo.proofs.BackLemmas.{take_on-last, take_on-more}
 use Rattle.regress_engine_memory.specs.Held.{ExitsFailWith, FailsWith}
@@ -25,7 +27,7 @@ use Rattle.regress_engine_memory.specs.declared.failures.Failures.{Failures}
 use Rattle.regress_engine_memory.proofs.Cutting.{far-after, given-far, given-over, taken-over}
 use Rattle.regress_engine_memory.proofs.HeldLemmas.{exits-end, exits-more, known-held}
 use Rattle.regress_engine_exec.specs.Trying.{World, GoesBack}
-use Rattle.regress_engine_exec.specs.Remembering.{IsBodyOf, RestFails}
+use Rattle.regress_engine_exec.specs.Remembering.{GivesUpTo, IsBodyOf, RestFails}
 use Rattle.regress_engine_exec.proofs.WayLemmas.{leads-fewer}
 
 -- what leads nowhere fails, whatever is held
@@ -102,7 +104,7 @@ module _ (program : Program) (v : View) (keyed : Keyed) (h : Held) (count : leng
     abbrev far_of : ℕ → ℕ
     far_of n = as_far program input n i (direction_of forward) h.groups near
 
-    abbrev UpTo : (left far : ℕ) → Type 0
+    abbrev pub UpTo : (left far : ℕ) → Type 0
     UpTo left far = (p : Spot) → p.forward ≡ forward → GoesBack w p (pushed (give_back at near (far_of left)) h) p (pushed (give_back at near far) h) false
 
     -- no iteration follows
@@ -132,3 +134,11 @@ module _ (program : Program) (v : View) (keyed : Keyed) (h : Held) (count : leng
         subst (λ x. GoesBack w p (pushed (give_back at near x) h) p h false) (ap (λ b. as_far program input left i (direction_of b) h.groups near) same)
         (given-over program v keyed p h count at i here all suits near body left
         (subst (λ b. ExitsFailWith program input keyed (record { at = at; offset = near; forward = b }) h.loops) (sym same) known))
+
+-- whatever instruction stands there
+pub up-any : (program : Program) (v : View) (h : Held) (forward : Bool) (at : ℕ) (i : Instruction) → Stands program (at - 1) i → (near left : ℕ) (found : Option ℕ)
+    → ((p : Spot) → p.forward ≡ forward → GoesBack (record { program = program; view = v }) p (pushed (give_back at near (as_far program (input_of v) left i (direction_of forward) h.groups near)) h) p (given_from at near found h) false)
+    → GivesUpTo (record { program = program; view = v }) forward at near left found h
+up-any program v h forward at i here near left found leads j there p same =
+    subst (λ x. GoesBack (record { program = program; view = v }) p (pushed (give_back at near (as_far program (input_of v) left x (direction_of forward) h.groups near)) h) p (given_from at near found h) false)
+    (one_stands program (input_of v) (at - 1) i j here there) (leads p same)

@@ -86,7 +86,7 @@ impl<'a, Input: ExecutorInput> Attempt<'a, Input> {
         at: usize,
         near: usize,
         far: usize,
-        passed: &mut usize,
+        spare: &mut usize,
         memory: &mut Memory,
         spot: &mut Spot,
     ) -> Result<bool, AllocError>
@@ -97,10 +97,10 @@ impl<'a, Input: ExecutorInput> Attempt<'a, Input> {
         ensures rest { IfOk result (λ going. going ≡ false → (held memory.new).stack ≡ (held memory.old).stack) }
     {
         let Some(way) = self.far_way(at, near, far, spot.forward, &memory.groups) else {
-            *passed = passed.saturating_add(far.abs_diff(near));
+            *spare = spare.saturating_sub(far.abs_diff(near));
             return Ok(false);
         };
-        *passed = passed.saturating_add(far.abs_diff(way));
+        *spare = spare.saturating_sub(far.abs_diff(way));
         spot.at = at;
         spot.offset = way;
         if !is_ahead(spot.forward, near, way) {
@@ -201,14 +201,14 @@ impl<'a, Input: ExecutorInput> Attempt<'a, Input> {
         }
     }
 
-    /// Counts the places that a lazy one-character loop has passed over to its end: of one loop in eight, for all of them.
+    /// Counts the places that a lazy one-character loop has passed over to its end: of one loop in 64, for all of them.
     #[inline(never)]
-    fn pass_over(
+    fn count_over(
         &self,
         at: usize,
         offset: usize,
         left: usize,
-        passed: &mut usize,
+        spare: &mut usize,
         memory: &Memory,
         forward: bool,
     )
@@ -216,7 +216,7 @@ impl<'a, Input: ExecutorInput> Attempt<'a, Input> {
         requires sound { IsHeldIn (world Input.view self.now) (held memory.now) }
         requires body { IsBody (program_of self.now.program.now) (Input.view self.now.input) at offset }
     {
-        if offset % 8 != 0 {
+        if offset % 64 != 0 {
             return;
         }
         let far = as_far(
@@ -228,7 +228,7 @@ impl<'a, Input: ExecutorInput> Attempt<'a, Input> {
             &memory.groups,
             offset,
         );
-        *passed = passed.saturating_add(far.abs_diff(offset).saturating_mul(8));
+        *spare = spare.saturating_sub(far.abs_diff(offset).saturating_mul(64));
     }
 
     /// Goes on at the near one of the offsets where it may continue, later at those behind it; answers whether there is one.
@@ -237,7 +237,7 @@ impl<'a, Input: ExecutorInput> Attempt<'a, Input> {
         at: usize,
         offset: usize,
         left: usize,
-        passed: &mut usize,
+        spare: &mut usize,
         memory: &mut Memory,
         spot: &mut Spot,
     ) -> Result<bool, AllocError>
@@ -249,10 +249,10 @@ impl<'a, Input: ExecutorInput> Attempt<'a, Input> {
     {
         let Some((near, rest)) = self.near_way(at, offset, left, spot.forward, &memory.groups)
         else {
-            self.pass_over(at, offset, left, passed, memory, spot.forward);
+            self.count_over(at, offset, left, spare, memory, spot.forward);
             return Ok(false);
         };
-        *passed = passed.saturating_add(near.abs_diff(offset));
+        *spare = spare.saturating_sub(near.abs_diff(offset));
         spot.at = at;
         spot.offset = near;
         if rest == 0 {
@@ -281,7 +281,7 @@ impl<'a, Input: ExecutorInput> Attempt<'a, Input> {
     fn undo(
         &self,
         undo: Undo,
-        passed: &mut usize,
+        spare: &mut usize,
         memory: &mut Memory,
         spot: &mut Spot,
     ) -> Result<bool, AllocError>
@@ -312,11 +312,11 @@ impl<'a, Input: ExecutorInput> Attempt<'a, Input> {
                 Ok(true)
             }
             Undo::GiveBack { at, near, far } => {
-                let going = self.give_back(at, near, far, passed, memory, spot)?;
+                let going = self.give_back(at, near, far, spare, memory, spot)?;
                 Ok(going)
             }
             Undo::TakeOn { at, offset, left } => {
-                let going = self.take_on(at, offset, left, passed, memory, spot)?;
+                let going = self.take_on(at, offset, left, spare, memory, spot)?;
                 Ok(going)
             }
             Undo::Submatch(frame) => Ok(exhaust(&frame, spot)),
@@ -345,7 +345,7 @@ impl<'a, Input: ExecutorInput> Attempt<'a, Input> {
         if let Some(going) = self.undo_loop(&undo, memory, remembered, spot)? {
             return Ok(going);
         }
-        let going = self.undo(undo, &mut remembered.passed, memory, spot)?;
+        let going = self.undo(undo, &mut remembered.spare, memory, spot)?;
         Ok(going)
     }
 
@@ -365,17 +365,16 @@ impl<'a, Input: ExecutorInput> Attempt<'a, Input> {
         ensures exhausted { IfOk result (λ going. going ≡ false → (held memory.new).stack ≡ []) }
         ensures so { Remembers (world Input.view self.now) remembered.new }
     {
-        self.count_back(remembered);
+        self.keep_failures(remembered);
         while let Some(undo) = memory.pop() {
-            remembered.passed = remembered.passed.saturating_add(4);
+            remembered.spare = remembered.spare.saturating_sub(4);
             self.learn(&undo, memory, remembered, spot);
             if self.undo_one(undo, memory, remembered, spot)? {
                 return Ok(true);
             }
         }
-        remembered.passed = remembered
-            .passed
-            .saturating_add(spot.offset.abs_diff(self.start));
+        let passed = spot.offset.abs_diff(self.start);
+        remembered.spare = remembered.spare.saturating_sub(passed);
         Ok(false)
     }
 }

@@ -3,11 +3,12 @@ ghost use Rattle.std.specs.Prelude.{◌≡◌, ◌+◌, ◌-◌, ◌<◌, ◌≤
 ghost use Rattle.regress_engine_insn.specs.InsnViews.{instruction};
 ghost use Rattle.regress_engine_insn.specs.Instructions.{Stands, single_loop};
 ghost use Rattle.regress_engine_code.specs.Standing.{program_of};
-ghost use Rattle.regress_engine_input.specs.Views.{input_of, reading_of};
+ghost use Rattle.regress_engine_input.specs.Views.{direction_of, input_of, reading_of};
 ghost use Rattle.regress_engine_runs.specs.Meets.{IsAtPlace};
 ghost use Rattle.regress_engine_runs.specs.UndoStack.{give_back, take_on};
 ghost use Rattle.regress_engine_search.specs.Ready.{IsBody};
 ghost use Rattle.regress_engine_search.specs.Search.{Suits};
+ghost use Rattle.regress_engine_singles.specs.Failing.{IsDead};
 ghost use Rattle.regress_engine_undo.specs.Held.{held, pushed};
 ghost use Rattle.regress_engine_memory.specs.Held.{FailsWith};
 ghost use Rattle.regress_engine_memory.specs.Remembered.{keyed_of};
@@ -49,6 +50,27 @@ impl<'a, Input: ExecutorInput> Attempt<'a, Input> {
         None
     }
 
+    /// Whether what is taken first at an exit of a one-character loop stands there, as far as that is told.
+    fn exit_stands(&self, exit: &Spot, memory: &Memory) -> bool
+        requires suits { Suits (program_of self.now.program.now) (Input.view self.now.input) }
+        requires sound { IsHeldIn (world Input.view self.now) (held memory.now) }
+        requires place { IsAtPlace (reading_of (Input.view self.now.input)) exit.now.offset }
+        ensures { result ≡ false → IsDead (program_of self.now.program.now) (input_of (Input.view self.now.input)) (direction_of exit.now.forward) exit.now.at exit.now.offset }
+    {
+        let Some(insn) = taken_first(self.program, exit.at) else {
+            return true;
+        };
+        advance(
+            self.program,
+            &self.input,
+            insn,
+            exit.forward,
+            &memory.groups,
+            exit.offset,
+        )
+        .is_some()
+    }
+
     /// Whether an exit of a one-character loop surely fails: what is taken first there doesn't stand, or it is known.
     fn exit_fails(&self, exit: &Spot, memory: &Memory, failures: &Failures) -> bool
         requires suits { Suits (program_of self.now.program.now) (Input.view self.now.input) }
@@ -57,19 +79,8 @@ impl<'a, Input: ExecutorInput> Attempt<'a, Input> {
         requires place { IsAtPlace (reading_of (Input.view self.now.input)) exit.now.offset }
         ensures { result ≡ true → FailsWith (program_of self.now.program.now) (input_of (Input.view self.now.input)) (keyed_of (table_of failures.now.table)) exit.now (held memory.now).loops }
     {
-        if let Some(insn) = taken_first(self.program, exit.at) {
-            if advance(
-                self.program,
-                &self.input,
-                insn,
-                exit.forward,
-                &memory.groups,
-                exit.offset,
-            )
-            .is_none()
-            {
-                return true;
-            }
+        if !self.exit_stands(exit, memory) {
+            return true;
         }
         failures.is_known(exit, memory.loops())
     }
@@ -123,10 +134,13 @@ impl<'a, Input: ExecutorInput> Attempt<'a, Input> {
         requires place { IsAtPlace (reading_of (Input.view self.now.input)) exit.now.offset }
         ensures { AreOf (world Input.view self.now) failures.new }
     {
-        if failures.are_exits_known(exit, memory.loops())
-            || !self.exit_fails(exit, memory, failures)
-            || !self.is_rest_known(body, exit, memory, failures)
-        {
+        if failures.are_exits_known(exit, memory.loops()) {
+            return false;
+        }
+        if !self.exit_fails(exit, memory, failures) {
+            return false;
+        }
+        if !self.is_rest_known(body, exit, memory, failures) {
             return false;
         }
         failures.learn_exits(exit, memory.loops());
@@ -239,8 +253,8 @@ impl<'a, Input: ExecutorInput> Attempt<'a, Input> {
         ensures so { AreOf (world Input.view self.now) failures.new }
     {
         self.learn_behind(at, far, spot.forward, memory, failures);
-        let mut passed = 0;
-        let going = self.give_back(at, near, far, &mut passed, memory, spot)?;
+        let mut spare = 0;
+        let going = self.give_back(at, near, far, &mut spare, memory, spot)?;
         if going {
             self.record_exit(memory, spot)?;
         }
@@ -335,8 +349,8 @@ impl<'a, Input: ExecutorInput> Attempt<'a, Input> {
             self.learn_back(self.instruction(at - 1), &last, memory, failures);
             return Ok(false);
         }
-        let mut passed = 0;
-        let going = self.take_on(at, exit.offset, exit.left, &mut passed, memory, spot)?;
+        let mut spare = 0;
+        let going = self.take_on(at, exit.offset, exit.left, &mut spare, memory, spot)?;
         if going {
             self.record_exit(memory, spot)?;
         }

@@ -22,25 +22,24 @@ const MOST_BLOCKS: usize = 1 << 21;
 #[derive(Debug, Drop)]
 pub(crate) struct Remembered {
     alloc: Global,
-    /// How often runs may still go back before failures are kept; 0 where that has been begun.
-    spare: usize,
-    /// How many places were passed over since runs went back, by one-character loops and by runs that failed, and four for each
-    /// record that was undone.
-    pub(crate) passed: usize,
+    /// How much may still be undone or passed over before failures are kept: a place counts one, a record four.
+    pub(crate) spare: usize,
+    /// Whether that has been begun.
+    is_begun: bool,
     /// What is known to fail, where it is kept.
     failures: Option<Box<Failures>>,
 }
 
 impl Remembered {
-    /// Nothing is remembered. Failures are kept once runs have gone back more often than normal searches do in a text of so many
+    /// Nothing is remembered. Failures are kept once more was undone and passed over than normal searches do in a text of so many
     /// units.
     pub(crate) fn new(alloc: Global, length: usize) -> Remembered
         ensures { (w : World) → Remembers w result }
     {
         Remembered {
             alloc,
-            spare: length.saturating_add(64).saturating_mul(16),
-            passed: 0,
+            spare: length.saturating_add(64).saturating_mul(64),
+            is_begun: false,
             failures: None,
         }
     }
@@ -166,7 +165,7 @@ impl<'a, Input: ExecutorInput> Attempt<'a, Input> {
         if let Some(going) = self.begin(memory, remembered, spot)? {
             return Ok(Some(going));
         }
-        let left = self.step(memory, answer, &mut remembered.passed, spot)?;
+        let left = self.step(memory, answer, &mut remembered.spare, spot)?;
         Ok(left)
     }
 
@@ -189,21 +188,17 @@ impl<'a, Input: ExecutorInput> Attempt<'a, Input> {
         }
     }
 
-    /// Counts that a run goes back, and the places passed over since. Where that was often, failures are kept from now on.
+    /// Keeps failures from now on, if that much was undone and passed over that no normal search does.
     #[inline]
-    pub(crate) fn count_back(&self, remembered: &mut Remembered)
+    pub(crate) fn keep_failures(&self, remembered: &mut Remembered)
         requires { Remembers (world Input.view self.now) remembered.old }
         ensures { Remembers (world Input.view self.now) remembered.new }
     {
-        if remembered.spare == 0 {
+        if remembered.spare > 0 || remembered.is_begun {
             return;
         }
-        let count = 1 + remembered.passed / 4;
-        remembered.passed = 0;
-        remembered.spare = remembered.spare.saturating_sub(count);
-        if remembered.spare == 0 {
-            remembered.failures = self.nothing_known(remembered.alloc);
-        }
+        remembered.is_begun = true;
+        remembered.failures = self.nothing_known(remembered.alloc);
     }
 
     /// Learns what a record shows that is about to be undone: where it is that of a state that was tried, no run from there has an
