@@ -144,7 +144,7 @@ impl<'a, Input: ExecutorInput> Attempt<'a, Input> {
 
     /// What `advance` answers. What is often repeated is done at once.
     #[inline(always)]
-    pub(crate) fn once(
+    fn once(
         &self,
         insn: &Insn,
         forward: bool,

@@ -309,7 +309,14 @@ impl<'a, Input: ExecutorInput> Attempt<'a, Input> {
                     may_go: false,
                 };
             }
-            let Some(next) = self.once(body, forward, &memory.groups, near) else {
+            let Some(next) = advance(
+                self.program,
+                &self.input,
+                body,
+                forward,
+                &memory.groups,
+                near,
+            ) else {
                 return Exit {
                     offset: near,
                     left: rest,
@@ -387,7 +394,14 @@ impl<'a, Input: ExecutorInput> Attempt<'a, Input> {
             return None;
         }
         'places: while rest > 0 {
-            let Some(next) = self.once(body, forward, &memory.groups, far) else {
+            let Some(next) = advance(
+                self.program,
+                &self.input,
+                body,
+                forward,
+                &memory.groups,
+                far,
+            ) else {
                 return Some(far);
             };
             let further = Spot {
