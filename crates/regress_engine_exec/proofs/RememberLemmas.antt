@@ -98,8 +98,8 @@ module _ (program : Program) (input : Input) where
 
   -- so is what is told of a key
   told-anyway : (keyed : Keyed) (further : Bool) (k : Key) → ∥ FailsAsTold program input keyed further k ∥₁ → FailsAsTold program input keyed further k
-  told-anyway keyed false k t loops groups count has = fails-anyway k.dir (whole k.at k.offset loops groups ∷ []) (∥∥₁_map t (λ x. x loops groups count has))
-  told-anyway keyed true k t i here n marks j o less loops groups count has = fails-anyway _ _ (∥∥₁_map t (λ x. x i here n marks j o less loops groups count has))
+  told-anyway keyed false k t = λ loops groups count has. fails-anyway k.dir (whole k.at k.offset loops groups ∷ []) (∥∥₁_map t (λ x. x loops groups count has))
+  told-anyway keyed true k t = λ i here n marks j o less loops groups count has. fails-anyway _ _ (∥∥₁_map t (λ x. x i here n marks j o less loops groups count has))
 
 -- what is remembered is so, where some proof of it is kept
 pub remembers-anyway : (w : World) {B : Type 0} (o : Option B) (of : B → Failures) → ∥ IfSome o (λ b. AreOf w (of b)) ∥₁ → IfSome o (λ b. AreOf w (of b))

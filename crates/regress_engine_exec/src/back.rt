@@ -342,11 +342,13 @@ impl<'a, Input: ExecutorInput> Attempt<'a, Input> {
         ensures rest { IfOk result (λ going. going ≡ false → (held memory.new).stack ≡ (held memory.old).stack) }
         ensures so { Remembers (world Input.view self.now) remembered.new }
     {
-        if let Some(going) = self.undo_loop(&undo, memory, remembered, spot)? {
-            return Ok(going);
+        match self.undo_loop(&undo, memory, remembered, spot)? {
+            Some(going) => Ok(going),
+            None => {
+                let going = self.undo(undo, &mut remembered.spare, memory, spot)?;
+                Ok(going)
+            }
         }
-        let going = self.undo(undo, &mut remembered.spare, memory, spot)?;
-        Ok(going)
     }
 
     /// Undoes records until there is a state to be tried, and answers whether there is one. What they show to fail is remembered.

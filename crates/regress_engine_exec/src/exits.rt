@@ -119,11 +119,12 @@ impl<'a, Input: ExecutorInput> Attempt<'a, Input> {
     }
 
     /// Learns that all exits of a one-character loop from one on fail, where it fails, and that of the next one is known, if
-    /// there is one. It answers whether that is new.
+    /// there is one. It answers whether that is new, or whether it is the first of some, where it was known before.
     fn learn_exit(
         &self,
         body: &Insn,
         exit: &Spot,
+        is_first: bool,
         memory: &Memory,
         failures: &mut Failures,
     ) -> bool
@@ -135,7 +136,7 @@ impl<'a, Input: ExecutorInput> Attempt<'a, Input> {
         ensures { AreOf (world Input.view self.now) failures.new }
     {
         if failures.are_exits_known(exit, memory.loops()) {
-            return false;
+            return is_first;
         }
         if !self.exit_fails(exit, memory, failures) {
             return false;
@@ -157,22 +158,20 @@ impl<'a, Input: ExecutorInput> Attempt<'a, Input> {
         ensures { AreOf (world Input.view self.now) failures.new }
     {
         let last = self.input.pos_to_offset(self.input.right_end());
-        let mut is_known = failures.are_exits_known(from, memory.loops());
         let mut offset = from.offset;
-        for _ in 0..last {
+        for passed in 0..last {
             let exit = Spot {
                 at: from.at,
                 offset,
                 forward: from.forward,
             };
-            if !is_known && !self.learn_exit(body, &exit, memory, failures) {
+            if !self.learn_exit(body, &exit, passed == 0, memory, failures) {
                 return;
             }
             let Some((_, before)) = beside(&self.input, !from.forward, offset) else {
                 return;
             };
             offset = before;
-            is_known = false;
         }
     }
 

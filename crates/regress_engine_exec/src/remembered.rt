@@ -162,11 +162,13 @@ impl<'a, Input: ExecutorInput> Attempt<'a, Input> {
         ensures sound { IfOk result (λ left. IfSome left (λ going. IsHeldIn (world Input.view self.now) (held memory.new))) }
         ensures so { Remembers (world Input.view self.now) remembered.new }
     {
-        if let Some(going) = self.begin(memory, remembered, spot)? {
-            return Ok(Some(going));
+        match self.begin(memory, remembered, spot)? {
+            Some(going) => Ok(Some(going)),
+            None => {
+                let left = self.step(memory, answer, &mut remembered.spare, spot)?;
+                Ok(left)
+            }
         }
-        let left = self.step(memory, answer, &mut remembered.spare, spot)?;
-        Ok(left)
     }
 
     /// What is known to fail where that is begun: nothing. `None` where the program's table does not pass its test, or where memory

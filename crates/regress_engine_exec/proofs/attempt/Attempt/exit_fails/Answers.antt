@@ -9,12 +9,12 @@ use Rattle.regress_engine_exec.proofs.ExitLemmas.{dead-fails}
 use Rattle.regress_engine_exec.proofs.attempt.Attempt.exit_fails.Goals as goal
 
 pub returns-then-not-exit_stands : goal.returns-then-not-exit_stands
-returns-then-not-exit_stands g c yes =
+returns-then-not-exit_stands g c so =
     dead-fails (program_of c.args.self.now.program.now) (input_of (g.Input.InputIndexer.view c.args.self.now.input)) (keyed_of (table_of c.args.failures.now.table)) c.args.exit.now (held c.args.memory.now).loops
     (c.exit_stands.ensures c.if-not-exit_stands.true)
 
 pub returns : goal.returns
-returns g c yes =
+returns g c so =
     let program = program_of c.args.self.now.program.now in
     let input = input_of (g.Input.InputIndexer.view c.args.self.now.input) in
-    subst (FailsWith program input (keyed_of (table_of c.args.failures.now.table)) c.args.exit.now) c.loops.ensures (c.is_known.ensures yes program input c.requires.so.known)
+    subst (FailsWith program input (keyed_of (table_of c.args.failures.now.table)) c.args.exit.now) c.loops.ensures (c.is_known.ensures so program input c.requires.so.known)

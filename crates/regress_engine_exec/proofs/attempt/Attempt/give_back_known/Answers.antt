@@ -15,8 +15,8 @@ learn_behind-requires-clause-sound g c = (held-give_back _ _ (held c.args.memory
 pub learn_behind-requires-clause-place : goal.learn_behind-requires-clause-place
 learn_behind-requires-clause-place g c = (held-give_back _ _ (held c.args.memory.now) c.args.at c.args.near c.args.far c.requires.sound).0
 
-pub returns-then-going-clause-leads : goal.returns-then-going-clause-leads
-returns-then-going-clause-leads g c =
+pub returns-in_ok-record_exit-clause-leads : goal.returns-in_ok-record_exit-clause-leads
+returns-in_ok-record_exit-clause-leads g c =
     let program = program_of c.args.self.now.program.now in
     let input = input_of (g.Input.InputIndexer.view c.args.self.now.input) in
     let from = task program input false c.args.spot.now (pushed (give_back c.args.at c.args.near c.args.far) (held c.args.memory.now)) in

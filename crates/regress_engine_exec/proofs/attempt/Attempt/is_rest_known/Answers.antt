@@ -23,18 +23,18 @@ advance-requires-clause-ready g c =
     (i, body.0, body.1, c.requires.place, body.2) body.0 c.requires.sound.groups)
 
 pub returns-in_default : goal.returns-in_default
-returns-in_default g c yes =
+returns-in_default g c so =
     let program = program_of c.args.self.now.program.now in
     let input = input_of (g.Input.InputIndexer.view c.args.self.now.input) in
     inl (ap (λ gs. advance program input (instruction c.args.body.now) (direction_of c.args.exit.now.forward) (map marks_of gs) c.args.exit.now.offset) (sym c.deref.ensures.value) ∙ sym c.in_default.ensures)
 
 pub returns : goal.returns
-returns g c yes =
+returns g c so =
     let program = program_of c.args.self.now.program.now in
     let input = input_of (g.Input.InputIndexer.view c.args.self.now.input) in
     inr (
       c.in-Some.next,
       ap (λ gs. advance program input (instruction c.args.body.now) (direction_of c.args.exit.now.forward) (map marks_of gs) c.args.exit.now.offset) (sym c.deref.ensures.value) ∙ sym c.in-Some.ensures,
       subst (ExitsFailWith program input (keyed_of (table_of c.args.failures.now.table)) (record c.args.exit.now { offset = c.in-Some.next })) c.loops.ensures
-          (c.are_exits_known.ensures yes program input c.requires.so.known),
+          (c.are_exits_known.ensures so program input c.requires.so.known),
     )

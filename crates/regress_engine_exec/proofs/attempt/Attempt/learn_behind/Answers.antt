@@ -19,8 +19,8 @@ advance-requires-clause-ready g c =
     (body-asked v (g.met.Input.InputIndexer.are_of_kind c.args.self.now.input) program c.requires.suits c.args.at c.args.far i (held c.args.memory.now).groups
     (i, body.0, body.1, c.requires.place, body.2) body.0 c.requires.sound.groups)
 
-pub learn_back-requires-clause-place : goal.learn_back-requires-2-clause-place
-learn_back-requires-clause-place g c =
+pub learn_back-requires-2-clause-place : goal.learn_back-requires-2-clause-place
+learn_back-requires-2-clause-place g c =
     let program = program_of c.args.self.now.program.now in
     let v = g.Input.InputIndexer.view c.args.self.now.input in
     let i = instruction c.in-Some.body.now in

@@ -19,7 +19,7 @@ returns g c =
     record {
       tested = subst (λ t. is_flow (table_of t) w.program ≡ true) (sym c.learn_exits.ensures.table) c.requires.so.tested;
       known = c.learn_exits.ensures.known w.program input c.requires.so.known
-          (subst (ExitsFailWith w.program input keyed c.args.exit.now) (sym c.loops-3.ensures)
+          (subst (ExitsFailWith w.program input keyed c.args.exit.now) (sym c.loops-2.ensures)
           (exits-known w c.args.failures.now (instruction c.args.body.now) c.args.exit.now (held c.args.memory.now) c.requires.body
           (c.exit_fails.ensures c.if-not-exit_fails.false) (c.is_rest_known.ensures c.if-not-is_rest_known.false)));
     }

@@ -70,8 +70,8 @@ take_on-going-requires-clause-sound g c =
     take_on-held program v (held c.args.memory.now) _ c.args.at c.exit_ahead-exit.result.offset c.exit_ahead-exit.result.left refl c.exit_ahead-exit.ensures.body
     (held-take_on program v (held c.args.memory.now) c.args.at c.args.offset c.args.left c.requires.sound).1
 
-pub returns-then-going-clause-leads : goal.returns-then-going-clause-leads
-returns-then-going-clause-leads g c =
+pub returns-in_ok-record_exit-clause-leads : goal.returns-in_ok-record_exit-clause-leads
+returns-in_ok-record_exit-clause-leads g c =
     let program = program_of c.args.self.now.program.now in
     let v = g.Input.InputIndexer.view c.args.self.now.input in
     let input = input_of v in
@@ -85,8 +85,8 @@ returns-then-going-clause-leads g c =
     c.in_ok-going.ensures.leads)
     c.in_ok-record_exit.ensures.leads))
 
-pub returns-clause-leads : goal.returns-clause-leads
-returns-clause-leads g c =
+pub returns-else-going-clause-leads : goal.returns-else-going-clause-leads
+returns-else-going-clause-leads g c =
     let program = program_of c.args.self.now.program.now in
     let v = g.Input.InputIndexer.view c.args.self.now.input in
     let input = input_of v in
