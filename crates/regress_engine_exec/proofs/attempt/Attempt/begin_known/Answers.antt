@@ -28,13 +28,13 @@ returns-in_default-clause-leads g c =
     let w : World = record { program = program_of c.args.self.now.program.now; view = g.Input.InputIndexer.view c.args.self.now.input } in
     (refl, c.in_ok-is_known.ensures.loops, c.in_ok-is_known.ensures.groups, subst (Drops w c.args.spot.now (held c.args.memory.now) (held c.is_known.new.memory)) c.if-branch.false c.in_ok-is_known.ensures.leads)
 
-pub repeat_known-requires-clause-order : goal.repeat_known-going-requires-clause-order
+pub repeat_known-requires-clause-order : goal.repeat_known-requires-clause-order
 repeat_known-requires-clause-order g c =
     let program = program_of c.args.self.now.program.now in
     let v = g.Input.InputIndexer.view c.args.self.now.input in
     (c.requires.suits.closed c.args.spot.now.at _ (stands-as program c.args.spot.now.at _ _ c.in-Loop1CharBody.is c.instruction.ensures.stands)).3
 
-pub repeat_known-requires-clause-body : goal.repeat_known-going-requires-clause-body
+pub repeat_known-requires-clause-body : goal.repeat_known-requires-clause-body
 repeat_known-requires-clause-body g c =
     let program = program_of c.args.self.now.program.now in
     let v = g.Input.InputIndexer.view c.args.self.now.input in

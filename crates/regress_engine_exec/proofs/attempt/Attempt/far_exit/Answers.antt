@@ -78,12 +78,12 @@ returns-then-are_exits_known-2-clause-leads g c =
     let all = g.met.Input.InputIndexer.are_of_kind c.args.self.now.input in
     let (m, sum, after) = c.places.invariant.after in
     let takes = ap (λ gs. advance program (input_of v) i (direction_of c.args.forward) (map marks_of gs) c.places.far) (sym c.deref.ensures.value) ∙ sym c.in-Some.ensures in
-    let some = c.places.test in
+    let some = c.places-test.true in
     let sum' : m + suc (c.places.rest - 1) ≡ c.args.left = omega (arith, sum, some) in
     up-any program v h c.args.forward c.args.at i here c.args.near c.args.left (Some c.places.far)
     (subst (λ n. UpTo program v keyed h c.requires.sound.loops c.args.forward c.args.at i here all c.requires.suits c.args.near c.requires.body n c.places.far) sum'
     (up-known program v keyed h c.requires.sound.loops c.args.forward c.args.at i here all c.requires.suits c.args.near c.requires.body m (c.places.rest - 1) c.places.far c.in-Some.next after takes
-    (subst (ExitsFailWith program (input_of v) keyed _) c.loops-2.ensures (c.are_exits_known-2.ensures c.if-are_exits_known-2.true program (input_of v) c.requires.so.known))))
+    (subst (ExitsFailWith program (input_of v) keyed _) c.loops-in-places.ensures (c.are_exits_known-in-places.ensures c.if-are_exits_known-2.true program (input_of v) c.requires.so.known))))
 
 pub returns-clause-leads : goal.returns-clause-leads
 returns-clause-leads g c =
@@ -95,7 +95,7 @@ returns-clause-leads g c =
     let here = c.instruction-body.ensures.stands in
     let all = g.met.Input.InputIndexer.are_of_kind c.args.self.now.input in
     let (m, sum, after) = c.places.invariant.after in
-    let none = c.places.done in
+    let none = c.places-test.false in
     up-any program v h c.args.forward c.args.at i here c.args.near c.args.left (Some c.places.far)
     (subst (λ n. UpTo program v keyed h c.requires.sound.loops c.args.forward c.args.at i here all c.requires.suits c.args.near c.requires.body n c.places.far) sum
     (up-end program v keyed h c.requires.sound.loops c.args.forward c.args.at i here all c.requires.suits c.args.near c.requires.body m c.places.rest c.places.far after (inl (omega (arith, none)))))
@@ -111,7 +111,7 @@ places-preserved g c =
     let all = g.met.Input.InputIndexer.are_of_kind c.args.self.now.input in
     let (m, sum, after) = c.places.invariant.after in
     let takes = ap (λ gs. advance program (input_of v) i (direction_of c.args.forward) (map marks_of gs) c.places.far) (sym c.deref.ensures.value) ∙ sym c.in-Some.ensures in
-    let some = c.places.test in
+    let some = c.places-test.true in
     record {
       after = (suc m, omega (arith, sum, some), after-one program (input_of v) i (direction_of c.args.forward) h.groups m c.args.near c.places.far c.in-Some.next after takes);
       body = body-next v all program c.requires.suits c.args.at c.places.far c.in-Some.next i (direction_of c.args.forward) h.groups c.places.invariant.body here takes;

@@ -11,7 +11,7 @@ use Rattle.regress_engine_exec.proofs.attempt.Attempt.far_exit.Given as goal
 abbrev pub invariant-places : goal.invariant-places
 invariant-places g l = record {
   after : (m : ℕ) × (m + l.rest ≡ l.left)
-      × (after_times (program_of l.self.program.now) (input_of (g.Input.InputIndexer.view l.self.input)) m (instruction l.body.now) (direction_of l.forward) (held l.memory).groups l.near ≡ Some l.far);
+      × (after_times (program_of l.self.program.now) (input_of (g.Input.InputIndexer.view l.self.input)) m (instruction l.body) (direction_of l.forward) (held l.memory).groups l.near ≡ Some l.far);
   body : IsBody (program_of l.self.program.now) (g.Input.InputIndexer.view l.self.input) l.at l.far;
 }
 

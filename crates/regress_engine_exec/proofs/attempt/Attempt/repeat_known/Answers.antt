@@ -21,8 +21,8 @@ returns-in_default-clause-leads g c =
     repeat-few program input i c.args.spot.now (held c.args.memory.now) c.instruction-insn.ensures.stands c.args.least c.args.most c.args.greedy
     (ap (λ gs. after_times program input c.args.least i (direction_of c.args.spot.now.forward) (map marks_of gs) c.args.spot.now.offset) (sym c.deref.ensures.value) ∙ sym c.in_default.ensures.behind)
 
-pub take_on_known-going-requires-clause-sound : goal.take_on_known-going-requires-clause-sound
-take_on_known-going-requires-clause-sound g c =
+pub take_on_known-requires-clause-sound : goal.take_on_known-requires-clause-sound
+take_on_known-requires-clause-sound g c =
     let program = program_of c.args.self.now.program.now in
     let v = g.Input.InputIndexer.view c.args.self.now.input in
     take_on-held program v (held c.args.memory.now) _ _ c.in-Some.near _ refl
@@ -46,8 +46,8 @@ far_exit-requires-clause-body g c =
     let v = g.Input.InputIndexer.view c.args.self.now.input in
     body-at program v (c.args.spot.now.at + 2) c.args.spot.now.offset c.in-Some.near c.requires.body c.in-Some.ensures.place
 
-pub give_back_known-going-requires-clause-sound : goal.give_back_known-going-requires-clause-sound
-give_back_known-going-requires-clause-sound g c =
+pub give_back_known-requires-clause-sound : goal.give_back_known-requires-clause-sound
+give_back_known-requires-clause-sound g c =
     give_back-held (program_of c.args.self.now.program.now) (g.Input.InputIndexer.view c.args.self.now.input) (held c.args.memory.now) _ _ c.in-Some.near c.in-Some-far_exit.far refl
     c.in-Some-far_exit.ensures.place c.requires.sound
 

@@ -1,4 +1,4 @@
-use Rattle.std.proofs.Common.{Bool, true, false, ◌≡◌, ap, refl, sym, subst, arith}
+use Rattle.std.proofs.Common.{◌≡◌, ℕ, ◌-◌, Bool, not, true, false, if◌then◌else◌, ap, ◌∙◌, refl, sym, subst, arith}
 use Rattle.regress_engine_code.specs.Standing.{program_of}
 use Rattle.regress_engine_input.specs.Views.{View, input_of}
 use Rattle.regress_engine_insn.specs.Instructions.{Program}
@@ -16,6 +16,11 @@ use Rattle.regress_engine_exec.specs.declared.exits.Exit.{Exit}
 use Rattle.regress_engine_exec.specs.Trying.{GoesBack}
 use Rattle.regress_engine_exec.specs.Remembering.{taken_up}
 use Rattle.regress_engine_exec.proofs.attempt.Attempt.take_on_known.Goals as goal
+
+-- what is said the other way round
+was : (b c : Bool) → not b ≡ c → b ≡ not c
+was true c e = ap not e
+was false c e = ap not e
 
 -- what an exit leads to where it may go on, or not
 led-on : (program : Program) (v : View) (p : Spot) (j h : Held) (at : ℕ) (e : Exit) → e.may_go ≡ true → GoesBack (record { program = program; view = v }) p j p (taken_up at e h) false
@@ -57,14 +62,14 @@ pub returns-then-not-exit-clause-leads : goal.returns-then-not-exit-clause-leads
 returns-then-not-exit-clause-leads g c =
     let program = program_of c.args.self.now.program.now in
     let v = g.Input.InputIndexer.view c.args.self.now.input in
-    led-none program v c.args.spot.now (pushed (take_on c.args.at c.args.offset c.args.left) (held c.args.memory.now)) (held c.args.memory.now) c.args.at c.exit_ahead-exit.result c.if-not-exit.true
+    led-none program v c.args.spot.now (pushed (take_on c.args.at c.args.offset c.args.left) (held c.args.memory.now)) (held c.args.memory.now) c.args.at c.exit_ahead-exit.result (was c.exit_ahead-exit.result.may_go true c.if-not-exit.true)
     (c.exit_ahead-exit.ensures.leads c.args.spot.now refl)
 
 pub returns-then-not-exit-clause-sound : goal.returns-then-not-exit-clause-sound
 returns-then-not-exit-clause-sound g c = (held-take_on _ _ (held c.args.memory.now) c.args.at c.args.offset c.args.left c.requires.sound).1
 
-pub take_on-going-requires-clause-sound : goal.take_on-going-requires-clause-sound
-take_on-going-requires-clause-sound g c =
+pub take_on-requires-clause-sound : goal.take_on-requires-clause-sound
+take_on-requires-clause-sound g c =
     let program = program_of c.args.self.now.program.now in
     let v = g.Input.InputIndexer.view c.args.self.now.input in
     take_on-held program v (held c.args.memory.now) _ c.args.at c.exit_ahead-exit.result.offset c.exit_ahead-exit.result.left refl c.exit_ahead-exit.ensures.body
@@ -78,7 +83,7 @@ returns-in_ok-record_exit-clause-leads g c =
     let from = task program input false c.args.spot.now (pushed (take_on c.args.at c.args.offset c.args.left) (held c.args.memory.now)) in
     subst (λ b. Leads program input 0 from (task program input b c.take_on.new.spot (held c.record_exit.new.memory))) (sym c.if-going.true)
     (leads-then program input 0 0
-    (led-on program v c.args.spot.now (pushed (take_on c.args.at c.args.offset c.args.left) (held c.args.memory.now)) (held c.args.memory.now) c.args.at c.exit_ahead-exit.result c.if-not-exit.false
+    (led-on program v c.args.spot.now (pushed (take_on c.args.at c.args.offset c.args.left) (held c.args.memory.now)) (held c.args.memory.now) c.args.at c.exit_ahead-exit.result (was c.exit_ahead-exit.result.may_go false c.if-not-exit.false)
     (c.exit_ahead-exit.ensures.leads c.args.spot.now refl))
     (leads-then program input 0 0
     (subst (λ b. Leads program input 0 (task program input false c.args.spot.now (pushed (take_on c.args.at c.exit_ahead-exit.result.offset c.exit_ahead-exit.result.left) (held c.args.memory.now))) (task program input b c.take_on.new.spot (held c.take_on.new.memory))) c.if-going.true
@@ -91,6 +96,6 @@ returns-else-going-clause-leads g c =
     let v = g.Input.InputIndexer.view c.args.self.now.input in
     let input = input_of v in
     leads-then program input 0 0
-    (led-on program v c.args.spot.now (pushed (take_on c.args.at c.args.offset c.args.left) (held c.args.memory.now)) (held c.args.memory.now) c.args.at c.exit_ahead-exit.result c.if-not-exit.false
+    (led-on program v c.args.spot.now (pushed (take_on c.args.at c.args.offset c.args.left) (held c.args.memory.now)) (held c.args.memory.now) c.args.at c.exit_ahead-exit.result (was c.exit_ahead-exit.result.may_go false c.if-not-exit.false)
     (c.exit_ahead-exit.ensures.leads c.args.spot.now refl))
     c.in_ok-going.ensures.leads
