@@ -28,7 +28,7 @@ use Rattle.regress_engine_memory.specs.TableViews.{table_of}
 use Rattle.regress_engine_memory.proofs.Deciding.{decides}
 use Rattle.regress_engine_memory.proofs.HeldLemmas.{learns-held}
 use Rattle.regress_engine_exec.specs.Trying.{World, Steps}
-use Rattle.regress_engine_exec.specs.Remembering.{AreOf, IsUnderWay}
+use Rattle.regress_engine_exec.specs.Remembering.{AreOf, Begins, IsUnderWay}
 
 -- what is held stays sound with a record of what is tried
 pub tried-held : (program : Program) (v : View) (h : Held) (at o : ℕ) → IsHeld program v h → IsHeld program v (pushed (tried at o) h)
@@ -54,6 +54,13 @@ module _ (w : World) where
       alike : k.loops ≡ h.loops → k.groups ≡ h.groups → state_at p k ≡ state_at p h
       alike same-loops same-groups = ap (λ x. record { at = p.at; offset = p.offset; loops = x; groups = k.groups }) same-loops
           ∙ ap (λ x. record { at = p.at; offset = p.offset; loops = h.loops; groups = x }) same-groups
+
+  -- it is under way where its instruction is still to be done
+  pub begun-way : (p q : Spot) (h k : Held) → Begins w p h q k None → IsUnderWay w true p h → IsUnderWay w true q k
+  begun-way p q h k (same, loops, groups, leads) tries = subst (λ s. IsUnderWay w true s k) (sym same) (under-way-on 0 true true p p h k leads tries)
+
+  pub begun-steps : (p q r : Spot) (h k l : Held) (left : Option Bool) → Begins w p h q k None → Steps w q k r l left → Steps w p h r l left
+  begun-steps p q r h k l left (same, loops, groups, leads) steps = steps-tried p r h k l left leads loops groups (subst (λ s. Steps w s k r l left) same steps)
 
   -- what is learned of a state whose record is popped is so
   pub learned : (old new : Failures) (p s : Spot) (h : Held) → AreOfKind w.view.kind w.view.units → Suits w.program w.view → AreOf w old → new.table ≡ old.table

@@ -86,13 +86,7 @@ impl<'a, Input: ExecutorInput> Attempt<'a, Input> {
     }
 
     /// Whether no exit of a one-character loop follows one, or it is known that all that follow fail.
-    fn is_rest_known(
-        &self,
-        body: &Insn,
-        exit: &Spot,
-        memory: &Memory,
-        failures: &Failures,
-    ) -> bool
+    fn is_rest_known(&self, body: &Insn, exit: &Spot, memory: &Memory, failures: &Failures) -> bool
         requires suits { Suits (program_of self.now.program.now) (Input.view self.now.input) }
         requires sound { IsHeldIn (world Input.view self.now) (held memory.now) }
         requires so { AreOf (world Input.view self.now) failures.now }

@@ -18,8 +18,10 @@ pub places-init : goal.places-init
 places-init g c =
     let program = program_of c.args.self.now.program.now in
     let v = g.Input.InputIndexer.view c.args.self.now.input in
-    record { over = over-same program v (keyed_of (table_of c.args.failures.now.table)) (held c.args.memory.now) c.requires.sound.loops c.args.forward c.args.at (instruction c.instruction-body.result.now) c.instruction-body.ensures.stands c.args.offset c.args.left;
-        body = c.requires.body }
+    record {
+      over = over-same program v (keyed_of (table_of c.args.failures.now.table)) (held c.args.memory.now) c.requires.sound.loops c.args.forward c.args.at (instruction c.instruction-body.result.now) c.instruction-body.ensures.stands c.args.offset c.args.left;
+      body = c.requires.body;
+    }
 
 pub overflow_sub-at : goal.overflow_sub-at
 overflow_sub-at g c = let some = c.requires.body.4 in omega (arith, some)
