@@ -247,7 +247,7 @@ impl<'a, Input: ExecutorInput> Attempt<'a, Input> {
         requires sound { IsHeldIn (world Input.view self.now) (pushed (undo_of undo.now) (held memory.old)) }
         requires so { AreOf (world Input.view self.now) failures.old }
         ensures leads { IfOk result (MayUndo (world Input.view self.now) (undo_of undo.now) spot.old (held memory.old) spot.new (held memory.new)) }
-        ensures sound { OnOk result (IsHeldIn (world Input.view self.now) (held memory.new)) }
+        ensures sound { IfOk result (λ done. IfSome done (λ going. IsHeldIn (world Input.view self.now) (held memory.new))) }
         ensures so { AreOf (world Input.view self.now) failures.new }
     {
         match undo {
@@ -276,7 +276,7 @@ impl<'a, Input: ExecutorInput> Attempt<'a, Input> {
         requires sound { IsHeldIn (world Input.view self.now) (pushed (undo_of undo.now) (held memory.old)) }
         requires so { Remembers (world Input.view self.now) remembered.old }
         ensures leads { IfOk result (MayUndo (world Input.view self.now) (undo_of undo.now) spot.old (held memory.old) spot.new (held memory.new)) }
-        ensures sound { OnOk result (IsHeldIn (world Input.view self.now) (held memory.new)) }
+        ensures sound { IfOk result (λ done. IfSome done (λ going. IsHeldIn (world Input.view self.now) (held memory.new))) }
         ensures so { Remembers (world Input.view self.now) remembered.new }
     {
         match &mut remembered.failures {
