@@ -68,6 +68,7 @@ impl<'a, Input: ExecutorInput> Attempt<'a, Input> {
         &self,
         memory: &mut Memory,
         answer: &mut Vec<GroupData<usize>>,
+        spare: &mut usize,
         spot: &mut Spot,
     ) -> Result<Option<bool>, AllocError>
         requires suits { Suits (program_of self.now.program.now) (Input.view self.now.input) }
@@ -128,7 +129,7 @@ impl<'a, Input: ExecutorInput> Attempt<'a, Input> {
                 max_iters,
                 greedy,
             } => {
-                let going = self.repeat(*min_iters, *max_iters, *greedy, memory, spot)?;
+                let going = self.repeat(*min_iters, *max_iters, *greedy, spare, memory, spot)?;
                 Ok(Some(going))
             }
             Insn::Lookahead {
