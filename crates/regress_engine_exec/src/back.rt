@@ -23,7 +23,7 @@ use regress_engine_advance::{
 };
 use regress_engine_insn::Insn;
 use regress_engine_search::ExecutorInput;
-use regress_engine_singles::first_byte;
+use regress_engine_singles::{first_byte, taken_before};
 use regress_engine_undo::{Frame, Memory, Spot, Undo, is_ahead};
 use regress_front_core::GroupData;
 use std::alloc::AllocError;
@@ -159,6 +159,23 @@ impl<'a, Input: ExecutorInput> Attempt<'a, Input> {
         }
     }
 
+    /// The offset up to which the body of a lazy loop takes characters ahead of one, at most so many, where none of them is the
+    /// byte that is taken first behind the loop.
+    #[inline(always)]
+    fn passed_before(
+        &self,
+        first: Option<u8>,
+        body: &Insn,
+        left: usize,
+        forward: bool,
+        offset: usize,
+    ) -> usize {
+        match first {
+            Some(byte) if forward => taken_before(&self.input, body, byte, left, offset),
+            _ => offset,
+        }
+    }
+
     /// The near one of some offsets, from one on behind each iteration of the instruction before an address, at most so many,
     /// at which it may continue there, where what is taken first from there on stands, and how many may follow; `None`
     /// where it stands at none of them.
@@ -181,8 +198,8 @@ impl<'a, Input: ExecutorInput> Attempt<'a, Input> {
         };
         let first = first_byte(insn);
         let body = self.instruction(at - 1);
-        let mut near = offset;
-        let mut rest = left;
+        let mut near = self.passed_before(first, body, left, forward, offset);
+        let mut rest = left - (near - offset);
         'places: loop {
             if self.stands(insn, first, forward, groups, near) {
                 return Some((near, rest));
