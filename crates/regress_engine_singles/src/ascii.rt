@@ -4,6 +4,7 @@ ghost use Rattle.regress_meaning.specs.Meaning.{Forward as ahead};
 ghost use Rattle.regress_meaning.specs.Steps.{passed};
 ghost use Rattle.regress_meaning.specs.Text.{holds};
 ghost use Rattle.regress_engine_input.specs.Views.{input_of, CanRead};
+ghost use Rattle.regress_engine_singles.specs.Passing.{IsAsciiAhead};
 
 use crate::class::ScannedBracket;
 use crate::stops::next_stop;
@@ -99,6 +100,7 @@ pub(crate) fn ascii_end<Input: InputIndexer, Matcher: ByteMatcher<Input>>(
     ensures low { offset ≤ result }
     ensures high { result - offset ≤ most }
     ensures each { (k : ℕ) → offset ≤ k → k < result → Some (suc k) ≡ passed (Matcher.passes matcher.now) ((input_of (Input.view input.now)).next ahead k) }
+    ensures ascii { (k : ℕ) → offset ≤ k → k < result → IsAsciiAhead (Input.view input.now) k }
 {
     let Some(text) = input.bytes() else {
         return offset;
