@@ -1,4 +1,4 @@
-use Rattle.std.proofs.Common.{◌-◌, None, Some, inl, inr, map, sym, ◌∙◌, arith}
+use Rattle.std.proofs.Common.{ℕ, ◌-◌, None, Some, inl, inr, map, sym, ◌∙◌, arith}
 use Rattle.std.proofs.lemmas.List.{length-map}
 use Rattle.regress_engine_insn.specs.InsnViews.{instruction}
 use Rattle.regress_engine_code.specs.Standing.{program_of}
@@ -8,7 +8,7 @@ use Rattle.regress_engine_search.proofs.ReadyLemmas.{body-asked, body-next}
 use Rattle.regress_engine_advance.proofs.ReadLemmas.{none-is}
 use Rattle.regress_engine_advance.proofs.TakenLemmas.{taking-any, taking-ready, body-taking}
 use Rattle.regress_engine_undo.proofs.DeadLemmas.{takes-same, takes-last, takes-over, takes-then}
-use Rattle.regress_engine_exec.specs.Attempts.{world}
+use Rattle.regress_engine_exec.specs.Attempts.{world_of}
 use Rattle.regress_engine_exec.proofs.PassedLemmas.{passed-takes, passed-body}
 use Rattle.regress_engine_exec.proofs.attempt.Attempt.near_way.Goals as goal
 
@@ -20,11 +20,11 @@ passed_before-near-requires g c = record { place = c.requires.body.3; first = c.
 
 pub places-init : goal.places-init
 places-init g c =
-    let w = world g.Input.InputIndexer.view c.args.self.now in
+    let w = world_of c.args.self.now.program.now (g.Input.InputIndexer.view c.args.self.now.input) in
     let i = instruction c.in-Some.insn.now in
     let j = instruction c.instruction-body.result.now in
     let stands = c.instruction-body.ensures.stands in
-    let dead = λ o. c.in-Some.ensures.dead (input_of w.view) c.args.forward o in
+    let dead = λ (o : ℕ). c.in-Some.ensures.dead (input_of w.view) c.args.forward o in
     let passed = c.passed_before-near.ensures in
     record {
       takes = passed-takes w c.args.at i j c.args.forward stands dead c.args.left c.args.offset c.passed_before-near.result passed;

@@ -3,7 +3,7 @@ use Rattle.std.proofs.Common.{◌≡◌, ℕ, List, ◌∷◌, sym, subst}
 use Rattle.regress_engine_insn.specs.Instructions.{byte_seq}
 use Rattle.regress_engine_insn.specs.InsnViews.{instruction}
 use Rattle.regress_engine_search.proofs.PlaceLemmas.{can-read}
-use Rattle.regress_engine_exec.specs.Attempts.{world}
+use Rattle.regress_engine_exec.specs.Attempts.{world_of}
 use Rattle.regress_engine_exec.specs.Trying.{IsPassed}
 use Rattle.regress_engine_exec.proofs.PassedLemmas.{passed-none, passed-other}
 use Rattle.regress_engine_exec.proofs.attempt.Attempt.passed_before.Goals as goal
@@ -13,7 +13,7 @@ taken_before-requires g c = can-read (g.Input.InputIndexer.view c.args.self.now.
 
 pub returns-in-Some : goal.returns-in-Some
 returns-in-Some g c =
-    let w = world g.Input.InputIndexer.view c.args.self.now in
+    let w = world_of c.args.self.now.program.now (g.Input.InputIndexer.view c.args.self.now.input) in
     let i = instruction c.args.insn.now in
     let j = instruction c.args.body.now in
     let (rest, is) = subst (λ x. IfSome x (λ b. (rest : List ℕ) × (i ≡ byte_seq (b ∷ rest)))) c.in-Some.is c.requires.first in
@@ -22,4 +22,4 @@ returns-in-Some g c =
     (passed-other w i j c.args.left c.args.offset c.taken_before.result c.in-Some.byte rest is taken.low taken.high taken.each taken.other)
 
 pub returns-in_default : goal.returns-in_default
-returns-in_default g c = passed-none (world g.Input.InputIndexer.view c.args.self.now) (instruction c.args.insn.now) (instruction c.args.body.now) c.args.forward c.args.left c.args.offset
+returns-in_default g c = passed-none (world_of c.args.self.now.program.now (g.Input.InputIndexer.view c.args.self.now.input)) (instruction c.args.insn.now) (instruction c.args.body.now) c.args.forward c.args.left c.args.offset
