@@ -1,6 +1,6 @@
 -- Characters that pass a test, one by one.
 use Rattle.std.specs.Prelude.{MatchOption}
-use Rattle.std.proofs.Common.{◌≡◌, ℕ, zero, suc, ◌+◌, ◌-◌, ◌<◌, ◌≤◌, Bool, true, false, List, inl, inr, Option, Some, None, if◌then◌else◌, option_and_then, refl, sym, ap, ap₂, ◌∙◌, subst, arith}
+use Rattle.std.proofs.Common.{◌≡◌, ℕ, zero, suc, ◌+◌, ◌-◌, ◌<◌, ◌≤◌, Bool, true, false, List, inl, inr, Option, Some, None, if◌then◌else◌, option_and_then, refl, sym, ap, ◌∙◌, subst, arith}
 use Rattle.regress_meaning.specs.Meaning.{Direction}
 use Rattle.regress_meaning.specs.Inputs.{Input}
 use Rattle.regress_meaning.specs.Steps.{passed}
@@ -80,30 +80,6 @@ module _ (input : Input) (passes : ℕ → Bool) (dir : Direction) where
   after-each (suc n) o each =
       ap (option_and_then (after input passes dir n)) (sym (each o (omega arith) (omega arith))) ∙ after-each n (suc o) (λ k from less. each k (omega (arith, from)) (omega (arith, less))) ∙ ap Some (omega arith)
 
-  -- behind some that are one unit each it goes as far as from before these
-  far-each : (n d o : ℕ) → n ≤ d → ((k : ℕ) → o ≤ k → k < o + n → Some (suc k) ≡ passed passes (input.next dir k)) → scan_while input passes dir (d - n) (o + n) ≡ scan_while input passes dir d o
-  far-each zero d o within each =
-      let few : d - zero ≡ d = omega arith in
-      let end : o + zero ≡ o = omega arith in
-      ap₂ (scan_while input passes dir) few end
-  far-each (suc n) d o within each =
-      let few : d - suc n ≡ d - 1 - n = omega (arith, within) in
-      let end : o + suc n ≡ suc o + n = omega arith in
-      ap₂ (scan_while input passes dir) few end
-      ∙ far-each n (d - 1) (suc o) (omega (arith, within)) (λ k from less. each k (omega (arith, from)) (omega (arith, less)))
-      ∙ far-goes input passes dir d o (suc o) (omega (arith, within)) (each o (omega arith) (omega arith))
-
-  pub far-behind : (times o near : ℕ) → o ≤ near → near - o ≤ times → ((k : ℕ) → o ≤ k → k < near → Some (suc k) ≡ passed passes (input.next dir k))
-      → scan_while input passes dir (times - (near - o)) near ≡ scan_while input passes dir times o
-  far-behind times o near low high each =
-      let end : near ≡ o + (near - o) = omega (arith, low) in
-      ap (scan_while input passes dir (times - (near - o))) end ∙ far-each (near - o) times o high (λ k from less. each k from (omega (arith, less, end)))
-
-  pub after-all : (o near : ℕ) → o ≤ near → ((k : ℕ) → o ≤ k → k < near → Some (suc k) ≡ passed passes (input.next dir k)) → after input passes dir (near - o) o ≡ Some near
-  after-all o near low each =
-      let end : o + (near - o) ≡ near = omega (arith, low) in
-      after-each (near - o) o (λ k from less. each k from (omega (arith, less, end))) ∙ ap Some end
-
   -- so some are taken, and then one more
   pub begun-each : (more o past : ℕ) → o < past → past - o ≤ more + 1 → ((k : ℕ) → o ≤ k → k < past → Some (suc k) ≡ passed passes (input.next dir k))
       → IsBegun (after input passes dir) (λ q. passed passes (input.next dir q)) more o (past - 1 - o) (past - 1) past
@@ -143,11 +119,6 @@ after-reads v all passes dir (suc n) o q can e =
         → ((r : ℕ) → passed passes ((input_of v).next dir o) ≡ Some r → after (input_of v) passes dir n r ≡ Some q → CanRead v q) → CanRead v q
     by_found None h f on = absurd (cc f)
     by_found (Some r) h f on = on r h f
-
--- and behind some that are one unit each
-pub each-reads : (v : View) → AreOfKind v.kind v.units → (passes : ℕ → Bool) (dir : Direction) (o near : ℕ) → CanRead v o → o ≤ near
-    → ((k : ℕ) → o ≤ k → k < near → Some (suc k) ≡ passed passes ((input_of v).next dir k)) → CanRead v near
-each-reads v all passes dir o near can low each = after-reads v all passes dir (near - o) o near can (after-all (input_of v) passes dir o near low each)
 
 -- a test of bytes under 0x80, and the list of those that pass
 pub by-members : (f : ℕ → Bool) → ((c : ℕ) → 0x80 ≤ c → f c ≡ false) → (found : Option (ℕ × ℕ)) → passed f found ≡ passed (holds (members f)) found

@@ -8,7 +8,6 @@ ghost use Rattle.regress_engine_runs.specs.States.{Marks};
 ghost use Rattle.regress_engine_runs.specs.Runs.{after_times, as_far};
 ghost use Rattle.regress_engine_runs.specs.Closed.{Fits};
 
-use crate::ascii::ascii_end;
 use crate::class::ScannedBracket;
 use crate::far::scan_while;
 use crate::stops::as_far_searched;
@@ -49,9 +48,7 @@ pub fn as_far_ahead<Input: CharInput>(
                 return Some(far);
             }
             let class = ScannedBracket { bc };
-            let near = ascii_end(input, &class, times, offset);
-            let left = times - (near - offset);
-            Some(scan_while(input, Forward::new(), &class, left, near))
+            Some(scan_while(input, Forward::new(), &class, times, offset))
         }
         Insn::MatchAny => Some(scan_while(input, Forward::new(), &MatchAny::new(), times, offset)),
         Insn::MatchAnyExceptLineTerminator => {

@@ -8,7 +8,7 @@ use Rattle.regress_engine_input.specs.Views.{input_of}
 use Rattle.regress_engine_insn.specs.Instructions as code
 use Rattle.regress_engine_code.specs.Standing.{program_of}
 use Rattle.regress_engine_search.proofs.BracketLemmas.{bracket_takes}
-use Rattle.regress_engine_singles.proofs.PassingLemmas.{by-members, each-reads, far-behind, far-taken}
+use Rattle.regress_engine_singles.proofs.PassingLemmas.{by-members, far-taken}
 use Rattle.regress_engine_singles.proofs.ahead.as_far_ahead.Goals as goal
 
 pub returns-in-AsciiBracket : goal.returns-in-AsciiBracket
@@ -28,23 +28,15 @@ returns-in-Some g c = λ groups.
     (c.in-Some.ensures
     ∙ far-taken (program_of c.args.program.now) input (bracket_has class.invert (ends_of class.cps.intervals.items)) (code.bracket c.in-Bracket.index) ahead groups (λ o. bracket_takes (input.next ahead o) _ _ _ within here) c.args.times c.args.offset)
 
-pub scan_while-requires-in-Bracket-clause-place : goal.scan_while-requires-in-Bracket-clause-place
-scan_while-requires-in-Bracket-clause-place g c =
-    let class = c.index-brackets-index.result in
-    each-reads (g.Input.InputIndexer.view c.args.input.now) (g.met.Input.InputIndexer.are_of_kind c.args.input.now) (bracket_has class.invert (ends_of class.cps.intervals.items)) ahead
-    c.args.offset c.ascii_end-near.result c.requires.place c.ascii_end-near.ensures.low c.ascii_end-near.ensures.each
-
 pub returns-in_default-as_far_searched : goal.returns-in_default-as_far_searched
 returns-in_default-as_far_searched g c = λ groups.
     let input = input_of (g.Input.InputIndexer.view c.args.input.now) in
     let class = c.index-brackets-index.result in
-    let passes = bracket_has class.invert (ends_of class.cps.intervals.items) in
     let here = rw c.brackets.ensures at c.index-brackets-index.is in
     let within = rw c.in-Bracket.is at c.requires.fits in
-    let behind = far-behind input passes ahead c.args.times c.args.offset c.ascii_end-near.result c.ascii_end-near.ensures.low c.ascii_end-near.ensures.high c.ascii_end-near.ensures.each in
     rw c.in-Bracket.is
-    (c.scan_while-in-Bracket.ensures ∙ behind
-    ∙ far-taken (program_of c.args.program.now) input passes (code.bracket c.in-Bracket.index) ahead groups (λ o. bracket_takes (input.next ahead o) _ _ _ within here) c.args.times c.args.offset)
+    (c.scan_while-in-Bracket.ensures
+    ∙ far-taken (program_of c.args.program.now) input (bracket_has class.invert (ends_of class.cps.intervals.items)) (code.bracket c.in-Bracket.index) ahead groups (λ o. bracket_takes (input.next ahead o) _ _ _ within here) c.args.times c.args.offset)
 
 pub returns-in-MatchAny : goal.returns-in-MatchAny
 returns-in-MatchAny g c = λ groups.
