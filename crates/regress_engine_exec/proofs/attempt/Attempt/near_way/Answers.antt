@@ -1,4 +1,4 @@
-use Rattle.std.proofs.Common.{ℕ, ◌-◌, None, Some, inl, inr, map, sym, ◌∙◌, arith}
+use Rattle.std.proofs.Common.{◌-◌, None, Some, inl, inr, map, sym, ◌∙◌, arith}
 use Rattle.std.proofs.lemmas.List.{length-map}
 use Rattle.regress_engine_insn.specs.InsnViews.{instruction}
 use Rattle.regress_engine_code.specs.Standing.{program_of}
@@ -24,7 +24,7 @@ places-init g c =
     let i = instruction c.in-Some.insn.now in
     let j = instruction c.instruction-body.result.now in
     let stands = c.instruction-body.ensures.stands in
-    let dead = λ (o : ℕ). c.in-Some.ensures.dead (input_of w.view) c.args.forward o in
+    let dead = c.in-Some.ensures.dead (input_of w.view) c.args.forward in
     let passed = c.passed_before-near.ensures in
     record {
       takes = passed-takes w c.args.at i j c.args.forward stands dead c.args.left c.args.offset c.passed_before-near.result passed;
