@@ -2,3 +2,4 @@ pub mod TryLemmas
 pub mod WayLemmas
 pub mod RememberLemmas
 pub mod ExitLemmas
+pub mod PassedLemmas

@@ -14,7 +14,7 @@ ghost use Rattle.regress_engine_search.specs.Search.{Suits};
 ghost use Rattle.regress_engine_undo.specs.Dead.{GivesFrom, TakesFrom};
 ghost use Rattle.regress_engine_exec.specs.Attempts.{world};
 ghost use Rattle.regress_engine_exec.specs.Remembering.{IsUnderWay, Remembers};
-ghost use Rattle.regress_engine_exec.specs.Trying.{advanced, GoesBack, IsHeldIn, Undoes};
+ghost use Rattle.regress_engine_exec.specs.Trying.{advanced, GoesBack, IsHeldIn, IsPassed, Undoes};
 
 use crate::attempt::Attempt;
 use crate::remembered::Remembered;
@@ -23,7 +23,7 @@ use regress_engine_advance::{
 };
 use regress_engine_insn::Insn;
 use regress_engine_search::ExecutorInput;
-use regress_engine_singles::first_byte;
+use regress_engine_singles::{first_byte, taken_before};
 use regress_engine_undo::{Frame, Memory, Spot, Undo, is_ahead};
 use regress_front_core::GroupData;
 use std::alloc::AllocError;
@@ -162,6 +162,29 @@ impl<'a, Input: ExecutorInput> Attempt<'a, Input> {
         }
     }
 
+    /// The offset up to which the body of a lazy loop surely takes one byte after another ahead of one, at most so many, and what
+    /// is taken first behind the loop takes none of them: no match goes on from a place before it. The offset itself where that
+    /// is not told.
+    #[inline(always)]
+    fn passed_before(
+        &self,
+        insn: &Insn,
+        first: Option<u8>,
+        body: &Insn,
+        left: usize,
+        forward: bool,
+        offset: usize,
+    ) -> usize
+        requires place { IsAtPlace (reading_of (Input.view self.now.input)) offset }
+        requires first { IfSome first (λ b. (rest : List ℕ) × (instruction insn.now ≡ byte_seq (b ∷ rest))) }
+        ensures { IsPassed (world Input.view self.now) (instruction insn.now) (instruction body.now) forward left offset result }
+    {
+        match first {
+            Some(byte) if forward => taken_before(&self.input, body, byte, left, offset),
+            _ => offset,
+        }
+    }
+
     /// The near one of some offsets, from one on behind each iteration of the instruction before an address, at most so many,
     /// at which it may continue there, where what is taken first from there on stands, and how many may follow; `None`
     /// where it stands at none of them.
@@ -184,8 +207,8 @@ impl<'a, Input: ExecutorInput> Attempt<'a, Input> {
         };
         let first = first_byte(insn);
         let body = self.instruction(at - 1);
-        let mut near = offset;
-        let mut rest = left;
+        let mut near = self.passed_before(insn, first, body, left, forward, offset);
+        let mut rest = left - (near - offset);
         'places: loop {
             if self.stands(insn, first, forward, groups, near) {
                 return Some((near, rest));
