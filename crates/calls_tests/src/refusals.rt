@@ -50,4 +50,6 @@ fn refuses_a_pattern_past_its_limit(rt: HostRuntime) {
         assert_eq!(rt; refused.text, "pattern costs more than its limit");
         compile(alloc, source, b"", least, &mut tables, &mut pattern).expect(&rt, "a pattern");
     }
+    assert!(rt; pattern.into_box(alloc).is_some());
+    assert!(rt; tables.into_box(alloc).is_some());
 }

@@ -8,6 +8,9 @@ ghost use Rattle.regress_engine_memory.specs.Needs.{are_needs, covers, covers_it
 use regress_engine_insn::{Insn, bytes_of};
 use std::alloc::{AllocError, Global};
 
+/// In at most so many rounds it is told how many units are needed.
+const MOST_ROUNDS: usize = 4;
+
 /// For each address of a program how many units a run takes from there on, at least.
 #[derive(Debug, Drop)]
 pub struct Needs {
@@ -102,8 +105,9 @@ impl Needs {
         true
     }
 
-    /// How many units are needed from an address on, as its instruction suggests it, where the addresses behind it are known.
-    fn suggested_at(&self, insns: &[Insn], at: usize) -> usize {
+    /// How many units are needed from an address on, as its instruction suggests it, where the addresses behind it are known, and
+    /// of those before it what was thought before.
+    fn suggested_at(&self, insns: &[Insn], before: &Needs, at: usize) -> usize {
         let Some(insn) = insns.get(at) else {
             return 0;
         };
@@ -119,7 +123,10 @@ impl Needs {
                 first.min(self.from(repetition.exit as usize))
             }
             Insn::LoopAgain { begin } => match insns.get(*begin as usize) {
-                Some(Insn::EnterLoop(repetition)) => self.from(repetition.exit as usize),
+                Some(Insn::EnterLoop(repetition)) => {
+                    let out = self.from(repetition.exit as usize);
+                    out.min(before.from((*begin as usize).saturating_add(1)))
+                }
                 _ => 0,
             },
             Insn::Loop1CharBody { min_iters, .. } => {
@@ -139,17 +146,36 @@ impl Needs {
         }
     }
 
-    /// What the instructions of a program suggest, from the last address on, which nothing is told of yet.
-    pub(crate) fn suggested(alloc: Global, insns: &[Insn]) -> Result<Needs, AllocError> {
-        let mut units = Vec::new(alloc);
-        units.resize(insns.len(), 0)?;
-        let mut needs = Needs { units };
+    /// The same number of units for each address of a program.
+    fn all(alloc: Global, insns: &[Insn], units: usize) -> Result<Needs, AllocError> {
+        let mut all = Vec::new(alloc);
+        all.resize(insns.len(), units)?;
+        Ok(Needs { units: all })
+    }
+
+    /// What the instructions of a program suggest, from the last address on, by what was thought of each before.
+    fn suggested_by(alloc: Global, insns: &[Insn], before: &Needs) -> Result<Needs, AllocError> {
+        let mut needs = Needs::all(alloc, insns, 0)?;
         for at in (0..insns.len()).rev() {
-            let more = needs.suggested_at(insns, at);
+            let more = needs.suggested_at(insns, before, at);
             if at < needs.units.len() {
                 needs.units[at] = more;
             }
         }
         Ok(needs)
+    }
+
+    /// What the instructions of a program suggest. An iteration may need less than what follows its repetition, where its body has
+    /// an atomic group or a reference; so it is told in rounds, at first as if iterations needed any amount. Where the numbers do
+    /// not pass the test after that, nothing is needed.
+    pub(crate) fn suggested(alloc: Global, insns: &[Insn]) -> Result<Needs, AllocError> {
+        let mut needs = Needs::all(alloc, insns, usize::MAX)?;
+        for _ in 0..MOST_ROUNDS {
+            needs = Needs::suggested_by(alloc, insns, &needs)?;
+            if needs.are_needs(insns) {
+                return Ok(needs);
+            }
+        }
+        Needs::all(alloc, insns, 0)
     }
 }

@@ -12,7 +12,7 @@ of_tree-requires c = let (p, of_text) = c.in_ok-tree.ensures.accepted in (length
 pub returns-clause-accepted : goal.returns-clause-accepted
 returns-clause-accepted c =
     let (p, of_text) = c.in_ok-tree.ensures.accepted in
-    IfOk-weaker c.of_tree.result _ _ (λ compiled both. (p, of_text.spelled, of_text.within, both))
+    IfOk-weaker c.of_tree.result _ _ (λ compiled both. (p, of_text.spelled, of_text.within, both.0, both.1))
     (c.of_tree.ensures.accepted whole_text _ _ _ p (of_text, ap table c.in_ok-tree.ensures.kept.1, ap options c.in_ok-tree.ensures.kept.0))
 
 pub returns-clause-refused : goal.returns-clause-refused
