@@ -1,6 +1,7 @@
 pub mod ByteLemmas
 pub mod Chains
 pub mod Failures
+pub mod LeadAheadLemmas
 pub mod LeadLemmas
 pub mod FirstByteLemmas
 pub mod SparingLemmas
