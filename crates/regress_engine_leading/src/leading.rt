@@ -224,7 +224,7 @@ pub fn known_at<Input: CharInput>(program: &CompiledRegex, input: &Input, start:
     if insns.is_empty() {
         return Beginning::At(0);
     }
-    if program.is_unit_program() {
+    if input.units().is_some() {
         if let Some(past) = passed_leads(program, input, start) {
             return Beginning::Passed(past);
         }
