@@ -13,7 +13,7 @@ mod references;
 mod times;
 
 pub use advancing::advance;
-pub use characters::{any, any_in_line, ascii_bracket, bracket};
+pub use characters::{any, any_in_line, ascii_bracket, bracket, this_char};
 pub use dead::{is_dead, is_dead_ahead, is_dead_behind};
 pub use edges::{boundary, holds_at, is_word, word_beside};
 pub use first::taken_first;
