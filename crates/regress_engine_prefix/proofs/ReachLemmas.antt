@@ -123,14 +123,14 @@ pub whole-text : (text : List ℕ) (place : ℕ) → encode_utf8_all text ≡ en
 whole-text text place = ap encode_utf8_all (sym (take-append-drop place text)) ∙ encodes-append (take place text) (drop place text)
 
 -- the byte so many bytes behind a place
-ahead-at : (text : List ℕ) (place distance : ℕ)
+pub ahead-at : (text : List ℕ) (place distance : ℕ)
     → slice_get (encode_utf8_all text) (length (encode_utf8_all (take place text)) + distance) ≡ slice_get (encode_utf8_all (drop place text)) distance
 ahead-at text place distance =
     let front = encode_utf8_all (take place text) in
     ap (λ xs. slice_get xs (length front + distance)) (whole-text text place) ∙ front-get front (encode_utf8_all (drop place text)) distance
 
 -- the bytes from a place on
-rest-at : (text : List ℕ) (place : ℕ) → drop (length (encode_utf8_all (take place text))) (encode_utf8_all text) ≡ encode_utf8_all (drop place text)
+pub rest-at : (text : List ℕ) (place : ℕ) → drop (length (encode_utf8_all (take place text))) (encode_utf8_all text) ≡ encode_utf8_all (drop place text)
 rest-at text place =
     let front = encode_utf8_all (take place text) in
     ap (drop (length front)) (whole-text text place) ∙ drop-append_seam front (encode_utf8_all (drop place text))

@@ -114,6 +114,11 @@ abbrev pub AreNear : StartPredicate → List ℕ → Type 0
 AreNear (ByteNear set landmark) points = AreLowTo landmark points
 AreNear _ points = Unit {0}
 
+-- it tells a landmark
+abbrev pub tells_landmark : StartPredicate → Bool
+tells_landmark (ByteNear set landmark) = true
+tells_landmark _ = false
+
 -- In each text of code points the bytes of the characters from a place on begin so, wherever the tree has an outcome; a byte so
 -- far on is so many characters on.
 pub record BeginsCharacters (start : StartPredicate) (t : Tree) : Type 0 where
