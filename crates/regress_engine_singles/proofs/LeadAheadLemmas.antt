@@ -1,19 +1,21 @@
 -- The byte with which the character ahead begins, over bytes and over units.
 use Rattle.std.specs.Prelude.{slice_get, get_or, is_some, option_map, encode_utf8}
-use Rattle.std.proofs.Common.{◌≡◌, ◌⊎◌, inl, inr, ℕ, suc, ◌<◌, ◌≤◌, ◌&&◌, Bool, true, false, List, Option, Some, None, if◌then◌else◌, All, refl, sym, ap, ◌∙◌, subst, arith}
+use Rattle.std.proofs.Common.{◌≡◌, ◌⊎◌, inl, inr, ℕ, suc, ◌<◌, ◌≤◌, ◌&&◌, Bool, true, false, List, length, Option, Some, None, if◌then◌else◌, All, refl, sym, ap, ◌∙◌, subst, arith}
 use Rattle.std.proofs.lemmas.Bool.Decides.{nat_tests}
 use Rattle.std.proofs.lemmas.List.Elements.{All-get_or}
-use Rattle.std.proofs.lemmas.Option.{slice_get_within, get_or_from_slice_get}
+use Rattle.std.proofs.lemmas.Str.{encode_ascii}
+use Rattle.std.proofs.lemmas.Option.{slice_get_past, slice_get_within, get_or_from_slice_get}
 use Rattle.regress_meaning.specs.Meaning.{Forward}
 use Rattle.regress_meaning.specs.Tokens.{is_high, is_low, joined}
 use Rattle.regress_meaning.specs.Table.{Table}
 use Rattle.regress_meaning.specs.TableParts.{is_code_point}
 use Rattle.regress_meaning.specs.Inputs.{is_continuation, pair_right}
 use Rattle.regress_front_sets.proofs.FirstByteLemmas.{lead}
-use Rattle.regress_engine_input.specs.Views.{View, Kind, utf8, ascii, utf16, ucs2, AreOfKind, are_bytes, input_of, input_of_kind, CanRead}
+use Rattle.regress_engine_input.specs.Views.{View, Kind, utf8, ascii, utf16, ucs2, AreOfKind, are_bytes, input_of, input_of_kind, IsReadable, CanRead}
 use Rattle.regress_engine_prefix.specs.FirstBytes.{MayLead}
 use Rattle.regress_engine_prefix.proofs.LeadLemmas.{has-lead, MayLead-first}
 use Rattle.regress_engine_singles.specs.Leads.{lead_ahead}
+use Rattle.regress_engine_singles.proofs.ByteLemmas.{unit-next}
 use Rattle.regress_engine_singles.proofs.LeadLemmas.{next-begins, none-ahead, some-ahead, unit-leads}
 
 -- ---- characters of units are code points
@@ -75,6 +77,42 @@ module _ (v : View) where
 
   lead-unit : are_bytes v.kind ≡ false → (o : ℕ) → lead_ahead v o ≡ told ((input_of v).next Forward o)
   lead-unit are o = ap (λ (t : Bool). if t then slice_get v.units o else told ((input_of v).next Forward o)) are
+
+  -- over units it is that of the character that is read
+  module _ (are : are_bytes v.kind ≡ false) (o : ℕ) where
+    pub lead_none : None ≡ (input_of v).next Forward o → None ≡ lead_ahead v o
+    lead_none e = sym (lead-unit are o ∙ ap told (sym e))
+
+    pub lead_read : (c q b : ℕ) → (input_of v).next Forward o ≡ Some (c, q) → slice_get (encode_utf8 c) 0 ≡ Some b → Some b ≡ lead_ahead v o
+    lead_read c q b e first = ap Some (sym (get_or_from_slice_get (encode_utf8 c) 0 b 0 first)) ∙ sym (lead-unit are o ∙ ap told e)
+
+    -- where that is one of ASCII, its unit
+    pub lead_low : (b : ℕ) → slice_get v.units o ≡ Some b → b < 0x80 → Some b ≡ lead_ahead v o
+    lead_low b here low =
+        lead_read b (suc o) b (unit-next v.kind v.table v.unicode v.units b o low here) (ap (λ bs. slice_get bs 0) (encode_ascii b low))
+
+    -- and none where the text ends
+    pub lead_past : length v.units ≤ o → None ≡ lead_ahead v o
+    lead_past past = lead_none (by_kind v.kind are)
+      where
+        none : slice_get v.units o ≡ None
+        none = slice_get_past v.units o past
+
+        by_kind : (kind : Kind) → are_bytes kind ≡ false → None ≡ (input_of_kind kind v.table v.unicode v.units).next Forward o
+        by_kind utf8 units = absurd (cc units)
+        by_kind ascii units = absurd (cc units)
+        by_kind utf16 units = rw none refl
+        by_kind ucs2 units = rw none refl
+
+    -- characters may be read from each offset
+    pub lead_can : o ≤ length v.units → CanRead v o
+    lead_can room = by_kind v.kind are
+      where
+        by_kind : (kind : Kind) → are_bytes kind ≡ false → IsReadable kind v.units o
+        by_kind utf8 units = absurd (cc units)
+        by_kind ascii units = absurd (cc units)
+        by_kind utf16 units = room
+        by_kind ucs2 units = room
 
   module _ (all : AreOfKind v.kind v.units) where
     -- the character ahead of an offset begins with a byte
