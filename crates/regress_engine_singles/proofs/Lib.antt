@@ -9,5 +9,6 @@ pub mod LeadingLemmas
 pub mod LineLemmas
 pub mod PassingLemmas
 pub mod StopLemmas
+pub mod UnitStopLemmas
 pub mod DeadLemmas
 pub mod BoundaryLemmas
