@@ -11,7 +11,7 @@ use Rattle.regress_meaning.specs.Table.{Table}
 use Rattle.regress_meaning.specs.TableParts.{is_code_point}
 use Rattle.regress_meaning.specs.Inputs.{is_continuation, pair_right}
 use Rattle.regress_front_sets.proofs.FirstByteLemmas.{lead}
-use Rattle.regress_engine_input.specs.Views.{View, Kind, utf8, ascii, utf16, ucs2, AreOfKind, are_bytes, input_of, input_of_kind, IsReadable, CanRead}
+use Rattle.regress_engine_input.specs.Views.{View, Kind, utf8, ascii, utf16, ucs2, AreOfKind, are_bytes, in_bytes, in_units, input_of, input_of_kind, IsReadable, CanRead}
 use Rattle.regress_engine_prefix.specs.FirstBytes.{MayLead}
 use Rattle.regress_engine_prefix.proofs.LeadLemmas.{has-lead, MayLead-first}
 use Rattle.regress_engine_singles.specs.Leads.{lead_ahead}
@@ -77,6 +77,14 @@ module _ (v : View) where
 
   lead-unit : are_bytes v.kind ≡ false → (o : ℕ) → lead_ahead v o ≡ told ((input_of v).next Forward o)
   lead-unit are o = ap (λ (t : Bool). if t then slice_get v.units o else told ((input_of v).next Forward o)) are
+
+  pub lead_bytes : (o : ℕ) → None ≡ in_units v.kind (Some v.units) → in_bytes v.kind (slice_get v.units o) ≡ lead_ahead v o
+  lead_bytes o none = by_kind (are_bytes v.kind) refl
+    where
+      by_kind : (t : Bool) → are_bytes v.kind ≡ t → in_bytes v.kind (slice_get v.units o) ≡ lead_ahead v o
+      by_kind true are = ap (λ (b : Bool). let x : Option ℕ = if b then slice_get v.units o else None in x) are ∙ sym (lead-byte are o)
+      by_kind false are =
+          let never : None ≡ Some v.units = none ∙ ap (λ (b : Bool). let x : Option (List ℕ) = if b then None else Some v.units in x) are in absurd (cc never)
 
   -- over units it is that of the character that is read
   module _ (are : are_bytes v.kind ≡ false) (o : ℕ) where
