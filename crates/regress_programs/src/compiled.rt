@@ -42,8 +42,7 @@ fn rewrite(alloc: Global, regex: &mut ir::Regex<'_>) -> Result<(), Error>
 }
 
 impl Compiled {
-    /// Compiles a tree: it becomes the program of units as it was read, and the program of bytes once it is rewritten, unless the
-    /// flags ask that it is not.
+    /// Compiles a tree: it becomes both programs once it is rewritten, unless the flags ask that it is not.
     fn of_tree(alloc: Global, mut regex: ir::Regex<'_>) -> Result<Compiled, Error>
         requires { (n : ℕ) × IsWellFormed n (tree regex.node) }
         ensures accepted { (made : Pattern → Pattern) → (t : Table) → (o : Options) → (text : List ℕ) → (p : Pattern) → IsReadFrom made t o text p regex.entry →
@@ -53,8 +52,8 @@ impl Compiled {
         ensures fits { (made : Pattern → Pattern) → (t : Table) → (o : Options) → (text : List ℕ) → (p : Pattern) → IsReadFrom made t o text p regex.entry →
             o.sets ≡ false → length text ≤ 10000 → IfErr result (λ e. e ≢ Error.TooLarge) }
     {
-        let unit_program = emit_units(alloc, &regex)?;
         rewrite(alloc, &mut regex)?;
+        let unit_program = emit_units(alloc, &regex)?;
         let byte_program = emit(alloc, &regex)?;
         Ok(Compiled {
             byte_program,

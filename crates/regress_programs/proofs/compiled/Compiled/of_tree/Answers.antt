@@ -1,22 +1,25 @@
 use Rattle.std.proofs.Common.{true, false}
 use Rattle.std.proofs.lemmas.Result.{err_from_is_err_and}
-use Rattle.regress_programs.proofs.ProgramLemmas.{as-parsed, as-rewritten, read-program, program-refused, refused-fits}
+use Rattle.regress_programs.proofs.ProgramLemmas.{as-rewritten, read-program, program-refused, refused-fits}
 use Rattle.regress_programs.proofs.compiled.Compiled.of_tree.Goals as goal
 
 pub emit-requires : goal.emit-requires
 emit-requires c = let (n, formed) = c.requires in (n, (c.rewrite.ensures.rewritten n formed).well_formed)
 
+pub emit_units-requires : goal.emit_units-requires
+emit_units-requires c = let (n, formed) = c.requires in (n, (c.rewrite.ensures.rewritten n formed).well_formed)
+
 pub returns-in_err-unit_program-clause-refused : goal.returns-in_err-unit_program-clause-refused
 returns-in_err-unit_program-clause-refused c = λ made t o text p from.
-    let read = as-parsed made t o text p c.args.regex from in
-    let refused = program-refused made t o text p c.args.regex read true _ c.in_err-unit_program.ensures.refused in
+    let read = as-rewritten made t o text p c.args.regex from c.rewrite.new.regex c.rewrite.ensures.rewritten c.rewrite.ensures.kept.0 c.rewrite.ensures.kept.1 in
+    let refused = program-refused made t o text p c.rewrite.new.regex read true _ c.in_err-unit_program.ensures.refused in
     let answered = err_from_is_err_and c.from_residual.result c.from_residual.ensures.1 in
     rw (answered.1, answered.2) refused
 
 pub returns-in_err-unit_program-clause-fits : goal.returns-in_err-unit_program-clause-fits
 returns-in_err-unit_program-clause-fits c = λ made t o text p from plain short.
-    let read = as-parsed made t o text p c.args.regex from in
-    let refused = program-refused made t o text p c.args.regex read true _ c.in_err-unit_program.ensures.refused in
+    let read = as-rewritten made t o text p c.args.regex from c.rewrite.new.regex c.rewrite.ensures.rewritten c.rewrite.ensures.kept.0 c.rewrite.ensures.kept.1 in
+    let refused = program-refused made t o text p c.rewrite.new.regex read true _ c.in_err-unit_program.ensures.refused in
     let answered = err_from_is_err_and c.from_residual.result c.from_residual.ensures.1 in
     rw (answered.1, answered.2) (refused-fits made t o text _ refused plain short)
 
@@ -41,5 +44,5 @@ returns-clause-accepted c = λ made t o text p from.
       from.0.spelled,
       from.0.within,
       read-program made t o text p c.rewrite.new.regex read c.in_ok-byte_program.byte_program c.in_ok-byte_program.ensures.emitted,
-      read-program made t o text p c.args.regex (as-parsed made t o text p c.args.regex from) c.in_ok-unit_program.unit_program c.in_ok-unit_program.ensures.emitted,
+      read-program made t o text p c.rewrite.new.regex read c.in_ok-unit_program.unit_program c.in_ok-unit_program.ensures.emitted,
     )
