@@ -1,4 +1,7 @@
 use Rattle.std.proofs.Common.{true, false, arith}
+use Rattle.regress_meaning.specs.Flags.{is_unicode}
+use Rattle.regress_front.specs.FlagWords.{options}
+use Rattle.regress_front.specs.TableViews.{table}
 use Rattle.regress_front.specs.Trees.{tree}
 use Rattle.std.proofs.lemmas.Result.{err_from_is_err_and}
 use Rattle.regress_programs.proofs.ProgramLemmas.{as-parsed, as-rewritten, read-program, program-refused, refused-fits}
@@ -46,10 +49,11 @@ pub returns-clause-small : goal.returns-clause-small
 returns-clause-small c =
     let (n, formed) = c.requires in
     let rewritten = c.rewrite.ensures.rewritten n formed in
+    let rewrites = c.rewrite.new.regex in
     let bytes = c.in_ok-byte_program.byte_program in
     let units = c.in_ok-unit_program.unit_program in
-    let few_bytes = c.spreads_bound_counts.ensures bytes.units _ _ n (tree c.rewrite.new.regex.node) rewritten.well_formed.lawful in
-    let few_units = c.spreads_bound_counts.ensures units.units _ _ n (tree c.args.regex.node) formed.lawful in (
+    let few_bytes = c.spreads_bound_counts.ensures bytes.units (table rewrites.tables.now) (is_unicode (options rewrites.flags)) n (tree rewrites.node) rewritten.well_formed.lawful in
+    let few_units = c.spreads_bound_counts.ensures units.units (table c.args.regex.tables.now) (is_unicode (options c.args.regex.flags)) n (tree c.args.regex.node) formed.lawful in (
       omega (arith, c.in_ok-byte_program.ensures.emitted.counted, few_bytes, rewritten.few_spread),
       omega (arith, c.in_ok-unit_program.ensures.emitted.counted, few_units),
     )
