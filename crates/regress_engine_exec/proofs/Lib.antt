@@ -1,3 +1,4 @@
 pub mod TryLemmas
 pub mod WayLemmas
 pub mod RememberLemmas
+pub mod CountLemmas

@@ -1,14 +1,18 @@
 //! The first place of a text from which a run has an answer.
-ghost use Rattle.std.specs.Prelude.{IfOk};
+ghost use Rattle.std.specs.Prelude.{◌≡◌, ℕ, Option, Some, IfOk};
 ghost use Rattle.regress_engine_code.specs.Standing.{program_of};
 ghost use Rattle.regress_engine_input.specs.Views.{input_of, reading_of};
 ghost use Rattle.regress_engine_runs.specs.Meets.{IsAtPlace};
+ghost use Rattle.regress_engine_runs.specs.States.{Whole};
 ghost use Rattle.regress_engine_search.specs.Answering.{IsAnswer, IsFound};
 ghost use Rattle.regress_engine_exec.specs.Attempts.{searched};
+ghost use Rattle.regress_engine_exec.specs.Counting.{RunsIn, Spends, Takes};
+ghost use Rattle.regress_engine_exec.specs.Ending.{IfEnded, IfStopped};
 ghost use Rattle.regress_engine_exec.specs.Remembering.{Remembers};
 ghost use Rattle.regress_engine_exec.specs.Searches.{groups_of};
 
 use crate::attempt::Attempt;
+use crate::budget::{Budget, Ended};
 use crate::remembered::Remembered;
 use crate::scratch::Scratch;
 use regress_engine_advance::beside;
@@ -17,23 +21,27 @@ use regress_engine_search::{ExecutorInput, SearchContext};
 use std::alloc::AllocError;
 
 /// Searches from an offset on, where the text goes on as the program's start predicate says. It answers the offset from which the
-/// first run has an answer, and where that ends; the scratch has the answer's groups.
+/// first run has an answer, and where that ends; the scratch has the answer's groups. Or it answers that no more steps may be counted.
 #[inline(always)]
-pub(crate) fn first_from<Input: ExecutorInput>(
+pub(crate) fn first_from<Input: ExecutorInput, B: Budget>(
     context: &SearchContext<'_, Input>,
     scratch: &mut Scratch,
     remembered: &mut Remembered,
+    budget: &mut B,
     offset: usize,
-) -> Result<Option<(usize, usize)>, AllocError>
+) -> Result<Ended<(usize, usize)>, AllocError>
     requires place { IsAtPlace (reading_of (Input.view context.now.input)) offset }
     requires so { Remembers (searched Input.view context.now) remembered.old }
-    ensures found { IfOk result (λ found. IsFound (program_of context.now.program.now) (input_of (Input.view context.now.input)) offset found (groups_of scratch.new)) }
+    ensures found { IfOk result (λ e. IfEnded e (λ found. IsFound (program_of context.now.program.now) (input_of (Input.view context.now.input)) offset found (groups_of scratch.new))) }
+    ensures counted { IfOk result (λ _. (n : ℕ) × Takes (program_of context.now.program.now) (input_of (Input.view context.now.input)) offset n
+        × Spends (B.left budget.old) (B.left budget.new) n) }
+    ensures stopped { IfOk result (λ e. IfStopped e (B.left budget.new ≡ Some 0)) }
     ensures so { Remembers (searched Input.view context.now) remembered.new }
 {
     let mut from = offset;
     'places: loop {
         let Some(start) = context.next_start(from) else {
-            return Ok(None);
+            return Ok(Ended::With(None));
         };
         let first = match known_at(context.program, &context.input, start) {
             Beginning::Passed(past) => {
@@ -47,31 +55,40 @@ pub(crate) fn first_from<Input: ExecutorInput>(
             input: context.input,
             start,
         };
-        if let Some(end) = attempt.run(
+        let ended = attempt.run(
             first,
             &mut scratch.memory,
             &mut scratch.answer,
             remembered,
-        )? {
-            return Ok(Some((start, end)));
+            budget,
+        )?;
+        match ended {
+            Ended::With(None) => (),
+            Ended::With(Some(end)) => return Ok(Ended::With(Some((start, end)))),
+            Ended::TooManySteps => return Ok(Ended::TooManySteps),
         }
         let Some((_, behind)) = beside(&context.input, true, start) else {
-            return Ok(None);
+            return Ok(Ended::With(None));
         };
         from = behind;
     }
 }
 
-/// Runs the program from an offset. It answers where the run's answer ends, whose groups the scratch has.
-pub(crate) fn run_from<Input: ExecutorInput>(
+/// Runs the program from an offset. It answers where the run's answer ends, whose groups the scratch has; or that no more steps may
+/// be counted.
+pub(crate) fn run_from<Input: ExecutorInput, B: Budget>(
     context: &SearchContext<'_, Input>,
     scratch: &mut Scratch,
     remembered: &mut Remembered,
+    budget: &mut B,
     offset: usize,
-) -> Result<Option<usize>, AllocError>
+) -> Result<Ended<usize>, AllocError>
     requires place { IsAtPlace (reading_of (Input.view context.now.input)) offset }
     requires so { Remembers (searched Input.view context.now) remembered.old }
-    ensures answer { IfOk result (λ end. IsAnswer (program_of context.now.program.now) (input_of (Input.view context.now.input)) offset end (groups_of scratch.new)) }
+    ensures answer { IfOk result (λ e. IfEnded e (λ end. IsAnswer (program_of context.now.program.now) (input_of (Input.view context.now.input)) offset end (groups_of scratch.new))) }
+    ensures counted { IfOk result (λ _. (n : ℕ) × (r : Option Whole) × RunsIn (program_of context.now.program.now) (input_of (Input.view context.now.input)) offset n r
+        × Spends (B.left budget.old) (B.left budget.new) n) }
+    ensures stopped { IfOk result (λ e. IfStopped e (B.left budget.new ≡ Some 0)) }
     ensures so { Remembers (searched Input.view context.now) remembered.new }
 {
     let attempt = Attempt {
@@ -79,5 +96,11 @@ pub(crate) fn run_from<Input: ExecutorInput>(
         input: context.input,
         start: offset,
     };
-    attempt.run(0, &mut scratch.memory, &mut scratch.answer, remembered)
+    attempt.run(
+        0,
+        &mut scratch.memory,
+        &mut scratch.answer,
+        remembered,
+        budget,
+    )
 }

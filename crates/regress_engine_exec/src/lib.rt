@@ -3,6 +3,9 @@
 
 mod attempt;
 mod back;
+mod bounded;
+mod budget;
+mod error;
 mod executor;
 mod finding;
 mod producer;
@@ -15,6 +18,8 @@ mod step;
 mod turns;
 mod ways;
 
+pub use bounded::BoundedExecutor;
+pub use error::SearchError;
 pub use regress_engine_search::{ExecutorInput, Shown};
 pub use scratch::Scratch;
 pub use search::BacktrackExecutor;

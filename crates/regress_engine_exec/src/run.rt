@@ -1,15 +1,19 @@
 //! The run from one offset.
-ghost use Rattle.std.specs.Prelude.{true, IfOk};
+ghost use Rattle.std.specs.Prelude.{◌≡◌, ℕ, true, Option, Some, IfOk};
 ghost use Rattle.regress_engine_code.specs.Standing.{program_of};
 ghost use Rattle.regress_engine_input.specs.Views.{input_of};
 ghost use Rattle.regress_engine_search.specs.Answering.{IsAnswer};
 ghost use Rattle.regress_engine_search.specs.Search.{Suits};
+ghost use Rattle.regress_engine_runs.specs.States.{Whole};
 ghost use Rattle.regress_engine_undo.specs.Held.{held};
 ghost use Rattle.regress_engine_exec.specs.Attempts.{world};
+ghost use Rattle.regress_engine_exec.specs.Counting.{RunsIn, Spends};
+ghost use Rattle.regress_engine_exec.specs.Ending.{IfEnded, IfStopped};
 ghost use Rattle.regress_engine_exec.specs.Remembering.{Remembers};
 ghost use Rattle.regress_engine_exec.specs.Trying.{IsWay, ReadsFrom};
 
 use crate::attempt::Attempt;
+use crate::budget::{Budget, Ended};
 use crate::remembered::Remembered;
 use regress_engine_search::ExecutorInput;
 use regress_engine_undo::{Memory, Spot};
@@ -18,21 +22,25 @@ use std::alloc::AllocError;
 
 impl<'a, Input: ExecutorInput> Attempt<'a, Input> {
     /// Runs the program from the offset, at an address to which the run comes with nothing changed. It answers where the run's
-    /// answer ends, whose groups `memory` then has, or `None` where the run has none. `answer` is room for groups. What it learns of
-    /// failures is remembered.
-    pub(crate) fn run(
+    /// answer ends, whose groups `memory` then has, or that the run has none; or that no more steps may be counted. `answer` is
+    /// room for groups. What it learns of failures is remembered.
+    pub(crate) fn run<B: Budget>(
         &self,
         first: usize,
         memory: &mut Memory,
         answer: &mut Vec<GroupData<usize>>,
         remembered: &mut Remembered,
-    ) -> Result<Option<usize>, AllocError>
+        budget: &mut B,
+    ) -> Result<Ended<usize>, AllocError>
         requires suits { Suits (program_of self.now.program.now) (Input.view self.now.input) }
         requires begun { IsWay (program_of self.now.program.now) (input_of (Input.view self.now.input)) true self.now.start 0 first }
         requires reads { ReadsFrom (program_of self.now.program.now) (Input.view self.now.input) self.now.start }
         requires so { Remembers (world Input.view self.now) remembered.old }
-        ensures answer { IfOk result (λ found. IsAnswer (program_of self.now.program.now) (input_of (Input.view self.now.input))
-            self.now.start found (held memory.new).groups) }
+        ensures answer { IfOk result (λ e. IfEnded e (λ found. IsAnswer (program_of self.now.program.now) (input_of (Input.view self.now.input))
+            self.now.start found (held memory.new).groups)) }
+        ensures counted { IfOk result (λ _. (n : ℕ) (r : Option Whole) → RunsIn (program_of self.now.program.now) (input_of (Input.view self.now.input)) self.now.start n r
+            → Spends (B.left budget.old) (B.left budget.new) n) }
+        ensures stopped { IfOk result (λ e. IfStopped e (B.left budget.new ≡ Some 0)) }
         ensures so { Remembers (world Input.view self.now) remembered.new }
     {
         memory.begin(
@@ -46,13 +54,16 @@ impl<'a, Input: ExecutorInput> Attempt<'a, Input> {
         };
         'steps: loop {
             let Some(going) = self.try_step(memory, answer, remembered, &mut spot)? else {
-                return Ok(Some(spot.offset));
+                return Ok(Ended::With(Some(spot.offset)));
             };
+            if !budget.count() {
+                return Ok(Ended::TooManySteps);
+            }
             if going {
                 continue;
             }
             if !self.back(memory, remembered, &mut spot)? {
-                return Ok(None);
+                return Ok(Ended::With(None));
             }
         }
     }

@@ -14,6 +14,7 @@ ghost use Rattle.regress_engine_search.specs.Search.{IsMadeOf, IsItemAtPlaces, I
 ghost use Rattle.regress_engine_exec.specs.Attempts.{world_of};
 ghost use Rattle.regress_engine_exec.specs.Remembering.{Remembers};
 
+use crate::budget::{Ended, Unbounded};
 use crate::finding::{first_from, run_from};
 use crate::remembered::Remembered;
 use crate::scratch::Scratch;
@@ -97,12 +98,17 @@ impl<'r, Input: ExecutorInput> BacktrackExecutor<'r, Input> {
         ensures found { IfOk result (λ found. IsFound (program_in self.old) (input_of (Input.view self.old.context.input)) offset found (groups_in self.new)) }
         ensures kept { self.new.context ≡ self.old.context }
     {
-        first_from(
+        let ended = first_from(
             &self.context,
             &mut self.scratch,
             &mut self.remembered,
+            &mut Unbounded,
             offset,
-        )
+        )?;
+        match ended {
+            Ended::With(found) => Ok(found),
+            Ended::TooManySteps => unreachable!(),
+        }
     }
 
     /// Runs the program from an offset. It answers where the run's answer ends, whose groups are then held.
@@ -111,12 +117,17 @@ impl<'r, Input: ExecutorInput> BacktrackExecutor<'r, Input> {
         ensures answer { IfOk result (λ end. IsAnswer (program_in self.old) (input_of (Input.view self.old.context.input)) offset end (groups_in self.new)) }
         ensures kept { self.new.context ≡ self.old.context }
     {
-        run_from(
+        let ended = run_from(
             &self.context,
             &mut self.scratch,
             &mut self.remembered,
+            &mut Unbounded,
             offset,
-        )
+        )?;
+        match ended {
+            Ended::With(end) => Ok(end),
+            Ended::TooManySteps => unreachable!(),
+        }
     }
 
     /// The match at the least place from an offset on: that of the program's run from there, begun at the first instruction
