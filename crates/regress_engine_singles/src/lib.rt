@@ -3,14 +3,17 @@
 
 mod ahead;
 mod ascii;
+mod before;
 mod class;
 mod far;
 mod sparing;
 mod stops;
 mod taken;
 mod taking;
+mod unit_stops;
 
 pub use ahead::as_far_ahead;
+pub use before::taken_before;
 pub use class::ScannedBracket;
 pub use far::scan_while;
 pub use sparing::{is_possessive, turn_at};

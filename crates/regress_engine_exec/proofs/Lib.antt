@@ -1,3 +1,0 @@
-pub mod TryLemmas
-pub mod WayLemmas
-pub mod RememberLemmas

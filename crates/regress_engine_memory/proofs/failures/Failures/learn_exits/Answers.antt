@@ -1,0 +1,20 @@
+use Rattle.std.specs.Prelude.{map}
+use Rattle.std.proofs.Common.{ℕ, true, List}
+use Rattle.regress_engine_search.specs.StateViews.{loop_of}
+use Rattle.regress_engine_memory.specs.TableViews.{table_of}
+use Rattle.regress_engine_memory.specs.declared.flow.FlowTable.{FlowTable}
+use Rattle.regress_engine_memory.proofs.PlaneLemmas.{exits-fail, found-fails}
+use Rattle.regress_engine_memory.proofs.failures.Failures.learn_exits.Goals as goal
+
+pub returns-in-Some-clause-known : goal.returns-in-Some-clause-known
+returns-in-Some-clause-known c program input known fails =
+    let s = c.args.spot.now in
+    let loops : List (ℕ × ℕ) = map loop_of c.args.loops.now in
+    let table : FlowTable = c.args.self.now.table in
+    let (p, there, is) = c.in-Some.ensures.plane in
+    c.mark.ensures.known program input (c.plane_of.ensures.known program input known)
+    (found-fails program input table c.plane_of.new.self.table s true loops c.plane_of.new.self.planes.items c.in-Some.k p c.plane_of.ensures.table there is
+    (λ told. exits-fail program input (table_of table) s loops p told fails))
+
+pub returns-in_default-clause-known : goal.returns-in_default-clause-known
+returns-in_default-clause-known c program input known fails = c.plane_of.ensures.known program input known
