@@ -86,6 +86,39 @@ fn a_failure_is_known_where_there_is_room(rt: HostRuntime) -> Result<(), Fail> {
     Ok(())
 }
 
+/// Whether it is known of a spot that it fails, and that it does behind further iterations too, once the one or the other was
+/// learned.
+fn exits_known(alloc: Global, further: bool) -> Result<Option<(bool, bool)>, Fail> {
+    let tables = Tables::small(alloc)?;
+    let program = program(alloc, "a*b", "", false, &tables)?;
+    let Some(table) = FlowTable::of(alloc, program.insns(), program.loops() as usize)? else {
+        return Ok(None);
+    };
+    let loops: &[LoopData<usize>] = &[];
+    let spot = Spot {
+        at: 2,
+        offset: 7,
+        forward: true,
+    };
+    let mut failures = Failures::new(alloc, table, 8);
+    if further {
+        failures.learn_exits(&spot, loops);
+    } else {
+        failures.learn(&spot, loops, 1000);
+    }
+    Ok(Some((
+        failures.is_known(&spot, loops),
+        failures.are_exits_known(&spot, loops),
+    )))
+}
+
+#[test]
+fn that_further_iterations_fail_is_known_apart(rt: HostRuntime) -> Result<(), Fail> {
+    assert!(rt; exits_known(rt.alloc(), false)? == Some((true, false)));
+    assert!(rt; exits_known(rt.alloc(), true)? == Some((false, true)));
+    Ok(())
+}
+
 /// A pattern that has very many ways through a text, a piece of that, how often it stands, what ends it, and the first match.
 type HostileRow = (
     &'static str,
@@ -123,6 +156,17 @@ const HOSTILE: &[HostileRow] = &[
     // Fewer characters are left than a match needs.
     ("(?:a?){300}a{300}", "a", 299, "", None),
     (r"^(x|){65536,}?\n", "x", 1, "", None),
+    ("x*y", "x", 50_000, "", None),
+    ("x*?y", "x", 50_000, "", None),
+    ("x*?(?:y|z)", "x", 50_000, "z", Some((0, 50_001))),
+    ("(x+x+)+y", "x", 50_000, "", None),
+    ("(.*)*x", "a", 50_000, "", None),
+    (r"(\w+\s?)*$", "a", 50_000, "!", Some((50_001, 50_001))),
+    ("(?:a*b)*c", "aab", 20_000, "", None),
+    ("(?:a*b)*c", "aab", 20_000, "c", Some((0, 60_001))),
+    ("(?<=yx*)x", "x", 50_000, "", None),
+    ("(?<=yx*)x", "x", 50_000, "yx", Some((50_001, 50_002))),
+    ("(?=x*(?:y|z))x", "x", 50_000, "", None),
     // What is known of an iteration that has taken nothing is not known of one that has.
     ("(?:x|x)*y|a?(?=(?:a?)*b)a", "x", 30, "ab", Some((30, 31))),
 ];

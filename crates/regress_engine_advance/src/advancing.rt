@@ -10,7 +10,7 @@ ghost use Rattle.regress_engine_search.specs.Ready.{IsReady};
 
 use crate::characters::{any, any_in_line, ascii_bracket, bracket, byte_set, char_set, this_char};
 use crate::edges::{boundary, line_edge};
-use crate::literals::byte_seq;
+use crate::literals::{byte_seq, one_byte};
 use crate::references::back_reference;
 use regress_engine_code::CompiledRegex;
 use regress_engine_insn::Insn;
@@ -65,6 +65,7 @@ pub fn advance<Input: CharInput>(
             back_reference(input, forward, *icase, &groups[*group as usize], offset)
         }
         Insn::Loop1CharBody { .. } => None,
+        Insn::ByteSeq1(byte) => one_byte(input, forward, offset, byte),
         _ => byte_seq(program, input, insn, forward, offset),
     }
 }

@@ -70,6 +70,28 @@ pub fn bytes_beside<Input: InputIndexer>(
     }
 }
 
+/// The offset behind a byte beside one, where that stands there. The offset may be any.
+#[inline(always)]
+pub(crate) fn one_byte<Input: InputIndexer>(
+    input: &Input,
+    forward: bool,
+    offset: usize,
+    byte: &[u8; 1],
+) -> Option<usize>
+    requires { are_bytes (Input.view input.now).kind ≡ true }
+    ensures { result ≡ literal (input_of (Input.view input.now)) (direction_of forward) byte.now offset }
+{
+    if !forward {
+        return bytes_beside(input, false, offset, byte);
+    }
+    let text = input.bytes()?;
+    if offset < text.len() && text[offset] == byte[0] {
+        Some(offset + 1)
+    } else {
+        None
+    }
+}
+
 /// The offset behind the bytes of an instruction, where it has some and they stand beside an offset, which may be any.
 #[inline(always)]
 pub(crate) fn byte_seq<Input: InputIndexer>(

@@ -1,3 +1,5 @@
 pub mod TryLemmas
 pub mod WayLemmas
 pub mod RememberLemmas
+pub mod ExitLemmas
+pub mod PassedLemmas

@@ -16,7 +16,7 @@ use Rattle.regress_engine_exec.specs.Trying.{IsWay}
 
 module _ (program : Program) (input : Input) (forward : Bool) (o : ℕ) where
   -- what leads on in more steps does so in fewer
-  leads-fewer : (k l : ℕ) (t u : Task) → Leads program input (k + l) t u → Leads program input k t u
+  pub leads-fewer : (k l : ℕ) (t u : Task) → Leads program input (k + l) t u → Leads program input k t u
   leads-fewer k l t u leads = record {
     comes = λ n r come. let x = leads.comes n r come in let less = x.1 in (x.0, omega (arith, less), x.2);
     reads = leads.reads;

@@ -1,5 +1,5 @@
 -- A run that is tried.
-use Rattle.std.specs.Prelude.{◌≡◌, ℕ, ◌+◌, ◌≤◌, Bool, true, false, [], ◌∷◌, List, Option, Some, None, ◌⊎◌}
+use Rattle.std.specs.Prelude.{◌≡◌, ℕ, suc, ◌+◌, ◌-◌, ◌<◌, ◌≤◌, Bool, true, false, [], ◌∷◌, List, Option, Some, None, ◌⊎◌}
 use Rattle.regress_meaning.specs.Meaning.{Forward}
 use Rattle.regress_meaning.specs.Inputs.{Input}
 use Rattle.regress_engine_input.specs.Views.{View, direction_of, in_bytes, input_of, reading_of, unit_beside}
@@ -81,6 +81,13 @@ ReadsOn w p h = ReadOn w.program (input_of w.view) (reading_of w.view) (directio
 -- the offset to which an instruction leads that changes nothing else
 abbrev pub advanced : World → Instruction → (forward : Bool) → List Marks → ℕ → Option ℕ
 advanced w i forward groups o = advance w.program (input_of w.view) i (direction_of forward) groups o
+
+-- From one offset up to another the body of a loop takes one unit at each, at most so many, and an instruction takes nothing there.
+pub record IsPassed (w : World) (i body : Instruction) (forward : Bool) (left o near : ℕ) : Type 0 where
+  pub low : o ≤ near
+  pub room : near - o ≤ left
+  pub taken : (groups : List Marks) (k : ℕ) → o ≤ k → k < near → Some (suc k) ≡ advanced w body forward groups k
+  pub none : (groups : List Marks) (k : ℕ) → o ≤ k → k < near → None ≡ advanced w i forward groups k
 
 -- a byte stands ahead of an offset
 abbrev pub StandsAhead : World → (byte o : ℕ) → Type 0

@@ -14,16 +14,16 @@ ghost use Rattle.regress_engine_search.specs.Search.{Suits};
 ghost use Rattle.regress_engine_undo.specs.Dead.{GivesFrom, TakesFrom};
 ghost use Rattle.regress_engine_exec.specs.Attempts.{world};
 ghost use Rattle.regress_engine_exec.specs.Remembering.{IsUnderWay, Remembers};
-ghost use Rattle.regress_engine_exec.specs.Trying.{advanced, GoesBack, IsHeldIn, Undoes};
+ghost use Rattle.regress_engine_exec.specs.Trying.{advanced, GoesBack, IsHeldIn, IsPassed, Undoes};
 
 use crate::attempt::Attempt;
 use crate::remembered::Remembered;
 use regress_engine_advance::{
-    advance, any_in_line, ascii_bracket, beside, other_ahead, taken_first,
+    advance, any_in_line, as_far, ascii_bracket, beside, other_ahead, taken_first,
 };
 use regress_engine_insn::Insn;
 use regress_engine_search::ExecutorInput;
-use regress_engine_singles::first_byte;
+use regress_engine_singles::{first_byte, taken_before};
 use regress_engine_undo::{Frame, Memory, Spot, Undo, is_ahead};
 use regress_front_core::GroupData;
 use std::alloc::AllocError;
@@ -86,6 +86,7 @@ impl<'a, Input: ExecutorInput> Attempt<'a, Input> {
         at: usize,
         near: usize,
         far: usize,
+        spare: &mut usize,
         memory: &mut Memory,
         spot: &mut Spot,
     ) -> Result<bool, AllocError>
@@ -96,8 +97,10 @@ impl<'a, Input: ExecutorInput> Attempt<'a, Input> {
         ensures rest { IfOk result (λ going. going ≡ false → (held memory.new).stack ≡ (held memory.old).stack) }
     {
         let Some(way) = self.far_way(at, near, far, spot.forward, &memory.groups) else {
+            *spare = spare.saturating_sub(far.abs_diff(near));
             return Ok(false);
         };
+        *spare = spare.saturating_sub(far.abs_diff(way));
         spot.at = at;
         spot.offset = way;
         if !is_ahead(spot.forward, near, way) {
@@ -159,6 +162,29 @@ impl<'a, Input: ExecutorInput> Attempt<'a, Input> {
         }
     }
 
+    /// The offset up to which the body of a lazy loop surely takes one byte after another ahead of one, at most so many, and what
+    /// is taken first behind the loop takes none of them: no match goes on from a place before it. The offset itself where that
+    /// is not told.
+    #[inline(always)]
+    fn passed_before(
+        &self,
+        insn: &Insn,
+        first: Option<u8>,
+        body: &Insn,
+        left: usize,
+        forward: bool,
+        offset: usize,
+    ) -> usize
+        requires place { IsAtPlace (reading_of (Input.view self.now.input)) offset }
+        requires first { IfSome first (λ b. (rest : List ℕ) × (instruction insn.now ≡ byte_seq (b ∷ rest))) }
+        ensures { IsPassed (world Input.view self.now) (instruction insn.now) (instruction body.now) forward left offset result }
+    {
+        match first {
+            Some(byte) if forward => taken_before(&self.input, body, byte, left, offset),
+            _ => offset,
+        }
+    }
+
     /// The near one of some offsets, from one on behind each iteration of the instruction before an address, at most so many,
     /// at which it may continue there, where what is taken first from there on stands, and how many may follow; `None`
     /// where it stands at none of them.
@@ -181,8 +207,8 @@ impl<'a, Input: ExecutorInput> Attempt<'a, Input> {
         };
         let first = first_byte(insn);
         let body = self.instruction(at - 1);
-        let mut near = offset;
-        let mut rest = left;
+        let mut near = self.passed_before(insn, first, body, left, forward, offset);
+        let mut rest = left - (near - offset);
         'places: loop {
             if self.stands(insn, first, forward, groups, near) {
                 return Some((near, rest));
@@ -198,12 +224,43 @@ impl<'a, Input: ExecutorInput> Attempt<'a, Input> {
         }
     }
 
+    /// Counts the places that a lazy one-character loop has passed over to its end: of one loop in 64, for all of them.
+    #[inline(never)]
+    fn count_over(
+        &self,
+        at: usize,
+        offset: usize,
+        left: usize,
+        spare: &mut usize,
+        memory: &Memory,
+        forward: bool,
+    )
+        requires suits { Suits (program_of self.now.program.now) (Input.view self.now.input) }
+        requires sound { IsHeldIn (world Input.view self.now) (held memory.now) }
+        requires body { IsBody (program_of self.now.program.now) (Input.view self.now.input) at offset }
+    {
+        if offset % 64 != 0 {
+            return;
+        }
+        let far = as_far(
+            self.program,
+            &self.input,
+            self.instruction(at - 1),
+            left,
+            forward,
+            &memory.groups,
+            offset,
+        );
+        *spare = spare.saturating_sub(far.abs_diff(offset).saturating_mul(64));
+    }
+
     /// Goes on at the near one of the offsets where it may continue, later at those behind it; answers whether there is one.
     pub(crate) fn take_on(
         &self,
         at: usize,
         offset: usize,
         left: usize,
+        spare: &mut usize,
         memory: &mut Memory,
         spot: &mut Spot,
     ) -> Result<bool, AllocError>
@@ -215,8 +272,10 @@ impl<'a, Input: ExecutorInput> Attempt<'a, Input> {
     {
         let Some((near, rest)) = self.near_way(at, offset, left, spot.forward, &memory.groups)
         else {
+            self.count_over(at, offset, left, spare, memory, spot.forward);
             return Ok(false);
         };
+        *spare = spare.saturating_sub(near.abs_diff(offset));
         spot.at = at;
         spot.offset = near;
         if rest == 0 {
@@ -242,7 +301,13 @@ impl<'a, Input: ExecutorInput> Attempt<'a, Input> {
     }
 
     /// Undoes a record, and answers whether there is a state to be tried.
-    fn undo(&self, undo: Undo, memory: &mut Memory, spot: &mut Spot) -> Result<bool, AllocError>
+    fn undo(
+        &self,
+        undo: Undo,
+        spare: &mut usize,
+        memory: &mut Memory,
+        spot: &mut Spot,
+    ) -> Result<bool, AllocError>
         requires suits { Suits (program_of self.now.program.now) (Input.view self.now.input) }
         requires sound { IsHeldIn (world Input.view self.now) (pushed (undo_of undo) (held memory.old)) }
         ensures leads { IfOk result (Undoes (world Input.view self.now) (undo_of undo) spot.old (held memory.old) spot.new (held memory.new)) }
@@ -270,15 +335,42 @@ impl<'a, Input: ExecutorInput> Attempt<'a, Input> {
                 Ok(true)
             }
             Undo::GiveBack { at, near, far } => {
-                let going = self.give_back(at, near, far, memory, spot)?;
+                let going = self.give_back(at, near, far, spare, memory, spot)?;
                 Ok(going)
             }
             Undo::TakeOn { at, offset, left } => {
-                let going = self.take_on(at, offset, left, memory, spot)?;
+                let going = self.take_on(at, offset, left, spare, memory, spot)?;
                 Ok(going)
             }
             Undo::Submatch(frame) => Ok(exhaust(&frame, spot)),
             Undo::Tried { .. } => Ok(false),
+        }
+    }
+
+    /// Undoes a record, and answers whether there is a state to be tried. Where failures are kept, those of the exits of
+    /// one-character loops are learned.
+    #[inline(always)]
+    fn undo_one(
+        &self,
+        undo: Undo,
+        memory: &mut Memory,
+        remembered: &mut Remembered,
+        spot: &mut Spot,
+    ) -> Result<bool, AllocError>
+        requires suits { Suits (program_of self.now.program.now) (Input.view self.now.input) }
+        requires sound { IsHeldIn (world Input.view self.now) (pushed (undo_of undo) (held memory.old)) }
+        requires so { Remembers (world Input.view self.now) remembered.old }
+        ensures leads { IfOk result (Undoes (world Input.view self.now) (undo_of undo) spot.old (held memory.old) spot.new (held memory.new)) }
+        ensures sound { OnOk result (IsHeldIn (world Input.view self.now) (held memory.new)) }
+        ensures rest { IfOk result (λ going. going ≡ false → (held memory.new).stack ≡ (held memory.old).stack) }
+        ensures so { Remembers (world Input.view self.now) remembered.new }
+    {
+        match self.undo_loop(&undo, memory, remembered, spot)? {
+            Some(going) => Ok(going),
+            None => {
+                let going = self.undo(undo, &mut remembered.spare, memory, spot)?;
+                Ok(going)
+            }
         }
     }
 
@@ -298,13 +390,16 @@ impl<'a, Input: ExecutorInput> Attempt<'a, Input> {
         ensures exhausted { IfOk result (λ going. going ≡ false → (held memory.new).stack ≡ []) }
         ensures so { Remembers (world Input.view self.now) remembered.new }
     {
-        self.count_back(remembered);
+        self.keep_failures(remembered);
         while let Some(undo) = memory.pop() {
+            remembered.spare = remembered.spare.saturating_sub(4);
             self.learn(&undo, memory, remembered, spot);
-            if self.undo(undo, memory, spot)? {
+            if self.undo_one(undo, memory, remembered, spot)? {
                 return Ok(true);
             }
         }
+        let passed = spot.offset.abs_diff(self.start);
+        remembered.spare = remembered.spare.saturating_sub(passed);
         Ok(false)
     }
 }

@@ -4,6 +4,7 @@
 mod attempt;
 mod back;
 mod executor;
+mod exits;
 mod finding;
 mod producer;
 mod remembered;

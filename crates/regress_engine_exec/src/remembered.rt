@@ -8,7 +8,7 @@ ghost use Rattle.regress_engine_memory.specs.Under.{room};
 ghost use Rattle.regress_engine_search.specs.Search.{Suits};
 ghost use Rattle.regress_engine_undo.specs.Held.{held, undo_of, pushed};
 ghost use Rattle.regress_engine_exec.specs.Attempts.{world};
-ghost use Rattle.regress_engine_exec.specs.Remembering.{AreOf, Drops, IsUnderWay, Remembers};
+ghost use Rattle.regress_engine_exec.specs.Remembering.{AreOf, Begins, Drops, IsUnderWay, MayUndo, Remembers};
 ghost use Rattle.regress_engine_exec.specs.Trying.{IsHeldIn, Steps, World};
 
 use crate::attempt::Attempt;
@@ -26,21 +26,24 @@ const MOST_BLOCKS: usize = 1 << 21;
 #[derive(Debug, Drop)]
 pub(crate) struct Remembered {
     alloc: Global,
-    /// How often runs may still go back before failures are kept; 0 where that has been begun.
-    spare: usize,
+    /// How much may still be undone or passed over before failures are kept: a place counts one, a record four.
+    pub(crate) spare: usize,
+    /// Whether that has been begun.
+    is_begun: bool,
     /// What is known to fail, where it is kept.
     failures: Option<Box<Failures>>,
 }
 
 impl Remembered {
-    /// Nothing is remembered. Failures are kept once runs have gone back more often than normal searches do in a text of so many
+    /// Nothing is remembered. Failures are kept once more was undone and passed over than normal searches do in a text of so many
     /// units.
     pub(crate) fn new(alloc: Global, length: usize) -> Remembered
         ensures { (w : World) → Remembers w result }
     {
         Remembered {
             alloc,
-            spare: length.saturating_add(64).saturating_mul(16),
+            spare: length.saturating_add(64).saturating_mul(64),
+            is_begun: false,
             failures: None,
         }
     }
@@ -49,7 +52,7 @@ impl Remembered {
 impl<'a, Input: ExecutorInput> Attempt<'a, Input> {
     /// Whether the instruction at an address chooses between ways.
     #[inline]
-    fn is_choice(&self, at: usize) -> bool {
+    pub(crate) fn is_choice(&self, at: usize) -> bool {
         matches!(
             self.program.insns().get(at),
             Some(
@@ -128,26 +131,60 @@ impl<'a, Input: ExecutorInput> Attempt<'a, Input> {
         self.is_known(memory, failures, spot)
     }
 
-    /// Whether the state at a spot is dropped: where failures are kept, and it surely fails.
-    #[inline(always)]
-    fn is_dropped(
+    /// Begins the instruction at a spot where failures are kept: drops the state there if it surely fails, or does a
+    /// one-character loop that may take the whole text. It answers whether it continues, or `None` where the instruction is still to be done.
+    #[inline(never)]
+    fn begin_known(
         &self,
         memory: &mut Memory,
-        remembered: &Remembered,
-        spot: &Spot,
-    ) -> Result<bool, AllocError>
+        failures: &mut Failures,
+        spot: &mut Spot,
+    ) -> Result<Option<bool>, AllocError>
         requires suits { Suits (program_of self.now.program.now) (Input.view self.now.input) }
         requires sound { IsHeldIn (world Input.view self.now) (held memory.old) }
-        requires tried { IsUnderWay (world Input.view self.now) true spot.now (held memory.old) }
-        requires so { Remembers (world Input.view self.now) remembered.now }
-        ensures leads { IfOk result (Drops (world Input.view self.now) spot.now (held memory.old) (held memory.new)) }
+        requires tried { IsUnderWay (world Input.view self.now) true spot.old (held memory.old) }
+        requires so { AreOf (world Input.view self.now) failures.old }
+        ensures leads { IfOk result (Begins (world Input.view self.now) spot.old (held memory.old) spot.new (held memory.new)) }
         ensures sound { OnOk result (IsHeldIn (world Input.view self.now) (held memory.new)) }
-        ensures loops { OnOk result ((held memory.new).loops ≡ (held memory.old).loops) }
-        ensures groups { OnOk result ((held memory.new).groups ≡ (held memory.old).groups) }
+        ensures so { AreOf (world Input.view self.now) failures.new }
     {
-        match &remembered.failures {
-            Some(failures) => self.surely_fails(memory, failures, spot),
-            None => Ok(false),
+        if self.surely_fails(memory, failures, spot)? {
+            return Ok(Some(false));
+        }
+        let Insn::Loop1CharBody {
+            min_iters,
+            max_iters,
+            greedy,
+        } = self.instruction(spot.at)
+        else {
+            return Ok(None);
+        };
+        if *max_iters < self.input.pos_to_offset(self.input.right_end()) {
+            return Ok(None);
+        }
+        let going = self.repeat_known(*min_iters, *max_iters, *greedy, memory, failures, spot)?;
+        Ok(Some(going))
+    }
+
+    /// Begins the instruction at a spot, if failures are kept.
+    #[inline(always)]
+    fn begin(
+        &self,
+        memory: &mut Memory,
+        remembered: &mut Remembered,
+        spot: &mut Spot,
+    ) -> Result<Option<bool>, AllocError>
+        requires suits { Suits (program_of self.now.program.now) (Input.view self.now.input) }
+        requires sound { IsHeldIn (world Input.view self.now) (held memory.old) }
+        requires tried { IsUnderWay (world Input.view self.now) true spot.old (held memory.old) }
+        requires so { Remembers (world Input.view self.now) remembered.old }
+        ensures leads { IfOk result (Begins (world Input.view self.now) spot.old (held memory.old) spot.new (held memory.new)) }
+        ensures sound { OnOk result (IsHeldIn (world Input.view self.now) (held memory.new)) }
+        ensures so { Remembers (world Input.view self.now) remembered.new }
+    {
+        match &mut remembered.failures {
+            Some(failures) => self.begin_known(memory, failures, spot),
+            None => Ok(None),
         }
     }
 
@@ -157,21 +194,24 @@ impl<'a, Input: ExecutorInput> Attempt<'a, Input> {
         &self,
         memory: &mut Memory,
         answer: &mut Vec<GroupData<usize>>,
-        remembered: &Remembered,
+        remembered: &mut Remembered,
         spot: &mut Spot,
     ) -> Result<Option<bool>, AllocError>
         requires suits { Suits (program_of self.now.program.now) (Input.view self.now.input) }
         requires sound { IsHeldIn (world Input.view self.now) (held memory.old) }
         requires tried { IsUnderWay (world Input.view self.now) true spot.old (held memory.old) }
-        requires so { Remembers (world Input.view self.now) remembered.now }
+        requires so { Remembers (world Input.view self.now) remembered.old }
         ensures leads { IfOk result (Steps (world Input.view self.now) spot.old (held memory.old) spot.new (held memory.new)) }
         ensures sound { IfOk result (λ left. IfSome left (λ going. IsHeldIn (world Input.view self.now) (held memory.new))) }
+        ensures so { Remembers (world Input.view self.now) remembered.new }
     {
-        if self.is_dropped(memory, remembered, spot)? {
-            return Ok(Some(false));
+        match self.begin(memory, remembered, spot)? {
+            Some(going) => Ok(Some(going)),
+            None => {
+                let left = self.step(memory, answer, &mut remembered.spare, spot)?;
+                Ok(left)
+            }
         }
-        let left = self.step(memory, answer, spot)?;
-        Ok(left)
     }
 
     /// What is known to fail where that is begun: nothing. `None` where the program's table does not pass its test, or where memory
@@ -193,19 +233,17 @@ impl<'a, Input: ExecutorInput> Attempt<'a, Input> {
         }
     }
 
-    /// Counts that a run goes back. Where that was often, failures are kept from now on.
+    /// Keeps failures from now on, if that much was undone and passed over that no normal search does.
     #[inline]
-    pub(crate) fn count_back(&self, remembered: &mut Remembered)
+    pub(crate) fn keep_failures(&self, remembered: &mut Remembered)
         requires { Remembers (world Input.view self.now) remembered.old }
         ensures { Remembers (world Input.view self.now) remembered.new }
     {
-        if remembered.spare == 0 {
+        if remembered.spare > 0 || remembered.is_begun {
             return;
         }
-        remembered.spare -= 1;
-        if remembered.spare == 0 {
-            remembered.failures = self.nothing_known(remembered.alloc);
-        }
+        remembered.is_begun = true;
+        remembered.failures = self.nothing_known(remembered.alloc);
     }
 
     /// Learns what a record shows that is about to be undone: where it is that of a state that was tried, no run from there has an
@@ -236,5 +274,57 @@ impl<'a, Input: ExecutorInput> Attempt<'a, Input> {
             forward: spot.forward,
         };
         failures.learn(&there, memory.loops(), last);
+    }
+
+    /// Undoes a record of a one-character loop where failures are kept. It answers whether there is a state to be tried, or `None`
+    /// of another record, which is still to be undone.
+    #[inline(never)]
+    fn undo_known(
+        &self,
+        undo: &Undo,
+        memory: &mut Memory,
+        failures: &mut Failures,
+        spot: &mut Spot,
+    ) -> Result<Option<bool>, AllocError>
+        requires suits { Suits (program_of self.now.program.now) (Input.view self.now.input) }
+        requires sound { IsHeldIn (world Input.view self.now) (pushed (undo_of undo.now) (held memory.old)) }
+        requires so { AreOf (world Input.view self.now) failures.old }
+        ensures leads { IfOk result (MayUndo (world Input.view self.now) (undo_of undo.now) spot.old (held memory.old) spot.new (held memory.new)) }
+        ensures sound { IfOk result (λ done. IfSome done (λ going. IsHeldIn (world Input.view self.now) (held memory.new))) }
+        ensures so { AreOf (world Input.view self.now) failures.new }
+    {
+        match undo {
+            Undo::GiveBack { at, near, far } => {
+                let going = self.give_back_known(*at, *near, *far, memory, failures, spot)?;
+                Ok(Some(going))
+            }
+            Undo::TakeOn { at, offset, left } => {
+                let going = self.take_on_known(*at, *offset, *left, memory, failures, spot)?;
+                Ok(Some(going))
+            }
+            _ => Ok(None),
+        }
+    }
+
+    /// Undoes a record of a one-character loop, if failures are kept.
+    #[inline(always)]
+    pub(crate) fn undo_loop(
+        &self,
+        undo: &Undo,
+        memory: &mut Memory,
+        remembered: &mut Remembered,
+        spot: &mut Spot,
+    ) -> Result<Option<bool>, AllocError>
+        requires suits { Suits (program_of self.now.program.now) (Input.view self.now.input) }
+        requires sound { IsHeldIn (world Input.view self.now) (pushed (undo_of undo.now) (held memory.old)) }
+        requires so { Remembers (world Input.view self.now) remembered.old }
+        ensures leads { IfOk result (MayUndo (world Input.view self.now) (undo_of undo.now) spot.old (held memory.old) spot.new (held memory.new)) }
+        ensures sound { IfOk result (λ done. IfSome done (λ going. IsHeldIn (world Input.view self.now) (held memory.new))) }
+        ensures so { Remembers (world Input.view self.now) remembered.new }
+    {
+        match &mut remembered.failures {
+            Some(failures) => self.undo_known(undo, memory, failures, spot),
+            None => Ok(None),
+        }
     }
 }

@@ -22,6 +22,7 @@ impl<'a, Input: ExecutorInput> Attempt<'a, Input> {
         least: usize,
         most: usize,
         greedy: bool,
+        spare: &mut usize,
         memory: &mut Memory,
         spot: &mut Spot,
     ) -> Result<bool, AllocError>
@@ -57,14 +58,15 @@ impl<'a, Input: ExecutorInput> Attempt<'a, Input> {
                 near,
             );
             if spot.forward && is_possessive(self.program, spot.at) {
+                *spare = spare.saturating_sub(far.abs_diff(near) / 8);
                 spot.at = at;
                 spot.offset = far;
                 return Ok(true);
             }
-            let going = self.give_back(at, near, far, memory, spot)?;
+            let going = self.give_back(at, near, far, spare, memory, spot)?;
             return Ok(going);
         }
-        let going = self.take_on(at, near, left, memory, spot)?;
+        let going = self.take_on(at, near, left, spare, memory, spot)?;
         Ok(going)
     }
 }

@@ -3,8 +3,12 @@ ghost use Rattle.std.specs.Prelude.{◌≡◌, ◌+◌, ◌^◌, ◌<◌, true, 
 ghost use Rattle.regress_engine_insn.specs.Instructions.{Instruction, Stands, loop_again};
 ghost use Rattle.regress_engine_insn.specs.InsnViews.{instruction};
 ghost use Rattle.regress_engine_code.specs.Standing.{program_of};
+ghost use Rattle.regress_engine_input.specs.Views.{direction_of};
+ghost use Rattle.regress_engine_runs.specs.UndoStack.{frame};
 ghost use Rattle.regress_engine_search.specs.Ready.{is_simple};
-ghost use Rattle.regress_engine_undo.specs.Held.{held};
+ghost use Rattle.regress_engine_undo.specs.Held.{held, pushed};
+ghost use Rattle.regress_engine_search.specs.Submatches.{submatch_of, reads_forward};
+ghost use Rattle.regress_engine_search.specs.declared.submatch.Submatch.TheVariants.{Lookaround, Atomic};
 ghost use Rattle.regress_engine_search.specs.Search.{Suits};
 ghost use Rattle.regress_engine_exec.specs.Attempts.{world};
 ghost use Rattle.regress_engine_exec.specs.Trying.{IsHeldIn, ReadsAt, ReadsHere, ReadsOn, Steps};
@@ -14,8 +18,59 @@ use regress_engine_advance::{advance, is_dead};
 use regress_engine_insn::Insn;
 use regress_engine_search::{ExecutorInput, Submatch};
 use regress_engine_undo::{Memory, Spot, begun, ended};
-use regress_front_core::GroupData;
+use regress_front_core::{CaptureGroupID, GroupData};
 use std::alloc::AllocError;
+
+/// Begins to try the contents of a lookaround. It is apart so that no step makes room for it.
+#[inline(never)]
+fn begin_around(
+    negated: bool,
+    backward: bool,
+    first: CaptureGroupID,
+    last: CaptureGroupID,
+    continuation: usize,
+    memory: &mut Memory,
+    spot: &mut Spot,
+) -> Result<(), AllocError>
+    requires { spot.old.at + 1 < 2 ^ 64 }
+    ensures pushed { OnOk result (held memory.new ≡ pushed (frame (record {
+      kind = submatch_of (Lookaround negated backward);
+      first = first;
+      last = last;
+      continuation = continuation;
+      at = spot.old.at;
+      offset = spot.old.offset;
+      outside = direction_of spot.old.forward;
+    })) (held memory.old)) }
+    ensures spot { OnOk result (spot.new ≡ record spot.old { at = spot.old.at + 1; forward = reads_forward (submatch_of (Lookaround negated backward)) spot.old.forward }) }
+{
+    let kind = Submatch::Lookaround { negated, backward };
+    memory.begin_submatch(kind, first, last, continuation, spot)
+}
+
+/// Begins to try the contents of an atomic group. It is apart so that no step makes room for it.
+#[inline(never)]
+fn begin_atomic(
+    first: CaptureGroupID,
+    last: CaptureGroupID,
+    continuation: usize,
+    memory: &mut Memory,
+    spot: &mut Spot,
+) -> Result<(), AllocError>
+    requires { spot.old.at + 1 < 2 ^ 64 }
+    ensures pushed { OnOk result (held memory.new ≡ pushed (frame (record {
+      kind = submatch_of Atomic;
+      first = first;
+      last = last;
+      continuation = continuation;
+      at = spot.old.at;
+      offset = spot.old.offset;
+      outside = direction_of spot.old.forward;
+    })) (held memory.old)) }
+    ensures spot { OnOk result (spot.new ≡ record spot.old { at = spot.old.at + 1; forward = reads_forward (submatch_of Atomic) spot.old.forward }) }
+{
+    memory.begin_submatch(Submatch::Atomic, first, last, continuation, spot)
+}
 
 impl<'a, Input: ExecutorInput> Attempt<'a, Input> {
     /// Does an instruction that changes nothing but the offset, and answers whether it leads anywhere.
@@ -68,6 +123,7 @@ impl<'a, Input: ExecutorInput> Attempt<'a, Input> {
         &self,
         memory: &mut Memory,
         answer: &mut Vec<GroupData<usize>>,
+        spare: &mut usize,
         spot: &mut Spot,
     ) -> Result<Option<bool>, AllocError>
         requires suits { Suits (program_of self.now.program.now) (Input.view self.now.input) }
@@ -128,7 +184,7 @@ impl<'a, Input: ExecutorInput> Attempt<'a, Input> {
                 max_iters,
                 greedy,
             } => {
-                let going = self.repeat(*min_iters, *max_iters, *greedy, memory, spot)?;
+                let going = self.repeat(*min_iters, *max_iters, *greedy, spare, memory, spot)?;
                 Ok(Some(going))
             }
             Insn::Lookahead {
@@ -138,11 +194,15 @@ impl<'a, Input: ExecutorInput> Attempt<'a, Input> {
                 continuation,
             } => {
                 let target = *continuation as usize;
-                let kind = Submatch::Lookaround {
-                    negated: *negate,
-                    backward: false,
-                };
-                memory.begin_submatch(kind, *start_group, *end_group, target, spot)?;
+                begin_around(
+                    *negate,
+                    false,
+                    *start_group,
+                    *end_group,
+                    target,
+                    memory,
+                    spot,
+                )?;
                 Ok(Some(true))
             }
             Insn::Lookbehind {
@@ -152,11 +212,15 @@ impl<'a, Input: ExecutorInput> Attempt<'a, Input> {
                 continuation,
             } => {
                 let target = *continuation as usize;
-                let kind = Submatch::Lookaround {
-                    negated: *negate,
-                    backward: true,
-                };
-                memory.begin_submatch(kind, *start_group, *end_group, target, spot)?;
+                begin_around(
+                    *negate,
+                    true,
+                    *start_group,
+                    *end_group,
+                    target,
+                    memory,
+                    spot,
+                )?;
                 Ok(Some(true))
             }
             Insn::Atomic {
@@ -165,7 +229,7 @@ impl<'a, Input: ExecutorInput> Attempt<'a, Input> {
                 continuation,
             } => {
                 let target = *continuation as usize;
-                memory.begin_submatch(Submatch::Atomic, *start_group, *end_group, target, spot)?;
+                begin_atomic(*start_group, *end_group, target, memory, spot)?;
                 Ok(Some(true))
             }
             _ => {

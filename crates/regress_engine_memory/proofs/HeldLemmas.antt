@@ -1,9 +1,14 @@
 -- What an executor learns and drops, by what it holds.
-use Rattle.std.proofs.Common.{◌≡◌, ℕ, true, false, length, Option, subst, [], ◌∷◌}
+use Rattle.std.proofs.Common.{◌≡◌, ℕ, ◌-◌, true, false, length, List, Option, Some, None, refl, sym, ◌∙◌, subst, [], ◌∷◌}
 use Rattle.regress_meaning.specs.Inputs.{Input}
 use Rattle.regress_engine_input.specs.Views.{View, AreOfKind, direction_of, input_of}
-use Rattle.regress_engine_insn.specs.Instructions.{Program}
-use Rattle.regress_engine_runs.specs.States.{Whole}
+use Rattle.regress_engine_insn.specs.Instructions.{Instruction, Program, Stands}
+use Rattle.regress_engine_insn.specs.Instructions as code
+use Rattle.regress_engine_runs.specs.Closed.{takes_character}
+use Rattle.regress_engine_runs.specs.Meets.{referred}
+use Rattle.regress_engine_runs.specs.Runs.{advance}
+use Rattle.regress_engine_runs.specs.States.{Marks, Whole}
+use Rattle.regress_engine_runs.proofs.RunViews.{one_stands}
 use Rattle.regress_engine_runs.specs.UndoStack.{tried, stands_for}
 use Rattle.regress_engine_search.specs.Search.{Suits}
 use Rattle.regress_engine_search.specs.Tasks.{Leads, IsTried}
@@ -12,9 +17,10 @@ use Rattle.regress_engine_undo.specs.declared.undo.Spot.{Spot}
 use Rattle.regress_engine_undo.specs.Held.{Held, pushed}
 use Rattle.regress_engine_undo.specs.Tasks.{task, state_at}
 use Rattle.regress_engine_memory.specs.Flow.{IsFlow}
-use Rattle.regress_engine_memory.specs.Held.{FailsIfFree, FailsWith, key_at}
-use Rattle.regress_engine_memory.specs.Keys.{Keyed}
+use Rattle.regress_engine_memory.specs.Held.{ExitsFailWith, FailsIfFree, FailsWith, key_at}
+use Rattle.regress_engine_memory.specs.Keys.{ExitsFail, Keyed}
 use Rattle.regress_engine_memory.proofs.Dropping.{leads-known}
+use Rattle.regress_engine_memory.proofs.Exits.{exits-last, exits-on, exits-same}
 use Rattle.regress_engine_memory.proofs.Learning.{learns}
 
 module _ (program : Program) (input : Input) (p : Spot) (h : Held) where
@@ -41,3 +47,32 @@ learns-held v all program suits keyed closed p s h turned count n r tries calm c
   where
     there : IsTried program v n r (record { dir = direction_of s.forward; states = []; work = stands_for program (input_of v) (direction_of s.forward) (tried s.at s.offset ∷ h.stack) h.loops h.groups })
     there = subst (λ b. IsTried program v n r (record { dir = direction_of b; states = []; work = stands_for program (input_of v) (direction_of b) (tried s.at s.offset ∷ h.stack) h.loops h.groups })) turned tries
+
+-- ---- exits of one-character loops
+
+-- what takes one character refers to no group
+pub takes-calm : (i : Instruction) → takes_character i ≡ true → referred i ≡ None
+takes-calm (code.back k icase) e = absurd (cc e)
+takes-calm i e = refl
+
+module _ (program : Program) (input : Input) (keyed : Keyed) (s : Spot) (loops : List (ℕ × ℕ)) (i : Instruction) (here : Stands program (s.at - 1) i) (takes : takes_character i ≡ true)
+    (groups : List Marks) (fails : FailsWith program input keyed s loops) where
+  -- that all exits fail is known of the last one
+  pub exits-end : advance program input i (direction_of s.forward) groups s.offset ≡ None → ExitsFailWith program input keyed s loops
+  exits-end stops = (
+    fails.0,
+    λ j there. subst (λ x. ExitsFail program input keyed x (key_at s fails.0)) (one_stands program input (s.at - 1) i j here there)
+        (exits-last program input keyed i (takes-calm i takes) (key_at s fails.0) groups fails.1 stops),
+    fails.2,
+  )
+
+  -- and of one before those of which it is known
+  pub exits-more : (q : ℕ) → advance program input i (direction_of s.forward) groups s.offset ≡ Some q → ExitsFailWith program input keyed (record s { offset = q }) loops
+      → ExitsFailWith program input keyed s loops
+  exits-more q on (classes, rest, has) = (
+    fails.0,
+    λ j there. subst (λ x. ExitsFail program input keyed x (key_at s fails.0)) (one_stands program input (s.at - 1) i j here there)
+        (exits-on program input keyed i (takes-calm i takes) (key_at s fails.0) q groups fails.1 on
+        (exits-same program input keyed (key_at (record s { offset = q }) classes) fails.0 (λ id l. sym (has id l) ∙ fails.2 id l) i (rest i here))),
+    fails.2,
+  )

@@ -9,6 +9,7 @@ pub mod Forgetting
 pub mod Exits
 pub mod Steady
 pub mod Dropping
+pub mod Cutting
 pub mod Learning
 pub mod HeldLemmas
 pub mod ClassLemmas

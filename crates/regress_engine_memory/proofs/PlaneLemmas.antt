@@ -10,13 +10,14 @@ use Rattle.regress_engine_insn.specs.Instructions.{Program}
 use Rattle.regress_engine_undo.specs.declared.undo.Spot.{Spot}
 use Rattle.regress_engine_memory.specs.BitViews.{has}
 use Rattle.regress_engine_memory.specs.Deciding.{Table, calm_at, flow_of, live_at}
-use Rattle.regress_engine_memory.specs.Held.{FailsIfFree, key_at}
+use Rattle.regress_engine_memory.specs.Held.{ExitsFailWith, FailsIfFree, key_at}
 use Rattle.regress_engine_memory.specs.Keys.{FailsAt}
-use Rattle.regress_engine_memory.specs.Planes.{IsPlaneOf, KnownIn, key_in}
+use Rattle.regress_engine_memory.specs.Planes.{FailsAsTold, FailsIn, IsPlaneOf, KnownIn, key_in}
 use Rattle.regress_engine_memory.specs.Remembered.{class_in, keyed_of}
 use Rattle.regress_engine_memory.specs.Under.{HasMoved, room}
 use Rattle.regress_engine_memory.specs.declared.bits.Bits.{Bits}
 use Rattle.regress_engine_memory.specs.declared.failures.Plane.{Plane}
+use Rattle.regress_engine_memory.proofs.Exits.{exits-same}
 
 -- ---- lists
 
@@ -49,28 +50,28 @@ module _ (program : Program) (input : Input) (t : Table) where
   pub known-more : (planes : List Plane) (p : Plane) → ((n : ℕ) → has p.offsets n ≡ false) → KnownIn program input t planes → KnownIn program input t (planes ++ p ∷ [])
   known-more planes p none known k o q here set = by_place (more-there planes p q k here)
     where
-      by_place : (slice_get planes k ≡ Some q) ⊎ (p ≡ q) → FailsAt program input (keyed_of t) (key_in t q o)
+      by_place : (slice_get planes k ≡ Some q) ⊎ (p ≡ q) → FailsIn program input t q o
       by_place (inl there) = known k o q there set
       by_place (inr same) = absurd (true≢false (sym set ∙ ap (λ (x : Plane). has x.offsets o) (sym same) ∙ none o))
 
   -- a bit is set of what fails
   pub known-set : (planes : List Plane) (k offset : ℕ) (p : Plane) (bits : Bits) → slice_get planes k ≡ Some p → ((n : ℕ) → has bits n ≡ (has p.offsets n || offset == n))
-      → KnownIn program input t planes → FailsAt program input (keyed_of t) (key_in t p offset) → KnownIn program input t (slice_set planes k (record p { offsets = bits }))
+      → KnownIn program input t planes → FailsIn program input t p offset → KnownIn program input t (slice_set planes k (record p { offsets = bits }))
   known-set planes k offset p bits there adds known fails j o q here set = by_place (cases_eq j k)
     where
       new : Plane
       new = record p { offsets = bits }
 
-      in_it : (has p.offsets o ≡ true) ⊎ ((offset == o) ≡ true) → FailsAt program input (keyed_of t) (key_in t p o)
+      in_it : (has p.offsets o ≡ true) ⊎ ((offset == o) ≡ true) → FailsIn program input t p o
       in_it (inl old) = known k o p there old
-      in_it (inr is) = subst (λ n. FailsAt program input (keyed_of t) (key_in t p n)) (eqb-true offset o is) fails
+      in_it (inr is) = subst (λ n. FailsIn program input t p n) (eqb-true offset o is) fails
 
-      by_place : (j ≡ k) ⊎ (j ≡ k → ⊥) → FailsAt program input (keyed_of t) (key_in t q o)
+      by_place : (j ≡ k) ⊎ (j ≡ k → ⊥) → FailsIn program input t q o
       by_place (inl same) =
           let found : Some new ≡ Some q = sym (set-same planes new k (slice_get_within planes k p there)) ∙ ap (slice_get (slice_set planes k new)) (sym same) ∙ here in
           let is : new ≡ q = cc in
           let old : has bits o ≡ true = ap (λ (x : Plane). has x.offsets o) is ∙ set in
-          subst (λ (x : Plane). FailsAt program input (keyed_of t) (key_in t x o)) is (in_it (or_cases (has p.offsets o) (offset == o) (sym (adds o) ∙ old)))
+          subst (λ (x : Plane). FailsIn program input t x o) is (in_it (or_cases (has p.offsets o) (offset == o) (sym (adds o) ∙ old)))
       by_place (inr other) = known j o q (sym (set-other planes new k j other) ∙ here) set
 
   -- or none is
@@ -81,12 +82,12 @@ module _ (program : Program) (input : Input) (t : Table) where
       new : Plane
       new = record p { offsets = bits }
 
-      by_place : (j ≡ k) ⊎ (j ≡ k → ⊥) → FailsAt program input (keyed_of t) (key_in t q o)
+      by_place : (j ≡ k) ⊎ (j ≡ k → ⊥) → FailsIn program input t q o
       by_place (inl at) =
           let found : Some new ≡ Some q = sym (set-same planes new k (slice_get_within planes k p there)) ∙ ap (slice_get (slice_set planes k new)) (sym at) ∙ here in
           let is : new ≡ q = cc in
           let old : has bits o ≡ true = ap (λ (x : Plane). has x.offsets o) is ∙ set in
-          subst (λ (x : Plane). FailsAt program input (keyed_of t) (key_in t x o)) is (known k o p there (sym (same o) ∙ old))
+          subst (λ (x : Plane). FailsIn program input t x o) is (known k o p there (sym (same o) ∙ old))
       by_place (inr other) = known j o q (sym (set-other planes new k j other) ∙ here) set
 
   -- where table and planes are the same
@@ -99,10 +100,20 @@ key-of_spot t s p at turned =
     (λ i. record { dir = direction_of (turned i); at = at i; offset = s.offset; classes = class_in (live_at t (at i)) p.classes.items })
 
 -- What fails if loops are free fails at the plane of a spot, where they are.
-pub plane-fails : (program : Program) (input : Input) (t : Table) (last : ℕ) (s : Spot) (loops : List (ℕ × ℕ)) (p : Plane) → IsPlaneOf t s loops p → calm_at t s.at ≡ true
+pub plane-fails : (program : Program) (input : Input) (t : Table) (last : ℕ) (s : Spot) (loops : List (ℕ × ℕ)) (p : Plane) → IsPlaneOf t s false loops p → calm_at t s.at ≡ true
     → ((id : ℕ) → holds (live_at t s.at) id ≡ true → HasMoved (flow_of t) last id (direction_of s.forward) s.offset (get_or loops id (0, 0)))
     → ((id : ℕ) → holds (live_at t s.at) id ≡ true → (keyed_of t).counted id ≡ false → (get_or loops id (0, 0)).0 + 1 + room last (direction_of s.forward) s.offset < (flow_of t).most id)
-    → FailsIfFree program input (keyed_of t) last s loops → FailsAt program input (keyed_of t) (key_in t p s.offset)
+    → FailsIfFree program input (keyed_of t) last s loops → FailsIn program input t p s.offset
 plane-fails program input t last s loops p is calm moved more fails =
-    subst (FailsAt program input (keyed_of t)) (sym (key-of_spot t s p is.0 is.1))
-    (fails calm (class_in (live_at t s.at) p.classes.items) (record { key = λ id l. is.2 id l; moved = λ id l. moved id l; room = λ id l c. more id l c }))
+    subst (λ b. FailsAsTold program input (keyed_of t) b (key_in t p s.offset)) (sym is.3)
+    (subst (FailsAt program input (keyed_of t)) (sym (key-of_spot t s p is.0 is.1))
+    (fails calm (class_in (live_at t s.at) p.classes.items) (record { key = λ id l. is.2 id l; moved = λ id l. moved id l; room = λ id l c. more id l c })))
+
+-- that of exits is told of them all
+pub exits-fail : (program : Program) (input : Input) (t : Table) (s : Spot) (loops : List (ℕ × ℕ)) (p : Plane) → IsPlaneOf t s true loops p
+    → ExitsFailWith program input (keyed_of t) s loops → FailsIn program input t p s.offset
+exits-fail program input t s loops p is (classes, fails, has) =
+    let mine : ℕ → ℕ = class_in (live_at t s.at) p.classes.items in
+    subst (λ b. FailsAsTold program input (keyed_of t) b (key_in t p s.offset)) (sym is.3)
+    (subst (FailsAsTold program input (keyed_of t) true) (sym (key-of_spot t s p is.0 is.1))
+    (λ i here. exits-same program input (keyed_of t) (key_at s classes) mine (λ id l. sym (has id l) ∙ is.2 id l) i (fails i here)))

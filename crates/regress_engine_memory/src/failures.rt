@@ -4,10 +4,9 @@ ghost use Rattle.regress_meaning.specs.Inputs.{Input};
 ghost use Rattle.regress_engine_insn.specs.Instructions.{Program};
 ghost use Rattle.regress_engine_search.specs.StateViews.{loop_of};
 ghost use Rattle.regress_engine_memory.specs.BitViews.{has};
-ghost use Rattle.regress_engine_memory.specs.Held.{FailsIfFree, FailsWith};
-ghost use Rattle.regress_engine_memory.specs.Keys.{FailsAt};
+ghost use Rattle.regress_engine_memory.specs.Held.{ExitsFailWith, FailsIfFree, FailsWith};
 ghost use Rattle.regress_engine_memory.specs.Needs.{need};
-ghost use Rattle.regress_engine_memory.specs.Planes.{AreKnown, IsPlaneOf, key_in};
+ghost use Rattle.regress_engine_memory.specs.Planes.{AreKnown, FailsIn, IsPlaneOf};
 ghost use Rattle.regress_engine_memory.specs.Remembered.{keyed_of};
 ghost use Rattle.regress_engine_memory.specs.TableViews.{needs_of, table_of};
 
@@ -25,6 +24,8 @@ const MOST_TRIED: usize = 1024;
 pub struct Plane {
     pub(crate) at: usize,
     pub(crate) forward: bool,
+    /// Whether it also fails behind however many further iterations of the instruction before the address.
+    pub(crate) further: bool,
     pub(crate) classes: Vec<usize>,
     pub(crate) offsets: Bits,
     /// The next plane of the same address.
@@ -75,10 +76,10 @@ impl Failures {
         self.table.need(at)
     }
 
-    /// The plane of a spot and of the loops that are held, if there is one.
-    fn find(&self, spot: &Spot, loops: &[LoopData<usize>]) -> Option<usize>
+    /// The plane of a spot and of the loops that are held, if there is one, of it alone or of all further iterations too.
+    fn find(&self, spot: &Spot, further: bool, loops: &[LoopData<usize>]) -> Option<usize>
         ensures { IfSome result (λ k. (p : Plane) × (slice_get self.now.planes.items k ≡ Some p)
-            × IsPlaneOf (table_of self.now.table) spot.now (map loop_of loops.now) p) }
+            × IsPlaneOf (table_of self.now.table) spot.now further (map loop_of loops.now) p) }
     {
         let mut next = if spot.at < self.heads.len() {
             self.heads[spot.at]
@@ -93,6 +94,7 @@ impl Failures {
             let plane = &self.planes[k];
             if plane.at == spot.at
                 && plane.forward == spot.forward
+                && plane.further == further
                 && self.table.have_classes(spot.at, &plane.classes, loops)
             {
                 return Some(k);
@@ -112,7 +114,23 @@ impl Failures {
         ensures { result ≡ true → (program : Program) → (input : Input) → AreKnown program input self.now
             → FailsWith program input (keyed_of (table_of self.now.table)) spot.now (map loop_of loops.now) }
     {
-        match self.find(spot, loops) {
+        match self.find(spot, false, loops) {
+            Some(k) => self.has(k, spot.offset),
+            None => false,
+        }
+    }
+
+    /// Whether it is known that no run from a spot has an answer, nor behind however many further iterations of the instruction
+    /// before its address.
+    ///
+    /// ```rust
+    /// let known = failures.are_exits_known(&spot, loops);
+    /// ```
+    pub fn are_exits_known(&self, spot: &Spot, loops: &[LoopData<usize>]) -> bool
+        ensures { result ≡ true → (program : Program) → (input : Input) → AreKnown program input self.now
+            → ExitsFailWith program input (keyed_of (table_of self.now.table)) spot.now (map loop_of loops.now) }
+    {
+        match self.find(spot, true, loops) {
             Some(k) => self.has(k, spot.offset),
             None => false,
         }
@@ -138,11 +156,16 @@ impl Failures {
     }
 
     /// One more plane, of a spot and of the loops that are held, of which no bit is set. It errs where memory is refused.
-    fn add(&mut self, spot: &Spot, loops: &[LoopData<usize>]) -> Result<Option<usize>, AllocError>
+    fn add(
+        &mut self,
+        spot: &Spot,
+        further: bool,
+        loops: &[LoopData<usize>],
+    ) -> Result<Option<usize>, AllocError>
         ensures table { self.new.table ≡ self.old.table }
         ensures known { (program : Program) → (input : Input) → AreKnown program input self.old → AreKnown program input self.new }
         ensures plane { IfOk result (λ found. IfSome found (λ k. (p : Plane) × (slice_get self.new.planes.items k ≡ Some p)
-            × IsPlaneOf (table_of self.new.table) spot.now (map loop_of loops.now) p)) }
+            × IsPlaneOf (table_of self.new.table) spot.now further (map loop_of loops.now) p)) }
     {
         let classes = self.table.classes(self.alloc, spot.at, loops)?;
         if !self.table.have_classes(spot.at, &classes, loops) {
@@ -154,6 +177,7 @@ impl Failures {
         self.planes.push(Plane {
             at: spot.at,
             forward: spot.forward,
+            further,
             classes,
             offsets: Bits::new(self.alloc),
             next,
@@ -164,19 +188,19 @@ impl Failures {
 
     /// The plane of a spot and of the loops that are held, a new one where there is none; `None` where there is no room for one, or
     /// memory is refused.
-    fn plane_of(&mut self, spot: &Spot, loops: &[LoopData<usize>]) -> Option<usize>
+    fn plane_of(&mut self, spot: &Spot, further: bool, loops: &[LoopData<usize>]) -> Option<usize>
         ensures table { self.new.table ≡ self.old.table }
         ensures known { (program : Program) → (input : Input) → AreKnown program input self.old → AreKnown program input self.new }
         ensures plane { IfSome result (λ k. (p : Plane) × (slice_get self.new.planes.items k ≡ Some p)
-            × IsPlaneOf (table_of self.new.table) spot.now (map loop_of loops.now) p) }
+            × IsPlaneOf (table_of self.new.table) spot.now further (map loop_of loops.now) p) }
     {
-        if let Some(k) = self.find(spot, loops) {
+        if let Some(k) = self.find(spot, further, loops) {
             return Some(k);
         }
         if self.room == 0 {
             return None;
         }
-        match self.add(spot, loops) {
+        match self.add(spot, further, loops) {
             Ok(k) => k,
             Err(_) => {
                 self.room = 0;
@@ -189,8 +213,7 @@ impl Failures {
     fn mark(&mut self, k: usize, offset: usize)
         ensures table { self.new.table ≡ self.old.table }
         ensures known { (program : Program) → (input : Input) → AreKnown program input self.old
-            → ((p : Plane) → slice_get self.old.planes.items k ≡ Some p
-            → FailsAt program input (keyed_of (table_of self.old.table)) (key_in (table_of self.old.table) p offset))
+            → ((p : Plane) → slice_get self.old.planes.items k ≡ Some p → FailsIn program input (table_of self.old.table) p offset)
             → AreKnown program input self.new }
     {
         if k >= self.planes.len() {
@@ -221,7 +244,23 @@ impl Failures {
         if !self.table.is_calm(spot.at) || !self.table.are_free(loops, spot, last) {
             return;
         }
-        if let Some(k) = self.plane_of(spot, loops) {
+        if let Some(k) = self.plane_of(spot, false, loops) {
+            self.mark(k, spot.offset);
+        }
+    }
+
+    /// Learns that no run from a spot has an answer, nor behind however many further iterations of the instruction before its
+    /// address.
+    ///
+    /// ```rust
+    /// failures.learn_exits(&spot, loops);
+    /// ```
+    pub fn learn_exits(&mut self, spot: &Spot, loops: &[LoopData<usize>])
+        ensures table { self.new.table ≡ self.old.table }
+        ensures known { (program : Program) → (input : Input) → AreKnown program input self.old
+            → ExitsFailWith program input (keyed_of (table_of self.old.table)) spot.now (map loop_of loops.now) → AreKnown program input self.new }
+    {
+        if let Some(k) = self.plane_of(spot, true, loops) {
             self.mark(k, spot.offset);
         }
     }

@@ -1,11 +1,11 @@
 -- When bytes don't stand where an instruction takes a character.
-use Rattle.std.specs.Prelude.{IfSome, slice_get, slice_range, get_or, nat_lt, option_map, if◌then◌else◌}
+use Rattle.std.specs.Prelude.{IfSome, slice_get, slice_index, slice_range, get_or, nat_lt, option_map, if◌then◌else◌}
 use Rattle.std.proofs.Common.{◌≡◌, ℕ, suc, ◌+◌, ◌<◌, ◌≤◌, Bool, true, false, not, ◌==◌, List, [], ◌∷◌, ◌++◌, length, drop, Option, Some, None, ◌⊎◌, inl, inr, refl, sym, ap, ◌∙◌, subst, arith}
 use Rattle.std.specs.Option.{option_eq}
-use Rattle.std.proofs.lemmas.Bool.{eq-eqb, ltb-true}
+use Rattle.std.proofs.lemmas.Bool.{eq-eqb, eqb-false, ltb-true}
 use Rattle.std.proofs.lemmas.Bool.Decides.{nat_tests}
 use Rattle.std.proofs.lemmas.List.{get_or-drop, length-drop}
-use Rattle.std.proofs.lemmas.Option.{slice_get-get_or}
+use Rattle.std.proofs.lemmas.Option.{slice_get-get_or, get_or_from_slice_get}
 use Rattle.regress_meaning.specs.Text.{same_text, holds, between}
 use Rattle.regress_front_sets.proofs.IntervalLemmas.{between_cases}
 use Rattle.regress_front_bytes.specs.ByteSets.{members}
@@ -68,6 +68,11 @@ not-there v are bs o p some same found is other = other-first (input_of v) bs o 
     let equal : (b == b) ≡ true = eq-eqb b b refl in
     let never : true ≡ false = so ∙ ap not equal in
     absurd (grind arith))
+
+-- nor where a byte of the text is not
+pub other-there : (v : View) (b : ℕ) (rest : List ℕ) (o : ℕ) → (slice_index v.units o == b) ≡ false → None ≡ literal (input_of v) Forward (b ∷ rest) o
+other-there v b rest o other = other-first (input_of v) (b ∷ rest) o (omega arith)
+    (λ there. eqb-false (slice_index v.units o) b other (get_or_from_slice_get v.units o b 0 (ap (λ us. slice_get us o) (sym (units-are v)) ∙ there)))
 
 -- a byte of ASCII is a character
 low-right : (b x y z : ℕ) → nat_lt b 0x80 ≡ true → bytes_right b x y z ≡ (b, 1)

@@ -9,4 +9,5 @@ pub mod LineLemmas
 pub mod PassingLemmas
 pub mod StopLemmas
 pub mod DeadLemmas
+pub mod AsciiLemmas
 pub mod BoundaryLemmas

@@ -1,9 +1,10 @@
 -- How far a test on one character passes, again and again.
 use Rattle.std.specs.Prelude.{◌≡◌, ℕ, zero, suc, ◌<◌, ◌≤◌, Bool, true, false, List, length, slice_index, Option, Some, None, option_and_then}
-use Rattle.regress_meaning.specs.Meaning.{Direction}
+use Rattle.regress_meaning.specs.Meaning.{Direction, Forward}
 use Rattle.regress_meaning.specs.Inputs.{Input}
 use Rattle.regress_meaning.specs.Steps.{passed}
 use Rattle.regress_meaning.specs.Text.{holds}
+use Rattle.regress_engine_input.specs.Views.{View, input_of}
 
 module _ (input : Input) (passes : ℕ → Bool) (dir : Direction) where
   -- the offset behind as many as there are, at most so many
@@ -35,3 +36,8 @@ pub record StopsAt (stops bytes : List ℕ) (o end : ℕ) : Type 0 where
   pub room : end ≤ length bytes
   pub none : (k : ℕ) → o ≤ k → k < end → holds stops (slice_index bytes k) ≡ false
   pub stop : end < length bytes → holds stops (slice_index bytes end) ≡ true
+
+-- A character of ASCII stands ahead of an offset: its byte.
+pub record IsAsciiAhead (v : View) (o : ℕ) : Type 0 where
+  pub low : slice_index v.units o < 0x80
+  pub next : (input_of v).next Forward o ≡ Some (slice_index v.units o, suc o)

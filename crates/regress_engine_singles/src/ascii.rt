@@ -4,11 +4,14 @@ ghost use Rattle.regress_meaning.specs.Meaning.{Forward as ahead};
 ghost use Rattle.regress_meaning.specs.Steps.{passed};
 ghost use Rattle.regress_meaning.specs.Text.{holds};
 ghost use Rattle.regress_engine_input.specs.Views.{input_of, CanRead};
+ghost use Rattle.regress_engine_singles.specs.Passing.{IsAsciiAhead};
 
 use crate::class::ScannedBracket;
+use crate::stops::next_stop;
 use regress_engine_input::cursor::next;
 use regress_engine_input::{Direction, ElementType, Forward, InputIndexer, PositionType};
 use regress_engine_matchers::{MatchByteSet, SingleCharMatcher};
+use regress_engine_scanning::are_ascii;
 use regress_front_bytes::ByteSet;
 
 /// A test on the character ahead, which also tests numbers under 0x100.
@@ -16,6 +19,14 @@ pub(crate) trait ByteMatcher<Input: InputIndexer>: SingleCharMatcher<Input, Forw
     /// Whether the character with this number passes.
     fn has_byte(&self, byte: u8) -> bool
         ensures { result ≡ Self.passes self.now byte };
+
+    /// The characters that do not pass, where these are known to be at most three.
+    #[inline(always)]
+    fn stopped_by(&self) -> Option<[u8; 3]>
+        ensures { IfSome result (λ stops. (c : ℕ) → Self.passes self.now c ≡ not (holds stops c)) }
+    {
+        None
+    }
 }
 
 impl<Input: InputIndexer, Bytes: ByteSet> ByteMatcher<Input> for MatchByteSet<'_, Bytes> {
@@ -69,6 +80,11 @@ impl<Input: InputIndexer> ByteMatcher<Input> for AllBut {
     fn has_byte(&self, byte: u8) -> bool {
         self.has(u32::from(byte))
     }
+
+    #[inline(always)]
+    fn stopped_by(&self) -> Option<[u8; 3]> {
+        Some(self.stops)
+    }
 }
 
 /// The offset behind as many characters of ASCII ahead of one as pass one after another, at most so many, where they stand in
@@ -84,11 +100,18 @@ pub(crate) fn ascii_end<Input: InputIndexer, Matcher: ByteMatcher<Input>>(
     ensures low { offset ≤ result }
     ensures high { result - offset ≤ most }
     ensures each { (k : ℕ) → offset ≤ k → k < result → Some (suc k) ≡ passed (Matcher.passes matcher.now) ((input_of (Input.view input.now)).next ahead k) }
+    ensures ascii { (k : ℕ) → offset ≤ k → k < result → IsAsciiAhead (Input.view input.now) k }
 {
     let Some(text) = input.bytes() else {
         return offset;
     };
     let end = offset + most.min(text.len() - offset);
+    if let Some(stops) = matcher.stopped_by() {
+        let far = next_stop(stops, &text[..end], offset);
+        if are_ascii(&text[offset..far]) {
+            return far;
+        }
+    }
     let mut at = offset;
     while at < end {
         let byte = text[at];

@@ -3,6 +3,7 @@
 
 mod ahead;
 mod ascii;
+mod before;
 mod class;
 mod far;
 mod sparing;
@@ -11,6 +12,7 @@ mod taken;
 mod taking;
 
 pub use ahead::as_far_ahead;
+pub use before::taken_before;
 pub use class::ScannedBracket;
 pub use far::scan_while;
 pub use sparing::{is_possessive, turn_at};

@@ -53,7 +53,7 @@ pub(crate) fn all_but(class: &BracketContents) -> Option<[u8; 3]>
 }
 
 /// The least offset from one on at which one of three bytes stands, or that of the end.
-fn next_stop(stops: [u8; 3], bytes: &[u8], offset: usize) -> usize
+pub(crate) fn next_stop(stops: [u8; 3], bytes: &[u8], offset: usize) -> usize
     requires { offset ≤ length bytes.now }
     ensures { StopsAt stops bytes.now offset result }
 {

@@ -12,10 +12,10 @@ use Rattle.regress_engine_exec.proofs.RememberLemmas.{under-way-on}
 use Rattle.regress_engine_exec.proofs.attempt.Attempt.back.Goals as goal
 
 pub loop-undo-init : goal.loop-undo-init
-loop-undo-init g c = record { leads = leads-same _ _ _; sound = c.requires.sound; so = c.count_back.ensures }
+loop-undo-init g c = record { leads = leads-same _ _ _; sound = c.requires.sound; so = c.keep_failures.ensures }
 
-pub undo-requires-clause-sound : goal.undo-requires-clause-sound
-undo-requires-clause-sound g c = subst (IsHeld (program_of c.args.self.now.program.now) (g.Input.InputIndexer.view c.args.self.now.input)) c.in-Some.ensures c.loop-undo.invariant.sound
+pub undo_one-requires-clause-sound : goal.undo_one-requires-clause-sound
+undo_one-requires-clause-sound g c = subst (IsHeld (program_of c.args.self.now.program.now) (g.Input.InputIndexer.view c.args.self.now.input)) c.in-Some.ensures c.loop-undo.invariant.sound
 
 pub learn-requires-clause-sound : goal.learn-requires-clause-sound
 learn-requires-clause-sound g c = subst (IsHeld (program_of c.args.self.now.program.now) (g.Input.InputIndexer.view c.args.self.now.input)) c.in-Some.ensures c.loop-undo.invariant.sound
@@ -29,7 +29,7 @@ learn-requires-clause-tried g c =
 pub loop-undo-smaller : goal.loop-undo-smaller
 loop-undo-smaller g c =
     let one = ap (λ (h : Held). length h.stack) c.in-Some.ensures in
-    let rest = ap length (c.in_ok-undo.ensures.rest c.if-branch.false) in
+    let rest = ap length (c.in_ok-undo_one.ensures.rest c.if-branch.false) in
     omega (arith, one, rest)
 
 pub loop-undo-preserved : goal.loop-undo-preserved
@@ -38,11 +38,11 @@ loop-undo-preserved g c =
     let input = input_of (g.Input.InputIndexer.view c.args.self.now.input) in
     record {
       leads = leads-then program input 0 0 c.loop-undo.invariant.leads
-          (subst (λ h. Leads program input 0 (task program input false c.loop-undo.spot h) (task program input false c.undo.new.spot (held c.undo.new.memory))) (sym c.in-Some.ensures)
-          (subst (λ b. Leads program input 0 (task program input false c.loop-undo.spot (pushed (undo_of c.in-Some.undo) (held c.pop.new.self))) (task program input b c.undo.new.spot (held c.undo.new.memory))) c.if-branch.false
-          c.in_ok-undo.ensures.leads));
-      sound = c.in_ok-undo.ensures.sound;
-      so = c.learn.ensures;
+          (subst (λ h. Leads program input 0 (task program input false c.loop-undo.spot h) (task program input false c.undo_one.new.spot (held c.undo_one.new.memory))) (sym c.in-Some.ensures)
+          (subst (λ b. Leads program input 0 (task program input false c.loop-undo.spot (pushed (undo_of c.in-Some.undo) (held c.pop.new.self))) (task program input b c.undo_one.new.spot (held c.undo_one.new.memory))) c.if-branch.false
+          c.in_ok-undo_one.ensures.leads));
+      sound = c.in_ok-undo_one.ensures.sound;
+      so = c.in_ok-undo_one.ensures.so;
     }
 
 pub returns-then-branch-clause-leads : goal.returns-then-branch-clause-leads
@@ -50,9 +50,9 @@ returns-then-branch-clause-leads g c =
     let program = program_of c.args.self.now.program.now in
     let input = input_of (g.Input.InputIndexer.view c.args.self.now.input) in
     leads-then program input 0 0 c.loop-undo.invariant.leads
-    (subst (λ h. Leads program input 0 (task program input false c.loop-undo.spot h) (task program input true c.undo.new.spot (held c.undo.new.memory))) (sym c.in-Some.ensures)
-    (subst (λ b. Leads program input 0 (task program input false c.loop-undo.spot (pushed (undo_of c.in-Some.undo) (held c.pop.new.self))) (task program input b c.undo.new.spot (held c.undo.new.memory))) c.if-branch.true
-    c.in_ok-undo.ensures.leads))
+    (subst (λ h. Leads program input 0 (task program input false c.loop-undo.spot h) (task program input true c.undo_one.new.spot (held c.undo_one.new.memory))) (sym c.in-Some.ensures)
+    (subst (λ b. Leads program input 0 (task program input false c.loop-undo.spot (pushed (undo_of c.in-Some.undo) (held c.pop.new.self))) (task program input b c.undo_one.new.spot (held c.undo_one.new.memory))) c.if-branch.true
+    c.in_ok-undo_one.ensures.leads))
 
 pub returns-clause-leads : goal.returns-clause-leads
 returns-clause-leads g c =

@@ -8,13 +8,28 @@ use Rattle.regress_engine_search.proofs.ReadyLemmas.{body-asked, body-next}
 use Rattle.regress_engine_advance.proofs.ReadLemmas.{none-is}
 use Rattle.regress_engine_advance.proofs.TakenLemmas.{taking-any, taking-ready, body-taking}
 use Rattle.regress_engine_undo.proofs.DeadLemmas.{takes-same, takes-last, takes-over, takes-then}
+use Rattle.regress_engine_exec.specs.Attempts.{world_of}
+use Rattle.regress_engine_exec.proofs.PassedLemmas.{passed-takes, passed-body}
 use Rattle.regress_engine_exec.proofs.attempt.Attempt.near_way.Goals as goal
 
 pub returns-in_default-clause-leads : goal.returns-in_default-clause-leads
 returns-in_default-clause-leads g c = takes-same _ _ c.args.forward c.args.at c.args.offset c.args.left
 
+pub passed_before-near-requires : goal.passed_before-near-requires
+passed_before-near-requires g c = record { place = c.requires.body.3; first = c.first_byte-first.ensures.some }
+
 pub places-init : goal.places-init
-places-init g c = record { takes = takes-same _ _ c.args.forward c.args.at c.args.offset c.args.left; body = c.requires.body }
+places-init g c =
+    let w = world_of c.args.self.now.program.now (g.Input.InputIndexer.view c.args.self.now.input) in
+    let i = instruction c.in-Some.insn.now in
+    let j = instruction c.instruction-body.result.now in
+    let stands = c.instruction-body.ensures.stands in
+    let dead = c.in-Some.ensures.dead (input_of w.view) c.args.forward in
+    let passed = c.passed_before-near.ensures in
+    record {
+      takes = passed-takes w c.args.at i j c.args.forward stands dead c.args.left c.args.offset c.passed_before-near.result passed;
+      body = passed-body w c.args.at i j c.args.forward stands dead (g.met.Input.InputIndexer.are_of_kind c.args.self.now.input) c.requires.suits c.args.left c.args.offset c.passed_before-near.result passed c.requires.body;
+    }
 
 pub overflow_sub-at : goal.overflow_sub-at
 overflow_sub-at g c = let some = c.requires.body.4 in omega (arith, some)

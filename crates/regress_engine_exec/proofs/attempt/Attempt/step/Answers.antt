@@ -181,56 +181,56 @@ returns-in_ok-going-in-Loop1CharBody-clause-leads g c =
     let here = stands-as program p.at _ _ c.in-Loop1CharBody.is c.instruction-insn.ensures.stands in
     step-on program input _ p _ h _ _ here refl c.in_ok-going-in-Loop1CharBody.ensures.leads
 
-pub returns-in_ok-begin_submatch-in-Lookahead-clause-leads : goal.returns-in_ok-begin_submatch-in-Lookahead-clause-leads
-returns-in_ok-begin_submatch-in-Lookahead-clause-leads g c =
+pub returns-in_ok-begin_around-in-Lookahead-clause-leads : goal.returns-in_ok-begin_around-in-Lookahead-clause-leads
+returns-in_ok-begin_around-in-Lookahead-clause-leads g c =
     let program = program_of c.args.self.now.program.now in
     let input = input_of (g.Input.InputIndexer.view c.args.self.now.input) in
     let p = c.args.spot.now in
     let h = held c.args.memory.now in
     let here = stands-as program p.at _ _ c.in-Lookahead.is c.instruction-insn.ensures.stands in
-    submatch-on program input p _ h _ _ refl refl refl here c.in_ok-begin_submatch-in-Lookahead.ensures.pushed c.in_ok-begin_submatch-in-Lookahead.ensures.spot
+    submatch-on program input p _ h _ _ refl refl refl here c.in_ok-begin_around-in-Lookahead.ensures.pushed c.in_ok-begin_around-in-Lookahead.ensures.spot
 
-pub returns-in_ok-begin_submatch-in-Lookahead-clause-sound : goal.returns-in_ok-begin_submatch-in-Lookahead-clause-sound
-returns-in_ok-begin_submatch-in-Lookahead-clause-sound g c =
+pub returns-in_ok-begin_around-in-Lookahead-clause-sound : goal.returns-in_ok-begin_around-in-Lookahead-clause-sound
+returns-in_ok-begin_around-in-Lookahead-clause-sound g c =
     let program = program_of c.args.self.now.program.now in
     let input = input_of (g.Input.InputIndexer.view c.args.self.now.input) in
     let p = c.args.spot.now in
     let h = held c.args.memory.now in
     let here = stands-as program p.at _ _ c.in-Lookahead.is c.instruction-insn.ensures.stands in
-    frame-held program (g.Input.InputIndexer.view c.args.self.now.input) h _ _ c.in_ok-begin_submatch-in-Lookahead.ensures.pushed (c.requires.suits.closed p.at _ here) c.requires.sound
+    frame-held program (g.Input.InputIndexer.view c.args.self.now.input) h _ _ c.in_ok-begin_around-in-Lookahead.ensures.pushed (c.requires.suits.closed p.at _ here) c.requires.sound
 
-pub returns-in_ok-begin_submatch-in-Lookbehind-clause-leads : goal.returns-in_ok-begin_submatch-in-Lookbehind-clause-leads
-returns-in_ok-begin_submatch-in-Lookbehind-clause-leads g c =
+pub returns-in_ok-begin_around-in-Lookbehind-clause-leads : goal.returns-in_ok-begin_around-in-Lookbehind-clause-leads
+returns-in_ok-begin_around-in-Lookbehind-clause-leads g c =
     let program = program_of c.args.self.now.program.now in
     let input = input_of (g.Input.InputIndexer.view c.args.self.now.input) in
     let p = c.args.spot.now in
     let h = held c.args.memory.now in
     let here = stands-as program p.at _ _ c.in-Lookbehind.is c.instruction-insn.ensures.stands in
-    submatch-on program input p _ h _ _ refl refl refl here c.in_ok-begin_submatch-in-Lookbehind.ensures.pushed c.in_ok-begin_submatch-in-Lookbehind.ensures.spot
+    submatch-on program input p _ h _ _ refl refl refl here c.in_ok-begin_around-in-Lookbehind.ensures.pushed c.in_ok-begin_around-in-Lookbehind.ensures.spot
 
-pub returns-in_ok-begin_submatch-in-Lookbehind-clause-sound : goal.returns-in_ok-begin_submatch-in-Lookbehind-clause-sound
-returns-in_ok-begin_submatch-in-Lookbehind-clause-sound g c =
+pub returns-in_ok-begin_around-in-Lookbehind-clause-sound : goal.returns-in_ok-begin_around-in-Lookbehind-clause-sound
+returns-in_ok-begin_around-in-Lookbehind-clause-sound g c =
     let program = program_of c.args.self.now.program.now in
     let input = input_of (g.Input.InputIndexer.view c.args.self.now.input) in
     let p = c.args.spot.now in
     let h = held c.args.memory.now in
     let here = stands-as program p.at _ _ c.in-Lookbehind.is c.instruction-insn.ensures.stands in
-    frame-held program (g.Input.InputIndexer.view c.args.self.now.input) h _ _ c.in_ok-begin_submatch-in-Lookbehind.ensures.pushed (c.requires.suits.closed p.at _ here) c.requires.sound
+    frame-held program (g.Input.InputIndexer.view c.args.self.now.input) h _ _ c.in_ok-begin_around-in-Lookbehind.ensures.pushed (c.requires.suits.closed p.at _ here) c.requires.sound
 
-pub returns-in_ok-begin_submatch-in-Atomic-clause-leads : goal.returns-in_ok-begin_submatch-in-Atomic-clause-leads
-returns-in_ok-begin_submatch-in-Atomic-clause-leads g c =
+pub returns-in_ok-begin_atomic-in-Atomic-clause-leads : goal.returns-in_ok-begin_atomic-in-Atomic-clause-leads
+returns-in_ok-begin_atomic-in-Atomic-clause-leads g c =
     let program = program_of c.args.self.now.program.now in
     let input = input_of (g.Input.InputIndexer.view c.args.self.now.input) in
     let p = c.args.spot.now in
     let h = held c.args.memory.now in
     let here = stands-as program p.at _ _ c.in-Atomic.is c.instruction-insn.ensures.stands in
-    submatch-on program input p _ h _ _ refl refl refl here c.in_ok-begin_submatch-in-Atomic.ensures.pushed c.in_ok-begin_submatch-in-Atomic.ensures.spot
+    submatch-on program input p _ h _ _ refl refl refl here c.in_ok-begin_atomic-in-Atomic.ensures.pushed c.in_ok-begin_atomic-in-Atomic.ensures.spot
 
-pub returns-in_ok-begin_submatch-in-Atomic-clause-sound : goal.returns-in_ok-begin_submatch-in-Atomic-clause-sound
-returns-in_ok-begin_submatch-in-Atomic-clause-sound g c =
+pub returns-in_ok-begin_atomic-in-Atomic-clause-sound : goal.returns-in_ok-begin_atomic-in-Atomic-clause-sound
+returns-in_ok-begin_atomic-in-Atomic-clause-sound g c =
     let program = program_of c.args.self.now.program.now in
     let input = input_of (g.Input.InputIndexer.view c.args.self.now.input) in
     let p = c.args.spot.now in
     let h = held c.args.memory.now in
     let here = stands-as program p.at _ _ c.in-Atomic.is c.instruction-insn.ensures.stands in
-    frame-held program (g.Input.InputIndexer.view c.args.self.now.input) h _ _ c.in_ok-begin_submatch-in-Atomic.ensures.pushed (c.requires.suits.closed p.at _ here) c.requires.sound
+    frame-held program (g.Input.InputIndexer.view c.args.self.now.input) h _ _ c.in_ok-begin_atomic-in-Atomic.ensures.pushed (c.requires.suits.closed p.at _ here) c.requires.sound

@@ -14,6 +14,12 @@ use Rattle.regress_engine_exec.proofs.attempt.Attempt.take_on.Goals as goal
 pub near_way-requires-clause-body : goal.near_way-requires-clause-body
 near_way-requires-clause-body g c = (held-take_on _ _ (held c.args.memory.now) c.args.at c.args.offset c.args.left c.requires.sound).0
 
+pub count_over-requires-clause-sound : goal.count_over-requires-clause-sound
+count_over-requires-clause-sound g c = (held-take_on _ _ (held c.args.memory.now) c.args.at c.args.offset c.args.left c.requires.sound).1
+
+pub count_over-requires-clause-body : goal.count_over-requires-clause-body
+count_over-requires-clause-body g c = (held-take_on _ _ (held c.args.memory.now) c.args.at c.args.offset c.args.left c.requires.sound).0
+
 pub returns-in_default-clause-leads : goal.returns-in_default-clause-leads
 returns-in_default-clause-leads g c = c.in_default.ensures.leads c.args.spot.now (held c.args.memory.now) refl
 

@@ -25,7 +25,7 @@ returns-clause-known c program input known =
     let t : Table = table_of c.make_head.new.self.table in
     let planes : List Plane = c.make_head.new.self.planes.items in
     let p : Plane =
-    record { at = c.args.spot.now.at; forward = c.args.spot.now.forward; classes = c.in_ok-classes.classes; offsets = c.new.result; next = c.index-next.result.now } in
+    record { at = c.args.spot.now.at; forward = c.args.spot.now.forward; further = c.args.further; classes = c.in_ok-classes.classes; offsets = c.new.result; next = c.index-next.result.now } in
     let before : KnownIn program input t planes =
     known-there program input (table_of c.args.self.now.table) t c.args.self.now.planes.items planes (ap table_of c.make_head.ensures.table) c.make_head.ensures.planes known in
     subst (KnownIn program input t) (sym {A = List Plane} c.in_ok-push.ensures.items) (known-more program input t planes p c.new.ensures before)
@@ -35,7 +35,7 @@ returns-clause-plane c =
     let t : Table = table_of c.make_head.new.self.table in
     let planes : List Plane = c.make_head.new.self.planes.items in
     let p : Plane =
-    record { at = c.args.spot.now.at; forward = c.args.spot.now.forward; classes = c.in_ok-classes.classes; offsets = c.new.result; next = c.index-next.result.now } in
+    record { at = c.args.spot.now.at; forward = c.args.spot.now.forward; further = c.args.further; classes = c.in_ok-classes.classes; offsets = c.new.result; next = c.index-next.result.now } in
     let k : ℕ = length c.as_slice-k.result.now in
     let count : k ≡ length planes = ap length c.as_slice-k.ensures.value in
     let there : slice_get c.push.new.self.items k ≡ Some p =
@@ -45,4 +45,4 @@ returns-clause-plane c =
     (c.have_classes.ensures c.if-not-have_classes.false) in
     let has : HaveClasses t c.args.spot.now.at p.classes.items (map loop_of c.args.loops.now) =
     subst (λ (x : FlowTable). HaveClasses (table_of x) c.args.spot.now.at p.classes.items (map loop_of c.args.loops.now)) (sym c.make_head.ensures.table) here in
-    (p, there, (refl, refl, has))
+    (p, there, (refl, refl, has, refl))

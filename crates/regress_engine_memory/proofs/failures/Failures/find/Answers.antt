@@ -23,4 +23,4 @@ returns-then-have_classes c =
     let has : HaveClasses (table_of c.args.self.now.table) c.args.spot.now.at p.classes.items (map loop_of c.args.loops.now) =
     subst (λ (classes : List ℕ). HaveClasses (table_of c.args.self.now.table) c.args.spot.now.at classes (map loop_of c.args.loops.now)) c.deref.ensures.value
     (c.have_classes.ensures c.if-have_classes.true) in
-    (p, there, (c.if-plane-spot.true, same-bool p.forward c.args.spot.now.forward c.if-plane-spot-2.true, has))
+    (p, there, (c.if-plane-spot.true, same-bool p.forward c.args.spot.now.forward c.if-plane-spot-2.true, has, same-bool p.further c.args.further c.if-plane-further.true))

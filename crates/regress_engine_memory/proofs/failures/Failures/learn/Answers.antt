@@ -1,9 +1,7 @@
 use Rattle.std.specs.Prelude.{map}
-use Rattle.std.proofs.Common.{◌≡◌, ℕ, List, Some, sym, subst, ◌∙◌}
+use Rattle.std.proofs.Common.{◌≡◌, ℕ, false, List, Some, sym, subst, ◌∙◌}
 use Rattle.regress_engine_search.specs.StateViews.{loop_of}
-use Rattle.regress_engine_memory.specs.Keys.{FailsAt}
-use Rattle.regress_engine_memory.specs.Planes.{IsPlaneOf, key_in}
-use Rattle.regress_engine_memory.specs.Remembered.{keyed_of}
+use Rattle.regress_engine_memory.specs.Planes.{FailsIn, IsPlaneOf}
 use Rattle.regress_engine_memory.specs.TableViews.{table_of}
 use Rattle.regress_engine_memory.specs.declared.flow.FlowTable.{FlowTable}
 use Rattle.regress_engine_memory.proofs.PlaneLemmas.{plane-fails}
@@ -19,9 +17,9 @@ returns-in-Some-clause-known c program input known fails =
     (λ q here.
     let e : Some p ≡ Some q = sym there ∙ here in
     let same : p ≡ q = cc in
-    let told : IsPlaneOf (table_of c.args.self.now.table) s loops q =
-    subst (λ (x : FlowTable). IsPlaneOf (table_of x) s loops q) table (subst (IsPlaneOf (table_of c.plane_of.new.self.table) s loops) same is) in
-    subst (λ (x : FlowTable). FailsAt program input (keyed_of (table_of x)) (key_in (table_of x) q s.offset)) (sym table)
+    let told : IsPlaneOf (table_of c.args.self.now.table) s false loops q =
+    subst (λ (x : FlowTable). IsPlaneOf (table_of x) s false loops q) table (subst (IsPlaneOf (table_of c.plane_of.new.self.table) s false loops) same is) in
+    subst (λ (x : FlowTable). FailsIn program input (table_of x) q s.offset) (sym table)
     (plane-fails program input (table_of c.args.self.now.table) c.args.last s loops q told (sym c.is_calm.ensures ∙ c.if-not-is_calm.false)
     (c.are_free.ensures.moved c.if-not-are_free.false) (c.are_free.ensures.room c.if-not-are_free.false) fails))
 
