@@ -9,3 +9,4 @@ pub mod SpanLemmas
 pub mod TokenLemmas
 pub mod TreeLaws
 pub mod CountLemmas
+pub mod GroupSteps

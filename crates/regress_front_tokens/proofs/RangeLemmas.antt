@@ -4,6 +4,7 @@ use Rattle.std.specs.Prelude.{option_and_then}
 use Rattle.std.specs.List.{flat_map}
 use Rattle.std.specs.declared.ops.Range.{Range}
 use Rattle.std.specs.declared.string.String.{String}
+use Rattle.std.specs.declared.rc.RcSlice.{RcSlice}
 use Rattle.std.proofs.lemmas.Bool.{eqb-true}
 use Rattle.std.proofs.lemmas.Bool.Decides.{nat_tests}
 use Rattle.regress_front_core.specs.declared.quantifier.Quantifier.{Quantifier}
@@ -53,7 +54,7 @@ opens-Loop loopee quant groups = ap opens (sym (rolls-Loop loopee quant groups))
 pub opens-Look : (negated backward : Bool) (contents : Box Syntax Global) (groups : Range ℕ) → opens (Look negated backward contents groups) ≡ with_range groups.start groups.end (opens contents.value)
 opens-Look negated backward contents groups = ap opens (sym (rolls-Look negated backward contents groups)) ∙ fold-roll-Syntax Opens node_opens (Syntax-F.Look negated backward contents groups)
 
-pub opens-Reference : (groups : Vec ℕ Global) → opens (Reference groups) ≡ opens_none
+pub opens-Reference : (groups : RcSlice ℕ Global) → opens (Reference groups) ≡ opens_none
 opens-Reference groups = ap opens (sym (rolls-Reference groups)) ∙ fold-roll-Syntax Opens node_opens (Syntax-F.Reference groups)
 
 pub opens-LineStart : opens LineStart ≡ opens_none

@@ -1,8 +1,10 @@
 -- The equations of `tree`, one for each variant.
 use Rattle.std.proofs.Common.{◌≡◌, ℕ, Bool, List, [], ◌∷◌, ◌++◌, map, Option, option_map, Vec, Box, Global, refl, sym, ap, ◌∙◌}
 use Rattle.std.specs.List.{flat_map}
+use Rattle.std.specs.Rc.{rc_slice_items}
 use Rattle.std.specs.declared.ops.Range.{Range}
 use Rattle.std.specs.declared.string.String.{String}
+use Rattle.std.specs.declared.rc.RcSlice.{RcSlice}
 use Rattle.regress_meaning.specs.Pattern.{Pattern, character, any, class, class_escape, capture, grouped, atomic, modified, repeated, look, reference, line_start, line_end, word_boundary}
 use Rattle.regress_front_tokens.specs.Trees.{tree, class_view, settings, node_tree, sequence_of, choice_of, term_trees, trees_of}
 use Rattle.regress_front_tokens.specs.Words.{code_points_of}
@@ -65,7 +67,7 @@ pub tree-Look : (negated backward : Bool) (contents : Box Syntax Global) (groups
 tree-Look negated backward contents groups =
     ap tree (sym (rolls-Look negated backward contents groups)) ∙ fold-roll-Syntax Pattern node_tree (Syntax-F.Look negated backward contents groups)
 
-pub tree-Reference : (groups : Vec ℕ Global) → tree (Reference groups) ≡ reference groups.items
+pub tree-Reference : (groups : RcSlice ℕ Global) → tree (Reference groups) ≡ reference (rc_slice_items groups)
 tree-Reference groups = ap tree (sym (rolls-Reference groups)) ∙ fold-roll-Syntax Pattern node_tree (Syntax-F.Reference groups)
 
 pub tree-LineStart : tree LineStart ≡ line_start

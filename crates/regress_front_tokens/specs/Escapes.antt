@@ -1,6 +1,7 @@
 -- What the parser's values of modes and escapes stand for.
 use Rattle.std.specs.Prelude.{◌≤◌, ℕ, not, ◌&&◌, ◌==◌, List, [], ◌∷◌, Option, None, length, map, drop, option_map, option_to_list}
 use Rattle.std.specs.Global.{Vec}
+use Rattle.std.specs.Rc.{rc_slice_items}
 use Rattle.std.specs.declared.alloc.Global.{Global}
 use Rattle.std.specs.declared.string.String.{String}
 use Rattle.regress_meaning.specs.Text.{is_at}
@@ -39,7 +40,7 @@ HasFewGroups m = length m.names.items ≤ 65535
 abbrev pub escape_view : Escape → meaning.Escape
 escape_view (Point c) = meaning.point c
 escape_view (Set s) = meaning.set (class_view s)
-escape_view (Groups ks) = meaning.groups ks.items
+escape_view (Groups ks) = meaning.groups (rc_slice_items ks)
 
 -- what is read from the first code point on, which decides
 abbrev pub from_first : {A : Type 0} → (ℕ → meaning.Reads A) → meaning.Reads A

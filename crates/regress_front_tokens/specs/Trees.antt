@@ -1,6 +1,7 @@
 -- The trees that the values of the parser stand for.
 use Rattle.std.specs.Prelude.{List, [], ◌∷◌, map, fold, option_map}
 use Rattle.std.specs.List.{flat_map}
+use Rattle.std.specs.Rc.{rc_slice_items}
 use Rattle.regress_front_core.specs.Quantifiers.{most}
 use Rattle.regress_meaning.specs.Class as meaning
 use Rattle.regress_meaning.specs.Pattern.{Pattern, Settings, nothing, character, any, class, class_escape, sequence, choice, capture, grouped, atomic, modified, repeated, look, reference, line_start, line_end, word_boundary}
@@ -72,7 +73,7 @@ node_tree (Syntax-F.Atomic contents groups) = atomic contents.value
 node_tree (Syntax-F.Modified on off contents) = modified (settings on) (settings off) contents.value
 node_tree (Syntax-F.Loop loopee quant groups) = repeated loopee.value groups.start groups.end quant.min (most quant) quant.greedy
 node_tree (Syntax-F.Look negated backward contents groups) = look negated backward contents.value
-node_tree (Syntax-F.Reference groups) = reference groups.items
+node_tree (Syntax-F.Reference groups) = reference (rc_slice_items groups)
 node_tree Syntax-F.LineStart = line_start
 node_tree Syntax-F.LineEnd = line_end
 node_tree (Syntax-F.WordBoundary negated) = word_boundary negated

@@ -12,6 +12,7 @@ use crate::mode::Mode;
 use crate::syntax::Class;
 use regress_front_tables::{CodePoint, Error, is_ascii_word};
 use std::alloc::{AllocError, Global};
+use std::rc::RcSlice;
 
 /// Why an escape is refused.
 pub const INVALID_ESCAPE: &str = "Invalid escape";
@@ -27,7 +28,7 @@ pub enum Escape {
     /// A class.
     Set(Class),
     /// Groups, by their numbers from 0.
-    Groups(Vec<u16>),
+    Groups(RcSlice<u16>),
 }
 
 /// Whether the code point is a letter of ASCII.
@@ -310,7 +311,8 @@ impl Cursor<'_> {
         };
         if number <= mode.names.len() {
             *self = ahead;
-            return Ok(Escape::Groups(vec![in alloc; number.saturating_sub(1) as u16]?));
+            let group = number.saturating_sub(1) as u16;
+            return Ok(Escape::Groups(RcSlice::from_slice(alloc, &[group])?));
         }
         self.octal_or_digit(mode, INVALID_REFERENCE)
     }

@@ -2,6 +2,7 @@
 
 use regress_front_tables::{CaptureGroupID, CaptureGroupName, CodePoint, Quantifier};
 use std::ops::Range;
+use std::rc::RcSlice;
 
 /// What modifiers switch on, or off ("RegularExpressionModifiers").
 #[derive(Debug, Clone, Copy, Drop)]
@@ -102,8 +103,8 @@ pub enum Syntax {
         contents: Box<Syntax>,
         enclosed_groups: Range<u16>,
     },
-    /// To groups by their numbers from 0: one, or those of a name.
-    Reference(Vec<u16>),
+    /// To groups by their numbers from 0: one, or those of a name, a list that all references by this name share.
+    Reference(RcSlice<u16>),
     /// `^`
     LineStart,
     /// `$`

@@ -1,6 +1,5 @@
 -- A lowered tree spreads no further than its pattern costs.
-use Rattle.std.proofs.Common.{◌≡◌, ℕ, ◌+◌, ◌*◌, ◌≤◌, Bool, true, false, not, ◌&&◌, ◌==◌, List, [], ◌∷◌, ◌++◌, length, nat_le, min, map, filter, reverse, sum_by, All, if◌then◌else◌, refl, arith, length-append}
-use Rattle.std.proofs.Math.Nat.{mul-le-mul}
+use Rattle.std.proofs.Common.{◌≡◌, ℕ, ◌+◌, ◌≤◌, Bool, true, false, not, ◌&&◌, ◌==◌, List, [], ◌∷◌, ◌++◌, length, map, filter, reverse, All, if◌then◌else◌, refl, arith, length-append}
 use Rattle.std.proofs.lemmas.Bool.{eqb-false}
 use Rattle.std.proofs.lemmas.List.{length-reverse, reverse-append}
 use Rattle.std.proofs.lemmas.List.Elements.{All-head, All-tail}
@@ -8,28 +7,17 @@ use Rattle.std.proofs.lemmas.List.Sums.{sum_by-cons}
 use Rattle.regress_meaning.specs.Table.{Table}
 use Rattle.regress_meaning.specs.Class.{Class, among}
 use Rattle.regress_meaning.specs.Pattern.{Pattern, Settings, character}
-use Rattle.regress_front_tokens.specs.Trees.{sequence_of, choice_of}
+use Rattle.regress_front_tokens.specs.Trees.{sequence_of}
 use Rattle.regress_front_nodes.specs.Trees.{Tree, char, bytes, byte_set, char_set, any, any_in_line, bracket, back, string_set, cat_of}
-use Rattle.regress_front_nodes.specs.Sizes.{size, spread, unrolling, most_unrolled, largest_unrolled}
+use Rattle.regress_front_nodes.specs.Sizes.{size, spread}
 use Rattle.regress_front_nodes.specs.Characters.{is_character}
 use Rattle.regress_front_nodes.specs.Forms.{cat_made, in_reading_order}
 use Rattle.regress_front_costs.specs.Costs.{strings_cost, class_cost, cost}
 use Rattle.regress_front_tree.specs.Lowering.{HasArms, one_arm, two_halves, class_value, is_piece, LowersClass, Lowers, of_character, of_any, of_class, of_negated_class, of_class_escape, of_terms, of_arms, of_capture, of_group, of_modified, of_repeated, of_look, of_atomic, of_reference, of_line_start, of_line_end, of_word_boundary, LowersAll, no_pattern, and_next, LowersTerms, no_term, next_term, next_text}
+use Rattle.regress_front_rules.proofs.SpreadLemmas.{unrolling-more}
 use Rattle.regress_front_costs.proofs.CostSteps.{sequence-cost, choice-cost}
 use Rattle.regress_front_costs.proofs.StringCosts.{strings-parts, empty_cost, parted, value-cost}
 use Rattle.regress_front_tree.proofs.TextTerms.{pieces-size}
-
--- more of a body is not less unrolled
-unrolling-more : (least a b : ℕ) → a ≤ b → unrolling least a ≤ unrolling least b
-unrolling-more least a b h = by_test (nat_le 1 least && nat_le least most_unrolled)
-  where
-    by_test : (t : Bool) → (if t then least * min a largest_unrolled + 1 else 0) ≤ (if t then least * min b largest_unrolled + 1 else 0)
-    by_test true =
-        let few : min a largest_unrolled ≤ min b largest_unrolled = omega (arith, h) in
-        let own : least ≤ least = omega arith in
-        let more : least * min a largest_unrolled ≤ least * min b largest_unrolled = mul-le-mul own few in
-        omega (arith, more)
-    by_test false = omega arith
 
 -- ---- parts one after another
 

@@ -10,7 +10,7 @@ returns-in_default-clause-read c = decimal_escape-none _ _ c.in_default.ensures.
 pub returns-then-number-len-clause-read : goal.returns-then-number-len-clause-read
 returns-then-number-len-clause-read c =
     let names = length-names c.args.mode.now in
-    rw (c.in_ok-vec.ensures.items, c.saturating_sub.ensures)
+    rw (c.in_ok-from_slice.ensures.ok, c.saturating_sub-group.ensures)
     (decimal_escape-group (mode_view c.args.mode.now) _ c.in-Some.ensures.read (omega (arith, names)) (omega (arith, names)))
 
 pub returns-clause-read : goal.returns-clause-read

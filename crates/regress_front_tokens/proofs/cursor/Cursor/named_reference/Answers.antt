@@ -1,4 +1,5 @@
-use Rattle.std.proofs.Common.{◌≡◌, ◌==◌, length, vec_len, string_bytes, sym, ap, ◌∙◌, arith}
+use Rattle.std.proofs.Common.{◌==◌, string_bytes, sym, ap, ◌∙◌, arith}
+use Rattle.std.specs.Rc.{rc_slice_items}
 use Rattle.regress_meaning.specs.Tokens.{named_reference, name_at}
 use Rattle.regress_front_tokens.specs.Cursors.{unread}
 use Rattle.regress_front_tokens.specs.Words.{code_points_of}
@@ -22,17 +23,15 @@ returns-in_err-name-clause-read c =
 pub returns-then-is_empty-clause-read : goal.returns-then-is_empty-clause-read
 returns-then-is_empty-clause-read c =
     let groups = c.in_ok-groups.groups in
-    let count : length groups.items ≡ vec_len groups = omega (arith, groups.ok.0) in
     let name = string_bytes c.in_ok-name.name in
     let numbers = rw c.deref.ensures at c.in_ok-groups.ensures ∙ c.args.mode.now.indexed c.requires name (IsUtf8-string_bytes c.in_ok-name.name) in
-    named-no_group (mode_view c.args.mode.now) _ (code_points_of c.in_ok-name.name) _ groups.items c.if-not-eat.ensures.found (rw c.if-not-eat.ensures.read at c.in_ok-name.ensures.read) numbers
-    (ap (λ n. n == 0) count ∙ sym c.is_empty.ensures ∙ c.if-is_empty.true)
+    named-no_group (mode_view c.args.mode.now) _ (code_points_of c.in_ok-name.name) _ (rc_slice_items groups) c.if-not-eat.ensures.found (rw c.if-not-eat.ensures.read at c.in_ok-name.ensures.read) numbers
+    (ap (λ n. n == 0) (sym c.deref-2.ensures.len) ∙ sym c.is_empty.ensures ∙ c.if-is_empty.true)
 
 pub returns-clause-read : goal.returns-clause-read
 returns-clause-read c =
     let groups = c.in_ok-groups.groups in
-    let count : length groups.items ≡ vec_len groups = omega (arith, groups.ok.0) in
     let name = string_bytes c.in_ok-name.name in
     let numbers = rw c.deref.ensures at c.in_ok-groups.ensures ∙ c.args.mode.now.indexed c.requires name (IsUtf8-string_bytes c.in_ok-name.name) in
-    named-groups (mode_view c.args.mode.now) _ (code_points_of c.in_ok-name.name) _ groups.items c.if-not-eat.ensures.found (rw c.if-not-eat.ensures.read at c.in_ok-name.ensures.read) numbers
-    (ap (λ n. n == 0) count ∙ sym c.is_empty.ensures ∙ c.if-is_empty.false)
+    named-groups (mode_view c.args.mode.now) _ (code_points_of c.in_ok-name.name) _ (rc_slice_items groups) c.if-not-eat.ensures.found (rw c.if-not-eat.ensures.read at c.in_ok-name.ensures.read) numbers
+    (ap (λ n. n == 0) (sym c.deref-2.ensures.len) ∙ sym c.is_empty.ensures ∙ c.if-is_empty.false)

@@ -8,10 +8,10 @@ use Rattle.regress_meaning.specs.Tokens.{numbers_from}
 use Rattle.regress_front_tokens.specs.Words.{code_points_of}
 use Rattle.regress_front_tables.proofs.EntryLemmas.{same_text-chars}
 use Rattle.regress_front_tokens.proofs.ModeLemmas.{numbers_from-step}
-use Rattle.regress_front_tokens.proofs.groups.GroupsByName.new.Goals as goal
+use Rattle.regress_front_tokens.proofs.groups.numbers_by_name.Goals as goal
 
 pub loop-group-init : goal.loop-group-init
-loop-group-init c = λ name utf8. rw c.new-numbers.ensures.empty refl
+loop-group-init c = λ name utf8. rw c.new-lists.ensures.empty refl
 
 pub loop-group-preserved : goal.loop-group-preserved
 loop-group-preserved c = λ name utf8.
