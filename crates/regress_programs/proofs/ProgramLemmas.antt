@@ -49,15 +49,7 @@ pub record IsReadAs (made : Pattern → Pattern) (t : Table) (o : Options) (text
   pub table : table regex.tables.now ≡ t
 
 module _ (made : Pattern → Pattern) (t : Table) (o : Options) (text : List ℕ) (p : Pattern) (parsed : ir.Regex) (from : IsReadFrom made t o text p parsed) where
-  -- so it is as it is parsed
-  pub as-parsed : IsReadAs made t o text p parsed
-  as-parsed = record {
-    of_text = parsed-for made t o text p parsed from.0;
-    flags = from.2;
-    table = from.1;
-  }
-
-  -- and as it is rewritten then
+  -- so it is as it is rewritten
   pub as-rewritten : (regex : ir.Regex) → ((n : ℕ) → IsWellFormed n (tree parsed.node) → IsRewritten n (tree parsed.node) (tree regex.node))
       → regex.flags ≡ parsed.flags → regex.tables ≡ parsed.tables → IsReadAs made t o text p regex
   as-rewritten regex rewritten same_flags same_tables = record {

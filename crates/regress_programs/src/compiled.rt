@@ -47,8 +47,7 @@ fn rewrite(alloc: Global, regex: &mut ir::Regex<'_>) -> Result<(), Error>
 }
 
 impl Compiled {
-    /// Compiles a tree: it becomes the program of units as it was read, and the program of bytes once it is rewritten, unless the
-    /// flags ask that it is not.
+    /// Compiles a tree: it becomes both programs once it is rewritten, unless the flags ask that it is not.
     fn of_tree(alloc: Global, mut regex: ir::Regex<'_>) -> Result<Compiled, Error>
         requires { (n : ℕ) × IsWellFormed n (tree regex.node) }
         ensures accepted { (made : Pattern → Pattern) → (t : Table) → (o : Options) → (text : List ℕ) → (p : Pattern) → IsReadFrom made t o text p regex.entry →
@@ -60,8 +59,8 @@ impl Compiled {
         ensures small { IfOk result (λ c. HaveFewInstructions (spread (tree regex.entry.node)) c.byte_program c.unit_program) }
     {
         spreads_bound_counts();
-        let unit_program = emit_units(alloc, &regex)?;
         rewrite(alloc, &mut regex)?;
+        let unit_program = emit_units(alloc, &regex)?;
         let byte_program = emit(alloc, &regex)?;
         Ok(Compiled {
             byte_program,

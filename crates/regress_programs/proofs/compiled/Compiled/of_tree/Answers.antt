@@ -4,23 +4,26 @@ use Rattle.regress_front.specs.FlagWords.{options}
 use Rattle.regress_front.specs.TableViews.{table}
 use Rattle.regress_front.specs.Trees.{tree}
 use Rattle.std.proofs.lemmas.Result.{err_from_is_err_and}
-use Rattle.regress_programs.proofs.ProgramLemmas.{as-parsed, as-rewritten, read-program, program-refused, refused-fits}
+use Rattle.regress_programs.proofs.ProgramLemmas.{as-rewritten, read-program, program-refused, refused-fits}
 use Rattle.regress_programs.proofs.compiled.Compiled.of_tree.Goals as goal
 
 pub emit-requires : goal.emit-requires
 emit-requires c = let (n, formed) = c.requires in (n, (c.rewrite.ensures.rewritten n formed).well_formed)
 
+pub emit_units-requires : goal.emit_units-requires
+emit_units-requires c = let (n, formed) = c.requires in (n, (c.rewrite.ensures.rewritten n formed).well_formed)
+
 pub returns-in_err-unit_program-clause-refused : goal.returns-in_err-unit_program-clause-refused
 returns-in_err-unit_program-clause-refused c = λ made t o text p from.
-    let read = as-parsed made t o text p c.args.regex from in
-    let refused = program-refused made t o text p c.args.regex read true _ c.in_err-unit_program.ensures.refused in
+    let read = as-rewritten made t o text p c.args.regex from c.rewrite.new.regex c.rewrite.ensures.rewritten c.rewrite.ensures.kept.0 c.rewrite.ensures.kept.1 in
+    let refused = program-refused made t o text p c.rewrite.new.regex read true _ c.in_err-unit_program.ensures.refused in
     let answered = err_from_is_err_and c.from_residual.result c.from_residual.ensures.1 in
     rw (answered.1, answered.2) refused
 
 pub returns-in_err-unit_program-clause-fits : goal.returns-in_err-unit_program-clause-fits
 returns-in_err-unit_program-clause-fits c = λ made t o text p from plain short.
-    let read = as-parsed made t o text p c.args.regex from in
-    let refused = program-refused made t o text p c.args.regex read true _ c.in_err-unit_program.ensures.refused in
+    let read = as-rewritten made t o text p c.args.regex from c.rewrite.new.regex c.rewrite.ensures.rewritten c.rewrite.ensures.kept.0 c.rewrite.ensures.kept.1 in
+    let refused = program-refused made t o text p c.rewrite.new.regex read true _ c.in_err-unit_program.ensures.refused in
     let answered = err_from_is_err_and c.from_residual.result c.from_residual.ensures.1 in
     rw (answered.1, answered.2) (refused-fits made t o text _ refused plain short)
 
@@ -42,7 +45,7 @@ pub returns-clause-accepted : goal.returns-clause-accepted
 returns-clause-accepted c = λ made t o text p from.
     let read = as-rewritten made t o text p c.args.regex from c.rewrite.new.regex c.rewrite.ensures.rewritten c.rewrite.ensures.kept.0 c.rewrite.ensures.kept.1 in (
       read-program made t o text p c.rewrite.new.regex read c.in_ok-byte_program.byte_program c.in_ok-byte_program.ensures.emitted,
-      read-program made t o text p c.args.regex (as-parsed made t o text p c.args.regex from) c.in_ok-unit_program.unit_program c.in_ok-unit_program.ensures.emitted,
+      read-program made t o text p c.rewrite.new.regex read c.in_ok-unit_program.unit_program c.in_ok-unit_program.ensures.emitted,
     )
 
 pub returns-clause-small : goal.returns-clause-small
@@ -56,5 +59,5 @@ returns-clause-small c =
     let few_bytes = c.spreads_bound_counts.ensures bytes.units (table new.tables.now) (is_unicode (options new.flags)) n (tree new.node) rewritten.well_formed.lawful in
     let few_units = c.spreads_bound_counts.ensures units.units (table read.tables.now) (is_unicode (options read.flags)) n (tree read.node) formed.lawful in (
       omega (arith, c.in_ok-byte_program.ensures.emitted.counted, few_bytes, rewritten.few_spread),
-      omega (arith, c.in_ok-unit_program.ensures.emitted.counted, few_units),
+      omega (arith, c.in_ok-unit_program.ensures.emitted.counted, few_units, rewritten.few_spread),
     )
