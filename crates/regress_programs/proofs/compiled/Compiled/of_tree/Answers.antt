@@ -52,12 +52,11 @@ pub returns-clause-small : goal.returns-clause-small
 returns-clause-small c =
     let (n, formed) = c.requires in
     let rewritten = c.rewrite.ensures.rewritten n formed in
-    let read = c.args.regex in
     let new = c.rewrite.new.regex in
     let bytes = c.in_ok-byte_program.byte_program in
     let units = c.in_ok-unit_program.unit_program in
     let few_bytes = c.spreads_bound_counts.ensures bytes.units (table new.tables.now) (is_unicode (options new.flags)) n (tree new.node) rewritten.well_formed.lawful in
-    let few_units = c.spreads_bound_counts.ensures units.units (table read.tables.now) (is_unicode (options read.flags)) n (tree read.node) formed.lawful in (
+    let few_units = c.spreads_bound_counts.ensures units.units (table new.tables.now) (is_unicode (options new.flags)) n (tree new.node) rewritten.well_formed.lawful in (
       omega (arith, c.in_ok-byte_program.ensures.emitted.counted, few_bytes, rewritten.few_spread),
       omega (arith, c.in_ok-unit_program.ensures.emitted.counted, few_units, rewritten.few_spread),
     )
