@@ -1,4 +1,1 @@
-pub mod Trying
-pub mod Attempts
 pub mod Searches
-pub mod Remembering

@@ -11,12 +11,12 @@ ghost use Rattle.regress_engine_runs.specs.Items.{Finds};
 ghost use Rattle.regress_engine_runs.specs.Meets.{IsAtPlace};
 ghost use Rattle.regress_engine_search.specs.Answering.{IsAnswer, IsFound, IsOutcome};
 ghost use Rattle.regress_engine_search.specs.Search.{IsMadeOf, IsItemAtPlaces, IsWritten};
-ghost use Rattle.regress_engine_exec.specs.Attempts.{world_of};
-ghost use Rattle.regress_engine_exec.specs.Remembering.{Remembers};
+ghost use Rattle.regress_engine_attempt.specs.Attempts.{world_of};
+ghost use Rattle.regress_engine_attempt.specs.Remembering.{Remembers};
 
 use crate::finding::{first_from, run_from};
-use crate::remembered::Remembered;
 use crate::scratch::Scratch;
+use regress_engine_attempt::Remembered;
 use regress_engine_code::CompiledRegex;
 use regress_engine_inputs::Utf8Input;
 use regress_engine_search::{ExecutorInput, SearchContext, Shown, fill_slots};

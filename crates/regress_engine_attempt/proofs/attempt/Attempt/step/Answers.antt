@@ -1,0 +1,236 @@
+use Rattle.std.proofs.Common.{◌≡◌, ◌+◌, ◌-◌, suc, true, inl, inr, ap, ◌∙◌, subst, refl, arith}
+use Rattle.regress_engine_insn.specs.Instructions.{Stands}
+use Rattle.regress_engine_insn.specs.Instructions as code
+use Rattle.regress_engine_code.specs.Standing.{program_of}
+use Rattle.regress_engine_input.specs.Views.{direction_of, input_of}
+use Rattle.regress_engine_runs.specs.States.{begun, ended}
+use Rattle.regress_engine_search.specs.StateViews.{marks_of}
+use Rattle.regress_engine_search.proofs.InsnLemmas.{stands-as}
+use Rattle.regress_engine_undo.specs.Held.{held}
+use Rattle.regress_engine_undo.proofs.BackLemmas.{frame-held}
+use Rattle.regress_engine_undo.proofs.DispatchLemmas.{step-on, jump-on, mark-on, submatch-on}
+use Rattle.regress_engine_undo.proofs.TurnLemmas.{first-place}
+use Rattle.regress_engine_attempt.proofs.attempt.Attempt.step.Goals as goal
+
+pub group_data-requires : goal.group_data-requires
+group_data-requires g c =
+    let program = program_of c.args.self.now.program.now in
+    let input = input_of (g.Input.InputIndexer.view c.args.self.now.input) in
+    let p = c.args.spot.now in
+    let h = held c.args.memory.now in
+    let here = stands-as program p.at _ _ c.in-BeginCaptureGroup.is c.instruction-insn.ensures.stands in
+    let there = c.requires.suits.closed p.at _ here in
+    let same = c.requires.sound.groups in
+    omega (arith, there, same)
+
+pub mark-requires-clause-there : goal.mark-requires-clause-there
+mark-requires-clause-there g c =
+    let program = program_of c.args.self.now.program.now in
+    let input = input_of (g.Input.InputIndexer.view c.args.self.now.input) in
+    let p = c.args.spot.now in
+    let h = held c.args.memory.now in
+    let here = stands-as program p.at _ _ c.in-BeginCaptureGroup.is c.instruction-insn.ensures.stands in
+    let there = c.requires.suits.closed p.at _ here in
+    let same = c.requires.sound.groups in
+    omega (arith, there, same)
+
+pub group_data-requires-in-EndCaptureGroup : goal.group_data-requires-in-EndCaptureGroup
+group_data-requires-in-EndCaptureGroup g c =
+    let program = program_of c.args.self.now.program.now in
+    let input = input_of (g.Input.InputIndexer.view c.args.self.now.input) in
+    let p = c.args.spot.now in
+    let h = held c.args.memory.now in
+    let here = stands-as program p.at _ _ c.in-EndCaptureGroup.is c.instruction-insn.ensures.stands in
+    let there = c.requires.suits.closed p.at _ here in
+    let same = c.requires.sound.groups in
+    omega (arith, there, same)
+
+pub mark-requires-in-EndCaptureGroup-clause-there : goal.mark-requires-in-EndCaptureGroup-clause-there
+mark-requires-in-EndCaptureGroup-clause-there g c =
+    let program = program_of c.args.self.now.program.now in
+    let input = input_of (g.Input.InputIndexer.view c.args.self.now.input) in
+    let p = c.args.spot.now in
+    let h = held c.args.memory.now in
+    let here = stands-as program p.at _ _ c.in-EndCaptureGroup.is c.instruction-insn.ensures.stands in
+    let there = c.requires.suits.closed p.at _ here in
+    let same = c.requires.sound.groups in
+    omega (arith, there, same)
+
+pub mark-requires-in-ResetCaptureGroup-clause-there : goal.mark-requires-in-ResetCaptureGroup-clause-there
+mark-requires-in-ResetCaptureGroup-clause-there g c =
+    let program = program_of c.args.self.now.program.now in
+    let input = input_of (g.Input.InputIndexer.view c.args.self.now.input) in
+    let p = c.args.spot.now in
+    let h = held c.args.memory.now in
+    let here = stands-as program p.at _ _ c.in-ResetCaptureGroup.is c.instruction-insn.ensures.stands in
+    let there = c.requires.suits.closed p.at _ here in
+    let same = c.requires.sound.groups in
+    omega (arith, there, same)
+
+pub enter-requires-clause-there : goal.enter-requires-clause-there
+enter-requires-clause-there g c =
+    let program = program_of c.args.self.now.program.now in
+    let input = input_of (g.Input.InputIndexer.view c.args.self.now.input) in
+    let p = c.args.spot.now in
+    let h = held c.args.memory.now in
+    let here = stands-as program p.at _ _ c.in-EnterLoop.is c.instruction-insn.ensures.stands in
+    let fits = c.requires.suits.closed p.at _ here in
+    let there = fits.0 in
+    let same = c.requires.sound.loops in
+    omega (arith, there, same)
+
+pub repeat-requires-clause-order : goal.repeat-requires-clause-order
+repeat-requires-clause-order g c =
+    let program = program_of c.args.self.now.program.now in
+    let input = input_of (g.Input.InputIndexer.view c.args.self.now.input) in
+    let p = c.args.spot.now in
+    let h = held c.args.memory.now in
+    let here = stands-as program p.at _ _ c.in-Loop1CharBody.is c.instruction-insn.ensures.stands in
+    (c.requires.suits.closed p.at _ here).3
+
+pub repeat-requires-clause-body : goal.repeat-requires-clause-body
+repeat-requires-clause-body g c =
+    let program = program_of c.args.self.now.program.now in
+    let input = input_of (g.Input.InputIndexer.view c.args.self.now.input) in
+    let p = c.args.spot.now in
+    let h = held c.args.memory.now in
+    let here = stands-as program p.at _ _ c.in-Loop1CharBody.is c.instruction-insn.ensures.stands in
+    let fits = c.requires.suits.closed p.at _ here in
+    let e : suc p.at ≡ p.at + 2 - 1 = omega arith in
+    (fits.0, subst (λ a. Stands program a fits.0) e fits.1, fits.2, (c.requires.reads _ here refl).0, omega arith)
+
+pub choose-requires-clause-place : goal.choose-requires-clause-place
+choose-requires-clause-place g c =
+    let program = program_of c.args.self.now.program.now in
+    let here = stands-as program c.args.spot.now.at _ _ c.in-Alt.is c.instruction-insn.ensures.stands in
+    let (i, there, is) = c.is_turn_at.ensures c.if-is_turn_at.true in
+    first-place program (g.Input.InputIndexer.view c.args.self.now.input) c.args.spot.now (held c.args.memory.now) c.in-Alt.secondary i here there is c.requires.later
+
+pub returns-in-Jump-clause-leads : goal.returns-in-Jump-clause-leads
+returns-in-Jump-clause-leads g c =
+    let program = program_of c.args.self.now.program.now in
+    let input = input_of (g.Input.InputIndexer.view c.args.self.now.input) in
+    let p = c.args.spot.now in
+    let h = held c.args.memory.now in
+    let here = stands-as program p.at _ _ c.in-Jump.is c.instruction-insn.ensures.stands in
+    jump-on program input p h c.in-Jump.target here
+
+pub way_of_two-way-requires-clause-stands : goal.way_of_two-way-requires-clause-stands
+way_of_two-way-requires-clause-stands g c = stands-as (program_of c.args.self.now.program.now) c.args.spot.now.at _ _ c.in-Alt.is c.instruction-insn.ensures.stands
+
+pub returns-then-way-spot-clause-leads : goal.returns-then-way-spot-clause-leads
+returns-then-way-spot-clause-leads g c = elim (c.way_of_two-way.ensures (held c.args.memory.now)) [
+  | inl same ↦ absurd (c.if-way-spot.true same)
+  | inr on ↦ on
+]
+
+pub returns-in_ok-fork-in-Alt-clause-leads : goal.returns-in_ok-fork-in-Alt-clause-leads
+returns-in_ok-fork-in-Alt-clause-leads g c =
+    let program = program_of c.args.self.now.program.now in
+    let input = input_of (g.Input.InputIndexer.view c.args.self.now.input) in
+    let p = c.args.spot.now in
+    let h = held c.args.memory.now in
+    let here = stands-as program p.at _ _ c.in-Alt.is c.instruction-insn.ensures.stands in
+    step-on program input _ p _ h _ true here refl (c.in_ok-fork-in-Alt.ensures.leads program input)
+
+pub returns-in_ok-mark-in-BeginCaptureGroup-clause-leads : goal.returns-in_ok-mark-in-BeginCaptureGroup-clause-leads
+returns-in_ok-mark-in-BeginCaptureGroup-clause-leads g c =
+    let program = program_of c.args.self.now.program.now in
+    let input = input_of (g.Input.InputIndexer.view c.args.self.now.input) in
+    let p = c.args.spot.now in
+    let h = held c.args.memory.now in
+    let here = stands-as program p.at _ _ c.in-BeginCaptureGroup.is c.instruction-insn.ensures.stands in
+    mark-on program input (code.begin_group c.in-BeginCaptureGroup.group) p _ h _ c.in-BeginCaptureGroup.group _ _ here refl
+    (c.begun-marks.ensures ∙ ap (begun (direction_of p.forward) p.offset) c.group_data.ensures) refl c.in_ok-mark-in-BeginCaptureGroup.ensures.leads
+
+pub returns-in_ok-mark-in-EndCaptureGroup-clause-leads : goal.returns-in_ok-mark-in-EndCaptureGroup-clause-leads
+returns-in_ok-mark-in-EndCaptureGroup-clause-leads g c =
+    let program = program_of c.args.self.now.program.now in
+    let input = input_of (g.Input.InputIndexer.view c.args.self.now.input) in
+    let p = c.args.spot.now in
+    let h = held c.args.memory.now in
+    let here = stands-as program p.at _ _ c.in-EndCaptureGroup.is c.instruction-insn.ensures.stands in
+    mark-on program input (code.end_group c.in-EndCaptureGroup.group) p _ h _ c.in-EndCaptureGroup.group _ _ here refl
+    (c.ended-marks.ensures ∙ ap (ended (direction_of p.forward) p.offset) c.group_data-in-EndCaptureGroup.ensures) refl c.in_ok-mark-in-EndCaptureGroup.ensures.leads
+
+pub returns-in_ok-mark-in-ResetCaptureGroup-clause-leads : goal.returns-in_ok-mark-in-ResetCaptureGroup-clause-leads
+returns-in_ok-mark-in-ResetCaptureGroup-clause-leads g c =
+    let program = program_of c.args.self.now.program.now in
+    let input = input_of (g.Input.InputIndexer.view c.args.self.now.input) in
+    let p = c.args.spot.now in
+    let h = held c.args.memory.now in
+    let here = stands-as program p.at _ _ c.in-ResetCaptureGroup.is c.instruction-insn.ensures.stands in
+    mark-on program input (code.reset_group c.in-ResetCaptureGroup.group) p _ h _ c.in-ResetCaptureGroup.group _ _ here refl
+    (ap marks_of c.new.ensures) refl c.in_ok-mark-in-ResetCaptureGroup.ensures.leads
+
+pub returns-in_ok-going-in-EnterLoop-clause-leads : goal.returns-in_ok-going-in-EnterLoop-clause-leads
+returns-in_ok-going-in-EnterLoop-clause-leads g c =
+    let program = program_of c.args.self.now.program.now in
+    let input = input_of (g.Input.InputIndexer.view c.args.self.now.input) in
+    let p = c.args.spot.now in
+    let h = held c.args.memory.now in
+    let here = stands-as program p.at _ _ c.in-EnterLoop.is c.instruction-insn.ensures.stands in
+    step-on program input _ p _ h _ _ here refl (c.in_ok-going-in-EnterLoop.ensures.leads program input c.is_dead-dead.ensures)
+
+pub returns-in_ok-going-in-Loop1CharBody-clause-leads : goal.returns-in_ok-going-in-Loop1CharBody-clause-leads
+returns-in_ok-going-in-Loop1CharBody-clause-leads g c =
+    let program = program_of c.args.self.now.program.now in
+    let input = input_of (g.Input.InputIndexer.view c.args.self.now.input) in
+    let p = c.args.spot.now in
+    let h = held c.args.memory.now in
+    let here = stands-as program p.at _ _ c.in-Loop1CharBody.is c.instruction-insn.ensures.stands in
+    step-on program input _ p _ h _ _ here refl c.in_ok-going-in-Loop1CharBody.ensures.leads
+
+pub returns-in_ok-begin_around-in-Lookahead-clause-leads : goal.returns-in_ok-begin_around-in-Lookahead-clause-leads
+returns-in_ok-begin_around-in-Lookahead-clause-leads g c =
+    let program = program_of c.args.self.now.program.now in
+    let input = input_of (g.Input.InputIndexer.view c.args.self.now.input) in
+    let p = c.args.spot.now in
+    let h = held c.args.memory.now in
+    let here = stands-as program p.at _ _ c.in-Lookahead.is c.instruction-insn.ensures.stands in
+    submatch-on program input p _ h _ _ refl refl refl here c.in_ok-begin_around-in-Lookahead.ensures.pushed c.in_ok-begin_around-in-Lookahead.ensures.spot
+
+pub returns-in_ok-begin_around-in-Lookahead-clause-sound : goal.returns-in_ok-begin_around-in-Lookahead-clause-sound
+returns-in_ok-begin_around-in-Lookahead-clause-sound g c =
+    let program = program_of c.args.self.now.program.now in
+    let input = input_of (g.Input.InputIndexer.view c.args.self.now.input) in
+    let p = c.args.spot.now in
+    let h = held c.args.memory.now in
+    let here = stands-as program p.at _ _ c.in-Lookahead.is c.instruction-insn.ensures.stands in
+    frame-held program (g.Input.InputIndexer.view c.args.self.now.input) h _ _ c.in_ok-begin_around-in-Lookahead.ensures.pushed (c.requires.suits.closed p.at _ here) c.requires.sound
+
+pub returns-in_ok-begin_around-in-Lookbehind-clause-leads : goal.returns-in_ok-begin_around-in-Lookbehind-clause-leads
+returns-in_ok-begin_around-in-Lookbehind-clause-leads g c =
+    let program = program_of c.args.self.now.program.now in
+    let input = input_of (g.Input.InputIndexer.view c.args.self.now.input) in
+    let p = c.args.spot.now in
+    let h = held c.args.memory.now in
+    let here = stands-as program p.at _ _ c.in-Lookbehind.is c.instruction-insn.ensures.stands in
+    submatch-on program input p _ h _ _ refl refl refl here c.in_ok-begin_around-in-Lookbehind.ensures.pushed c.in_ok-begin_around-in-Lookbehind.ensures.spot
+
+pub returns-in_ok-begin_around-in-Lookbehind-clause-sound : goal.returns-in_ok-begin_around-in-Lookbehind-clause-sound
+returns-in_ok-begin_around-in-Lookbehind-clause-sound g c =
+    let program = program_of c.args.self.now.program.now in
+    let input = input_of (g.Input.InputIndexer.view c.args.self.now.input) in
+    let p = c.args.spot.now in
+    let h = held c.args.memory.now in
+    let here = stands-as program p.at _ _ c.in-Lookbehind.is c.instruction-insn.ensures.stands in
+    frame-held program (g.Input.InputIndexer.view c.args.self.now.input) h _ _ c.in_ok-begin_around-in-Lookbehind.ensures.pushed (c.requires.suits.closed p.at _ here) c.requires.sound
+
+pub returns-in_ok-begin_atomic-in-Atomic-clause-leads : goal.returns-in_ok-begin_atomic-in-Atomic-clause-leads
+returns-in_ok-begin_atomic-in-Atomic-clause-leads g c =
+    let program = program_of c.args.self.now.program.now in
+    let input = input_of (g.Input.InputIndexer.view c.args.self.now.input) in
+    let p = c.args.spot.now in
+    let h = held c.args.memory.now in
+    let here = stands-as program p.at _ _ c.in-Atomic.is c.instruction-insn.ensures.stands in
+    submatch-on program input p _ h _ _ refl refl refl here c.in_ok-begin_atomic-in-Atomic.ensures.pushed c.in_ok-begin_atomic-in-Atomic.ensures.spot
+
+pub returns-in_ok-begin_atomic-in-Atomic-clause-sound : goal.returns-in_ok-begin_atomic-in-Atomic-clause-sound
+returns-in_ok-begin_atomic-in-Atomic-clause-sound g c =
+    let program = program_of c.args.self.now.program.now in
+    let input = input_of (g.Input.InputIndexer.view c.args.self.now.input) in
+    let p = c.args.spot.now in
+    let h = held c.args.memory.now in
+    let here = stands-as program p.at _ _ c.in-Atomic.is c.instruction-insn.ensures.stands in
+    frame-held program (g.Input.InputIndexer.view c.args.self.now.input) h _ _ c.in_ok-begin_atomic-in-Atomic.ensures.pushed (c.requires.suits.closed p.at _ here) c.requires.sound

@@ -1,0 +1,61 @@
+use Rattle.std.proofs.Common.{true, subst}
+use Rattle.regress_engine_code.specs.Standing.{program_of}
+use Rattle.regress_engine_input.specs.Views.{direction_of}
+use Rattle.regress_engine_search.proofs.TaskLemmas.{tried-stands, tried-reads}
+use Rattle.regress_engine_undo.specs.Held.{held}
+use Rattle.regress_engine_undo.specs.Tasks.{state_at}
+use Rattle.regress_engine_attempt.specs.Remembering.{Begins}
+use Rattle.regress_engine_attempt.specs.Trying.{World}
+use Rattle.regress_engine_attempt.proofs.RememberLemmas.{begun-way, begun-steps}
+use Rattle.regress_engine_attempt.proofs.attempt.Attempt.try_step.Goals as goal
+
+pub step-requires-clause-stands : goal.step-requires-clause-stands
+step-requires-clause-stands g c =
+    let program = program_of c.args.self.now.program.now in
+    let v = g.Input.InputIndexer.view c.args.self.now.input in
+    let w : World = record { program = program; view = v } in
+    let p = c.args.spot.now in
+    let q = c.begin.new.spot in
+    let h = held c.args.memory.now in
+    let k = held c.begin.new.memory in
+    let begun = subst (Begins w p h q k) c.in-None.is c.in_ok-begin.ensures.leads in
+    let under = begun-way w p q h k begun c.requires.tried in
+    tried-stands program v under.0 under.1 (direction_of q.forward) (state_at q k) _ under.2
+
+pub step-requires-clause-reads : goal.step-requires-clause-reads
+step-requires-clause-reads g c =
+    let program = program_of c.args.self.now.program.now in
+    let v = g.Input.InputIndexer.view c.args.self.now.input in
+    let w : World = record { program = program; view = v } in
+    let p = c.args.spot.now in
+    let q = c.begin.new.spot in
+    let h = held c.args.memory.now in
+    let k = held c.begin.new.memory in
+    let begun = subst (Begins w p h q k) c.in-None.is c.in_ok-begin.ensures.leads in
+    let under = begun-way w p q h k begun c.requires.tried in
+    tried-reads program v under.0 under.1 (direction_of q.forward) (state_at q k) _ under.2
+
+pub step-requires-clause-later : goal.step-requires-clause-later
+step-requires-clause-later g c =
+    let program = program_of c.args.self.now.program.now in
+    let v = g.Input.InputIndexer.view c.args.self.now.input in
+    let w : World = record { program = program; view = v } in
+    let p = c.args.spot.now in
+    let q = c.begin.new.spot in
+    let h = held c.args.memory.now in
+    let k = held c.begin.new.memory in
+    let begun = subst (Begins w p h q k) c.in-None.is c.in_ok-begin.ensures.leads in
+    let under = begun-way w p q h k begun c.requires.tried in
+    under.2.reads
+
+pub returns-in_ok-left-in-None-clause-leads : goal.returns-in_ok-left-in-None-clause-leads
+returns-in_ok-left-in-None-clause-leads g c =
+    let program = program_of c.args.self.now.program.now in
+    let v = g.Input.InputIndexer.view c.args.self.now.input in
+    let w : World = record { program = program; view = v } in
+    let p = c.args.spot.now in
+    let q = c.begin.new.spot in
+    let h = held c.args.memory.now in
+    let k = held c.begin.new.memory in
+    let begun = subst (Begins w p h q k) c.in-None.is c.in_ok-begin.ensures.leads in
+    begun-steps w p q c.step.new.spot h k (held c.step.new.memory) c.in_ok-left-in-None.left begun c.in_ok-left-in-None.ensures.leads

@@ -1,0 +1,19 @@
+-- What an attempt and a search are of.
+use Rattle.regress_engine_input.specs.Views.{View}
+use Rattle.regress_engine_code.specs.Standing.{program_of}
+use Rattle.regress_engine_code.specs.declared.compiled.CompiledRegex.{CompiledRegex}
+use Rattle.regress_engine_search.specs.declared.context.SearchContext.{SearchContext}
+use Rattle.regress_engine_attempt.specs.declared.attempt.Attempt.{Attempt}
+use Rattle.regress_engine_attempt.specs.Trying.{World}
+
+-- a program, and what is shown of a text
+abbrev pub world_of : CompiledRegex → View → World
+world_of compiled view = record { program = program_of compiled; view = view }
+
+-- the program of an attempt, and what is shown of its text
+abbrev pub world : {I : Type 0} {g : _} → (I → View) → Attempt I g → World
+world view a = world_of a.program.now (view a.input)
+
+-- the same of a search
+abbrev pub searched : {I : Type 0} {g : _} → (I → View) → SearchContext I g → World
+searched view c = world_of c.program.now (view c.input)

@@ -1,0 +1,3 @@
+pub mod Trying
+pub mod Attempts
+pub mod Remembering

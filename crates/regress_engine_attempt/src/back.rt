@@ -1,0 +1,405 @@
+//! Going back to a state that is still to be tried.
+ghost use Rattle.std.specs.Prelude.{◌≡◌, ◌<◌, ℕ, true, false, List, [], ◌∷◌, length, map, is_some, IfOk, IfSome, OnOk};
+ghost use Rattle.regress_engine_insn.specs.InsnViews.{instruction};
+ghost use Rattle.regress_engine_insn.specs.Instructions.{byte_seq};
+ghost use Rattle.regress_engine_code.specs.Standing.{program_of};
+ghost use Rattle.regress_engine_input.specs.Views.{input_of, reading_of};
+ghost use Rattle.regress_engine_runs.specs.Meets.{IsAtPlace};
+ghost use Rattle.regress_engine_runs.specs.UndoStack.{give_back, take_on};
+ghost use Rattle.regress_engine_search.specs.Ready.{IsBody, IsReady};
+ghost use Rattle.regress_engine_search.specs.StateViews.{marks_of};
+ghost use Rattle.regress_engine_search.specs.Submatches.{submatch_of, is_negated};
+ghost use Rattle.regress_engine_undo.specs.Held.{held, undo_of, pushed};
+ghost use Rattle.regress_engine_search.specs.Search.{Suits};
+ghost use Rattle.regress_engine_undo.specs.Dead.{GivesFrom, TakesFrom};
+ghost use Rattle.regress_engine_attempt.specs.Attempts.{world};
+ghost use Rattle.regress_engine_attempt.specs.Remembering.{IsUnderWay, Remembers};
+ghost use Rattle.regress_engine_attempt.specs.Trying.{advanced, GoesBack, IsHeldIn, IsPassed, Undoes};
+
+use crate::attempt::Attempt;
+use crate::remembered::Remembered;
+use regress_engine_advance::{
+    advance, any_in_line, as_far, ascii_bracket, beside, other_ahead, taken_first,
+};
+use regress_engine_insn::Insn;
+use regress_engine_search::ExecutorInput;
+use regress_engine_singles::{first_byte, taken_before};
+use regress_engine_undo::{Frame, Memory, Spot, Undo, is_ahead};
+use regress_front_core::GroupData;
+use std::alloc::AllocError;
+
+/// Goes on behind a lookaround or an atomic group whose contents have no answer, where it is negated, and answers whether it
+/// is.
+#[inline]
+fn exhaust(frame: &Frame, spot: &mut Spot) -> bool
+    ensures direction { spot.new.forward ≡ frame.now.spot.forward }
+    ensures way { result ≡ is_negated (submatch_of frame.now.kind) }
+    ensures spot { is_negated (submatch_of frame.now.kind) ≡ true → spot.new ≡ record frame.now.spot { at = frame.now.continuation } }
+{
+    spot.forward = frame.spot.forward;
+    let is_negated = frame.kind.is_negated();
+    if is_negated {
+        spot.at = frame.continuation;
+        spot.offset = frame.spot.offset;
+    }
+    is_negated
+}
+
+impl<'a, Input: ExecutorInput> Attempt<'a, Input> {
+    /// The far one of some offsets, from a far one back to a near one, at which it may continue at an address, where what is
+    /// taken first from there on stands; `None` where it stands at none of them.
+    fn far_way(
+        &self,
+        at: usize,
+        near: usize,
+        far: usize,
+        forward: bool,
+        groups: &[GroupData<usize>],
+    ) -> Option<usize>
+        requires suits { Suits (program_of self.now.program.now) (Input.view self.now.input) }
+        requires groups { length groups.now ≡ self.now.program.now.groups }
+        requires place { IsAtPlace (reading_of (Input.view self.now.input)) far }
+        ensures leads { GivesFrom (program_of self.now.program.now) (input_of (Input.view self.now.input)) forward at near far result }
+        ensures place { IfSome result (IsAtPlace (reading_of (Input.view self.now.input))) }
+    {
+        let Some(insn) = taken_first(self.program, at) else {
+            return Some(far);
+        };
+        let mut back = far;
+        'places: loop {
+            if advance(self.program, &self.input, insn, forward, groups, back).is_some() {
+                return Some(back);
+            }
+            if !is_ahead(forward, near, back) {
+                return None;
+            }
+            let Some((_, before)) = beside(&self.input, !forward, back) else {
+                return None;
+            };
+            back = before;
+        }
+    }
+
+    /// Goes on at the far one of the offsets where it may continue, later at those before it; answers whether there is one.
+    pub(crate) fn give_back(
+        &self,
+        at: usize,
+        near: usize,
+        far: usize,
+        spare: &mut usize,
+        memory: &mut Memory,
+        spot: &mut Spot,
+    ) -> Result<bool, AllocError>
+        requires suits { Suits (program_of self.now.program.now) (Input.view self.now.input) }
+        requires sound { IsHeldIn (world Input.view self.now) (pushed (give_back at near far) (held memory.old)) }
+        ensures leads { IfOk result (Undoes (world Input.view self.now) (give_back at near far) spot.old (held memory.old) spot.new (held memory.new)) }
+        ensures sound { OnOk result (IsHeldIn (world Input.view self.now) (held memory.new)) }
+        ensures rest { IfOk result (λ going. going ≡ false → (held memory.new).stack ≡ (held memory.old).stack) }
+    {
+        let Some(way) = self.far_way(at, near, far, spot.forward, &memory.groups) else {
+            *spare = spare.saturating_sub(far.abs_diff(near));
+            return Ok(false);
+        };
+        *spare = spare.saturating_sub(far.abs_diff(way));
+        spot.at = at;
+        spot.offset = way;
+        if !is_ahead(spot.forward, near, way) {
+            return Ok(true);
+        }
+        let Some((_, next)) = beside(&self.input, !spot.forward, way) else {
+            return Ok(true);
+        };
+        memory.push(Undo::GiveBack {
+            at,
+            near,
+            far: next,
+        })?;
+        Ok(true)
+    }
+
+    /// Whether an instruction takes something beside an offset. Where it takes bytes, the first of them is looked at at once.
+    #[inline(always)]
+    fn stands(
+        &self,
+        insn: &Insn,
+        first: Option<u8>,
+        forward: bool,
+        groups: &[GroupData<usize>],
+        offset: usize,
+    ) -> bool
+        requires suits { Suits (program_of self.now.program.now) (Input.view self.now.input) }
+        requires ready { IsReady (program_of self.now.program.now) (Input.view self.now.input) (instruction insn.now) (map marks_of groups.now) offset }
+        requires first { IfSome first (λ b. (rest : List ℕ) × (instruction insn.now ≡ byte_seq (b ∷ rest))) }
+        ensures { result ≡ is_some (advanced (world Input.view self.now) (instruction insn.now) forward (map marks_of groups.now) offset) }
+    {
+        if forward {
+            if let Some(byte) = first {
+                if other_ahead(&self.input, offset, byte) {
+                    return false;
+                }
+            }
+        }
+        advance(self.program, &self.input, insn, forward, groups, offset).is_some()
+    }
+
+    /// What `advance` answers. What is often repeated is done at once.
+    #[inline(always)]
+    fn once(
+        &self,
+        insn: &Insn,
+        forward: bool,
+        groups: &[GroupData<usize>],
+        offset: usize,
+    ) -> Option<usize>
+        requires suits { Suits (program_of self.now.program.now) (Input.view self.now.input) }
+        requires ready { IsReady (program_of self.now.program.now) (Input.view self.now.input) (instruction insn.now) (map marks_of groups.now) offset }
+        ensures { result ≡ advanced (world Input.view self.now) (instruction insn.now) forward (map marks_of groups.now) offset }
+    {
+        match insn {
+            Insn::AsciiBracket(bitmap) => ascii_bracket(&self.input, forward, offset, bitmap),
+            Insn::MatchAnyExceptLineTerminator => any_in_line(&self.input, forward, offset),
+            _ => advance(self.program, &self.input, insn, forward, groups, offset),
+        }
+    }
+
+    /// The offset up to which the body of a lazy loop surely takes one byte after another ahead of one, at most so many, and what
+    /// is taken first behind the loop takes none of them: no match goes on from a place before it. The offset itself where that
+    /// is not told.
+    #[inline(always)]
+    fn passed_before(
+        &self,
+        insn: &Insn,
+        first: Option<u8>,
+        body: &Insn,
+        left: usize,
+        forward: bool,
+        offset: usize,
+    ) -> usize
+        requires place { IsAtPlace (reading_of (Input.view self.now.input)) offset }
+        requires first { IfSome first (λ b. (rest : List ℕ) × (instruction insn.now ≡ byte_seq (b ∷ rest))) }
+        ensures { IsPassed (world Input.view self.now) (instruction insn.now) (instruction body.now) forward left offset result }
+    {
+        match first {
+            Some(byte) if forward => taken_before(&self.input, body, byte, left, offset),
+            _ => offset,
+        }
+    }
+
+    /// The near one of some offsets, from one on behind each iteration of the instruction before an address, at most so many,
+    /// at which it may continue there, where what is taken first from there on stands, and how many may follow; `None`
+    /// where it stands at none of them.
+    fn near_way(
+        &self,
+        at: usize,
+        offset: usize,
+        left: usize,
+        forward: bool,
+        groups: &[GroupData<usize>],
+    ) -> Option<(usize, usize)>
+        requires suits { Suits (program_of self.now.program.now) (Input.view self.now.input) }
+        requires groups { length groups.now ≡ self.now.program.now.groups }
+        requires body { IsBody (program_of self.now.program.now) (Input.view self.now.input) at offset }
+        ensures leads { TakesFrom (program_of self.now.program.now) (input_of (Input.view self.now.input)) forward at offset left result }
+        ensures body { IfSome result (λ way. IsBody (program_of self.now.program.now) (Input.view self.now.input) at way.0) }
+    {
+        let Some(insn) = taken_first(self.program, at) else {
+            return Some((offset, left));
+        };
+        let first = first_byte(insn);
+        let body = self.instruction(at - 1);
+        let mut near = self.passed_before(insn, first, body, left, forward, offset);
+        let mut rest = left - (near - offset);
+        'places: loop {
+            if self.stands(insn, first, forward, groups, near) {
+                return Some((near, rest));
+            }
+            if rest == 0 {
+                return None;
+            }
+            let Some(next) = self.once(body, forward, groups, near) else {
+                return None;
+            };
+            near = next;
+            rest -= 1;
+        }
+    }
+
+    /// Counts the places that a lazy one-character loop has passed over to its end: of one loop in 64, for all of them.
+    #[inline(never)]
+    fn count_over(
+        &self,
+        at: usize,
+        offset: usize,
+        left: usize,
+        spare: &mut usize,
+        memory: &Memory,
+        forward: bool,
+    )
+        requires suits { Suits (program_of self.now.program.now) (Input.view self.now.input) }
+        requires sound { IsHeldIn (world Input.view self.now) (held memory.now) }
+        requires body { IsBody (program_of self.now.program.now) (Input.view self.now.input) at offset }
+    {
+        if offset % 64 != 0 {
+            return;
+        }
+        let far = as_far(
+            self.program,
+            &self.input,
+            self.instruction(at - 1),
+            left,
+            forward,
+            &memory.groups,
+            offset,
+        );
+        *spare = spare.saturating_sub(far.abs_diff(offset).saturating_mul(64));
+    }
+
+    /// Goes on at the near one of the offsets where it may continue, later at those behind it; answers whether there is one.
+    pub(crate) fn take_on(
+        &self,
+        at: usize,
+        offset: usize,
+        left: usize,
+        spare: &mut usize,
+        memory: &mut Memory,
+        spot: &mut Spot,
+    ) -> Result<bool, AllocError>
+        requires suits { Suits (program_of self.now.program.now) (Input.view self.now.input) }
+        requires sound { IsHeldIn (world Input.view self.now) (pushed (take_on at offset left) (held memory.old)) }
+        ensures leads { IfOk result (Undoes (world Input.view self.now) (take_on at offset left) spot.old (held memory.old) spot.new (held memory.new)) }
+        ensures sound { OnOk result (IsHeldIn (world Input.view self.now) (held memory.new)) }
+        ensures rest { IfOk result (λ going. going ≡ false → (held memory.new).stack ≡ (held memory.old).stack) }
+    {
+        let Some((near, rest)) = self.near_way(at, offset, left, spot.forward, &memory.groups)
+        else {
+            self.count_over(at, offset, left, spare, memory, spot.forward);
+            return Ok(false);
+        };
+        *spare = spare.saturating_sub(near.abs_diff(offset));
+        spot.at = at;
+        spot.offset = near;
+        if rest == 0 {
+            return Ok(true);
+        }
+        let insn = self.instruction(at - 1);
+        let Some(next) = advance(
+            self.program,
+            &self.input,
+            insn,
+            spot.forward,
+            &memory.groups,
+            near,
+        ) else {
+            return Ok(true);
+        };
+        memory.push(Undo::TakeOn {
+            at,
+            offset: next,
+            left: rest - 1,
+        })?;
+        Ok(true)
+    }
+
+    /// Undoes a record, and answers whether there is a state to be tried.
+    fn undo(
+        &self,
+        undo: Undo,
+        spare: &mut usize,
+        memory: &mut Memory,
+        spot: &mut Spot,
+    ) -> Result<bool, AllocError>
+        requires suits { Suits (program_of self.now.program.now) (Input.view self.now.input) }
+        requires sound { IsHeldIn (world Input.view self.now) (pushed (undo_of undo) (held memory.old)) }
+        ensures leads { IfOk result (Undoes (world Input.view self.now) (undo_of undo) spot.old (held memory.old) spot.new (held memory.new)) }
+        ensures sound { OnOk result (IsHeldIn (world Input.view self.now) (held memory.new)) }
+        ensures rest { IfOk result (λ going. going ≡ false → (held memory.new).stack ≡ (held memory.old).stack) }
+    {
+        match undo {
+            Undo::OldLoop { id, data } => {
+                memory.restore_loop(id, data);
+                Ok(false)
+            }
+            Undo::OldGroup { group, data } => {
+                memory.restore_group(group, data);
+                Ok(false)
+            }
+            Undo::Resume { at, offset } => {
+                spot.at = at;
+                spot.offset = offset;
+                Ok(true)
+            }
+            Undo::Iterate { id, begin, offset } => {
+                spot.offset = offset;
+                let count = memory.loop_data(id).iters;
+                memory.iterate(id, count, begin, spot)?;
+                Ok(true)
+            }
+            Undo::GiveBack { at, near, far } => {
+                let going = self.give_back(at, near, far, spare, memory, spot)?;
+                Ok(going)
+            }
+            Undo::TakeOn { at, offset, left } => {
+                let going = self.take_on(at, offset, left, spare, memory, spot)?;
+                Ok(going)
+            }
+            Undo::Submatch(frame) => Ok(exhaust(&frame, spot)),
+            Undo::Tried { .. } => Ok(false),
+        }
+    }
+
+    /// Undoes a record, and answers whether there is a state to be tried. Where failures are kept, those of the exits of
+    /// one-character loops are learned.
+    #[inline(always)]
+    fn undo_one(
+        &self,
+        undo: Undo,
+        memory: &mut Memory,
+        remembered: &mut Remembered,
+        spot: &mut Spot,
+    ) -> Result<bool, AllocError>
+        requires suits { Suits (program_of self.now.program.now) (Input.view self.now.input) }
+        requires sound { IsHeldIn (world Input.view self.now) (pushed (undo_of undo) (held memory.old)) }
+        requires so { Remembers (world Input.view self.now) remembered.old }
+        ensures leads { IfOk result (Undoes (world Input.view self.now) (undo_of undo) spot.old (held memory.old) spot.new (held memory.new)) }
+        ensures sound { OnOk result (IsHeldIn (world Input.view self.now) (held memory.new)) }
+        ensures rest { IfOk result (λ going. going ≡ false → (held memory.new).stack ≡ (held memory.old).stack) }
+        ensures so { Remembers (world Input.view self.now) remembered.new }
+    {
+        match self.undo_loop(&undo, memory, remembered, spot)? {
+            Some(going) => Ok(going),
+            None => {
+                let going = self.undo(undo, &mut remembered.spare, memory, spot)?;
+                Ok(going)
+            }
+        }
+    }
+
+    /// Undoes records until there is a state to be tried, and answers whether there is one. What they show to fail is remembered.
+    pub(crate) fn back(
+        &self,
+        memory: &mut Memory,
+        remembered: &mut Remembered,
+        spot: &mut Spot,
+    ) -> Result<bool, AllocError>
+        requires suits { Suits (program_of self.now.program.now) (Input.view self.now.input) }
+        requires sound { IsHeldIn (world Input.view self.now) (held memory.old) }
+        requires tried { IsUnderWay (world Input.view self.now) false spot.old (held memory.old) }
+        requires so { Remembers (world Input.view self.now) remembered.old }
+        ensures leads { IfOk result (GoesBack (world Input.view self.now) spot.old (held memory.old) spot.new (held memory.new)) }
+        ensures sound { OnOk result (IsHeldIn (world Input.view self.now) (held memory.new)) }
+        ensures exhausted { IfOk result (λ going. going ≡ false → (held memory.new).stack ≡ []) }
+        ensures so { Remembers (world Input.view self.now) remembered.new }
+    {
+        self.keep_failures(remembered);
+        while let Some(undo) = memory.pop() {
+            remembered.spare = remembered.spare.saturating_sub(4);
+            self.learn(&undo, memory, remembered, spot);
+            if self.undo_one(undo, memory, remembered, spot)? {
+                return Ok(true);
+            }
+        }
+        let passed = spot.offset.abs_diff(self.start);
+        remembered.spare = remembered.spare.saturating_sub(passed);
+        Ok(false)
+    }
+}

@@ -1,0 +1,63 @@
+//! The run from one offset.
+ghost use Rattle.std.specs.Prelude.{true, IfOk};
+ghost use Rattle.regress_engine_code.specs.Standing.{program_of};
+ghost use Rattle.regress_engine_input.specs.Views.{input_of};
+ghost use Rattle.regress_engine_search.specs.Answering.{IsAnswer};
+ghost use Rattle.regress_engine_search.specs.Search.{Suits};
+ghost use Rattle.regress_engine_undo.specs.Held.{held};
+ghost use Rattle.regress_engine_attempt.specs.Attempts.{world};
+ghost use Rattle.regress_engine_attempt.specs.Remembering.{Remembers};
+ghost use Rattle.regress_engine_attempt.specs.Trying.{IsWay, ReadsFrom};
+
+use crate::attempt::Attempt;
+use crate::remembered::Remembered;
+use regress_engine_search::ExecutorInput;
+use regress_engine_undo::{Memory, Spot};
+use regress_front_core::GroupData;
+use std::alloc::AllocError;
+
+impl<'a, Input: ExecutorInput> Attempt<'a, Input> {
+    /// Runs the program from the offset, at an address to which the run comes with nothing changed. It answers where the run's
+    /// answer ends, whose groups `memory` then has, or `None` where the run has none. `answer` is room for groups. What it learns of
+    /// failures is remembered. It errs where memory is refused alone; what is remembered stays so.
+    ///
+    /// ```rust
+    /// let end = attempt.run(0, &mut memory, &mut answer, &mut remembered)?;
+    /// ```
+    pub fn run(
+        &self,
+        first: usize,
+        memory: &mut Memory,
+        answer: &mut Vec<GroupData<usize>>,
+        remembered: &mut Remembered,
+    ) -> Result<Option<usize>, AllocError>
+        requires suits { Suits (program_of self.now.program.now) (Input.view self.now.input) }
+        requires begun { IsWay (program_of self.now.program.now) (input_of (Input.view self.now.input)) true self.now.start 0 first }
+        requires reads { ReadsFrom (program_of self.now.program.now) (Input.view self.now.input) self.now.start }
+        requires so { Remembers (world Input.view self.now) remembered.old }
+        ensures answer { IfOk result (λ found. IsAnswer (program_of self.now.program.now) (input_of (Input.view self.now.input))
+            self.now.start found (held memory.new).groups) }
+        ensures so { Remembers (world Input.view self.now) remembered.new }
+    {
+        memory.begin(
+            self.program.loops() as usize,
+            self.program.groups() as usize,
+        )?;
+        let mut spot = Spot {
+            at: first,
+            offset: self.start,
+            forward: true,
+        };
+        'steps: loop {
+            let Some(going) = self.try_step(memory, answer, remembered, &mut spot)? else {
+                return Ok(Some(spot.offset));
+            };
+            if going {
+                continue;
+            }
+            if !self.back(memory, remembered, &mut spot)? {
+                return Ok(None);
+            }
+        }
+    }
+}

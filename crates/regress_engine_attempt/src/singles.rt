@@ -1,0 +1,72 @@
+//! One-character loops.
+ghost use Rattle.std.specs.Prelude.{◌+◌, ◌≤◌, IfOk, OnOk};
+ghost use Rattle.regress_engine_insn.specs.Instructions.{single_loop};
+ghost use Rattle.regress_engine_code.specs.Standing.{program_of};
+ghost use Rattle.regress_engine_search.specs.Ready.{IsBody};
+ghost use Rattle.regress_engine_search.specs.Search.{Suits};
+ghost use Rattle.regress_engine_undo.specs.Held.{held};
+ghost use Rattle.regress_engine_attempt.specs.Attempts.{world};
+ghost use Rattle.regress_engine_attempt.specs.Trying.{Does, IsHeldIn};
+
+use crate::attempt::Attempt;
+use regress_engine_advance::{after_times, as_far};
+use regress_engine_search::ExecutorInput;
+use regress_engine_singles::is_possessive;
+use regress_engine_undo::{Memory, Spot};
+use std::alloc::AllocError;
+
+impl<'a, Input: ExecutorInput> Attempt<'a, Input> {
+    /// Does a one-character loop: goes on at one of its ways, and later at the others. It answers whether there is any.
+    pub(crate) fn repeat(
+        &self,
+        least: usize,
+        most: usize,
+        greedy: bool,
+        spare: &mut usize,
+        memory: &mut Memory,
+        spot: &mut Spot,
+    ) -> Result<bool, AllocError>
+        requires suits { Suits (program_of self.now.program.now) (Input.view self.now.input) }
+        requires sound { IsHeldIn (world Input.view self.now) (held memory.old) }
+        requires order { least ≤ most }
+        requires body { IsBody (program_of self.now.program.now) (Input.view self.now.input) (spot.old.at + 2) spot.old.offset }
+        ensures leads { IfOk result (Does (world Input.view self.now) (single_loop least most greedy) spot.old (held memory.old) spot.new (held memory.new)) }
+        ensures sound { OnOk result (IsHeldIn (world Input.view self.now) (held memory.new)) }
+    {
+        let insn = self.instruction(spot.at + 1);
+        let Some(near) = after_times(
+            self.program,
+            &self.input,
+            insn,
+            least,
+            spot.forward,
+            &memory.groups,
+            spot.offset,
+        ) else {
+            return Ok(false);
+        };
+        let left = most - least;
+        let at = spot.at + 2;
+        if greedy {
+            let far = as_far(
+                self.program,
+                &self.input,
+                insn,
+                left,
+                spot.forward,
+                &memory.groups,
+                near,
+            );
+            if spot.forward && is_possessive(self.program, spot.at) {
+                *spare = spare.saturating_sub(far.abs_diff(near) / 8);
+                spot.at = at;
+                spot.offset = far;
+                return Ok(true);
+            }
+            let going = self.give_back(at, near, far, spare, memory, spot)?;
+            return Ok(going);
+        }
+        let going = self.take_on(at, near, left, spare, memory, spot)?;
+        Ok(going)
+    }
+}

@@ -1,0 +1,241 @@
+//! One step of a run.
+ghost use Rattle.std.specs.Prelude.{◌≡◌, ◌+◌, ◌^◌, ◌<◌, true, IfOk, IfSome, OnOk};
+ghost use Rattle.regress_engine_insn.specs.Instructions.{Instruction, Stands, loop_again};
+ghost use Rattle.regress_engine_insn.specs.InsnViews.{instruction};
+ghost use Rattle.regress_engine_code.specs.Standing.{program_of};
+ghost use Rattle.regress_engine_input.specs.Views.{direction_of};
+ghost use Rattle.regress_engine_runs.specs.UndoStack.{frame};
+ghost use Rattle.regress_engine_search.specs.Ready.{is_simple};
+ghost use Rattle.regress_engine_undo.specs.Held.{held, pushed};
+ghost use Rattle.regress_engine_search.specs.Submatches.{submatch_of, reads_forward};
+ghost use Rattle.regress_engine_search.specs.declared.submatch.Submatch.TheVariants.{Lookaround, Atomic};
+ghost use Rattle.regress_engine_search.specs.Search.{Suits};
+ghost use Rattle.regress_engine_attempt.specs.Attempts.{world};
+ghost use Rattle.regress_engine_attempt.specs.Trying.{IsHeldIn, ReadsAt, ReadsHere, ReadsOn, Steps};
+
+use crate::attempt::Attempt;
+use regress_engine_advance::{advance, is_dead};
+use regress_engine_insn::Insn;
+use regress_engine_search::{ExecutorInput, Submatch};
+use regress_engine_undo::{Memory, Spot, begun, ended};
+use regress_front_core::{CaptureGroupID, GroupData};
+use std::alloc::AllocError;
+
+/// Begins to try the contents of a lookaround. It is apart so that no step makes room for it.
+#[inline(never)]
+fn begin_around(
+    negated: bool,
+    backward: bool,
+    first: CaptureGroupID,
+    last: CaptureGroupID,
+    continuation: usize,
+    memory: &mut Memory,
+    spot: &mut Spot,
+) -> Result<(), AllocError>
+    requires { spot.old.at + 1 < 2 ^ 64 }
+    ensures pushed { OnOk result (held memory.new ≡ pushed (frame (record {
+      kind = submatch_of (Lookaround negated backward);
+      first = first;
+      last = last;
+      continuation = continuation;
+      at = spot.old.at;
+      offset = spot.old.offset;
+      outside = direction_of spot.old.forward;
+    })) (held memory.old)) }
+    ensures spot { OnOk result (spot.new ≡ record spot.old { at = spot.old.at + 1; forward = reads_forward (submatch_of (Lookaround negated backward)) spot.old.forward }) }
+{
+    let kind = Submatch::Lookaround { negated, backward };
+    memory.begin_submatch(kind, first, last, continuation, spot)
+}
+
+/// Begins to try the contents of an atomic group. It is apart so that no step makes room for it.
+#[inline(never)]
+fn begin_atomic(
+    first: CaptureGroupID,
+    last: CaptureGroupID,
+    continuation: usize,
+    memory: &mut Memory,
+    spot: &mut Spot,
+) -> Result<(), AllocError>
+    requires { spot.old.at + 1 < 2 ^ 64 }
+    ensures pushed { OnOk result (held memory.new ≡ pushed (frame (record {
+      kind = submatch_of Atomic;
+      first = first;
+      last = last;
+      continuation = continuation;
+      at = spot.old.at;
+      offset = spot.old.offset;
+      outside = direction_of spot.old.forward;
+    })) (held memory.old)) }
+    ensures spot { OnOk result (spot.new ≡ record spot.old { at = spot.old.at + 1; forward = reads_forward (submatch_of Atomic) spot.old.forward }) }
+{
+    memory.begin_submatch(Submatch::Atomic, first, last, continuation, spot)
+}
+
+impl<'a, Input: ExecutorInput> Attempt<'a, Input> {
+    /// Does an instruction that changes nothing but the offset, and answers whether it leads anywhere.
+    #[inline]
+    fn take(&self, insn: &Insn, memory: &Memory, spot: &mut Spot) -> bool
+        requires suits { Suits (program_of self.now.program.now) (Input.view self.now.input) }
+        requires sound { IsHeldIn (world Input.view self.now) (held memory.now) }
+        requires simple { is_simple (instruction insn.now) ≡ true }
+        requires stands { Stands (program_of self.now.program.now) spot.old.at (instruction insn.now) }
+        requires room { spot.old.at + 1 < 2 ^ 64 }
+        requires reads { ReadsHere (world Input.view self.now) spot.old (held memory.now) (instruction insn.now) }
+        ensures { Steps (world Input.view self.now) spot.old (held memory.now) spot.new (held memory.now) (Some result) }
+    {
+        let Some(next) = advance(
+            self.program,
+            &self.input,
+            insn,
+            spot.forward,
+            &memory.groups,
+            spot.offset,
+        ) else {
+            return false;
+        };
+        spot.at += 1;
+        spot.offset = next;
+        true
+    }
+
+    /// Ends an iteration of the repetition that begins at an address, and answers whether it continues.
+    #[inline]
+    fn again(&self, begin: usize, memory: &mut Memory, spot: &mut Spot) -> Result<bool, AllocError>
+        requires suits { Suits (program_of self.now.program.now) (Input.view self.now.input) }
+        requires sound { IsHeldIn (world Input.view self.now) (held memory.old) }
+        requires stands { Stands (program_of self.now.program.now) spot.old.at (loop_again begin) }
+        ensures leads { IfOk result (λ going. Steps (world Input.view self.now) spot.old (held memory.old) spot.new (held memory.new) (Some going)) }
+        ensures sound { OnOk result (IsHeldIn (world Input.view self.now) (held memory.new)) }
+    {
+        match self.instruction(begin) {
+            Insn::EnterLoop(repetition) => {
+                let exit = repetition.exit as usize;
+                let dead = is_dead(self.program, &self.input, exit, spot.forward, spot.offset);
+                memory.again(repetition, begin, dead, spot)
+            }
+            _ => Ok(false),
+        }
+    }
+
+    /// Does the instruction at a spot. It answers whether it continues, or `None` where that is the end of the run.
+    pub(crate) fn step(
+        &self,
+        memory: &mut Memory,
+        answer: &mut Vec<GroupData<usize>>,
+        spare: &mut usize,
+        spot: &mut Spot,
+    ) -> Result<Option<bool>, AllocError>
+        requires suits { Suits (program_of self.now.program.now) (Input.view self.now.input) }
+        requires sound { IsHeldIn (world Input.view self.now) (held memory.old) }
+        requires stands { (i : Instruction) × Stands (program_of self.now.program.now) spot.old.at i }
+        requires reads { ReadsAt (world Input.view self.now) spot.old (held memory.old) }
+        requires later { ReadsOn (world Input.view self.now) spot.old (held memory.old) }
+        ensures leads { IfOk result (Steps (world Input.view self.now) spot.old (held memory.old) spot.new (held memory.new)) }
+        ensures sound { IfOk result (λ left. IfSome left (λ going. IsHeldIn (world Input.view self.now) (held memory.new))) }
+    {
+        let insn = self.instruction(spot.at);
+        match insn {
+            Insn::Goal => memory.leave(answer, spot),
+            Insn::Jump { target } => {
+                spot.at = *target as usize;
+                Ok(Some(true))
+            }
+            Insn::Alt { secondary } => {
+                let second = *secondary as usize;
+                if self.is_turn_at(spot.at) {
+                    self.choose(second, memory, spot)?;
+                    return Ok(Some(true));
+                }
+                let way = self.way_of_two(spot.at, second, spot.forward, spot.offset);
+                if way != spot.at {
+                    spot.at = way;
+                    return Ok(Some(true));
+                }
+                memory.fork(second, spot)?;
+                Ok(Some(true))
+            }
+            Insn::BeginCaptureGroup(group) => {
+                let marks = begun(spot, memory.group_data(*group as usize));
+                memory.mark(*group as usize, marks, spot)?;
+                Ok(Some(true))
+            }
+            Insn::EndCaptureGroup(group) => {
+                let marks = ended(spot, memory.group_data(*group as usize));
+                memory.mark(*group as usize, marks, spot)?;
+                Ok(Some(true))
+            }
+            Insn::ResetCaptureGroup(group) => {
+                memory.mark(*group as usize, GroupData::new(), spot)?;
+                Ok(Some(true))
+            }
+            Insn::EnterLoop(repetition) => {
+                let exit = repetition.exit as usize;
+                let dead = is_dead(self.program, &self.input, exit, spot.forward, spot.offset);
+                let going = memory.enter(repetition, dead, spot)?;
+                Ok(Some(going))
+            }
+            Insn::LoopAgain { begin } => {
+                let going = self.again(*begin as usize, memory, spot)?;
+                Ok(Some(going))
+            }
+            Insn::Loop1CharBody {
+                min_iters,
+                max_iters,
+                greedy,
+            } => {
+                let going = self.repeat(*min_iters, *max_iters, *greedy, spare, memory, spot)?;
+                Ok(Some(going))
+            }
+            Insn::Lookahead {
+                negate,
+                start_group,
+                end_group,
+                continuation,
+            } => {
+                let target = *continuation as usize;
+                begin_around(
+                    *negate,
+                    false,
+                    *start_group,
+                    *end_group,
+                    target,
+                    memory,
+                    spot,
+                )?;
+                Ok(Some(true))
+            }
+            Insn::Lookbehind {
+                negate,
+                start_group,
+                end_group,
+                continuation,
+            } => {
+                let target = *continuation as usize;
+                begin_around(
+                    *negate,
+                    true,
+                    *start_group,
+                    *end_group,
+                    target,
+                    memory,
+                    spot,
+                )?;
+                Ok(Some(true))
+            }
+            Insn::Atomic {
+                start_group,
+                end_group,
+                continuation,
+            } => {
+                let target = *continuation as usize;
+                begin_atomic(*start_group, *end_group, target, memory, spot)?;
+                Ok(Some(true))
+            }
+            _ => {
+                let going = self.take(insn, memory, spot);
+                Ok(Some(going))
+            }
+        }
+    }
+}

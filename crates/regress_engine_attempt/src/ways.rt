@@ -1,0 +1,67 @@
+//! Where it continues at once, since one of two ways surely leads nowhere.
+ghost use Rattle.std.specs.Prelude.{◌+◌, ◌^◌, ◌<◌, ℕ, true, Some};
+ghost use Rattle.regress_engine_insn.specs.Instructions.{Stands, alt};
+ghost use Rattle.regress_engine_code.specs.Standing.{program_of};
+ghost use Rattle.regress_engine_search.specs.Search.{Suits};
+ghost use Rattle.regress_engine_attempt.specs.Attempts.{world};
+ghost use Rattle.regress_engine_attempt.specs.Trying.{IsWayIn, StandsAhead};
+
+use crate::attempt::Attempt;
+use regress_engine_advance::{is_dead_ahead, is_dead_behind, next_byte};
+use regress_engine_insn::Insn;
+use regress_engine_search::ExecutorInput;
+
+impl<'a, Input: ExecutorInput> Attempt<'a, Input> {
+    /// The address at which it continues from one, read forward, where this byte stands ahead: as long as one of two ways
+    /// surely leads nowhere, by the other.
+    #[inline(always)]
+    fn way_ahead(&self, start: usize, byte: u8) -> usize
+        requires { Suits (program_of self.now.program.now) (Input.view self.now.input) }
+        ensures { (o : ℕ) → StandsAhead (world Input.view self.now) byte o → IsWayIn (world Input.view self.now) true o start result }
+    {
+        let insns = self.program.insns();
+        let mut at = start;
+        'ways: while at < insns.len() {
+            let Insn::Alt { secondary } = &insns[at] else {
+                break;
+            };
+            let second = *secondary as usize;
+            if second <= at {
+                break;
+            }
+            if is_dead_ahead(self.program, at + 1, byte) {
+                at = second;
+                continue;
+            }
+            if !is_dead_ahead(self.program, second, byte) {
+                break;
+            }
+            at += 1;
+        }
+        at
+    }
+
+    /// The address at which it continues from two ways, by what stands beside an offset: that of both where neither surely
+    /// leads nowhere.
+    #[inline(always)]
+    pub(crate) fn way_of_two(&self, at: usize, second: usize, forward: bool, offset: usize) -> usize
+        requires suits { Suits (program_of self.now.program.now) (Input.view self.now.input) }
+        requires stands { Stands (program_of self.now.program.now) at (alt second) }
+        requires room { at + 1 < 2 ^ 64 }
+        ensures { IsWayIn (world Input.view self.now) forward offset at result }
+    {
+        if forward {
+            return match next_byte(&self.input, offset) {
+                Some(byte) => self.way_ahead(at, byte),
+                None => at,
+            };
+        }
+        if is_dead_behind(self.program, &self.input, at + 1, offset) {
+            return second;
+        }
+        if is_dead_behind(self.program, &self.input, second, offset) {
+            return at + 1;
+        }
+        at
+    }
+}
