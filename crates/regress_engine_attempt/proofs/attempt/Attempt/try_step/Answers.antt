@@ -18,7 +18,7 @@ step-requires-clause-stands g c =
     let q = c.begin.new.spot in
     let h = held c.args.memory.now in
     let k = held c.begin.new.memory in
-    let begun = subst (Begins w p h q k) c.in-None.is c.in_ok-begin.ensures.leads in
+    let begun = subst (Begins w p h q k) c.in-None.is c.in_ok-going.ensures.leads in
     let under = begun-way w p q h k begun c.requires.tried in
     tried-stands program v under.0 under.1 (direction_of q.forward) (state_at q k) _ under.2
 
@@ -31,7 +31,7 @@ step-requires-clause-reads g c =
     let q = c.begin.new.spot in
     let h = held c.args.memory.now in
     let k = held c.begin.new.memory in
-    let begun = subst (Begins w p h q k) c.in-None.is c.in_ok-begin.ensures.leads in
+    let begun = subst (Begins w p h q k) c.in-None.is c.in_ok-going.ensures.leads in
     let under = begun-way w p q h k begun c.requires.tried in
     tried-reads program v under.0 under.1 (direction_of q.forward) (state_at q k) _ under.2
 
@@ -44,7 +44,7 @@ step-requires-clause-later g c =
     let q = c.begin.new.spot in
     let h = held c.args.memory.now in
     let k = held c.begin.new.memory in
-    let begun = subst (Begins w p h q k) c.in-None.is c.in_ok-begin.ensures.leads in
+    let begun = subst (Begins w p h q k) c.in-None.is c.in_ok-going.ensures.leads in
     let under = begun-way w p q h k begun c.requires.tried in
     under.2.reads
 
@@ -57,5 +57,5 @@ returns-in_ok-left-in-None-clause-leads g c =
     let q = c.begin.new.spot in
     let h = held c.args.memory.now in
     let k = held c.begin.new.memory in
-    let begun = subst (Begins w p h q k) c.in-None.is c.in_ok-begin.ensures.leads in
+    let begun = subst (Begins w p h q k) c.in-None.is c.in_ok-going.ensures.leads in
     begun-steps w p q c.step.new.spot h k (held c.step.new.memory) c.in_ok-left-in-None.left begun c.in_ok-left-in-None.ensures.leads
