@@ -211,15 +211,12 @@ impl<'a, Input: ExecutorInput> Attempt<'a, Input> {
         self.learn_back(body, &failed, memory, failures);
     }
 
-    /// Records that the state at a spot is tried, unless its instruction does so itself.
+    /// Records that the exit at a spot is tried, so that it is known to fail where it does, also where too little text is left there.
     fn record_exit(&self, memory: &mut Memory, spot: &Spot) -> Result<(), AllocError>
         requires sound { IsHeldIn (world Input.view self.now) (held memory.old) }
         ensures leads { OnOk result (Drops (world Input.view self.now) spot.now (held memory.old) (held memory.new) false) }
         ensures sound { OnOk result (IsHeldIn (world Input.view self.now) (held memory.new)) }
     {
-        if self.is_choice(spot.at) {
-            return Ok(());
-        }
         memory.push(Undo::Tried {
             at: spot.at,
             offset: spot.offset,

@@ -56,7 +56,7 @@ impl Remembered {
 impl<'a, Input: ExecutorInput> Attempt<'a, Input> {
     /// Whether the instruction at an address chooses between ways.
     #[inline]
-    pub(crate) fn is_choice(&self, at: usize) -> bool {
+    fn is_choice(&self, at: usize) -> bool {
         matches!(
             self.program.insns().get(at),
             Some(

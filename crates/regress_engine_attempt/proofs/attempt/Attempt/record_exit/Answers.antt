@@ -2,16 +2,12 @@ use Rattle.std.proofs.Common.{true, sym, subst}
 use Rattle.regress_engine_code.specs.Standing.{program_of}
 use Rattle.regress_engine_input.specs.Views.{input_of}
 use Rattle.regress_engine_search.specs.Tasks.{Leads}
-use Rattle.regress_engine_search.proofs.TaskLemmas.{leads-same}
 use Rattle.regress_engine_undo.specs.Held.{held}
 use Rattle.regress_engine_undo.specs.Sound.{IsHeld}
 use Rattle.regress_engine_undo.specs.Tasks.{task}
 use Rattle.regress_engine_memory.proofs.HeldLemmas.{trying-held}
 use Rattle.regress_engine_attempt.proofs.RememberLemmas.{tried-held}
 use Rattle.regress_engine_attempt.proofs.attempt.Attempt.record_exit.Goals as goal
-
-pub returns-then-is_choice-clause-leads : goal.returns-then-is_choice-clause-leads
-returns-then-is_choice-clause-leads g c = leads-same _ _ _
 
 pub returns-clause-leads : goal.returns-clause-leads
 returns-clause-leads g c =
