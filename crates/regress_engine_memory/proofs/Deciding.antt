@@ -1,15 +1,16 @@
 -- A table that passes its test tells what is so.
 use Rattle.std.specs.Prelude.{is_some, slice_get, not, option_and_then}
 use Rattle.std.specs.List.{list_all}
-use Rattle.std.proofs.Common.{◌≡◌, ℕ, zero, suc, ◌+◌, ◌&&◌, ◌||◌, ◌==◌, Bool, true, false, inl, inr, List, [], ◌∷◌, length, Option, Some, None, refl, sym, ap, subst, arith}
+use Rattle.std.proofs.Common.{◌≡◌, ℕ, suc, ◌&&◌, ◌||◌, ◌==◌, Bool, true, false, inl, inr, List, [], ◌∷◌, length, Option, Some, None, refl, sym, ap, subst, arith}
 use Rattle.std.proofs.lemmas.Bool.{and_parts, or_cases, eqb-true}
 use Rattle.regress_meaning.specs.Text.{holds}
-use Rattle.regress_engine_insn.specs.Instructions.{LoopFields, Instruction, Program, Stands}
+use Rattle.regress_engine_insn.specs.Instructions.{LoopFields, Instruction, Program}
 use Rattle.regress_engine_insn.specs.Instructions as code
 use Rattle.regress_engine_runs.specs.Runs.{fields_of}
 use Rattle.regress_engine_runs.specs.Meets.{referred}
 use Rattle.regress_engine_memory.specs.Flow.{Hands, Writes, IsToldOf, BeginsAnew, Flows, IsFlow}
-use Rattle.regress_engine_memory.specs.Deciding.{Table, calm_at, live_at, bounds_of, flow_of, hands, writes, is_told_of, begins_anew, ends_iteration, flows, flow_from, is_flow}
+use Rattle.regress_engine_memory.specs.Deciding.{Table, calm_at, live_at, bounds_of, flow_of, hands, writes, is_told_of, begins_anew, ends_iteration, flows, flows_if_calm, is_flow}
+use Rattle.regress_engine_memory.proofs.TableLemmas.{each-passes}
 
 -- what is among some numbers that are all among others is among these
 among : (xs ys : List ℕ) → list_all (holds ys) xs ≡ true → (c : ℕ) → holds xs c ≡ true → holds ys c ≡ true
@@ -91,29 +92,10 @@ module _ (t : Table) where
         let a = and_parts (begins_anew t (suc at)) (hands t at continuation) e in (anew-so (suc at) a.0, hands-so at continuation a.1)
     flows-so at i e = hands-so at (suc at) e
 
-    from-so : (is : List Instruction) (base : ℕ) → flow_from t program base is ≡ true → (k : ℕ) (i : Instruction) → slice_get is k ≡ Some i → calm_at t (base + k) ≡ true
-        → Flows (flow_of t) program (base + k) i
-    from-so [] base e k i here calm = absurd (cc here)
-    from-so (j ∷ is) base e zero i here calm =
-        let both = and_parts (not (calm_at t base) || flows t program base j) (flow_from t program (suc base) is) e in
-        let same : j ≡ i = cc in
-        let at : base + 0 ≡ base = omega arith in
-        let calm' : calm_at t base ≡ true = subst (λ a. calm_at t a ≡ true) at calm in
-        subst (λ a. Flows (flow_of t) program a i) (sym at)
-        (flows-so base i (subst (λ x. flows t program base x ≡ true) same (by_calm (calm_at t base) calm' both.0)))
-      where
-        by_calm : (b : Bool) → b ≡ true → (not b || flows t program base j) ≡ true → flows t program base j ≡ true
-        by_calm true f h = h
-        by_calm false f h = absurd (cc f)
-    from-so (j ∷ is) base e (suc k) i here calm =
-        let both = and_parts (not (calm_at t base) || flows t program base j) (flow_from t program (suc base) is) e in
-        let at : base + suc k ≡ suc base + k = omega arith in
-        subst (λ a. Flows (flow_of t) program a i) (sym at)
-        (from-so is (suc base) both.1 k i here (subst (λ a. calm_at t a ≡ true) at calm))
-
     -- So it is decided by one pass over the instructions.
     pub decides : is_flow t program ≡ true → IsFlow (flow_of t) program
-    decides e at i calm here =
-        let zero-at : 0 + at ≡ at = omega arith in
-        subst (λ a. Flows (flow_of t) program a i) zero-at
-        (from-so program.instructions 0 e at i here (subst (λ a. calm_at t a ≡ true) (sym zero-at) calm))
+    decides e at i calm here = flows-so at i (by_calm (calm_at t at) calm (each-passes (flows_if_calm t program) program e at i here))
+      where
+        by_calm : (b : Bool) → b ≡ true → (not b || flows t program at i) ≡ true → flows t program at i ≡ true
+        by_calm true f h = h
+        by_calm false f h = absurd (cc f)

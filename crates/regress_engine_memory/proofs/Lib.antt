@@ -3,10 +3,12 @@ pub mod TableLemmas
 pub mod LoopData
 pub mod Unreferring
 pub mod SameRuns
+pub mod EachState
 pub mod Onward
 pub mod LessRuns
 pub mod Forgetting
 pub mod Exits
+pub mod Taking
 pub mod Steady
 pub mod Dropping
 pub mod Cutting

@@ -1,6 +1,6 @@
 -- Offsets that are further on, and where a run ends that leads only onward.
 use Rattle.std.specs.Prelude.{IfSome}
-use Rattle.std.proofs.Common.{◌≡◌, ℕ, ◌<◌, inl, inr, true, false, List, [], ◌∷◌, ◌++◌, Option, Some, None, refl, sym, subst, arith}
+use Rattle.std.proofs.Common.{◌≡◌, ℕ, ◌+◌, ◌<◌, ◌≤◌, inl, inr, true, false, List, [], ◌∷◌, Option, Some, None, refl, sym, ap, subst, arith}
 use Rattle.regress_meaning.specs.Meaning.{Direction, Forward, Backward}
 use Rattle.regress_meaning.specs.Inputs.{Input}
 use Rattle.regress_front_nodes.specs.Trees.{Submatch, lookaround, atomic}
@@ -15,6 +15,7 @@ use Rattle.regress_engine_memory.specs.Flow.{Flow, Flows, IsFlow}
 use Rattle.regress_engine_memory.specs.Agreeing.{AgreeAll, EndAlike}
 use Rattle.regress_engine_memory.specs.Under.{room, IsFurther, IsOnward, AreOnward}
 use Rattle.regress_engine_memory.specs.Keys.{IsSteady}
+use Rattle.regress_engine_memory.proofs.EachState.{each-append}
 use Rattle.regress_engine_memory.proofs.SameRuns.{agree-append, agree-behind, agree-step, agree-inside, agree-outside}
 
 pub room-less : (last : ℕ) (dir : Direction) (o q : ℕ) → IsFurther last dir o q → room last dir q < room last dir o
@@ -42,13 +43,25 @@ onward-then last dir a b c (inl e) second = subst (λ x. IsOnward last dir x c) 
 onward-then last dir a b c (inr first) (inl e) = inr (subst (λ x. IsFurther last dir a x) (sym e) first)
 onward-then last dir a b c (inr first) (inr second) = inr (further-then last dir a b c first second)
 
+-- there or further, by at least so many units
+abbrev pub Takes : (last : ℕ) → Direction → (least o q : ℕ) → Type 0
+Takes last dir least o q = IsOnward last dir o q × (room last dir q + least ≤ room last dir o)
+
+pub takes-none : (last : ℕ) (dir : Direction) (o q : ℕ) → o ≡ q → Takes last dir 0 o q
+takes-none last dir o q same = let e = ap (room last dir) same in (inl (sym same), omega (arith, e))
+
+pub takes-one : (last : ℕ) (dir : Direction) (o q : ℕ) → IsFurther last dir o q → Takes last dir 1 o q
+takes-one last dir o q further = let less = room-less last dir o q further in (inr further, omega (arith, less))
+
+pub takes-fewer : (last : ℕ) (dir : Direction) (m n o q : ℕ) → n ≤ m → Takes last dir m o q → Takes last dir n o q
+takes-fewer last dir m n o q fewer (on, less) = (on, omega (arith, fewer, less))
+
+pub takes-then : (last : ℕ) (dir : Direction) (m n k a b c : ℕ) → k ≤ m + n → Takes last dir m a b → Takes last dir n b c → Takes last dir k a c
+takes-then last dir m n k a b c fewer (on, less) (on', less') = (onward-then last dir a b c on on', omega (arith, fewer, less, less'))
+
 -- ---- some states
 
 module _ (last : ℕ) (dir : Direction) (o : ℕ) where
-  onward-append : (us ts : List Whole) → AreOnward last dir o us → AreOnward last dir o ts → AreOnward last dir o (us ++ ts)
-  onward-append [] ts first second = second
-  onward-append (u ∷ us) ts first second = (first.0, onward-append us ts first.1 second)
-
   onward-all : (q : ℕ) → IsOnward last dir o q → (us : List Whole) → AreOnward last dir q us → AreOnward last dir o us
   onward-all q on [] us-on = tt
   onward-all q on (u ∷ us) us-on = (onward-then last dir o q u.offset on us-on.0, onward-all q on us us-on.1)
@@ -83,7 +96,7 @@ module _ (flow : Flow) (last : ℕ) (program : Program) (input : Input) (closed 
   ends-onward (goes {dir = dir} {i = i} {s = t} {ss = ts} here plain next) o calm on steady =
       let new : List Whole = successors program input i dir t in
       ends-onward next o (agree-append flow new new ts ts (agree-step flow program input closed dir i t t calm.0 here) calm.1)
-      (onward-append last dir o new ts
+      (each-append (λ u. IsOnward last dir o u.offset) new ts
       (onward-all last dir o t.offset on.0 new (steady t i now here plain (flows-unreferring flow program t.at i (closed t.at i calm.0.calm here)) dir)) on.1)
       (λ u j met. steady u j (later here plain met))
   ends-onward (looks {dir = dir} {kind = kind} {first = low} {last = high} {continuation = continuation} {s = t} {ss = ts} {m = m} {q = q} here inner next) o calm on steady =
@@ -91,5 +104,5 @@ module _ (flow : Flow) (last : ℕ) (program : Program) (input : Input) (closed 
       let within = ends-onward inner t.offset (agree-inside flow program input closed kind low high continuation t t calm.0 here, tt) (inl refl, tt) (λ u j met. steady u j (inside here met)) in
       ends-onward next o
       (agree-append flow new new ts ts (agree-behind flow kind low high continuation t t q q (ends-same q) refl (agree-outside flow program input closed kind low high continuation t t calm.0 here)) calm.1)
-      (onward-append last dir o new ts (onward-behind last dir o kind low high continuation t q on.0 within) on.1)
+      (each-append (λ u. IsOnward last dir o u.offset) new ts (onward-behind last dir o kind low high continuation t q on.0 within) on.1)
       (λ u j met. steady u j (behind here (m, inner) met))

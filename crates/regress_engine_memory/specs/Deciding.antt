@@ -7,6 +7,7 @@ use Rattle.regress_engine_insn.specs.Instructions as code
 use Rattle.regress_engine_runs.specs.Runs.{fields_of}
 use Rattle.regress_engine_runs.specs.Meets.{referred}
 use Rattle.regress_engine_memory.specs.Flow.{Flow}
+use Rattle.regress_engine_memory.specs.Passing.{all_pass}
 
 -- For each address whether it is calm, and the number of its scope; for each scope the loops that are live in it; and for each loop
 -- how many iterations there are at least and at most.
@@ -73,11 +74,10 @@ module _ (t : Table) where
   flows program at (code.submatch kind first last continuation) = begins_anew (suc at) && hands at continuation
   flows program at _ = hands at (suc at)
 
-  -- each of some instructions does, from an address on, where that is calm
-  abbrev pub flow_from : Program → (at : ℕ) → List Instruction → Bool
-  flow_from program at [] = true
-  flow_from program at (i ∷ is) = (not (calm_at at) || flows program at i) && flow_from program (suc at) is
+  -- it does where its address is calm
+  abbrev pub flows_if_calm : Program → (at : ℕ) → Instruction → Bool
+  flows_if_calm program at i = not (calm_at at) || flows program at i
 
   -- the table is that of the program
   abbrev pub is_flow : Program → Bool
-  is_flow program = flow_from program 0 program.instructions
+  is_flow program = all_pass (flows_if_calm program) 0 program.instructions

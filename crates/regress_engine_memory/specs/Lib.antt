@@ -1,4 +1,5 @@
 pub mod Flow
+pub mod Passing
 pub mod Deciding
 pub mod Agreeing
 pub mod Under

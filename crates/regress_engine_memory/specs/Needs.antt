@@ -1,11 +1,13 @@
 -- How many units a run has to take from an address on, at least.
-use Rattle.std.specs.Prelude.{◌≡◌, ℕ, suc, ◌-◌, ◌<◌, ◌≤◌, ◌&&◌, Bool, true, false, List, [], ◌∷◌, length, Option, Some, None, get_or, nat_le, slice_get}
+use Rattle.std.specs.Prelude.{ℕ, suc, ◌-◌, ◌<◌, ◌&&◌, Bool, true, false, List, length, Option, Some, None, get_or, nat_le, slice_get}
+use Rattle.std.specs.List.{AllByRecursion}
 use Rattle.regress_meaning.specs.Meaning.{Direction}
-use Rattle.regress_front_nodes.specs.Trees.{Submatch, lookaround, atomic}
-use Rattle.regress_engine_insn.specs.Instructions.{LoopFields, Instruction, Program, Stands}
+use Rattle.regress_front_nodes.specs.Trees.{lookaround, atomic}
+use Rattle.regress_engine_insn.specs.Instructions.{LoopFields, Instruction, Program}
 use Rattle.regress_engine_insn.specs.Instructions as code
 use Rattle.regress_engine_runs.specs.States.{Whole}
 use Rattle.regress_engine_runs.specs.Runs.{fields_of}
+use Rattle.regress_engine_memory.specs.Passing.{all_pass}
 use Rattle.regress_engine_memory.specs.Under.{room}
 
 -- at least so many units are taken by an instruction that takes characters or bytes
@@ -48,14 +50,9 @@ module _ (needs : List ℕ) where
   needs_at program at (code.submatch atomic first last continuation) = nat_le (need at) 0
   needs_at program at i = covers at (taken_by i) (suc at)
 
-  -- each of some instructions does, from an address on
-  abbrev pub needs_from : Program → (at : ℕ) → List Instruction → Bool
-  needs_from program at [] = true
-  needs_from program at (i ∷ is) = needs_at program at i && needs_from program (suc at) is
-
   -- the numbers are those of the program
   abbrev pub are_needs : Program → Bool
-  are_needs program = needs_from program 0 program.instructions
+  are_needs program = all_pass (needs_at program) 0 program.instructions
 
   -- fewer units are left in the text than a state needs
   abbrev pub IsShort : (last : ℕ) → Direction → Whole → Type 0
@@ -63,5 +60,4 @@ module _ (needs : List ℕ) where
 
   -- each of some states is short
   abbrev pub AreShort : (last : ℕ) → Direction → List Whole → Type 0
-  AreShort last dir [] = Unit {0}
-  AreShort last dir (s ∷ ss) = IsShort last dir s × AreShort last dir ss
+  AreShort last dir ss = AllByRecursion (IsShort last dir) ss

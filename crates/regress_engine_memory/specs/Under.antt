@@ -1,5 +1,6 @@
 -- States of which one may do all that the other may.
 use Rattle.std.specs.Prelude.{◌≡◌, ℕ, ◌+◌, ◌-◌, ◌<◌, ◌≤◌, ◌⊎◌, true, List, [], ◌∷◌, length, get_or}
+use Rattle.std.specs.List.{AllByRecursion}
 use Rattle.regress_meaning.specs.Meaning.{Direction, Forward, Backward}
 use Rattle.regress_engine_runs.specs.States.{Whole}
 use Rattle.regress_engine_runs.specs.UndoStack.{IsPast}
@@ -21,8 +22,7 @@ IsOnward last dir o q = (q ≡ o) ⊎ IsFurther last dir o q
 
 -- each of some states is there or further
 abbrev pub AreOnward : (last : ℕ) → Direction → ℕ → List Whole → Type 0
-AreOnward last dir o [] = Unit {0}
-AreOnward last dir o (u ∷ us) = IsOnward last dir o u.offset × AreOnward last dir o us
+AreOnward last dir o us = AllByRecursion (λ u. IsOnward last dir o u.offset) us
 
 module _ (flow : Flow) (last : ℕ) (id : ℕ) (dir : Direction) (o : ℕ) where
   -- The iteration that is under way may end here and further on: it has taken something, or is not past the least number.

@@ -44,8 +44,9 @@ fn leave_regions(regions: &mut Vec<Region>, at: usize) {
 }
 
 impl FlowTable {
-    /// The table of no address, with one scope, in which no loop is live, and with so many loops.
-    fn empty(alloc: Global, loops: usize) -> Result<FlowTable, AllocError> {
+    /// A table with one scope, in which no loop is live, and with so many loops, which tells no more of any address than what a run
+    /// takes from there on.
+    fn empty(alloc: Global, loops: usize, needs: Needs) -> Result<FlowTable, AllocError> {
         let mut scopes = Vec::new(alloc);
         scopes.push(Vec::new(alloc))?;
         let mut bounds = Vec::new(alloc);
@@ -55,7 +56,7 @@ impl FlowTable {
             scopes: Vec::new(alloc),
             loops: scopes,
             bounds,
-            needs: Needs::empty(alloc),
+            needs,
         })
     }
 
@@ -112,7 +113,7 @@ impl FlowTable {
     /// The table of a program as its layout suggests it, which nothing is told of yet.
     fn suggested(alloc: Global, insns: &[Insn], loops: usize) -> Result<FlowTable, AllocError> {
         let last = last_reference(insns);
-        let mut table = FlowTable::empty(alloc, loops)?;
+        let mut table = FlowTable::empty(alloc, loops, Needs::suggested(alloc, insns)?)?;
         let mut regions: Vec<Region> = Vec::new(alloc);
         for at in 0..insns.len() {
             leave_regions(&mut regions, at);
@@ -129,7 +130,6 @@ impl FlowTable {
                 regions.push(region)?;
             }
         }
-        table.needs = Needs::suggested(alloc, insns)?;
         Ok(table)
     }
 

@@ -139,13 +139,6 @@ impl Needs {
         }
     }
 
-    /// Of no address anything is needed.
-    pub(crate) fn empty(alloc: Global) -> Needs {
-        Needs {
-            units: Vec::new(alloc),
-        }
-    }
-
     /// The same number of units for each address of a program.
     fn all(alloc: Global, insns: &[Insn], units: usize) -> Result<Needs, AllocError> {
         let mut all = Vec::new(alloc);

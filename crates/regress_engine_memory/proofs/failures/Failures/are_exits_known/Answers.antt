@@ -1,17 +1,12 @@
-use Rattle.std.proofs.Common.{ℕ, true, ◌≡◌, sym, subst, ◌∙◌}
-use Rattle.regress_engine_memory.specs.Deciding.{Table, live_at}
-use Rattle.regress_engine_memory.specs.Held.{key_at}
-use Rattle.regress_engine_memory.specs.Planes.{FailsAsTold, key_in}
-use Rattle.regress_engine_memory.specs.Remembered.{class_in, keyed_of}
+use Rattle.std.specs.Prelude.{map}
+use Rattle.std.proofs.Common.{true, sym, ◌∙◌}
+use Rattle.regress_engine_search.specs.StateViews.{loop_of}
 use Rattle.regress_engine_memory.specs.TableViews.{table_of}
-use Rattle.regress_engine_memory.proofs.PlaneLemmas.{key-of_spot}
+use Rattle.regress_engine_memory.proofs.PlaneLemmas.{told-of_spot}
 use Rattle.regress_engine_memory.proofs.failures.Failures.are_exits_known.Goals as goal
 
 pub returns-in-Some : goal.returns-in-Some
 returns-in-Some c set program input known =
     let (p, there, is) = c.in-Some.ensures in
-    let t : Table = table_of c.args.self.now.table in
     let s = c.args.spot.now in
-    let fails : FailsAsTold program input (keyed_of t) true (key_in t p s.offset) =
-    subst (λ b. FailsAsTold program input (keyed_of t) b (key_in t p s.offset)) is.3 (known c.in-Some.k s.offset p there (sym (c.has.ensures p there) ∙ set)) in
-    (class_in (live_at t s.at) p.classes.items, subst (FailsAsTold program input (keyed_of t) true) (key-of_spot t s p is.0 is.1) fails, is.2)
+    told-of_spot program input (table_of c.args.self.now.table) s true (map loop_of c.args.loops.now) p is (known c.in-Some.k s.offset p there (sym (c.has.ensures p there) ∙ set))

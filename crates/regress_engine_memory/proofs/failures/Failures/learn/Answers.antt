@@ -1,26 +1,20 @@
 use Rattle.std.specs.Prelude.{map}
-use Rattle.std.proofs.Common.{◌≡◌, ℕ, false, List, Some, sym, subst, ◌∙◌}
+use Rattle.std.proofs.Common.{ℕ, false, List, sym, ◌∙◌}
 use Rattle.regress_engine_search.specs.StateViews.{loop_of}
-use Rattle.regress_engine_memory.specs.Planes.{FailsIn, IsPlaneOf}
 use Rattle.regress_engine_memory.specs.TableViews.{table_of}
 use Rattle.regress_engine_memory.specs.declared.flow.FlowTable.{FlowTable}
-use Rattle.regress_engine_memory.proofs.PlaneLemmas.{plane-fails}
+use Rattle.regress_engine_memory.proofs.PlaneLemmas.{plane-fails, found-fails}
 use Rattle.regress_engine_memory.proofs.failures.Failures.learn.Goals as goal
 
 pub returns-in-Some-clause-known : goal.returns-in-Some-clause-known
 returns-in-Some-clause-known c program input known fails =
     let s = c.args.spot.now in
     let loops : List (ℕ × ℕ) = map loop_of c.args.loops.now in
-    let table = c.plane_of.ensures.table in
+    let table : FlowTable = c.args.self.now.table in
     let (p, there, is) = c.in-Some.ensures.plane in
     c.mark.ensures.known program input (c.plane_of.ensures.known program input known)
-    (λ q here.
-    let e : Some p ≡ Some q = sym there ∙ here in
-    let same : p ≡ q = cc in
-    let told : IsPlaneOf (table_of c.args.self.now.table) s false loops q =
-    subst (λ (x : FlowTable). IsPlaneOf (table_of x) s false loops q) table (subst (IsPlaneOf (table_of c.plane_of.new.self.table) s false loops) same is) in
-    subst (λ (x : FlowTable). FailsIn program input (table_of x) q s.offset) (sym table)
-    (plane-fails program input (table_of c.args.self.now.table) c.args.last s loops q told (sym c.is_calm.ensures ∙ c.if-not-is_calm.false)
+    (found-fails program input table c.plane_of.new.self.table s false loops c.plane_of.new.self.planes.items c.in-Some.k p c.plane_of.ensures.table there is
+    (λ told. plane-fails program input (table_of table) c.args.last s loops p told (sym c.is_calm.ensures ∙ c.if-not-is_calm.false)
     (c.are_free.ensures.moved c.if-not-are_free.false) (c.are_free.ensures.room c.if-not-are_free.false) fails))
 
 pub returns-in_default-clause-known : goal.returns-in_default-clause-known

@@ -2,7 +2,7 @@ use Rattle.std.specs.Prelude.{map}
 use Rattle.std.proofs.Common.{◌≡◌}
 use Rattle.regress_engine_insn.specs.Instructions.{Program}
 use Rattle.regress_engine_insn.specs.InsnViews.{instruction}
-use Rattle.regress_engine_memory.specs.Deciding.{is_flow}
+use Rattle.regress_engine_memory.specs.Deciding.{flows_if_calm, is_flow}
 use Rattle.regress_engine_memory.specs.TableViews.{table_of}
 use Rattle.regress_engine_memory.proofs.TableLemmas.{tested}
 use Rattle.regress_engine_memory.proofs.flow.FlowTable.is_flow.Given as goal
@@ -10,5 +10,5 @@ use Rattle.regress_engine_memory.proofs.flow.FlowTable.is_flow.Given as goal
 -- the instructions so far lead on as they are told
 abbrev pub invariant-loop-at : goal.invariant-loop-at
 invariant-loop-at l = record {
-  left : (program : Program) → program.instructions ≡ map instruction l.insns → tested (table_of l.self) program l.insns l.at ≡ is_flow (table_of l.self) program;
+  left : (program : Program) → program.instructions ≡ map instruction l.insns → tested (flows_if_calm (table_of l.self) program) l.insns l.at ≡ is_flow (table_of l.self) program;
 }
