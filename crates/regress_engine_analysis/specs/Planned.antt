@@ -60,9 +60,8 @@ IsSo program sets at Nothing = Unit {0}
 IsSo program sets at Possessive = AreApart sets (at + 1) (at + 2)
 IsSo program sets at (Turn t) = IsTurnAt program sets at t.begin t.again
 
--- Of the addresses of a program, from the first on, these facts are so. A program of units has none.
+-- Of the addresses of a program, from the first on, these facts are so.
 pub record ArePlanned (program : Program) (facts : List Facts) : Type 0 where
-  pub none : program.units ≡ true → length facts ≡ 0
   pub first : AreFirstBytes program (firsts facts)
   pub possessive : (at : ℕ) → known_of facts at ≡ Possessive → AreApart (firsts facts) (at + 1) (at + 2)
   pub turn : (at : ℕ) (t : turn.Turn) → known_of facts at ≡ Turn t → IsTurnAt program (firsts facts) at t.begin t.again

@@ -27,7 +27,7 @@ use Rattle.regress_engine_prefix.proofs.PrefixLemmas.{Foretells-no_part}
 use Rattle.regress_engine_prefix.specs.Prefixes.{Foretells}
 use Rattle.regress_engine_prefix.specs.declared.prefix.Prefix.TheVariants.{Still, Bytes, First}
 use Rattle.regress_engine_scanning.specs.Landmarks.{run_then}
-use Rattle.regress_engine_prefix.specs.Reaches.{Takes, TakesNothing, CoversOne, StandsAt, HoldsTo, IsBoth, Reaches, TakesOne}
+use Rattle.regress_engine_prefix.specs.Reaches.{AreLowTo, Takes, TakesNothing, CoversOne, StandsAt, HoldsTo, IsBoth, Reaches, TakesOne}
 use Rattle.regress_engine_scanning.specs.declared.landmark.Landmark.TheVariants.{Ahead, BehindRun}
 use Rattle.regress_engine_prefix.specs.declared.reach.Span.{Span}
 use Rattle.regress_engine_prefix.specs.declared.reach.Reach.{Reach}
@@ -123,22 +123,24 @@ pub whole-text : (text : List ℕ) (place : ℕ) → encode_utf8_all text ≡ en
 whole-text text place = ap encode_utf8_all (sym (take-append-drop place text)) ∙ encodes-append (take place text) (drop place text)
 
 -- the byte so many bytes behind a place
-ahead-at : (text : List ℕ) (place distance : ℕ)
+pub ahead-at : (text : List ℕ) (place distance : ℕ)
     → slice_get (encode_utf8_all text) (length (encode_utf8_all (take place text)) + distance) ≡ slice_get (encode_utf8_all (drop place text)) distance
 ahead-at text place distance =
     let front = encode_utf8_all (take place text) in
     ap (λ xs. slice_get xs (length front + distance)) (whole-text text place) ∙ front-get front (encode_utf8_all (drop place text)) distance
 
 -- the bytes from a place on
-rest-at : (text : List ℕ) (place : ℕ) → drop (length (encode_utf8_all (take place text))) (encode_utf8_all text) ≡ encode_utf8_all (drop place text)
+pub rest-at : (text : List ℕ) (place : ℕ) → drop (length (encode_utf8_all (take place text))) (encode_utf8_all text) ≡ encode_utf8_all (drop place text)
 rest-at text place =
     let front = encode_utf8_all (take place text) in
     ap (drop (length front)) (whole-text text place) ∙ drop-append_seam front (encode_utf8_all (drop place text))
 
 pub Reaches-bytes : (front : Vec ℕ Global) (byte : ℕ) (t : Tree) → slice_get front.items 0 ≡ Some byte → Foretells (Bytes front) t → Reaches (By (Ahead 0 byte)) t
 Reaches-bytes front byte t begins told = record {
-  each = λ context valid s k d h.
-      is-byte _ byte (ahead-at context.text s.place 0 ∙ first front.items (encode_utf8_all (drop s.place context.text)) begins (told.each context valid s k d h));
+  each = λ context valid s k d h. (
+    is-byte _ byte (ahead-at context.text s.place 0 ∙ first front.items (encode_utf8_all (drop s.place context.text)) begins (told.each context valid s k d h)),
+    All-nil (λ c. c < 0x80),
+  );
 }
   where
     first : (xs ys : List ℕ) → slice_get xs 0 ≡ Some byte → take (length xs) ys ≡ xs → slice_get ys 0 ≡ Some byte
@@ -180,6 +182,7 @@ Takes-both first second both text mid rest one other sum exact a b =
           ∙ rw (all-wider _ _ (encode_utf8_all a.front) one a.run) (all-wider _ _ (encode_utf8_all b.front) other b.run);
       least = let l = a.least in let m = b.least in omega (arith, size, l, m, sum);
       exact = λ e. let (p, q, all) = exact e in let l = a.exact p in let m = b.exact q in omega (arith, size, l, m, all);
+      low = λ e. let (p, q, all) = exact e in All-append (λ c. c < 0x80) a.front b.front (a.low p) (b.low q);
     }
 
 -- a byte behind what is exactly so long
@@ -191,6 +194,30 @@ Stands-over span distance far byte text place mid exact sum taken here =
     let there = byte-is _ byte here in
     is-byte _ byte (ahead-at text place far ∙ ap (λ xs. slice_get xs far) (taken-bytes span (drop place text) (drop mid text) taken) ∙ ap (slice_get (front ++ encode_utf8_all (drop mid text))) size
     ∙ front-get front (encode_utf8_all (drop mid text)) distance ∙ sym (ahead-at text mid distance) ∙ there)
+
+-- characters of ASCII are as many bytes
+low-size : (cs : List ℕ) → All (λ c. c < 0x80) cs → length (encode_utf8_all cs) ≡ length cs
+low-size [] low = refl
+low-size (c ∷ cs) low =
+    let one : length (encode_utf8 c) ≡ 1 = ap length (encode_ascii c (All-head (λ d. d < 0x80) c cs low)) in
+    let rest = low-size cs (All-tail (λ d. d < 0x80) c cs low) in
+    let both = length-append (encode_utf8 c) (encode_utf8_all cs) in
+    omega (arith, one, rest, both)
+
+-- what is taken of a text, and what stands in front behind it
+take-over : (xs ys : List ℕ) (n : ℕ) → take (length xs + n) (xs ++ ys) ≡ xs ++ take n ys
+take-over [] ys n = let e : 0 + n ≡ n = omega arith in ap (λ m. take m ys) e
+take-over (x ∷ xs) ys n = let e : suc (length xs) + n ≡ suc (length xs + n) = omega arith in ap (λ m. take m (x ∷ (xs ++ ys))) e ∙ ap (λ r. x ∷ r) (take-over xs ys n)
+
+-- So ASCII alone stands in front of a byte behind what is exactly so long.
+pub Low-over : (span : Span) (distance far byte : ℕ) (text : List ℕ) (place mid : ℕ) → span.exact ≡ true → far ≡ span.least + distance
+    → Takes span (drop place text) (drop mid text) → AreLowTo (Ahead distance byte) (drop mid text) → AreLowTo (Ahead far byte) (drop place text)
+Low-over span distance far byte text place mid exact sum taken behind =
+    let low = taken.low exact in
+    let size : far ≡ length taken.front + distance = let e = taken.exact exact in let l = low-size taken.front low in omega (arith, e, l, sum) in
+    let is : take far (drop place text) ≡ taken.front ++ take distance (drop mid text) =
+    ap (take far) taken.cut ∙ ap (λ n. take n (taken.front ++ drop mid text)) size ∙ take-over taken.front (drop mid text) distance in
+    subst (All (λ c. c < 0x80)) (sym is) (All-append (λ c. c < 0x80) taken.front (take distance (drop mid text)) low behind)
 
 -- bytes that pass and then a byte that does not
 run-found : (run : ℕ → Bool) (byte : ℕ) (xs ys : List ℕ) → run byte ≡ false → 0 < length xs → list_all run xs ≡ true → slice_get ys 0 ≡ Some byte → run_then run byte (xs ++ ys) ≡ true
@@ -331,7 +358,14 @@ pub Reaches-many : (each more : Span) (t : Tree) (least most : ℕ) (greedy : Bo
 unfolding node_outcomes
 Reaches-many each more t least most greedy run none free h = record {
   each = λ context valid s. iterated context.text (node_outcomes context t Forward) each more
-      (λ text. record { front = []; cut = refl; run = refl; least = omega (arith, none); exact = λ e. absurd (false≢true (sym free ∙ e)) })
+      (λ text. record {
+        front = [];
+        cut = refl;
+        run = refl;
+        least = omega (arith, none);
+        exact = λ e. absurd (false≢true (sym free ∙ e));
+        low = λ e. absurd (false≢true (sym free ∙ e));
+      })
       (λ a b c one other. Takes-both each more more a b c (λ x e. rw run e) (λ x e. e) (omega (arith, none)) (λ e. absurd (false≢true (sym free ∙ e))) one other)
       (h.each context valid) greedy most least s;
 }
@@ -385,6 +419,7 @@ CoversOne-ascii first span low within one c rest point h =
       run = ap (list_all (byte_bitmap_contains span.run)) bytes ∙ rw (within c (ap first (sym equal) ∙ begins)) refl;
       least = let e = ap length bytes in omega (arith, e, one);
       exact = λ e. ap length bytes ∙ sym one;
+      low = λ e. All-cons (λ d. d < 0x80) c [] small (All-nil (λ d. d < 0x80));
     }
 
 pub CoversOne-more : (first : ℕ → Bool) (span : Span) → ((b : ℕ) → first b ≡ true → byte_bitmap_contains span.run b ≡ true)
@@ -396,6 +431,7 @@ CoversOne-more first span within others one free c rest point h =
       run = ap (list_all (byte_bitmap_contains span.run)) (one-char c) ∙ all-bytes (byte_bitmap_contains span.run) others c (within (lead c) (lead-passes c first h));
       least = let e = ap length (one-char c) in let l = length-encode c in let b = (len_utf8_bounds c).0 in omega (arith, e, l, b, one);
       exact = λ e. absurd (false≢true (sym free ∙ e));
+      low = λ e. absurd (false≢true (sym free ∙ e));
     }
 
 -- ---- sets of two, and what is exact of two
