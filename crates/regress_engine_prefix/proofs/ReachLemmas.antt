@@ -3,7 +3,7 @@ use Rattle.std.proofs.Common.{◌≡◌, ℕ, zero, suc, ◌+◌, ◌<◌, ◌�
 use Rattle.std.specs.Prelude.{encode_utf8, ◌/◌, ◌%◌, nat_lt}
 use Rattle.std.specs.List.{list_all, flat_map}
 use Rattle.std.proofs.Math.Utf8.{encode}
-use Rattle.std.proofs.lemmas.Bool.{leb-true, eqb-true, false≢true}
+use Rattle.std.proofs.lemmas.Bool.{leb-true, ltb-true, lt-ltb, eqb-true, false≢true}
 use Rattle.std.proofs.Math.Seq.{drop-append_seam}
 use Rattle.std.proofs.lemmas.List.{take-append-drop, take_more, map-append, length-append, append-nil}
 use Rattle.std.proofs.lemmas.List.Folds.{list_all-append}
@@ -22,7 +22,7 @@ use Rattle.regress_front_nodes.proofs.SequenceLemmas.{cat_of-append}
 use Rattle.regress_front_nodes.proofs.StepLemmas.{flat_map-self}
 use Rattle.regress_front_sets.proofs.FirstByteLemmas.{lead}
 use Rattle.regress_engine_prefix.proofs.LeadLemmas.{has-lead}
-use Rattle.regress_engine_scanning.proofs.LandmarkLemmas.{is-byte, byte-is}
+use Rattle.regress_engine_scanning.proofs.LandmarkLemmas.{is-byte, byte-is, both-parts}
 use Rattle.regress_engine_prefix.proofs.PrefixLemmas.{Foretells-no_part}
 use Rattle.regress_engine_prefix.specs.Prefixes.{Foretells}
 use Rattle.regress_engine_prefix.specs.declared.prefix.Prefix.TheVariants.{Still, Bytes, First}
@@ -403,6 +403,41 @@ lead-passes c first h = sym (ap (λ (o : Option ℕ). is_some_and o first) (has-
 
 pub one-char : (c : ℕ) → encode_utf8_all (c ∷ []) ≡ encode_utf8 c
 one-char c = append-nil (encode_utf8 c)
+
+-- characters take bytes
+small-bytes : (cs : List ℕ) → All is_code_point cs → list_all (λ b. nat_lt b 256) (encode_utf8_all cs) ≡ true
+small-bytes [] all = refl
+small-bytes (c ∷ cs) all =
+    let one : list_all (λ b. nat_lt b 256) (encode_utf8 c) ≡ true =
+    all-bytes (λ b. nat_lt b 256) (λ b above below. lt-ltb b 256 (omega (arith, below))) c (lt-ltb (lead c) 256 (small-lead c (All-head is_code_point c cs all))) in
+    list_all-append (λ b. nat_lt b 256) (encode_utf8 c) (encode_utf8_all cs) ∙ rw one (small-bytes cs (All-tail is_code_point c cs all))
+
+-- where each byte that passes one test passes the other
+run-wider : (p q : ℕ → Bool) (byte : ℕ) (xs : List ℕ) → ((b : ℕ) → b < 256 → p b ≡ true → q b ≡ true) → list_all (λ b. nat_lt b 256) xs ≡ true
+    → run_then p byte xs ≡ true → run_then q byte xs ≡ true
+run-wider p q byte [] wider small e = e
+run-wider p q byte (x ∷ xs) wider small e =
+    let parts = both-parts (not (nat_eq byte x) && p x) (is_some_and (slice_get xs 0) (nat_eq byte) || run_then p byte xs) e in
+    let first = both-parts (not (nat_eq byte x)) (p x) parts.0 in
+    let low = both-parts (nat_lt x 256) (list_all (λ b. nat_lt b 256) xs) small in
+    rw (first.0, wider x (ltb-true x 256 low.0) first.1) (either (is_some_and (slice_get xs 0) (nat_eq byte)) (run-wider p q byte xs wider low.1) parts.1)
+  where
+    either : (a : Bool) → (run_then p byte xs ≡ true → run_then q byte xs ≡ true) → (a || run_then p byte xs) ≡ true → (a || run_then q byte xs) ≡ true
+    either true on e = refl
+    either false on e = on e
+
+pub Reaches-run : (run low : ByteBitmap) (byte : ℕ) (t : Tree) → ((b : ℕ) → b < 256 → byte_bitmap_contains run b ≡ true → byte_bitmap_contains low b ≡ true)
+    → Reaches (By (BehindRun run byte)) t → Reaches (By (BehindRun low byte)) t
+Reaches-run run low byte t wider h = record {
+  each = λ context valid s k d inside.
+      let there = (h.each context valid s k d inside).0 in
+      let rest = rest-at context.text s.place in (
+        ap (run_then (byte_bitmap_contains low) byte) rest
+        ∙ run-wider (byte_bitmap_contains run) (byte_bitmap_contains low) byte (encode_utf8_all (drop s.place context.text)) wider
+        (small-bytes (drop s.place context.text) (All-drop is_code_point s.place context.text valid)) (ap (run_then (byte_bitmap_contains run) byte) (sym rest) ∙ there),
+        tt,
+      );
+}
 
 pub CoversOne-ascii : (first : ℕ → Bool) (span : Span) → ((b : ℕ) → b < 256 → first b ≡ true → b < 0x80)
     → ((b : ℕ) → first b ≡ true → byte_bitmap_contains span.run b ≡ true) → span.least ≡ 1 → CoversOne first span

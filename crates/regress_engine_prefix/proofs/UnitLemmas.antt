@@ -180,7 +180,7 @@ module _ (points units : List ℕ) (at : ℕ → ℕ) (valid : All is_code_point
   run-units : (run : ℕ → Bool) → AreAscii run → (byte : ℕ) → byte < 0x80 → (cs : List ℕ) (p : ℕ) → drop p points ≡ cs → run_then run byte (encode_utf8_all cs) ≡ true
       → run_then run byte (drop (at p) units) ≡ true
   run-units run low byte small [] p rest e = absurd (cc)
-  run-units run low byte small (c ∷ cs) p rest e = by_first (encode_utf8_all (c ∷ cs)) refl e
+  run-units run low byte small (c ∷ cs) p rest e = by_first (run-units run low byte small cs (suc p)) (encode_utf8_all (c ∷ cs)) refl e
     where
       point : is_code_point c
       point = All-head is_code_point c cs (subst (All is_code_point) rest (All-drop is_code_point p points valid))
@@ -188,9 +188,10 @@ module _ (points units : List ℕ) (at : ℕ → ℕ) (valid : All is_code_point
       by_parts : (b : ℕ) (bs : List ℕ) → run_then run byte (b ∷ bs) ≡ true → run b ≡ true
       by_parts b bs is = (both-parts (not (nat_eq byte b)) (run b) (both-parts (not (nat_eq byte b) && run b) (is_some_and (slice_get bs 0) (nat_eq byte) || run_then run byte bs) is).0).1
 
-      by_first : (bytes : List ℕ) → encode_utf8_all (c ∷ cs) ≡ bytes → run_then run byte bytes ≡ true → run_then run byte (drop (at p) units) ≡ true
-      by_first [] is f = absurd (cc)
-      by_first (b ∷ bs) is f =
+      by_first : (drop (suc p) points ≡ cs → run_then run byte (encode_utf8_all cs) ≡ true → run_then run byte (drop (at (suc p)) units) ≡ true)
+          → (bytes : List ℕ) → encode_utf8_all (c ∷ cs) ≡ bytes → run_then run byte bytes ≡ true → run_then run byte (drop (at p) units) ≡ true
+      by_first on [] is f = absurd (cc)
+      by_first on (b ∷ bs) is f =
           let begins : slice_get (encode_utf8_all (c ∷ cs)) 0 ≡ Some b = ap (λ (xs : List ℕ). slice_get xs 0) is in
           let below : b < 0x80 = low b (by_parts b bs f) in
           let (same, whole) = low-first c cs b point begins below in
@@ -218,7 +219,7 @@ module _ (points units : List ℕ) (at : ℕ → ℕ) (valid : All is_code_point
               by_either : (t : Bool) → is_some_and (slice_get (encode_utf8_all cs) 0) (nat_eq byte) ≡ t → (t || run_then run byte (encode_utf8_all cs)) ≡ true
                   → (is_some_and (slice_get (drop (at (suc p)) units) 0) (nat_eq byte) || run_then run byte (drop (at (suc p)) units)) ≡ true
               by_either true is more = rw (ends is) refl
-              by_either false is more = in-right (is_some_and (slice_get (drop (at (suc p)) units) 0) (nat_eq byte)) (run_then run byte (drop (at (suc p)) units)) _ refl (run-units run low byte small cs (suc p) behind more)
+              by_either false is more = in-right (is_some_and (slice_get (drop (at (suc p)) units) 0) (nat_eq byte)) (run_then run byte (drop (at (suc p)) units)) _ refl (on behind more)
 
   -- the byte of a landmark
   near-units : (landmark : Landmark) → IsLow landmark → (p : ℕ) → AreLowTo landmark (drop p points) → stands landmark (encode_utf8_all (drop p points)) 0 ≡ true

@@ -5,12 +5,11 @@ ghost use Rattle.regress_front_nodes.specs.Trees.{tree};
 ghost use Rattle.regress_front_nodes.specs.WellFormed.{IsWellFormed};
 ghost use Rattle.regress_engine_prefix.specs.Prefixes.{IsLawful, LeadsCharacters};
 ghost use Rattle.regress_engine_prefix.specs.Choosing.{TellsPair, IsOrPair, IsOrWord};
-ghost use Rattle.regress_engine_scanning.specs.Landmarks.{IsLow};
 ghost use Rattle.regress_engine_scanning.specs.Units.{AreAscii};
 ghost use Rattle.regress_engine_prefix.specs.Starts.{IsStartOf, SaysNoMore, HitsBoundaries, IsAnchoredOnlyIf, IsAtStart, HoldsAtStart, KeepsSequence, KeepsLiteral, IsSameStart, IsPlain, TellsLeads, KeepsAscii, BeginsCharacters, tells_landmark};
 
 use crate::prefix::{Prefix, prefix_of};
-use crate::reach::landmark_of;
+use crate::reach::{landmark_of, low_landmark_of};
 use crate::words::word_start_of;
 use regress_engine_scanning::{
     BytePair, Landmark, NibbleSet, WordStart, are_ascii, is_beyond_ascii,
@@ -214,16 +213,6 @@ fn with_landmark(
     }
 }
 
-/// Whether each byte that a landmark tells is below 0x80.
-fn is_low(landmark: &Landmark) -> bool
-    ensures { IsTrue result → IsLow landmark.now }
-{
-    match landmark {
-        Landmark::Ahead { byte, .. } => *byte < 0x80,
-        Landmark::BehindRun { run, byte } => *byte < 0x80 && !is_beyond_ascii(run),
-    }
-}
-
 /// The same plain predicate, or of the bytes of a set those by which a byte stands that stands by each match, where all of these
 /// are below 0x80.
 fn with_low_landmark(
@@ -247,9 +236,9 @@ fn with_low_landmark(
     let StartPredicate::ByteBracket(set) = start else {
         return Ok(start);
     };
-    match landmark_of(alloc, node)? {
-        Some(landmark) if is_low(&landmark) => Ok(StartPredicate::ByteNear(set, landmark)),
-        _ => Ok(StartPredicate::ByteBracket(set)),
+    match low_landmark_of(alloc, node)? {
+        Some(landmark) => Ok(StartPredicate::ByteNear(set, landmark)),
+        None => Ok(StartPredicate::ByteBracket(set)),
     }
 }
 
@@ -298,9 +287,9 @@ pub fn predicate_for_re(alloc: Global, regex: &Regex) -> Result<StartPredicate, 
 /// What the 16-bit units begin with wherever a match of the tree begins, as `predicate_for_re` tells it of bytes.
 ///
 /// It is plain: each byte that it tells is below 0x80, and stands for the unit of the same number, which is a character by itself
-/// in UTF-16 and in UCS-2; up to the byte of a landmark stand such characters alone. In each text, at each place from which the tree has an outcome, the characters begin so; and a literal
-/// of two or more such bytes with which the tree begins is a `ByteSeq`. Where nothing is told by such bytes it is `Arbitrary`. Asks
-/// for a well-formed tree, and errs with `OutOfMemory` alone.
+/// in UTF-16 and in UCS-2; up to the byte of a landmark stand such characters alone. In each text, at each place from which the tree
+/// has an outcome, the characters begin so; and a literal of two or more such bytes with which the tree begins is a `ByteSeq`. Where
+/// nothing is told by such bytes it is `Arbitrary`. Asks for a well-formed tree, and errs with `OutOfMemory` alone.
 ///
 /// ```rust
 /// let start = predicate_for_units(alloc, &regex)?; // of `abc` the `ByteSeq` of `abc`, of `é` `Arbitrary`

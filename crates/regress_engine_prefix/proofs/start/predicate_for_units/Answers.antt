@@ -1,5 +1,6 @@
+use Rattle.std.proofs.Common.{◌≡◌, false}
 use Rattle.regress_front_nodes.specs.Trees.{tree}
-use Rattle.regress_engine_prefix.specs.Starts.{BeginsCharacters, IsStartOf, HoldsAtStart}
+use Rattle.regress_engine_prefix.specs.Starts.{BeginsCharacters, IsStartOf, IsAnchoredOnlyIf, HoldsAtStart}
 use Rattle.regress_engine_prefix.proofs.StartLemmas.{start-of, holds-at_start}
 use Rattle.regress_engine_prefix.proofs.UnitLemmas.{begins-characters, keeps-ascii, of-either}
 use Rattle.regress_engine_prefix.proofs.start.predicate_for_units.Goals as goal
@@ -22,12 +23,17 @@ with_low_landmark-requires-clause-begins c =
 
 pub returns-clause-literal : goal.returns-clause-literal
 returns-clause-literal c =
-    c.with_low_landmark.ensures.literal
+    c.in_ok-with_low_landmark.ensures.literal
     (keeps-ascii c.of_prefix.result c.for_units-start.result c.in_ok-prefix.prefix (tree c.args.regex.now.node) c.of_prefix.ensures.sequence c.in_ok-prefix.ensures c.for_units-start.ensures.kept)
+
+pub returns-clause-anchored : goal.returns-clause-anchored
+returns-clause-anchored c =
+    c.in_ok-with_low_landmark.ensures.anchored c.args.regex.now.flags.multiline
+    (of-either (IsAnchoredOnlyIf (c.args.regex.now.flags.multiline ≡ false)) c.of_prefix.result c.for_units-start.result c.of_prefix.ensures.anchored tt c.for_units-start.ensures.either)
 
 pub returns-clause-first : goal.returns-clause-first
 returns-clause-first c =
     let t = tree c.args.regex.now.node in
-    c.with_low_landmark.ensures.first
+    c.in_ok-with_low_landmark.ensures.first
     (of-either (HoldsAtStart t) c.of_prefix.result c.for_units-start.result (holds-at_start c.of_prefix.result c.in_ok-prefix.prefix t c.of_prefix.ensures.start c.in_ok-prefix.ensures) tt
     c.for_units-start.ensures.either)
