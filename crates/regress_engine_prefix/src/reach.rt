@@ -235,18 +235,21 @@ pub(crate) fn landmark_of(alloc: Global, node: &Node) -> Result<Option<Landmark>
     }
 }
 
-/// The bytes of a set that are below 0x80.
-fn ascii_of(set: &ByteBitmap) -> ByteBitmap
-    ensures low { AreAscii (byte_bitmap_contains result) }
-    ensures kept { (b : ℕ) → b < 0x80 → byte_bitmap_contains set.now b ≡ true → byte_bitmap_contains result b ≡ true }
+/// A set of the same bytes, where each is below 0x80.
+fn ascii_of(set: ByteBitmap) -> Option<ByteBitmap>
+    ensures low { IfSome result (λ low. AreAscii (byte_bitmap_contains low)) }
+    ensures kept { IfSome result (λ low. (b : ℕ) → b < 256 → byte_bitmap_contains set b ≡ true → byte_bitmap_contains low b ≡ true) }
 {
+    if is_beyond_ascii(&set) {
+        return None;
+    }
     let mut low = ByteBitmap::default();
     for byte in 0..0x80 {
         if set.contains(byte) {
             low.set(byte);
         }
     }
-    low
+    Some(low)
 }
 
 /// What tells the same, where each byte that a landmark tells is below 0x80.
@@ -256,10 +259,10 @@ fn low_landmark(landmark: Landmark) -> Option<Landmark>
 {
     match landmark {
         Landmark::Ahead { byte, .. } if byte < 0x80 => Some(landmark),
-        Landmark::BehindRun { run, byte } if byte < 0x80 && !is_beyond_ascii(&run) => {
-            let run = ascii_of(&run);
-            Some(Landmark::BehindRun { run, byte })
-        }
+        Landmark::BehindRun { run, byte } if byte < 0x80 => Some(Landmark::BehindRun {
+            run: ascii_of(run)?,
+            byte,
+        }),
         _ => None,
     }
 }
