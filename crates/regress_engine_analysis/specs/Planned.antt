@@ -1,5 +1,5 @@
 -- What is known of the addresses of a program without running it.
-use Rattle.std.specs.Prelude.{◌≡◌, ◌==◌, ℕ, ◌+◌, ◌<◌, Bool, true, false, List, length, map, None, Some, slice_get}
+use Rattle.std.specs.Prelude.{◌≡◌, ◌==◌, ℕ, ◌+◌, ◌<◌, Bool, true, false, List, map, None, Some, slice_get}
 use Rattle.regress_meaning.specs.Inputs.{is_continuation}
 use Rattle.regress_front_bytes.specs.declared.bitmaps.ByteBitmap.{ByteBitmap}
 use Rattle.regress_engine_insn.specs.Instructions.{Instruction, LoopFields, Program, Stands, begins_loop}

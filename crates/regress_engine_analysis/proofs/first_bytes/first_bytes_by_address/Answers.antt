@@ -1,5 +1,5 @@
 use Rattle.std.specs.Prelude.{get_or, option_map}
-use Rattle.std.proofs.Common.{◌<◌, ◌-◌, true, false, length, Option, Some, None, refl, sym, ap, ◌∙◌, arith}
+use Rattle.std.proofs.Common.{◌<◌, ◌-◌, true, length, Option, Some, None, refl, sym, ap, ◌∙◌, arith}
 use Rattle.std.proofs.lemmas.List.{length-set}
 use Rattle.std.proofs.lemmas.Option.{slice_get-map, slice_get-get_or}
 use Rattle.regress_engine_insn.specs.Instructions.{Instruction, Program}
