@@ -27,8 +27,14 @@ fn has_number(bytes: &[u8], number: u32) -> bool
 }
 
 /// The offset behind the character beside one, where that is the wanted one.
+///
+/// Asks that characters may be read from the offset on.
+///
+/// ```rust
+/// let behind = this_char(&input, true, 0, 0x61);
+/// ```
 #[inline]
-pub(crate) fn this_char<Input: InputIndexer>(
+pub fn this_char<Input: InputIndexer>(
     input: &Input,
     forward: bool,
     offset: usize,

@@ -2,40 +2,26 @@
 ghost use Rattle.std.specs.Prelude.{◌≡◌, ℕ, true, Some};
 ghost use Rattle.regress_meaning.specs.Meaning.{Forward as ahead, Backward as backward};
 ghost use Rattle.regress_engine_code.specs.Standing.{program_of};
-ghost use Rattle.regress_engine_input.specs.Views.{View, AreOfKind, direction_of, input_of, in_bytes, unit_beside};
+ghost use Rattle.regress_engine_input.specs.Views.{View, AreOfKind, direction_of, input_of};
 ghost use Rattle.regress_engine_search.specs.Search.{Suits};
 ghost use Rattle.regress_engine_singles.specs.Failing.{IsDead};
+ghost use Rattle.regress_engine_singles.specs.Leads.{lead_ahead};
 
+use crate::leads::lead_ahead;
 use crate::literals::bytes_beside;
 use regress_engine_code::CompiledRegex;
-use regress_engine_input::{InputIndexer, PositionType};
+use regress_engine_input::InputIndexer;
 use regress_engine_insn::bytes_of;
 
-/// The byte ahead of an offset, which may be any; `None` where the text ends, and over units.
-///
-/// ```rust
-/// let byte = next_byte(&input, 0);
-/// ```
-#[inline(always)]
-pub fn next_byte<Input: InputIndexer>(input: &Input, offset: usize) -> Option<u8>
-    ensures { result ≡ in_bytes (Input.view input.now).kind (unit_beside (Input.view input.now).units ahead offset) }
-{
-    if offset > input.pos_to_offset(input.right_end()) {
-        return None;
-    }
-    let position = <Input::Position as PositionType>::new(offset);
-    input.peek_byte_right(position)
-}
-
-/// Whether surely no match can be reached from an address on, read forward, where this byte stands ahead, in each text that the
-/// program suits.
+/// Whether surely no match can be reached from an address on, read forward, where the character ahead begins with this byte, in
+/// each text that the program suits.
 ///
 /// ```rust
 /// let dead = is_dead_ahead(&program, 0, b'a');
 /// ```
 #[inline(always)]
 pub fn is_dead_ahead(program: &CompiledRegex, at: usize, byte: u8) -> bool
-    ensures { (v : View) (o : ℕ) → AreOfKind v.kind v.units → Suits (program_of program.now) v → Some byte ≡ in_bytes v.kind (unit_beside v.units ahead o) → result ≡ true
+    ensures { (v : View) (o : ℕ) → AreOfKind v.kind v.units → Suits (program_of program.now) v → Some byte ≡ lead_ahead v o → result ≡ true
         → IsDead (program_of program.now) (input_of v) ahead at o }
 {
     program.cannot_begin_with(at, byte)
@@ -90,7 +76,7 @@ pub fn is_dead<Input: InputIndexer>(
     if !forward {
         return is_dead_behind(program, input, at, offset);
     }
-    match next_byte(input, offset) {
+    match lead_ahead(input, offset) {
         Some(byte) => is_dead_ahead(program, at, byte),
         None => false,
     }

@@ -1,5 +1,5 @@
 -- What is known of the addresses of a program without running it.
-use Rattle.std.specs.Prelude.{◌≡◌, ◌==◌, ℕ, ◌+◌, ◌<◌, Bool, true, false, List, length, map, None, Some, slice_get}
+use Rattle.std.specs.Prelude.{◌≡◌, ◌==◌, ℕ, ◌+◌, ◌<◌, Bool, true, false, List, map, None, Some, slice_get}
 use Rattle.regress_meaning.specs.Inputs.{is_continuation}
 use Rattle.regress_front_bytes.specs.declared.bitmaps.ByteBitmap.{ByteBitmap}
 use Rattle.regress_engine_insn.specs.Instructions.{Instruction, LoopFields, Program, Stands, begins_loop}
@@ -60,9 +60,8 @@ IsSo program sets at Nothing = Unit {0}
 IsSo program sets at Possessive = AreApart sets (at + 1) (at + 2)
 IsSo program sets at (Turn t) = IsTurnAt program sets at t.begin t.again
 
--- Of the addresses of a program, from the first on, these facts are so. A program of units has none.
+-- Of the addresses of a program, from the first on, these facts are so.
 pub record ArePlanned (program : Program) (facts : List Facts) : Type 0 where
-  pub none : program.units ≡ true → length facts ≡ 0
   pub first : AreFirstBytes program (firsts facts)
   pub possessive : (at : ℕ) → known_of facts at ≡ Possessive → AreApart (firsts facts) (at + 1) (at + 2)
   pub turn : (at : ℕ) (t : turn.Turn) → known_of facts at ≡ Turn t → IsTurnAt program (firsts facts) at t.begin t.again

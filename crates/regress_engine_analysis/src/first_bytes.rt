@@ -1,5 +1,5 @@
 //! The bytes with which a match from each address may begin.
-ghost use Rattle.std.specs.Prelude.{◌≡◌, ◌+◌, ◌^◌, ℕ, ◌<◌, false, length, map, IfOk};
+ghost use Rattle.std.specs.Prelude.{◌≡◌, ◌+◌, ◌^◌, ℕ, Bool, ◌<◌, length, map, IfOk};
 ghost use Rattle.regress_front_bytes.specs.Bitmaps.{byte_bitmap_contains};
 ghost use Rattle.regress_engine_insn.specs.Instructions.{Program};
 ghost use Rattle.regress_engine_insn.specs.InsnViews.{instruction};
@@ -113,7 +113,7 @@ pub(crate) fn first_bytes_by_address(
     insns: &[Insn],
     brackets: &[BracketContents],
 ) -> Result<Vec<ByteBitmap>, AllocError>
-    ensures told { (loops groups : ℕ) → IfOk result (λ sets. AreFirstBytes (program_from insns.now brackets.now loops groups false) sets.items) }
+    ensures told { (loops groups : ℕ) (units : Bool) → IfOk result (λ sets. AreFirstBytes (program_from insns.now brackets.now loops groups units) sets.items) }
     ensures size { IfOk result (λ sets. length sets.items ≡ length insns.now) }
 {
     let mut sets = every_byte_times(alloc, insns.len())?;

@@ -11,7 +11,7 @@ use regress_engine_insn::Insn;
 use regress_front_nodes::BracketContents;
 use std::alloc::{AllocError, Global};
 
-/// What is known of each address of a program of bytes without running it; of a program of units nothing is.
+/// What is known of each address of a program without running it.
 #[derive(Debug, Drop)]
 pub struct Plan {
     facts: Vec<Facts>,
@@ -33,9 +33,6 @@ impl Plan {
         ensures { (loops groups : ℕ) → IfOk result (λ plan. ArePlanned (program_from insns.now brackets.now loops groups units) plan.facts.items) }
     {
         let mut facts = Vec::new(alloc);
-        if units {
-            return Ok(Plan { facts });
-        }
         let sets = first_bytes_by_address(alloc, insns, brackets)?;
         for at in 0..sets.len() {
             facts.push(Facts {

@@ -2,7 +2,7 @@
 use Rattle.std.specs.Prelude.{◌≡◌, ℕ, suc, ◌+◌, ◌-◌, ◌<◌, ◌≤◌, Bool, true, false, [], ◌∷◌, List, Option, Some, None, ◌⊎◌}
 use Rattle.regress_meaning.specs.Meaning.{Forward}
 use Rattle.regress_meaning.specs.Inputs.{Input}
-use Rattle.regress_engine_input.specs.Views.{View, direction_of, in_bytes, input_of, reading_of, unit_beside}
+use Rattle.regress_engine_input.specs.Views.{View, direction_of, input_of, reading_of}
 use Rattle.regress_engine_insn.specs.Instructions.{Instruction, Program, Stands}
 use Rattle.regress_engine_insn.specs.InsnViews.{instruction, fields}
 use Rattle.regress_engine_runs.specs.States.{Marks, Whole, first_state}
@@ -11,6 +11,7 @@ use Rattle.regress_engine_runs.specs.Meets.{reads_character, ReadsPlaces}
 use Rattle.regress_engine_runs.specs.UndoStack.{ReadOn, Undo, outermost, stands_for}
 use Rattle.regress_engine_search.specs.Tasks.{IsTried, ComesAs, Leads}
 use Rattle.regress_engine_singles.specs.Failing.{IsDead}
+use Rattle.regress_engine_singles.specs.Leads.{lead_ahead}
 use Rattle.regress_engine_singles.specs.Sparing.{IsTurn}
 use Rattle.regress_engine_singles.specs.declared.taken.Taken.{Taken}
 use Rattle.regress_engine_undo.specs.declared.undo.Spot.{Spot}
@@ -89,9 +90,9 @@ pub record IsPassed (w : World) (i body : Instruction) (forward : Bool) (left o 
   pub taken : (groups : List Marks) (k : ℕ) → o ≤ k → k < near → Some (suc k) ≡ advanced w body forward groups k
   pub none : (groups : List Marks) (k : ℕ) → o ≤ k → k < near → None ≡ advanced w i forward groups k
 
--- a byte stands ahead of an offset
+-- the character ahead of an offset begins with a byte
 abbrev pub StandsAhead : World → (byte o : ℕ) → Type 0
-StandsAhead w byte o = Some byte ≡ in_bytes w.view.kind (unit_beside w.view.units Forward o)
+StandsAhead w byte o = Some byte ≡ lead_ahead w.view o
 
 -- iterations that are one character of a class each begin at an address with two ways
 abbrev pub IsTurnAt : World → (at second : ℕ) → Turn → Type 0

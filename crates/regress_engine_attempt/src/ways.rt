@@ -7,13 +7,13 @@ ghost use Rattle.regress_engine_attempt.specs.Attempts.{world};
 ghost use Rattle.regress_engine_attempt.specs.Trying.{IsWayIn, StandsAhead};
 
 use crate::attempt::Attempt;
-use regress_engine_advance::{is_dead_ahead, is_dead_behind, next_byte};
+use regress_engine_advance::{is_dead_ahead, is_dead_behind, lead_ahead};
 use regress_engine_insn::Insn;
 use regress_engine_search::ExecutorInput;
 
 impl<'a, Input: ExecutorInput> Attempt<'a, Input> {
-    /// The address at which it continues from one, read forward, where this byte stands ahead: as long as one of two ways
-    /// surely leads nowhere, by the other.
+    /// The address at which it continues from one, read forward, where the character ahead begins with this byte: as long as one
+    /// of two ways surely leads nowhere, by the other.
     #[inline(always)]
     fn way_ahead(&self, start: usize, byte: u8) -> usize
         requires { Suits (program_of self.now.program.now) (Input.view self.now.input) }
@@ -51,7 +51,7 @@ impl<'a, Input: ExecutorInput> Attempt<'a, Input> {
         ensures { IsWayIn (world Input.view self.now) forward offset at result }
     {
         if forward {
-            return match next_byte(&self.input, offset) {
+            return match lead_ahead(&self.input, offset) {
                 Some(byte) => self.way_ahead(at, byte),
                 None => at,
             };

@@ -110,9 +110,9 @@ impl CompiledRegex {
         self.units
     }
 
-    /// Whether no match can be reached from an address on, read forward, where a byte stands ahead: in a program of bytes each thing
-    /// that is taken first from there on begins otherwise, as far as is told without going back to an earlier address. Of
-    /// `ab|[c-é]` at address 0 that holds of the byte `x`, and not of `0xC3`, with which `é` begins.
+    /// Whether no match can be reached from an address on, read forward, where the character ahead begins with a byte in UTF-8:
+    /// each thing that is taken first from there on begins otherwise, as far as is told without going back to an earlier
+    /// address. Of `ab|[c-é]` at address 0 that holds of the byte `x`, and not of `0xC3`, with which `é` begins.
     ///
     /// ```rust
     /// let nowhere = program.cannot_begin_with(0, b'x');
@@ -124,8 +124,7 @@ impl CompiledRegex {
         self.plan.cannot_begin_with(at, byte)
     }
 
-    /// What else is known of an address without running the program; nothing of one of units. Of `a*b` that is `Known::Possessive`
-    /// at address 0.
+    /// What else is known of an address without running the program. Of `a*b` that is `Known::Possessive` at address 0.
     ///
     /// ```rust
     /// let known = program.known(0);

@@ -69,9 +69,9 @@ pub(crate) fn utf16_right(units: &[u16], at: usize) -> Option<(u32, usize)>
 {
     if at < units.len() {
         let u = units[at];
-        if at + 1 < units.len() {
+        if is_high_unit(u) && at + 1 < units.len() {
             let v = units[at + 1];
-            if is_high_unit(u) && is_low_unit(v) {
+            if is_low_unit(v) {
                 Some((join(u, v), at + 2))
             } else {
                 Some((u32::from(u), at + 1))

@@ -1,7 +1,7 @@
 //! Whether a program leads nowhere from an address on, told by a few of its instructions.
-ghost use Rattle.std.specs.Prelude.{◌≡◌, ◌<◌, true, List, get_or, IfSome};
+ghost use Rattle.std.specs.Prelude.{◌≡◌, ◌<◌, true, List, get_or, nat_eq, IfSome};
 ghost use Rattle.regress_meaning.specs.Meaning.{Forward as ahead};
-ghost use Rattle.regress_meaning.specs.Steps.{literal};
+ghost use Rattle.regress_meaning.specs.Steps.{literal, passed};
 ghost use Rattle.regress_engine_insn.specs.InsnViews.{instruction};
 ghost use Rattle.regress_engine_code.specs.Standing.{program_of};
 ghost use Rattle.regress_engine_input.specs.Views.{are_bytes, input_of, reading_of, CanRead};
@@ -13,9 +13,10 @@ ghost use Rattle.regress_engine_search.specs.Search.{Suits};
 ghost use Rattle.regress_engine_singles.specs.Failing.{IsDead};
 ghost use Rattle.regress_engine_analysis.specs.Planned.{is_class};
 
-use regress_engine_advance::{ascii_bracket, bracket, bytes_beside, holds_at};
+use regress_engine_advance::{ascii_bracket, bracket, bytes_beside, holds_at, this_char};
 use regress_engine_analysis::is_class;
 use regress_engine_code::CompiledRegex;
+use regress_engine_input::InputIndexer;
 use regress_engine_insn::Insn;
 use regress_engine_matchers::CharInput;
 use regress_engine_singles::is_assertion;
@@ -52,9 +53,19 @@ fn byte_ahead<Input: CharInput>(input: &Input, offset: usize, byte: &[u8; 1]) ->
     bytes_beside(input, true, offset, byte)
 }
 
-/// Whether surely no match can be reached from an address and an offset on, read forward: bytes are taken there that don't
-/// stand, or a class that does not match, or what is asked of the offset is not so; before these may come ends and
-/// beginnings of groups, what is asked and is so, and characters of ASCII that stand there.
+/// The offset behind the character ahead of one, where that is the wanted one.
+#[inline]
+fn char_ahead<Input: InputIndexer>(input: &Input, offset: usize, wanted: u32) -> Option<usize>
+    requires { IsAtPlace (reading_of (Input.view input.now)) offset }
+    ensures stands { result ≡ passed (nat_eq wanted) ((input_of (Input.view input.now)).next ahead offset) }
+    ensures place { IfSome result (IsAtPlace (reading_of (Input.view input.now))) }
+{
+    this_char(input, true, offset, wanted)
+}
+
+/// Whether surely no match can be reached from an address and an offset on, read forward: bytes or a character are taken there
+/// that don't stand, or a class that does not match, or what is asked of the offset is not so; before these may come ends
+/// and beginnings of groups, what is asked and is so, and characters that stand there, as bytes those of ASCII.
 pub(crate) fn fails<Input: CharInput>(
     program: &CompiledRegex,
     input: &Input,
@@ -89,6 +100,10 @@ pub(crate) fn fails<Input: CharInput>(
                 None => true,
             }
         }
+        Insn::Char(c) => match char_ahead(input, offset, *c) {
+            Some(behind) => fails(program, input, left - 1, at + 1, behind),
+            None => true,
+        },
         _ => is_class(insn) && class_ahead(program, input, insn, offset).is_none(),
     }
 }

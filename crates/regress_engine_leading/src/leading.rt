@@ -181,9 +181,34 @@ fn passed_line<Input: CharInput>(
     }
 }
 
+/// How far from the start on each character begins with a byte in UTF-8 with which no match may begin.
+#[inline(always)]
+fn passed_leads<Input: CharInput>(
+    program: &CompiledRegex,
+    input: &Input,
+    start: usize,
+) -> Option<usize>
+    requires suits { Suits (program_of program.now) (Input.view input.now) }
+    requires place { IsAtPlace (reading_of (Input.view input.now)) start }
+    ensures { IfSome result (PassesOver (program_of program.now) (Input.view input.now) start) }
+{
+    let mut at = start;
+    'places: loop {
+        if !is_dead(program, input, 0, true, at) {
+            break;
+        }
+        let Some((_, behind)) = beside(input, true, at) else {
+            break;
+        };
+        at = behind;
+    }
+    (start < at).then_some(at)
+}
+
 /// What is known of the start without a run: how far no run has an answer, where no match can be reached from behind the run of
-/// characters or the one character that the program begins with, or from an offset of which it asks something first; or
-/// that a run is behind the `\b` that it begins with.
+/// characters or the one character that the program begins with, or from an offset of which it asks something first; over
+/// units also where no character begins as a match may, for which there is often no start predicate; or that a run is behind
+/// the `\b` that the program begins with.
 ///
 /// Asks that the program suits the text, and that the offset is that of a place of the text.
 ///
@@ -198,6 +223,11 @@ pub fn known_at<Input: CharInput>(program: &CompiledRegex, input: &Input, start:
     let insns = program.insns();
     if insns.is_empty() {
         return Beginning::At(0);
+    }
+    if input.units().is_some() {
+        if let Some(past) = passed_leads(program, input, start) {
+            return Beginning::Passed(past);
+        }
     }
     match &insns[0] {
         Insn::BeginCaptureGroup(_) => Beginning::of(passed_from(program, input, start, 1)),

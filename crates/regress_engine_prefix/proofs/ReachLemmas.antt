@@ -3,7 +3,7 @@ use Rattle.std.proofs.Common.{◌≡◌, ℕ, zero, suc, ◌+◌, ◌<◌, ◌�
 use Rattle.std.specs.Prelude.{encode_utf8, ◌/◌, ◌%◌, nat_lt}
 use Rattle.std.specs.List.{list_all, flat_map}
 use Rattle.std.proofs.Math.Utf8.{encode}
-use Rattle.std.proofs.lemmas.Bool.{leb-true, eqb-true, false≢true}
+use Rattle.std.proofs.lemmas.Bool.{leb-true, ltb-true, lt-ltb, eqb-true, false≢true}
 use Rattle.std.proofs.Math.Seq.{drop-append_seam}
 use Rattle.std.proofs.lemmas.List.{take-append-drop, take_more, map-append, length-append, append-nil}
 use Rattle.std.proofs.lemmas.List.Folds.{list_all-append}
@@ -22,12 +22,12 @@ use Rattle.regress_front_nodes.proofs.SequenceLemmas.{cat_of-append}
 use Rattle.regress_front_nodes.proofs.StepLemmas.{flat_map-self}
 use Rattle.regress_front_sets.proofs.FirstByteLemmas.{lead}
 use Rattle.regress_engine_prefix.proofs.LeadLemmas.{has-lead}
-use Rattle.regress_engine_scanning.proofs.LandmarkLemmas.{is-byte, byte-is}
+use Rattle.regress_engine_scanning.proofs.LandmarkLemmas.{is-byte, byte-is, both-parts}
 use Rattle.regress_engine_prefix.proofs.PrefixLemmas.{Foretells-no_part}
 use Rattle.regress_engine_prefix.specs.Prefixes.{Foretells}
 use Rattle.regress_engine_prefix.specs.declared.prefix.Prefix.TheVariants.{Still, Bytes, First}
 use Rattle.regress_engine_scanning.specs.Landmarks.{run_then}
-use Rattle.regress_engine_prefix.specs.Reaches.{Takes, TakesNothing, CoversOne, StandsAt, HoldsTo, IsBoth, Reaches, TakesOne}
+use Rattle.regress_engine_prefix.specs.Reaches.{AreLowTo, Takes, TakesNothing, CoversOne, StandsAt, HoldsTo, IsBoth, Reaches, TakesOne}
 use Rattle.regress_engine_scanning.specs.declared.landmark.Landmark.TheVariants.{Ahead, BehindRun}
 use Rattle.regress_engine_prefix.specs.declared.reach.Span.{Span}
 use Rattle.regress_engine_prefix.specs.declared.reach.Reach.{Reach}
@@ -123,22 +123,24 @@ pub whole-text : (text : List ℕ) (place : ℕ) → encode_utf8_all text ≡ en
 whole-text text place = ap encode_utf8_all (sym (take-append-drop place text)) ∙ encodes-append (take place text) (drop place text)
 
 -- the byte so many bytes behind a place
-ahead-at : (text : List ℕ) (place distance : ℕ)
+pub ahead-at : (text : List ℕ) (place distance : ℕ)
     → slice_get (encode_utf8_all text) (length (encode_utf8_all (take place text)) + distance) ≡ slice_get (encode_utf8_all (drop place text)) distance
 ahead-at text place distance =
     let front = encode_utf8_all (take place text) in
     ap (λ xs. slice_get xs (length front + distance)) (whole-text text place) ∙ front-get front (encode_utf8_all (drop place text)) distance
 
 -- the bytes from a place on
-rest-at : (text : List ℕ) (place : ℕ) → drop (length (encode_utf8_all (take place text))) (encode_utf8_all text) ≡ encode_utf8_all (drop place text)
+pub rest-at : (text : List ℕ) (place : ℕ) → drop (length (encode_utf8_all (take place text))) (encode_utf8_all text) ≡ encode_utf8_all (drop place text)
 rest-at text place =
     let front = encode_utf8_all (take place text) in
     ap (drop (length front)) (whole-text text place) ∙ drop-append_seam front (encode_utf8_all (drop place text))
 
 pub Reaches-bytes : (front : Vec ℕ Global) (byte : ℕ) (t : Tree) → slice_get front.items 0 ≡ Some byte → Foretells (Bytes front) t → Reaches (By (Ahead 0 byte)) t
 Reaches-bytes front byte t begins told = record {
-  each = λ context valid s k d h.
-      is-byte _ byte (ahead-at context.text s.place 0 ∙ first front.items (encode_utf8_all (drop s.place context.text)) begins (told.each context valid s k d h));
+  each = λ context valid s k d h. (
+    is-byte _ byte (ahead-at context.text s.place 0 ∙ first front.items (encode_utf8_all (drop s.place context.text)) begins (told.each context valid s k d h)),
+    All-nil (λ c. c < 0x80),
+  );
 }
   where
     first : (xs ys : List ℕ) → slice_get xs 0 ≡ Some byte → take (length xs) ys ≡ xs → slice_get ys 0 ≡ Some byte
@@ -180,6 +182,7 @@ Takes-both first second both text mid rest one other sum exact a b =
           ∙ rw (all-wider _ _ (encode_utf8_all a.front) one a.run) (all-wider _ _ (encode_utf8_all b.front) other b.run);
       least = let l = a.least in let m = b.least in omega (arith, size, l, m, sum);
       exact = λ e. let (p, q, all) = exact e in let l = a.exact p in let m = b.exact q in omega (arith, size, l, m, all);
+      low = λ e. let (p, q, all) = exact e in All-append (λ c. c < 0x80) a.front b.front (a.low p) (b.low q);
     }
 
 -- a byte behind what is exactly so long
@@ -191,6 +194,30 @@ Stands-over span distance far byte text place mid exact sum taken here =
     let there = byte-is _ byte here in
     is-byte _ byte (ahead-at text place far ∙ ap (λ xs. slice_get xs far) (taken-bytes span (drop place text) (drop mid text) taken) ∙ ap (slice_get (front ++ encode_utf8_all (drop mid text))) size
     ∙ front-get front (encode_utf8_all (drop mid text)) distance ∙ sym (ahead-at text mid distance) ∙ there)
+
+-- characters of ASCII are as many bytes
+low-size : (cs : List ℕ) → All (λ c. c < 0x80) cs → length (encode_utf8_all cs) ≡ length cs
+low-size [] low = refl
+low-size (c ∷ cs) low =
+    let one : length (encode_utf8 c) ≡ 1 = ap length (encode_ascii c (All-head (λ d. d < 0x80) c cs low)) in
+    let rest = low-size cs (All-tail (λ d. d < 0x80) c cs low) in
+    let both = length-append (encode_utf8 c) (encode_utf8_all cs) in
+    omega (arith, one, rest, both)
+
+-- what is taken of a text, and what stands in front behind it
+take-over : (xs ys : List ℕ) (n : ℕ) → take (length xs + n) (xs ++ ys) ≡ xs ++ take n ys
+take-over [] ys n = let e : 0 + n ≡ n = omega arith in ap (λ m. take m ys) e
+take-over (x ∷ xs) ys n = let e : suc (length xs) + n ≡ suc (length xs + n) = omega arith in ap (λ m. take m (x ∷ (xs ++ ys))) e ∙ ap (λ r. x ∷ r) (take-over xs ys n)
+
+-- So ASCII alone stands in front of a byte behind what is exactly so long.
+pub Low-over : (span : Span) (distance far byte : ℕ) (text : List ℕ) (place mid : ℕ) → span.exact ≡ true → far ≡ span.least + distance
+    → Takes span (drop place text) (drop mid text) → AreLowTo (Ahead distance byte) (drop mid text) → AreLowTo (Ahead far byte) (drop place text)
+Low-over span distance far byte text place mid exact sum taken behind =
+    let low = taken.low exact in
+    let size : far ≡ length taken.front + distance = let e = taken.exact exact in let l = low-size taken.front low in omega (arith, e, l, sum) in
+    let is : take far (drop place text) ≡ taken.front ++ take distance (drop mid text) =
+    ap (take far) taken.cut ∙ ap (λ n. take n (taken.front ++ drop mid text)) size ∙ take-over taken.front (drop mid text) distance in
+    subst (All (λ c. c < 0x80)) (sym is) (All-append (λ c. c < 0x80) taken.front (take distance (drop mid text)) low behind)
 
 -- bytes that pass and then a byte that does not
 run-found : (run : ℕ → Bool) (byte : ℕ) (xs ys : List ℕ) → run byte ≡ false → 0 < length xs → list_all run xs ≡ true → slice_get ys 0 ≡ Some byte → run_then run byte (xs ++ ys) ≡ true
@@ -331,7 +358,14 @@ pub Reaches-many : (each more : Span) (t : Tree) (least most : ℕ) (greedy : Bo
 unfolding node_outcomes
 Reaches-many each more t least most greedy run none free h = record {
   each = λ context valid s. iterated context.text (node_outcomes context t Forward) each more
-      (λ text. record { front = []; cut = refl; run = refl; least = omega (arith, none); exact = λ e. absurd (false≢true (sym free ∙ e)) })
+      (λ text. record {
+        front = [];
+        cut = refl;
+        run = refl;
+        least = omega (arith, none);
+        exact = λ e. absurd (false≢true (sym free ∙ e));
+        low = λ e. absurd (false≢true (sym free ∙ e));
+      })
       (λ a b c one other. Takes-both each more more a b c (λ x e. rw run e) (λ x e. e) (omega (arith, none)) (λ e. absurd (false≢true (sym free ∙ e))) one other)
       (h.each context valid) greedy most least s;
 }
@@ -370,6 +404,41 @@ lead-passes c first h = sym (ap (λ (o : Option ℕ). is_some_and o first) (has-
 pub one-char : (c : ℕ) → encode_utf8_all (c ∷ []) ≡ encode_utf8 c
 one-char c = append-nil (encode_utf8 c)
 
+-- characters take bytes
+small-bytes : (cs : List ℕ) → All is_code_point cs → list_all (λ b. nat_lt b 256) (encode_utf8_all cs) ≡ true
+small-bytes [] all = refl
+small-bytes (c ∷ cs) all =
+    let one : list_all (λ b. nat_lt b 256) (encode_utf8 c) ≡ true =
+    all-bytes (λ b. nat_lt b 256) (λ b above below. lt-ltb b 256 (omega (arith, below))) c (lt-ltb (lead c) 256 (small-lead c (All-head is_code_point c cs all))) in
+    list_all-append (λ b. nat_lt b 256) (encode_utf8 c) (encode_utf8_all cs) ∙ rw one (small-bytes cs (All-tail is_code_point c cs all))
+
+-- where each byte that passes one test passes the other
+run-wider : (p q : ℕ → Bool) (byte : ℕ) (xs : List ℕ) → ((b : ℕ) → b < 256 → p b ≡ true → q b ≡ true) → list_all (λ b. nat_lt b 256) xs ≡ true
+    → run_then p byte xs ≡ true → run_then q byte xs ≡ true
+run-wider p q byte [] wider small e = e
+run-wider p q byte (x ∷ xs) wider small e =
+    let parts = both-parts (not (nat_eq byte x) && p x) (is_some_and (slice_get xs 0) (nat_eq byte) || run_then p byte xs) e in
+    let first = both-parts (not (nat_eq byte x)) (p x) parts.0 in
+    let low = both-parts (nat_lt x 256) (list_all (λ b. nat_lt b 256) xs) small in
+    rw (first.0, wider x (ltb-true x 256 low.0) first.1) (either (is_some_and (slice_get xs 0) (nat_eq byte)) (run-wider p q byte xs wider low.1) parts.1)
+  where
+    either : (a : Bool) → (run_then p byte xs ≡ true → run_then q byte xs ≡ true) → (a || run_then p byte xs) ≡ true → (a || run_then q byte xs) ≡ true
+    either true on e = refl
+    either false on e = on e
+
+pub Reaches-run : (run low : ByteBitmap) (byte : ℕ) (t : Tree) → ((b : ℕ) → b < 256 → byte_bitmap_contains run b ≡ true → byte_bitmap_contains low b ≡ true)
+    → Reaches (By (BehindRun run byte)) t → Reaches (By (BehindRun low byte)) t
+Reaches-run run low byte t wider h = record {
+  each = λ context valid s k d inside.
+      let there = (h.each context valid s k d inside).0 in
+      let rest = rest-at context.text s.place in (
+        ap (run_then (byte_bitmap_contains low) byte) rest
+        ∙ run-wider (byte_bitmap_contains run) (byte_bitmap_contains low) byte (encode_utf8_all (drop s.place context.text)) wider
+        (small-bytes (drop s.place context.text) (All-drop is_code_point s.place context.text valid)) (ap (run_then (byte_bitmap_contains run) byte) (sym rest) ∙ there),
+        tt,
+      );
+}
+
 pub CoversOne-ascii : (first : ℕ → Bool) (span : Span) → ((b : ℕ) → b < 256 → first b ≡ true → b < 0x80)
     → ((b : ℕ) → first b ≡ true → byte_bitmap_contains span.run b ≡ true) → span.least ≡ 1 → CoversOne first span
 CoversOne-ascii first span low within one c rest point h =
@@ -385,6 +454,7 @@ CoversOne-ascii first span low within one c rest point h =
       run = ap (list_all (byte_bitmap_contains span.run)) bytes ∙ rw (within c (ap first (sym equal) ∙ begins)) refl;
       least = let e = ap length bytes in omega (arith, e, one);
       exact = λ e. ap length bytes ∙ sym one;
+      low = λ e. All-cons (λ d. d < 0x80) c [] small (All-nil (λ d. d < 0x80));
     }
 
 pub CoversOne-more : (first : ℕ → Bool) (span : Span) → ((b : ℕ) → first b ≡ true → byte_bitmap_contains span.run b ≡ true)
@@ -396,6 +466,7 @@ CoversOne-more first span within others one free c rest point h =
       run = ap (list_all (byte_bitmap_contains span.run)) (one-char c) ∙ all-bytes (byte_bitmap_contains span.run) others c (within (lead c) (lead-passes c first h));
       least = let e = ap length (one-char c) in let l = length-encode c in let b = (len_utf8_bounds c).0 in omega (arith, e, l, b, one);
       exact = λ e. absurd (false≢true (sym free ∙ e));
+      low = λ e. absurd (false≢true (sym free ∙ e));
     }
 
 -- ---- sets of two, and what is exact of two

@@ -3,7 +3,7 @@ use Rattle.std.proofs.Common.{◌≡◌, ℕ, Bool, List, take, drop, length, re
 use Rattle.regress_meaning.specs.Text.{holds}
 use Rattle.regress_front_nodes.specs.Trees.{Tree}
 use Rattle.regress_engine_scanning.specs.Units.{AreAscii}
-use Rattle.regress_engine_prefix.specs.Starts.{BeginsAs, is_arbitrary, HoldsAtStart, IsPlain, Serves, IsSameStart}
+use Rattle.regress_engine_prefix.specs.Starts.{AreNear, BeginsAs, is_arbitrary, HoldsAtStart, IsPlain, Serves, IsSameStart}
 use Rattle.regress_engine_prefix.specs.declared.start.StartPredicate.{StartPredicate}
 use Rattle.regress_engine_prefix.specs.declared.start.StartPredicate.TheVariants.{Arbitrary, ByteSet1, ByteSet2, ByteSet3, ByteSeq, ByteBracket, ByteNear, StartAnchored}
 use Rattle.regress_engine_prefix.specs.declared.start.StartPredicate.TheVariants as variant
@@ -15,6 +15,7 @@ pub record SayTheSame (start other : StartPredicate) : Type 0 where
   pub kept : is_arbitrary other ≡ is_arbitrary start
   pub plain : IsPlain start → IsPlain other
   pub first : (t : Tree) → HoldsAtStart t start → HoldsAtStart t other
+  pub near : (points : List ℕ) → AreNear start points → AreNear other points
 
 one-says : (start other : StartPredicate) → other ≡ start → SayTheSame start other
 one-says start other e = record {
@@ -23,6 +24,7 @@ one-says start other e = record {
   kept = ap is_arbitrary e;
   plain = subst IsPlain (sym e);
   first = λ t. subst (HoldsAtStart t) (sym e);
+  near = λ points. subst (λ p. AreNear p points) (sym e);
 }
 
 pub same-says : (start other : StartPredicate) → IsSameStart start other → SayTheSame start other
@@ -32,6 +34,7 @@ same-says (ByteSeq front) (ByteSeq others) e = record {
   kept = refl;
   plain = subst (λ f. AreAscii (holds f)) (sym e);
   first = λ t h. tt;
+  near = λ points h. tt;
 }
 same-says (ByteSeq front) Arbitrary e = absurd e
 same-says (ByteSeq front) (ByteSet1 _) e = absurd e
@@ -61,5 +64,8 @@ copy-serves units t start other same serves =
       boundary = λ known bytes utf8 at begins. serves.boundary (sym says.kept ∙ known) bytes utf8 at (says.back bytes at begins);
       first = says.first t serves.first;
       plain = λ is. says.plain (serves.plain is);
-      characters = λ is. record { each = λ context points s some. says.on _ 0 ((serves.characters is).each context points s some) };
+      characters = λ is. record {
+        each = λ context points s some. says.on _ 0 ((serves.characters is).each context points s some);
+        near = λ context points s some. says.near _ ((serves.characters is).near context points s some);
+      };
     }

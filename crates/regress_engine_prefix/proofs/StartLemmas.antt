@@ -1,5 +1,5 @@
 -- What start predicates say of texts.
-use Rattle.std.proofs.Common.{◌≡◌, ◌≢◌, ℕ, zero, suc, ◌<◌, ◌≤◌, ◌||◌, Bool, true, false, List, [], ◌∷◌, ◌++◌, length, take, drop, get_or, slice_get, Option, Some, None, IfSome, All, cond, filter, refl, sym, ap, subst, ◌∙◌, inl, inr, arith}
+use Rattle.std.proofs.Common.{◌≡◌, ◌≢◌, ℕ, zero, suc, ◌<◌, ◌≤◌, ◌+◌, ◌||◌, Bool, true, false, List, [], ◌∷◌, ◌++◌, length, take, drop, get_or, slice_get, nat_eq, Option, Some, None, IfSome, All, cond, filter, refl, sym, ap, subst, ◌∙◌, inl, inr, arith}
 use Rattle.std.specs.Prelude.{◌==◌}
 use Rattle.std.specs.List.{range_with_len}
 use Rattle.std.specs.Str.{chars, encode_utf8_all, IsUtf8, IsCharBoundary}
@@ -20,12 +20,15 @@ use Rattle.regress_front_bytes.proofs.TextLemmas.{length-encodes, chars-code_poi
 use Rattle.regress_engine_prefix.specs.FirstBytes.{MayLead}
 use Rattle.regress_engine_prefix.specs.Prefixes.{Holds, HoldsFrom, first_literal, HasBytes, Foretells}
 use Rattle.regress_front_bytes.specs.declared.bitmaps.ByteBitmap.{ByteBitmap}
-use Rattle.regress_engine_scanning.specs.Landmarks.{stands}
-use Rattle.regress_engine_prefix.specs.Reaches.{StandsAt, Reaches}
+use Rattle.regress_front_bytes.specs.Bitmaps.{byte_bitmap_contains}
+use Rattle.regress_engine_scanning.specs.Landmarks.{run_then, stands}
+use Rattle.regress_engine_prefix.specs.Reaches.{AreLowTo, StandsAt, Reaches}
 use Rattle.regress_engine_scanning.specs.declared.landmark.Landmark.{Landmark}
+use Rattle.regress_engine_scanning.specs.declared.landmark.Landmark.TheVariants.{Ahead, BehindRun}
 use Rattle.regress_engine_prefix.specs.declared.reach.Reach.TheVariants.{By}
 use Rattle.regress_engine_scanning.proofs.LandmarkLemmas.{begins-parts, begins-both}
-use Rattle.regress_engine_prefix.specs.Starts.{SaysNoMore, HitsBoundaries, IsAnchoredOnlyIf, IsAtStart, HoldsAtStart, IsSequence, KeepsSequence, KeepsLiteral, IsStartOf}
+use Rattle.regress_engine_prefix.proofs.ReachLemmas.{ahead-at, rest-at}
+use Rattle.regress_engine_prefix.specs.Starts.{BeginsCharacters, SaysNoMore, HitsBoundaries, IsAnchoredOnlyIf, IsAtStart, HoldsAtStart, IsSequence, KeepsSequence, KeepsLiteral, IsStartOf}
 use Rattle.regress_engine_prefix.specs.declared.prefix.Prefix.{Prefix}
 use Rattle.regress_engine_prefix.specs.declared.start.StartPredicate.{StartPredicate}
 use Rattle.regress_engine_prefix.specs.declared.prefix.Prefix.TheVariants.{Still, Unknown, Start, Bytes, First, Pair}
@@ -197,9 +200,10 @@ keeps-literal start prefix t keeps told = go (first_literal t) told.spelled
 
 -- ---- a byte that stands by
 
-some-stands : (landmark : Landmark) (text : List ℕ) (s : State) (us : List State) → us ≢ [] → All (λ (u : State). StandsAt landmark text s.place) us → StandsAt landmark text s.place
+some-stands : (landmark : Landmark) (text : List ℕ) (s : State) (us : List State) → us ≢ []
+    → All (λ (u : State). StandsAt landmark text s.place × AreLowTo landmark (drop s.place text)) us → StandsAt landmark text s.place × AreLowTo landmark (drop s.place text)
 some-stands landmark text s [] some h = absurd (some refl)
-some-stands landmark text s (u ∷ us) some h = All-head (λ (v : State). StandsAt landmark text s.place) u us h
+some-stands landmark text s (u ∷ us) some h = All-head (λ (v : State). StandsAt landmark text s.place × AreLowTo landmark (drop s.place text)) u us h
 
 -- what stands by a place stands by its offset
 place-stands : (landmark : Landmark) (bytes : List ℕ) → IsUtf8 bytes → (p : ℕ) → StandsAt landmark (chars bytes) p → stands landmark bytes (offset (of_utf8 bytes) p) ≡ true
@@ -214,8 +218,25 @@ near-start set landmark t start reach = record {
       let points = subst (All (λ c. c ≤ 0x10_FFFF)) (sym same) (chars-code_points bytes utf8) in
       let held = some-stands landmark context.text s (node_outcomes context t Forward s) some (reach.each context points s) in
       begins-both set landmark bytes (offset (of_utf8 bytes) s.place) (start.each bytes utf8 context same s some)
-      (place-stands landmark bytes utf8 s.place (subst (λ text. StandsAt landmark text s.place) same held));
+      (place-stands landmark bytes utf8 s.place (subst (λ text. StandsAt landmark text s.place) same held.0));
 }
 
 pub near-boundary : (set : ByteBitmap) (landmark : Landmark) → HitsBoundaries (ByteBracket set) → HitsBoundaries (ByteNear set landmark)
 near-boundary set landmark h known bytes utf8 at begins = h refl bytes utf8 at (begins-parts set landmark bytes at begins).0
+
+-- ---- the same of characters
+
+-- what stands by a place stands by the start of the bytes from there on
+place-front : (landmark : Landmark) (text : List ℕ) (place : ℕ) → StandsAt landmark text place → stands landmark (encode_utf8_all (drop place text)) 0 ≡ true
+place-front (Ahead distance byte) text place h =
+    let none : 0 + distance ≡ distance = omega arith in
+    ap (λ n. is_some_and (slice_get (encode_utf8_all (drop place text)) n) (nat_eq byte)) none ∙ ap (λ o. is_some_and o (nat_eq byte)) (sym (ahead-at text place distance)) ∙ h
+place-front (BehindRun run byte) text place h = ap (run_then (byte_bitmap_contains run) byte) (sym (rest-at text place)) ∙ h
+
+pub near-characters : (set : ByteBitmap) (landmark : Landmark) (t : Tree) → BeginsCharacters (ByteBracket set) t → Reaches (By landmark) t → BeginsCharacters (ByteNear set landmark) t
+near-characters set landmark t begins reach = record {
+  each = λ context points s some.
+      let held = some-stands landmark context.text s (node_outcomes context t Forward s) some (reach.each context points s) in
+      begins-both set landmark (encode_utf8_all (drop s.place context.text)) 0 (begins.each context points s some) (place-front landmark context.text s.place held.0);
+  near = λ context points s some. (some-stands landmark context.text s (node_outcomes context t Forward s) some (reach.each context points s)).1;
+}

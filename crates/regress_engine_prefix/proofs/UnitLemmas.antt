@@ -1,9 +1,10 @@
 -- What start predicates say of 16-bit units, where each byte that they tell is below 0x80.
-use Rattle.std.proofs.Common.{◌≡◌, ◌⊎◌, inl, inr, ℕ, suc, ◌+◌, ◌<◌, ◌≤◌, Bool, true, List, [], ◌∷◌, ◌++◌, length, take, drop, slice_get, Option, Some, None, IfSome, All, encode_utf8_all, refl, sym, ap, ◌∙◌, subst, arith, drop-cons}
+use Rattle.std.proofs.Common.{◌≡◌, ◌⊎◌, inl, inr, ℕ, zero, suc, ◌+◌, ◌<◌, ◌≤◌, Bool, true, false, not, ◌&&◌, ◌||◌, List, [], ◌∷◌, ◌++◌, length, take, drop, slice_get, nat_eq, Option, Some, None, IfSome, All, encode_utf8_all, refl, sym, ap, ◌∙◌, subst, arith, drop-cons}
 use Rattle.std.specs.Prelude.{encode_utf8}
 use Rattle.std.specs.Str.{IsCharBoundary}
+use Rattle.std.proofs.lemmas.Bool.{eqb-true}
 use Rattle.std.proofs.lemmas.Option.{slice_get_within, get_or_from_slice_get}
-use Rattle.std.proofs.lemmas.List.Elements.{All-head, All-drop}
+use Rattle.std.proofs.lemmas.List.Elements.{All-head, All-tail, All-drop}
 use Rattle.std.proofs.lemmas.Str.{encode_ascii, IsUtf8-from_ascii}
 use Rattle.regress_meaning.specs.TableParts.{is_code_point}
 use Rattle.regress_meaning.specs.Text.{holds}
@@ -12,26 +13,46 @@ use Rattle.regress_front_sets.proofs.FirstByteLemmas.{lead}
 use Rattle.regress_front_nodes.specs.Trees.{Tree}
 use Rattle.regress_front_nodes.specs.TreeMeaning.{node_outcomes}
 use Rattle.regress_engine_prefix.specs.Prefixes.{first_literal, HasBytes, Foretells}
+use Rattle.regress_front_bytes.specs.Bitmaps.{byte_bitmap_contains}
+use Rattle.regress_engine_scanning.specs.Landmarks.{IsLow, run_then, stands}
+use Rattle.regress_engine_scanning.specs.declared.landmark.Landmark.{Landmark}
+use Rattle.regress_engine_scanning.specs.declared.landmark.Landmark.TheVariants.{Ahead, BehindRun}
+use Rattle.regress_engine_scanning.proofs.LandmarkLemmas.{begins-parts, begins-both, both-parts}
+use Rattle.regress_engine_prefix.specs.Reaches.{AreLowTo}
 use Rattle.regress_engine_scanning.specs.Units.{AreAscii}
-use Rattle.regress_engine_prefix.specs.Starts.{BeginsAs, SaysNoMore, HitsBoundaries, tells_bytes, IsSequence, KeepsSequence, IsPlain, KeepsAscii, BeginsCharacters}
+use Rattle.regress_engine_prefix.specs.Starts.{AreNear, tells_landmark, BeginsAs, SaysNoMore, HitsBoundaries, tells_bytes, IsSequence, KeepsSequence, IsPlain, KeepsAscii, BeginsCharacters}
 use Rattle.regress_engine_prefix.specs.declared.prefix.Prefix.{Prefix}
 use Rattle.regress_engine_prefix.specs.declared.start.StartPredicate.{StartPredicate}
 use Rattle.regress_engine_prefix.specs.declared.start.StartPredicate.TheVariants.{Arbitrary, ByteSet1, ByteSet2, ByteSet3, ByteSeq, ByteBracket, ByteNear, StartAnchored}
 use Rattle.regress_engine_prefix.specs.declared.start.StartPredicate.TheVariants as variant
 use Rattle.regress_engine_scanning.proofs.AsciiLemmas.{first-held, rest-held}
 use Rattle.regress_engine_prefix.proofs.LeadLemmas.{has-lead}
-use Rattle.regress_engine_prefix.proofs.ReachLemmas.{low-lead}
+use Rattle.regress_engine_prefix.proofs.ReachLemmas.{in-right, low-lead}
 use Rattle.regress_engine_scanning.proofs.ByteLemmas.{slice_get-behind, drop-behind}
 use Rattle.regress_engine_prefix.proofs.StartLemmas.{some-holds, front-first}
 
 -- ---- from prefixes to characters
 
+-- where no landmark is told nothing is told of characters up to its byte
+no-landmark : (start : StartPredicate) → tells_landmark start ≡ false → (points : List ℕ) → AreNear start points
+no-landmark Arbitrary none points = tt
+no-landmark (ByteSet1 set) none points = tt
+no-landmark (ByteSet2 set) none points = tt
+no-landmark (ByteSet3 set) none points = tt
+no-landmark (ByteSeq front) none points = tt
+no-landmark (ByteBracket set) none points = tt
+no-landmark (ByteNear set landmark) none points = absurd (cc none)
+no-landmark (variant.BytePair pair) none points = tt
+no-landmark (variant.WordStart word) none points = tt
+no-landmark StartAnchored none points = tt
+
 -- what is foretold of a tree is so of the characters of each text
-pub begins-characters : (start : StartPredicate) (prefix : Prefix) (t : Tree) → SaysNoMore start prefix → Foretells prefix t → BeginsCharacters start t
-begins-characters start prefix t says told = record {
+pub begins-characters : (start : StartPredicate) (prefix : Prefix) (t : Tree) → SaysNoMore start prefix → Foretells prefix t → tells_landmark start ≡ false → BeginsCharacters start t
+begins-characters start prefix t says told none = record {
   each = λ context points s some.
       let held = some-holds prefix context s (node_outcomes context t Forward s) some (told.each context points s) in
       says s.place (encode_utf8_all (drop s.place context.text)) 0 held.0 (λ e. refl) held.1;
+  near = λ context points s some. no-landmark start none (drop s.place context.text);
 }
 
 -- what holds of a predicate and of the one that says nothing holds of either
@@ -130,18 +151,99 @@ module _ (points units : List ℕ) (at : ℕ → ℕ) (valid : All is_code_point
           let ends : take (length front) (drop (suc (at p)) units) ≡ front = ap (λ n. take (length front) (drop n units)) (sym unit.1) ∙ rests in
           ap (take (length (f ∷ front))) cut ∙ ap (λ (xs : List ℕ). c ∷ xs) ends ∙ ap (λ x. x ∷ front) same
 
+  -- a byte below 0x80 behind so many characters below 0x80 stands behind so many units
+  far-units : (byte : ℕ) → byte < 0x80 → (distance p : ℕ) → All (λ c. c < 0x80) (take distance (drop p points))
+      → is_some_and (slice_get (encode_utf8_all (drop p points)) distance) (nat_eq byte) ≡ true → is_some_and (slice_get units (at p + distance)) (nat_eq byte) ≡ true
+  far-units byte small zero p low e =
+      let none : at p + 0 ≡ at p = omega arith in
+      ap (λ o. is_some_and (slice_get units o) (nat_eq byte)) none ∙ test-units (nat_eq byte) (λ b is. let same = eqb-true byte b is in omega (arith, small, same)) p e
+  far-units byte small (suc distance) p low e = by_rest (far-units byte small distance (suc p)) (drop p points) refl low e
+    where
+      by_rest : (All (λ c. c < 0x80) (take distance (drop (suc p) points)) → is_some_and (slice_get (encode_utf8_all (drop (suc p) points)) distance) (nat_eq byte) ≡ true
+          → is_some_and (slice_get units (at (suc p) + distance)) (nat_eq byte) ≡ true)
+          → (cs : List ℕ) → drop p points ≡ cs → All (λ c. c < 0x80) (take (suc distance) cs) → is_some_and (slice_get (encode_utf8_all cs) (suc distance)) (nat_eq byte) ≡ true
+          → is_some_and (slice_get units (at p + suc distance)) (nat_eq byte) ≡ true
+      by_rest on [] rest all is = absurd (cc)
+      by_rest on (c ∷ cs) rest all is =
+          let first : c < 0x80 = All-head (λ d. d < 0x80) c (take distance cs) all in
+          let whole : encode_utf8_all (c ∷ cs) ≡ c ∷ encode_utf8_all cs = ap (λ (xs : List ℕ). xs ++ encode_utf8_all cs) (encode_ascii c first) in
+          let next : p + 1 ≡ suc p = omega arith in
+          let behind : drop (suc p) points ≡ cs = ap (λ n. drop n points) (sym next) ∙ sym (drop-behind points p 1) ∙ ap (drop 1) rest in
+          let unit = reads p c (here p c cs rest) first in
+          let more = on (subst (λ (xs : List ℕ). All (λ d. d < 0x80) (take distance xs)) (sym behind) (All-tail (λ d. d < 0x80) c (take distance cs) all))
+          (ap (λ (xs : List ℕ). is_some_and (slice_get (encode_utf8_all xs) distance) (nat_eq byte)) behind
+          ∙ sym (ap (λ (xs : List ℕ). is_some_and (slice_get xs (suc distance)) (nat_eq byte)) whole) ∙ is) in
+          let same : at p + suc distance ≡ at (suc p) + distance = let e = unit.1 in omega (arith, e) in
+          ap (λ o. is_some_and (slice_get units o) (nat_eq byte)) same ∙ more
+
+  -- bytes below 0x80 of a run, and behind them one that is none of them
+  run-units : (run : ℕ → Bool) → AreAscii run → (byte : ℕ) → byte < 0x80 → (cs : List ℕ) (p : ℕ) → drop p points ≡ cs → run_then run byte (encode_utf8_all cs) ≡ true
+      → run_then run byte (drop (at p) units) ≡ true
+  run-units run low byte small [] p rest e = absurd (cc)
+  run-units run low byte small (c ∷ cs) p rest e = by_first (run-units run low byte small cs (suc p)) (encode_utf8_all (c ∷ cs)) refl e
+    where
+      point : is_code_point c
+      point = All-head is_code_point c cs (subst (All is_code_point) rest (All-drop is_code_point p points valid))
+
+      by_parts : (b : ℕ) (bs : List ℕ) → run_then run byte (b ∷ bs) ≡ true → run b ≡ true
+      by_parts b bs is = (both-parts (not (nat_eq byte b)) (run b) (both-parts (not (nat_eq byte b) && run b) (is_some_and (slice_get bs 0) (nat_eq byte) || run_then run byte bs) is).0).1
+
+      by_first : (drop (suc p) points ≡ cs → run_then run byte (encode_utf8_all cs) ≡ true → run_then run byte (drop (at (suc p)) units) ≡ true)
+          → (bytes : List ℕ) → encode_utf8_all (c ∷ cs) ≡ bytes → run_then run byte bytes ≡ true → run_then run byte (drop (at p) units) ≡ true
+      by_first on [] is f = absurd (cc)
+      by_first on (b ∷ bs) is f =
+          let begins : slice_get (encode_utf8_all (c ∷ cs)) 0 ≡ Some b = ap (λ (xs : List ℕ). slice_get xs 0) is in
+          let below : b < 0x80 = low b (by_parts b bs f) in
+          let (same, whole) = low-first c cs b point begins below in
+          let unit = reads p c (here p c cs rest) (omega (arith, same, below)) in
+          let room = slice_get_within units (at p) c unit.0 in
+          let value = get_or_from_slice_get units (at p) c 0 unit.0 in
+          let cut : drop (at p) units ≡ c ∷ drop (at (suc p)) units =
+          drop-cons units (at p) 0 room ∙ ap (λ x. x ∷ drop (suc (at p)) units) value ∙ ap (λ n. c ∷ drop n units) (sym unit.1) in
+          let next : p + 1 ≡ suc p = omega arith in
+          let behind : drop (suc p) points ≡ cs = ap (λ n. drop n points) (sym next) ∙ sym (drop-behind points p 1) ∙ ap (drop 1) rest in
+          ap (run_then run byte) cut ∙ by_next behind (ap (run_then run byte) (sym whole) ∙ ap (run_then run byte) is ∙ f)
+        where
+          by_next : drop (suc p) points ≡ cs → run_then run byte (c ∷ encode_utf8_all cs) ≡ true → run_then run byte (c ∷ drop (at (suc p)) units) ≡ true
+          by_next behind g =
+              let parts = both-parts (not (nat_eq byte c) && run c) (is_some_and (slice_get (encode_utf8_all cs) 0) (nat_eq byte) || run_then run byte (encode_utf8_all cs)) g in
+              rw (parts.0, by_either (is_some_and (slice_get (encode_utf8_all cs) 0) (nat_eq byte)) refl parts.1) refl
+            where
+              ends : is_some_and (slice_get (encode_utf8_all cs) 0) (nat_eq byte) ≡ true → is_some_and (slice_get (drop (at (suc p)) units) 0) (nat_eq byte) ≡ true
+              ends is =
+                  let none : at (suc p) + 0 ≡ at (suc p) = omega arith in
+                  ap (λ o. is_some_and o (nat_eq byte)) (slice_get-behind units (at (suc p)) 0 ∙ ap (slice_get units) none)
+                  ∙ test-units (nat_eq byte) (λ b is. let same = eqb-true byte b is in omega (arith, small, same)) (suc p)
+                  (ap (λ (xs : List ℕ). is_some_and (slice_get (encode_utf8_all xs) 0) (nat_eq byte)) behind ∙ is)
+
+              by_either : (t : Bool) → is_some_and (slice_get (encode_utf8_all cs) 0) (nat_eq byte) ≡ t → (t || run_then run byte (encode_utf8_all cs)) ≡ true
+                  → (is_some_and (slice_get (drop (at (suc p)) units) 0) (nat_eq byte) || run_then run byte (drop (at (suc p)) units)) ≡ true
+              by_either true is more = rw (ends is) refl
+              by_either false is more = in-right (is_some_and (slice_get (drop (at (suc p)) units) 0) (nat_eq byte)) (run_then run byte (drop (at (suc p)) units)) _ refl (on behind more)
+
+  -- the byte of a landmark
+  near-units : (landmark : Landmark) → IsLow landmark → (p : ℕ) → AreLowTo landmark (drop p points) → stands landmark (encode_utf8_all (drop p points)) 0 ≡ true
+      → stands landmark units (at p) ≡ true
+  near-units (Ahead distance byte) small p low e =
+      let none : 0 + distance ≡ distance = omega arith in
+      far-units byte small distance p low (ap (λ n. is_some_and (slice_get (encode_utf8_all (drop p points)) n) (nat_eq byte)) (sym none) ∙ e)
+  near-units (BehindRun run byte) small p low e = run-units (byte_bitmap_contains run) small.0 byte small.1 (drop p points) p refl e
+
   -- where characters begin so, the units do
-  pub units-begin : (start : StartPredicate) → IsPlain start → tells_bytes start ≡ true → (p : ℕ) → BeginsAs start (encode_utf8_all (drop p points)) 0 → BeginsAs start units (at p)
-  units-begin (ByteSet1 set) plain told p e = test-units (holds set) plain p e
-  units-begin (ByteSet2 set) plain told p e = test-units (holds set) plain p e
-  units-begin (ByteSet3 set) plain told p e = test-units (holds set) plain p e
-  units-begin (ByteSeq front) plain told p e = front-units front.items plain p e
-  units-begin (ByteBracket set) plain told p e = test-units _ plain p e
-  units-begin (ByteNear set landmark) plain told p e = absurd plain
-  units-begin (variant.BytePair pair) plain told p e = absurd plain
-  units-begin (variant.WordStart word) plain told p e = absurd plain
-  units-begin Arbitrary plain told p e = absurd (cc)
-  units-begin StartAnchored plain told p e = absurd (cc)
+  pub units-begin : (start : StartPredicate) → IsPlain start → tells_bytes start ≡ true → (p : ℕ) → AreNear start (drop p points) → BeginsAs start (encode_utf8_all (drop p points)) 0
+      → BeginsAs start units (at p)
+  units-begin (ByteSet1 set) plain told p near e = test-units (holds set) plain p e
+  units-begin (ByteSet2 set) plain told p near e = test-units (holds set) plain p e
+  units-begin (ByteSet3 set) plain told p near e = test-units (holds set) plain p e
+  units-begin (ByteSeq front) plain told p near e = front-units front.items plain p e
+  units-begin (ByteBracket set) plain told p near e = test-units _ plain p e
+  units-begin (ByteNear set landmark) plain told p near e =
+      let (first, by) = begins-parts set landmark (encode_utf8_all (drop p points)) 0 e in
+      begins-both set landmark units (at p) (test-units _ plain.0 p first) (near-units landmark plain.1 p near by)
+  units-begin (variant.BytePair pair) plain told p near e = absurd plain
+  units-begin (variant.WordStart word) plain told p near e = absurd plain
+  units-begin Arbitrary plain told p near e = absurd (cc)
+  units-begin StartAnchored plain told p near e = absurd (cc)
 
 -- ---- where units begin so
 
@@ -174,7 +276,7 @@ low-hit (ByteSet3 set) plain cuts told units o e = test-low (holds set) plain un
 low-hit (ByteSeq front) plain cuts told units o e =
     front-low front.items plain (some-front front.items (λ at. cuts refl [] (IsUtf8-from_ascii [] (λ i. omega arith)) at)) units o e
 low-hit (ByteBracket set) plain cuts told units o e = test-low _ plain units o e
-low-hit (ByteNear set landmark) plain cuts told units o e = absurd plain
+low-hit (ByteNear set landmark) plain cuts told units o e = test-low _ plain.0 units o (begins-parts set landmark units o e).0
 low-hit (variant.BytePair pair) plain cuts told units o e = absurd plain
 low-hit (variant.WordStart word) plain cuts told units o e = absurd plain
 low-hit Arbitrary plain cuts told units o e = absurd (cc)

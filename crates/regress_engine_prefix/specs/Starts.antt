@@ -11,8 +11,9 @@ use Rattle.regress_front_nodes.specs.TreeMeaning.{node_outcomes}
 use Rattle.regress_engine_scanning.specs.Units.{AreAscii}
 use Rattle.regress_engine_scanning.specs.BytePairs.{begins_pair}
 use Rattle.regress_engine_prefix.specs.FirstBytes.{MayLead}
-use Rattle.regress_engine_scanning.specs.Landmarks.{begins_by}
+use Rattle.regress_engine_scanning.specs.Landmarks.{IsLow, begins_by}
 use Rattle.regress_engine_scanning.specs.WordStarts.{begins_word}
+use Rattle.regress_engine_prefix.specs.Reaches.{AreLowTo}
 use Rattle.regress_engine_prefix.specs.Prefixes.{Holds, first_literal, HasBytes}
 use Rattle.regress_engine_prefix.specs.declared.prefix.Prefix.{Prefix}
 use Rattle.regress_engine_prefix.specs.declared.prefix.Prefix.TheVariants.{Start}
@@ -86,7 +87,7 @@ tells_bytes Arbitrary = false
 tells_bytes StartAnchored = false
 tells_bytes _ = true
 
--- each byte that it tells is below 0x80, and it tells no landmark, no pair and no word: so it may be told of 16-bit units too
+-- each byte that it tells is below 0x80, and it tells no pair and no word: so it may be told of 16-bit units too
 abbrev pub IsPlain : StartPredicate → Type 0
 IsPlain Arbitrary = Unit {0}
 IsPlain (ByteSet1 set) = AreAscii (holds set)
@@ -94,7 +95,7 @@ IsPlain (ByteSet2 set) = AreAscii (holds set)
 IsPlain (ByteSet3 set) = AreAscii (holds set)
 IsPlain (ByteSeq front) = AreAscii (holds front.items)
 IsPlain (ByteBracket set) = AreAscii (byte_bitmap_contains set)
-IsPlain (ByteNear set landmark) = ⊥
+IsPlain (ByteNear set landmark) = AreAscii (byte_bitmap_contains set) × IsLow landmark
 IsPlain (variant.BytePair pair) = ⊥
 IsPlain (variant.WordStart word) = ⊥
 IsPlain StartAnchored = Unit {0}
@@ -108,10 +109,23 @@ TellsLeads _ = Unit {0}
 abbrev pub KeepsAscii : Tree → StartPredicate → Type 0
 KeepsAscii t start = IfSome (first_literal t) (λ bs. 2 ≤ length bs → AreAscii (holds bs) → IsSequence start bs)
 
--- In each text of code points the bytes of the characters from a place on begin so, wherever the tree has an outcome.
+-- up to where the byte of a landmark stands there are characters below 0x80 alone, where so many are told
+abbrev pub AreNear : StartPredicate → List ℕ → Type 0
+AreNear (ByteNear set landmark) points = AreLowTo landmark points
+AreNear _ points = Unit {0}
+
+-- it tells a landmark
+abbrev pub tells_landmark : StartPredicate → Bool
+tells_landmark (ByteNear set landmark) = true
+tells_landmark _ = false
+
+-- In each text of code points the bytes of the characters from a place on begin so, wherever the tree has an outcome; a byte so
+-- far on is so many characters on.
 pub record BeginsCharacters (start : StartPredicate) (t : Tree) : Type 0 where
   pub each : (context : Context) → All is_code_point context.text → (s : State) → node_outcomes context t Forward s ≢ []
       → BeginsAs start (encode_utf8_all (drop s.place context.text)) 0
+  pub near : (context : Context) → All is_code_point context.text → (s : State) → node_outcomes context t Forward s ≢ []
+      → AreNear start (drop s.place context.text)
 
 -- A start predicate serves a tree, for a program of bytes or of units: the bytes begin so wherever the tree has an outcome, only
 -- where a character begins or the text ends they begin so, and for units it is plain, and characters begin so.

@@ -6,7 +6,7 @@ ghost use Rattle.regress_engine_prefix.specs.Prefiltering.{IsNextHit, is_anchore
 use crate::start::StartPredicate;
 use memchr::memmem::Finder;
 use regress_engine_scanning::{
-    find_byte_of, find_member, find_near, find_one, find_sequence, find_three, find_two,
+    find_byte_of, find_member, find_near, find_near_units, find_one, find_sequence, find_three, find_two,
 };
 use regress_front_bytes::ByteSearcher;
 
@@ -104,8 +104,10 @@ impl<'r> Prefilter<'r> {
             StartPredicate::ByteSet3(set) => find_member(set, text, offset),
             StartPredicate::ByteSeq(bytes) => find_sequence(bytes, text, offset),
             StartPredicate::ByteBracket(set) => find_byte_of(set, text, offset),
+            StartPredicate::ByteNear(set, landmark) => {
+                find_near_units(set, *landmark, text, offset)
+            }
             StartPredicate::Arbitrary
-            | StartPredicate::ByteNear(..)
             | StartPredicate::BytePair(_)
             | StartPredicate::WordStart(_) => Some(offset),
         }

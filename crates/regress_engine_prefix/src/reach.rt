@@ -3,6 +3,8 @@ ghost use Rattle.std.specs.Prelude.{◌≡◌, ◌<◌, ◌≤◌, ℕ, true, fa
 ghost use Rattle.regress_front_bytes.specs.Bitmaps.{byte_bitmap_contains};
 ghost use Rattle.regress_front_nodes.specs.Trees.{Tree, tree, cat_of, single_loop};
 ghost use Rattle.regress_front_nodes.specs.Forms.{is_leaf};
+ghost use Rattle.regress_engine_scanning.specs.Landmarks.{IsLow};
+ghost use Rattle.regress_engine_scanning.specs.Units.{AreAscii};
 ghost use Rattle.regress_engine_prefix.specs.Prefixes.{IsLawful, Foretells};
 ghost use Rattle.regress_engine_prefix.specs.Reaches.{CoversOne, TakesNothing, IsBoth, Reaches};
 
@@ -230,5 +232,49 @@ pub(crate) fn landmark_of(alloc: Global, node: &Node) -> Result<Option<Landmark>
     match reach_of(alloc, node)? {
         Reach::By(landmark) if is_rare(landmark) => Ok(Some(landmark)),
         _ => Ok(None),
+    }
+}
+
+/// A set of the same bytes, where each is below 0x80.
+fn ascii_of(set: ByteBitmap) -> Option<ByteBitmap>
+    ensures low { IfSome result (λ low. AreAscii (byte_bitmap_contains low)) }
+    ensures kept { IfSome result (λ low. (b : ℕ) → b < 256 → byte_bitmap_contains set b ≡ true → byte_bitmap_contains low b ≡ true) }
+{
+    if is_beyond_ascii(&set) {
+        return None;
+    }
+    let mut low = ByteBitmap::default();
+    for byte in 0..0x80 {
+        if set.contains(byte) {
+            low.set(byte);
+        }
+    }
+    Some(low)
+}
+
+/// What tells the same, where each byte that a landmark tells is below 0x80.
+fn low_landmark(landmark: Landmark) -> Option<Landmark>
+    ensures low { IfSome result IsLow }
+    ensures reaches { (t : Tree) → Reaches (Reach.By landmark) t → IfSome result (λ low. Reaches (Reach.By low) t) }
+{
+    match landmark {
+        Landmark::Ahead { byte, .. } if byte < 0x80 => Some(landmark),
+        Landmark::BehindRun { run, byte } if byte < 0x80 => Some(Landmark::BehindRun {
+            run: ascii_of(run)?,
+            byte,
+        }),
+        _ => None,
+    }
+}
+
+/// A rare byte that stands by each match of a node, where one is known and each byte that is told is below 0x80.
+pub(crate) fn low_landmark_of(alloc: Global, node: &Node) -> Result<Option<Landmark>, AllocError>
+    requires { IsLawful (tree node.now) }
+    ensures low { IfOk result (λ found. IfSome found IsLow) }
+    ensures reaches { IfOk result (λ found. IfSome found (λ landmark. Reaches (Reach.By landmark) (tree node.now))) }
+{
+    match landmark_of(alloc, node)? {
+        Some(landmark) => Ok(low_landmark(landmark)),
+        None => Ok(None),
     }
 }

@@ -6,10 +6,10 @@ ghost use Rattle.regress_front_nodes.specs.WellFormed.{IsWellFormed};
 ghost use Rattle.regress_engine_prefix.specs.Prefixes.{IsLawful, LeadsCharacters};
 ghost use Rattle.regress_engine_prefix.specs.Choosing.{TellsPair, IsOrPair, IsOrWord};
 ghost use Rattle.regress_engine_scanning.specs.Units.{AreAscii};
-ghost use Rattle.regress_engine_prefix.specs.Starts.{IsStartOf, SaysNoMore, HitsBoundaries, IsAnchoredOnlyIf, IsAtStart, HoldsAtStart, KeepsSequence, KeepsLiteral, IsSameStart, IsPlain, TellsLeads, KeepsAscii, BeginsCharacters};
+ghost use Rattle.regress_engine_prefix.specs.Starts.{IsStartOf, SaysNoMore, HitsBoundaries, IsAnchoredOnlyIf, IsAtStart, HoldsAtStart, KeepsSequence, KeepsLiteral, IsSameStart, IsPlain, TellsLeads, KeepsAscii, BeginsCharacters, tells_landmark};
 
 use crate::prefix::{Prefix, prefix_of};
-use crate::reach::landmark_of;
+use crate::reach::{landmark_of, low_landmark_of};
 use crate::words::word_start_of;
 use regress_engine_scanning::{
     BytePair, Landmark, NibbleSet, WordStart, are_ascii, is_beyond_ascii,
@@ -70,9 +70,10 @@ impl StartPredicate {
         })
     }
 
-    /// Whether each byte that it tells is below 0x80, and it tells no landmark.
+    /// Whether each byte that it tells is below 0x80. Asks that it tells no landmark.
     fn is_plain(&self) -> bool
-        requires { TellsLeads self.now }
+        requires leads { TellsLeads self.now }
+        requires near { tells_landmark self.now ≡ false }
         ensures { IsTrue result ↔ IsPlain self.now }
     {
         match self {
@@ -88,9 +89,11 @@ impl StartPredicate {
         }
     }
 
-    /// What says the same of 16-bit units: the predicate itself where it is plain, else `Arbitrary`.
+    /// What says the same of 16-bit units: the predicate itself where it is plain, else `Arbitrary`. Asks that it tells no
+    /// landmark.
     fn for_units(self) -> StartPredicate
-        requires { TellsLeads self }
+        requires leads { TellsLeads self }
+        requires near { tells_landmark self ≡ false }
         ensures plain { IsPlain result }
         ensures kept { IsPlain self → result ≡ self }
         ensures either { (result ≡ self) ⊎ (result ≡ StartPredicate.Arbitrary) }
@@ -110,6 +113,7 @@ fn of_set(set: ByteBitmap) -> StartPredicate
     ensures begins { SaysNoMore result (Prefix.First set) }
     ensures boundary { HitsBoundaries result }
     ensures anchored { IsAnchoredOnlyIf ⊥ result }
+    ensures near { tells_landmark result ≡ false }
 {
     match set.count_bits() {
         0 => StartPredicate::Arbitrary,
@@ -129,6 +133,7 @@ fn of_prefix(prefix: Prefix, multiline: bool) -> StartPredicate
     ensures anchored { IsAnchoredOnlyIf (multiline ≡ false) result }
     ensures start { IsAnchoredOnlyIf (IsAtStart prefix) result }
     ensures sequence { KeepsSequence prefix result }
+    ensures near { tells_landmark result ≡ false }
 {
     match prefix {
         Prefix::Start if !multiline => StartPredicate::StartAnchored,
@@ -208,6 +213,35 @@ fn with_landmark(
     }
 }
 
+/// The same plain predicate, or of the bytes of a set those by which a byte stands that stands by each match, where all of these
+/// are below 0x80.
+fn with_low_landmark(
+    alloc: Global,
+    node: &Node,
+    start: StartPredicate,
+) -> Result<StartPredicate, AllocError>
+    requires lawful { IsLawful (tree node.now) }
+    requires plain { IsPlain start }
+    requires characters { BeginsCharacters start (tree node.now) }
+    requires begins { IsStartOf start (tree node.now) }
+    requires boundary { HitsBoundaries start }
+    ensures plain { IfOk result IsPlain }
+    ensures characters { IfOk result (λ near. BeginsCharacters near (tree node.now)) }
+    ensures begins { IfOk result (λ near. IsStartOf near (tree node.now)) }
+    ensures boundary { IfOk result HitsBoundaries }
+    ensures literal { KeepsAscii (tree node.now) start → IfOk result (KeepsAscii (tree node.now)) }
+    ensures anchored { (multiline : Bool) → IsAnchoredOnlyIf (multiline ≡ false) start → IfOk result (IsAnchoredOnlyIf (multiline ≡ false)) }
+    ensures first { HoldsAtStart (tree node.now) start → IfOk result (HoldsAtStart (tree node.now)) }
+{
+    let StartPredicate::ByteBracket(set) = start else {
+        return Ok(start);
+    };
+    match low_landmark_of(alloc, node)? {
+        Some(landmark) => Ok(StartPredicate::ByteNear(set, landmark)),
+        None => Ok(StartPredicate::ByteBracket(set)),
+    }
+}
+
 /// The same predicate, or of the bytes of a set or a pair those at which a word begins.
 fn with_word(start: StartPredicate, word: Option<WordStart>) -> StartPredicate
     ensures { IsOrWord start word result }
@@ -253,9 +287,9 @@ pub fn predicate_for_re(alloc: Global, regex: &Regex) -> Result<StartPredicate, 
 /// What the 16-bit units begin with wherever a match of the tree begins, as `predicate_for_re` tells it of bytes.
 ///
 /// It is plain: each byte that it tells is below 0x80, and stands for the unit of the same number, which is a character by itself
-/// in UTF-16 and in UCS-2. In each text, at each place from which the tree has an outcome, the characters begin so; and a literal
-/// of two or more such bytes with which the tree begins is a `ByteSeq`. Where nothing is told by such bytes it is `Arbitrary`. Asks
-/// for a well-formed tree, and errs with `OutOfMemory` alone.
+/// in UTF-16 and in UCS-2; up to the byte of a landmark stand such characters alone. In each text, at each place from which the tree
+/// has an outcome, the characters begin so; and a literal of two or more such bytes with which the tree begins is a `ByteSeq`. Where
+/// nothing is told by such bytes it is `Arbitrary`. Asks for a well-formed tree, and errs with `OutOfMemory` alone.
 ///
 /// ```rust
 /// let start = predicate_for_units(alloc, &regex)?; // of `abc` the `ByteSeq` of `abc`, of `é` `Arbitrary`
@@ -272,5 +306,6 @@ pub fn predicate_for_units(alloc: Global, regex: &Regex) -> Result<StartPredicat
     ensures refused { IfErr result (λ e. e ≡ Error.OutOfMemory) }
 {
     let prefix = prefix_of(alloc, &regex.node)?;
-    Ok(of_prefix(prefix, regex.flags.multiline).for_units())
+    let start = of_prefix(prefix, regex.flags.multiline).for_units();
+    Ok(with_low_landmark(alloc, &regex.node, start)?)
 }

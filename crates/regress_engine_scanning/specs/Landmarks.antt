@@ -1,8 +1,9 @@
 -- A byte that stands by an offset.
-use Rattle.std.specs.Prelude.{ℕ, ◌+◌, Bool, false, not, ◌&&◌, ◌||◌, nat_eq, List, [], ◌∷◌, drop, slice_get}
+use Rattle.std.specs.Prelude.{ℕ, ◌+◌, ◌<◌, Bool, false, not, ◌&&◌, ◌||◌, nat_eq, List, [], ◌∷◌, drop, slice_get}
 use Rattle.regress_meaning.specs.Meaning.{is_some_and}
 use Rattle.regress_front_bytes.specs.declared.bitmaps.ByteBitmap.{ByteBitmap}
 use Rattle.regress_front_bytes.specs.Bitmaps.{byte_bitmap_contains}
+use Rattle.regress_engine_scanning.specs.Units.{AreAscii}
 use Rattle.regress_engine_scanning.specs.declared.landmark.Landmark.{Landmark}
 use Rattle.regress_engine_scanning.specs.declared.landmark.Landmark.TheVariants.{Ahead, BehindRun}
 
@@ -19,3 +20,8 @@ stands (BehindRun run byte) bytes at = run_then (byte_bitmap_contains run) byte 
 -- a byte of a set stands at an offset, and the byte of the landmark by it
 abbrev pub begins_by : ByteBitmap → Landmark → List ℕ → ℕ → Bool
 begins_by set landmark bytes at = is_some_and (slice_get bytes at) (byte_bitmap_contains set) && stands landmark bytes at
+
+-- each byte that a landmark tells is below 0x80
+abbrev pub IsLow : Landmark → Type 0
+IsLow (Ahead distance byte) = byte < 0x80
+IsLow (BehindRun run byte) = AreAscii (byte_bitmap_contains run) × (byte < 0x80)

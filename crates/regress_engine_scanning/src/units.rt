@@ -117,7 +117,7 @@ pub fn find_member<Set: UnitSet>(set: &Set, units: &[u16], from: usize) -> Optio
 
 /// Whether a unit is a byte of a set, all of whose bytes are below 0x80.
 #[inline(always)]
-fn is_byte_of(set: &ByteBitmap, unit: u16) -> bool
+pub(crate) fn is_byte_of(set: &ByteBitmap, unit: u16) -> bool
     requires { AreAscii (byte_bitmap_contains set.now) }
     ensures { result ≡ byte_bitmap_contains set.now unit }
 {

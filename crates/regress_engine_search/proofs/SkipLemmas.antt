@@ -102,7 +102,7 @@ module _ (t : Tree) (start : StartPredicate) (table : Table) (unicode units : Bo
       by_bytes : (b : Bool) → tells_bytes start ≡ b → BeginsAs start held (offset (reading_of_kind kind held) s.place)
       by_bytes true e =
           units-begin (reading_of_kind kind held).points held (λ p. offset (reading_of_kind kind held) p) points (low-read kind held all are) start (serves.plain is) e s.place
-          ((serves.characters is).each _ points s some)
+          ((serves.characters is).near _ points s some) ((serves.characters is).each _ points s some)
       by_bytes false e = without_bytes start e serves.first (reading_of_kind kind held) _ points s some held
 
   pub outcomes-begin : (kind : Kind) (bytes : List ℕ) → AreOfKind kind bytes → are_bytes kind ≡ not units → (s : State) → s.place ≤ length (reading_of_kind kind bytes).points

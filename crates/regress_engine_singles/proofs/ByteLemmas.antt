@@ -1,6 +1,6 @@
 -- When bytes don't stand where an instruction takes a character.
 use Rattle.std.specs.Prelude.{IfSome, slice_get, slice_index, slice_range, get_or, nat_lt, option_map, if◌then◌else◌}
-use Rattle.std.proofs.Common.{◌≡◌, ℕ, suc, ◌+◌, ◌<◌, ◌≤◌, Bool, true, false, not, ◌==◌, List, [], ◌∷◌, ◌++◌, length, drop, Option, Some, None, ◌⊎◌, inl, inr, refl, sym, ap, ◌∙◌, subst, arith}
+use Rattle.std.proofs.Common.{◌≡◌, ℕ, suc, ◌+◌, ◌<◌, ◌≤◌, Bool, true, false, not, ◌&&◌, ◌==◌, List, [], ◌∷◌, ◌++◌, length, drop, Option, Some, None, ◌⊎◌, inl, inr, refl, sym, ap, ◌∙◌, subst, arith}
 use Rattle.std.specs.Option.{option_eq}
 use Rattle.std.proofs.lemmas.Bool.{eq-eqb, eqb-false, ltb-true}
 use Rattle.std.proofs.lemmas.Bool.Decides.{nat_tests}
@@ -12,7 +12,8 @@ use Rattle.regress_front_bytes.specs.ByteSets.{members}
 use Rattle.regress_engine_insn.proofs.BitmapLemmas.{holds-members}
 use Rattle.regress_meaning.specs.Meaning.{Forward}
 use Rattle.regress_meaning.specs.Table.{Table}
-use Rattle.regress_meaning.specs.Inputs.{Input, onto_right, bytes_right, byte_at}
+use Rattle.regress_meaning.specs.Tokens.{is_high, is_low, joined}
+use Rattle.regress_meaning.specs.Inputs.{Input, onto_right, bytes_right, byte_at, pair_right}
 use Rattle.regress_meaning.specs.Steps.{passed, literal}
 use Rattle.regress_engine_input.specs.Views.{View, Kind, utf8, ascii, utf16, ucs2, AreOfKind, are_bytes, input_of, input_of_kind, reading_of, in_bytes, unit_beside}
 use Rattle.regress_engine_input.proofs.Standing.{right-split}
@@ -78,24 +79,30 @@ other-there v b rest o other = other-first (input_of v) (b ∷ rest) o (omega ar
 low-right : (b x y z : ℕ) → nat_lt b 0x80 ≡ true → bytes_right b x y z ≡ (b, 1)
 low-right b x y z e = rw e refl
 
--- a byte of ASCII that stands at an offset is the character ahead
-pub unit-next : (kind : Kind) (table : Table) (unicode : Bool) (units : List ℕ) (b o : ℕ) → are_bytes kind ≡ true → b < 0x80 → slice_get units o ≡ Some b
+-- nor is it half of a pair
+low-pair : (o b : ℕ) (v : Option ℕ) → b < 0x80 → pair_right o b v ≡ (b, suc o)
+low-pair o b None low = refl
+low-pair o b (Some v) low =
+    let half : is_high b ≡ false = grind (arith, nat_tests) in ap (λ t. if t && is_low v then (joined b v, suc (suc o)) else (b, suc o)) half
+
+-- a byte of ASCII, or a unit of the same number, that stands at an offset is the character ahead
+pub unit-next : (kind : Kind) (table : Table) (unicode : Bool) (units : List ℕ) (b o : ℕ) → b < 0x80 → slice_get units o ≡ Some b
     → (input_of_kind kind table unicode units).next Forward o ≡ Some (b, suc o)
-unit-next utf8 table unicode units b o are low here =
+unit-next utf8 table unicode units b o low here =
     let one : o + 1 ≡ suc o = omega arith in
     let small : nat_lt b 0x80 ≡ true = grind (arith, nat_tests) in
     ap (λ (x : Option ℕ). option_map (λ w. onto_right o (bytes_right w (byte_at units (o + 1)) (byte_at units (o + 2)) (byte_at units (o + 3)))) x) here
     ∙ ap (λ x. Some (onto_right o x)) (low-right b (byte_at units (o + 1)) (byte_at units (o + 2)) (byte_at units (o + 3)) small)
     ∙ ap (λ p. Some (b, p)) one
-unit-next ascii table unicode units b o are low here = ap (option_map (λ c. (c, suc o))) here
-unit-next utf16 table unicode units b o are low here = absurd cc
-unit-next ucs2 table unicode units b o are low here = absurd cc
+unit-next ascii table unicode units b o low here = ap (option_map (λ c. (c, suc o))) here
+unit-next utf16 table unicode units b o low here = ap (option_map (λ u. pair_right o u (slice_get units (suc o)))) here ∙ ap Some (low-pair o b (slice_get units (suc o)) low)
+unit-next ucs2 table unicode units b o low here = ap (option_map (λ c. (c, suc o))) here
 
 -- So the first of bytes that stand there is, where it is one of ASCII.
 pub byte-next : (kind : Kind) (table : Table) (unicode : Bool) (units bs : List ℕ) (b o q : ℕ) → are_bytes kind ≡ true → b < 0x80
     → literal (input_of_kind kind table unicode units) Forward (b ∷ bs) o ≡ Some q → (input_of_kind kind table unicode units).next Forward o ≡ Some (b, suc o)
-byte-next utf8 table unicode units bs b o q are low e = unit-next utf8 table unicode units b o are low (first-unit units bs b o q e)
-byte-next ascii table unicode units bs b o q are low e = unit-next ascii table unicode units b o are low (first-unit units bs b o q e)
+byte-next utf8 table unicode units bs b o q are low e = unit-next utf8 table unicode units b o low (first-unit units bs b o q e)
+byte-next ascii table unicode units bs b o q are low e = unit-next ascii table unicode units b o low (first-unit units bs b o q e)
 byte-next utf16 table unicode units bs b o q are low e = absurd cc
 byte-next ucs2 table unicode units bs b o q are low e = absurd cc
 

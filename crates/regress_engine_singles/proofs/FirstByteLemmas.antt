@@ -12,8 +12,7 @@ use Rattle.regress_meaning.specs.Steps.{passed, only_if, begins_line, ends_line,
 use Rattle.regress_front_nodes.specs.TreeMeaning.{bracket_has}
 use Rattle.regress_front_nodes.proofs.EmptyBrackets.{some_below-fails}
 use Rattle.regress_front_nodes.specs.Trees.{atomic}
-use Rattle.regress_engine_input.specs.Views.{View, AreOfKind, are_bytes, input_of, in_bytes, unit_beside}
-use Rattle.regress_engine_matchers.proofs.ByteLemmas.{in-bytes}
+use Rattle.regress_engine_input.specs.Views.{View, AreOfKind, input_of}
 use Rattle.regress_engine_insn.specs.Instructions.{LoopFields, Instruction, Program, Stands}
 use Rattle.regress_engine_insn.specs.Instructions as code
 use Rattle.regress_engine_runs.specs.States.{Marks}
@@ -26,7 +25,8 @@ use Rattle.regress_engine_analysis.specs.MayBegin.{leads, may_lead, behind, begi
 use Rattle.regress_engine_singles.specs.Failing.{IsDead, TakesNothing}
 use Rattle.regress_engine_singles.specs.Taking.{is_taking}
 use Rattle.regress_engine_singles.proofs.ByteLemmas.{other-first, units-are}
-use Rattle.regress_engine_singles.proofs.LeadLemmas.{some-ahead, next-begins}
+use Rattle.regress_engine_singles.specs.Leads.{lead_ahead}
+use Rattle.regress_engine_singles.proofs.LeadAheadLemmas.{lead-begins, lead-byte, lead-some}
 use Rattle.regress_engine_singles.proofs.DeadLemmas.{simple-dead, taken-dead, jump-dead, alt-dead, enter-dead, atomic-dead, begin-dead, end-dead, reset-dead, loop-dead, left-dead}
 
 -- a character fails that begins with a byte with which none begins that passes
@@ -55,52 +55,49 @@ pub takes-taking : (i : Instruction) → takes_character i ≡ true → is_takin
 takes-taking (code.byte_seq bs) takes = refl
 takes-taking _ takes = takes
 
-module _ (program : Program) (v : View) (all : AreOfKind v.kind v.units) (are : are_bytes v.kind ≡ true) (may : ℕ → ℕ → Bool) (o b : ℕ) (is : Some b ≡ in_bytes v.kind (unit_beside v.units Forward o)) where
+module _ (program : Program) (v : View) (all : AreOfKind v.kind v.units) (suits : Suits program v) (may : ℕ → ℕ → Bool) (o b : ℕ) (is : Some b ≡ lead_ahead v o) where
   abbrev input : Input
   input = input_of v
-
-  -- the byte stands there
-  here-is : Some b ≡ slice_get v.units o
-  here-is = is ∙ in-bytes v.kind (slice_get v.units o) are
 
   -- a test passes nothing where no character that passes begins with the byte
   fails-next : (test : ℕ → Bool) → may_lead test b ≡ false → None ≡ passed test (input.next Forward o)
   fails-next test e =
       let (none, lead) = or_parts (leads test b) (is_continuation b) e in
-      let (c, q, next, point, begins) = next-begins v are all o b (sym here-is) lead in
+      let (c, q, next, point, begins) = lead-begins v all o b is lead in
       let fails : test c ≡ false = leads-fail test c b none point begins in
       ap (λ t. if t then Some q else None) (sym fails) ∙ ap (passed test) (sym next)
 
   -- no line ends where it stands, unless line terminators begin with it
   no-line_end : (multiline : Bool) → (multiline && may_lead is_line_end b) ≡ false → ends_line input multiline o ≡ false
-  no-line_end false e = ap (λ t. not t || false) (some-ahead v are o b (sym here-is))
+  no-line_end false e = ap (λ t. not t || false) (lead-some v all o b is)
   no-line_end true e =
       let (none, lead) = or_parts (leads is_line_end b) (is_continuation b) e in
-      let (c, q, next, point, begins) = next-begins v are all o b (sym here-is) lead in
+      let (c, q, next, point, begins) = lead-begins v all o b is lead in
       let fails : is_line_end c ≡ false = leads-fail is_line_end c b none point begins in
       ap (λ (x : Option (ℕ × ℕ)). not (is_some x) || is_some_and (option_map (λ y. y.0) x) is_line_end) next ∙ fails
 
   -- where it may not stand, what takes something takes nothing
-  first_byte-takes : (at : ℕ) (i : Instruction) → is_taking i ≡ true → begins program may i at b ≡ false → TakesNothing program input Forward i o
-  first_byte-takes at (code.byte_seq []) taking e groups = absurd (grind arith)
-  first_byte-takes at (code.byte_seq (c ∷ cs)) taking e groups = other-first input (c ∷ cs) o (omega arith) (λ there.
-      let same : Some b ≡ Some c = here-is ∙ ap (λ us. slice_get us o) (sym (units-are v)) ∙ there in
+  first_byte-takes : (at : ℕ) (i : Instruction) → Stands program at i → is_taking i ≡ true → begins program may i at b ≡ false → TakesNothing program input Forward i o
+  first_byte-takes at (code.byte_seq []) here taking e groups = absurd (grind arith)
+  first_byte-takes at (code.byte_seq (c ∷ cs)) here taking e groups = other-first input (c ∷ cs) o (omega arith) (λ there.
+      let are = suits.kind ∙ ap not (suits.closed at (code.byte_seq (c ∷ cs)) here) in
+      let same : Some b ≡ Some c = is ∙ lead-byte v are o ∙ ap (λ us. slice_get us o) (sym (units-are v)) ∙ there in
       let equal : c ≡ b = cc in
       let so = eq-eqb c b equal in
       absurd (grind arith))
-  first_byte-takes at (code.byte_set cs) taking e groups = fails-next (holds cs) e
-  first_byte-takes at (code.ascii_bracket cs) taking e groups = fails-next (holds cs) e
-  first_byte-takes at (code.char c) taking e groups = fails-next (nat_eq c) e
-  first_byte-takes at (code.char_set cs) taking e groups = fails-next (holds cs) e
-  first_byte-takes at code.any taking e groups = fails-next (λ c. true) e
-  first_byte-takes at code.any_in_line taking e groups = fails-next (λ c. not (is_line_end c)) e
-  first_byte-takes at (code.bracket k) taking e groups = by_class (slice_get program.brackets k) e
+  first_byte-takes at (code.byte_set cs) here taking e groups = fails-next (holds cs) e
+  first_byte-takes at (code.ascii_bracket cs) here taking e groups = fails-next (holds cs) e
+  first_byte-takes at (code.char c) here taking e groups = fails-next (nat_eq c) e
+  first_byte-takes at (code.char_set cs) here taking e groups = fails-next (holds cs) e
+  first_byte-takes at code.any here taking e groups = fails-next (λ c. true) e
+  first_byte-takes at code.any_in_line here taking e groups = fails-next (λ c. not (is_line_end c)) e
+  first_byte-takes at (code.bracket k) here taking e groups = by_class (slice_get program.brackets k) e
     where
       by_class : (x : Option (Bool × List (ℕ × ℕ))) → elim x [ None ↦ true | Some y ↦ may_lead (bracket_has y.0 y.1) b ] ≡ false
           → None ≡ option_and_then (λ y. passed (bracket_has y.0 y.1) (input.next Forward o)) x
       by_class None f = absurd (grind arith)
       by_class (Some y) f = fails-next (bracket_has y.0 y.1) f
-  first_byte-takes at _ taking e groups = absurd (grind arith)
+  first_byte-takes at _ here taking e groups = absurd (grind arith)
 
   -- where a test passes or fails, and what follows leads nowhere
   only-dead : (at : ℕ) (i : Instruction) → Stands program at i → is_simple i ≡ true → (t : Bool) → ((groups : List Marks) → only_if t o ≡ advance program input i Forward groups o)
@@ -108,14 +105,14 @@ module _ (program : Program) (v : View) (all : AreOfKind v.kind v.units) (are : 
   only-dead at i here simple true does next = taken-dead program input Forward at o o i here simple does next
   only-dead at i here simple false does next = simple-dead program input Forward at o i here simple does
 
-  module _ (suits : Suits program v) (n : ℕ)
+  module _ (n : ℕ)
       (told : (at : ℕ) → may at b ≡ false → (at < n) × ((i : Instruction) × Stands program at i × (begins program may i at b ≡ false))) where
     -- the body of a one-character loop takes nothing
     body-takes : (at : ℕ) (i : Instruction) → Stands program at i → takes_character i ≡ true → may at b ≡ false → TakesNothing program input Forward i o
     body-takes at i here takes fails =
         let (low, (j, there, e)) = told at fails in
         let same : j ≡ i = one_stands program input at j i there here in
-        first_byte-takes at i (takes-taking i takes) (subst (λ x. begins program may x at b ≡ false) same e)
+        first_byte-takes at i here (takes-taking i takes) (subst (λ x. begins program may x at b ≡ false) same e)
 
     -- one address further
     on : (at : ℕ) → ((next : ℕ) → behind may at next b ≡ false → IsDead program input Forward next o) → behind may at (suc at) b ≡ false → IsDead program input Forward (at + 1) o
@@ -124,15 +121,15 @@ module _ (program : Program) (v : View) (all : AreOfKind v.kind v.units) (are : 
     -- by what stands at an address
     by_instruction : (at : ℕ) (i : Instruction) → Stands program at i → begins program may i at b ≡ false
         → ((next : ℕ) → behind may at next b ≡ false → IsDead program input Forward next o) → IsDead program input Forward at o
-    by_instruction at (code.byte_seq bs) here e rest = simple-dead program input Forward at o (code.byte_seq bs) here refl (first_byte-takes at (code.byte_seq bs) refl e)
-    by_instruction at (code.byte_set cs) here e rest = simple-dead program input Forward at o (code.byte_set cs) here refl (first_byte-takes at (code.byte_set cs) refl e)
-    by_instruction at (code.ascii_bracket cs) here e rest = simple-dead program input Forward at o (code.ascii_bracket cs) here refl (first_byte-takes at (code.ascii_bracket cs) refl e)
-    by_instruction at (code.char c) here e rest = simple-dead program input Forward at o (code.char c) here refl (first_byte-takes at (code.char c) refl e)
-    by_instruction at (code.char_set cs) here e rest = simple-dead program input Forward at o (code.char_set cs) here refl (first_byte-takes at (code.char_set cs) refl e)
-    by_instruction at code.any here e rest = simple-dead program input Forward at o code.any here refl (first_byte-takes at code.any refl e)
-    by_instruction at code.any_in_line here e rest = simple-dead program input Forward at o code.any_in_line here refl (first_byte-takes at code.any_in_line refl e)
+    by_instruction at (code.byte_seq bs) here e rest = simple-dead program input Forward at o (code.byte_seq bs) here refl (first_byte-takes at (code.byte_seq bs) here refl e)
+    by_instruction at (code.byte_set cs) here e rest = simple-dead program input Forward at o (code.byte_set cs) here refl (first_byte-takes at (code.byte_set cs) here refl e)
+    by_instruction at (code.ascii_bracket cs) here e rest = simple-dead program input Forward at o (code.ascii_bracket cs) here refl (first_byte-takes at (code.ascii_bracket cs) here refl e)
+    by_instruction at (code.char c) here e rest = simple-dead program input Forward at o (code.char c) here refl (first_byte-takes at (code.char c) here refl e)
+    by_instruction at (code.char_set cs) here e rest = simple-dead program input Forward at o (code.char_set cs) here refl (first_byte-takes at (code.char_set cs) here refl e)
+    by_instruction at code.any here e rest = simple-dead program input Forward at o code.any here refl (first_byte-takes at code.any here refl e)
+    by_instruction at code.any_in_line here e rest = simple-dead program input Forward at o code.any_in_line here refl (first_byte-takes at code.any_in_line here refl e)
     by_instruction at code.fail here e rest = simple-dead program input Forward at o code.fail here refl (λ groups. refl)
-    by_instruction at (code.bracket k) here e rest = simple-dead program input Forward at o (code.bracket k) here refl (first_byte-takes at (code.bracket k) refl e)
+    by_instruction at (code.bracket k) here e rest = simple-dead program input Forward at o (code.bracket k) here refl (first_byte-takes at (code.bracket k) here refl e)
     by_instruction at (code.line_start multiline) here e rest =
         only-dead at (code.line_start multiline) here refl (begins_line input multiline o) (λ groups. refl) (on at rest e)
     by_instruction at (code.line_end multiline) here e rest = by_test (multiline && may_lead is_line_end b) refl
@@ -181,18 +178,18 @@ module _ (program : Program) (v : View) (all : AreOfKind v.kind v.units) (are : 
         first_byte-before m next (omega (arith, later, far)) also)
 
 -- Where a byte stands ahead with which no match from an address may begin, none can be reached from there.
-module _ (program : Program) (v : View) (all : AreOfKind v.kind v.units) (suits : Suits program v) (are : are_bytes v.kind ≡ true) (may : ℕ → ℕ → Bool) (n : ℕ)
+module _ (program : Program) (v : View) (all : AreOfKind v.kind v.units) (suits : Suits program v) (may : ℕ → ℕ → Bool) (n : ℕ)
     (told : (at b : ℕ) → b < 256 → may at b ≡ false → (at < n) × ((i : Instruction) × Stands program at i × (begins program may i at b ≡ false))) where
-  pub first_byte-dead : (at o b : ℕ) → b < 256 → Some b ≡ in_bytes v.kind (unit_beside v.units Forward o) → may at b ≡ false → IsDead program (input_of v) Forward at o
-  first_byte-dead at o b byte is fails = first_byte-before program v all are may o b is suits n (λ at e. told at b byte e) n at (omega arith) fails
+  pub first_byte-dead : (at o b : ℕ) → b < 256 → Some b ≡ lead_ahead v o → may at b ≡ false → IsDead program (input_of v) Forward at o
+  first_byte-dead at o b byte is fails = first_byte-before program v all suits may o b is n (λ at e. told at b byte e) n at (omega arith) fails
 
   -- Where a character is read at an address, a match may begin there with the byte ahead.
-  pub first_byte-may : (at o q b : ℕ) (i : Instruction) (groups : List Marks) → b < 256 → Some b ≡ in_bytes v.kind (unit_beside v.units Forward o) → Stands program at i → takes_character i ≡ true
+  pub first_byte-may : (at o q b : ℕ) (i : Instruction) (groups : List Marks) → b < 256 → Some b ≡ lead_ahead v o → Stands program at i → takes_character i ≡ true
       → advance program (input_of v) i Forward groups o ≡ Some q → may at b ≡ true
   first_byte-may at o q b i groups byte is here takes taken = by_test (may at b) refl
     where
       by_test : (t : Bool) → may at b ≡ t → t ≡ true
       by_test true e = refl
       by_test false e =
-          let none = body-takes program v all are may o b is suits n (λ at e. told at b byte e) at i here takes e groups in
+          let none = body-takes program v all suits may o b is n (λ at e. told at b byte e) at i here takes e groups in
           let never : None ≡ Some q = none ∙ taken in absurd (cc never)

@@ -1,5 +1,5 @@
 -- A program that begins with a class and a loop of another, from whose ends no match can be reached.
-use Rattle.std.specs.Prelude.{slice_get, option_and_then, if◌then◌else◌}
+use Rattle.std.specs.Prelude.{IfSome, slice_get, option_and_then, if◌then◌else◌}
 use Rattle.std.proofs.Common.{◌≡◌, ℕ, zero, suc, ◌+◌, ◌-◌, ◌≤◌, Bool, true, false, List, [], ◌∷◌, ◌++◌, Option, Some, None, refl, sym, ap, ◌∙◌, subst, arith}
 use Rattle.std.proofs.lemmas.List.Elements.{All-cons, All-weaker}
 use Rattle.regress_meaning.specs.Meaning.{Forward}
@@ -34,32 +34,38 @@ use Rattle.regress_engine_singles.proofs.DeadLemmas.{step-dead, ways-dead}
 same-offset : (x : Option (ℕ × ℕ)) (d r c q : ℕ) → x ≡ Some (d, r) → x ≡ Some (c, q) → q ≡ r
 same-offset x d r c q e f = ap (λ (y : Option (ℕ × ℕ)). elim y [ None ↦ 0 | Some z ↦ z.1 ]) (sym f ∙ e)
 
-module _ (program : Program) (v : View) where
-  -- what passes a test is the character ahead
-  passed-next : (test : ℕ → Bool) (o q : ℕ) → passed test ((input_of v).next Forward o) ≡ Some q → (c : ℕ) × ((input_of v).next Forward o ≡ Some (c, q))
-  passed-next test o q e = by_next ((input_of v).next Forward o) refl e
-    where
-      by_next : (x : Option (ℕ × ℕ)) → (input_of v).next Forward o ≡ x → passed test x ≡ Some q → (c : ℕ) × ((input_of v).next Forward o ≡ Some (c, q))
-      by_next None f g = absurd (grind arith)
-      by_next (Some (c, p)) f g = by_test (test c) g
-        where
-          by_test : (b : Bool) → (if b then Some p else None) ≡ Some q → (d : ℕ) × ((input_of v).next Forward o ≡ Some (d, q))
-          by_test true g = let same : p ≡ q = cc in (c, f ∙ ap (λ x. Some (c, x)) same)
-          by_test false g = absurd (grind arith)
+-- what passes a test is the character ahead
+passed-next : (v : View) (test : ℕ → Bool) (o q : ℕ) → passed test ((input_of v).next Forward o) ≡ Some q → (c : ℕ) × ((input_of v).next Forward o ≡ Some (c, q))
+passed-next v test o q e = by_next ((input_of v).next Forward o) refl e
+  where
+    by_next : (x : Option (ℕ × ℕ)) → (input_of v).next Forward o ≡ x → passed test x ≡ Some q → (c : ℕ) × ((input_of v).next Forward o ≡ Some (c, q))
+    by_next None f g = absurd (grind arith)
+    by_next (Some (c, p)) f g = by_test (test c) g
+      where
+        by_test : (b : Bool) → (if b then Some p else None) ≡ Some q → (d : ℕ) × ((input_of v).next Forward o ≡ Some (d, q))
+        by_test true g = let same : p ≡ q = cc in (c, f ∙ ap (λ x. Some (c, x)) same)
+        by_test false g = absurd (grind arith)
 
+-- and behind it is a place
+pub passed-places : (v : View) → AreOfKind v.kind v.units → (test : ℕ → Bool) (o : ℕ) → IsAtPlace (reading_of v) o → (x : Option ℕ) → x ≡ passed test ((input_of v).next Forward o)
+    → IfSome x (IsAtPlace (reading_of v))
+passed-places v all test o place None e = tt
+passed-places v all test o place (Some q) e = let (c, next) = passed-next v test o q (sym e) in next-place v all Forward o c q place next
+
+module _ (program : Program) (v : View) where
   -- so does a class take it
   pub class-next : (j : Instruction) → is_class j ≡ true → (groups : List Marks) (o q : ℕ) → advance program (input_of v) j Forward groups o ≡ Some q → (c : ℕ) × ((input_of v).next Forward o ≡ Some (c, q))
-  class-next (code.ascii_bracket cs) is groups o q e = passed-next _ o q e
+  class-next (code.ascii_bracket cs) is groups o q e = passed-next v _ o q e
   class-next (code.bracket k) is groups o q e = by_class (slice_get program.brackets k) e
     where
       by_class : (x : Option (Bool × List (ℕ × ℕ))) → option_and_then (λ b. passed (bracket_has b.0 b.1) ((input_of v).next Forward o)) x ≡ Some q → (c : ℕ) × ((input_of v).next Forward o ≡ Some (c, q))
       by_class None f = absurd (grind arith)
-      by_class (Some b) f = passed-next (bracket_has b.0 b.1) o q f
+      by_class (Some b) f = passed-next v (bracket_has b.0 b.1) o q f
   class-next _ is groups o q e = absurd (grind arith)
 
   -- and so does a set of bytes
   one-next : (j : Instruction) → takes_one j ≡ true → (groups : List Marks) (o q : ℕ) → advance program (input_of v) j Forward groups o ≡ Some q → (c : ℕ) × ((input_of v).next Forward o ≡ Some (c, q))
-  one-next (code.byte_set cs) is groups o q e = passed-next _ o q e
+  one-next (code.byte_set cs) is groups o q e = passed-next v _ o q e
   one-next (code.ascii_bracket cs) is groups o q e = class-next (code.ascii_bracket cs) is groups o q e
   one-next (code.bracket k) is groups o q e = class-next (code.bracket k) is groups o q e
   one-next _ is groups o q e = absurd (grind arith)

@@ -1,6 +1,7 @@
 pub mod ByteLemmas
 pub mod Chains
 pub mod Failures
+pub mod LeadAheadLemmas
 pub mod LeadLemmas
 pub mod FirstByteLemmas
 pub mod SparingLemmas
@@ -8,6 +9,7 @@ pub mod LeadingLemmas
 pub mod LineLemmas
 pub mod PassingLemmas
 pub mod StopLemmas
+pub mod UnitStopLemmas
 pub mod DeadLemmas
 pub mod AsciiLemmas
 pub mod BoundaryLemmas

@@ -1,5 +1,5 @@
 -- What is known of a program holds of its runs.
-use Rattle.std.specs.Prelude.{slice_get, option_and_then, if◌then◌else◌, nat_eq, encode_utf8}
+use Rattle.std.specs.Prelude.{slice_get, option_and_then, is_some, nat_eq, encode_utf8}
 use Rattle.std.specs.Str.{encode_utf8_all}
 use Rattle.std.proofs.lemmas.Str.{encodes-chars, IsUtf8-nil}
 use Rattle.std.proofs.lemmas.Bool.{cases_lt, true≢false}
@@ -14,7 +14,7 @@ use Rattle.regress_front_bytes.specs.Bitmaps.{byte_bitmap_contains}
 use Rattle.regress_front_bytes.specs.declared.bitmaps.ByteBitmap.{ByteBitmap}
 use Rattle.regress_front_nodes.specs.Singles.{is_one_character}
 use Rattle.regress_front_nodes.specs.TreeMeaning.{bracket_has}
-use Rattle.regress_engine_input.specs.Views.{View, AreOfKind, are_bytes, input_of, reading_of, in_bytes, unit_beside}
+use Rattle.regress_engine_input.specs.Views.{View, AreOfKind, input_of}
 use Rattle.regress_engine_insn.specs.Instructions.{Instruction, LoopFields, Program, Stands}
 use Rattle.regress_engine_insn.specs.Instructions as code
 use Rattle.regress_engine_analysis.specs.declared.facts.Facts.{Facts}
@@ -23,7 +23,7 @@ use Rattle.regress_engine_analysis.specs.declared.facts.Known.TheVariants as fac
 use Rattle.regress_engine_analysis.specs.declared.facts.Turn.{Turn}
 use Rattle.regress_engine_analysis.specs.MayBegin.{begins, may_begin_with}
 use Rattle.regress_engine_analysis.specs.Planned.{AreApart, ArePlanned, firsts, is_class, known_of}
-use Rattle.regress_engine_analysis.proofs.PlanLemmas.{end-stands, jump-stands, known-within, loop-stands, stands-of}
+use Rattle.regress_engine_analysis.proofs.PlanLemmas.{end-stands, jump-stands, loop-stands, stands-of}
 use Rattle.regress_engine_runs.specs.Closed.{takes_character}
 use Rattle.regress_engine_runs.specs.Meets.{IsAtPlace}
 use Rattle.regress_engine_runs.specs.Runs.{advance}
@@ -37,7 +37,8 @@ use Rattle.regress_engine_singles.proofs.FirstByteLemmas.{first_byte-dead, first
 use Rattle.regress_front_sets.proofs.FirstByteLemmas.{lead}
 use Rattle.regress_engine_insn.proofs.LiteralLemmas.{one-character}
 use Rattle.regress_engine_prefix.proofs.LeadLemmas.{has-lead}
-use Rattle.regress_engine_singles.proofs.LeadLemmas.{first-of, none-ahead, unit-leads}
+use Rattle.regress_engine_singles.proofs.LeadAheadLemmas.{lead-of}
+use Rattle.regress_engine_singles.proofs.LeadLemmas.{first-of, some-ahead}
 use Rattle.regress_engine_singles.proofs.LeadingLemmas.{class-takes}
 
 -- no bytes are no character
@@ -79,65 +80,57 @@ module _ (program : Program) (facts : List Facts) (planned : ArePlanned program 
     abbrev input : Input
     input = input_of v
 
-    -- where there are facts, there are bytes
-    facts-bytes : (at : ℕ) → at < length facts → are_bytes v.kind ≡ true
-    facts-bytes at less = by_units program.units refl
+    -- where no character is ahead a test passes nothing
+    end-passes : (test : ℕ → Bool) (o : ℕ) → input.next Forward o ≡ None → None ≡ passed test (input.next Forward o)
+    end-passes test o none = ap (passed test) (sym none)
+
+    -- nor is a character taken
+    end-takes : (at : ℕ) (i : Instruction) → Stands program at i → takes_character i ≡ true → (groups : List Marks) (o : ℕ) → input.next Forward o ≡ None
+        → None ≡ advance program input i Forward groups o
+    end-takes at (code.char c) here takes groups o none = end-passes (nat_eq c) o none
+    end-takes at (code.char_set cs) here takes groups o none = end-passes (holds cs) o none
+    end-takes at (code.byte_set cs) here takes groups o none = end-passes (holds cs) o none
+    end-takes at code.any here takes groups o none = end-passes (λ c. true) o none
+    end-takes at code.any_in_line here takes groups o none = end-passes (λ c. not (is_line_end c)) o none
+    end-takes at (code.ascii_bracket cs) here takes groups o none = end-passes (holds cs) o none
+    end-takes at (code.bracket k) here takes groups o none = by_class (slice_get program.brackets k)
       where
-        by_units : (u : Bool) → program.units ≡ u → are_bytes v.kind ≡ true
-        by_units true e = let none = planned.none e in absurd (omega (arith, less, none))
-        by_units false e = suits.kind ∙ ap not e
+        by_class : (x : Option (Bool × List (ℕ × ℕ))) → None ≡ option_and_then (λ y. passed (bracket_has y.0 y.1) (input.next Forward o)) x
+        by_class None = refl
+        by_class (Some y) = end-passes (bracket_has y.0 y.1) o none
+    end-takes at (code.byte_seq []) here takes groups o none = absurd (no-character takes)
+    end-takes at (code.byte_seq (c ∷ cs)) here takes groups o none = other-first input (c ∷ cs) o (omega arith) (λ there.
+        let are = suits.kind ∙ ap not (suits.closed at (code.byte_seq (c ∷ cs)) here) in
+        let some = some-ahead v are o c (ap (λ us. slice_get us o) (sym (units-are v)) ∙ there) in
+        absurd (true≢false (sym some ∙ ap is_some none)))
+    end-takes at _ here takes groups o none = absurd (grind arith)
 
-    module _ (are : are_bytes v.kind ≡ true) where
-      -- where the text ends a test passes nothing
-      end-passes : (test : ℕ → Bool) (o : ℕ) → slice_get v.units o ≡ None → None ≡ passed test (input.next Forward o)
-      end-passes test o none = ap (passed test) (sym (none-ahead v are o none))
+    -- where a character is taken one is ahead
+    taken-next : (at : ℕ) (i : Instruction) → Stands program at i → takes_character i ≡ true → (groups : List Marks) (o q : ℕ) → advance program input i Forward groups o ≡ Some q
+        → (x : ℕ × ℕ) × (input.next Forward o ≡ Some x)
+    taken-next at i here takes groups o q e = by_next (input.next Forward o) refl
+      where
+        by_next : (x : Option (ℕ × ℕ)) → input.next Forward o ≡ x → (y : ℕ × ℕ) × (input.next Forward o ≡ Some y)
+        by_next None none = let never : None ≡ Some q = end-takes at i here takes groups o none ∙ e in absurd (cc never)
+        by_next (Some x) there = (x, there)
 
-      -- nor is a character taken
-      end-takes : (i : Instruction) → takes_character i ≡ true → (groups : List Marks) (o : ℕ) → slice_get v.units o ≡ None → None ≡ advance program input i Forward groups o
-      end-takes (code.char c) takes groups o none = end-passes (nat_eq c) o none
-      end-takes (code.char_set cs) takes groups o none = end-passes (holds cs) o none
-      end-takes (code.byte_set cs) takes groups o none = end-passes (holds cs) o none
-      end-takes code.any takes groups o none = end-passes (λ c. true) o none
-      end-takes code.any_in_line takes groups o none = end-passes (λ c. not (is_line_end c)) o none
-      end-takes (code.ascii_bracket cs) takes groups o none = end-passes (holds cs) o none
-      end-takes (code.bracket k) takes groups o none = by_class (slice_get program.brackets k)
-        where
-          by_class : (x : Option (Bool × List (ℕ × ℕ))) → None ≡ option_and_then (λ y. passed (bracket_has y.0 y.1) (input.next Forward o)) x
-          by_class None = refl
-          by_class (Some y) = end-passes (bracket_has y.0 y.1) o none
-      end-takes (code.byte_seq []) takes groups o none = absurd (no-character takes)
-      end-takes (code.byte_seq (c ∷ cs)) takes groups o none = other-first input (c ∷ cs) o (omega arith) (λ there.
-          let some : None ≡ Some c = sym none ∙ ap (λ us. slice_get us o) (sym (units-are v)) ∙ there in absurd (cc some))
-      end-takes _ takes groups o none = absurd (grind arith)
-
-      -- where a character is taken a byte stands
-      taken-unit : (i : Instruction) → takes_character i ≡ true → (groups : List Marks) (o q : ℕ) → advance program input i Forward groups o ≡ Some q → (b : ℕ) × (slice_get v.units o ≡ Some b)
-      taken-unit i takes groups o q e = by_unit (slice_get v.units o) refl
-        where
-          by_unit : (x : Option ℕ) → slice_get v.units o ≡ x → (b : ℕ) × (slice_get v.units o ≡ Some b)
-          by_unit None none = let never : None ≡ Some q = end-takes i takes groups o none ∙ e in absurd (cc never)
-          by_unit (Some b) here = (b, here)
-
-      -- Where a character is taken at one address, no match can be reached from another, if no byte begins both.
-      apart-spares : (at other : ℕ) (i : Instruction) → Stands program at i → takes_character i ≡ true → AreApart sets at other → IsDeadBefore program v i other
-      apart-spares at other i here takes apart = λ groups o q place e.
-          let (b, byte) = taken-unit i takes groups o q e in
-          let (lead, small) = unit-leads v are all o b (can-read v all o place) byte in
-          let is : Some b ≡ in_bytes v.kind (unit_beside v.units Forward o) = sym (ap (λ (t : Bool). let x : Option ℕ = if t then slice_get v.units o else None in x) are ∙ byte) in
-          let may = first_byte-may program v all suits are (may_begin_with sets) (length sets) first-told at o q b i groups small is here takes e in
-          first_byte-dead program v all suits are (may_begin_with sets) (length sets) first-told other o b small is (apart b small lead may)
+    -- Where a character is taken at one address, no match can be reached from another, if no byte begins both.
+    apart-spares : (at other : ℕ) (i : Instruction) → Stands program at i → takes_character i ≡ true → AreApart sets at other → IsDeadBefore program v i other
+    apart-spares at other i here takes apart = λ groups o q place e.
+        let (x, ahead) = taken-next at i here takes groups o q e in
+        let (b, is, outside, small) = lead-of v all o x (can-read v all o place) ahead in
+        let may = first_byte-may program v all suits (may_begin_with sets) (length sets) first-told at o q b i groups small is here takes e in
+        first_byte-dead program v all suits (may_begin_with sets) (length sets) first-told other o b small is (apart b small outside may)
 
     -- A loop that is known to give nothing back gives nothing back.
     pub possessive-spares : (at : ℕ) → known_of facts at ≡ fact.Possessive → (i : Instruction) → Stands program (at + 1) i → takes_character i ≡ true → IsDeadBefore program v i (at + 2)
-    possessive-spares at e i here takes =
-        apart-spares (facts-bytes at (known-within facts at fact.Possessive e (λ never. absurd (cc never)))) (at + 1) (at + 2) i here takes (planned.possessive at e)
+    possessive-spares at e i here takes = apart-spares (at + 1) (at + 2) i here takes (planned.possessive at e)
 
     -- Iterations that are known to be one character each are.
     pub turn-spares : (at : ℕ) (t : Turn) → known_of facts at ≡ fact.Turn t → (second : ℕ) → Stands program at (code.alt second)
         → (i : Instruction) × (f : LoopFields) × IsTurn program v at second t.begin t.again i f
     turn-spares at t e second ways =
         let is = planned.turn at t e in
-        let are = facts-bytes at (known-within facts at (fact.Turn t) e (λ never. absurd (cc never))) in
         let (i, first, class) = stands-of program is_class (at + 1) is.class in
         let (f, begins) = loop-stands program t.begin is.begins in
         let takes = class-takes i class in (
@@ -150,7 +143,7 @@ module _ (program : Program) (facts : List Facts) (planned : ArePlanned program 
             ends = end-stands program t.begin t.again is.ends;
             begins = begins;
             body = is.body;
-            way = apart-spares are (at + 1) second i first takes (is.way second ways);
-            out = apart-spares are (at + 1) f.exit i first takes (is.out f begins);
+            way = apart-spares (at + 1) second i first takes (is.way second ways);
+            out = apart-spares (at + 1) f.exit i first takes (is.out f begins);
           },
         )

@@ -1,5 +1,6 @@
 pub mod Sparing
 pub mod Failing
+pub mod Leads
 pub mod Passed
 pub mod Passing
 pub mod Taking

@@ -11,6 +11,7 @@ ghost use Rattle.regress_engine_runs.specs.Closed.{Fits};
 use crate::class::ScannedBracket;
 use crate::far::scan_while;
 use crate::stops::as_far_searched;
+use crate::unit_stops::as_far_among_units;
 use regress_engine_code::CompiledRegex;
 use regress_engine_input::{Direction, Forward};
 use regress_engine_insn::Insn;
@@ -45,6 +46,9 @@ pub fn as_far_ahead<Input: CharInput>(
         Insn::Bracket(index) => {
             let bc = &program.brackets()[*index];
             if let Some(far) = as_far_searched(input, bc, times, offset) {
+                return Some(far);
+            }
+            if let Some(far) = as_far_among_units(input, bc, times, offset) {
                 return Some(far);
             }
             let class = ScannedBracket { bc };

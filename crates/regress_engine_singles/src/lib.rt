@@ -10,6 +10,7 @@ mod sparing;
 mod stops;
 mod taken;
 mod taking;
+mod unit_stops;
 
 pub use ahead::as_far_ahead;
 pub use before::taken_before;

@@ -8,4 +8,4 @@ pub returns-in-Some : goal.returns-in-Some
 returns-in-Some g c = λ yes.
     let v = g.Input.InputIndexer.view c.args.input.now in
     subst (λ forward. IsDead (program_of c.args.program.now) (input_of v) (direction_of forward) c.args.at c.args.offset) (sym c.if-not-forward.false)
-    (c.is_dead_ahead.ensures v c.args.offset (g.met.Input.InputIndexer.are_of_kind c.args.input.now) c.requires (sym c.in-Some.is ∙ c.next_byte.ensures) yes)
+    (c.is_dead_ahead.ensures v c.args.offset (g.met.Input.InputIndexer.are_of_kind c.args.input.now) c.requires (sym c.in-Some.is ∙ c.lead_ahead.ensures) yes)

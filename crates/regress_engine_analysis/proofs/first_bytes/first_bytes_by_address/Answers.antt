@@ -1,5 +1,5 @@
 use Rattle.std.specs.Prelude.{get_or, option_map}
-use Rattle.std.proofs.Common.{◌<◌, ◌-◌, true, false, length, Option, Some, None, refl, sym, ap, ◌∙◌, arith}
+use Rattle.std.proofs.Common.{◌<◌, ◌-◌, true, length, Option, Some, None, refl, sym, ap, ◌∙◌, arith}
 use Rattle.std.proofs.lemmas.List.{length-set}
 use Rattle.std.proofs.lemmas.Option.{slice_get-map, slice_get-get_or}
 use Rattle.regress_engine_insn.specs.Instructions.{Instruction, Program}
@@ -23,10 +23,10 @@ addresses-preserved c =
     record {
       size = long ∙ size;
       low = omega (arith, low);
-      told = λ loops groups next b from inside small.
-          let program : Program = program_from insns c.args.brackets.now loops groups false in
+      told = λ loops groups units next b from inside small.
+          let program : Program = program_from insns c.args.brackets.now loops groups units in
           told-more program sets at c.in_ok-set.set there
-          (λ far byte less within few. c.addresses.invariant.told loops groups far byte (omega (arith, less)) within few)
+          (λ far byte less within few. c.addresses.invariant.told loops groups units far byte (omega (arith, less)) within few)
           (λ byte few. c.in_ok-set.ensures program refl byte few
           ∙ ap (λ xs. begins program (may_begin_with xs) (instruction (get_or insns at Goal)) at byte) c.deref.ensures.value
           ∙ sym (ap (λ (x : Option Instruction). elim x [ None ↦ true | Some i ↦ begins program (may_begin_with sets) i at byte ])
@@ -34,6 +34,6 @@ addresses-preserved c =
     }
 
 pub returns-clause-told : goal.returns-clause-told
-returns-clause-told c = λ loops groups at b inside small.
+returns-clause-told c = λ loops groups units at b inside small.
     let none = c.addresses-test.false in
-    c.addresses.invariant.told loops groups at b (omega (arith, none)) inside small
+    c.addresses.invariant.told loops groups units at b (omega (arith, none)) inside small

@@ -1,4 +1,4 @@
-use Rattle.std.proofs.Common.{◌≡◌, ℕ, ◌<◌, ◌≤◌, false, length}
+use Rattle.std.proofs.Common.{◌≡◌, ℕ, Bool, ◌<◌, ◌≤◌, length}
 use Rattle.regress_engine_insn.specs.ProgramViews.{program_from}
 use Rattle.regress_engine_analysis.specs.MayBegin.{begins_at, may_begin_with}
 use Rattle.regress_engine_analysis.proofs.first_bytes.first_bytes_by_address.Given as goal
@@ -8,8 +8,8 @@ abbrev pub invariant-addresses : goal.invariant-addresses
 invariant-addresses l = record {
   size : length l.sets.items ≡ length l.insns;
   low : l.left ≤ length l.insns;
-  told : (loops groups : ℕ) (at b : ℕ) → l.left ≤ at → at < length l.sets.items → b < 256
-      → may_begin_with l.sets.items at b ≡ begins_at (program_from l.insns l.brackets loops groups false) (may_begin_with l.sets.items) at b;
+  told : (loops groups : ℕ) (units : Bool) (at b : ℕ) → l.left ≤ at → at < length l.sets.items → b < 256
+      → may_begin_with l.sets.items at b ≡ begins_at (program_from l.insns l.brackets loops groups units) (may_begin_with l.sets.items) at b;
 }
 
 -- the addresses that are left

@@ -79,3 +79,17 @@ returns-then-is_assertion g t c = λ yes.
     let edge = sym c.is_assertion.ensures ∙ c.if-is_assertion.true in
     taken-dead program (input_of (g.Input.InputIndexer.view c.args.input.now)) Forward c.args.at c.args.offset c.args.offset _ here (assertion-simple _ edge)
     (λ groups. c.if-not-holds_at.ensures program true groups edge) (c.fails.ensures yes)
+
+pub returns-in-Some-char_ahead : goal.returns-in-Some-char_ahead
+returns-in-Some-char_ahead g t c = λ yes.
+    let program = program_of c.args.program.now in
+    let here = stands-read c.insns-insns.result.now c.args.program.now.insns.items c.args.at Goal c.insns-insns.ensures c.if-at-insns.false in
+    taken-dead program (input_of (g.Input.InputIndexer.view c.args.input.now)) Forward c.args.at c.args.offset c.in-Some-char_ahead.behind _ (stands-as program c.args.at _ _ c.in-Char.is here) refl
+    (λ groups. sym c.in-Some-char_ahead.is ∙ c.char_ahead.ensures.stands) (c.fails-in-Some-char_ahead.ensures yes)
+
+pub returns-in-None-char_ahead : goal.returns-in-None-char_ahead
+returns-in-None-char_ahead g t c = λ yes.
+    let program = program_of c.args.program.now in
+    let here = stands-read c.insns-insns.result.now c.args.program.now.insns.items c.args.at Goal c.insns-insns.ensures c.if-at-insns.false in
+    simple-dead program (input_of (g.Input.InputIndexer.view c.args.input.now)) Forward c.args.at c.args.offset _ (stands-as program c.args.at _ _ c.in-Char.is here) refl
+    (λ groups. sym c.in-None-char_ahead.is ∙ c.char_ahead.ensures.stands)

@@ -1,5 +1,4 @@
 use Rattle.std.proofs.Common.{◌≡◌, ℕ, ◌+◌, ◌<◌, List, [], ◌∷◌, ◌++◌, length, take, get_or, refl, sym, ap, ◌∙◌, subst, arith, length-append}
-use Rattle.std.proofs.lemmas.Bool.{true≢false}
 use Rattle.std.proofs.lemmas.List.{map-append, take_more, take_all}
 use Rattle.regress_front_bytes.specs.declared.bitmaps.ByteBitmap.{ByteBitmap}
 use Rattle.regress_engine_insn.specs.Instructions.{Program}
@@ -45,8 +44,7 @@ returns c = λ loops groups.
     let so : (at : ℕ) → at < length facts → IsSo program (firsts facts) at (known_of facts at) =
     λ at within. subst (λ (xs : List ByteBitmap). IsSo program xs at (known_of facts at)) (sym all) (c.loop-at.invariant.known program refl at within) in
     record {
-      none = λ units. absurd (true≢false (sym units ∙ c.if-units.false));
-      first = subst (AreFirstBytes program) (sym all) (subst (λ u. AreFirstBytes (program_from c.args.insns.now c.args.brackets.now loops groups u) sets) (sym c.if-units.false) (c.in_ok-sets.ensures.told loops groups));
+      first = subst (AreFirstBytes program) (sym all) (c.in_ok-sets.ensures.told loops groups c.args.units);
       possessive = λ at e. known-so program (firsts facts) facts so at Possessive e (λ never. absurd (cc never));
       turn = λ at t e. known-so program (firsts facts) facts so at (Turn t) e (λ never. absurd (cc never));
     }
