@@ -21,6 +21,9 @@ use Rattle.regress_engine_runs.specs.Items.{Lists}
 use Rattle.regress_engine_runs.specs.Meets.{IsAtPlace, AreAtPlaces, ReadsPlaces, referred}
 use Rattle.regress_engine_runs.proofs.ItemLemmas.{one_list}
 use Rattle.regress_engine_runs.proofs.OneAnswer.{IsComputed-prop}
+use Rattle.regress_engine_scanning.specs.Landmarks.{IsLow}
+use Rattle.regress_engine_scanning.specs.declared.landmark.Landmark.{Landmark}
+use Rattle.regress_engine_scanning.specs.declared.landmark.Landmark.TheVariants.{Ahead, BehindRun}
 use Rattle.regress_engine_prefix.specs.Starts.{BeginsAs, IsPlain}
 use Rattle.regress_engine_prefix.specs.declared.start.StartPredicate.{StartPredicate}
 use Rattle.regress_engine_prefix.specs.declared.start.StartPredicate.TheVariants.{Arbitrary, ByteSet1, ByteSet2, ByteSet3, ByteSeq, ByteBracket, ByteNear, BytePair, WordStart, StartAnchored}
@@ -190,6 +193,10 @@ BeginsAs-prop (BytePair pair) bytes at = bool-set _ true
 BeginsAs-prop (WordStart word) bytes at = bool-set _ true
 BeginsAs-prop StartAnchored bytes at = nat-set at 0
 
+IsLow-prop : (landmark : Landmark) → IsProp (IsLow landmark)
+IsLow-prop (Ahead distance byte) = le_prop
+IsLow-prop (BehindRun run byte) = ×_prop (Π_prop (λ b. Π_prop (λ held. le_prop))) le_prop
+
 IsPlain-prop : (start : StartPredicate) → IsProp (IsPlain start)
 IsPlain-prop Arbitrary = Unit-prop
 IsPlain-prop (ByteSet1 set) = Π_prop (λ b. Π_prop (λ held. le_prop))
@@ -197,7 +204,7 @@ IsPlain-prop (ByteSet2 set) = Π_prop (λ b. Π_prop (λ held. le_prop))
 IsPlain-prop (ByteSet3 set) = Π_prop (λ b. Π_prop (λ held. le_prop))
 IsPlain-prop (ByteSeq front) = Π_prop (λ b. Π_prop (λ held. le_prop))
 IsPlain-prop (ByteBracket set) = Π_prop (λ b. Π_prop (λ held. le_prop))
-IsPlain-prop (ByteNear set landmark) = λ x y. absurd x
+IsPlain-prop (ByteNear set landmark) = ×_prop (Π_prop (λ b. Π_prop (λ held. le_prop))) (IsLow-prop landmark)
 IsPlain-prop (BytePair pair) = λ x y. absurd x
 IsPlain-prop (WordStart word) = λ x y. absurd x
 IsPlain-prop StartAnchored = Unit-prop
