@@ -17,7 +17,7 @@ use Rattle.regress_engine_singles.proofs.ByteLemmas.{unit-next}
 
 -- a byte of ASCII that stands in bytes is the character ahead
 pub ascii-ahead : (v : View) → are_bytes v.kind ≡ true → (o : ℕ) → o < length v.units → slice_index v.units o < 0x80 → IsAsciiAhead v o
-ascii-ahead v are o inside low = record { low = low; next = unit-next v.kind v.table v.unicode v.units (slice_index v.units o) o are low (slice_get-get_or v.units o 0 inside) }
+ascii-ahead v are o inside low = record { low = low; next = unit-next v.kind v.table v.unicode v.units (slice_index v.units o) o low (slice_get-get_or v.units o 0 inside) }
 
 -- it passes where its number does
 pub ascii-passes : (v : View) (passes : ℕ → Bool) (o : ℕ) → IsAsciiAhead v o → passes (slice_index v.units o) ≡ true → Some (suc o) ≡ passed passes ((input_of v).next Forward o)

@@ -24,7 +24,10 @@ pair-point : (o u : ℕ) (v : Option ℕ) → u < 0x1_0000 → is_code_point (pa
 pair-point o u None low = omega (arith, low)
 pair-point o u (Some v) low = by_pair (is_high u && is_low v) refl
   where
-    by_pair : (t : Bool) → (is_high u && is_low v) ≡ t → is_code_point (if t then (joined u v, suc (suc o)) else (u, suc o)).0
+    pair : Bool → ℕ × ℕ
+    pair t = if t then (joined u v, suc (suc o)) else (u, suc o)
+
+    by_pair : (t : Bool) → (is_high u && is_low v) ≡ t → is_code_point (pair t).0
     by_pair true e = grind (arith, nat_tests)
     by_pair false e = omega (arith, low)
 

@@ -28,8 +28,18 @@ returns-in-Some g c = λ groups.
     (c.in-Some.ensures
     ∙ far-taken (program_of c.args.program.now) input (bracket_has class.invert (ends_of class.cps.intervals.items)) (code.bracket c.in-Bracket.index) ahead groups (λ o. bracket_takes (input.next ahead o) _ _ _ within here) c.args.times c.args.offset)
 
-pub returns-in_default-as_far_searched : goal.returns-in_default-as_far_searched
-returns-in_default-as_far_searched g c = λ groups.
+pub returns-in-Some-as_far_among_units : goal.returns-in-Some-as_far_among_units
+returns-in-Some-as_far_among_units g c = λ groups.
+    let input = input_of (g.Input.InputIndexer.view c.args.input.now) in
+    let class = c.index-brackets-index.result in
+    let here = rw c.brackets.ensures at c.index-brackets-index.is in
+    let within = rw c.in-Bracket.is at c.requires.fits in
+    rw c.in-Bracket.is
+    (c.in-Some-as_far_among_units.ensures
+    ∙ far-taken (program_of c.args.program.now) input (bracket_has class.invert (ends_of class.cps.intervals.items)) (code.bracket c.in-Bracket.index) ahead groups (λ o. bracket_takes (input.next ahead o) _ _ _ within here) c.args.times c.args.offset)
+
+pub returns-in_default-as_far_among_units : goal.returns-in_default-as_far_among_units
+returns-in_default-as_far_among_units g c = λ groups.
     let input = input_of (g.Input.InputIndexer.view c.args.input.now) in
     let class = c.index-brackets-index.result in
     let here = rw c.brackets.ensures at c.index-brackets-index.is in
