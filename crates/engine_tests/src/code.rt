@@ -23,14 +23,14 @@ pub(crate) fn program(
 }
 
 #[test]
-fn a_program_of_units_may_begin_with_each_byte(rt: HostRuntime) -> Result<(), Fail> {
+fn a_program_of_units_begins_with_the_bytes_of_its_characters(
+    rt: HostRuntime,
+) -> Result<(), Fail> {
     let tables = Tables::small(rt.alloc())?;
     let program = program(rt.alloc(), "ab", "", true, &tables)?;
-    assert!(rt;
-        program.is_unit_program()
-            && !program.cannot_begin_with(0, b'b')
-            && !program.cannot_begin_with(1, b'a')
-    );
+    assert!(rt; program.is_unit_program());
+    assert!(rt; program.cannot_begin_with(0, b'b') && !program.cannot_begin_with(0, b'a'));
+    assert!(rt; program.cannot_begin_with(1, b'a') && !program.cannot_begin_with(1, b'b'));
     Ok(())
 }
 
