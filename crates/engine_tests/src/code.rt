@@ -23,9 +23,7 @@ pub(crate) fn program(
 }
 
 #[test]
-fn a_program_of_units_begins_with_the_bytes_of_its_characters(
-    rt: HostRuntime,
-) -> Result<(), Fail> {
+fn a_program_of_units_begins_with_the_bytes_of_its_characters(rt: HostRuntime) -> Result<(), Fail> {
     let tables = Tables::small(rt.alloc())?;
     let program = program(rt.alloc(), "ab", "", true, &tables)?;
     assert!(rt; program.is_unit_program());

@@ -433,8 +433,8 @@ Reaches-run run low byte t wider h = record {
       let there = (h.each context valid s k d inside).0 in
       let rest = rest-at context.text s.place in (
         ap (run_then (byte_bitmap_contains low) byte) rest
-        ∙ run-wider (byte_bitmap_contains run) (byte_bitmap_contains low) byte (encode_utf8_all (drop s.place context.text)) wider
-        (small-bytes (drop s.place context.text) (All-drop is_code_point s.place context.text valid)) (ap (run_then (byte_bitmap_contains run) byte) (sym rest) ∙ there),
+            ∙ run-wider (byte_bitmap_contains run) (byte_bitmap_contains low) byte (encode_utf8_all (drop s.place context.text)) wider
+            (small-bytes (drop s.place context.text) (All-drop is_code_point s.place context.text valid)) (ap (run_then (byte_bitmap_contains run) byte) (sym rest) ∙ there),
         tt,
       );
 }

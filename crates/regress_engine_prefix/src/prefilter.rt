@@ -6,7 +6,8 @@ ghost use Rattle.regress_engine_prefix.specs.Prefiltering.{IsNextHit, is_anchore
 use crate::start::StartPredicate;
 use memchr::memmem::Finder;
 use regress_engine_scanning::{
-    find_byte_of, find_member, find_near, find_near_units, find_one, find_sequence, find_three, find_two,
+    find_byte_of, find_member, find_near, find_near_units, find_one, find_sequence, find_three,
+    find_two,
 };
 use regress_front_bytes::ByteSearcher;
 
