@@ -3,3 +3,4 @@ pub mod WayLemmas
 pub mod RememberLemmas
 pub mod ExitLemmas
 pub mod PassedLemmas
+pub mod CountLemmas

@@ -1,3 +1,5 @@
 pub mod Trying
 pub mod Attempts
 pub mod Remembering
+pub mod Counting
+pub mod Ending

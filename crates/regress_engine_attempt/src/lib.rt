@@ -4,6 +4,7 @@
 
 mod attempt;
 mod back;
+mod budget;
 mod exits;
 mod remembered;
 mod run;
@@ -13,4 +14,5 @@ mod turns;
 mod ways;
 
 pub use attempt::Attempt;
+pub use budget::{Budget, Ended, StepsLeft, Unbounded};
 pub use remembered::Remembered;
