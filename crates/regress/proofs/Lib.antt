@@ -7,7 +7,6 @@ pub mod SplittingLemmas
 pub mod ShownLemmas
 pub mod ListedLemmas
 pub mod ToldLemmas
-pub mod StepLemmas
 pub mod UnitLemmas
 pub mod NeededLemmas
 pub mod LimitedLemmas

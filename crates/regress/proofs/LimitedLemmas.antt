@@ -1,5 +1,5 @@
 -- Refusals where a limit is given, as errors of compiling.
-use Rattle.std.proofs.Common.{◌≢◌, ◌*◌, ◌/◌, ◌<◌, ◌≤◌, ℕ, List, ap, arith}
+use Rattle.std.proofs.Common.{◌≢◌, ◌*◌, ◌/◌, ◌<◌, ◌≤◌, ℕ, List, arith}
 use Rattle.regress_meaning.specs.Table.{Table}
 use Rattle.regress_meaning.specs.Flags.{Options}
 use Rattle.regress_meaning.specs.Pattern.{Pattern}

@@ -14,7 +14,7 @@ use Rattle.regress_match.specs.GroupViews.{names_of_match}
 use Rattle.regress_match.specs.Iterating.{GivesFirst}
 use Rattle.regress_match.specs.TextRanges.{LiesInText, IsMatchIn}
 use Rattle.regress_replacing.specs.Replacing.{replaced_from, replaced}
-use Rattle.regress.specs.declared.matches.Matches.{Matches}
+use Rattle.regress_programs.specs.declared.matches.Matches.{Matches}
 use Rattle.regress.specs.Answering.{Answering, AnswersTo, AnswersText, AnswersEach, RefusesOne}
 use Rattle.regress.specs.Behind.{LieBehind}
 use Rattle.regress.specs.Coming.{searched, searched_names, coming}

@@ -16,12 +16,11 @@ ghost use Rattle.regress.specs.Refusing.{MayRefuseRegex};
 ghost use Rattle.regress_errors.specs.Texts.{shown_text};
 ghost use Rattle.regress_pattern_units.specs.PatternUnits.{pattern_points};
 
-use crate::matches::Matches;
 use regress_errors::{code_points, text_of};
 use regress_front::{Error, Flags, Tables};
 use regress_match::Match;
 use regress_pattern_units::pattern_points;
-use regress_programs::Compiled;
+use regress_programs::{Compiled, Matches};
 use std::alloc::Global;
 use std::fmt;
 use std::sync::ArcStr;
@@ -222,7 +221,7 @@ impl Regex {
         ensures named { IfOk result (λ ms. searched_names ms ≡ names_of_regex self.now) }
         ensures refused { IsOkUnless result Error.OutOfMemory }
     {
-        Ok(Matches::new(self, text, start))
+        Ok(Matches::new(self.alloc, &self.compiled, text, start))
     }
 }
 

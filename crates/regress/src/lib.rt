@@ -9,7 +9,6 @@ mod asking;
 pub mod backends;
 mod laws;
 mod limited;
-mod matches;
 mod programs;
 mod replacing;
 mod slots;
@@ -20,13 +19,12 @@ mod units;
 mod whole;
 
 pub use api::{Regex, is_start};
-pub use ascii::{AsciiMatches, is_ascii_text};
+pub use ascii::is_ascii_text;
 pub use laws::{
     escaped_texts_are_replaced_where_they_occur, no_opt_changes_no_match,
     parts_stand_between_the_matches, whole_matches_give_the_text_back,
 };
 pub use limited::DEFAULT_LIMIT;
-pub use matches::Matches;
 pub use regress_engine::{CompiledRegex, Scratch, is_unit_start, is_well_formed_utf16};
 pub use regress_errors::{
     CompileError, SyntaxError, SyntaxErrorDisplay, syntax_error, syntax_error_in_points,
@@ -37,7 +35,8 @@ pub use regress_front::{
     TableLaw, TableParts, Tables, are_code_points, flags_are_read_back,
 };
 pub use regress_match::{Groups, Match, NamedGroups, Range};
-pub use regress_programs::programs_of_trees_are_of_patterns;
+pub use regress_programs::{
+    AsciiMatches, Matches, Ucs2Matches, Utf16Matches, programs_of_trees_are_of_patterns,
+};
 pub use regress_replacing::{ReplacementSyntax, escape, expand};
 pub use splitting::{Split, SplitN};
-pub use units::{Ucs2Matches, Utf16Matches};

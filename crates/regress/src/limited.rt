@@ -54,13 +54,7 @@ impl Regex {
         ensures fits { (options flags).sets ≡ false → length (chars pattern.now) ≤ 10000 → IfErr result (λ e. e ≢ CompileError.Pattern Error.TooLarge) }
     {
         let points = code_points(alloc, pattern)?;
-        let source = ArcStr::from_str(alloc, pattern)?;
-        let compiled = Compiled::new_within(alloc, &points, flags, tables, limit / 2)?;
-        Ok(Regex {
-            alloc,
-            source: Some(source),
-            compiled,
-        })
+        Regex::from_unicode_with_limit(alloc, &points, flags, tables, limit)
     }
 
     /// Compiles a pattern that is given as code points as `from_unicode` does, within a limit as `with_limit` has

@@ -14,8 +14,8 @@ ghost use Rattle.regress_front.specs.Trees.{Tree};
 ghost use Rattle.regress.specs.Standing.{StandsFor, HasTree, tree_list};
 
 use crate::api::Regex;
-use crate::matches::Matches;
 use regress_front::Error;
+use regress_programs::Matches;
 use std::iter::FusedIterator;
 
 /// The parts of a text between the matches of a pattern, one after another: from `Regex::split`.

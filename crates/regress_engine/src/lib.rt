@@ -34,7 +34,7 @@ pub use regress_engine_matchers::{
     matchers, reads_stay_in_texts,
 };
 pub use regress_engine_prefix::{
-    BytePair, Landmark, NibbleSet, Prefilter, StartPredicate, WordStart, predicate_for_re,
+    BytePair, Landmark, NibbleSet, StartPredicate, WordStart, predicate_for_re,
 };
 pub use regress_engine_runs::{
     counts_are_bounded, inputs_move_on, layouts_are_closed, layouts_have_progress,
@@ -42,6 +42,7 @@ pub use regress_engine_runs::{
     searches_find_matches, searches_may_skip,
 };
 pub use regress_engine_search::{
-    AnyText, AsciiText, Executor, ExecutorInput, SearchContext, Shown, TextKind, executors_agree,
-    executors_list_matches, executors_match_as_trees, fill_slots, start_predicates_may_skip,
+    AnyText, AsciiText, Executor, ExecutorInput, Prefilter, SearchContext, Shown, TextKind,
+    executors_agree, executors_list_matches, executors_match_as_trees, fill_slots,
+    start_predicates_may_skip,
 };

@@ -1,16 +1,17 @@
 -- What is remembered of failures.
-use mathlib.Core.HLevel.{Σ_prop_path, Π_prop}
+use mathlib.Core.HLevel.{Σ_prop_path}
 use Rattle.std.specs.Coded.{codes}
-use Rattle.std.proofs.Common.{◌≡◌, ℕ, suc, ◌+◌, ◌<◌, Bool, true, false, List, [], ◌∷◌, Option, Some, None, IfSome, ap, sym, subst, ◌∙◌, length, arith}
+use Rattle.std.proofs.Common.{◌≡◌, ℕ, suc, Bool, true, false, List, [], ◌∷◌, Option, Some, None, IfSome, refl, ap, sym, subst, ◌∙◌, length, arith}
 use Rattle.std.proofs.Math.Logic.{∥∥₁_elim, ∥∥₁_map}
 use Rattle.regress_meaning.specs.Meaning.{Direction}
 use Rattle.regress_meaning.specs.Inputs.{Input}
 use Rattle.regress_engine_input.specs.Views.{View, AreOfKind, input_of}
 use Rattle.regress_engine_insn.specs.Instructions.{Program}
 use Rattle.regress_engine_runs.specs.States.{Whole}
-use Rattle.regress_engine_runs.specs.Computed.{run}
+use Rattle.regress_engine_runs.specs.Computed.{IsComputed}
 use Rattle.regress_engine_runs.specs.UndoStack.{Fails, tried, whole}
 use Rattle.regress_engine_runs.proofs.Computed.{computed-runs, runs-computed}
+use Rattle.regress_engine_runs.proofs.OneAnswer.{IsComputed-prop}
 use Rattle.regress_engine_search.specs.Tasks.{Leads}
 use Rattle.regress_engine_search.specs.Search.{Suits}
 use Rattle.regress_engine_search.proofs.TaskLemmas.{leads-then, tried-on}
@@ -79,31 +80,21 @@ module _ (w : World) where
 bool-set : IsSet Bool
 bool-set = hlevel codes
 
-whole-set : IsSet Whole
-whole-set = hlevel codes
-
-counted-set : IsSet (Option (ℕ × Option Whole))
-counted-set = hlevel (codes, whole-set)
+answer-set : IsSet (Option Whole)
+answer-set = hlevel codes
 
 module _ (program : Program) (input : Input) where
   -- that a run has no answer is known by its computation, which is one
   abbrev fails-computed : Direction → List Whole → Type 0
-  fails-computed dir ss = (n : ℕ) × ((f : ℕ) → n < f → run program input f dir ss ≡ Some (n, None))
+  fails-computed dir ss = (c : IsComputed program input dir ss) × (c.0.1 ≡ None)
 
   fails-computed-prop : (dir : Direction) (ss : List Whole) → IsProp (fails-computed dir ss)
-  fails-computed-prop dir ss x y =
-      Σ_prop_path (λ (n : ℕ). Π_prop (λ f. Π_prop (λ more. counted-set (run program input f dir ss) (Some (n, None))))) same
-    where
-      same : x.0 ≡ y.0
-      same =
-          let e : ◌≡◌ {A = Option (ℕ × Option Whole)} (Some (x.0, None)) (Some (y.0, None)) =
-          sym (x.1 (suc (x.0 + y.0)) (omega arith)) ∙ y.1 (suc (x.0 + y.0)) (omega arith) in
-          ap (λ (o : Option (ℕ × Option Whole)). elim o [ None ↦ 0 | Some a ↦ a.0 ]) e
+  fails-computed-prop dir ss x y = Σ_prop_path (λ (c : IsComputed program input dir ss). answer-set c.0.1 None) (IsComputed-prop program input dir ss x.0 y.0)
 
   fails-anyway : (dir : Direction) (ss : List Whole) → ∥ Fails program input dir ss ∥₁ → Fails program input dir ss
   fails-anyway dir ss t =
-      let c = ∥∥₁_elim t (fails-computed-prop dir ss) (λ x. (x.0, λ f more. runs-computed program input x.1 f more)) in
-      (c.0, computed-runs program input (suc c.0) dir ss c.0 None (c.1 (suc c.0) (omega arith)))
+      let ((a, runs), none) = ∥∥₁_elim t (fails-computed-prop dir ss) (λ x. (((x.0, None), λ f more. runs-computed program input x.1 f more), refl)) in
+      (a.0, computed-runs program input (suc a.0) dir ss a.0 None (runs (suc a.0) (omega arith) ∙ ap (λ (r : Option Whole). Some (a.0, r)) none))
 
   -- so is what is told of a key
   told-anyway : (keyed : Keyed) (further : Bool) (k : Key) → ∥ FailsAsTold program input keyed further k ∥₁ → FailsAsTold program input keyed further k

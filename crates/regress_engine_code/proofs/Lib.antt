@@ -6,3 +6,4 @@ pub mod PieceLemmas
 pub mod JumpLemmas
 pub mod ArmLemmas
 pub mod StandingLemmas
+pub mod ServingLemmas

@@ -1,8 +1,6 @@
 pub mod LeadLemmas
 pub mod PrefixLemmas
-pub mod ServingLemmas
 pub mod StartLemmas
-pub mod PrefilterLemmas
 pub mod ReachLemmas
 pub mod PairLemmas
 pub mod SecondLemmas

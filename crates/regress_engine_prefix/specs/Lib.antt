@@ -1,7 +1,6 @@
 pub mod FirstBytes
 pub mod Prefixes
 pub mod Starts
-pub mod Prefiltering
 pub mod Reaches
 pub mod WordEdges
 pub mod Choosing

@@ -7,6 +7,7 @@ pub mod ReadyLemmas
 pub mod PlaceLemmas
 pub mod SlotLemmas
 pub mod GivenBack
+pub mod PrefilterLemmas
 pub mod SearchLemmas
 pub mod SkipLemmas
 pub mod ProducerLemmas

@@ -38,7 +38,7 @@ use Rattle.regress_engine_search.proofs.PlaceLemmas.{can-read}
 use Rattle.regress_engine_search.specs.Answering.{FindsOn}
 use Rattle.regress_engine_search.specs.Search.{IsSearchable}
 use Rattle.regress_engine_search.specs.SearchProps.{rises}
-use Rattle.regress_engine_prefix.specs.Prefiltering.{IsNextHit}
+use Rattle.regress_engine_search.specs.Prefiltering.{IsNextHit}
 use Rattle.regress_engine_search.specs.Skipping.{MaySkip, IsNextStart}
 use Rattle.regress_engine_search.proofs.SearchLemmas.{bytes-units}
 

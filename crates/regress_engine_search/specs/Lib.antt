@@ -3,6 +3,7 @@ pub mod Ready
 pub mod Tasks
 pub mod Submatches
 pub mod Answering
+pub mod Prefiltering
 pub mod Search
 pub mod Skipping
 pub mod SearchProps

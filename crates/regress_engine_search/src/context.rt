@@ -8,16 +8,16 @@ ghost use Rattle.regress_engine_code.specs.Standing.{names_of, program_of};
 ghost use Rattle.regress_engine_runs.specs.Items.{goes_on};
 ghost use Rattle.regress_engine_runs.specs.Meets.{IsAtPlace};
 ghost use Rattle.regress_engine_search.specs.Search.{IsSearchable, IsMadeOf, IsItemAtPlaces};
-ghost use Rattle.regress_engine_prefix.specs.Prefiltering.{IsNextHit};
+ghost use Rattle.regress_engine_search.specs.Prefiltering.{IsNextHit};
 ghost use Rattle.regress_engine_search.specs.Skipping.{IsNextStart, MaySkip};
 ghost use Rattle.regress_engine_search.specs.SearchProps.{IsSearchable-prop, MaySkip-prop};
 ghost use Rattle.regress_engine_search.specs.StateViews.{item_with};
 
 use crate::captured::captures;
+use crate::prefilter::Prefilter;
 use crate::shown::{ExecutorInput, Shown};
 use regress_engine_code::CompiledRegex;
 use regress_engine_input::{InputIndexer, PositionType};
-use regress_engine_prefix::Prefilter;
 use regress_front_core::GroupData;
 use regress_match::{Match, Range};
 use std::alloc::{AllocError, Global};

@@ -6,6 +6,7 @@ mod captured;
 mod context;
 mod executor;
 mod laws;
+mod prefilter;
 mod shown;
 mod submatch;
 
@@ -15,5 +16,6 @@ pub use executor::{AnyText, AsciiText, Executor, TextKind};
 pub use laws::{
     executors_agree, executors_list_matches, executors_match_as_trees, start_predicates_may_skip,
 };
+pub use prefilter::Prefilter;
 pub use shown::{ExecutorInput, Shown};
 pub use submatch::Submatch;

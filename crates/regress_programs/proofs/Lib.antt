@@ -2,3 +2,4 @@ pub mod AlikeMatches
 pub mod ProgramLemmas
 pub mod OutcomeLemmas
 pub mod SlotLemmas
+pub mod StepLemmas

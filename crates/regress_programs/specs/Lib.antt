@@ -2,3 +2,8 @@ pub mod Programs
 pub mod Refusing
 pub mod Outcomes
 pub mod Filling
+pub mod SearchFor
+pub mod Positions
+pub mod Coming
+pub mod Units
+pub mod Ascii

@@ -1,12 +1,18 @@
-//! The programs of a pattern, and what one search with a program finds in an input, told by the program's trees.
+//! The programs of a pattern, and what searches with one find in an input: one, told by the program's trees, or one after another.
 #![tactic(auto)]
 
+mod ascii;
 mod compiled;
 mod laws;
+mod matches;
 mod outcomes;
 mod slots;
+mod units;
 
+pub use ascii::AsciiMatches;
 pub use compiled::Compiled;
 pub use laws::programs_of_trees_are_of_patterns;
+pub use matches::Matches;
 pub use outcomes::match_at;
 pub use slots::{Anchored, find_into};
+pub use units::{Ucs2Matches, Utf16Matches};

@@ -7,7 +7,7 @@ use Rattle.regress_match.specs.declared.found.Match.{Match}
 use Rattle.regress_match.specs.Views.{item_of}
 use Rattle.regress_match.specs.Iterating.{GivesMatch}
 use Rattle.regress_engine_search.specs.Search.{IsItemAtPlaces, IsMatchOf}
-use Rattle.regress.specs.declared.units.Ucs2Matches.{Ucs2Matches}
+use Rattle.regress_programs.specs.declared.units.Ucs2Matches.{Ucs2Matches}
 use Rattle.regress.specs.Units.{search_in_ucs2, coming_in_ucs2, HasEndedUcs2, IsMatchInUnits}
 use Rattle.regress.proofs.UnitLemmas.{begins-anywhere, match-in, each-match}
 use Rattle.regress.proofs.ListedLemmas.{coming-searched, tree-searchable}

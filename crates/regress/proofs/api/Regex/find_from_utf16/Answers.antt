@@ -7,7 +7,7 @@ use Rattle.regress_match.specs.Views.{item_of}
 use Rattle.regress_match.specs.Iterating.{GivesMatch}
 use Rattle.regress_engine_input.proofs.Utf16Texts.{utf16_end}
 use Rattle.regress_engine_search.specs.Search.{IsItemAtPlaces, IsMatchOf}
-use Rattle.regress.specs.declared.units.Utf16Matches.{Utf16Matches}
+use Rattle.regress_programs.specs.declared.units.Utf16Matches.{Utf16Matches}
 use Rattle.regress.specs.Units.{search_in_utf16, coming_in_utf16, HasEndedUtf16, IsMatchInUnits}
 use Rattle.regress.proofs.UnitLemmas.{match-in, each-match}
 use Rattle.regress.proofs.ListedLemmas.{coming-searched, tree-searchable}

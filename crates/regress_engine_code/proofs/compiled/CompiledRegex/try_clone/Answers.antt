@@ -4,7 +4,7 @@ use Rattle.regress_meaning.specs.Flags.{is_unicode}
 use Rattle.regress_meaning.specs.Table.{Table}
 use Rattle.regress_front_core.specs.FlagWords.{options}
 use Rattle.regress_front_tables.specs.TableViews.{table, table_known}
-use Rattle.regress_engine_prefix.proofs.ServingLemmas.{copy-serves}
+use Rattle.regress_engine_code.proofs.ServingLemmas.{copy-serves}
 use Rattle.regress_engine_insn.specs.Instructions.{Program}
 use Rattle.regress_engine_analysis.specs.Planned.{ArePlanned}
 use Rattle.regress_engine_analysis.specs.declared.facts.Facts.{Facts}

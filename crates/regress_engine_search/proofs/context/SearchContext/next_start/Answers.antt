@@ -1,6 +1,6 @@
 use Rattle.std.proofs.Common.{◌≡◌, ◌≤◌, length, sym, subst, rules}
 use Rattle.regress_engine_code.specs.Standing.{program_of}
-use Rattle.regress_engine_prefix.specs.Prefiltering.{IsNextHit}
+use Rattle.regress_engine_search.specs.Prefiltering.{IsNextHit}
 use Rattle.regress_engine_search.specs.Skipping.{MaySkip}
 use Rattle.regress_engine_search.proofs.SkipLemmas.{held-bytes, held-units, place-lies, shown-next_start}
 use Rattle.regress_engine_search.proofs.context.SearchContext.next_start.Goals as goal

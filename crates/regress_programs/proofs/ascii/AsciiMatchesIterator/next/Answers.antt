@@ -3,9 +3,9 @@ use Rattle.regress_match.specs.Iterating.{UnlessFound, coming_on}
 use Rattle.regress_engine_inputs.specs.InputViews.{ascii_view}
 use Rattle.regress_engine_code.specs.Standing.{names_of}
 use Rattle.regress_engine_search.specs.Search.{Search, IsPosition, items_from}
-use Rattle.regress.specs.Ascii.{search_in_ascii}
-use Rattle.regress.proofs.StepLemmas.{step-none, step-first, step-ends, step-nearer, given-in_text}
-use Rattle.regress.proofs.ascii.AsciiMatchesIterator.next.Goals as goal
+use Rattle.regress_programs.specs.Ascii.{search_in_ascii}
+use Rattle.regress_programs.proofs.StepLemmas.{step-none, step-first, step-ends, step-nearer, given-in_text}
+use Rattle.regress_programs.proofs.ascii.AsciiMatchesIterator.next.Goals as goal
 
 pub invariant_of-self : goal.invariant_of-self
 invariant_of-self c = record { placed = subst (λ (x : Search). IfSome c.step.new.position (IsPosition x)) (sym c.step.ensures.kept) c.step.ensures.inside }

@@ -1,8 +1,8 @@
 use Rattle.std.specs.Prelude.{Option, None, Some, drop}
 use Rattle.std.proofs.Common.{◌≡◌, ◌-◌, ℕ, length, take, take_all, length-drop, subst, sym, rules, arith}
-use Rattle.regress_engine_prefix.specs.Prefiltering.{IsNextHit}
-use Rattle.regress_engine_prefix.proofs.PrefilterLemmas.{found-behind, other_than_near}
-use Rattle.regress_engine_prefix.proofs.prefilter.Prefilter.find_from.Goals as goal
+use Rattle.regress_engine_search.specs.Prefiltering.{IsNextHit}
+use Rattle.regress_engine_search.proofs.PrefilterLemmas.{found-behind, other_than_near}
+use Rattle.regress_engine_search.proofs.prefilter.Prefilter.find_from.Goals as goal
 
 pub returns-in_err-index : goal.returns-in_err-index
 returns-in_err-index c =

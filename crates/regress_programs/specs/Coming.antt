@@ -9,7 +9,7 @@ use Rattle.regress_match.specs.Iterating.{coming_on, steps_on}
 use Rattle.regress_engine.specs.InputViews.{utf8_view}
 use Rattle.regress_engine.specs.Standing.{names_of}
 use Rattle.regress_engine.specs.Search.{Search, items_from, places_behind}
-use Rattle.regress.specs.declared.matches.Matches.{Matches}
+use Rattle.regress_programs.specs.declared.matches.Matches.{Matches}
 
 -- the search: with which program, in what text
 abbrev pub search_by : Matches → Search

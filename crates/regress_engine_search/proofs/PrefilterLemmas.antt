@@ -11,7 +11,7 @@ use Rattle.regress_engine_prefix.specs.declared.start.StartPredicate.{StartPredi
 use Rattle.regress_engine_prefix.specs.declared.start.StartPredicate.TheVariants.{Arbitrary, ByteSet1, ByteSet2, ByteSet3, ByteSeq, ByteBracket, ByteNear, StartAnchored}
 use Rattle.regress_engine_prefix.specs.declared.start.StartPredicate.TheVariants as variant
 use Rattle.regress_engine_scanning.specs.NibbleSets.{nibble_set_contains}
-use Rattle.regress_engine_prefix.specs.Prefiltering.{IsNextHit, is_anchored, is_near}
+use Rattle.regress_engine_search.specs.Prefiltering.{IsNextHit, is_anchored, is_near}
 use Rattle.regress_engine_scanning.proofs.ByteLemmas.{slice_get-behind, drop-behind}
 
 -- Bytes behind an offset go on so at an index where all of them do at the offset of it.

@@ -6,12 +6,13 @@ ghost use Rattle.regress_engine.specs.InputViews.{utf8_view};
 ghost use Rattle.regress_engine.specs.Search.{StartsAt};
 ghost use Rattle.regress_match.specs.Iterating.{GivesMatch};
 ghost use Rattle.regress_match.specs.TextRanges.{IsMatchIn};
-ghost use Rattle.regress.specs.Positions.{IsPlaced, IsPlaced-prop};
+ghost use Rattle.regress_programs.specs.Positions.{IsPlaced, IsPlaced-prop};
 
-use crate::api::Regex;
+use crate::compiled::Compiled;
 use regress_engine::{BacktrackExecutor, Utf8Input};
 use regress_front::Error;
 use regress_match::{Match, MatchProducer};
+use std::alloc::Global;
 use std::iter::FusedIterator;
 
 /// The matches of a compiled pattern in a text, each after the one before: from `Regex::find_iter` and
@@ -25,16 +26,22 @@ pub struct Matches<'r, 't> {
 
 impl<'r, 't> Matches<'r, 't> {
     ghost use Rattle.std.specs.Prelude.{◌≡◌};
-    ghost use Rattle.regress.specs.SearchFor.{IsSearchFor};
-    ghost use Rattle.regress.specs.Coming.{search_by, next_from};
+    ghost use Rattle.regress_programs.specs.SearchFor.{IsSearchFor};
+    ghost use Rattle.regress_programs.specs.Coming.{search_by, next_from};
 
     /// The matches of a pattern in a text, from an offset in bytes on.
-    pub(crate) fn new(regex: &'r Regex, source: &'t str, start: usize) -> Self
+    ///
+    /// Asks that a search may begin there.
+    ///
+    /// ```rust
+    /// let mut matches = Matches::new(alloc, &compiled, "aab", 0);
+    /// ```
+    pub fn new(alloc: Global, compiled: &'r Compiled, source: &'t str, start: usize) -> Self
         requires { (place : ℕ) × Begins (of_utf8 source.now) start place }
-        ensures over { IsSearchFor regex.now.compiled.byte_program source.now (search_by result) }
+        ensures over { IsSearchFor compiled.now.byte_program source.now (search_by result) }
         ensures begins { StartsAt (search_by result) start (next_from result) }
     {
-        let executor = BacktrackExecutor::new(regex.alloc, &regex.compiled.byte_program, source);
+        let executor = BacktrackExecutor::new(alloc, &compiled.byte_program, source);
         let position = executor.initial_position(start);
         Matches { executor, position }
     }
@@ -42,7 +49,7 @@ impl<'r, 't> Matches<'r, 't> {
 
 impl<'r, 't> Iterator for Matches<'r, 't> {
     ghost use Rattle.std.specs.Prelude.{◌≡◌};
-    ghost use Rattle.regress.specs.Coming.{searched, searched_names, coming, steps_left, HasEnded};
+    ghost use Rattle.regress_programs.specs.Coming.{searched, searched_names, coming, steps_left, HasEnded};
 
     type Item = Result<Match, Error>;
 

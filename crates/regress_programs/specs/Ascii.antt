@@ -5,7 +5,7 @@ use Rattle.regress_match.specs.Iterating.{coming_on, steps_on}
 use Rattle.regress_engine.specs.InputViews.{ascii_view}
 use Rattle.regress_engine.specs.Standing.{names_of}
 use Rattle.regress_engine.specs.Search.{Search, items_from, places_behind}
-use Rattle.regress.specs.declared.ascii.AsciiMatches.{AsciiMatches}
+use Rattle.regress_programs.specs.declared.ascii.AsciiMatches.{AsciiMatches}
 
 -- the search of a text of ASCII: with which program, in what text
 abbrev pub search_in_ascii : AsciiMatches → Search

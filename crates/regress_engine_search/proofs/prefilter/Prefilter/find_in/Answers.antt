@@ -1,9 +1,9 @@
 use Rattle.std.proofs.Common.{subst, sym, ap, ◌∙◌}
 use Rattle.memchr.specs.Find.{FindsNeedle}
 use Rattle.regress_front_bytes.specs.Bitmaps.{byte_bitmap_contains}
-use Rattle.regress_engine_prefix.specs.Prefiltering.{IsNextHit, literal_of}
+use Rattle.regress_engine_search.specs.Prefiltering.{IsNextHit, literal_of}
 use Rattle.regress_engine_scanning.proofs.ByteLemmas.{needle-least, position-least}
-use Rattle.regress_engine_prefix.proofs.prefilter.Prefilter.find_in.Goals as goal
+use Rattle.regress_engine_search.proofs.prefilter.Prefilter.find_in.Goals as goal
 
 pub returns-in-ByteSeq-clause-first : goal.returns-in-ByteSeq-clause-first
 returns-in-ByteSeq-clause-first c =

@@ -1,10 +1,10 @@
 //! Where a search may go next.
 ghost use Rattle.std.specs.Prelude.{◌≡◌, ◌≤◌, length, IfSome};
 ghost use Rattle.regress_engine_prefix.specs.Starts.{IsPlain};
-ghost use Rattle.regress_engine_prefix.specs.Prefiltering.{IsNextHit, is_anchored, literal_of};
+ghost use Rattle.regress_engine_search.specs.Prefiltering.{IsNextHit, is_anchored, literal_of};
 
-use crate::start::StartPredicate;
 use memchr::memmem::Finder;
+use regress_engine_prefix::StartPredicate;
 use regress_engine_scanning::{
     find_byte_of, find_member, find_near, find_near_units, find_one, find_sequence, find_three,
     find_two,
