@@ -19,11 +19,11 @@ use Rattle.regress_engine_search.proofs.ProducerLemmas.{match-in_bytes}
 use Rattle.regress_programs.specs.declared.slots.Anchored.{Anchored}
 use Rattle.regress_programs.specs.Filling.{HoldsOfSlots, SlotsAreAtPlaces, first_told}
 use Rattle.regress_programs.specs.Outcomes.{outcome_of_tree}
-use Rattle.regress.specs.Coming.{BeginsAndEndsAtStarts}
-use Rattle.regress.specs.Slotted.{SlotsLieInText, SlotsLieInUnits, EndsAreStarts}
-use Rattle.regress.specs.Units.{LiesInUnits, IsMatchInUnits}
-use Rattle.regress.proofs.IterationLemmas.{start_of_boundary, starts-inside as starts-at_ends}
-use Rattle.regress.proofs.UnitLemmas.{match-in, range-in}
+use Rattle.regress_programs.specs.Coming.{BeginsAndEndsAtStarts}
+use Rattle.regress_programs.specs.Slotted.{SlotsLieInText, SlotsLieInUnits, EndsAreStarts}
+use Rattle.regress_programs.specs.Units.{LiesInUnits, IsMatchInUnits}
+use Rattle.regress_programs.proofs.IterationLemmas.{start_of_boundary, starts-inside as starts-at_ends}
+use Rattle.regress_programs.proofs.UnitLemmas.{match-in, range-in}
 
 pub told-shown : (v w : View) → v ≡ w → (target : Target) (n : ℕ) (t : Tree) (start : ℕ) (found : Option Match)
     → ((place : ℕ) → Begins (reading_of v) start place → option_map item_of found ≡ option_map (told (reading_of v)) (outcome_of_tree target n t (reading_of v).points place))

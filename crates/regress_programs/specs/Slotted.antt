@@ -4,8 +4,8 @@ use Rattle.std.specs.declared.ops.Range.{Range}
 use Rattle.regress_meaning.specs.Offsets.{Reading}
 use Rattle.regress_match.specs.TextRanges.{LiesBetween}
 use Rattle.regress_programs.specs.Filling.{HoldsOfSlots}
-use Rattle.regress.specs.Coming.{IsStart}
-use Rattle.regress.specs.Units.{LiesInUnits}
+use Rattle.regress_programs.specs.Coming.{IsStart}
+use Rattle.regress_programs.specs.Units.{LiesInUnits}
 
 -- they lie in a text between characters
 abbrev pub SlotsLieInText : List ℕ → Option (Range ℕ) → List (Option (Range ℕ)) → Type 0

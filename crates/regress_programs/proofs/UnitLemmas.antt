@@ -4,7 +4,6 @@ use Rattle.std.proofs.lemmas.Bool.{cases_lt}
 use Rattle.std.specs.Iterator.{Yields}
 use Rattle.std.specs.declared.ops.Range.{Range}
 use Rattle.regress_meaning.specs.Offsets.{Reading, offset, of_ucs2, Begins}
-use Rattle.regress_front_core.specs.declared.error.Error.{Error}
 use Rattle.regress_match.specs.declared.found.Match.{Match}
 use Rattle.regress_match.specs.Views.{ends, item_of}
 use Rattle.regress_front_bytes.proofs.TextLemmas.{offset-le}
@@ -12,8 +11,8 @@ use Rattle.regress_match.proofs.TakenLemmas.{of_groups}
 use Rattle.regress_engine_input.proofs.UnitTexts.{single_offset}
 use Rattle.regress_engine_runs.specs.Meets.{AreAtPlaces}
 use Rattle.regress_engine_search.specs.Search.{Search, IsItemAtPlaces, IsMatchOf}
-use Rattle.regress.specs.Coming.{HoldsOfEach}
-use Rattle.regress.specs.Units.{LiesInUnits, IsMatchInUnits}
+use Rattle.regress_programs.specs.Coming.{HoldsOfEach}
+use Rattle.regress_programs.specs.Units.{LiesInUnits, IsMatchInUnits}
 
 -- where each unit is a character a search may begin at any offset
 pub begins-anywhere : (units : List ℕ) (at : ℕ) → (place : ℕ) × Begins (of_ucs2 units) at place
@@ -36,11 +35,11 @@ module _ (reading : Reading) (units : List ℕ) (end : offset reading (length re
   pub match-in : (m : Match) → IsItemAtPlaces reading (item_of m) → IsMatchInUnits reading units m
   match-in m inside = (range-in m.range inside.0, of_groups (AreAtPlaces reading) (LiesInUnits reading units) range-in m.captures.items inside.1)
 
-module _ {S : Type 0} (search_of : S → Search) (gives : S → Option (Result Match Error) → S → Type 0)
-    (keeps : (old new : S) (r : Option (Result Match Error)) → gives old r new → search_of new ≡ search_of old)
+module _ {S E : Type 0} (search_of : S → Search) (gives : S → Option (Result Match E) → S → Type 0)
+    (keeps : (old new : S) (r : Option (Result Match E)) → gives old r new → search_of new ≡ search_of old)
     (finds : (old new : S) (m : Match) → gives old (Some (Ok m)) new → IsMatchOf (search_of old) m) where
   -- steps are of the same search
-  search_of-along : (ms old : S) (given : List (Result Match Error)) → Yields gives ms given old → search_of old ≡ search_of ms
+  search_of-along : (ms old : S) (given : List (Result Match E)) → Yields gives ms given old → search_of old ≡ search_of ms
   search_of-along ms old [] same = ap search_of (sym same)
   search_of-along ms old (x ∷ given) (next, step, others) = search_of-along next old given others ∙ keeps ms next (Some x) step
 

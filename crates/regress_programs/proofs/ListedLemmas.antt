@@ -31,8 +31,8 @@ use Rattle.regress_engine_search.specs.Searching.{Searches}
 use Rattle.regress_engine_search.specs.Search.{Search, IsMadeOf, StartsAt, items_from}
 use Rattle.regress_engine_search.specs.SearchProps.{rises}
 use Rattle.regress_engine_search.proofs.ProducerLemmas.{items-asked}
-use Rattle.regress.specs.Programs.{IsProgramOf, IsLaidOutFrom, items_of_tree}
-use Rattle.regress.specs.SearchFor.{IsSearchFor}
+use Rattle.regress_programs.specs.Programs.{IsProgramOf, IsLaidOutFrom, items_of_tree}
+use Rattle.regress_programs.specs.SearchFor.{IsSearchFor}
 
 -- items that rise do so told in offsets, where each lies in the text
 told-rise : (r : Reading) → OffsetsRise r → (P : Item → Type 0) → ((i : Item) → P i → IsItemInside r.points i) → (items : List Item) → All P items

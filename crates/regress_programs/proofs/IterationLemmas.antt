@@ -12,7 +12,7 @@ use Rattle.regress_match.specs.Iterating.{GivesFirst, GivesMatch}
 use Rattle.regress_match.specs.TextRanges.{LiesInText, IsMatchIn}
 use Rattle.regress_front_bytes.proofs.TextLemmas.{place_of_boundary}
 use Rattle.regress_programs.specs.declared.matches.Matches.{Matches}
-use Rattle.regress.specs.Coming.{searched, searched_names, coming, HasEnded, IsStart, BeginsAndEndsAtStarts, HoldsOfEach}
+use Rattle.regress_programs.specs.Coming.{searched, searched_names, coming, HasEnded, IsStart, BeginsAndEndsAtStarts, HoldsOfEach}
 
 -- the first item of a list is what a step over it gives
 pub first-given : (IsInside : Match → Type 0) (before after : List Item) (given : Option (Result Match Error)) (tell : Item → Item) (items : List Item)
