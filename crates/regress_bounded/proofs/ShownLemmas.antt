@@ -1,19 +1,23 @@
 -- What is told of an input is told of the text that it shows.
 use Rattle.std.specs.Prelude.{IsErrOf}
-use Rattle.std.proofs.Common.{◌≡◌, ℕ, Option, Some, None, Result, Ok, Err, option_map, IfOk, IfSome, subst}
+use Rattle.std.proofs.Common.{◌≡◌, ℕ, Bool, List, Option, Some, None, Result, Ok, Err, option_map, IfOk, IfSome, subst, ◌∙◌}
+use Rattle.regress_meaning.specs.Flags.{is_unicode}
+use Rattle.regress_meaning.specs.Table.{Table}
+use Rattle.regress_front_core.specs.FlagWords.{options}
+use Rattle.regress_front.specs.TableViews.{table}
 use Rattle.regress_meaning.specs.Matches.{Item}
 use Rattle.regress_meaning.specs.Offsets.{Begins}
 use Rattle.regress_front.specs.Trees.{Tree}
 use Rattle.regress_match.specs.declared.found.Match.{Match}
 use Rattle.regress_match.specs.Views.{item_of}
-use Rattle.regress_engine_input.specs.Views.{View, reading_of}
+use Rattle.regress_engine_input.specs.Views.{Kind, View, reading_of}
 use Rattle.regress_engine_code.specs.declared.compiled.CompiledRegex.{CompiledRegex}
 use Rattle.regress_engine_exec.specs.declared.error.SearchError.{SearchError}
 use Rattle.regress_engine_exec.specs.declared.error.SearchError.TheVariants.{TooManySteps}
 use Rattle.regress_engine_search.specs.Search.{IsItemAtPlaces}
 use Rattle.regress_programs.specs.declared.slots.Anchored.{Anchored}
 use Rattle.regress_programs.specs.Filling.{first_told}
-use Rattle.regress_bounded.specs.Stopping.{Counts, TakesAll}
+use Rattle.regress_bounded.specs.Stopping.{seen_by, Counts, TakesAll}
 
 module _ (v w : View) (same : v ≡ w) (r : Result (Option Match) SearchError) where
   -- the match is that of the tree in the text
@@ -46,3 +50,8 @@ takes-all r anchored compiled v at before after stopped err =
 pub takes-shown : {T : Type 0} (r : Result T SearchError) (anchored : Anchored) (compiled : CompiledRegex) (at steps : ℕ) (v w : View) → v ≡ w
     → (IsErrOf r TooManySteps → TakesAll anchored compiled v at steps) → IsErrOf r TooManySteps → TakesAll anchored compiled w at steps
 takes-shown r anchored compiled at steps v w same stopped err = subst (λ (x : View). TakesAll anchored compiled x at steps) same (stopped err)
+
+-- what an input of a program's table and mode shows is what the program reads
+pub seen-as : (v : View) (compiled : CompiledRegex) (kind : Kind) (units : List ℕ) (t : Table) (u : Bool) → v ≡ record { kind = kind; units = units; table = t; unicode = u }
+    → t ≡ table compiled.tables → u ≡ is_unicode (options compiled.flags) → v ≡ seen_by compiled kind units
+seen-as v compiled kind units t u shown same mode = shown ∙ (λ i. record { kind = kind; units = units; table = same i; unicode = mode i })

@@ -115,8 +115,10 @@ impl<'r> Bounded<'r> {
         let program = &self.compiled.byte_program;
         let input = Utf8Input::new(text, program.flags().is_unicode(), program.tables());
         let alloc = self.alloc;
-        let found = first_within(alloc, program, input, Anchored::No, start, self.steps)?;
-        Ok(found.is_some())
+        match first_within(alloc, program, input, Anchored::No, start, self.steps) {
+            Ok(found) => Ok(found.is_some()),
+            Err(error) => Err(error),
+        }
     }
 
     /// All matches in a text, one after another, their ranges told in bytes, as `Regex::find_iter` answers them

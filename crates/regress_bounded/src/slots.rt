@@ -29,8 +29,8 @@ impl<'r> Bounded<'r> {
     /// asks for no memory but where it needs more room than all before it, or has gone back so often that it remembers what
     /// fails.
     ///
-    /// Asks that a search may begin at `start`, as `is_start` tells. Past the end of the text there is none. Errs with
-    /// `OutOfMemory` alone, and then the slots stay as they were.
+    /// Asks that a search may begin at `start`, as `is_start` tells. Past the end of the text there is none. Errs as `find` does,
+    /// and then the slots stay as they were.
     ///
     /// ```rust
     /// let mut scratch = Scratch::new(alloc);
@@ -65,8 +65,7 @@ impl<'r> Bounded<'r> {
     /// The match that begins at `start`, an offset in bytes, with no search ("RegExpBuiltinExec" with `y`), as `match_at` answers
     /// it, written to `slots` as `find_into` does.
     ///
-    /// Asks that a search may begin there, as `is_start` tells. Errs with `OutOfMemory` alone, and then the slots stay as they
-    /// were.
+    /// Asks that a search may begin there, as `is_start` tells. Errs as `match_at` does, and then the slots stay as they were.
     ///
     /// ```rust
     /// let mut scratch = Scratch::new(alloc);
@@ -102,7 +101,7 @@ impl<'r> Bounded<'r> {
     /// The first match in units of UTF-16 from `start` on, as `find_from_utf16` has it, written to `slots` as `find_into` does.
     /// `start` and ranges are in units.
     ///
-    /// Asks that a search may begin there, as `is_unit_start` tells. Errs with `OutOfMemory` alone.
+    /// Asks that a search may begin there, as `is_unit_start` tells. Errs as `find` does.
     ///
     /// ```rust
     /// let mut scratch = Scratch::new(alloc);
@@ -136,7 +135,7 @@ impl<'r> Bounded<'r> {
     /// The match that begins at `start` in units of UTF-16, as `match_at_utf16` answers it, written to `slots` as `find_into` does.
     /// `start` and ranges are in units.
     ///
-    /// Asks that a search may begin there, as `is_unit_start` tells. Errs with `OutOfMemory` alone.
+    /// Asks that a search may begin there, as `is_unit_start` tells. Errs as `match_at` does.
     ///
     /// ```rust
     /// let mut scratch = Scratch::new(alloc);
@@ -169,7 +168,7 @@ impl<'r> Bounded<'r> {
     }
 
     /// The first match in 16-bit units that are each one character from `start` on, as `find_from_ucs2` has it, written to
-    /// `slots` as `find_into` does. `start` and ranges are in units; a search may begin at any. Errs with `OutOfMemory` alone.
+    /// `slots` as `find_into` does. `start` and ranges are in units; a search may begin at any. Errs as `find` does.
     ///
     /// ```rust
     /// let mut scratch = Scratch::new(alloc);
@@ -200,7 +199,7 @@ impl<'r> Bounded<'r> {
     }
 
     /// The match that begins at `start` in 16-bit units that are each one character, as `match_at_ucs2` answers it, written to
-    /// `slots` as `find_into` does. `start` and ranges are in units; a match may begin at any. Errs with `OutOfMemory` alone.
+    /// `slots` as `find_into` does. `start` and ranges are in units; a match may begin at any. Errs as `match_at` does.
     ///
     /// ```rust
     /// let mut scratch = Scratch::new(alloc);

@@ -39,7 +39,7 @@ module _ {S E : Type 0} (search_of : S → Search) (gives : S → Option (Result
     (keeps : (old new : S) (r : Option (Result Match E)) → gives old r new → search_of new ≡ search_of old)
     (finds : (old new : S) (m : Match) → gives old (Some (Ok m)) new → IsMatchOf (search_of old) m) where
   -- steps are of the same search
-  search_of-along : (ms old : S) (given : List (Result Match E)) → Yields gives ms given old → search_of old ≡ search_of ms
+  pub search_of-along : (ms old : S) (given : List (Result Match E)) → Yields gives ms given old → search_of old ≡ search_of ms
   search_of-along ms old [] same = ap search_of (sym same)
   search_of-along ms old (x ∷ given) (next, step, others) = search_of-along next old given others ∙ keeps ms next (Some x) step
 
