@@ -1,6 +1,6 @@
 use Rattle.std.specs.Prelude.{option_map, IfOk}
 use Rattle.std.specs.Str.{chars}
-use Rattle.std.proofs.Common.{◌≡◌, length, ap, ◌∙◌, subst}
+use Rattle.std.proofs.Common.{◌≡◌, Err, length, ap, ◌∙◌, subst}
 use Rattle.regress_meaning.specs.Flags.{is_unicode}
 use Rattle.regress_meaning.specs.Offsets.{of_utf8, told}
 use Rattle.regress_meaning.specs.Pattern.{names_of}
@@ -8,6 +8,7 @@ use Rattle.regress_front.specs.TableViews.{table}
 use Rattle.regress_front_core.specs.FlagWords.{options}
 use Rattle.regress_match.specs.Views.{item_of}
 use Rattle.regress_engine_input.specs.Views.{utf8}
+use Rattle.regress_engine_exec.specs.declared.error.SearchError.TheVariants.{TooManySteps}
 use Rattle.regress_programs.specs.declared.slots.Anchored.TheVariants.{No}
 use Rattle.regress_programs.specs.Filling.{first_told}
 use Rattle.regress_programs.proofs.AskingLemmas.{found-some}
@@ -32,4 +33,4 @@ returns-in-Ok-clause-found c = λ t o p stands place begins.
 pub returns-in-Err-clause-stopped : goal.returns-in-Err-clause-stopped
 returns-in-Err-clause-stopped c = λ err.
     let same = seen-as _ (byte_program_of c.args.self.now) utf8 c.args.text.now _ _ c.new-input.ensures (ap table c.tables.ensures) (c.is_unicode.ensures ∙ ap (λ f. is_unicode (options f)) c.flags.ensures) in
-    takes-shown c.first_within.result No (byte_program_of c.args.self.now) c.args.start (steps_of c.args.self.now) _ _ same c.first_within.ensures.stopped (c.in-Err.is ∙ err)
+    takes-shown c.first_within.result No (byte_program_of c.args.self.now) c.args.start (steps_of c.args.self.now) _ _ same c.first_within.ensures.stopped (c.in-Err.is ∙ ap Err (let e : c.in-Err.error ≡ TooManySteps = cc in e))
