@@ -1,6 +1,5 @@
 -- How many steps of a run are counted.
-use Rattle.std.specs.Prelude.{nat_le}
-use Rattle.std.proofs.Common.{◌≡◌, ℕ, ◌+◌, ◌≤◌, ◌-◌, Bool, true, false, [], ◌∷◌, Option, Some, None, refl, sym, ap, ◌∙◌, subst, arith, suc}
+use Rattle.std.proofs.Common.{◌≡◌, ℕ, ◌+◌, ◌≤◌, ◌-◌, Bool, true, false, [], ◌∷◌, Option, Some, None, refl, sym, ap, ◌∙◌, subst, arith, suc, leb-false}
 use Rattle.regress_meaning.specs.Meaning.{Forward}
 use Rattle.regress_engine_input.specs.Views.{View, input_of, reading_of}
 use Rattle.regress_engine_insn.specs.Instructions.{Program}
@@ -44,10 +43,11 @@ spends-counted (Some a) b c steps is = (a - steps, ap (λ (x : Bool × Option �
 
 -- nothing is left where they might not be counted
 pub counted-over : (a b : Option ℕ) (c : Bool) (steps : ℕ) → (c, b) ≡ counted steps a → c ≡ false → b ≡ Some 0
-counted-over None b c steps is no = let e : true ≡ false = sym (ap (λ (x : Bool × Option ℕ). x.0) is) ∙ no in absurd (cc)
-counted-over (Some a) b c steps is no =
-    let e : nat_le steps a ≡ false = sym (ap (λ (x : Bool × Option ℕ). x.0) is) ∙ no in
-    ap (λ (x : Bool × Option ℕ). x.1) is ∙ ap Some (omega (arith, e))
+counted-over None b c steps is stops = let e : true ≡ false = sym (ap (λ (x : Bool × Option ℕ). x.0) is) ∙ stops in absurd (cc)
+counted-over (Some a) b c steps is stops =
+    let few = leb-false steps a (sym (ap (λ (x : Bool × Option ℕ). x.0) is) ∙ stops) in
+    let none : a - steps ≡ 0 = omega (arith, few) in
+    ap (λ (x : Bool × Option ℕ). x.1) is ∙ ap Some none
 
 -- ---- a run that is tried
 

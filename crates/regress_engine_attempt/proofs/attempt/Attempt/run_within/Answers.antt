@@ -1,4 +1,4 @@
-use Rattle.std.proofs.Common.{ℕ, true, false, [], replicate, ap₂, ◌∙◌, subst}
+use Rattle.std.proofs.Common.{ℕ, true, false, [], replicate, refl, ap₂, ◌∙◌, subst}
 use Rattle.regress_engine_code.specs.Standing.{program_of}
 use Rattle.regress_engine_input.specs.Views.{input_of}
 use Rattle.regress_engine_runs.specs.States.{unset}
@@ -57,7 +57,7 @@ steps-preserved-then-going g c =
     let program = program_of c.args.self.now.program.now in
     let v = g.Input.InputIndexer.view c.args.self.now.input in
     record {
-      so = c.steps.invariant.so;
+      so = c.in_ok-going.ensures.so;
       trying = record {
         tried = tried-on program v _ _ 1 _ (task program (input_of v) true c.try_step.new.spot (held c.try_step.new.memory))
             (steps-led program v c.steps.spot c.try_step.new.spot (held c.steps.memory) (held c.try_step.new.memory) _ c.in-Some.going true c.in-Some.is c.if-going.true c.in_ok-going.ensures.leads) c.steps.invariant.trying.tried;
@@ -113,3 +113,26 @@ returns-in_default-clause-counted g c =
     let v = g.Input.InputIndexer.view c.args.self.now.input in
     counts-run program (g.Input.Shown.shown c.args.self.now.input) v (g.met.Input.ExecutorInput.shows c.args.self.now.input) c.args.self.now.start c.args.self.now.ends _ _
     (counts-all program v _ _ _ _ _ c.steps.invariant.counted)
+
+pub returns-then-not-count-clause-counted : goal.returns-then-not-count-clause-counted
+returns-then-not-count-clause-counted g c =
+    let program = program_of c.args.self.now.program.now in
+    let v = g.Input.InputIndexer.view c.args.self.now.input in
+    let self = c.args.self.now in
+    counts-run program (g.Input.Shown.shown self.input) v (g.met.Input.ExecutorInput.shows self.input) self.start self.ends _ _
+    (counts-all program v _ _ _ _ (task program (input_of v) c.in-Some.going c.try_step.new.spot (held c.try_step.new.memory)) (counts-on program v _ _ _ _ _ 1 _ _
+    (steps-led program v c.steps.spot c.try_step.new.spot (held c.steps.memory) (held c.try_step.new.memory) _ c.in-Some.going c.in-Some.going c.in-Some.is refl c.in_ok-going.ensures.leads)
+    (spends-counted _ _ _ 1 c.count.ensures) c.steps.invariant.counted))
+
+pub returns-then-not-count-clause-stopped : goal.returns-then-not-count-clause-stopped
+returns-then-not-count-clause-stopped g c = counted-over (g.B.Budget.left c.steps.budget) (g.B.Budget.left c.count.new.self) c.count.result 1 c.count.ensures c.if-not-count.true
+
+pub returns-then-not-branch-clause-counted : goal.returns-then-not-branch-clause-counted
+returns-then-not-branch-clause-counted g c =
+    let program = program_of c.args.self.now.program.now in
+    let v = g.Input.InputIndexer.view c.args.self.now.input in
+    let self = c.args.self.now in
+    counts-run program (g.Input.Shown.shown self.input) v (g.met.Input.ExecutorInput.shows self.input) self.start self.ends _ _
+    (counts-all program v _ _ _ _ (task program (input_of v) false c.try_step.new.spot (held c.try_step.new.memory)) (counts-on program v _ _ _ _ _ 1 _ _
+    (steps-led program v c.steps.spot c.try_step.new.spot (held c.steps.memory) (held c.try_step.new.memory) _ c.in-Some.going false c.in-Some.is c.if-going.false c.in_ok-going.ensures.leads)
+    (spends-counted _ _ _ 1 c.count.ensures) c.steps.invariant.counted))
