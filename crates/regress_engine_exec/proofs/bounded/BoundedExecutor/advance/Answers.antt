@@ -7,7 +7,7 @@ use Rattle.regress_engine_input.specs.Views.{input_of, reading_of}
 use Rattle.regress_engine_runs.specs.Items.{Finds, goes_on}
 use Rattle.regress_engine_search.specs.Search.{Search, IsItemAtPlaces}
 use Rattle.regress_engine_search.proofs.ProducerLemmas.{read-place, read-none, goes-on}
-use Rattle.regress_engine_exec.proofs.stepping.BoundedExecutor.advance.Goals as goal
+use Rattle.regress_engine_exec.proofs.bounded.BoundedExecutor.advance.Goals as goal
 
 pub find_from-requires : goal.find_from-requires
 find_from-requires g c =
@@ -47,4 +47,5 @@ returns g c =
       nearer = on.nearer;
       kept = search rules;
       last = search rules;
+      counted = search rules;
     }

@@ -1,7 +1,7 @@
 use Rattle.std.proofs.Common.{nat_le, refl}
 use Rattle.regress_engine_search.specs.Search.{Search}
 use Rattle.regress_engine_search.proofs.ProducerLemmas.{shown-kind, read-starts, start-place}
-use Rattle.regress_engine_exec.proofs.stepping.BoundedExecutor.initial_position.Goals as goal
+use Rattle.regress_engine_exec.proofs.bounded.BoundedExecutor.initial_position.Goals as goal
 
 pub returns-clause-inside : goal.returns-clause-inside
 returns-clause-inside g c =
