@@ -1,11 +1,11 @@
 -- How many steps the runs of a search take, and how many of them are counted.
 use Rattle.std.specs.Prelude.{option_map, slice_get, get_or}
-use Rattle.std.proofs.Common.{◌≡◌, ℕ, zero, suc, ◌+◌, ◌≤◌, ◌<◌, ◌-◌, ◌⊎◌, inl, inr, Bool, true, false, List, [], ◌∷◌, length, Option, Some, None, refl, sym, ap, ◌∙◌, subst, arith}
+use Rattle.std.proofs.Common.{◌≡◌, ℕ, zero, suc, ◌+◌, ◌≤◌, ◌<◌, ◌-◌, ◌⊎◌, inl, inr, List, length, Option, Some, None, refl, sym, ap, ◌∙◌, subst, arith}
 use Rattle.std.proofs.Math.Logic.{∥∥₁_elim}
 use Rattle.std.proofs.lemmas.Bool.{cases_lt}
 use Rattle.std.proofs.lemmas.Option.{slice_get_past, slice_get-get_or}
 use Rattle.regress_meaning.specs.Meaning.{Forward}
-use Rattle.regress_meaning.specs.Inputs.{Input, Tells, point_told}
+use Rattle.regress_meaning.specs.Inputs.{Tells, point_told}
 use Rattle.regress_meaning.specs.Matches.{Item}
 use Rattle.regress_meaning.specs.Offsets.{offset}
 use Rattle.regress_engine_input.specs.Views.{View, AreOfKind, input_of, reading_of}
