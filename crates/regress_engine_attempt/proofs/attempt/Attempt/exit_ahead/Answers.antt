@@ -113,10 +113,8 @@ returns-then-are_exits_known-clause-over g c =
           (subst (ExitsFailWith program (input_of v) keyed _) c.loops.ensures (c.are_exits_known.ensures c.if-are_exits_known.true program (input_of v) c.requires.so.known))))
     ]
 
-
 pub returns-then-not-exit_fails-clause-over : goal.returns-then-not-exit_fails-clause-over
 returns-then-not-exit_fails-clause-over g c = c.places.invariant.more
-
 
 pub returns-then-rest-eq0-clause-over : goal.returns-then-rest-eq0-clause-over
 returns-then-rest-eq0-clause-over g c =
@@ -129,7 +127,6 @@ returns-then-rest-eq0-clause-over g c =
     inr (then-more program v keyed h c.requires.sound.loops c.args.forward c.args.at i here c.args.offset c.args.left c.places.near c.places.rest h c.places.invariant.over
     (last-one program v keyed h c.requires.sound.loops c.args.forward c.args.at i here c.places.near c.places.rest (c.exit_fails.ensures c.if-not-exit_fails.false) (inl c.if-rest-eq0.true)))
 
-
 pub returns-in_default-clause-over : goal.returns-in_default-clause-over
 returns-in_default-clause-over g c =
     let program = program_of c.args.self.now.program.now in
@@ -141,4 +138,3 @@ returns-in_default-clause-over g c =
     inr (then-more program v keyed h c.requires.sound.loops c.args.forward c.args.at i here c.args.offset c.args.left c.places.near c.places.rest h c.places.invariant.over
     (last-one program v keyed h c.requires.sound.loops c.args.forward c.args.at i here c.places.near c.places.rest (c.exit_fails.ensures c.if-not-exit_fails.false)
     (inr (ap (λ gs. advance program (input_of v) i (direction_of c.args.forward) (map marks_of gs) c.places.near) (sym c.deref.ensures.value) ∙ sym c.in_default.ensures))))
-

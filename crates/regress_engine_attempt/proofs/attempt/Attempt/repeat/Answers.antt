@@ -92,7 +92,6 @@ returns-then-is_possessive-clause-counted g c =
     let most = c.pass.ensures.most (length v.units) (place-lies v all c.args.spot.now.offset c.requires.body.3) (place-lies v all c.as_far-far.result c.as_far-far.ensures.place) in
     omega (arith, most)
 
-
 pub returns-then-greedy-clause-counted : goal.returns-then-greedy-clause-counted
 returns-then-greedy-clause-counted g c =
     let v = g.Input.InputIndexer.view c.args.self.now.input in
@@ -100,7 +99,5 @@ returns-then-greedy-clause-counted g c =
     let most = c.pass.ensures.most (length v.units) (place-lies v all c.args.spot.now.offset c.requires.body.3) (place-lies v all c.as_far-far.result c.as_far-far.ensures.place) in
     omega (arith, most)
 
-
 pub take_on-requires-clause-from : goal.take_on-requires-clause-from
 take_on-requires-clause-from g c = c.requires.body.3
-

@@ -83,11 +83,9 @@ returns-clause-leads g c =
 pub take_on_known-requires-clause-from : goal.take_on_known-requires-clause-from
 take_on_known-requires-clause-from g c = c.requires.body.3
 
-
 pub returns-clause-counted : goal.returns-clause-counted
 returns-clause-counted g c =
     let v = g.Input.InputIndexer.view c.args.self.now.input in
     let all = g.met.Input.InputIndexer.are_of_kind c.args.self.now.input in
     let most = c.pass.ensures.most (length v.units) (place-lies v all c.args.spot.now.offset c.requires.body.3) (place-lies v all c.in-Some-far_exit.far c.in-Some-far_exit.ensures.place) in
     omega (arith, most)
-

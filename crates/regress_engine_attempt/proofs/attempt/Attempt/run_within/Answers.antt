@@ -119,7 +119,6 @@ returns-in_default-clause-counted g c =
     counts-run program (g.Input.Shown.shown self.input) v (g.met.Input.ExecutorInput.shows self.input) self.start self.ends _ _
     (counts-all program v _ _ _ _ _ _ c.steps.invariant.counted)
 
-
 pub returns-then-not-count-clause-counted : goal.returns-then-not-count-clause-counted
 returns-then-not-count-clause-counted g c =
     let program = program_of c.args.self.now.program.now in
@@ -130,11 +129,9 @@ returns-then-not-count-clause-counted g c =
     (steps-led program v c.steps.spot c.try_step.new.spot (held c.steps.memory) (held c.try_step.new.memory) _ c.in-Some.going c.in-Some.going c.in-Some.is refl c.in_ok-going.ensures.leads)
     c.in_ok-going.ensures.counted c.count.ensures.counted c.count.ensures.over c.steps.invariant.counted))
 
-
 pub returns-then-not-count-clause-stopped : goal.returns-then-not-count-clause-stopped
 returns-then-not-count-clause-stopped g c =
     counted-over (g.B.Budget.left c.steps.budget) (g.B.Budget.left c.count.new.self) c.count.result _ c.count.ensures.counted c.if-not-count.true
-
 
 pub returns-then-not-branch-clause-counted : goal.returns-then-not-branch-clause-counted
 returns-then-not-branch-clause-counted g c =
@@ -145,4 +142,3 @@ returns-then-not-branch-clause-counted g c =
     (counts-all program v _ _ _ _ _ (task program (input_of v) false c.try_step.new.spot (held c.try_step.new.memory)) (counts-step program v _ _ _ _ _ c.count.result _ _ _ _ (task program (input_of v) false c.try_step.new.spot (held c.try_step.new.memory))
           (steps-led program v c.steps.spot c.try_step.new.spot (held c.steps.memory) (held c.try_step.new.memory) _ c.in-Some.going false c.in-Some.is c.if-going.false c.in_ok-going.ensures.leads)
           c.in_ok-going.ensures.counted c.count.ensures.counted c.count.ensures.over c.steps.invariant.counted))
-

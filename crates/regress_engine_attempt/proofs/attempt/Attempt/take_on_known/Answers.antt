@@ -115,14 +115,12 @@ returns-then-not-exit-clause-over g c =
     passed-or c.args.from c.args.offset c.exit_ahead-exit.result.offset _ _ c.exit_ahead-exit.ensures.over c.pass.ensures.none
     (more-none program v c.args.spot.now (held c.args.memory.now) c.args.at c.args.offset c.args.left c.exit_ahead-exit.result (was c.exit_ahead-exit.result.may_go true c.if-not-exit.true))
 
-
 pub returns-then-not-exit-clause-counted : goal.returns-then-not-exit-clause-counted
 returns-then-not-exit-clause-counted g c =
     let v = g.Input.InputIndexer.view c.args.self.now.input in
     let all = g.met.Input.InputIndexer.are_of_kind c.args.self.now.input in
     let most = c.pass.ensures.most (length v.units) (place-lies v all c.args.from c.requires.from) (place-lies v all c.exit_ahead-exit.result.offset c.exit_ahead-exit.ensures.body.3) in
     omega (arith, most)
-
 
 pub returns-in_ok-record_exit-clause-over : goal.returns-in_ok-record_exit-clause-over
 returns-in_ok-record_exit-clause-over g c =
@@ -144,7 +142,6 @@ returns-in_ok-record_exit-clause-over g c =
     (λ x. end 1 (leads-then program input 1 0 (more x) (leads-then program input 0 0 (subst (From 0) c.if-going.true c.in_ok-going.ensures.leads) c.in_ok-record_exit.ensures.leads)))
     (λ z. end 1 (leads-then program input 0 1 first (leads-then program input 1 0 (subst (From 1) c.if-going.true z) c.in_ok-record_exit.ensures.leads)))
 
-
 pub returns-else-going-clause-over : goal.returns-else-going-clause-over
 returns-else-going-clause-over g c =
     let program = program_of c.args.self.now.program.now in
@@ -159,4 +156,3 @@ returns-else-going-clause-over g c =
     passed-both c.args.from c.args.offset e.offset _ _ c.exit_ahead-exit.ensures.over c.in_ok-going.ensures.over
     (λ x. leads-then program input 1 0 (more x) c.in_ok-going.ensures.leads)
     (λ z. leads-then program input 0 1 first z)
-

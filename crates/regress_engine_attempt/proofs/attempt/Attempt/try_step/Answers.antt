@@ -65,10 +65,8 @@ pub returns-in-Some-clause-counted : goal.returns-in-Some-clause-counted
 returns-in-Some-clause-counted g c =
     subst (λ o. PassesIf (g.Input.InputIndexer.view c.args.self.now.input) o c.args.remembered.now.counts.more c.begin.new.remembered.counts.more) c.in-Some.is c.in_ok-going.ensures.counted
 
-
 pub returns-in_ok-left-in-None-clause-counted : goal.returns-in_ok-left-in-None-clause-counted
 returns-in_ok-left-in-None-clause-counted g c =
     let none = subst (λ o. PassesIf (g.Input.InputIndexer.view c.args.self.now.input) o c.args.remembered.now.counts.more c.begin.new.remembered.counts.more) c.in-None.is c.in_ok-going.ensures.counted in
     let few = c.in_ok-left-in-None.ensures.counted in
     omega (arith, none, few)
-

@@ -101,30 +101,23 @@ returns-in-Tried-clause-sound g c =
 pub returns-in-OldLoop-clause-counted : goal.returns-in-OldLoop-clause-counted
 returns-in-OldLoop-clause-counted g c = inl (omega arith)
 
-
 pub returns-in-OldGroup-clause-counted : goal.returns-in-OldGroup-clause-counted
 returns-in-OldGroup-clause-counted g c = inl (omega arith)
-
 
 pub returns-in-Resume-clause-counted : goal.returns-in-Resume-clause-counted
 returns-in-Resume-clause-counted g c = inl (omega arith)
 
-
 pub returns-in_ok-iterate-in-Iterate-clause-counted : goal.returns-in_ok-iterate-in-Iterate-clause-counted
 returns-in_ok-iterate-in-Iterate-clause-counted g c = inl (omega arith)
-
 
 pub returns-in_ok-going-in-GiveBack-clause-counted : goal.returns-in_ok-going-in-GiveBack-clause-counted
 returns-in_ok-going-in-GiveBack-clause-counted g c = inl (omega arith)
 
-
 pub returns-in-Submatch-clause-counted : goal.returns-in-Submatch-clause-counted
 returns-in-Submatch-clause-counted g c = inl (omega arith)
 
-
 pub returns-in-Tried-clause-counted : goal.returns-in-Tried-clause-counted
 returns-in-Tried-clause-counted g c = inl (omega arith)
-
 
 pub returns-in_ok-going-in-TakeOn-clause-counted : goal.returns-in_ok-going-in-TakeOn-clause-counted
 returns-in_ok-going-in-TakeOn-clause-counted g c =
@@ -135,8 +128,6 @@ returns-in_ok-going-in-TakeOn-clause-counted g c =
       | inr over ↦ inr (c.in_ok-going-in-TakeOn.ensures.counted, over)
     ])
 
-
 pub take_on-requires-clause-from : goal.take_on-requires-clause-from
 take_on-requires-clause-from g c =
     (held-take_on _ _ (held c.args.memory.now) c.in-TakeOn.at c.in-TakeOn.offset c.in-TakeOn.left (held-as _ _ _ _ _ (ap undo_of c.in-TakeOn.is) c.requires.sound)).0.3
-

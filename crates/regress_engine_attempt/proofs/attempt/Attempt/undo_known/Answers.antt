@@ -9,7 +9,6 @@ use Rattle.regress_engine_attempt.proofs.attempt.Attempt.undo_known.Goals as goa
 pub returns-in_ok-going-in-GiveBack-clause-counted : goal.returns-in_ok-going-in-GiveBack-clause-counted
 returns-in_ok-going-in-GiveBack-clause-counted g c = inl (omega arith)
 
-
 pub returns-in_ok-going-in-TakeOn-clause-counted : goal.returns-in_ok-going-in-TakeOn-clause-counted
 returns-in_ok-going-in-TakeOn-clause-counted g c =
     let w : World = record { program = program_of c.args.self.now.program.now; view = g.Input.InputIndexer.view c.args.self.now.input } in
@@ -19,8 +18,6 @@ returns-in_ok-going-in-TakeOn-clause-counted g c =
       | inr over ↦ inr (c.in_ok-going-in-TakeOn.ensures.counted, over)
     ])
 
-
 pub take_on_known-requires-clause-from : goal.take_on_known-requires-clause-from
 take_on_known-requires-clause-from g c =
     (held-take_on _ _ (held c.args.memory.now) c.in-TakeOn.at c.in-TakeOn.offset c.in-TakeOn.left (held-as _ _ _ _ _ (ap undo_of c.in-TakeOn.is) c.requires.sound)).0.3
-

@@ -12,7 +12,6 @@ returns-in-Some-clause-counted g c =
     let w : World = record { program = program_of c.args.self.now.program.now; view = g.Input.InputIndexer.view c.args.self.now.input } in
     subst (MayUndoMore w (undo_of c.args.undo) c.args.spot.now (held c.args.memory.now) c.undo_loop.new.spot (held c.undo_loop.new.memory) c.args.remembered.now.counts.more c.undo_loop.new.remembered.counts.more) c.in-Some.is c.in_ok-going.ensures.counted
 
-
 pub returns-in_ok-going-in-None-clause-counted : goal.returns-in_ok-going-in-None-clause-counted
 returns-in_ok-going-in-None-clause-counted g c =
     let w : World = record { program = program_of c.args.self.now.program.now; view = g.Input.InputIndexer.view c.args.self.now.input } in
@@ -25,4 +24,3 @@ returns-in_ok-going-in-None-clause-counted g c =
     (subst (MayUndo w u p h q k) c.in-None.is c.in_ok-going.ensures.leads)
     (subst (MayUndoMore w u p h q k c.args.remembered.now.counts.more c.undo_loop.new.remembered.counts.more) c.in-None.is c.in_ok-going.ensures.counted)
     c.in_ok-going-in-None.ensures.counted
-
