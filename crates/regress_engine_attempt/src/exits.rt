@@ -453,7 +453,14 @@ impl<'a, Input: ExecutorInput> Attempt<'a, Input> {
         let at = spot.at + 2;
         if !greedy {
             let going = self.take_on_known(
-                at, spot.offset, near, left, memory, failures, counts, spot,
+                at,
+                spot.offset,
+                near,
+                left,
+                memory,
+                failures,
+                counts,
+                spot,
             )?;
             return Ok(going);
         }

@@ -142,11 +142,11 @@ module _ (program : Program) (v : View) (searchable : IsSearchable program v) (a
   takes-next p k room on n takes rest (j, Some w, run) =
       let listed = searchable.lists (p + suc k) room in
       absurd (∥∥₁_elim listed.lists (λ x. absurd x) (λ l.
-          let (i, finds) = listed-finds program v l in
-          let same : i ≡ Some (item_of (there p) w) = one_find program (input_of v) (on i finds) (found (j, run)) in
-          let low : there (p + suc k) ≤ there p = finds-from program (input_of v) (moves v) (subst (Finds program (input_of v) (there (p + suc k))) same finds) in
-          let less = told.rise p (p + suc k) (omega arith) room in
-          omega (arith, low, less)))
+      let (i, finds) = listed-finds program v l in
+      let same : i ≡ Some (item_of (there p) w) = one_find program (input_of v) (on i finds) (found (j, run)) in
+      let low : there (p + suc k) ≤ there p = finds-from program (input_of v) (moves v) (subst (Finds program (input_of v) (there (p + suc k))) same finds) in
+      let less = told.rise p (p + suc k) (omega arith) room in
+      omega (arith, low, less)))
   takes-next p k room on n takes rest (j, None, run) =
       let far : p + suc k ≡ suc p + k = omega arith in
       let (c, here) = next-there p (omega (arith, room)) in

@@ -105,7 +105,7 @@ places-preserved g c =
     let there : Reaches program v c.places.from c.in-Some.start = subst (IsNextStart program v c.places.from) c.in-Some.is c.next_start.ensures.start in
     let here = counts-past program v searchable all c.args.offset c.places.from c.in-Some.start _ _ c.places.invariant.place there.place there.low there.on c.places.invariant.counted in
     let answer = subst (λ x. IsAnswer program (input_of v) c.in-Some.start x (held c.run_within.new.memory).groups) c.in_default-found.is
-        (subst (λ e. IfEnded e (λ x. IsAnswer program (input_of v) c.in-Some.start x (held c.run_within.new.memory).groups)) c.in-With.is c.in_ok-found.ensures.answer) in
+    (subst (λ e. IfEnded e (λ x. IsAnswer program (input_of v) c.in-Some.start x (held c.run_within.new.memory).groups)) c.in-With.is c.in_ok-found.ensures.answer) in
     let (n, run, spends) = counted-answer program v c.in-Some.start None _ _ answer c.in_ok-found.ensures.counted in
     record {
       finds = search-on program v all c.args.offset c.in-Some.start _ c.in-Some-beside.behind (held c.run_within.new.memory).groups (there.on c.args.offset c.places.invariant.finds)

@@ -83,7 +83,7 @@ returns-then-branch-clause-counted g c =
     subst (λ (x : Counts). GoesBackMore (record { program = program; view = v }) c.args.spot.now (held c.args.memory.now) c.undo_one.new.spot (held c.undo_one.new.memory) true x.more c.undo_one.new.remembered.counts.more) c.keep_failures.ensures.kept
     (back-on (record { program = program; view = v }) c.args.spot.now c.loop-undo.spot c.undo_one.new.spot (held c.args.memory.now) (held c.loop-undo.memory) (held c.pop.new.self) (held c.undo_one.new.memory) (undo_of c.in-Some.undo)
     c.in_ok-undo_one.field-0 true _ c.loop-undo.remembered.counts.more _ c.in-Some.ensures c.if-branch.true c.in_ok-undo_one.ensures.leads
-          (subst (λ (x : Counts). UndoesMore (record { program = program_of c.args.self.now.program.now; view = g.Input.InputIndexer.view c.args.self.now.input }) (undo_of c.in-Some.undo) c.loop-undo.spot (held c.pop.new.self) c.undo_one.new.spot (held c.undo_one.new.memory) c.in_ok-undo_one.field-0 x.more c.undo_one.new.remembered.counts.more) c.learn.ensures.kept c.in_ok-undo_one.ensures.counted) c.loop-undo.invariant.more)
+    (subst (λ (x : Counts). UndoesMore (record { program = program_of c.args.self.now.program.now; view = g.Input.InputIndexer.view c.args.self.now.input }) (undo_of c.in-Some.undo) c.loop-undo.spot (held c.pop.new.self) c.undo_one.new.spot (held c.undo_one.new.memory) c.in_ok-undo_one.field-0 x.more c.undo_one.new.remembered.counts.more) c.learn.ensures.kept c.in_ok-undo_one.ensures.counted) c.loop-undo.invariant.more)
 
 pub returns-clause-counted : goal.returns-clause-counted
 returns-clause-counted g c =

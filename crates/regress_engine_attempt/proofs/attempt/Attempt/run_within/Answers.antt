@@ -17,8 +17,8 @@ steps-init g c =
     let v = g.Input.InputIndexer.view c.args.self.now.input in
     let ends = c.args.self.now.ends in
     let trying = trying-way program v ends.0.0 ends.0.1 c.args.self.now.start 0 c.args.first (held c.begin.new.self) c.requires.begun
-        (trying-first program (g.Input.Shown.shown c.args.self.now.input) v (g.met.Input.ExecutorInput.shows c.args.self.now.input) c.args.self.now.start ends (held c.begin.new.self) c.requires.reads
-        (c.in_ok-begin.ensures ∙ ap₂ (λ (l n : ℕ). blank l n) c.loops.ensures c.groups.ensures)) in
+    (trying-first program (g.Input.Shown.shown c.args.self.now.input) v (g.met.Input.ExecutorInput.shows c.args.self.now.input) c.args.self.now.start ends (held c.begin.new.self) c.requires.reads
+    (c.in_ok-begin.ensures ∙ ap₂ (λ (l n : ℕ). blank l n) c.loops.ensures c.groups.ensures)) in
     record { so = c.requires.so; trying = trying; counted = counts-first program v ends.0.0 ends.0.1 _ _ trying.tried }
   where
     blank : ℕ → ℕ → Held
@@ -105,7 +105,7 @@ steps-preserved g c =
       counted =
           let (n, few, back) = c.in_ok-back.ensures.counted in
           counts-past program v _ _ _ _ _ _ n (task program (input_of v) false c.try_step.new.spot (held c.try_step.new.memory)) (task program (input_of v) true c.back.new.spot (held c.back.new.memory))
-            (subst (λ b. Leads program (input_of v) n (task program (input_of v) false c.try_step.new.spot (held c.try_step.new.memory)) (task program (input_of v) b c.back.new.spot (held c.back.new.memory))) c.if-not-branch.false back) few
+          (subst (λ b. Leads program (input_of v) n (task program (input_of v) false c.try_step.new.spot (held c.try_step.new.memory)) (task program (input_of v) b c.back.new.spot (held c.back.new.memory))) c.if-not-branch.false back) few
           (counts-step program v _ _ _ _ _ c.count.result _ _ _ _ (task program (input_of v) false c.try_step.new.spot (held c.try_step.new.memory))
           (steps-led program v c.steps.spot c.try_step.new.spot (held c.steps.memory) (held c.try_step.new.memory) _ c.in-Some.going false c.in-Some.is c.if-going.false c.in_ok-going.ensures.leads)
           c.in_ok-going.ensures.counted c.count.ensures.counted c.count.ensures.over c.steps.invariant.counted);
@@ -140,5 +140,5 @@ returns-then-not-branch-clause-counted g c =
     let self = c.args.self.now in
     counts-run program (g.Input.Shown.shown self.input) v (g.met.Input.ExecutorInput.shows self.input) self.start self.ends _ _
     (counts-all program v _ _ _ _ _ (task program (input_of v) false c.try_step.new.spot (held c.try_step.new.memory)) (counts-step program v _ _ _ _ _ c.count.result _ _ _ _ (task program (input_of v) false c.try_step.new.spot (held c.try_step.new.memory))
-          (steps-led program v c.steps.spot c.try_step.new.spot (held c.steps.memory) (held c.try_step.new.memory) _ c.in-Some.going false c.in-Some.is c.if-going.false c.in_ok-going.ensures.leads)
-          c.in_ok-going.ensures.counted c.count.ensures.counted c.count.ensures.over c.steps.invariant.counted))
+    (steps-led program v c.steps.spot c.try_step.new.spot (held c.steps.memory) (held c.try_step.new.memory) _ c.in-Some.going false c.in-Some.is c.if-going.false c.in_ok-going.ensures.leads)
+    c.in_ok-going.ensures.counted c.count.ensures.counted c.count.ensures.over c.steps.invariant.counted))

@@ -137,7 +137,7 @@ returns-in_ok-record_exit-clause-over g c =
     let k = held c.take_on.new.memory in
     let From : ℕ → Bool → Type 0 = λ n b. Leads program input n (task program input false p (pushed (take_on c.args.at e.offset e.left) h)) (task program input b q k) in
     let end : (n : ℕ) → Leads program input n (task program input false p (pushed (take_on c.args.at c.args.offset c.args.left) h)) (task program input true q (held c.record_exit.new.memory)) → Leads program input n (task program input false p (pushed (take_on c.args.at c.args.offset c.args.left) h)) (task program input c.in_ok-going.going q (held c.record_exit.new.memory)) =
-        λ n. subst (λ b. Leads program input n (task program input false p (pushed (take_on c.args.at c.args.offset c.args.left) h)) (task program input b q (held c.record_exit.new.memory))) (sym c.if-going.true) in
+    λ n. subst (λ b. Leads program input n (task program input false p (pushed (take_on c.args.at c.args.offset c.args.left) h)) (task program input b q (held c.record_exit.new.memory))) (sym c.if-going.true) in
     passed-both c.args.from c.args.offset e.offset _ _ c.exit_ahead-exit.ensures.over c.in_ok-going.ensures.over
     (λ x. end 1 (leads-then program input 1 0 (more x) (leads-then program input 0 0 (subst (From 0) c.if-going.true c.in_ok-going.ensures.leads) c.in_ok-record_exit.ensures.leads)))
     (λ z. end 1 (leads-then program input 0 1 first (leads-then program input 1 0 (subst (From 1) c.if-going.true z) c.in_ok-record_exit.ensures.leads)))

@@ -97,7 +97,7 @@ returns-then-taken-more-clause-counted g c =
     let taken = c.in-Some.taken in
     let told = c.in-Some.ensures [] in
     let most = c.pass.ensures.most (length v.units) (place-lies v all c.args.spot.now.offset c.requires.place)
-        (place-lies v all taken.past (past-place program v all _ c.requires.turn.class taken.before c.args.spot.now.offset taken.last taken.past c.requires.place told.behind told.one)) in
+    (place-lies v all taken.past (past-place program v all _ c.requires.turn.class taken.before c.args.spot.now.offset taken.last taken.past c.requires.place told.behind told.one)) in
     omega (arith, most)
 
 pub returns-clause-counted : goal.returns-clause-counted
@@ -108,5 +108,5 @@ returns-clause-counted g c =
     let taken = c.in-Some.taken in
     let told = c.in-Some.ensures [] in
     let most = c.pass.ensures.most (length v.units) (place-lies v all c.args.spot.now.offset c.requires.place)
-        (place-lies v all taken.past (past-place program v all _ c.requires.turn.class taken.before c.args.spot.now.offset taken.last taken.past c.requires.place told.behind told.one)) in
+    (place-lies v all taken.past (past-place program v all _ c.requires.turn.class taken.before c.args.spot.now.offset taken.last taken.past c.requires.place told.behind told.one)) in
     omega (arith, most)
