@@ -4,3 +4,5 @@ pub mod RememberLemmas
 pub mod ExitLemmas
 pub mod PassedLemmas
 pub mod CountLemmas
+pub mod TakeLemmas
+pub mod TurnPlaces

@@ -1,5 +1,5 @@
 -- How many steps a run takes, and how many of them are counted.
-use Rattle.std.specs.Prelude.{◌≡◌, ℕ, ◌+◌, ◌-◌, ◌≤◌, nat_le, Bool, true, [], ◌∷◌, Option, Some, None}
+use Rattle.std.specs.Prelude.{◌≡◌, ℕ, ◌+◌, ◌-◌, ◌*◌, ◌/◌, ◌≤◌, nat_le, length, Bool, true, [], ◌∷◌, Option, Some, None}
 use Rattle.regress_meaning.specs.Meaning.{Forward}
 use Rattle.regress_engine_input.specs.Views.{View, input_of}
 use Rattle.regress_engine_insn.specs.Instructions.{Program}
@@ -16,9 +16,10 @@ abbrev pub Spends : Option ℕ → Option ℕ → (n : ℕ) → Type 0
 Spends None after n = after ≡ None
 Spends (Some before) after n = (left : ℕ) × (after ≡ Some left) × (left ≤ before) × (before ≤ left + n)
 
--- how many steps are counted at most where a run takes so many
+-- how many steps are counted at most where a run takes so many: each may pass over the text, and one more is counted for each 64
+-- units of it
 abbrev pub most_counted : View → ℕ → ℕ
-most_counted v n = n
+most_counted v n = n * (1 + length v.units / 64)
 
 -- the run that begins at an offset, at the first instruction with nothing set, takes so many steps, and has this answer
 abbrev pub RunsIn : Program → View → (at n : ℕ) → Option Whole → Type 0

@@ -3,3 +3,4 @@ pub mod Attempts
 pub mod Remembering
 pub mod Counting
 pub mod Ending
+pub mod Passing

@@ -1,5 +1,5 @@
 //! How many steps runs may take.
-ghost use Rattle.std.specs.Prelude.{◌≡◌, ℕ, Option, None, Some};
+ghost use Rattle.std.specs.Prelude.{◌≡◌, ◌+◌, ℕ, Option, None, Some, IfSome};
 ghost use Rattle.regress_engine_attempt.specs.Counting.{counted};
 
 /// What the steps of runs are counted against.
@@ -7,14 +7,15 @@ pub trait Budget {
     // how many steps may still be counted, if there is a bound
     ghost left: { Self → Option ℕ };
 
-    /// Counts so many steps, and answers whether all of them may still be counted. Where they may not, no step may be counted
-    /// from then on.
+    /// Counts a step and so many more, and answers whether all of them may still be counted. Where they may not, no step may be
+    /// counted from then on. Where there is a bound, no more are to be counted then.
     ///
     /// ```rust
-    /// let may_go_on = budget.count(1);
+    /// let may_go_on = budget.count(&mut more);
     /// ```
-    fn count(&mut self, steps: usize) -> bool
-        ensures { (result, left self.new) ≡ counted steps (left self.old) };
+    fn count(&mut self, more: &mut usize) -> bool
+        ensures counted { (result, left self.new) ≡ counted (1 + more.old) (left self.old) }
+        ensures over { IfSome (left self.new) (λ _. more.new ≡ 0) };
 }
 
 /// No bound: nothing is counted.
@@ -29,7 +30,7 @@ impl Budget for Unbounded {
     ghost left = { λ b. None };
 
     #[inline(always)]
-    fn count(&mut self, _steps: usize) -> bool {
+    fn count(&mut self, _more: &mut usize) -> bool {
         true
     }
 }
@@ -46,9 +47,10 @@ impl Budget for StepsLeft {
     ghost left = { λ b. Some b.0 };
 
     #[inline(always)]
-    fn count(&mut self, steps: usize) -> bool {
-        let may_go_on = steps <= self.0;
-        self.0 = self.0.saturating_sub(steps);
+    fn count(&mut self, more: &mut usize) -> bool {
+        let may_go_on = *more < self.0;
+        self.0 = self.0.saturating_sub(*more).saturating_sub(1);
+        *more = 0;
         may_go_on
     }
 }

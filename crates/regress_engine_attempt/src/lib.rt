@@ -5,6 +5,7 @@
 mod attempt;
 mod back;
 mod budget;
+mod counts;
 mod exits;
 mod remembered;
 mod run;

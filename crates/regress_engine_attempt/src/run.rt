@@ -50,7 +50,8 @@ impl<'a, Input: ExecutorInput> Attempt<'a, Input> {
     }
 
     /// Runs the program as `run` does, and counts each step against a budget: each instruction that is done, or state that is
-    /// dropped. It answers what the run does, or that no more steps may be counted; and it has never counted more than the run takes.
+    /// dropped, and one more for each 64 units that a one-character loop passes over. It answers what the run does, or that no more
+    /// steps may be counted. It has never counted more than the run takes, where each of its steps may pass over the whole text.
     ///
     /// ```rust
     /// let ended = attempt.run_within(0, &mut memory, &mut answer, &mut remembered, &mut budget)?;
@@ -77,6 +78,7 @@ impl<'a, Input: ExecutorInput> Attempt<'a, Input> {
             self.program.loops() as usize,
             self.program.groups() as usize,
         )?;
+        remembered.counts.more = 0;
         let mut spot = Spot {
             at: first,
             offset: self.start,
@@ -86,7 +88,7 @@ impl<'a, Input: ExecutorInput> Attempt<'a, Input> {
             let Some(going) = self.try_step(memory, answer, remembered, &mut spot)? else {
                 return Ok(Ended::With(Some(spot.offset)));
             };
-            if !budget.count(1) {
+            if !budget.count(&mut remembered.counts.more) {
                 return Ok(Ended::TooManySteps);
             }
             if going {

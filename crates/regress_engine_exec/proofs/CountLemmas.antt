@@ -1,11 +1,11 @@
 -- How many steps the runs of a search take, and how many of them are counted.
 use Rattle.std.specs.Prelude.{option_map, slice_get, get_or}
-use Rattle.std.proofs.Common.{◌≡◌, ℕ, zero, suc, ◌+◌, ◌≤◌, ◌<◌, ◌-◌, ◌⊎◌, inl, inr, Bool, true, false, List, [], ◌∷◌, length, Option, Some, None, refl, sym, ap, ◌∙◌, subst, arith}
+use Rattle.std.proofs.Common.{◌≡◌, ℕ, zero, suc, ◌+◌, ◌≤◌, ◌<◌, ◌-◌, ◌⊎◌, inl, inr, List, length, Option, Some, None, refl, sym, ap, ◌∙◌, subst, arith}
 use Rattle.std.proofs.Math.Logic.{∥∥₁_elim}
 use Rattle.std.proofs.lemmas.Bool.{cases_lt}
 use Rattle.std.proofs.lemmas.Option.{slice_get_past, slice_get-get_or}
 use Rattle.regress_meaning.specs.Meaning.{Forward}
-use Rattle.regress_meaning.specs.Inputs.{Input, Tells, point_told}
+use Rattle.regress_meaning.specs.Inputs.{Tells, point_told}
 use Rattle.regress_meaning.specs.Matches.{Item}
 use Rattle.regress_meaning.specs.Offsets.{offset}
 use Rattle.regress_engine_input.specs.Views.{View, AreOfKind, input_of, reading_of}
@@ -91,10 +91,10 @@ module _ (program : Program) (v : View) (searchable : IsSearchable program v) (a
   told : Tells (reading_of v) (input_of v)
   told = tells v.kind v.table v.unicode v.units all
 
-  size : ℕ
+  abbrev size : ℕ
   size = length (reading_of v).points
 
-  there : ℕ → ℕ
+  abbrev there : ℕ → ℕ
   there p = offset (reading_of v) p
 
   -- the next code point
@@ -110,47 +110,53 @@ module _ (program : Program) (v : View) (searchable : IsSearchable program v) (a
       let ends = searchable.ends (there p) (p, room, refl) in
       (ends.0.0, ends.0.1, computed-runs program (input_of v) (suc ends.0.0) Forward _ ends.0.0 ends.0.1 (ends.1 (suc ends.0.0) (omega arith)))
 
-  -- each search takes some number of steps
-  takes-any : (k p : ℕ) → p + k ≡ size → (n : ℕ) × Takes program v (there p) n
-  takes-any k p e = by_run (runs-there p (omega (arith, e))) k e
+  -- a search takes so many steps as its first run and the search behind it
+  takes-one : (p : ℕ) → p ≤ size → (p < size → (n : ℕ) × Takes program v (there (suc p)) n) → (n : ℕ) × (r : Option Whole) × RunsIn program v (there p) n r → (n : ℕ) × Takes program v (there p) n
+  takes-one p room rest (n, Some w, run) = (n, answered run)
+  takes-one p room rest (n, None, run) = by_order (cases_lt p size)
     where
-      by_run : (n : ℕ) × (r : Option Whole) × RunsIn program v (there p) n r → (k : ℕ) → p + k ≡ size → (n : ℕ) × Takes program v (there p) n
-      by_run (n, Some w, run) k e = (n, answered run)
-      by_run (n, None, run) zero e =
-          let last : slice_get (reading_of v).points p ≡ None = slice_get_past (reading_of v).points p (omega (arith, e)) in
-          (n, counting.over run (told.next Forward p (omega (arith, e)) ∙ ap (λ (o : Option ℕ). option_map (point_told (reading_of v)) (option_map (λ c. (c, suc p)) o)) last))
-      by_run (n, None, run) (suc k) e =
-          let (c, here) = next-there p (omega (arith, e)) in
-          let (m, rest) = takes-any k (suc p) (omega (arith, e)) in
-          (n + m, further run here rest)
+      by_order : (p < size) ⊎ (size ≤ p) → (n : ℕ) × Takes program v (there p) n
+      by_order (inl less) =
+          let (c, here) = next-there p less in
+          let (m, takes) = rest less in
+          (n + m, further run here takes)
+      by_order (inr past) =
+          let last : slice_get (reading_of v).points p ≡ None = slice_get_past (reading_of v).points p (omega (arith, past)) in
+          (n, counting.over run (told.next Forward p (omega (arith, room)) ∙ ap (λ (o : Option ℕ). option_map (point_told (reading_of v)) (option_map (λ c. (c, suc p)) o)) last))
+
+  takes-any : (k p : ℕ) → p + k ≡ size → (n : ℕ) × Takes program v (there p) n
+  takes-any zero p e = takes-one p (omega (arith, e)) (λ less. absurd (omega (arith, less, e))) (runs-there p (omega (arith, e)))
+  takes-any (suc k) p e = takes-one p (omega (arith, e)) (λ less. takes-any k (suc p) (omega (arith, e))) (runs-there p (omega (arith, e)))
 
   pub takes-some : (at : ℕ) → IsAtPlace (reading_of v) at → (n : ℕ) × Takes program v at n
   takes-some at (p, room, e) = let (n, takes) = takes-any (size - p) p (omega (arith, room)) in (n, subst (λ o. Takes program v o n) (sym e) takes)
 
   -- A search from a place whose runs up to another have no answer takes the steps of a search from there too.
-  takes-on : (k p : ℕ) → p + k ≤ size → FindsOn program (input_of v) (there p) (there (p + k)) → (n : ℕ) → Takes program v (there p) n
-      → (m : ℕ) × (m ≤ n) × Takes program v (there (p + k)) m
-  takes-on zero p room on n takes = (n, omega arith, subst (λ q. Takes program v (there q) n) (omega arith) takes)
-  takes-on (suc k) p room on n takes = by_run (runs-there p (omega (arith, room)))
-    where
-      far : p + suc k ≡ suc p + k
-      far = omega arith
+  abbrev TakesOn : (from to n : ℕ) → Type 0
+  TakesOn from to n = (m : ℕ) × (m ≤ n) × Takes program v to m
 
-      by_run : (j : ℕ) × (r : Option Whole) × RunsIn program v (there p) j r → (m : ℕ) × (m ≤ n) × Takes program v (there (p + suc k)) m
-      by_run (j, Some w, run) =
-          let listed = searchable.lists (p + suc k) room in
-          absurd (∥∥₁_elim listed.lists (λ x. absurd x) (λ l.
-              let (i, finds) = listed-finds program v l in
-              let same : i ≡ Some (item_of (there p) w) = one_find program (input_of v) (on i finds) (found (j, run)) in
-              let low : there (p + suc k) ≤ there p = finds-from program (input_of v) (moves v) (subst (Finds program (input_of v) (there (p + suc k))) same finds) in
-              let less = told.rise p (p + suc k) (omega arith) room in
-              omega (arith, low, less)))
-      by_run (j, None, run) =
-          let (c, here) = next-there p (omega (arith, room)) in
-          let (m, is, rest) = taken-rest program v (there p) n j c (there (suc p)) takes run here in
-          let (l, less, found) = takes-on k (suc p) (omega (arith, room))
-              (λ i finds. finds-behind program v (there p) j c (there (suc p)) i run here (on i (subst (λ q. Finds program (input_of v) (there q) i) (sym far) finds))) m rest in
-          (l, omega (arith, is, less), subst (λ q. Takes program v (there q) l) (sym far) found)
+  -- the first of these runs
+  takes-next : (p k : ℕ) → p + suc k ≤ size → FindsOn program (input_of v) (there p) (there (p + suc k)) → (n : ℕ) → Takes program v (there p) n
+      → ((n : ℕ) → FindsOn program (input_of v) (there (suc p)) (there (suc p + k)) → Takes program v (there (suc p)) n → TakesOn (there (suc p)) (there (suc p + k)) n)
+      → (j : ℕ) × (r : Option Whole) × RunsIn program v (there p) j r → TakesOn (there p) (there (p + suc k)) n
+  takes-next p k room on n takes rest (j, Some w, run) =
+      let listed = searchable.lists (p + suc k) room in
+      absurd (∥∥₁_elim listed.lists (λ x. absurd x) (λ l.
+      let (i, finds) = listed-finds program v l in
+      let same : i ≡ Some (item_of (there p) w) = one_find program (input_of v) (on i finds) (found (j, run)) in
+      let low : there (p + suc k) ≤ there p = finds-from program (input_of v) (moves v) (subst (Finds program (input_of v) (there (p + suc k))) same finds) in
+      let less = told.rise p (p + suc k) (omega arith) room in
+      omega (arith, low, less)))
+  takes-next p k room on n takes rest (j, None, run) =
+      let far : p + suc k ≡ suc p + k = omega arith in
+      let (c, here) = next-there p (omega (arith, room)) in
+      let (m, is, behind) = taken-rest program v (there p) n j c (there (suc p)) takes run here in
+      let (l, less, last) = rest m (λ i finds. finds-behind program v (there p) j c (there (suc p)) i run here (on i (subst (λ q. Finds program (input_of v) (there q) i) (sym far) finds))) behind in
+      (l, omega (arith, is, less), subst (λ q. Takes program v (there q) l) (sym far) last)
+
+  takes-on : (k p : ℕ) → p + k ≤ size → FindsOn program (input_of v) (there p) (there (p + k)) → (n : ℕ) → Takes program v (there p) n → TakesOn (there p) (there (p + k)) n
+  takes-on zero p room on n takes = let same : p ≡ p + zero = omega arith in (n, omega arith, subst (λ q. Takes program v (there q) n) same takes)
+  takes-on (suc k) p room on n takes = takes-next p k room on n takes (λ m more. takes-on k (suc p) (omega (arith, room)) more m) (runs-there p (omega (arith, room)))
 
   pub takes-past : (from at : ℕ) → IsAtPlace (reading_of v) from → IsAtPlace (reading_of v) at → from ≤ at → FindsOn program (input_of v) from at → (n : ℕ) → Takes program v from n
       → (m : ℕ) × (m ≤ n) × Takes program v at m
@@ -161,12 +167,8 @@ module _ (program : Program) (v : View) (searchable : IsSearchable program v) (a
       by_order (inr more) =
           let reach : p + (q - p) ≡ q = omega (arith, more) in
           let on_there = subst (λ x. FindsOn program (input_of v) (there p) (there x)) (sym reach) (subst (λ x. FindsOn program (input_of v) x (there q)) e (subst (FindsOn program (input_of v) from) f on)) in
-          let (m, less, found) = takes-on (q - p) p (omega (arith, more, inside)) on_there n (subst (λ x. Takes program v x n) e takes) in
-          (m, less, subst (λ x. Takes program v x m) (ap there reach ∙ sym f) found)
-
-  -- the run from a place
-  pub runs-some : (at : ℕ) → IsAtPlace (reading_of v) at → (n : ℕ) × (r : Option Whole) × RunsIn program v at n r
-  runs-some at (p, room, e) = let (n, r, run) = runs-there p room in (n, r, subst (λ o. RunsIn program v o n r) (sym e) run)
+          let (m, less, last) = takes-on (q - p) p (omega (arith, more, inside)) on_there n (subst (λ x. Takes program v x n) e takes) in
+          (m, less, subst (λ x. Takes program v x m) (ap there reach ∙ sym f) last)
 
   -- a search begins
   pub counts-first : (at : ℕ) → IsAtPlace (reading_of v) at → (b : Option ℕ) → CountsUpTo program v at at b b

@@ -23,10 +23,10 @@ use regress_match::{Match, Range};
 use std::alloc::Global;
 
 /// Finds the matches of a program in a text, as `BacktrackExecutor` does, in so many steps for all its searches together. A search
-/// that would take more errs with `TooManySteps`: only where its runs take at least as many steps as were left.
+/// that would take more errs with `TooManySteps`: only where its runs take at least as many steps as were left, counted as below.
 ///
-/// A step does the instruction of one state, or drops the state. What takes characters of one class, and a search for the next
-/// place where a match may begin, is one step however long it is.
+/// A step does the instruction of one state, or drops the state, and one more is counted for each 64 units that a one-character loop
+/// passes over. What looks for the next place where a match may begin is not counted.
 ///
 /// ```rust
 /// let mut executor = BoundedExecutor::with_scratch(alloc, &program, input, scratch, 1_000_000);

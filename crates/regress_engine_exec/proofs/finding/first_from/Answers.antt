@@ -53,15 +53,15 @@ returns-in_default-clause-found g c =
     let v = g.Input.InputIndexer.view context.input in
     subst (IsNextStart program v c.places.from) c.in_default.is c.next_start.ensures.start c.args.offset c.places.invariant.finds
 
-pub returns-in-Some-2-clause-found : goal.returns-in-Some-2-clause-found
-returns-in-Some-2-clause-found g c =
+pub returns-in-Some-found-clause-found : goal.returns-in-Some-found-clause-found
+returns-in-Some-found-clause-found g c =
     let context = c.args.context.now in
     let program = program_of context.program.now in
     let v = g.Input.InputIndexer.view context.input in
     let all = g.met.Input.InputIndexer.are_of_kind context.input in
     let there : Reaches program v c.places.from c.in-Some.start = subst (IsNextStart program v c.places.from) c.in-Some.is c.next_start.ensures.start in
-    search-found program v all c.args.offset c.in-Some.start c.in-Some-2.end (held c.run_within.new.memory).groups (there.on c.args.offset c.places.invariant.finds)
-    (subst (λ x. IsAnswer program (input_of v) c.in-Some.start x (held c.run_within.new.memory).groups) c.in-Some-2.is
+    search-found program v all c.args.offset c.in-Some.start c.in-Some-found.end (held c.run_within.new.memory).groups (there.on c.args.offset c.places.invariant.finds)
+    (subst (λ x. IsAnswer program (input_of v) c.in-Some.start x (held c.run_within.new.memory).groups) c.in-Some-found.is
     (subst (λ e. IfEnded e (λ x. IsAnswer program (input_of v) c.in-Some.start x (held c.run_within.new.memory).groups)) c.in-With.is c.in_ok-found.ensures.answer))
 
 pub beside-requires : goal.beside-requires
@@ -81,7 +81,7 @@ returns-in_default-beside-clause-found g c =
     let all = g.met.Input.InputIndexer.are_of_kind context.input in
     let there : Reaches program v c.places.from c.in-Some.start = subst (IsNextStart program v c.places.from) c.in-Some.is c.next_start.ensures.start in
     search-none program v all c.args.offset c.in-Some.start (held c.run_within.new.memory).groups (there.on c.args.offset c.places.invariant.finds)
-    (subst (λ x. IsAnswer program (input_of v) c.in-Some.start x (held c.run_within.new.memory).groups) c.in_default-2.is
+    (subst (λ x. IsAnswer program (input_of v) c.in-Some.start x (held c.run_within.new.memory).groups) c.in_default-found.is
     (subst (λ e. IfEnded e (λ x. IsAnswer program (input_of v) c.in-Some.start x (held c.run_within.new.memory).groups)) c.in-With.is c.in_ok-found.ensures.answer)) (sym c.in_default-beside.ensures)
 
 pub places-smaller : goal.places-smaller
@@ -104,8 +104,8 @@ places-preserved g c =
     let searchable = subst (IsSearchable program) (g.met.Input.ExecutorInput.shows context.input) context.searchable in
     let there : Reaches program v c.places.from c.in-Some.start = subst (IsNextStart program v c.places.from) c.in-Some.is c.next_start.ensures.start in
     let here = counts-past program v searchable all c.args.offset c.places.from c.in-Some.start _ _ c.places.invariant.place there.place there.low there.on c.places.invariant.counted in
-    let answer = subst (λ x. IsAnswer program (input_of v) c.in-Some.start x (held c.run_within.new.memory).groups) c.in_default-2.is
-        (subst (λ e. IfEnded e (λ x. IsAnswer program (input_of v) c.in-Some.start x (held c.run_within.new.memory).groups)) c.in-With.is c.in_ok-found.ensures.answer) in
+    let answer = subst (λ x. IsAnswer program (input_of v) c.in-Some.start x (held c.run_within.new.memory).groups) c.in_default-found.is
+    (subst (λ e. IfEnded e (λ x. IsAnswer program (input_of v) c.in-Some.start x (held c.run_within.new.memory).groups)) c.in-With.is c.in_ok-found.ensures.answer) in
     let (n, run, spends) = counted-answer program v c.in-Some.start None _ _ answer c.in_ok-found.ensures.counted in
     record {
       finds = search-on program v all c.args.offset c.in-Some.start _ c.in-Some-beside.behind (held c.run_within.new.memory).groups (there.on c.args.offset c.places.invariant.finds)
@@ -170,8 +170,8 @@ returns-in_default-clause-counted g c =
     let v = g.Input.InputIndexer.view context.input in
     counts-over program v c.args.offset c.places.from _ _ c.places.invariant.counted
 
-pub returns-in-Some-2-clause-counted : goal.returns-in-Some-2-clause-counted
-returns-in-Some-2-clause-counted g c =
+pub returns-in-Some-found-clause-counted : goal.returns-in-Some-found-clause-counted
+returns-in-Some-found-clause-counted g c =
     let context = c.args.context.now in
     let program = program_of context.program.now in
     let v = g.Input.InputIndexer.view context.input in
@@ -182,8 +182,8 @@ returns-in-Some-2-clause-counted g c =
     let (n, r, run, spends) = c.in_ok-found.ensures.counted in
     counts-ends program v c.args.offset c.in-Some.start _ _ _ n r here run spends
 
-pub returns-in_default-found-clause-counted : goal.returns-in_default-found-clause-counted
-returns-in_default-found-clause-counted g c =
+pub returns-in_default-2-clause-counted : goal.returns-in_default-2-clause-counted
+returns-in_default-2-clause-counted g c =
     let context = c.args.context.now in
     let program = program_of context.program.now in
     let v = g.Input.InputIndexer.view context.input in

@@ -13,7 +13,7 @@ use Rattle.regress_engine_attempt.proofs.attempt.Attempt.run_within.Given as goa
 abbrev pub invariant-steps : goal.invariant-steps
 invariant-steps g l = record {
   trying : IsTrying (program_of l.self.program.now) (g.Input.InputIndexer.view l.self.input) l.self.ends.0.0 l.self.ends.0.1 l.spot (held l.memory);
-  counted : CountsOn (program_of l.self.program.now) (g.Input.InputIndexer.view l.self.input) l.self.ends.0.0 l.self.ends.0.1 (g.B.Budget.left l.initial.budget) (g.B.Budget.left l.budget)
+  counted : CountsOn (program_of l.self.program.now) (g.Input.InputIndexer.view l.self.input) l.self.ends.0.0 l.self.ends.0.1 (g.B.Budget.left l.initial.budget) (g.B.Budget.left l.budget) l.remembered.counts.more
       (task (program_of l.self.program.now) (input_of (g.Input.InputIndexer.view l.self.input)) true l.spot (held l.memory));
   so : Remembers (record { program = program_of l.self.program.now; view = g.Input.InputIndexer.view l.self.input }) l.remembered;
 }

@@ -1,4 +1,4 @@
-use Rattle.std.proofs.Common.{◌≡◌, refl, rules, sym, subst}
+use Rattle.std.proofs.Common.{◌≡◌, Some, refl, rules, sym, subst}
 use Rattle.std.specs.Prelude.{option_map, IfSome}
 use Rattle.regress_match.specs.GroupViews.{names_of_match}
 use Rattle.regress_match.specs.Views.{item_of}
@@ -7,6 +7,8 @@ use Rattle.regress_engine_input.specs.Views.{input_of, reading_of}
 use Rattle.regress_engine_runs.specs.Items.{Finds, goes_on}
 use Rattle.regress_engine_search.specs.Search.{Search, IsItemAtPlaces}
 use Rattle.regress_engine_search.proofs.ProducerLemmas.{read-place, read-none, goes-on}
+use Rattle.regress_engine_exec.specs.BoundedSearches.{steps_of}
+use Rattle.regress_engine_exec.specs.Counting.{CountsSearch}
 use Rattle.regress_engine_exec.proofs.bounded.BoundedExecutor.advance.Goals as goal
 
 pub find_from-requires : goal.find_from-requires
@@ -47,4 +49,5 @@ returns g c =
       nearer = on.nearer;
       kept = search rules;
       last = search rules;
+      counted = subst (λ x. CountsSearch (program_of context.program.now) x c.args.position (Some (steps_of c.args.self.now)) (Some (steps_of c.find_from.new.self))) (sym (g.met.Input.ExecutorInput.shows context.input)) c.in_ok-found.ensures.counted;
     }
