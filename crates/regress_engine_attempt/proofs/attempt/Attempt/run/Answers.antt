@@ -58,7 +58,7 @@ steps-preserved-then-going g c =
     let program = program_of c.args.self.now.program.now in
     let v = g.Input.InputIndexer.view c.args.self.now.input in
     record {
-      so = c.steps.invariant.so;
+      so = c.in_ok-going.ensures.so;
       trying = record {
         tried = tried-on program v _ _ 1 _ (task program (input_of v) true c.try_step.new.spot (held c.try_step.new.memory))
             (steps-led program v c.steps.spot c.try_step.new.spot (held c.steps.memory) (held c.try_step.new.memory) _ c.in-Some.going true c.in-Some.is c.if-going.true c.in_ok-going.ensures.leads) c.steps.invariant.trying.tried;
