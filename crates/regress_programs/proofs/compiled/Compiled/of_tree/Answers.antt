@@ -17,14 +17,14 @@ pub returns-in_err-unit_program-clause-refused : goal.returns-in_err-unit_progra
 returns-in_err-unit_program-clause-refused c = λ made t o text p from.
     let read = as-rewritten made t o text p c.args.regex from c.rewrite.new.regex c.rewrite.ensures.rewritten c.rewrite.ensures.kept.0 c.rewrite.ensures.kept.1 in
     let refused = program-refused made t o text p c.rewrite.new.regex read true _ c.in_err-unit_program.ensures.refused in
-    let answered = err_from_is_err_and c.from_residual.result c.from_residual.ensures.1 in
+    let answered = err_from_is_err_and c.from_residual-in_err-unit_program.result c.from_residual-in_err-unit_program.ensures.1 in
     rw (answered.1, answered.2) refused
 
 pub returns-in_err-unit_program-clause-fits : goal.returns-in_err-unit_program-clause-fits
 returns-in_err-unit_program-clause-fits c = λ made t o text p from plain short.
     let read = as-rewritten made t o text p c.args.regex from c.rewrite.new.regex c.rewrite.ensures.rewritten c.rewrite.ensures.kept.0 c.rewrite.ensures.kept.1 in
     let refused = program-refused made t o text p c.rewrite.new.regex read true _ c.in_err-unit_program.ensures.refused in
-    let answered = err_from_is_err_and c.from_residual.result c.from_residual.ensures.1 in
+    let answered = err_from_is_err_and c.from_residual-in_err-unit_program.result c.from_residual-in_err-unit_program.ensures.1 in
     rw (answered.1, answered.2) (refused-fits made t o text _ refused plain short)
 
 pub returns-in_err-byte_program-clause-refused : goal.returns-in_err-byte_program-clause-refused
