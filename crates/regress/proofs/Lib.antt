@@ -1,12 +1,12 @@
-pub mod IterationLemmas
+pub use Rattle.regress_programs.proofs.IterationLemmas
 pub mod RisingLemmas
 pub mod ReplacingLemmas
 pub mod LawLemmas
-pub mod AskingLemmas
+pub use Rattle.regress_programs.proofs.AskingLemmas
 pub mod SplittingLemmas
 pub mod ShownLemmas
-pub mod ListedLemmas
-pub mod ToldLemmas
-pub mod UnitLemmas
+pub use Rattle.regress_programs.proofs.ListedLemmas
+pub use Rattle.regress_programs.proofs.ToldLemmas
+pub use Rattle.regress_programs.proofs.UnitLemmas
 pub mod NeededLemmas
 pub mod LimitedLemmas

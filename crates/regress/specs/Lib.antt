@@ -10,6 +10,6 @@ pub mod Answering
 pub mod Behind
 pub mod Splitting
 pub use Rattle.regress_programs.specs.Units
-pub mod Slotted
+pub use Rattle.regress_programs.specs.Slotted
 pub use Rattle.regress_programs.specs.Ascii
 pub mod Literals

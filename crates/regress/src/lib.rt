@@ -17,6 +17,7 @@ mod sticky;
 mod text;
 mod units;
 mod whole;
+mod within;
 
 pub use api::{Regex, is_start};
 pub use ascii::is_ascii_text;
@@ -25,7 +26,8 @@ pub use laws::{
     parts_stand_between_the_matches, whole_matches_give_the_text_back,
 };
 pub use limited::DEFAULT_LIMIT;
-pub use regress_engine::{CompiledRegex, Scratch, is_unit_start, is_well_formed_utf16};
+pub use regress_bounded::{Bounded, BoundedMatches};
+pub use regress_engine::{CompiledRegex, Scratch, SearchError, is_unit_start, is_well_formed_utf16};
 pub use regress_errors::{
     CompileError, SyntaxError, SyntaxErrorDisplay, syntax_error, syntax_error_in_points,
     syntax_error_in_units,

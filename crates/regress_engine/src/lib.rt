@@ -16,7 +16,7 @@
 pub use regress_engine_analysis::{Known, Turn};
 pub use regress_engine_code::{CompiledRegex, emit, emit_units};
 pub use regress_engine_copying::PikeVMExecutor;
-pub use regress_engine_exec::{BacktrackExecutor, Scratch};
+pub use regress_engine_exec::{BacktrackExecutor, BoundedExecutor, Scratch, SearchError};
 pub use regress_engine_input::{
     Backward, CodeUnit, Direction, ElementType, Forward, InputIndexer, PositionType,
     ascii_tests_see_bytes, cursor, inputs_go_back, inputs_tell_bytes, inputs_tell_texts,

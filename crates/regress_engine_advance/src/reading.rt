@@ -50,7 +50,33 @@ fn ascii_before<Input: InputIndexer>(
     Some((c, offset - 1))
 }
 
-/// The character beside an offset, forward or backward, and the offset behind it. One of ASCII in bytes is read at once.
+/// The character ahead of an offset, and the offset behind it, where a character of ASCII stands there in units.
+#[inline(always)]
+fn unit_ahead<Input: InputIndexer>(input: &Input, offset: usize) -> Option<(Input::Element, usize)>
+    ensures { IfSome result (λ x. (input_of (Input.view input.now)).next ahead offset ≡ Some (Input.Element.code x.0, x.1)) }
+{
+    let text = input.units()?;
+    if offset >= text.len() || text[offset] >= 0x80 {
+        return None;
+    }
+    let c = <Input::Element as ElementType>::try_from(u32::from(text[offset]))?;
+    Some((c, offset + 1))
+}
+
+/// The character before an offset, and the offset before it, where a character of ASCII stands there in units.
+#[inline(always)]
+fn unit_before<Input: InputIndexer>(input: &Input, offset: usize) -> Option<(Input::Element, usize)>
+    ensures { IfSome result (λ x. (input_of (Input.view input.now)).next backward offset ≡ Some (Input.Element.code x.0, x.1)) }
+{
+    let text = input.units()?;
+    if offset == 0 || offset > text.len() || text[offset - 1] >= 0x80 {
+        return None;
+    }
+    let c = <Input::Element as ElementType>::try_from(u32::from(text[offset - 1]))?;
+    Some((c, offset - 1))
+}
+
+/// The character beside an offset, forward or backward, and the offset behind it. One of ASCII is read at once.
 ///
 /// Asks that characters may be read from the offset on.
 ///
@@ -70,9 +96,15 @@ pub fn beside<Input: InputIndexer>(
         if let Some(found) = ascii_ahead(input, offset) {
             return Some(found);
         }
+        if let Some(found) = unit_ahead(input, offset) {
+            return Some(found);
+        }
         return read(input, Forward::new(), offset);
     }
     if let Some(found) = ascii_before(input, offset) {
+        return Some(found);
+    }
+    if let Some(found) = unit_before(input, offset) {
         return Some(found);
     }
     read(input, Backward::new(), offset)

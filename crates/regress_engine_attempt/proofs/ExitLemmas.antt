@@ -58,6 +58,19 @@ module _ (program : Program) (v : View) (keyed : Keyed) (h : Held) (count : leng
   abbrev Over : (o left : ℕ) → Held → Type 0
   Over o left k = (p : Spot) → p.forward ≡ forward → GoesBack w p (pushed (take_on at o left) h) p k false
 
+  -- the same in a step at least
+  abbrev OverMore : (o left : ℕ) → Held → Type 0
+  OverMore o left k = (p : Spot) → p.forward ≡ forward → Leads program input 1 (task program input false p (pushed (take_on at o left) h)) (task program input false p k)
+
+  over-fewer : (o left : ℕ) (k : Held) → OverMore o left k → Over o left k
+  over-fewer o left k over p same = leads-fewer program input forward o 0 1 (task program input false p (pushed (take_on at o left) h)) (task program input false p k) (over p same)
+
+  pub more-then : (o left q rest : ℕ) (k : Held) → OverMore o left (pushed (take_on at q rest) h) → Over q rest k → OverMore o left k
+  more-then o left q rest k first second p same = leads-then program input 1 0 (first p same) (second p same)
+
+  pub then-more : (o left q rest : ℕ) (k : Held) → Over o left (pushed (take_on at q rest) h) → OverMore q rest k → OverMore o left k
+  then-more o left q rest k first second p same = leads-then program input 0 1 (first p same) (second p same)
+
   -- ---- what is taken on
 
   pub over-same : (o left : ℕ) → Over o left (pushed (take_on at o left) h)
@@ -66,29 +79,34 @@ module _ (program : Program) (v : View) (keyed : Keyed) (h : Held) (count : leng
   pub over-then : (o left q rest : ℕ) (k : Held) → Over o left (pushed (take_on at q rest) h) → Over q rest k → Over o left k
   over-then o left q rest k first second p same = leads-then program input 0 0 (first p same) (second p same)
 
-  -- an exit that fails is passed over
-  past : (o : ℕ) (p : Spot) (j k : Held) → p.forward ≡ forward → FailsWith program input keyed (exit o) h.loops → k.loops ≡ h.loops
-      → Leads program input 0 (task program input false p j) (task program input true (record p { at = at; offset = o }) k) → Leads program input 0 (task program input false p j) (task program input false p k)
-  past o p j k same fails loops on =
+  -- an exit that fails is passed over, in a step
+  past-one : (o : ℕ) (p : Spot) (j k : Held) → p.forward ≡ forward → FailsWith program input keyed (exit o) h.loops → k.loops ≡ h.loops
+      → Leads program input 0 (task program input false p j) (task program input true (record p { at = at; offset = o }) k) → Leads program input 1 (task program input false p j) (task program input false p k)
+  past-one o p j k same fails loops on =
       let there : FailsWith program input keyed (record p { at = at; offset = o }) k.loops =
       subst (FailsWith program input keyed (record p { at = at; offset = o })) (sym loops)
       (subst (λ b. FailsWith program input keyed (record { at = at; offset = o; forward = b }) h.loops) (sym same) fails) in
-      leads-fewer program input forward o 0 1 (task program input false p j) (task program input false p k)
-      (leads-then program input 0 1 on (known-held program input (record p { at = at; offset = o }) k keyed there (ap length loops ∙ count)))
+      leads-then program input 0 1 on (known-held program input (record p { at = at; offset = o }) k keyed there (ap length loops ∙ count))
 
-  pub over-last : (o left : ℕ) → FailsWith program input keyed (exit o) h.loops → (left ≡ 0) ⊎ (go o ≡ None) → Over o left h
-  over-last o left fails out p same =
-      past o p (pushed (take_on at o left) h) h same fails refl (take_on-last program input p h at o left i here (by_way out))
+  pub last-one : (o left : ℕ) → FailsWith program input keyed (exit o) h.loops → (left ≡ 0) ⊎ (go o ≡ None) → OverMore o left h
+  last-one o left fails out p same =
+      past-one o p (pushed (take_on at o left) h) h same fails refl (take_on-last program input p h at o left i here (by_way out))
     where
       by_way : (left ≡ 0) ⊎ (go o ≡ None) → (left ≡ 0) ⊎ (advance program input i (direction_of p.forward) h.groups o ≡ None)
       by_way (inl none) = inl none
       by_way (inr stops) = inr (subst (λ b. advance program input i (direction_of b) h.groups o ≡ None) (sym same) stops)
 
-  pub over-one : (o left q : ℕ) → FailsWith program input keyed (exit o) h.loops → (left ≡ 0 → ⊥) → go o ≡ Some q → Over o left (pushed (take_on at q (left - 1)) h)
-  over-one o left q fails some takes p same =
+  pub over-last : (o left : ℕ) → FailsWith program input keyed (exit o) h.loops → (left ≡ 0) ⊎ (go o ≡ None) → Over o left h
+  over-last o left fails out = over-fewer o left h (last-one o left fails out)
+
+  pub next-one : (o left q : ℕ) → FailsWith program input keyed (exit o) h.loops → (left ≡ 0 → ⊥) → go o ≡ Some q → OverMore o left (pushed (take_on at q (left - 1)) h)
+  next-one o left q fails some takes p same =
       let k : Held = pushed (take_on at q (left - 1)) h in
-      past o p (pushed (take_on at o left) h) k same fails refl
+      past-one o p (pushed (take_on at o left) h) k same fails refl
       (take_on-more program input p h k at o left q i here some (subst (λ b. advance program input i (direction_of b) h.groups o ≡ Some q) (sym same) takes) refl)
+
+  pub over-one : (o left q : ℕ) → FailsWith program input keyed (exit o) h.loops → (left ≡ 0 → ⊥) → go o ≡ Some q → Over o left (pushed (take_on at q (left - 1)) h)
+  over-one o left q fails some takes = over-fewer o left (pushed (take_on at q (left - 1)) h) (next-one o left q fails some takes)
 
   -- from an exit on all fail
   pub over-all : (o left : ℕ) → ExitsFailWith program input keyed (exit o) h.loops → Over o left h

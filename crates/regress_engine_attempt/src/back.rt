@@ -1,5 +1,5 @@
 //! Going back to a state that is still to be tried.
-ghost use Rattle.std.specs.Prelude.{◌≡◌, ◌<◌, ℕ, true, false, List, [], ◌∷◌, length, map, is_some, IfOk, IfSome, OnOk};
+ghost use Rattle.std.specs.Prelude.{◌≡◌, ◌⊎◌, ◌≤◌, ◌<◌, ℕ, true, false, List, [], ◌∷◌, length, map, is_some, IfOk, IfSome, OnOk};
 ghost use Rattle.regress_engine_insn.specs.InsnViews.{instruction};
 ghost use Rattle.regress_engine_insn.specs.Instructions.{byte_seq};
 ghost use Rattle.regress_engine_code.specs.Standing.{program_of};
@@ -13,10 +13,13 @@ ghost use Rattle.regress_engine_undo.specs.Held.{held, undo_of, pushed};
 ghost use Rattle.regress_engine_search.specs.Search.{Suits};
 ghost use Rattle.regress_engine_undo.specs.Dead.{GivesFrom, TakesFrom};
 ghost use Rattle.regress_engine_attempt.specs.Attempts.{world};
+ghost use Rattle.regress_engine_attempt.specs.Passing.{found_at, GoesBackMore, Passes, TakesOver, UndoesMore, UndoesOver};
 ghost use Rattle.regress_engine_attempt.specs.Remembering.{IsUnderWay, Remembers};
 ghost use Rattle.regress_engine_attempt.specs.Trying.{advanced, GoesBack, IsHeldIn, IsPassed, Undoes};
 
 use crate::attempt::Attempt;
+use crate::counts::Counts;
+use crate::exits::Exit;
 use crate::remembered::Remembered;
 use regress_engine_advance::{
     advance, any_in_line, as_far, ascii_bracket, beside, other_ahead, taken_first,
@@ -186,7 +189,7 @@ impl<'a, Input: ExecutorInput> Attempt<'a, Input> {
     }
 
     /// The near one of some offsets, from one on behind each iteration of the instruction before an address, at most so many,
-    /// at which it may continue there, where what is taken first from there on stands, and how many may follow; `None`
+    /// at which it may continue there, where what is taken first from there on stands, and how many may follow; the last one
     /// where it stands at none of them.
     fn near_way(
         &self,
@@ -195,15 +198,20 @@ impl<'a, Input: ExecutorInput> Attempt<'a, Input> {
         left: usize,
         forward: bool,
         groups: &[GroupData<usize>],
-    ) -> Option<(usize, usize)>
+    ) -> Exit
         requires suits { Suits (program_of self.now.program.now) (Input.view self.now.input) }
         requires groups { length groups.now ≡ self.now.program.now.groups }
         requires body { IsBody (program_of self.now.program.now) (Input.view self.now.input) at offset }
-        ensures leads { TakesFrom (program_of self.now.program.now) (input_of (Input.view self.now.input)) forward at offset left result }
-        ensures body { IfSome result (λ way. IsBody (program_of self.now.program.now) (Input.view self.now.input) at way.0) }
+        ensures leads { TakesFrom (program_of self.now.program.now) (input_of (Input.view self.now.input)) forward at offset left (found_at result) }
+        ensures over { (result.offset ≡ offset) ⊎ TakesOver (program_of self.now.program.now) (input_of (Input.view self.now.input)) forward at offset left (found_at result) }
+        ensures body { IsBody (program_of self.now.program.now) (Input.view self.now.input) at result.offset }
     {
         let Some(insn) = taken_first(self.program, at) else {
-            return Some((offset, left));
+            return Exit {
+                offset,
+                left,
+                may_go: true,
+            };
         };
         let first = first_byte(insn);
         let body = self.instruction(at - 1);
@@ -211,13 +219,25 @@ impl<'a, Input: ExecutorInput> Attempt<'a, Input> {
         let mut rest = left - (near - offset);
         'places: loop {
             if self.stands(insn, first, forward, groups, near) {
-                return Some((near, rest));
+                return Exit {
+                    offset: near,
+                    left: rest,
+                    may_go: true,
+                };
             }
             if rest == 0 {
-                return None;
+                return Exit {
+                    offset: near,
+                    left: rest,
+                    may_go: false,
+                };
             }
             let Some(next) = self.once(body, forward, groups, near) else {
-                return None;
+                return Exit {
+                    offset: near,
+                    left: rest,
+                    may_go: false,
+                };
             };
             near = next;
             rest -= 1;
@@ -258,27 +278,32 @@ impl<'a, Input: ExecutorInput> Attempt<'a, Input> {
     pub(crate) fn take_on(
         &self,
         at: usize,
+        from: usize,
         offset: usize,
         left: usize,
-        spare: &mut usize,
+        counts: &mut Counts,
         memory: &mut Memory,
         spot: &mut Spot,
     ) -> Result<bool, AllocError>
         requires suits { Suits (program_of self.now.program.now) (Input.view self.now.input) }
         requires sound { IsHeldIn (world Input.view self.now) (pushed (take_on at offset left) (held memory.old)) }
+        requires from { IsAtPlace (reading_of (Input.view self.now.input)) from }
         ensures leads { IfOk result (Undoes (world Input.view self.now) (take_on at offset left) spot.old (held memory.old) spot.new (held memory.new)) }
         ensures sound { OnOk result (IsHeldIn (world Input.view self.now) (held memory.new)) }
         ensures rest { IfOk result (λ going. going ≡ false → (held memory.new).stack ≡ (held memory.old).stack) }
+        ensures counted { OnOk result (Passes (Input.view self.now.input) 1 counts.old.more counts.new.more) }
+        ensures over { IfOk result (λ going. (from ≡ offset → counts.new.more ≤ counts.old.more) ⊎ UndoesOver (world Input.view self.now) (take_on at offset left) spot.old (held memory.old) spot.new (held memory.new) going) }
     {
-        let Some((near, rest)) = self.near_way(at, offset, left, spot.forward, &memory.groups)
-        else {
-            self.count_over(at, offset, left, spare, memory, spot.forward);
+        let way = self.near_way(at, offset, left, spot.forward, &memory.groups);
+        counts.pass(from, way.offset);
+        if !way.may_go {
+            self.count_over(at, offset, left, &mut counts.spare, memory, spot.forward);
             return Ok(false);
-        };
-        *spare = spare.saturating_sub(near.abs_diff(offset));
+        }
+        counts.spare = counts.spare.saturating_sub(way.offset.abs_diff(offset));
         spot.at = at;
-        spot.offset = near;
-        if rest == 0 {
+        spot.offset = way.offset;
+        if way.left == 0 {
             return Ok(true);
         }
         let insn = self.instruction(at - 1);
@@ -288,14 +313,14 @@ impl<'a, Input: ExecutorInput> Attempt<'a, Input> {
             insn,
             spot.forward,
             &memory.groups,
-            near,
+            way.offset,
         ) else {
             return Ok(true);
         };
         memory.push(Undo::TakeOn {
             at,
             offset: next,
-            left: rest - 1,
+            left: way.left - 1,
         })?;
         Ok(true)
     }
@@ -304,7 +329,7 @@ impl<'a, Input: ExecutorInput> Attempt<'a, Input> {
     fn undo(
         &self,
         undo: Undo,
-        spare: &mut usize,
+        counts: &mut Counts,
         memory: &mut Memory,
         spot: &mut Spot,
     ) -> Result<bool, AllocError>
@@ -312,6 +337,7 @@ impl<'a, Input: ExecutorInput> Attempt<'a, Input> {
         requires sound { IsHeldIn (world Input.view self.now) (pushed (undo_of undo) (held memory.old)) }
         ensures leads { IfOk result (Undoes (world Input.view self.now) (undo_of undo) spot.old (held memory.old) spot.new (held memory.new)) }
         ensures sound { OnOk result (IsHeldIn (world Input.view self.now) (held memory.new)) }
+        ensures counted { IfOk result (λ going. UndoesMore (world Input.view self.now) (undo_of undo) spot.old (held memory.old) spot.new (held memory.new) going counts.old.more counts.new.more) }
         ensures rest { IfOk result (λ going. going ≡ false → (held memory.new).stack ≡ (held memory.old).stack) }
     {
         match undo {
@@ -335,11 +361,11 @@ impl<'a, Input: ExecutorInput> Attempt<'a, Input> {
                 Ok(true)
             }
             Undo::GiveBack { at, near, far } => {
-                let going = self.give_back(at, near, far, spare, memory, spot)?;
+                let going = self.give_back(at, near, far, &mut counts.spare, memory, spot)?;
                 Ok(going)
             }
             Undo::TakeOn { at, offset, left } => {
-                let going = self.take_on(at, offset, left, spare, memory, spot)?;
+                let going = self.take_on(at, offset, offset, left, counts, memory, spot)?;
                 Ok(going)
             }
             Undo::Submatch(frame) => Ok(exhaust(&frame, spot)),
@@ -362,13 +388,14 @@ impl<'a, Input: ExecutorInput> Attempt<'a, Input> {
         requires so { Remembers (world Input.view self.now) remembered.old }
         ensures leads { IfOk result (Undoes (world Input.view self.now) (undo_of undo) spot.old (held memory.old) spot.new (held memory.new)) }
         ensures sound { OnOk result (IsHeldIn (world Input.view self.now) (held memory.new)) }
+        ensures counted { IfOk result (λ going. UndoesMore (world Input.view self.now) (undo_of undo) spot.old (held memory.old) spot.new (held memory.new) going remembered.old.counts.more remembered.new.counts.more) }
         ensures rest { IfOk result (λ going. going ≡ false → (held memory.new).stack ≡ (held memory.old).stack) }
         ensures so { Remembers (world Input.view self.now) remembered.new }
     {
         match self.undo_loop(&undo, memory, remembered, spot)? {
             Some(going) => Ok(going),
             None => {
-                let going = self.undo(undo, &mut remembered.spare, memory, spot)?;
+                let going = self.undo(undo, &mut remembered.counts, memory, spot)?;
                 Ok(going)
             }
         }
@@ -387,19 +414,20 @@ impl<'a, Input: ExecutorInput> Attempt<'a, Input> {
         requires so { Remembers (world Input.view self.now) remembered.old }
         ensures leads { IfOk result (GoesBack (world Input.view self.now) spot.old (held memory.old) spot.new (held memory.new)) }
         ensures sound { OnOk result (IsHeldIn (world Input.view self.now) (held memory.new)) }
+        ensures counted { IfOk result (λ going. GoesBackMore (world Input.view self.now) spot.old (held memory.old) spot.new (held memory.new) going remembered.old.counts.more remembered.new.counts.more) }
         ensures exhausted { IfOk result (λ going. going ≡ false → (held memory.new).stack ≡ []) }
         ensures so { Remembers (world Input.view self.now) remembered.new }
     {
         self.keep_failures(remembered);
         while let Some(undo) = memory.pop() {
-            remembered.spare = remembered.spare.saturating_sub(4);
+            remembered.counts.spare = remembered.counts.spare.saturating_sub(4);
             self.learn(&undo, memory, remembered, spot);
             if self.undo_one(undo, memory, remembered, spot)? {
                 return Ok(true);
             }
         }
         let passed = spot.offset.abs_diff(self.start);
-        remembered.spare = remembered.spare.saturating_sub(passed);
+        remembered.counts.spare = remembered.counts.spare.saturating_sub(passed);
         Ok(false)
     }
 }

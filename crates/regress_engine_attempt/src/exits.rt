@@ -1,5 +1,5 @@
 //! The exits of one-character loops, where it is remembered which of them fail.
-ghost use Rattle.std.specs.Prelude.{◌≡◌, ◌+◌, ◌-◌, ◌<◌, ◌≤◌, ℕ, true, false, length, map, IfOk, IfSome, OnOk};
+ghost use Rattle.std.specs.Prelude.{◌≡◌, ◌⊎◌, ◌+◌, ◌-◌, ◌<◌, ◌≤◌, ℕ, true, false, length, map, IfOk, IfSome, OnOk};
 ghost use Rattle.regress_engine_insn.specs.InsnViews.{instruction};
 ghost use Rattle.regress_engine_insn.specs.Instructions.{Stands, single_loop};
 ghost use Rattle.regress_engine_code.specs.Standing.{program_of};
@@ -14,10 +14,12 @@ ghost use Rattle.regress_engine_memory.specs.Held.{FailsWith};
 ghost use Rattle.regress_engine_memory.specs.Remembered.{keyed_of};
 ghost use Rattle.regress_engine_memory.specs.TableViews.{table_of};
 ghost use Rattle.regress_engine_attempt.specs.Attempts.{world};
+ghost use Rattle.regress_engine_attempt.specs.Passing.{Passes, TakesUpMore, UndoesOver};
 ghost use Rattle.regress_engine_attempt.specs.Remembering.{AreOf, Drops, GivesUpTo, IsBodyOf, RestFails, TakesUp};
 ghost use Rattle.regress_engine_attempt.specs.Trying.{Does, IsHeldIn, Undoes};
 
 use crate::attempt::Attempt;
+use crate::counts::Counts;
 use regress_engine_advance::{advance, after_times, beside, taken_first};
 use regress_engine_insn::Insn;
 use regress_engine_memory::Failures;
@@ -28,10 +30,10 @@ use std::alloc::AllocError;
 /// An exit of a lazy one-character loop: its offset, how many more iterations may follow, and whether it may lead on, or one
 /// behind it may.
 #[derive(Debug, Clone, Copy)]
-struct Exit {
-    offset: usize,
-    left: usize,
-    may_go: bool,
+pub(crate) struct Exit {
+    pub(crate) offset: usize,
+    pub(crate) left: usize,
+    pub(crate) may_go: bool,
 }
 
 impl<'a, Input: ExecutorInput> Attempt<'a, Input> {
@@ -267,6 +269,7 @@ impl<'a, Input: ExecutorInput> Attempt<'a, Input> {
         requires so { AreOf (world Input.view self.now) failures.now }
         requires body { IsBody (program_of self.now.program.now) (Input.view self.now.input) at offset }
         ensures leads { TakesUp (world Input.view self.now) forward at offset left result (held memory.now) }
+        ensures over { (result.offset ≡ offset) ⊎ TakesUpMore (world Input.view self.now) forward at offset left result (held memory.now) }
         ensures body { IsBody (program_of self.now.program.now) (Input.view self.now.input) at result.offset }
     {
         let body = self.instruction(at - 1);
@@ -322,22 +325,28 @@ impl<'a, Input: ExecutorInput> Attempt<'a, Input> {
     pub(crate) fn take_on_known(
         &self,
         at: usize,
+        from: usize,
         offset: usize,
         left: usize,
         memory: &mut Memory,
         failures: &mut Failures,
+        counts: &mut Counts,
         spot: &mut Spot,
     ) -> Result<bool, AllocError>
         requires suits { Suits (program_of self.now.program.now) (Input.view self.now.input) }
         requires sound { IsHeldIn (world Input.view self.now) (pushed (take_on at offset left) (held memory.old)) }
         requires so { AreOf (world Input.view self.now) failures.old }
+        requires from { IsAtPlace (reading_of (Input.view self.now.input)) from }
         ensures leads { IfOk result (Undoes (world Input.view self.now) (take_on at offset left) spot.old (held memory.old) spot.new (held memory.new)) }
         ensures sound { OnOk result (IsHeldIn (world Input.view self.now) (held memory.new)) }
         ensures rest { IfOk result (λ going. going ≡ false → (held memory.new).stack ≡ (held memory.old).stack) }
+        ensures counted { OnOk result (Passes (Input.view self.now.input) 1 counts.old.more counts.new.more) }
+        ensures over { IfOk result (λ going. (from ≡ offset → counts.new.more ≤ counts.old.more) ⊎ UndoesOver (world Input.view self.now) (take_on at offset left) spot.old (held memory.old) spot.new (held memory.new) going) }
         ensures so { AreOf (world Input.view self.now) failures.new }
     {
         let exit = self.exit_ahead(at, offset, left, spot.forward, memory, failures);
         if !exit.may_go {
+            counts.pass(from, exit.offset);
             let last = Spot {
                 at,
                 offset: exit.offset,
@@ -346,8 +355,7 @@ impl<'a, Input: ExecutorInput> Attempt<'a, Input> {
             self.learn_back(self.instruction(at - 1), &last, memory, failures);
             return Ok(false);
         }
-        let mut spare = 0;
-        let going = self.take_on(at, exit.offset, exit.left, &mut spare, memory, spot)?;
+        let going = self.take_on(at, from, exit.offset, exit.left, counts, memory, spot)?;
         if going {
             self.record_exit(memory, spot)?;
         }
@@ -416,6 +424,7 @@ impl<'a, Input: ExecutorInput> Attempt<'a, Input> {
         greedy: bool,
         memory: &mut Memory,
         failures: &mut Failures,
+        counts: &mut Counts,
         spot: &mut Spot,
     ) -> Result<bool, AllocError>
         requires suits { Suits (program_of self.now.program.now) (Input.view self.now.input) }
@@ -425,6 +434,7 @@ impl<'a, Input: ExecutorInput> Attempt<'a, Input> {
         requires body { IsBody (program_of self.now.program.now) (Input.view self.now.input) (spot.old.at + 2) spot.old.offset }
         ensures leads { IfOk result (Does (world Input.view self.now) (single_loop least most greedy) spot.old (held memory.old) spot.new (held memory.new)) }
         ensures sound { OnOk result (IsHeldIn (world Input.view self.now) (held memory.new)) }
+        ensures counted { OnOk result (Passes (Input.view self.now.input) 1 counts.old.more counts.new.more) }
         ensures so { AreOf (world Input.view self.now) failures.new }
     {
         let insn = self.instruction(spot.at + 1);
@@ -442,12 +452,22 @@ impl<'a, Input: ExecutorInput> Attempt<'a, Input> {
         let left = most - least;
         let at = spot.at + 2;
         if !greedy {
-            let going = self.take_on_known(at, near, left, memory, failures, spot)?;
+            let going = self.take_on_known(
+                at,
+                spot.offset,
+                near,
+                left,
+                memory,
+                failures,
+                counts,
+                spot,
+            )?;
             return Ok(going);
         }
         let Some(far) = self.far_exit(at, near, left, spot.forward, memory, failures) else {
             return Ok(false);
         };
+        counts.pass(spot.offset, far);
         let going = self.give_back_known(at, near, far, memory, failures, spot)?;
         Ok(going)
     }

@@ -4,6 +4,8 @@
 
 mod attempt;
 mod back;
+mod budget;
+mod counts;
 mod exits;
 mod remembered;
 mod run;
@@ -13,4 +15,5 @@ mod turns;
 mod ways;
 
 pub use attempt::Attempt;
+pub use budget::{Budget, Ended, StepsLeft, Unbounded};
 pub use remembered::Remembered;

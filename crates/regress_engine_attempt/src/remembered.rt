@@ -8,10 +8,12 @@ ghost use Rattle.regress_engine_memory.specs.Under.{room};
 ghost use Rattle.regress_engine_search.specs.Search.{Suits};
 ghost use Rattle.regress_engine_undo.specs.Held.{held, undo_of, pushed};
 ghost use Rattle.regress_engine_attempt.specs.Attempts.{world};
+ghost use Rattle.regress_engine_attempt.specs.Passing.{MayUndoMore, Passes, PassesIf};
 ghost use Rattle.regress_engine_attempt.specs.Remembering.{AreOf, Begins, Drops, IsUnderWay, MayUndo, Remembers};
 ghost use Rattle.regress_engine_attempt.specs.Trying.{IsHeldIn, Steps, World};
 
 use crate::attempt::Attempt;
+use crate::counts::Counts;
 use regress_engine_insn::Insn;
 use regress_engine_memory::{Failures, FlowTable};
 use regress_engine_search::ExecutorInput;
@@ -26,8 +28,8 @@ const MOST_BLOCKS: usize = 1 << 21;
 #[derive(Debug, Drop)]
 pub struct Remembered {
     alloc: Global,
-    /// How much may still be undone or passed over before failures are kept: a place counts one, a record four.
-    pub(crate) spare: usize,
+    /// What is counted while runs go on.
+    pub(crate) counts: Counts,
     /// Whether that has been begun.
     is_begun: bool,
     /// What is known to fail, where it is kept.
@@ -46,7 +48,10 @@ impl Remembered {
     {
         Remembered {
             alloc,
-            spare: length.saturating_add(64).saturating_mul(64),
+            counts: Counts {
+                spare: length.saturating_add(64).saturating_mul(64),
+                more: 0,
+            },
             is_begun: false,
             failures: None,
         }
@@ -142,6 +147,7 @@ impl<'a, Input: ExecutorInput> Attempt<'a, Input> {
         &self,
         memory: &mut Memory,
         failures: &mut Failures,
+        counts: &mut Counts,
         spot: &mut Spot,
     ) -> Result<Option<bool>, AllocError>
         requires suits { Suits (program_of self.now.program.now) (Input.view self.now.input) }
@@ -150,6 +156,7 @@ impl<'a, Input: ExecutorInput> Attempt<'a, Input> {
         requires so { AreOf (world Input.view self.now) failures.old }
         ensures leads { IfOk result (Begins (world Input.view self.now) spot.old (held memory.old) spot.new (held memory.new)) }
         ensures sound { OnOk result (IsHeldIn (world Input.view self.now) (held memory.new)) }
+        ensures counted { IfOk result (λ begun. PassesIf (Input.view self.now.input) begun counts.old.more counts.new.more) }
         ensures so { AreOf (world Input.view self.now) failures.new }
     {
         if self.surely_fails(memory, failures, spot)? {
@@ -166,7 +173,9 @@ impl<'a, Input: ExecutorInput> Attempt<'a, Input> {
         if *max_iters < self.input.pos_to_offset(self.input.right_end()) {
             return Ok(None);
         }
-        let going = self.repeat_known(*min_iters, *max_iters, *greedy, memory, failures, spot)?;
+        let going = self.repeat_known(
+            *min_iters, *max_iters, *greedy, memory, failures, counts, spot,
+        )?;
         Ok(Some(going))
     }
 
@@ -184,10 +193,11 @@ impl<'a, Input: ExecutorInput> Attempt<'a, Input> {
         requires so { Remembers (world Input.view self.now) remembered.old }
         ensures leads { IfOk result (Begins (world Input.view self.now) spot.old (held memory.old) spot.new (held memory.new)) }
         ensures sound { OnOk result (IsHeldIn (world Input.view self.now) (held memory.new)) }
+        ensures counted { IfOk result (λ begun. PassesIf (Input.view self.now.input) begun remembered.old.counts.more remembered.new.counts.more) }
         ensures so { Remembers (world Input.view self.now) remembered.new }
     {
         match &mut remembered.failures {
-            Some(failures) => self.begin_known(memory, failures, spot),
+            Some(failures) => self.begin_known(memory, failures, &mut remembered.counts, spot),
             None => Ok(None),
         }
     }
@@ -207,12 +217,13 @@ impl<'a, Input: ExecutorInput> Attempt<'a, Input> {
         requires so { Remembers (world Input.view self.now) remembered.old }
         ensures leads { IfOk result (Steps (world Input.view self.now) spot.old (held memory.old) spot.new (held memory.new)) }
         ensures sound { IfOk result (λ left. IfSome left (λ going. IsHeldIn (world Input.view self.now) (held memory.new))) }
+        ensures counted { OnOk result (Passes (Input.view self.now.input) 1 remembered.old.counts.more remembered.new.counts.more) }
         ensures so { Remembers (world Input.view self.now) remembered.new }
     {
         match self.begin(memory, remembered, spot)? {
             Some(going) => Ok(Some(going)),
             None => {
-                let left = self.step(memory, answer, &mut remembered.spare, spot)?;
+                let left = self.step(memory, answer, &mut remembered.counts, spot)?;
                 Ok(left)
             }
         }
@@ -241,9 +252,10 @@ impl<'a, Input: ExecutorInput> Attempt<'a, Input> {
     #[inline]
     pub(crate) fn keep_failures(&self, remembered: &mut Remembered)
         requires { Remembers (world Input.view self.now) remembered.old }
-        ensures { Remembers (world Input.view self.now) remembered.new }
+        ensures so { Remembers (world Input.view self.now) remembered.new }
+        ensures kept { remembered.new.counts ≡ remembered.old.counts }
     {
-        if remembered.spare > 0 || remembered.is_begun {
+        if remembered.counts.spare > 0 || remembered.is_begun {
             return;
         }
         remembered.is_begun = true;
@@ -263,7 +275,8 @@ impl<'a, Input: ExecutorInput> Attempt<'a, Input> {
         requires sound { IsHeldIn (world Input.view self.now) (pushed (undo_of undo.now) (held memory.now)) }
         requires tried { IsUnderWay (world Input.view self.now) false spot.now (pushed (undo_of undo.now) (held memory.now)) }
         requires so { Remembers (world Input.view self.now) remembered.old }
-        ensures { Remembers (world Input.view self.now) remembered.new }
+        ensures so { Remembers (world Input.view self.now) remembered.new }
+        ensures kept { remembered.new.counts ≡ remembered.old.counts }
     {
         let Some(failures) = &mut remembered.failures else {
             return;
@@ -288,6 +301,7 @@ impl<'a, Input: ExecutorInput> Attempt<'a, Input> {
         undo: &Undo,
         memory: &mut Memory,
         failures: &mut Failures,
+        counts: &mut Counts,
         spot: &mut Spot,
     ) -> Result<Option<bool>, AllocError>
         requires suits { Suits (program_of self.now.program.now) (Input.view self.now.input) }
@@ -295,6 +309,7 @@ impl<'a, Input: ExecutorInput> Attempt<'a, Input> {
         requires so { AreOf (world Input.view self.now) failures.old }
         ensures leads { IfOk result (MayUndo (world Input.view self.now) (undo_of undo.now) spot.old (held memory.old) spot.new (held memory.new)) }
         ensures sound { IfOk result (λ done. IfSome done (λ going. IsHeldIn (world Input.view self.now) (held memory.new))) }
+        ensures counted { IfOk result (λ done. MayUndoMore (world Input.view self.now) (undo_of undo.now) spot.old (held memory.old) spot.new (held memory.new) counts.old.more counts.new.more done) }
         ensures so { AreOf (world Input.view self.now) failures.new }
     {
         match undo {
@@ -303,7 +318,9 @@ impl<'a, Input: ExecutorInput> Attempt<'a, Input> {
                 Ok(Some(going))
             }
             Undo::TakeOn { at, offset, left } => {
-                let going = self.take_on_known(*at, *offset, *left, memory, failures, spot)?;
+                let going = self.take_on_known(
+                    *at, *offset, *offset, *left, memory, failures, counts, spot,
+                )?;
                 Ok(Some(going))
             }
             _ => Ok(None),
@@ -324,10 +341,11 @@ impl<'a, Input: ExecutorInput> Attempt<'a, Input> {
         requires so { Remembers (world Input.view self.now) remembered.old }
         ensures leads { IfOk result (MayUndo (world Input.view self.now) (undo_of undo.now) spot.old (held memory.old) spot.new (held memory.new)) }
         ensures sound { IfOk result (λ done. IfSome done (λ going. IsHeldIn (world Input.view self.now) (held memory.new))) }
+        ensures counted { IfOk result (λ done. MayUndoMore (world Input.view self.now) (undo_of undo.now) spot.old (held memory.old) spot.new (held memory.new) remembered.old.counts.more remembered.new.counts.more done) }
         ensures so { Remembers (world Input.view self.now) remembered.new }
     {
         match &mut remembered.failures {
-            Some(failures) => self.undo_known(undo, memory, failures, spot),
+            Some(failures) => self.undo_known(undo, memory, failures, &mut remembered.counts, spot),
             None => Ok(None),
         }
     }

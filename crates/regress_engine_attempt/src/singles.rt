@@ -6,9 +6,11 @@ ghost use Rattle.regress_engine_search.specs.Ready.{IsBody};
 ghost use Rattle.regress_engine_search.specs.Search.{Suits};
 ghost use Rattle.regress_engine_undo.specs.Held.{held};
 ghost use Rattle.regress_engine_attempt.specs.Attempts.{world};
+ghost use Rattle.regress_engine_attempt.specs.Passing.{Passes};
 ghost use Rattle.regress_engine_attempt.specs.Trying.{Does, IsHeldIn};
 
 use crate::attempt::Attempt;
+use crate::counts::Counts;
 use regress_engine_advance::{after_times, as_far};
 use regress_engine_search::ExecutorInput;
 use regress_engine_singles::is_possessive;
@@ -22,7 +24,7 @@ impl<'a, Input: ExecutorInput> Attempt<'a, Input> {
         least: usize,
         most: usize,
         greedy: bool,
-        spare: &mut usize,
+        counts: &mut Counts,
         memory: &mut Memory,
         spot: &mut Spot,
     ) -> Result<bool, AllocError>
@@ -32,6 +34,7 @@ impl<'a, Input: ExecutorInput> Attempt<'a, Input> {
         requires body { IsBody (program_of self.now.program.now) (Input.view self.now.input) (spot.old.at + 2) spot.old.offset }
         ensures leads { IfOk result (Does (world Input.view self.now) (single_loop least most greedy) spot.old (held memory.old) spot.new (held memory.new)) }
         ensures sound { OnOk result (IsHeldIn (world Input.view self.now) (held memory.new)) }
+        ensures counted { OnOk result (Passes (Input.view self.now.input) 1 counts.old.more counts.new.more) }
     {
         let insn = self.instruction(spot.at + 1);
         let Some(near) = after_times(
@@ -57,16 +60,17 @@ impl<'a, Input: ExecutorInput> Attempt<'a, Input> {
                 &memory.groups,
                 near,
             );
+            counts.pass(spot.offset, far);
             if spot.forward && is_possessive(self.program, spot.at) {
-                *spare = spare.saturating_sub(far.abs_diff(near) / 8);
+                counts.spare = counts.spare.saturating_sub(far.abs_diff(near) / 8);
                 spot.at = at;
                 spot.offset = far;
                 return Ok(true);
             }
-            let going = self.give_back(at, near, far, spare, memory, spot)?;
+            let going = self.give_back(at, near, far, &mut counts.spare, memory, spot)?;
             return Ok(going);
         }
-        let going = self.take_on(at, near, left, spare, memory, spot)?;
+        let going = self.take_on(at, spot.offset, near, left, counts, memory, spot)?;
         Ok(going)
     }
 }

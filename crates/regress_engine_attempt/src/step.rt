@@ -11,9 +11,11 @@ ghost use Rattle.regress_engine_search.specs.Submatches.{submatch_of, reads_forw
 ghost use Rattle.regress_engine_search.specs.declared.submatch.Submatch.TheVariants.{Lookaround, Atomic};
 ghost use Rattle.regress_engine_search.specs.Search.{Suits};
 ghost use Rattle.regress_engine_attempt.specs.Attempts.{world};
+ghost use Rattle.regress_engine_attempt.specs.Passing.{Passes};
 ghost use Rattle.regress_engine_attempt.specs.Trying.{IsHeldIn, ReadsAt, ReadsHere, ReadsOn, Steps};
 
 use crate::attempt::Attempt;
+use crate::counts::Counts;
 use regress_engine_advance::{advance, is_dead};
 use regress_engine_insn::Insn;
 use regress_engine_search::{ExecutorInput, Submatch};
@@ -123,7 +125,7 @@ impl<'a, Input: ExecutorInput> Attempt<'a, Input> {
         &self,
         memory: &mut Memory,
         answer: &mut Vec<GroupData<usize>>,
-        spare: &mut usize,
+        counts: &mut Counts,
         spot: &mut Spot,
     ) -> Result<Option<bool>, AllocError>
         requires suits { Suits (program_of self.now.program.now) (Input.view self.now.input) }
@@ -133,6 +135,7 @@ impl<'a, Input: ExecutorInput> Attempt<'a, Input> {
         requires later { ReadsOn (world Input.view self.now) spot.old (held memory.old) }
         ensures leads { IfOk result (Steps (world Input.view self.now) spot.old (held memory.old) spot.new (held memory.new)) }
         ensures sound { IfOk result (λ left. IfSome left (λ going. IsHeldIn (world Input.view self.now) (held memory.new))) }
+        ensures counted { OnOk result (Passes (Input.view self.now.input) 1 counts.old.more counts.new.more) }
     {
         let insn = self.instruction(spot.at);
         match insn {
@@ -144,7 +147,7 @@ impl<'a, Input: ExecutorInput> Attempt<'a, Input> {
             Insn::Alt { secondary } => {
                 let second = *secondary as usize;
                 if self.is_turn_at(spot.at) {
-                    self.choose(second, memory, spot)?;
+                    self.choose(second, counts, memory, spot)?;
                     return Ok(Some(true));
                 }
                 let way = self.way_of_two(spot.at, second, spot.forward, spot.offset);
@@ -184,7 +187,7 @@ impl<'a, Input: ExecutorInput> Attempt<'a, Input> {
                 max_iters,
                 greedy,
             } => {
-                let going = self.repeat(*min_iters, *max_iters, *greedy, spare, memory, spot)?;
+                let going = self.repeat(*min_iters, *max_iters, *greedy, counts, memory, spot)?;
                 Ok(Some(going))
             }
             Insn::Lookahead {

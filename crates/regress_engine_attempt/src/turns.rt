@@ -8,9 +8,11 @@ ghost use Rattle.regress_engine_search.specs.Search.{Suits};
 ghost use Rattle.regress_engine_analysis.specs.Planned.{is_class};
 ghost use Rattle.regress_engine_undo.specs.Held.{held};
 ghost use Rattle.regress_engine_attempt.specs.Attempts.{world};
+ghost use Rattle.regress_engine_attempt.specs.Passing.{Passes};
 ghost use Rattle.regress_engine_attempt.specs.Trying.{BeginsMore, IsHeldIn, IsTurnAt, LeadsOut, Steps};
 
 use crate::attempt::Attempt;
+use crate::counts::Counts;
 use regress_engine_advance::is_dead;
 use regress_engine_insn::{Insn, LoopFields};
 use regress_engine_search::ExecutorInput;
@@ -116,6 +118,7 @@ impl<'a, Input: ExecutorInput> Attempt<'a, Input> {
         turn: &Turn<'_>,
         second: usize,
         count: usize,
+        counts: &mut Counts,
         memory: &mut Memory,
         spot: &mut Spot,
     ) -> Result<(), AllocError>
@@ -128,6 +131,7 @@ impl<'a, Input: ExecutorInput> Attempt<'a, Input> {
         requires forward { spot.old.forward ≡ true }
         requires place { IsAtPlace (reading_of (Input.view self.now.input)) spot.old.offset }
         ensures leads { OnOk result (Steps (world Input.view self.now) spot.old (held memory.old) spot.new (held memory.new) (Some true)) }
+        ensures counted { OnOk result (Passes (Input.view self.now.input) 1 counts.old.more counts.new.more) }
         ensures sound { OnOk result (IsHeldIn (world Input.view self.now) (held memory.new)) }
     {
         let more = left(turn.repetition, count);
@@ -136,6 +140,7 @@ impl<'a, Input: ExecutorInput> Attempt<'a, Input> {
             spot.at = second;
             return Ok(());
         };
+        counts.pass(spot.offset, taken.past);
         let begun = count + taken.before;
         begin_more(turn, count, &taken, memory, spot)?;
         spot.offset = taken.past;
@@ -153,6 +158,7 @@ impl<'a, Input: ExecutorInput> Attempt<'a, Input> {
     pub(crate) fn choose(
         &self,
         second: usize,
+        counts: &mut Counts,
         memory: &mut Memory,
         spot: &mut Spot,
     ) -> Result<(), AllocError>
@@ -162,13 +168,14 @@ impl<'a, Input: ExecutorInput> Attempt<'a, Input> {
         requires room { spot.old.at + 1 < 2 ^ 64 }
         requires place { IsAtPlace (reading_of (Input.view self.now.input)) spot.old.offset }
         ensures leads { OnOk result (Steps (world Input.view self.now) spot.old (held memory.old) spot.new (held memory.new) (Some true)) }
+        ensures counted { OnOk result (Passes (Input.view self.now.input) 1 counts.old.more counts.new.more) }
         ensures sound { OnOk result (IsHeldIn (world Input.view self.now) (held memory.new)) }
     {
         if spot.forward {
             if let Some(turn) = self.turn(spot.at, second) {
                 let entered = memory.loop_data(turn.repetition.loop_id as usize);
                 if entered.entry == spot.offset {
-                    return self.turn_on(&turn, second, entered.iters, memory, spot);
+                    return self.turn_on(&turn, second, entered.iters, counts, memory, spot);
                 }
             }
         }

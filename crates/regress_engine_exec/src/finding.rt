@@ -1,38 +1,44 @@
 //! The first place of a text from which a run has an answer.
-ghost use Rattle.std.specs.Prelude.{IfOk};
+ghost use Rattle.std.specs.Prelude.{◌≡◌, Some, IfOk};
 ghost use Rattle.regress_engine_code.specs.Standing.{program_of};
 ghost use Rattle.regress_engine_input.specs.Views.{input_of, reading_of};
 ghost use Rattle.regress_engine_runs.specs.Meets.{IsAtPlace};
 ghost use Rattle.regress_engine_search.specs.Answering.{IsAnswer, IsFound};
 ghost use Rattle.regress_engine_attempt.specs.Attempts.{searched};
+ghost use Rattle.regress_engine_attempt.specs.Counting.{CountsRun};
+ghost use Rattle.regress_engine_attempt.specs.Ending.{IfEnded, IfStopped};
 ghost use Rattle.regress_engine_attempt.specs.Remembering.{Remembers};
+ghost use Rattle.regress_engine_exec.specs.Counting.{CountsSearch};
 ghost use Rattle.regress_engine_exec.specs.Searches.{groups_of};
 
 use crate::scratch::Scratch;
 use regress_engine_advance::beside;
-use regress_engine_attempt::{Attempt, Remembered};
+use regress_engine_attempt::{Attempt, Budget, Ended, Remembered};
 use regress_engine_leading::{Beginning, known_at};
 use regress_engine_search::{ExecutorInput, SearchContext};
 use std::alloc::AllocError;
 
 /// Searches from an offset on, where the text goes on as the program's start predicate says. It answers the offset from which the
-/// first run has an answer, and where that ends; the scratch has the answer's groups.
+/// first run has an answer, and where that ends; the scratch has the answer's groups. Or it answers that no more steps may be counted.
 #[inline(always)]
-pub(crate) fn first_from<Input: ExecutorInput>(
+pub(crate) fn first_from<Input: ExecutorInput, B: Budget>(
     context: &SearchContext<'_, Input>,
     scratch: &mut Scratch,
     remembered: &mut Remembered,
+    budget: &mut B,
     offset: usize,
-) -> Result<Option<(usize, usize)>, AllocError>
+) -> Result<Ended<(usize, usize)>, AllocError>
     requires place { IsAtPlace (reading_of (Input.view context.now.input)) offset }
     requires so { Remembers (searched Input.view context.now) remembered.old }
-    ensures found { IfOk result (λ found. IsFound (program_of context.now.program.now) (input_of (Input.view context.now.input)) offset found (groups_of scratch.new)) }
+    ensures found { IfOk result (λ ended. IfEnded ended (λ found. IsFound (program_of context.now.program.now) (input_of (Input.view context.now.input)) offset found (groups_of scratch.new))) }
+    ensures counted { IfOk result (λ ended. CountsSearch (program_of context.now.program.now) (Input.view context.now.input) offset (B.left budget.old) (B.left budget.new)) }
+    ensures stopped { IfOk result (λ ended. IfStopped ended (B.left budget.new ≡ Some 0)) }
     ensures so { Remembers (searched Input.view context.now) remembered.new }
 {
     let mut from = offset;
     'places: loop {
         let Some(start) = context.next_start(from) else {
-            return Ok(None);
+            return Ok(Ended::With(None));
         };
         let first = match known_at(context.program, &context.input, start) {
             Beginning::Passed(past) => {
@@ -46,16 +52,21 @@ pub(crate) fn first_from<Input: ExecutorInput>(
             input: context.input,
             start,
         };
-        if let Some(end) = attempt.run(
+        let Ended::With(found) = attempt.run_within(
             first,
             &mut scratch.memory,
             &mut scratch.answer,
             remembered,
-        )? {
-            return Ok(Some((start, end)));
+            budget,
+        )?
+        else {
+            return Ok(Ended::TooManySteps);
+        };
+        if let Some(end) = found {
+            return Ok(Ended::With(Some((start, end))));
         }
         let Some((_, behind)) = beside(&context.input, true, start) else {
-            return Ok(None);
+            return Ok(Ended::With(None));
         };
         from = behind;
     }
@@ -79,4 +90,33 @@ pub(crate) fn run_from<Input: ExecutorInput>(
         start: offset,
     };
     attempt.run(0, &mut scratch.memory, &mut scratch.answer, remembered)
+}
+
+/// Runs the program from an offset, as `run_from` does; or it answers that no more steps may be counted.
+pub(crate) fn run_within<Input: ExecutorInput, B: Budget>(
+    context: &SearchContext<'_, Input>,
+    scratch: &mut Scratch,
+    remembered: &mut Remembered,
+    budget: &mut B,
+    offset: usize,
+) -> Result<Ended<usize>, AllocError>
+    requires place { IsAtPlace (reading_of (Input.view context.now.input)) offset }
+    requires so { Remembers (searched Input.view context.now) remembered.old }
+    ensures answer { IfOk result (λ ended. IfEnded ended (λ end. IsAnswer (program_of context.now.program.now) (input_of (Input.view context.now.input)) offset end (groups_of scratch.new))) }
+    ensures counted { IfOk result (λ ended. CountsRun (program_of context.now.program.now) (Input.view context.now.input) offset (B.left budget.old) (B.left budget.new)) }
+    ensures stopped { IfOk result (λ ended. IfStopped ended (B.left budget.new ≡ Some 0)) }
+    ensures so { Remembers (searched Input.view context.now) remembered.new }
+{
+    let attempt = Attempt {
+        program: context.program,
+        input: context.input,
+        start: offset,
+    };
+    attempt.run_within(
+        0,
+        &mut scratch.memory,
+        &mut scratch.answer,
+        remembered,
+        budget,
+    )
 }

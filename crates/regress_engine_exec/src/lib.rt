@@ -1,12 +1,17 @@
 //! The executor that undoes: it tries the paths through a program one after another, on one state and one stack of records.
 #![tactic(auto)]
 
+mod bounded;
+mod error;
 mod executor;
 mod finding;
 mod producer;
 mod scratch;
 mod search;
+mod stepping;
 
+pub use bounded::BoundedExecutor;
+pub use error::SearchError;
 pub use regress_engine_search::{ExecutorInput, Shown};
 pub use scratch::Scratch;
 pub use search::BacktrackExecutor;

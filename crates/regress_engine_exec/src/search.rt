@@ -16,7 +16,7 @@ ghost use Rattle.regress_engine_attempt.specs.Remembering.{Remembers};
 
 use crate::finding::{first_from, run_from};
 use crate::scratch::Scratch;
-use regress_engine_attempt::Remembered;
+use regress_engine_attempt::{Ended, Remembered, Unbounded};
 use regress_engine_code::CompiledRegex;
 use regress_engine_inputs::Utf8Input;
 use regress_engine_search::{ExecutorInput, SearchContext, Shown, fill_slots};
@@ -97,12 +97,17 @@ impl<'r, Input: ExecutorInput> BacktrackExecutor<'r, Input> {
         ensures found { IfOk result (λ found. IsFound (program_in self.old) (input_of (Input.view self.old.context.input)) offset found (groups_in self.new)) }
         ensures kept { self.new.context ≡ self.old.context }
     {
-        first_from(
+        let ended = first_from(
             &self.context,
             &mut self.scratch,
             &mut self.remembered,
+            &mut Unbounded,
             offset,
-        )
+        )?;
+        match ended {
+            Ended::With(found) => Ok(found),
+            Ended::TooManySteps => unreachable!(),
+        }
     }
 
     /// Runs the program from an offset. It answers where the run's answer ends, whose groups are then held.

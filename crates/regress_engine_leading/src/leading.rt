@@ -2,14 +2,15 @@
 ghost use Rattle.std.specs.Prelude.{◌≡◌, ◌<◌, ℕ, true, false, IfSome};
 ghost use Rattle.regress_engine_insn.specs.Instructions.{Program, Stands, boundary, line_start};
 ghost use Rattle.regress_engine_code.specs.Standing.{program_of};
-ghost use Rattle.regress_engine_input.specs.Views.{View, reading_of};
+ghost use Rattle.regress_engine_input.specs.Views.{View, are_bytes, reading_of};
 ghost use Rattle.regress_engine_runs.specs.Meets.{IsAtPlace};
 ghost use Rattle.regress_engine_search.specs.Search.{Suits};
+ghost use Rattle.regress_engine_search.specs.Skipping.{Reaches};
 ghost use Rattle.regress_engine_singles.specs.Passed.{PassesOver};
 ghost use Rattle.regress_engine_leading.specs.Known.{BeginsAt, IsKnown};
 
 use crate::failing::{class_ahead, fails};
-use regress_engine_advance::{beside, boundary, is_dead, is_word, word_beside};
+use regress_engine_advance::{beside, boundary, is_dead, is_dead_ahead, is_word, word_beside};
 use regress_engine_analysis::is_class;
 use regress_engine_code::CompiledRegex;
 use regress_engine_insn::Insn;
@@ -181,20 +182,49 @@ fn passed_line<Input: CharInput>(
     }
 }
 
+/// The offset behind the characters of ASCII ahead of one with which no match may begin, one after another.
+#[inline(always)]
+fn behind_ascii<Input: CharInput>(
+    program: &CompiledRegex,
+    input: &Input,
+    units: &[u16],
+    start: usize,
+) -> usize
+    requires suits { Suits (program_of program.now) (Input.view input.now) }
+    requires place { IsAtPlace (reading_of (Input.view input.now)) start }
+    requires kind { are_bytes (Input.view input.now).kind ≡ false }
+    requires units { units.now ≡ (Input.view input.now).units }
+    ensures { Reaches (program_of program.now) (Input.view input.now) start result }
+{
+    let mut at = start;
+    while at < units.len() {
+        let unit = units[at];
+        if unit >= 0x80 || !is_dead_ahead(program, 0, unit as u8) {
+            break;
+        }
+        at += 1;
+    }
+    at
+}
+
 /// How far from the start on each character begins with a byte in UTF-8 with which no match may begin.
 #[inline(always)]
 fn passed_leads<Input: CharInput>(
     program: &CompiledRegex,
     input: &Input,
+    units: &[u16],
     start: usize,
 ) -> Option<usize>
     requires suits { Suits (program_of program.now) (Input.view input.now) }
     requires place { IsAtPlace (reading_of (Input.view input.now)) start }
+    requires kind { are_bytes (Input.view input.now).kind ≡ false }
+    requires units { units.now ≡ (Input.view input.now).units }
     ensures { IfSome result (PassesOver (program_of program.now) (Input.view input.now) start) }
 {
     let mut at = start;
     'places: loop {
-        if !is_dead(program, input, 0, true, at) {
+        at = behind_ascii(program, input, units, at);
+        if at >= units.len() || units[at] < 0x80 || !is_dead(program, input, 0, true, at) {
             break;
         }
         let Some((_, behind)) = beside(input, true, at) else {
@@ -224,8 +254,8 @@ pub fn known_at<Input: CharInput>(program: &CompiledRegex, input: &Input, start:
     if insns.is_empty() {
         return Beginning::At(0);
     }
-    if input.units().is_some() {
-        if let Some(past) = passed_leads(program, input, start) {
+    if let Some(units) = input.units() {
+        if let Some(past) = passed_leads(program, input, units, start) {
             return Beginning::Passed(past);
         }
     }

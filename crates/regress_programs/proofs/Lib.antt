@@ -3,3 +3,8 @@ pub mod ProgramLemmas
 pub mod OutcomeLemmas
 pub mod SlotLemmas
 pub mod StepLemmas
+pub mod IterationLemmas
+pub mod ListedLemmas
+pub mod UnitLemmas
+pub mod ToldLemmas
+pub mod AskingLemmas

@@ -3,7 +3,6 @@ use Rattle.std.specs.Prelude.{◌≡◌, ℕ, List, Option, Some, None, Result, 
 use Rattle.std.specs.Iterator.{Yields}
 use Rattle.regress_meaning.specs.Matches.{Item}
 use Rattle.regress_meaning.specs.Offsets.{of_utf8, Begins}
-use Rattle.regress_front_core.specs.declared.error.Error.{Error}
 use Rattle.regress_match.specs.declared.found.Match.{Match}
 use Rattle.regress_match.specs.Iterating.{coming_on, steps_on}
 use Rattle.regress_engine.specs.InputViews.{utf8_view}
@@ -51,8 +50,8 @@ IsStart bytes at = (place : ℕ) × Begins (of_utf8 bytes) at place
 abbrev pub BeginsAndEndsAtStarts : List ℕ → Match → Type 0
 BeginsAndEndsAtStarts bytes m = IsStart bytes m.range.start × IsStart bytes m.range.end
 
-module _ {S : Type 0} where
+module _ {S E : Type 0} where
   -- The fact holds of each match that calls from here on give.
-  abbrev pub HoldsOfEach : (S → Option (Result Match Error) → S → Type 0) → (Match → Type 0) → S → Type 0
-  HoldsOfEach next_gives Q ms = (given : List (Result Match Error)) (old new : S) (r : Option (Result Match Error)) (m : Match)
+  abbrev pub HoldsOfEach : (S → Option (Result Match E) → S → Type 0) → (Match → Type 0) → S → Type 0
+  HoldsOfEach next_gives Q ms = (given : List (Result Match E)) (old new : S) (r : Option (Result Match E)) (m : Match)
       → Yields next_gives ms given old → next_gives old r new → r ≡ Some (Ok m) → Q m

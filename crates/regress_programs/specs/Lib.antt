@@ -7,3 +7,4 @@ pub mod Positions
 pub mod Coming
 pub mod Units
 pub mod Ascii
+pub mod Slotted

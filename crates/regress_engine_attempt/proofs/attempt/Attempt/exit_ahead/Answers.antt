@@ -1,4 +1,4 @@
-use Rattle.std.proofs.Common.{◌≡◌, ◌-◌, inl, inr, map, sym, ap, ◌∙◌, subst, arith}
+use Rattle.std.proofs.Common.{◌≡◌, ◌-◌, inl, inr, map, sym, ap, ◌∙◌, subst, arith, refl}
 use Rattle.regress_engine_insn.specs.Instructions.{Stands}
 use Rattle.regress_engine_insn.specs.InsnViews.{instruction}
 use Rattle.regress_engine_code.specs.Standing.{program_of}
@@ -11,7 +11,7 @@ use Rattle.regress_engine_undo.specs.Held.{held}
 use Rattle.regress_engine_memory.specs.Held.{ExitsFailWith}
 use Rattle.regress_engine_memory.specs.Remembered.{keyed_of}
 use Rattle.regress_engine_memory.specs.TableViews.{table_of}
-use Rattle.regress_engine_attempt.proofs.ExitLemmas.{over-same, over-then, over-last, over-one, over-all}
+use Rattle.regress_engine_attempt.proofs.ExitLemmas.{over-same, over-then, over-last, over-one, over-all, more-then, then-more, last-one, next-one}
 use Rattle.regress_engine_attempt.proofs.attempt.Attempt.exit_ahead.Goals as goal
 
 pub places-init : goal.places-init
@@ -20,6 +20,7 @@ places-init g c =
     let v = g.Input.InputIndexer.view c.args.self.now.input in
     record {
       over = over-same program v (keyed_of (table_of c.args.failures.now.table)) (held c.args.memory.now) c.requires.sound.loops c.args.forward c.args.at (instruction c.instruction-body.result.now) c.instruction-body.ensures.stands c.args.offset c.args.left;
+      more = inl refl;
       body = c.requires.body;
     }
 
@@ -91,6 +92,49 @@ places-preserved g c =
     record {
       over = over-then program v keyed h c.requires.sound.loops c.args.forward c.args.at i here c.args.offset c.args.left c.places.near c.places.rest _ c.places.invariant.over
           (over-one program v keyed h c.requires.sound.loops c.args.forward c.args.at i here c.places.near c.places.rest c.in-Some.next (c.exit_fails.ensures c.if-not-exit_fails.false) c.if-rest-eq0.false takes);
+      more = inr (then-more program v keyed h c.requires.sound.loops c.args.forward c.args.at i here c.args.offset c.args.left c.places.near c.places.rest _ c.places.invariant.over
+          (next-one program v keyed h c.requires.sound.loops c.args.forward c.args.at i here c.places.near c.places.rest c.in-Some.next (c.exit_fails.ensures c.if-not-exit_fails.false) c.if-rest-eq0.false takes));
       body = body-next v (g.met.Input.InputIndexer.are_of_kind c.args.self.now.input) program c.requires.suits c.args.at c.places.near c.in-Some.next i (direction_of c.args.forward) h.groups
           c.places.invariant.body here takes;
     }
+
+pub returns-then-are_exits_known-clause-over : goal.returns-then-are_exits_known-clause-over
+returns-then-are_exits_known-clause-over g c =
+    let program = program_of c.args.self.now.program.now in
+    let v = g.Input.InputIndexer.view c.args.self.now.input in
+    let h = held c.args.memory.now in
+    let keyed = keyed_of (table_of c.args.failures.now.table) in
+    let i = instruction c.instruction-body.result.now in
+    let here = c.instruction-body.ensures.stands in
+    elim c.places.invariant.more [
+      | inl same ↦ inl same
+      | inr more ↦ inr (more-then program v keyed h c.requires.sound.loops c.args.forward c.args.at i here c.args.offset c.args.left c.places.near c.places.rest h more
+          (over-all program v keyed h c.requires.sound.loops c.args.forward c.args.at i here c.places.near c.places.rest
+          (subst (ExitsFailWith program (input_of v) keyed _) c.loops.ensures (c.are_exits_known.ensures c.if-are_exits_known.true program (input_of v) c.requires.so.known))))
+    ]
+
+pub returns-then-not-exit_fails-clause-over : goal.returns-then-not-exit_fails-clause-over
+returns-then-not-exit_fails-clause-over g c = c.places.invariant.more
+
+pub returns-then-rest-eq0-clause-over : goal.returns-then-rest-eq0-clause-over
+returns-then-rest-eq0-clause-over g c =
+    let program = program_of c.args.self.now.program.now in
+    let v = g.Input.InputIndexer.view c.args.self.now.input in
+    let h = held c.args.memory.now in
+    let keyed = keyed_of (table_of c.args.failures.now.table) in
+    let i = instruction c.instruction-body.result.now in
+    let here = c.instruction-body.ensures.stands in
+    inr (then-more program v keyed h c.requires.sound.loops c.args.forward c.args.at i here c.args.offset c.args.left c.places.near c.places.rest h c.places.invariant.over
+    (last-one program v keyed h c.requires.sound.loops c.args.forward c.args.at i here c.places.near c.places.rest (c.exit_fails.ensures c.if-not-exit_fails.false) (inl c.if-rest-eq0.true)))
+
+pub returns-in_default-clause-over : goal.returns-in_default-clause-over
+returns-in_default-clause-over g c =
+    let program = program_of c.args.self.now.program.now in
+    let v = g.Input.InputIndexer.view c.args.self.now.input in
+    let h = held c.args.memory.now in
+    let keyed = keyed_of (table_of c.args.failures.now.table) in
+    let i = instruction c.instruction-body.result.now in
+    let here = c.instruction-body.ensures.stands in
+    inr (then-more program v keyed h c.requires.sound.loops c.args.forward c.args.at i here c.args.offset c.args.left c.places.near c.places.rest h c.places.invariant.over
+    (last-one program v keyed h c.requires.sound.loops c.args.forward c.args.at i here c.places.near c.places.rest (c.exit_fails.ensures c.if-not-exit_fails.false)
+    (inr (ap (λ gs. advance program (input_of v) i (direction_of c.args.forward) (map marks_of gs) c.places.near) (sym c.deref.ensures.value) ∙ sym c.in_default.ensures))))

@@ -10,8 +10,8 @@ use Rattle.regress_engine_attempt.specs.Remembering.{AreOf, IsUnderWay}
 use Rattle.regress_engine_attempt.proofs.RememberLemmas.{learned}
 use Rattle.regress_engine_attempt.proofs.attempt.Attempt.learn.Goals as goal
 
-pub returns : goal.returns
-returns g c =
+pub returns-clause-so : goal.returns-clause-so
+returns-clause-so g c =
     let w : World = record { program = program_of c.args.self.now.program.now; view = g.Input.InputIndexer.view c.args.self.now.input } in
     let s : Spot = record { at = c.in-Tried.at; offset = c.in-Tried.offset; forward = c.args.spot.now.forward } in
     let h = held c.args.memory.now in

@@ -1,4 +1,4 @@
-use Rattle.std.proofs.Common.{◌≡◌, true, ◌+◌, ◌-◌, map, sym, ap, ◌∙◌, refl, subst, arith}
+use Rattle.std.proofs.Common.{◌≡◌, true, ◌+◌, ◌-◌, map, sym, ap, ◌∙◌, refl, subst, arith, length}
 use Rattle.regress_engine_insn.specs.Instructions.{Stands}
 use Rattle.regress_engine_runs.specs.Closed.{takes_character}
 use Rattle.regress_engine_runs.proofs.RunViews.{one_stands}
@@ -13,6 +13,7 @@ use Rattle.regress_engine_search.proofs.TaskLemmas.{leads-then}
 use Rattle.regress_engine_undo.specs.Held.{held, pushed}
 use Rattle.regress_engine_undo.proofs.BackLemmas.{give_back-held, take_on-held}
 use Rattle.regress_engine_undo.proofs.SingleLemmas.{repeat-few, repeat-greedy, repeat-lazy, atomic}
+use Rattle.regress_engine_search.proofs.SkipLemmas.{place-lies}
 use Rattle.regress_engine_attempt.proofs.attempt.Attempt.repeat.Goals as goal
 
 pub returns-in_default-clause-leads : goal.returns-in_default-clause-leads
@@ -83,3 +84,20 @@ returns-then-is_possessive-clause-leads g c =
     (ap (λ gs. after_times program (input_of v) c.args.least i (direction_of p.forward) (map marks_of gs) p.offset) (sym c.deref.ensures.value) ∙ sym c.in-Some.ensures.behind) goes refl)
     (atomic program v (g.met.Input.InputIndexer.are_of_kind c.args.self.now.input) c.requires.suits (p.at + 2) i here spares (c.args.most - c.args.least) near far groups
     (body-at program v (p.at + 2) p.offset near c.requires.body c.in-Some.ensures.place) ahead p h c.if-spot.true)
+
+pub returns-then-is_possessive-clause-counted : goal.returns-then-is_possessive-clause-counted
+returns-then-is_possessive-clause-counted g c =
+    let v = g.Input.InputIndexer.view c.args.self.now.input in
+    let all = g.met.Input.InputIndexer.are_of_kind c.args.self.now.input in
+    let most = c.pass.ensures.most (length v.units) (place-lies v all c.args.spot.now.offset c.requires.body.3) (place-lies v all c.as_far-far.result c.as_far-far.ensures.place) in
+    omega (arith, most)
+
+pub returns-then-greedy-clause-counted : goal.returns-then-greedy-clause-counted
+returns-then-greedy-clause-counted g c =
+    let v = g.Input.InputIndexer.view c.args.self.now.input in
+    let all = g.met.Input.InputIndexer.are_of_kind c.args.self.now.input in
+    let most = c.pass.ensures.most (length v.units) (place-lies v all c.args.spot.now.offset c.requires.body.3) (place-lies v all c.as_far-far.result c.as_far-far.ensures.place) in
+    omega (arith, most)
+
+pub take_on-requires-clause-from : goal.take_on-requires-clause-from
+take_on-requires-clause-from g c = c.requires.body.3

@@ -1,4 +1,4 @@
-use Rattle.std.proofs.Common.{◌≡◌, true, ◌+◌, ◌-◌, map, sym, ap, ◌∙◌, refl, subst, arith}
+use Rattle.std.proofs.Common.{◌≡◌, true, ◌+◌, ◌-◌, map, sym, ap, ◌∙◌, refl, subst, arith, length}
 use Rattle.regress_engine_insn.specs.Instructions.{Stands}
 use Rattle.regress_engine_insn.specs.InsnViews.{instruction}
 use Rattle.regress_engine_code.specs.Standing.{program_of}
@@ -11,6 +11,7 @@ use Rattle.regress_engine_search.proofs.TaskLemmas.{leads-then}
 use Rattle.regress_engine_undo.specs.Held.{held, pushed}
 use Rattle.regress_engine_undo.proofs.BackLemmas.{give_back-held, take_on-held}
 use Rattle.regress_engine_undo.proofs.SingleLemmas.{repeat-few, repeat-greedy, repeat-lazy}
+use Rattle.regress_engine_search.proofs.SkipLemmas.{place-lies}
 use Rattle.regress_engine_attempt.proofs.attempt.Attempt.repeat_known.Goals as goal
 
 pub returns-in_default-clause-leads : goal.returns-in_default-clause-leads
@@ -78,3 +79,13 @@ returns-clause-leads g c =
     refl refl)
     (c.in-Some-far_exit.ensures.leads i (subst (λ a. Stands program a i) two c.instruction-insn.ensures.stands) c.args.spot.now refl))
     c.in_ok-going-2.ensures.leads
+
+pub take_on_known-requires-clause-from : goal.take_on_known-requires-clause-from
+take_on_known-requires-clause-from g c = c.requires.body.3
+
+pub returns-clause-counted : goal.returns-clause-counted
+returns-clause-counted g c =
+    let v = g.Input.InputIndexer.view c.args.self.now.input in
+    let all = g.met.Input.InputIndexer.are_of_kind c.args.self.now.input in
+    let most = c.pass.ensures.most (length v.units) (place-lies v all c.args.spot.now.offset c.requires.body.3) (place-lies v all c.in-Some-far_exit.far c.in-Some-far_exit.ensures.place) in
+    omega (arith, most)

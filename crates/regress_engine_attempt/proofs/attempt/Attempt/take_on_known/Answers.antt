@@ -1,4 +1,4 @@
-use Rattle.std.proofs.Common.{◌≡◌, ℕ, ◌-◌, Bool, not, true, false, if◌then◌else◌, ap, ◌∙◌, refl, sym, subst, arith}
+use Rattle.std.proofs.Common.{◌≡◌, ℕ, ◌-◌, Bool, true, false, if◌then◌else◌, ap, ◌∙◌, refl, sym, subst, arith, length}
 use Rattle.regress_engine_code.specs.Standing.{program_of}
 use Rattle.regress_engine_input.specs.Views.{View, input_of}
 use Rattle.regress_engine_insn.specs.Instructions.{Program}
@@ -15,12 +15,10 @@ use Rattle.regress_engine_undo.proofs.BackLemmas.{held-take_on, take_on-held}
 use Rattle.regress_engine_attempt.specs.declared.exits.Exit.{Exit}
 use Rattle.regress_engine_attempt.specs.Trying.{GoesBack}
 use Rattle.regress_engine_attempt.specs.Remembering.{taken_up}
+use Rattle.regress_engine_attempt.specs.Passing.{TakesUpMore}
+use Rattle.regress_engine_attempt.proofs.TakeLemmas.{was, passed-or, passed-both}
+use Rattle.regress_engine_search.proofs.SkipLemmas.{place-lies}
 use Rattle.regress_engine_attempt.proofs.attempt.Attempt.take_on_known.Goals as goal
-
--- what is said the other way round
-was : (b c : Bool) → not b ≡ c → b ≡ not c
-was true c e = ap not e
-was false c e = ap not e
 
 -- what an exit leads to where it may go on, or not
 led-on : (program : Program) (v : View) (p : Spot) (j h : Held) (at : ℕ) (e : Exit) → e.may_go ≡ true → GoesBack (record { program = program; view = v }) p j p (taken_up at e h) false
@@ -32,6 +30,16 @@ led-none : (program : Program) (v : View) (p : Spot) (j h : Held) (at : ℕ) (e 
     → Leads program (input_of v) 0 (task program (input_of v) false p j) (task program (input_of v) false p h)
 led-none program v p j h at e may leads =
     subst (λ b. Leads program (input_of v) 0 (task program (input_of v) false p j) (task program (input_of v) false p (if b then pushed (take_on at e.offset e.left) h else h))) may leads
+
+more-on : (program : Program) (v : View) (p : Spot) (h : Held) (at offset left : ℕ) (e : Exit) → e.may_go ≡ true → TakesUpMore (record { program = program; view = v }) p.forward at offset left e h
+    → Leads program (input_of v) 1 (task program (input_of v) false p (pushed (take_on at offset left) h)) (task program (input_of v) false p (pushed (take_on at e.offset e.left) h))
+more-on program v p h at offset left e may leads =
+    subst (λ b. Leads program (input_of v) 1 (task program (input_of v) false p (pushed (take_on at offset left) h)) (task program (input_of v) false p (if b then pushed (take_on at e.offset e.left) h else h))) may (leads p refl)
+
+more-none : (program : Program) (v : View) (p : Spot) (h : Held) (at offset left : ℕ) (e : Exit) → e.may_go ≡ false → TakesUpMore (record { program = program; view = v }) p.forward at offset left e h
+    → Leads program (input_of v) 1 (task program (input_of v) false p (pushed (take_on at offset left) h)) (task program (input_of v) false p h)
+more-none program v p h at offset left e may leads =
+    subst (λ b. Leads program (input_of v) 1 (task program (input_of v) false p (pushed (take_on at offset left) h)) (task program (input_of v) false p (if b then pushed (take_on at e.offset e.left) h else h))) may (leads p refl)
 
 pub exit_ahead-exit-requires-clause-sound : goal.exit_ahead-exit-requires-clause-sound
 exit_ahead-exit-requires-clause-sound g c = (held-take_on _ _ (held c.args.memory.now) c.args.at c.args.offset c.args.left c.requires.sound).1
@@ -99,3 +107,52 @@ returns-else-going-clause-leads g c =
     (led-on program v c.args.spot.now (pushed (take_on c.args.at c.args.offset c.args.left) (held c.args.memory.now)) (held c.args.memory.now) c.args.at c.exit_ahead-exit.result (was c.exit_ahead-exit.result.may_go false c.if-not-exit.false)
     (c.exit_ahead-exit.ensures.leads c.args.spot.now refl))
     c.in_ok-going.ensures.leads
+
+pub returns-then-not-exit-clause-over : goal.returns-then-not-exit-clause-over
+returns-then-not-exit-clause-over g c =
+    let program = program_of c.args.self.now.program.now in
+    let v = g.Input.InputIndexer.view c.args.self.now.input in
+    passed-or c.args.from c.args.offset c.exit_ahead-exit.result.offset _ _ c.exit_ahead-exit.ensures.over c.pass.ensures.none
+    (more-none program v c.args.spot.now (held c.args.memory.now) c.args.at c.args.offset c.args.left c.exit_ahead-exit.result (was c.exit_ahead-exit.result.may_go true c.if-not-exit.true))
+
+pub returns-then-not-exit-clause-counted : goal.returns-then-not-exit-clause-counted
+returns-then-not-exit-clause-counted g c =
+    let v = g.Input.InputIndexer.view c.args.self.now.input in
+    let all = g.met.Input.InputIndexer.are_of_kind c.args.self.now.input in
+    let most = c.pass.ensures.most (length v.units) (place-lies v all c.args.from c.requires.from) (place-lies v all c.exit_ahead-exit.result.offset c.exit_ahead-exit.ensures.body.3) in
+    omega (arith, most)
+
+pub returns-in_ok-record_exit-clause-over : goal.returns-in_ok-record_exit-clause-over
+returns-in_ok-record_exit-clause-over g c =
+    let program = program_of c.args.self.now.program.now in
+    let v = g.Input.InputIndexer.view c.args.self.now.input in
+    let p = c.args.spot.now in
+    let h = held c.args.memory.now in
+    let e = c.exit_ahead-exit.result in
+    let may = was e.may_go false c.if-not-exit.false in
+    let first = led-on program v p (pushed (take_on c.args.at c.args.offset c.args.left) h) h c.args.at e may (c.exit_ahead-exit.ensures.leads p refl) in
+    let more = more-on program v p h c.args.at c.args.offset c.args.left e may in
+    let input = input_of v in
+    let q = c.take_on.new.spot in
+    let k = held c.take_on.new.memory in
+    let From : ℕ → Bool → Type 0 = λ n b. Leads program input n (task program input false p (pushed (take_on c.args.at e.offset e.left) h)) (task program input b q k) in
+    let end : (n : ℕ) → Leads program input n (task program input false p (pushed (take_on c.args.at c.args.offset c.args.left) h)) (task program input true q (held c.record_exit.new.memory)) → Leads program input n (task program input false p (pushed (take_on c.args.at c.args.offset c.args.left) h)) (task program input c.in_ok-going.going q (held c.record_exit.new.memory)) =
+    λ n. subst (λ b. Leads program input n (task program input false p (pushed (take_on c.args.at c.args.offset c.args.left) h)) (task program input b q (held c.record_exit.new.memory))) (sym c.if-going.true) in
+    passed-both c.args.from c.args.offset e.offset _ _ c.exit_ahead-exit.ensures.over c.in_ok-going.ensures.over
+    (λ x. end 1 (leads-then program input 1 0 (more x) (leads-then program input 0 0 (subst (From 0) c.if-going.true c.in_ok-going.ensures.leads) c.in_ok-record_exit.ensures.leads)))
+    (λ z. end 1 (leads-then program input 0 1 first (leads-then program input 1 0 (subst (From 1) c.if-going.true z) c.in_ok-record_exit.ensures.leads)))
+
+pub returns-else-going-clause-over : goal.returns-else-going-clause-over
+returns-else-going-clause-over g c =
+    let program = program_of c.args.self.now.program.now in
+    let v = g.Input.InputIndexer.view c.args.self.now.input in
+    let p = c.args.spot.now in
+    let h = held c.args.memory.now in
+    let e = c.exit_ahead-exit.result in
+    let may = was e.may_go false c.if-not-exit.false in
+    let first = led-on program v p (pushed (take_on c.args.at c.args.offset c.args.left) h) h c.args.at e may (c.exit_ahead-exit.ensures.leads p refl) in
+    let more = more-on program v p h c.args.at c.args.offset c.args.left e may in
+    let input = input_of v in
+    passed-both c.args.from c.args.offset e.offset _ _ c.exit_ahead-exit.ensures.over c.in_ok-going.ensures.over
+    (λ x. leads-then program input 1 0 (more x) c.in_ok-going.ensures.leads)
+    (λ z. leads-then program input 0 1 first z)

@@ -1,4 +1,4 @@
-use Rattle.std.proofs.Common.{true, subst}
+use Rattle.std.proofs.Common.{true, subst, arith}
 use Rattle.regress_engine_code.specs.Standing.{program_of}
 use Rattle.regress_engine_input.specs.Views.{direction_of}
 use Rattle.regress_engine_search.proofs.TaskLemmas.{tried-stands, tried-reads}
@@ -7,6 +7,7 @@ use Rattle.regress_engine_undo.specs.Tasks.{state_at}
 use Rattle.regress_engine_attempt.specs.Remembering.{Begins}
 use Rattle.regress_engine_attempt.specs.Trying.{World}
 use Rattle.regress_engine_attempt.proofs.RememberLemmas.{begun-way, begun-steps}
+use Rattle.regress_engine_attempt.specs.Passing.{PassesIf}
 use Rattle.regress_engine_attempt.proofs.attempt.Attempt.try_step.Goals as goal
 
 pub step-requires-clause-stands : goal.step-requires-clause-stands
@@ -59,3 +60,13 @@ returns-in_ok-left-in-None-clause-leads g c =
     let k = held c.begin.new.memory in
     let begun = subst (Begins w p h q k) c.in-None.is c.in_ok-going.ensures.leads in
     begun-steps w p q c.step.new.spot h k (held c.step.new.memory) c.in_ok-left-in-None.left begun c.in_ok-left-in-None.ensures.leads
+
+pub returns-in-Some-clause-counted : goal.returns-in-Some-clause-counted
+returns-in-Some-clause-counted g c =
+    subst (λ o. PassesIf (g.Input.InputIndexer.view c.args.self.now.input) o c.args.remembered.now.counts.more c.begin.new.remembered.counts.more) c.in-Some.is c.in_ok-going.ensures.counted
+
+pub returns-in_ok-left-in-None-clause-counted : goal.returns-in_ok-left-in-None-clause-counted
+returns-in_ok-left-in-None-clause-counted g c =
+    let none = subst (λ o. PassesIf (g.Input.InputIndexer.view c.args.self.now.input) o c.args.remembered.now.counts.more c.begin.new.remembered.counts.more) c.in-None.is c.in_ok-going.ensures.counted in
+    let few = c.in_ok-left-in-None.ensures.counted in
+    omega (arith, none, few)

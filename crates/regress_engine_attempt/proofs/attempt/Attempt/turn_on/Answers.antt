@@ -1,4 +1,4 @@
-use Rattle.std.proofs.Common.{◌+◌, ◌<◌, ◌≤◌, map, ◌∙◌, arith}
+use Rattle.std.proofs.Common.{[], length, ◌+◌, ◌<◌, ◌≤◌, map, ◌∙◌, arith}
 use Rattle.regress_engine_insn.specs.InsnViews.{fields}
 use Rattle.regress_engine_code.specs.Standing.{program_of}
 use Rattle.regress_engine_input.specs.Views.{input_of}
@@ -7,6 +7,8 @@ use Rattle.regress_engine_search.specs.StateViews.{marks_of}
 use Rattle.regress_engine_singles.proofs.LeadingLemmas.{class-fits}
 use Rattle.regress_engine_undo.specs.Held.{held}
 use Rattle.regress_engine_undo.proofs.TurnLemmas.{turns-not, turned, turns-end, turns-on, turned-sound, ahead-as, loop-there}
+use Rattle.regress_engine_search.proofs.SkipLemmas.{place-lies}
+use Rattle.regress_engine_attempt.proofs.TurnPlaces.{past-place}
 use Rattle.regress_engine_attempt.proofs.attempt.Attempt.turn_on.Goals as goal
 
 pub taken_ahead-requires-clause-fits : goal.taken_ahead-requires-clause-fits
@@ -86,3 +88,25 @@ returns-clause-sound g c =
     turned-sound (program_of c.args.self.now.program.now) (g.Input.InputIndexer.view c.args.self.now.input) (held c.args.memory.now) (held c.begin_more.new.memory) _ _ _
     (loop-there (program_of c.args.self.now.program.now) (g.Input.InputIndexer.view c.args.self.now.input) c.args.turn.now.begin (fields c.args.turn.now.repetition.now) (held c.args.memory.now) c.requires.suits c.requires.turn.begins c.requires.sound)
     c.in_ok-begin_more.ensures.written c.requires.sound
+
+pub returns-then-taken-more-clause-counted : goal.returns-then-taken-more-clause-counted
+returns-then-taken-more-clause-counted g c =
+    let program = program_of c.args.self.now.program.now in
+    let v = g.Input.InputIndexer.view c.args.self.now.input in
+    let all = g.met.Input.InputIndexer.are_of_kind c.args.self.now.input in
+    let taken = c.in-Some.taken in
+    let told = c.in-Some.ensures [] in
+    let most = c.pass.ensures.most (length v.units) (place-lies v all c.args.spot.now.offset c.requires.place)
+    (place-lies v all taken.past (past-place program v all _ c.requires.turn.class taken.before c.args.spot.now.offset taken.last taken.past c.requires.place told.behind told.one)) in
+    omega (arith, most)
+
+pub returns-clause-counted : goal.returns-clause-counted
+returns-clause-counted g c =
+    let program = program_of c.args.self.now.program.now in
+    let v = g.Input.InputIndexer.view c.args.self.now.input in
+    let all = g.met.Input.InputIndexer.are_of_kind c.args.self.now.input in
+    let taken = c.in-Some.taken in
+    let told = c.in-Some.ensures [] in
+    let most = c.pass.ensures.most (length v.units) (place-lies v all c.args.spot.now.offset c.requires.place)
+    (place-lies v all taken.past (past-place program v all _ c.requires.turn.class taken.before c.args.spot.now.offset taken.last taken.past c.requires.place told.behind told.one)) in
+    omega (arith, most)

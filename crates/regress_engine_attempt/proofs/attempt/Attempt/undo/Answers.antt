@@ -1,13 +1,15 @@
-use Rattle.std.proofs.Common.{ℕ, Bool, false, sym, ap, ◌∙◌, subst, arith}
+use Rattle.std.proofs.Common.{ℕ, Bool, false, sym, ap, ◌∙◌, subst, arith, inl, inr, refl}
 use Rattle.regress_engine_code.specs.Standing.{program_of}
 use Rattle.regress_engine_input.specs.Views.{input_of, direction_of}
 use Rattle.regress_engine_runs.specs.UndoStack.{resume, old_loop, old_group, iterate, frame}
 use Rattle.regress_engine_search.specs.StateViews.{loop_of, marks_of}
 use Rattle.regress_engine_search.specs.Tasks.{Leads}
 use Rattle.regress_engine_undo.specs.Held.{held, pushed, undo_of, frame_of}
-use Rattle.regress_engine_undo.proofs.BackLemmas.{held-as, leads-as, held-resume, held-old_loop, old_loop-there, held-old_group, old_group-there, held-iterate, held-frame, held-tried, resume-back, old_loop-back, old_group-back, iterate-back, submatch-back, tried-back}
+use Rattle.regress_engine_undo.proofs.BackLemmas.{held-as, leads-as, held-resume, held-old_loop, old_loop-there, held-old_group, old_group-there, held-iterate, held-frame, held-tried, resume-back, old_loop-back, old_group-back, iterate-back, submatch-back, tried-back, held-take_on}
 use Rattle.regress_engine_undo.specs.Tasks.{task}
 use Rattle.regress_engine_undo.proofs.StepLemmas.{loop-sound}
+use Rattle.regress_engine_attempt.specs.Trying.{World}
+use Rattle.regress_engine_attempt.specs.Passing.{UndoesMore}
 use Rattle.regress_engine_attempt.proofs.attempt.Attempt.undo.Goals as goal
 
 pub restore_loop-requires : goal.restore_loop-requires
@@ -95,3 +97,37 @@ returns-in-Tried-clause-leads g c =
 pub returns-in-Tried-clause-sound : goal.returns-in-Tried-clause-sound
 returns-in-Tried-clause-sound g c =
     held-tried _ _ (held c.args.memory.now) _ _ (held-as _ _ _ _ _ (ap undo_of c.in-Tried.is) c.requires.sound)
+
+pub returns-in-OldLoop-clause-counted : goal.returns-in-OldLoop-clause-counted
+returns-in-OldLoop-clause-counted g c = inl (omega arith)
+
+pub returns-in-OldGroup-clause-counted : goal.returns-in-OldGroup-clause-counted
+returns-in-OldGroup-clause-counted g c = inl (omega arith)
+
+pub returns-in-Resume-clause-counted : goal.returns-in-Resume-clause-counted
+returns-in-Resume-clause-counted g c = inl (omega arith)
+
+pub returns-in_ok-iterate-in-Iterate-clause-counted : goal.returns-in_ok-iterate-in-Iterate-clause-counted
+returns-in_ok-iterate-in-Iterate-clause-counted g c = inl (omega arith)
+
+pub returns-in_ok-going-in-GiveBack-clause-counted : goal.returns-in_ok-going-in-GiveBack-clause-counted
+returns-in_ok-going-in-GiveBack-clause-counted g c = inl (omega arith)
+
+pub returns-in-Submatch-clause-counted : goal.returns-in-Submatch-clause-counted
+returns-in-Submatch-clause-counted g c = inl (omega arith)
+
+pub returns-in-Tried-clause-counted : goal.returns-in-Tried-clause-counted
+returns-in-Tried-clause-counted g c = inl (omega arith)
+
+pub returns-in_ok-going-in-TakeOn-clause-counted : goal.returns-in_ok-going-in-TakeOn-clause-counted
+returns-in_ok-going-in-TakeOn-clause-counted g c =
+    let w : World = record { program = program_of c.args.self.now.program.now; view = g.Input.InputIndexer.view c.args.self.now.input } in
+    subst (λ u. UndoesMore w u c.args.spot.now (held c.args.memory.now) c.take_on.new.spot (held c.take_on.new.memory) c.in_ok-going-in-TakeOn.going c.args.counts.now.more c.take_on.new.counts.more) (sym (ap undo_of c.in-TakeOn.is))
+    (elim c.in_ok-going-in-TakeOn.ensures.over [
+      | inl none ↦ inl (none refl)
+      | inr over ↦ inr (c.in_ok-going-in-TakeOn.ensures.counted, over)
+    ])
+
+pub take_on-requires-clause-from : goal.take_on-requires-clause-from
+take_on-requires-clause-from g c =
+    (held-take_on _ _ (held c.args.memory.now) c.in-TakeOn.at c.in-TakeOn.offset c.in-TakeOn.left (held-as _ _ _ _ _ (ap undo_of c.in-TakeOn.is) c.requires.sound)).0.3

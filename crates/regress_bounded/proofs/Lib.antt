@@ -1,0 +1,4 @@
+pub mod StepLemmas
+pub mod ShownLemmas
+pub mod IterationLemmas
+pub mod AlikeLemmas

@@ -1,0 +1,57 @@
+-- What is told of an input is told of the text that it shows.
+use Rattle.std.specs.Prelude.{IsErrOf}
+use Rattle.std.proofs.Common.{◌≡◌, ℕ, Bool, List, Option, Some, None, Result, Ok, Err, option_map, IfOk, IfSome, subst, ◌∙◌}
+use Rattle.regress_meaning.specs.Flags.{is_unicode}
+use Rattle.regress_meaning.specs.Table.{Table}
+use Rattle.regress_front_core.specs.FlagWords.{options}
+use Rattle.regress_front.specs.TableViews.{table}
+use Rattle.regress_meaning.specs.Matches.{Item}
+use Rattle.regress_meaning.specs.Offsets.{Begins}
+use Rattle.regress_front.specs.Trees.{Tree}
+use Rattle.regress_match.specs.declared.found.Match.{Match}
+use Rattle.regress_match.specs.Views.{item_of}
+use Rattle.regress_engine_input.specs.Views.{Kind, View, reading_of}
+use Rattle.regress_engine_code.specs.declared.compiled.CompiledRegex.{CompiledRegex}
+use Rattle.regress_engine_exec.specs.declared.error.SearchError.{SearchError}
+use Rattle.regress_engine_exec.specs.declared.error.SearchError.TheVariants.{TooManySteps}
+use Rattle.regress_engine_search.specs.Search.{IsItemAtPlaces}
+use Rattle.regress_programs.specs.declared.slots.Anchored.{Anchored}
+use Rattle.regress_programs.specs.Filling.{first_told}
+use Rattle.regress_bounded.specs.Stopping.{seen_by, Counts, TakesAll}
+
+module _ (v w : View) (same : v ≡ w) (r : Result (Option Match) SearchError) where
+  -- the match is that of the tree in the text
+  pub first-shown : (anchored : Anchored) (compiled : CompiledRegex) (n : ℕ) (t : Tree) (start : ℕ)
+      → ((place : ℕ) → Begins (reading_of v) start place → IfOk r (λ found. option_map item_of found ≡ first_told anchored compiled (reading_of v) n t place))
+      → (place : ℕ) → Begins (reading_of w) start place → IfOk r (λ found. option_map item_of found ≡ first_told anchored compiled (reading_of w) n t place)
+  first-shown anchored compiled n t start =
+      subst (λ (x : View). (place : ℕ) → Begins (reading_of x) start place
+      → IfOk r (λ found. option_map item_of found ≡ first_told anchored compiled (reading_of x) n t place)) same
+
+  -- and it lies at places of the text
+  pub places-shown : IfOk r (λ found. IfSome found (λ m. IsItemAtPlaces (reading_of v) (item_of m))) → IfOk r (λ found. IfSome found (λ m. IsItemAtPlaces (reading_of w) (item_of m)))
+  places-shown = subst (λ (x : View). IfOk r (λ found. IfSome found (λ m. IsItemAtPlaces (reading_of x) (item_of m)))) same
+
+-- what a run or a search results in is the item that it has to be
+pub told-by : (P : Item → Type 0) (IsResult : Option Item → Type 0) (j : Option Item) → ((i : Option Item) → IfSome i P → IsResult i → i ≡ j)
+    → (r : Result (Option Match) SearchError) → IfOk r (λ found. IsResult (option_map item_of found)) → IfOk r (λ found. IfSome found (λ m. P (item_of m)))
+    → IfOk r (λ found. option_map item_of found ≡ j)
+told-by P IsResult j is (Ok None) result inside = is None tt result
+told-by P IsResult j is (Ok (Some m)) result inside = is (Some (item_of m)) inside result
+told-by P IsResult j is (Err e) result inside = tt
+
+-- where all steps were counted, the runs of a search take them all
+pub takes-all : {T : Type 0} (r : Result T SearchError) (anchored : Anchored) (compiled : CompiledRegex) (v : View) (at before after : ℕ)
+    → (IsErrOf r TooManySteps → (after ≡ 0) × Counts anchored compiled v at before after) → IsErrOf r TooManySteps → TakesAll anchored compiled v at before
+takes-all r anchored compiled v at before after stopped err =
+    let (none, counts) = stopped err in subst (λ n. Counts anchored compiled v at before n) none counts
+
+-- over what is shown too
+pub takes-shown : {T : Type 0} (r : Result T SearchError) (anchored : Anchored) (compiled : CompiledRegex) (at steps : ℕ) (v w : View) → v ≡ w
+    → (IsErrOf r TooManySteps → TakesAll anchored compiled v at steps) → IsErrOf r TooManySteps → TakesAll anchored compiled w at steps
+takes-shown r anchored compiled at steps v w same stopped err = subst (λ (x : View). TakesAll anchored compiled x at steps) same (stopped err)
+
+-- what an input of a program's table and mode shows is what the program reads
+pub seen-as : (v : View) (compiled : CompiledRegex) (kind : Kind) (units : List ℕ) (t : Table) (u : Bool) → v ≡ record { kind = kind; units = units; table = t; unicode = u }
+    → t ≡ table compiled.tables → u ≡ is_unicode (options compiled.flags) → v ≡ seen_by compiled kind units
+seen-as v compiled kind units t u shown same mode = shown ∙ (λ i. record { kind = kind; units = units; table = same i; unicode = mode i })

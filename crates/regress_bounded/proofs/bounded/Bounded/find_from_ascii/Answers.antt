@@ -1,0 +1,72 @@
+use Rattle.std.proofs.Common.{ℕ, List, chars, map, ◌≡◌, ap, refl, sym, ◌∙◌, subst, not}
+use Rattle.regress_meaning.specs.Flags.{is_unicode}
+use Rattle.regress_meaning.specs.Matches.{Item, match_list}
+use Rattle.regress_meaning.specs.Offsets.{Begins, of_ascii, of_utf8, told}
+use Rattle.regress_front.specs.TableViews.{table}
+use Rattle.regress_front_core.specs.FlagWords.{options}
+use Rattle.regress_match.specs.Views.{item_of}
+use Rattle.regress_engine_code.specs.declared.compiled.CompiledRegex.{CompiledRegex}
+use Rattle.regress_engine_input.specs.Views.{View, reading_of, ascii}
+use Rattle.regress_engine_search.specs.Search.{IsItemAtPlaces}
+use Rattle.regress_engine_search.proofs.ByteTexts.{begins-alike, bytes-alike, told-alike}
+use Rattle.regress_engine_search.proofs.ProducerLemmas.{match-in_bytes}
+use Rattle.regress_programs.proofs.IterationLemmas.{starts-inside}
+use Rattle.regress_programs.proofs.ListedLemmas.{coming-searched, tree-searchable, searched-rises}
+use Rattle.regress_programs.proofs.UnitLemmas.{begins-anywhere}
+use Rattle.regress_bounded.specs.Coming.{search_by, next_from, budget_of}
+use Rattle.regress_bounded.specs.Standing.{byte_program_of, tree_list}
+use Rattle.regress_bounded.specs.Stopping.{seen_by}
+use Rattle.regress_bounded.proofs.IterationLemmas.{search-for, searched-along, each-given}
+use Rattle.regress_bounded.proofs.ShownLemmas.{seen-as}
+use Rattle.regress_bounded.proofs.bounded.Bounded.find_from_ascii.Goals as goal
+
+pub new-requires-clause-start : goal.new-requires-clause-start
+new-requires-clause-start c = subst (λ (x : View). (place : ℕ) × Begins (reading_of x) c.args.start place) (sym c.new-input.ensures) (begins-anywhere c.args.text.now c.args.start)
+
+pub returns-clause-over : goal.returns-clause-over
+returns-clause-over c = c.new.ensures.text ∙ seen-as _ (byte_program_of c.args.self.now) ascii c.args.text.now _ _ c.new-input.ensures (ap table c.tables.ensures) (c.is_unicode.ensures ∙ ap (λ f. is_unicode (options f)) c.flags.ensures)
+
+pub returns-clause-matches_of_tree : goal.returns-clause-matches_of_tree
+returns-clause-matches_of_tree c = λ n t laid place begins.
+    let b = c.args.self.now in
+    let bytes = c.args.text.now in
+    let s = search_by c.new.result in
+    let is = search-for (byte_program_of b) ascii bytes (sym (ap not b.compiled.now.of_bytes)) s (returns-clause-over c) c.new.ensures.program in
+    tree-searchable s (byte_program_of b) bytes is c.requires c.args.start place (begins-alike (of_ascii bytes) (of_utf8 bytes) (bytes-alike ascii bytes refl c.requires) c.args.start place begins) (next_from c.new.result) c.new.ensures.begins n t laid
+    ∙ ap (λ (points : List ℕ). map (told (of_ascii bytes)) (tree_list b n t points place)) (bytes-alike ascii bytes refl c.requires).points
+    ∙ ap (λ (tell : Item → Item). map tell (tree_list b n t (chars bytes) place)) (told-alike (of_ascii bytes) (of_utf8 bytes) (bytes-alike ascii bytes refl c.requires))
+
+pub returns-clause-matches : goal.returns-clause-matches
+returns-clause-matches c = λ t o p stands place begins.
+    let b = c.args.self.now in
+    let bytes = c.args.text.now in
+    let s = search_by c.new.result in
+    let is = search-for (byte_program_of b) ascii bytes (sym (ap not b.compiled.now.of_bytes)) s (returns-clause-over c) c.new.ensures.program in
+    coming-searched s (byte_program_of b) bytes is c.requires c.args.start place (begins-alike (of_ascii bytes) (of_utf8 bytes) (bytes-alike ascii bytes refl c.requires) c.args.start place begins) (next_from c.new.result) c.new.ensures.begins t o p stands
+    ∙ ap (λ (points : List ℕ). map (told (of_ascii bytes)) (match_list t o p points place)) (bytes-alike ascii bytes refl c.requires).points
+    ∙ ap (λ (tell : Item → Item). map tell (match_list t o p (chars bytes) place)) (told-alike (of_ascii bytes) (of_utf8 bytes) (bytes-alike ascii bytes refl c.requires))
+
+pub returns-clause-along : goal.returns-clause-along
+returns-clause-along c = record {
+  at = λ given now yields. ap (λ s. s.view.units) (searched-along search_by next_from budget_of c.new.result now given yields) ∙ ap (λ (v : View). v.units) (returns-clause-over c);
+}
+
+pub returns-clause-inside : goal.returns-clause-inside
+returns-clause-inside c =
+    each-given search_by next_from budget_of _ c.new.result
+    (λ m of. match-in_bytes ascii c.args.text.now refl c.requires m (subst (λ (v : View). IsItemAtPlaces (reading_of v) (item_of m)) (returns-clause-over c) of.0))
+
+pub returns-clause-starts : goal.returns-clause-starts
+returns-clause-starts c =
+    each-given search_by next_from budget_of _ c.new.result
+    (λ m of. starts-inside c.args.text.now c.utf8.text m
+    (match-in_bytes ascii c.args.text.now refl c.requires m (subst (λ (v : View). IsItemAtPlaces (reading_of v) (item_of m)) (returns-clause-over c) of.0)))
+
+pub returns-clause-rise : goal.returns-clause-rise
+returns-clause-rise c =
+    let b = c.args.self.now in
+    let bytes = c.args.text.now in
+    let s = search_by c.new.result in
+    let is = search-for (byte_program_of b) ascii bytes (sym (ap not b.compiled.now.of_bytes)) s (returns-clause-over c) c.new.ensures.program in
+    let (place, begins) = begins-anywhere bytes c.args.start in
+    searched-rises s (byte_program_of b) bytes is c.requires c.args.start place begins (next_from c.new.result) c.new.ensures.begins

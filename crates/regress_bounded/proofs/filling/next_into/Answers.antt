@@ -1,0 +1,96 @@
+use Rattle.std.proofs.Common.{◌≡◌, Some, None, IfOk, refl, sym, ap, ◌∙◌, subst}
+use Rattle.std.proofs.lemmas.Result.{IfOk-weaker}
+use Rattle.regress_match.specs.Slots.{Fills}
+use Rattle.regress_engine_code.specs.Standing.{program_of}
+use Rattle.regress_engine_exec.specs.BoundedSearches.{steps_of}
+use Rattle.regress_engine_input.specs.Views.{input_of, reading_of}
+use Rattle.regress_engine_runs.specs.Items.{Finds, begins_at}
+use Rattle.regress_engine_runs.specs.Meets.{IsAtPlace}
+use Rattle.regress_engine_search.specs.Answering.{IsOutcome}
+use Rattle.regress_engine_search.specs.Search.{Search, IsSearchable}
+use Rattle.regress_programs.specs.declared.slots.Anchored.TheVariants.{No, Yes}
+use Rattle.regress_programs.specs.Filling.{first_told}
+use Rattle.regress_programs.proofs.SlotLemmas.{begun, found-told, run-told, told-past, written-as, written-places}
+use Rattle.regress_bounded.specs.Stopping.{TakesAll}
+use Rattle.regress_bounded.proofs.ShownLemmas.{takes-all}
+use Rattle.regress_bounded.proofs.filling.next_into.Goals as goal
+
+pub returns-in_default-clause-of_tree : goal.returns-in_default-clause-of_tree
+returns-in_default-clause-of_tree g c = λ n t laid place begins.
+    let context = c.args.executor.now.context in
+    let v = g.Input.InputIndexer.view context.input in
+    let shows = g.met.Input.ExecutorInput.shows context.input in
+    let s : Search = record { compiled = context.program.now; view = v; searchable = subst (IsSearchable (program_of context.program.now)) shows context.searchable } in
+    let none = sym c.in_default.is ∙ c.initial_position.ensures.begins ∙ ap (λ w. begins_at (input_of w) c.args.start) shows in
+    let past = told-past s (g.met.Input.InputIndexer.are_of_kind context.input) c.requires.made c.args.start place begins n t laid c.args.anchored none in
+    subst (λ i. Fills i None c.args.slots.now c.args.slots.now) (sym past) (refl, refl)
+
+pub returns-in-No-clause-of_tree : goal.returns-in-No-clause-of_tree
+returns-in-No-clause-of_tree g c = λ n t laid place begins.
+    let context = c.args.executor.now.context in
+    let v = g.Input.InputIndexer.view context.input in
+    let all = g.met.Input.InputIndexer.are_of_kind context.input in
+    let shows = g.met.Input.ExecutorInput.shows context.input in
+    let s : Search = record { compiled = context.program.now; view = v; searchable = subst (IsSearchable (program_of context.program.now)) shows context.searchable } in
+    let starts = sym c.in-Some.is ∙ c.initial_position.ensures.begins ∙ ap (λ w. begins_at (input_of w) c.args.start) shows in
+    let here = (begun s all c.args.start c.in-Some.position starts).0 in
+    let place_there : IsAtPlace (reading_of v) c.in-Some.position = subst (λ w. IsAtPlace (reading_of w) c.in-Some.position) shows c.in-Some.ensures.inside in
+    subst (λ a. IfOk c.find_into.result (λ found. Fills (first_told a s.compiled (reading_of v) n t place) found c.args.slots.now c.find_into.new.slots)) (sym c.in-No.is)
+    (IfOk-weaker c.find_into.result _ _
+    (λ found. written-as (reading_of v) found c.args.slots.now c.find_into.new.slots (Finds (program_of s.compiled) (input_of v) c.in-Some.position) (first_told No s.compiled (reading_of v) n t place)
+    (λ i inside finds. found-told s all c.requires.made c.args.start place begins n t laid (subst (λ o. Some o ≡ begins_at (input_of v) c.args.start) here starts)
+    (subst (IsAtPlace (reading_of v)) here place_there) i inside (subst (λ o. Finds (program_of s.compiled) (input_of v) o i) here finds)))
+    c.find_into.ensures.found)
+
+pub returns-in-No-clause-inside : goal.returns-in-No-clause-inside
+returns-in-No-clause-inside g c =
+    IfOk-weaker c.find_into.result _ _
+    (λ found written. written-places (reading_of (g.Input.InputIndexer.view c.args.executor.now.context.input)) found c.args.slots.now c.find_into.new.slots _ written)
+    c.find_into.ensures.found
+
+pub returns-in-Yes-clause-of_tree : goal.returns-in-Yes-clause-of_tree
+returns-in-Yes-clause-of_tree g c = λ n t laid place begins.
+    let context = c.args.executor.now.context in
+    let v = g.Input.InputIndexer.view context.input in
+    let all = g.met.Input.InputIndexer.are_of_kind context.input in
+    let shows = g.met.Input.ExecutorInput.shows context.input in
+    let s : Search = record { compiled = context.program.now; view = v; searchable = subst (IsSearchable (program_of context.program.now)) shows context.searchable } in
+    let (here, low) = begun s all c.args.start c.in-Some.position (sym c.in-Some.is ∙ c.initial_position.ensures.begins ∙ ap (λ w. begins_at (input_of w) c.args.start) shows) in
+    subst (λ a. IfOk c.match_into.result (λ found. Fills (first_told a s.compiled (reading_of v) n t place) found c.args.slots.now c.match_into.new.slots)) (sym c.in-Yes.is)
+    (IfOk-weaker c.match_into.result _ _
+    (λ found. written-as (reading_of v) found c.args.slots.now c.match_into.new.slots (IsOutcome (program_of s.compiled) (input_of v) c.in-Some.position) (first_told Yes s.compiled (reading_of v) n t place)
+    (λ i inside outcome. run-told s all c.requires.made c.args.start place begins n t laid low i inside
+    (subst (λ o. IsOutcome (program_of s.compiled) (input_of v) o i) here outcome)))
+    c.match_into.ensures.outcome)
+
+pub returns-in-Yes-clause-inside : goal.returns-in-Yes-clause-inside
+returns-in-Yes-clause-inside g c =
+    IfOk-weaker c.match_into.result _ _
+    (λ found written. written-places (reading_of (g.Input.InputIndexer.view c.args.executor.now.context.input)) found c.args.slots.now c.match_into.new.slots _ written)
+    c.match_into.ensures.outcome
+
+pub returns-in-No-clause-stopped : goal.returns-in-No-clause-stopped
+returns-in-No-clause-stopped g c =
+    let context = c.args.executor.now.context in
+    let v = g.Input.InputIndexer.view context.input in
+    let shows = g.met.Input.ExecutorInput.shows context.input in
+    let s : Search = record { compiled = context.program.now; view = v; searchable = subst (IsSearchable (program_of context.program.now)) shows context.searchable } in
+    let starts = sym c.in-Some.is ∙ c.initial_position.ensures.begins ∙ ap (λ w. begins_at (input_of w) c.args.start) shows in
+    let here = (begun s (g.met.Input.InputIndexer.are_of_kind context.input) c.args.start c.in-Some.position starts).0 in
+    λ err.
+    subst (λ a. TakesAll a s.compiled v c.args.start (steps_of c.args.executor.now)) (sym c.in-No.is)
+    (subst (λ at. TakesAll No s.compiled v at (steps_of c.args.executor.now)) here
+    (takes-all c.find_into.result No s.compiled v c.in-Some.position (steps_of c.args.executor.now) (steps_of c.find_into.new.self) c.find_into.ensures.stopped err))
+
+pub returns-in-Yes-clause-stopped : goal.returns-in-Yes-clause-stopped
+returns-in-Yes-clause-stopped g c =
+    let context = c.args.executor.now.context in
+    let v = g.Input.InputIndexer.view context.input in
+    let shows = g.met.Input.ExecutorInput.shows context.input in
+    let s : Search = record { compiled = context.program.now; view = v; searchable = subst (IsSearchable (program_of context.program.now)) shows context.searchable } in
+    let starts = sym c.in-Some.is ∙ c.initial_position.ensures.begins ∙ ap (λ w. begins_at (input_of w) c.args.start) shows in
+    let here = (begun s (g.met.Input.InputIndexer.are_of_kind context.input) c.args.start c.in-Some.position starts).0 in
+    λ err.
+    subst (λ a. TakesAll a s.compiled v c.args.start (steps_of c.args.executor.now)) (sym c.in-Yes.is)
+    (subst (λ at. TakesAll Yes s.compiled v at (steps_of c.args.executor.now)) here
+    (takes-all c.match_into.result Yes s.compiled v c.in-Some.position (steps_of c.args.executor.now) (steps_of c.match_into.new.self) c.match_into.ensures.stopped err))

@@ -1,0 +1,3 @@
+pub mod Stopping
+pub mod Standing
+pub mod Coming

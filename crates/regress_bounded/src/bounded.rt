@@ -1,0 +1,213 @@
+//! Searches in texts.
+ghost use Rattle.std.specs.Iterator.{HoldsAfterAnyCalls};
+ghost use Rattle.std.specs.Prelude.{◌≡◌, ◌↔◌, ◌≢◌, ℕ, [], IfOk, IfSome, IsErrOf, IsOkUnless, IsTrue, chars, map, option_map, slice_get};
+ghost use Rattle.regress_meaning.specs.Table.{Table};
+ghost use Rattle.regress_meaning.specs.Pattern.{Pattern};
+ghost use Rattle.regress_meaning.specs.Flags.{Options};
+ghost use Rattle.regress_meaning.specs.Laws.{ItemsRise};
+ghost use Rattle.regress_meaning.specs.Matches.{match_list};
+ghost use Rattle.regress_meaning.specs.Offsets.{Begins, of_utf8, told};
+ghost use Rattle.regress_front.specs.Trees.{Tree};
+ghost use Rattle.regress_match.specs.GroupViews.{names_of_match};
+ghost use Rattle.regress_match.specs.TextRanges.{LiesInText};
+ghost use Rattle.regress_match.specs.Views.{item_of};
+ghost use Rattle.regress_engine.specs.Views.{utf8};
+ghost use Rattle.regress_programs.specs.declared.slots.Anchored.TheVariants.{No, Yes};
+ghost use Rattle.regress_programs.specs.Coming.{BeginsAndEndsAtStarts, HoldsOfEach};
+ghost use Rattle.regress_programs.specs.Outcomes.{outcome_at};
+
+use crate::matches::BoundedMatches;
+use crate::searching::first_within;
+use regress_engine::{SearchError, Utf8Input};
+use regress_match::Match;
+use regress_programs::{Anchored, Compiled};
+use std::alloc::Global;
+
+/// A compiled pattern, and a number of steps that each search with it may take: from `Regex::within`.
+///
+/// A step does the instruction of one state, or drops the state. What takes characters of one class, and a search for the next
+/// place where a match may begin, is one step however long it is. A search that would take more steps errs with `TooManySteps`; so
+/// it does only where the runs of the search take so many steps or more by the definitions.
+#[derive(Clone, Copy, Debug)]
+pub struct Bounded<'r> {
+    pub(crate) alloc: Global,
+    pub(crate) compiled: &'r Compiled,
+    pub(crate) steps: usize,
+}
+
+impl<'r> Bounded<'r> {
+    ghost use Rattle.regress_bounded.specs.Coming.{search_by, searched, coming, budget_of};
+    ghost use Rattle.regress_bounded.specs.Standing.{StandsFor, HasTree, tree_list, tree_outcome, TakesAllInBytes, compiled_of, steps_of, byte_program_of, names_within};
+    ghost use Rattle.regress_bounded.specs.Stopping.{seen_by};
+
+    /// A compiled pattern with a number of steps.
+    ///
+    /// ```rust
+    /// let bounded = Bounded::new(alloc, &compiled, 1_000_000);
+    /// ```
+    pub fn new(alloc: Global, compiled: &'r Compiled, steps: usize) -> Bounded<'r>
+        ensures compiled { compiled_of result ≡ compiled.now }
+        ensures steps { steps_of result ≡ steps }
+    {
+        Bounded {
+            alloc,
+            compiled,
+            steps,
+        }
+    }
+
+    /// The first match in a text, its ranges told in bytes, as `Regex::find` answers it ("RegExpBuiltinExec").
+    ///
+    /// Errs with `OutOfMemory` where a request for memory is refused, and with `TooManySteps` where the search takes too many
+    /// steps.
+    ///
+    /// ```rust
+    /// let found = bounded.find("xaab")?; // for `a+b` the match at 1..4
+    /// ```
+    pub fn find(&self, text: &str) -> Result<Option<Match>, SearchError>
+        ensures found { (t : Table) → (o : Options) → (p : Pattern) → StandsFor self.now t o p →
+            IfOk result (λ found. option_map item_of found ≡ option_map (told (of_utf8 text.now)) (slice_get (match_list t o p (chars text.now) 0) 0)) }
+        ensures found_of_tree { (n : ℕ) → (t : Tree) → HasTree self.now n t →
+            IfOk result (λ found. option_map item_of found ≡ option_map (told (of_utf8 text.now)) (slice_get (tree_list self.now n t (chars text.now) 0) 0)) }
+        ensures inside { IfOk result (λ found. IfSome found (LiesInText text.now)) }
+        ensures starts { IfOk result (λ found. IfSome found (BeginsAndEndsAtStarts text.now)) }
+        ensures named { IfOk result (λ found. IfSome found (λ m. names_of_match m ≡ names_within self.now)) }
+        ensures stopped { IsErrOf result SearchError.TooManySteps → TakesAllInBytes self.now No utf8 text.now 0 }
+    {
+        let program = &self.compiled.byte_program;
+        let input = Utf8Input::new(text, program.flags().is_unicode(), program.tables());
+        first_within(self.alloc, program, input, Anchored::No, 0, self.steps)
+    }
+
+    /// Whether there is a match in a text, as `Regex::is_match` answers it ("RegExp.prototype.test"). Errs as `find` does.
+    ///
+    /// ```rust
+    /// let found = bounded.is_match("xaab")?; // for `a+b` true
+    /// ```
+    pub fn is_match(&self, text: &str) -> Result<bool, SearchError>
+        ensures found { (t : Table) → (o : Options) → (p : Pattern) → StandsFor self.now t o p →
+            IfOk result (λ found. IsTrue found ↔ (match_list t o p (chars text.now) 0 ≢ [])) }
+        ensures found_of_tree { (n : ℕ) → (t : Tree) → HasTree self.now n t →
+            IfOk result (λ found. IsTrue found ↔ (tree_list self.now n t (chars text.now) 0 ≢ [])) }
+        ensures stopped { IsErrOf result SearchError.TooManySteps → TakesAllInBytes self.now No utf8 text.now 0 }
+    {
+        self.is_match_from(text, 0)
+    }
+
+    /// Whether there is a match in a text from `start` on, an offset in bytes, as `Regex::is_match_from` answers it
+    /// ("RegExp.prototype.test").
+    ///
+    /// Asks that a search may begin there, as `is_start` tells. Past the end of the text there is none. Errs as `find` does.
+    ///
+    /// ```rust
+    /// let found = bounded.is_match_from("aab", 3)?; // for `a+b` false
+    /// ```
+    pub fn is_match_from(&self, text: &str, start: usize) -> Result<bool, SearchError>
+        requires { (place : ℕ) × Begins (of_utf8 text.now) start place }
+        ensures found { (t : Table) → (o : Options) → (p : Pattern) → StandsFor self.now t o p →
+            (place : ℕ) → Begins (of_utf8 text.now) start place →
+            IfOk result (λ found. IsTrue found ↔ (match_list t o p (chars text.now) place ≢ [])) }
+        ensures found_of_tree { (n : ℕ) → (t : Tree) → HasTree self.now n t →
+            (place : ℕ) → Begins (of_utf8 text.now) start place →
+            IfOk result (λ found. IsTrue found ↔ (tree_list self.now n t (chars text.now) place ≢ [])) }
+        ensures stopped { IsErrOf result SearchError.TooManySteps → TakesAllInBytes self.now No utf8 text.now start }
+    {
+        let program = &self.compiled.byte_program;
+        let input = Utf8Input::new(text, program.flags().is_unicode(), program.tables());
+        let alloc = self.alloc;
+        match first_within(alloc, program, input, Anchored::No, start, self.steps) {
+            Ok(found) => Ok(found.is_some()),
+            Err(error) => Err(error),
+        }
+    }
+
+    /// All matches in a text, one after another, their ranges told in bytes, as `Regex::find_iter` answers them
+    /// ("RegExpBuiltinExec"), in so many steps for all of them together.
+    ///
+    /// Answers an iterator, each of whose calls errs as `find` does; after an error it has ended.
+    ///
+    /// ```rust
+    /// for found in bounded.find_iter("aab ab")? {
+    ///     let range = found?.range(); // for `a+b` 0..3, then 4..6
+    /// }
+    /// ```
+    pub fn find_iter<'t>(
+        &self,
+        text: &'t str,
+    ) -> Result<BoundedMatches<'r, Utf8Input<'r, 't>>, SearchError>
+        ensures matches { (t : Table) → (o : Options) → (p : Pattern) → StandsFor self.now t o p →
+            IfOk result (λ ms. coming ms ≡ map (told (of_utf8 text.now)) (match_list t o p (chars text.now) 0)) }
+        ensures matches_of_tree { (n : ℕ) → (t : Tree) → HasTree self.now n t →
+            IfOk result (λ ms. coming ms ≡ map (told (of_utf8 text.now)) (tree_list self.now n t (chars text.now) 0)) }
+        ensures over { IfOk result (λ ms. (search_by ms).view ≡ seen_by (byte_program_of self.now) utf8 text.now) }
+        ensures program { IfOk result (λ ms. (search_by ms).compiled ≡ byte_program_of self.now) }
+        ensures steps { IfOk result (λ ms. budget_of ms ≡ steps_of self.now) }
+        ensures along { IfOk result (HoldsAfterAnyCalls (λ ms. searched ms ≡ text.now) ⟦<BoundedMatches<'r, Utf8Input<'r, 't>> as Iterator>⟧.next_gives) }
+        ensures inside { IfOk result (HoldsOfEach ⟦<BoundedMatches<'r, Utf8Input<'r, 't>> as Iterator>⟧.next_gives (LiesInText text.now)) }
+        ensures starts { IfOk result (HoldsOfEach ⟦<BoundedMatches<'r, Utf8Input<'r, 't>> as Iterator>⟧.next_gives (BeginsAndEndsAtStarts text.now)) }
+        ensures rise { IfOk result (λ ms. ItemsRise (coming ms)) }
+        ensures refused { IsOkUnless result SearchError.OutOfMemory }
+    {
+        self.find_from(text, 0)
+    }
+
+    /// The matches in a text from `start` on, an offset in bytes, as `find_iter` answers them.
+    ///
+    /// Asks that a search may begin there, as `is_start` tells. Past the end of the text there is none.
+    ///
+    /// ```rust
+    /// let second = bounded.find_from("aab ab", 3)?.next(); // for `a+b` the match at 4..6
+    /// ```
+    pub fn find_from<'t>(
+        &self,
+        text: &'t str,
+        start: usize,
+    ) -> Result<BoundedMatches<'r, Utf8Input<'r, 't>>, SearchError>
+        requires { (place : ℕ) × Begins (of_utf8 text.now) start place }
+        ensures matches { (t : Table) → (o : Options) → (p : Pattern) → StandsFor self.now t o p →
+            (place : ℕ) → Begins (of_utf8 text.now) start place →
+            IfOk result (λ ms. coming ms ≡ map (told (of_utf8 text.now)) (match_list t o p (chars text.now) place)) }
+        ensures matches_of_tree { (n : ℕ) → (t : Tree) → HasTree self.now n t →
+            (place : ℕ) → Begins (of_utf8 text.now) start place →
+            IfOk result (λ ms. coming ms ≡ map (told (of_utf8 text.now)) (tree_list self.now n t (chars text.now) place)) }
+        ensures over { IfOk result (λ ms. (search_by ms).view ≡ seen_by (byte_program_of self.now) utf8 text.now) }
+        ensures program { IfOk result (λ ms. (search_by ms).compiled ≡ byte_program_of self.now) }
+        ensures steps { IfOk result (λ ms. budget_of ms ≡ steps_of self.now) }
+        ensures along { IfOk result (HoldsAfterAnyCalls (λ ms. searched ms ≡ text.now) ⟦<BoundedMatches<'r, Utf8Input<'r, 't>> as Iterator>⟧.next_gives) }
+        ensures inside { IfOk result (HoldsOfEach ⟦<BoundedMatches<'r, Utf8Input<'r, 't>> as Iterator>⟧.next_gives (LiesInText text.now)) }
+        ensures starts { IfOk result (HoldsOfEach ⟦<BoundedMatches<'r, Utf8Input<'r, 't>> as Iterator>⟧.next_gives (BeginsAndEndsAtStarts text.now)) }
+        ensures rise { IfOk result (λ ms. ItemsRise (coming ms)) }
+        ensures refused { IsOkUnless result SearchError.OutOfMemory }
+    {
+        let program = &self.compiled.byte_program;
+        let input = Utf8Input::new(text, program.flags().is_unicode(), program.tables());
+        Ok(BoundedMatches::new(self.alloc, program, input, start, self.steps))
+    }
+
+    /// The match that begins at `start`, an offset in bytes, with no search, as `Regex::match_at` answers it ("RegExpBuiltinExec"
+    /// with `y`), its ranges told in bytes.
+    ///
+    /// Asks that a search may begin there, as `is_start` tells. Errs as `find` does, with the steps of the run there alone.
+    ///
+    /// ```rust
+    /// let found = bounded.match_at("xaab", 1)?; // for `a+b` the match at 1..4, and `None` at 0
+    /// ```
+    pub fn match_at(&self, text: &str, start: usize) -> Result<Option<Match>, SearchError>
+        requires { (place : ℕ) × Begins (of_utf8 text.now) start place }
+        ensures found { (t : Table) → (o : Options) → (p : Pattern) → StandsFor self.now t o p →
+            (place : ℕ) → Begins (of_utf8 text.now) start place →
+            IfOk result (λ found. option_map item_of found ≡ option_map (told (of_utf8 text.now)) (outcome_at t o p (chars text.now) place)) }
+        ensures found_of_tree { (n : ℕ) → (t : Tree) → HasTree self.now n t →
+            (place : ℕ) → Begins (of_utf8 text.now) start place →
+            IfOk result (λ found. option_map item_of found ≡ option_map (told (of_utf8 text.now)) (tree_outcome self.now n t (chars text.now) place)) }
+        ensures begins { IfOk result (λ found. IfSome found (λ m. m.range.start ≡ start)) }
+        ensures inside { IfOk result (λ found. IfSome found (LiesInText text.now)) }
+        ensures starts { IfOk result (λ found. IfSome found (BeginsAndEndsAtStarts text.now)) }
+        ensures named { IfOk result (λ found. IfSome found (λ m. names_of_match m ≡ names_within self.now)) }
+        ensures stopped { IsErrOf result SearchError.TooManySteps → TakesAllInBytes self.now Yes utf8 text.now start }
+    {
+        let program = &self.compiled.byte_program;
+        let input = Utf8Input::new(text, program.flags().is_unicode(), program.tables());
+        first_within(self.alloc, program, input, Anchored::Yes, start, self.steps)
+    }
+}

@@ -1,0 +1,25 @@
+-- How many steps the runs of a search take, and how many of them are counted.
+use Rattle.std.specs.Prelude.{◌≡◌, ℕ, ◌+◌, ◌≤◌, Option, Some, None}
+use Rattle.regress_meaning.specs.Meaning.{Forward}
+use Rattle.regress_engine_input.specs.Views.{View, input_of}
+use Rattle.regress_engine_insn.specs.Instructions.{Program}
+use Rattle.regress_engine_runs.specs.States.{Whole}
+use Rattle.regress_engine_attempt.specs.Counting.{RunsIn, Spends, most_counted}
+
+module _ (program : Program) (v : View) where
+  -- The runs of a search from an offset on take so many steps in all.
+  pub data Takes : (at n : ℕ) → Type 0 where
+    -- those of the run that begins there, where it has an answer
+    answered : {at n : ℕ} {w : Whole} → RunsIn program v at n (Some w) → Takes at n
+    -- else they and those of a search behind the next code point
+    further : {at n c next m : ℕ} → RunsIn program v at n None → (input_of v).next Forward at ≡ Some (c, next) → Takes next m → Takes at (n + m)
+    -- and they alone where no code point follows
+    over : {at n : ℕ} → RunsIn program v at n None → (input_of v).next Forward at ≡ None → Takes at n
+
+  -- From so many steps that may be counted to so many, if there is a bound, no more were counted than the runs of a search take.
+  abbrev pub CountsSearch : (at : ℕ) → Option ℕ → Option ℕ → Type 0
+  CountsSearch at before after = (n : ℕ) × Takes at n × Spends before after (most_counted v n)
+
+  -- A search from one offset has come to another, and no more steps were counted on the way than its runs there take.
+  abbrev pub CountsUpTo : (at from : ℕ) → Option ℕ → Option ℕ → Type 0
+  CountsUpTo at from before now = (k m n : ℕ) × (k + m ≤ n) × Spends before now (most_counted v k) × Takes from m × Takes at n
