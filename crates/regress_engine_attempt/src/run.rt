@@ -7,14 +7,13 @@ ghost use Rattle.regress_engine_search.specs.Search.{Suits};
 ghost use Rattle.regress_engine_undo.specs.Held.{held};
 ghost use Rattle.regress_engine_attempt.specs.Attempts.{world};
 ghost use Rattle.regress_engine_attempt.specs.Counting.{CountsRun};
-ghost use Rattle.regress_engine_attempt.specs.Ending.{IfEnded, IfStopped};
+ghost use Rattle.regress_engine_search.specs.Ending.{IfEnded, IfStopped};
 ghost use Rattle.regress_engine_attempt.specs.Remembering.{Remembers};
 ghost use Rattle.regress_engine_attempt.specs.Trying.{IsWay, ReadsFrom};
 
 use crate::attempt::Attempt;
-use crate::budget::{Budget, Ended, Unbounded};
 use crate::remembered::Remembered;
-use regress_engine_search::ExecutorInput;
+use regress_engine_search::{Budget, Ended, ExecutorInput, Unbounded};
 use regress_engine_undo::{Memory, Spot};
 use regress_front_core::GroupData;
 use std::alloc::AllocError;
