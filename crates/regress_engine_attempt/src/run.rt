@@ -49,8 +49,8 @@ impl<'a, Input: ExecutorInput> Attempt<'a, Input> {
     }
 
     /// Runs the program as `run` does, and counts each step against a budget: each instruction that is done, or state that is
-    /// dropped, and one more for each 64 units that a one-character loop passes over. It answers what the run does, or that no more
-    /// steps may be counted. It has never counted more than the run takes, where each of its steps may pass over the whole text.
+    /// dropped, and one more for each 64 units that a one-character loop passes over, or has to take and may not, or that a back
+    /// reference compares. It answers what the run does, or that no more steps may be counted. It has never counted more than the run takes, where each of its steps may pass over the whole text.
     ///
     /// ```rust
     /// let ended = attempt.run_within(0, &mut memory, &mut answer, &mut remembered, &mut budget)?;
