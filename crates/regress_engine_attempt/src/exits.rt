@@ -260,18 +260,33 @@ impl<'a, Input: ExecutorInput> Attempt<'a, Input> {
                 offset: near,
                 forward,
             };
-            let is_known = failures.are_exits_known(&exit, memory.loops());
-            let may_go = !is_known && !self.exit_fails(&exit, memory, failures);
-            let here = Exit {
-                offset: near,
-                left: rest,
-                may_go,
-            };
-            if is_known || may_go || rest == 0 {
-                return here;
+            if failures.are_exits_known(&exit, memory.loops()) {
+                return Exit {
+                    offset: near,
+                    left: rest,
+                    may_go: false,
+                };
+            }
+            if !self.exit_fails(&exit, memory, failures) {
+                return Exit {
+                    offset: near,
+                    left: rest,
+                    may_go: true,
+                };
+            }
+            if rest == 0 {
+                return Exit {
+                    offset: near,
+                    left: rest,
+                    may_go: false,
+                };
             }
             let Some(next) = self.once(body, forward, &memory.groups, near) else {
-                return here;
+                return Exit {
+                    offset: near,
+                    left: rest,
+                    may_go: false,
+                };
             };
             near = next;
             rest -= 1;
