@@ -1,5 +1,2 @@
-pub mod Trying
 pub mod Attempts
-pub mod Remembering
-pub mod Counting
-pub mod Passing
+pub mod Turns

@@ -14,9 +14,9 @@ ghost use Rattle.regress_engine_memory.specs.Held.{FailsWith};
 ghost use Rattle.regress_engine_memory.specs.Remembered.{keyed_of};
 ghost use Rattle.regress_engine_memory.specs.TableViews.{table_of};
 ghost use Rattle.regress_engine_attempt.specs.Attempts.{world};
-ghost use Rattle.regress_engine_attempt.specs.Passing.{Passes, TakesUpMore, UndoesOver};
-ghost use Rattle.regress_engine_attempt.specs.Remembering.{AreOf, Drops, GivesUpTo, IsBodyOf, RestFails, TakesUp};
-ghost use Rattle.regress_engine_attempt.specs.Trying.{Does, IsHeldIn, Undoes};
+ghost use Rattle.regress_engine_trying.specs.Passing.{Passes, TakesUpMore, UndoesOver};
+ghost use Rattle.regress_engine_trying.specs.Remembering.{AreOf, Drops, GivesUpTo, IsBodyOf, RestFails, TakesUp};
+ghost use Rattle.regress_engine_trying.specs.Trying.{Does, IsHeldIn, Undoes};
 
 use crate::attempt::Attempt;
 use crate::counts::Counts;
@@ -24,17 +24,9 @@ use regress_engine_advance::{after_times, beside, taken_first};
 use regress_engine_insn::Insn;
 use regress_engine_memory::Failures;
 use regress_engine_search::ExecutorInput;
+use regress_engine_trying::Exit;
 use regress_engine_undo::{Memory, Spot, Undo};
 use std::alloc::AllocError;
-
-/// An exit of a lazy one-character loop: its offset, how many more iterations may follow, and whether it may lead on, or one
-/// behind it may.
-#[derive(Debug, Clone, Copy)]
-pub(crate) struct Exit {
-    pub(crate) offset: usize,
-    pub(crate) left: usize,
-    pub(crate) may_go: bool,
-}
 
 impl<'a, Input: ExecutorInput> Attempt<'a, Input> {
     /// What a one-character loop repeats that goes on at an address, if one does.
@@ -175,18 +167,13 @@ impl<'a, Input: ExecutorInput> Attempt<'a, Input> {
         let Some(body) = self.body_before(at) else {
             return;
         };
-        let last = Spot {
-            at,
-            offset: far,
-            forward,
-        };
-        let Some(next) = self.once(body, forward, &memory.groups, far) else {
-            self.learn_back(body, &last, memory, failures);
-            return;
+        let offset = match self.once(body, forward, &memory.groups, far) {
+            Some(next) => next,
+            None => far,
         };
         let failed = Spot {
             at,
-            offset: next,
+            offset,
             forward,
         };
         self.learn_back(body, &failed, memory, failures);

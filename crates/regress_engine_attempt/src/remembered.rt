@@ -7,10 +7,10 @@ ghost use Rattle.regress_engine_memory.specs.TableViews.{needs_of};
 ghost use Rattle.regress_engine_memory.specs.Under.{room};
 ghost use Rattle.regress_engine_search.specs.Search.{Suits};
 ghost use Rattle.regress_engine_undo.specs.Held.{held, undo_of, pushed};
-ghost use Rattle.regress_engine_attempt.specs.Attempts.{world};
-ghost use Rattle.regress_engine_attempt.specs.Passing.{MayUndoMore, Passes, PassesIf};
-ghost use Rattle.regress_engine_attempt.specs.Remembering.{AreOf, Begins, Drops, IsUnderWay, MayUndo, Remembers};
-ghost use Rattle.regress_engine_attempt.specs.Trying.{IsHeldIn, Steps, World};
+ghost use Rattle.regress_engine_attempt.specs.Attempts.{Remembers, world};
+ghost use Rattle.regress_engine_trying.specs.Passing.{MayUndoMore, Passes, PassesIf};
+ghost use Rattle.regress_engine_trying.specs.Remembering.{AreOf, Begins, Drops, IsUnderWay, MayUndo};
+ghost use Rattle.regress_engine_trying.specs.Trying.{IsHeldIn, Steps, World};
 
 use crate::attempt::Attempt;
 use crate::counts::Counts;

@@ -5,11 +5,10 @@ ghost use Rattle.regress_engine_input.specs.Views.{input_of};
 ghost use Rattle.regress_engine_search.specs.Answering.{IsAnswer};
 ghost use Rattle.regress_engine_search.specs.Search.{Suits};
 ghost use Rattle.regress_engine_undo.specs.Held.{held};
-ghost use Rattle.regress_engine_attempt.specs.Attempts.{world};
-ghost use Rattle.regress_engine_attempt.specs.Counting.{CountsRun};
+ghost use Rattle.regress_engine_attempt.specs.Attempts.{Remembers, world};
+ghost use Rattle.regress_engine_trying.specs.Counting.{CountsRun};
 ghost use Rattle.regress_engine_search.specs.Ending.{IfEnded, IfStopped};
-ghost use Rattle.regress_engine_attempt.specs.Remembering.{Remembers};
-ghost use Rattle.regress_engine_attempt.specs.Trying.{IsWay, ReadsFrom};
+ghost use Rattle.regress_engine_trying.specs.Trying.{IsWay, ReadsFrom};
 
 use crate::attempt::Attempt;
 use crate::remembered::Remembered;

@@ -11,8 +11,8 @@ ghost use Rattle.regress_engine_search.specs.Submatches.{submatch_of, reads_forw
 ghost use Rattle.regress_engine_search.specs.declared.submatch.Submatch.TheVariants.{Lookaround, Atomic};
 ghost use Rattle.regress_engine_search.specs.Search.{Suits};
 ghost use Rattle.regress_engine_attempt.specs.Attempts.{world};
-ghost use Rattle.regress_engine_attempt.specs.Passing.{Passes};
-ghost use Rattle.regress_engine_attempt.specs.Trying.{IsHeldIn, ReadsAt, ReadsHere, ReadsOn, Steps};
+ghost use Rattle.regress_engine_trying.specs.Passing.{Passes};
+ghost use Rattle.regress_engine_trying.specs.Trying.{IsHeldIn, ReadsAt, ReadsHere, ReadsOn, Steps};
 
 use crate::attempt::Attempt;
 use crate::counts::Counts;

@@ -11,7 +11,7 @@ use Rattle.regress_engine_undo.specs.Held.{held}
 use Rattle.regress_engine_memory.specs.Held.{ExitsFailWith}
 use Rattle.regress_engine_memory.specs.Remembered.{keyed_of}
 use Rattle.regress_engine_memory.specs.TableViews.{table_of}
-use Rattle.regress_engine_attempt.proofs.ExitLemmas.{over-same, over-then, over-last, over-one, over-all, more-then, then-more, last-one, next-one}
+use Rattle.regress_engine_trying.proofs.ExitLemmas.{over-same, over-then, over-last, over-one, over-all, more-then, then-more, last-one, next-one}
 use Rattle.regress_engine_attempt.proofs.attempt.Attempt.exit_ahead.Goals as goal
 
 pub places-init : goal.places-init

@@ -12,7 +12,7 @@ use Rattle.regress_engine_memory.specs.Held.{ExitsFailWith}
 use Rattle.regress_engine_memory.specs.Remembered.{keyed_of}
 use Rattle.regress_engine_memory.specs.TableViews.{table_of}
 use Rattle.regress_engine_memory.proofs.Cutting.{after-one}
-use Rattle.regress_engine_attempt.proofs.ExitLemmas.{UpTo, up-any, up-end, up-known, up-none}
+use Rattle.regress_engine_trying.proofs.ExitLemmas.{UpTo, up-any, up-end, up-known, up-none}
 use Rattle.regress_engine_attempt.proofs.attempt.Attempt.far_exit.Goals as goal
 
 pub overflow_sub-at : goal.overflow_sub-at

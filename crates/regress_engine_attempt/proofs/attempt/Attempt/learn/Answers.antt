@@ -5,9 +5,9 @@ use Rattle.regress_engine_undo.specs.Held.{held, pushed, undo_of}
 use Rattle.regress_engine_memory.specs.Held.{FailsIfFree}
 use Rattle.regress_engine_memory.specs.Remembered.{keyed_of}
 use Rattle.regress_engine_memory.specs.TableViews.{table_of}
-use Rattle.regress_engine_attempt.specs.Trying.{World}
-use Rattle.regress_engine_attempt.specs.Remembering.{AreOf, IsUnderWay}
-use Rattle.regress_engine_attempt.proofs.RememberLemmas.{learned}
+use Rattle.regress_engine_trying.specs.Trying.{World}
+use Rattle.regress_engine_trying.specs.Remembering.{AreOf, IsUnderWay}
+use Rattle.regress_engine_trying.proofs.RememberLemmas.{learned}
 use Rattle.regress_engine_attempt.proofs.attempt.Attempt.learn.Goals as goal
 
 pub returns-clause-so : goal.returns-clause-so

@@ -10,7 +10,7 @@ use Rattle.regress_engine_search.proofs.SkipLemmas.{place-lies}
 use Rattle.regress_engine_search.proofs.TaskLemmas.{leads-then}
 use Rattle.regress_engine_undo.specs.Held.{held}
 use Rattle.regress_engine_undo.proofs.BackLemmas.{take_on-last, take_on-more, held-take_on, take_on-held}
-use Rattle.regress_engine_attempt.proofs.TakeLemmas.{was, takes-some, takes-none, some-over, none-over, passed-or}
+use Rattle.regress_engine_trying.proofs.TakeLemmas.{was, takes-some, takes-none, some-over, none-over, passed-or}
 use Rattle.regress_engine_attempt.proofs.attempt.Attempt.take_on.Goals as goal
 
 pub near_way-way-requires-clause-body : goal.near_way-way-requires-clause-body

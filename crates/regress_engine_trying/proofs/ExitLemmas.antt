@@ -26,9 +26,9 @@ use Rattle.regress_engine_memory.specs.TableViews.{table_of}
 use Rattle.regress_engine_memory.specs.declared.failures.Failures.{Failures}
 use Rattle.regress_engine_memory.proofs.Cutting.{far-after, given-far, given-over, taken-over}
 use Rattle.regress_engine_memory.proofs.HeldLemmas.{exits-end, exits-more, known-held}
-use Rattle.regress_engine_attempt.specs.Trying.{World, GoesBack}
-use Rattle.regress_engine_attempt.specs.Remembering.{GivesUpTo, IsBodyOf, RestFails}
-use Rattle.regress_engine_attempt.proofs.WayLemmas.{leads-fewer}
+use Rattle.regress_engine_trying.specs.Trying.{World, GoesBack}
+use Rattle.regress_engine_trying.specs.Remembering.{GivesUpTo, IsBodyOf, RestFails}
+use Rattle.regress_engine_trying.proofs.WayLemmas.{leads-fewer}
 
 -- what leads nowhere fails, whatever is held
 pub dead-fails : (program : Program) (input : Input) (keyed : Keyed) (s : Spot) (loops : List (ℕ × ℕ)) → IsDead program input (direction_of s.forward) s.at s.offset

@@ -12,13 +12,11 @@ use Rattle.regress_engine_runs.specs.UndoStack.{ReadOn, Undo, outermost, stands_
 use Rattle.regress_engine_search.specs.Tasks.{IsTried, ComesAs, Leads}
 use Rattle.regress_engine_singles.specs.Failing.{IsDead}
 use Rattle.regress_engine_singles.specs.Leads.{lead_ahead}
-use Rattle.regress_engine_singles.specs.Sparing.{IsTurn}
 use Rattle.regress_engine_singles.specs.declared.taken.Taken.{Taken}
 use Rattle.regress_engine_undo.specs.declared.undo.Spot.{Spot}
 use Rattle.regress_engine_undo.specs.Held.{Held, pushed, loop_written}
 use Rattle.regress_engine_undo.specs.Sound.{IsHeld}
 use Rattle.regress_engine_undo.specs.Tasks.{task_of, task, state_at}
-use Rattle.regress_engine_attempt.specs.declared.turns.Turn.{Turn}
 
 -- A run is tried at a spot, of so many steps and with this answer, and what is held is sound.
 pub record IsTrying (program : Program) (v : View) (n : ℕ) (r : Option Whole) (p : Spot) (h : Held) : Type 0 where
@@ -93,16 +91,6 @@ pub record IsPassed (w : World) (i body : Instruction) (forward : Bool) (left o 
 -- the character ahead of an offset begins with a byte
 abbrev pub StandsAhead : World → (byte o : ℕ) → Type 0
 StandsAhead w byte o = Some byte ≡ lead_ahead w.view o
-
--- iterations that are one character of a class each begin at an address with two ways
-abbrev pub IsTurnAt : World → (at second : ℕ) → Turn → Type 0
-IsTurnAt w at second t = IsTurn w.program w.view at second t.begin t.again (instruction t.class.now) (fields t.repetition.now)
-
--- Behind so many iterations it continues where the last one ends, or behind the repetition: enough have begun, and no match can
--- be reached by the other way.
-abbrev pub LeadsOut : World → Turn → (second count offset at : ℕ) → Type 0
-LeadsOut w t second count offset at = (at ≡ t.again)
-    ⊎ ((at ≡ t.repetition.now.exit) × (t.repetition.now.min_iters ≤ count) × IsDead w.program (input_of w.view) Forward second offset)
 
 -- None of a loop's iterations was taken, or they have begun behind as many as there were, the last one at its offset.
 abbrev pub BeginsMore : (id count : ℕ) → Taken → Held → Held → Type 0

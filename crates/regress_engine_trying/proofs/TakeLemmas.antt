@@ -16,10 +16,10 @@ use Rattle.regress_engine_undo.specs.Dead.{TakesFrom, taken_from}
 use Rattle.regress_engine_undo.specs.Tasks.{task}
 use Rattle.regress_engine_undo.proofs.BackLemmas.{take_on-last, take_on-more}
 use Rattle.regress_engine_undo.proofs.DeadLemmas.{takes-then}
-use Rattle.regress_engine_attempt.specs.declared.exits.Exit.{Exit}
-use Rattle.regress_engine_attempt.specs.Trying.{World, IsPassed, advanced}
-use Rattle.regress_engine_attempt.specs.Passing.{TakesOver, found_at}
-use Rattle.regress_engine_attempt.proofs.PassedLemmas.{passed-takes}
+use Rattle.regress_engine_trying.specs.declared.exit.Exit.{Exit}
+use Rattle.regress_engine_trying.specs.Trying.{World, IsPassed, advanced}
+use Rattle.regress_engine_trying.specs.Passing.{TakesOver, found_at}
+use Rattle.regress_engine_trying.proofs.PassedLemmas.{passed-takes}
 
 -- a spot from which no match can be reached is passed over in a step
 past-one : (program : Program) (input : Input) (forward : Bool) (at o : ℕ) (p : Spot) (h k : Held) → p.forward ≡ forward → IsDead program input (direction_of forward) at o

@@ -12,7 +12,7 @@ use Rattle.regress_engine_undo.specs.declared.undo.Spot.{Spot}
 use Rattle.regress_engine_undo.specs.Held.{Held}
 use Rattle.regress_engine_undo.specs.Tasks.{task}
 use Rattle.regress_engine_undo.proofs.DispatchLemmas.{first-dead, second-dead, take-some}
-use Rattle.regress_engine_attempt.specs.Trying.{IsWay}
+use Rattle.regress_engine_trying.specs.Trying.{IsWay}
 
 module _ (program : Program) (input : Input) (forward : Bool) (o : ℕ) where
   -- what leads on in more steps does so in fewer

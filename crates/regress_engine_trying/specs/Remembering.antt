@@ -1,5 +1,5 @@
 -- What an executor remembers of failures.
-use Rattle.std.specs.Prelude.{◌≡◌, ℕ, ◌-◌, ◌<◌, Bool, true, false, Option, Some, None, IfSome, if◌then◌else◌, ◌⊎◌}
+use Rattle.std.specs.Prelude.{◌≡◌, ℕ, ◌-◌, ◌<◌, Bool, true, false, Option, Some, None, if◌then◌else◌, ◌⊎◌}
 use Rattle.regress_engine_input.specs.Views.{direction_of, input_of}
 use Rattle.regress_engine_insn.specs.Instructions.{Instruction, Stands}
 use Rattle.regress_engine_runs.specs.Closed.{takes_character}
@@ -18,19 +18,14 @@ use Rattle.regress_engine_memory.specs.Planes.{AreKnown}
 use Rattle.regress_engine_memory.specs.Needs.{are_needs}
 use Rattle.regress_engine_memory.specs.Remembered.{keyed_of}
 use Rattle.regress_engine_memory.specs.TableViews.{needs_of, table_of}
-use Rattle.regress_engine_attempt.specs.Trying.{World, advanced, GoesBack, Steps, Undoes}
-use Rattle.regress_engine_attempt.specs.declared.exits.Exit.{Exit}
-use Rattle.regress_engine_attempt.specs.declared.remembered.Remembered.{Remembered}
+use Rattle.regress_engine_trying.specs.Trying.{World, advanced, GoesBack, Steps, Undoes}
+use Rattle.regress_engine_trying.specs.declared.exit.Exit.{Exit}
 
 -- Failures are a world's: their table passes its tests with its program, and all that is kept is known to fail in it.
 pub record AreOf (w : World) (f : Failures) : Type 0 where
   pub tested : is_flow (table_of f.table) w.program ≡ true
   pub needed : are_needs (needs_of f.table) w.program ≡ true
   pub known : AreKnown w.program (input_of w.view) f
-
--- what is remembered, if anything, is a world's
-abbrev pub Remembers : World → Remembered → Type 0
-Remembers w m = IfSome m.failures (λ f. AreOf w f.value)
 
 -- a run is tried, going on at a spot or back from it
 abbrev pub IsUnderWay : World → (going : Bool) → Spot → Held → Type 0

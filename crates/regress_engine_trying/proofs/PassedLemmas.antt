@@ -13,7 +13,7 @@ use Rattle.regress_engine_singles.specs.Failing.{IsDead, TakesNothing}
 use Rattle.regress_engine_singles.proofs.ByteLemmas.{other-there}
 use Rattle.regress_engine_undo.specs.Dead.{TakesFrom}
 use Rattle.regress_engine_undo.proofs.DeadLemmas.{takes-same, takes-over, takes-then}
-use Rattle.regress_engine_attempt.specs.Trying.{World, IsPassed, advanced}
+use Rattle.regress_engine_trying.specs.Trying.{World, IsPassed, advanced}
 
 -- no place is passed
 pub passed-none : (w : World) (i j : Instruction) (forward : Bool) (left o : ℕ) → IsPassed w i j forward left o o

@@ -9,9 +9,9 @@ use Rattle.regress_engine_undo.specs.declared.undo.Spot.{Spot}
 use Rattle.regress_engine_undo.specs.Held.{Held, pushed}
 use Rattle.regress_engine_undo.specs.Dead.{taken_from}
 use Rattle.regress_engine_undo.specs.Tasks.{task}
-use Rattle.regress_engine_attempt.specs.declared.exits.Exit.{Exit}
-use Rattle.regress_engine_attempt.specs.Remembering.{taken_up}
-use Rattle.regress_engine_attempt.specs.Trying.{World}
+use Rattle.regress_engine_trying.specs.declared.exit.Exit.{Exit}
+use Rattle.regress_engine_trying.specs.Remembering.{taken_up}
+use Rattle.regress_engine_trying.specs.Trying.{World}
 
 -- in so many steps of a run, at most so many more are counted: one for each 64 units of the text in each of them
 abbrev pub Passes : View → (steps before after : ℕ) → Type 0

@@ -29,8 +29,8 @@ use Rattle.regress_engine_memory.specs.Needs.{are_needs}
 use Rattle.regress_engine_memory.specs.TableViews.{needs_of, table_of}
 use Rattle.regress_engine_memory.proofs.Deciding.{decides}
 use Rattle.regress_engine_memory.proofs.HeldLemmas.{learns-held}
-use Rattle.regress_engine_attempt.specs.Trying.{World, Steps}
-use Rattle.regress_engine_attempt.specs.Remembering.{AreOf, Begins, IsUnderWay}
+use Rattle.regress_engine_trying.specs.Trying.{World, Steps}
+use Rattle.regress_engine_trying.specs.Remembering.{AreOf, Begins, IsUnderWay}
 
 -- what is held stays sound with a record of what is tried
 pub tried-held : (program : Program) (v : View) (h : Held) (at o : ℕ) → IsHeld program v h → IsHeld program v (pushed (tried at o) h)

@@ -15,7 +15,7 @@ use Rattle.regress_engine_undo.specs.declared.undo.Spot.{Spot}
 use Rattle.regress_engine_undo.specs.Held.{Held}
 use Rattle.regress_engine_undo.specs.Sound.{IsSound, IsHeld}
 use Rattle.regress_engine_undo.specs.Tasks.{task, state_at}
-use Rattle.regress_engine_attempt.specs.Trying.{ReadsFrom, Steps, IsTrying, IsWay}
+use Rattle.regress_engine_trying.specs.Trying.{ReadsFrom, Steps, IsTrying, IsWay}
 
 -- what a text shows is what is read, and what is computed of the one is tried of the other
 module _ (program : Program) (shown v : View) (shows : shown ≡ v) (start : ℕ) (ends : IsComputed program (input_of shown) Forward (first_state program start ∷ [])) where
