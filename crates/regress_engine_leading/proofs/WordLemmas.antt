@@ -1,6 +1,6 @@
 -- Characters of ASCII that are passed over, where a word is asked for.
 use mathlib.Core.Bool.{beq}
-use Rattle.std.proofs.Common.{◌≡◌, ℕ, ◌+◌, ◌&&◌, ◌||◌, Bool, true, false, Some, refl, sym, ap, ◌∙◌, arith}
+use Rattle.std.proofs.Common.{◌≡◌, ℕ, ◌&&◌, ◌||◌, Bool, true, false, Some, refl, sym, ap, ◌∙◌, arith}
 use Rattle.regress_meaning.specs.Table.{Table}
 use Rattle.regress_meaning.specs.Class.{is_ascii_word, is_word}
 use Rattle.regress_meaning.specs.Meaning.{Forward, Backward, word_at}
