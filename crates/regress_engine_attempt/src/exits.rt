@@ -167,13 +167,18 @@ impl<'a, Input: ExecutorInput> Attempt<'a, Input> {
         let Some(body) = self.body_before(at) else {
             return;
         };
-        let offset = match self.once(body, forward, &memory.groups, far) {
-            Some(next) => next,
-            None => far,
+        let last = Spot {
+            at,
+            offset: far,
+            forward,
+        };
+        let Some(next) = self.once(body, forward, &memory.groups, far) else {
+            self.learn_back(body, &last, memory, failures);
+            return;
         };
         let failed = Spot {
             at,
-            offset,
+            offset: next,
             forward,
         };
         self.learn_back(body, &failed, memory, failures);

@@ -89,14 +89,14 @@ pub returns-then-is_possessive-clause-counted : goal.returns-then-is_possessive-
 returns-then-is_possessive-clause-counted g c =
     let v = g.Input.InputIndexer.view c.args.self.now.input in
     let all = g.met.Input.InputIndexer.are_of_kind c.args.self.now.input in
-    let most = c.pass.ensures.most (length v.units) (place-lies v all c.args.spot.now.offset c.requires.body.3) (place-lies v all c.as_far-far.result c.as_far-far.ensures.place) in
+    let most = c.pass-then-greedy.ensures.most (length v.units) (place-lies v all c.args.spot.now.offset c.requires.body.3) (place-lies v all c.as_far-far.result c.as_far-far.ensures.place) in
     omega (arith, most)
 
 pub returns-then-greedy-clause-counted : goal.returns-then-greedy-clause-counted
 returns-then-greedy-clause-counted g c =
     let v = g.Input.InputIndexer.view c.args.self.now.input in
     let all = g.met.Input.InputIndexer.are_of_kind c.args.self.now.input in
-    let most = c.pass.ensures.most (length v.units) (place-lies v all c.args.spot.now.offset c.requires.body.3) (place-lies v all c.as_far-far.result c.as_far-far.ensures.place) in
+    let most = c.pass-then-greedy.ensures.most (length v.units) (place-lies v all c.args.spot.now.offset c.requires.body.3) (place-lies v all c.as_far-far.result c.as_far-far.ensures.place) in
     omega (arith, most)
 
 pub take_on-requires-clause-from : goal.take_on-requires-clause-from
