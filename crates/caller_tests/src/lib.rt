@@ -40,3 +40,5 @@ mod told;
 mod units;
 #[cfg(test)]
 mod whole;
+#[cfg(test)]
+mod within;

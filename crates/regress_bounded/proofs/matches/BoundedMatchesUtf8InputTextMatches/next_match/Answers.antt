@@ -3,7 +3,7 @@ use Rattle.regress_engine_code.specs.Standing.{names_of}
 use Rattle.regress_engine_search.specs.Search.{Search}
 use Rattle.regress_bounded.specs.Coming.{search_by, coming}
 use Rattle.regress_bounded.proofs.StepLemmas.{given-in_text}
-use Rattle.regress_bounded.proofs.matches.BoundedMatchesTextMatches.next_match.Goals as goal
+use Rattle.regress_bounded.proofs.matches.BoundedMatchesUtf8InputTextMatches.next_match.Goals as goal
 
 pub returns-clause-first : goal.returns-clause-first
 returns-clause-first c =
