@@ -5,6 +5,8 @@
 #[cfg(test)]
 mod asking;
 #[cfg(test)]
+mod bounded;
+#[cfg(test)]
 mod closures;
 #[cfg(test)]
 mod example;
@@ -40,5 +42,3 @@ mod told;
 mod units;
 #[cfg(test)]
 mod whole;
-#[cfg(test)]
-mod within;

@@ -11,8 +11,9 @@ use Rattle.regress_engine_input.specs.Views.{View}
 use Rattle.regress_engine_code.specs.declared.compiled.CompiledRegex.{CompiledRegex}
 use Rattle.regress_engine_code.specs.Standing.{program_of}
 use Rattle.regress_engine_search.specs.Search.{Search, StartsAt, items_from}
-use Rattle.regress_engine_attempt.specs.Counting.{Spends, most_counted}
-use Rattle.regress_engine_attempt.proofs.CountLemmas.{most-adds, spends-none, spends-then, spends-more}
+use Rattle.regress_engine_search.specs.Budgets.{Spends}
+use Rattle.regress_engine_trying.specs.Counting.{most_counted}
+use Rattle.regress_engine_trying.proofs.CountLemmas.{most-adds, spends-none, spends-then, spends-more}
 use Rattle.regress_engine_exec.specs.declared.error.SearchError.{SearchError}
 use Rattle.regress_engine_exec.specs.declared.error.SearchError.TheVariants.{OutOfMemory, TooManySteps}
 use Rattle.regress_engine_exec.specs.BoundedSearches.{CountsStep}

@@ -6,7 +6,7 @@ use Rattle.regress_front.specs.TableViews.{table}
 use Rattle.regress_engine.specs.Standing.{program_of}
 use Rattle.regress_engine.specs.Views.{Kind, View}
 use Rattle.regress_engine_code.specs.declared.compiled.CompiledRegex.{CompiledRegex}
-use Rattle.regress_engine_attempt.specs.Counting.{CountsRun}
+use Rattle.regress_engine_trying.specs.Counting.{CountsRun}
 use Rattle.regress_engine_exec.specs.Counting.{CountsSearch}
 use Rattle.regress_programs.specs.declared.slots.Anchored.{Anchored}
 use Rattle.regress_programs.specs.declared.slots.Anchored.TheVariants.{No, Yes}

@@ -8,7 +8,8 @@ use Rattle.regress_matched.specs.Giving.{GivesMatches}
 use Rattle.regress_engine.specs.Search.{Search, StartsAt, items_from}
 use Rattle.regress_engine.specs.Standing.{program_of}
 use Rattle.regress_engine.specs.Views.{View}
-use Rattle.regress_engine_attempt.specs.Counting.{Spends, most_counted}
+use Rattle.regress_engine_search.specs.Budgets.{Spends}
+use Rattle.regress_engine_trying.specs.Counting.{most_counted}
 use Rattle.regress_engine_code.specs.declared.compiled.CompiledRegex.{CompiledRegex}
 use Rattle.regress_engine_exec.specs.declared.error.SearchError.{SearchError}
 use Rattle.regress_engine_exec.specs.declared.error.SearchError.TheVariants.{TooManySteps}

@@ -1,10 +1,13 @@
--- What an attempt and a search are of.
+-- What an attempt and a search are of, and what is remembered in them.
+use Rattle.std.specs.Prelude.{IfSome}
 use Rattle.regress_engine_input.specs.Views.{View}
 use Rattle.regress_engine_code.specs.Standing.{program_of}
 use Rattle.regress_engine_code.specs.declared.compiled.CompiledRegex.{CompiledRegex}
 use Rattle.regress_engine_search.specs.declared.context.SearchContext.{SearchContext}
+use Rattle.regress_engine_trying.specs.Trying.{World}
+use Rattle.regress_engine_trying.specs.Remembering.{AreOf}
 use Rattle.regress_engine_attempt.specs.declared.attempt.Attempt.{Attempt}
-use Rattle.regress_engine_attempt.specs.Trying.{World}
+use Rattle.regress_engine_attempt.specs.declared.remembered.Remembered.{Remembered}
 
 -- a program, and what is shown of a text
 abbrev pub world_of : CompiledRegex → View → World
@@ -17,3 +20,7 @@ world view a = world_of a.program.now (view a.input)
 -- the same of a search
 abbrev pub searched : {I : Type 0} {g : _} → (I → View) → SearchContext I g → World
 searched view c = world_of c.program.now (view c.input)
+
+-- what is remembered, if anything, is a world's
+abbrev pub Remembers : World → Remembered → Type 0
+Remembers w m = IfSome m.failures (λ f. AreOf w f.value)

@@ -1,6 +1,2 @@
-pub mod Trying
 pub mod Attempts
-pub mod Remembering
-pub mod Counting
-pub mod Ending
-pub mod Passing
+pub mod Turns

@@ -12,14 +12,13 @@ ghost use Rattle.regress_engine_search.specs.Submatches.{submatch_of, is_negated
 ghost use Rattle.regress_engine_undo.specs.Held.{held, undo_of, pushed};
 ghost use Rattle.regress_engine_search.specs.Search.{Suits};
 ghost use Rattle.regress_engine_undo.specs.Dead.{GivesFrom, TakesFrom};
-ghost use Rattle.regress_engine_attempt.specs.Attempts.{world};
-ghost use Rattle.regress_engine_attempt.specs.Passing.{found_at, GoesBackMore, Passes, TakesOver, UndoesMore, UndoesOver};
-ghost use Rattle.regress_engine_attempt.specs.Remembering.{IsUnderWay, Remembers};
-ghost use Rattle.regress_engine_attempt.specs.Trying.{advanced, GoesBack, IsHeldIn, IsPassed, Undoes};
+ghost use Rattle.regress_engine_attempt.specs.Attempts.{Remembers, world};
+ghost use Rattle.regress_engine_trying.specs.Passing.{found_at, GoesBackMore, Passes, TakesOver, UndoesMore, UndoesOver};
+ghost use Rattle.regress_engine_trying.specs.Remembering.{IsUnderWay};
+ghost use Rattle.regress_engine_trying.specs.Trying.{advanced, GoesBack, IsHeldIn, IsPassed, Undoes};
 
 use crate::attempt::Attempt;
 use crate::counts::Counts;
-use crate::exits::Exit;
 use crate::remembered::Remembered;
 use regress_engine_advance::{
     advance, any_in_line, as_far, ascii_bracket, beside, other_ahead, taken_first,
@@ -27,6 +26,7 @@ use regress_engine_advance::{
 use regress_engine_insn::Insn;
 use regress_engine_search::ExecutorInput;
 use regress_engine_singles::{first_byte, taken_before};
+use regress_engine_trying::Exit;
 use regress_engine_undo::{Frame, Memory, Spot, Undo, is_ahead};
 use regress_front_core::GroupData;
 use std::alloc::AllocError;
@@ -147,7 +147,7 @@ impl<'a, Input: ExecutorInput> Attempt<'a, Input> {
 
     /// What `advance` answers. What is often repeated is done at once.
     #[inline(always)]
-    fn once(
+    pub(crate) fn once(
         &self,
         insn: &Insn,
         forward: bool,
@@ -307,14 +307,7 @@ impl<'a, Input: ExecutorInput> Attempt<'a, Input> {
             return Ok(true);
         }
         let insn = self.instruction(at - 1);
-        let Some(next) = advance(
-            self.program,
-            &self.input,
-            insn,
-            spot.forward,
-            &memory.groups,
-            way.offset,
-        ) else {
+        let Some(next) = self.once(insn, spot.forward, &memory.groups, way.offset) else {
             return Ok(true);
         };
         memory.push(Undo::TakeOn {

@@ -14,27 +14,19 @@ ghost use Rattle.regress_engine_memory.specs.Held.{FailsWith};
 ghost use Rattle.regress_engine_memory.specs.Remembered.{keyed_of};
 ghost use Rattle.regress_engine_memory.specs.TableViews.{table_of};
 ghost use Rattle.regress_engine_attempt.specs.Attempts.{world};
-ghost use Rattle.regress_engine_attempt.specs.Passing.{Passes, TakesUpMore, UndoesOver};
-ghost use Rattle.regress_engine_attempt.specs.Remembering.{AreOf, Drops, GivesUpTo, IsBodyOf, RestFails, TakesUp};
-ghost use Rattle.regress_engine_attempt.specs.Trying.{Does, IsHeldIn, Undoes};
+ghost use Rattle.regress_engine_trying.specs.Passing.{Passes, TakesUpMore, UndoesOver};
+ghost use Rattle.regress_engine_trying.specs.Remembering.{AreOf, Drops, GivesUpTo, IsBodyOf, RestFails, TakesUp};
+ghost use Rattle.regress_engine_trying.specs.Trying.{Does, IsHeldIn, Undoes};
 
 use crate::attempt::Attempt;
 use crate::counts::Counts;
-use regress_engine_advance::{advance, after_times, beside, taken_first};
+use regress_engine_advance::{after_times, beside, taken_first};
 use regress_engine_insn::Insn;
 use regress_engine_memory::Failures;
 use regress_engine_search::ExecutorInput;
+use regress_engine_trying::Exit;
 use regress_engine_undo::{Memory, Spot, Undo};
 use std::alloc::AllocError;
-
-/// An exit of a lazy one-character loop: its offset, how many more iterations may follow, and whether it may lead on, or one
-/// behind it may.
-#[derive(Debug, Clone, Copy)]
-pub(crate) struct Exit {
-    pub(crate) offset: usize,
-    pub(crate) left: usize,
-    pub(crate) may_go: bool,
-}
 
 impl<'a, Input: ExecutorInput> Attempt<'a, Input> {
     /// What a one-character loop repeats that goes on at an address, if one does.
@@ -62,15 +54,8 @@ impl<'a, Input: ExecutorInput> Attempt<'a, Input> {
         let Some(insn) = taken_first(self.program, exit.at) else {
             return true;
         };
-        advance(
-            self.program,
-            &self.input,
-            insn,
-            exit.forward,
-            &memory.groups,
-            exit.offset,
-        )
-        .is_some()
+        self.once(insn, exit.forward, &memory.groups, exit.offset)
+            .is_some()
     }
 
     /// Whether an exit of a one-character loop surely fails: what is taken first there doesn't stand, or it is known.
@@ -96,14 +81,7 @@ impl<'a, Input: ExecutorInput> Attempt<'a, Input> {
         requires place { IsAtPlace (reading_of (Input.view self.now.input)) exit.now.offset }
         ensures { result ≡ true → RestFails (world Input.view self.now) failures.now (instruction body.now) exit.now (held memory.now) }
     {
-        let Some(next) = advance(
-            self.program,
-            &self.input,
-            body,
-            exit.forward,
-            &memory.groups,
-            exit.offset,
-        ) else {
+        let Some(next) = self.once(body, exit.forward, &memory.groups, exit.offset) else {
             return true;
         };
         let further = Spot {
@@ -153,7 +131,7 @@ impl<'a, Input: ExecutorInput> Attempt<'a, Input> {
         requires place { IsAtPlace (reading_of (Input.view self.now.input)) from.now.offset }
         ensures { AreOf (world Input.view self.now) failures.new }
     {
-        let last = self.input.pos_to_offset(self.input.right_end());
+        let last = self.text_len();
         let mut offset = from.offset;
         for passed in 0..last {
             let exit = Spot {
@@ -189,25 +167,13 @@ impl<'a, Input: ExecutorInput> Attempt<'a, Input> {
         let Some(body) = self.body_before(at) else {
             return;
         };
-        let last = Spot {
-            at,
-            offset: far,
-            forward,
-        };
-        let Some(next) = advance(
-            self.program,
-            &self.input,
-            body,
-            forward,
-            &memory.groups,
-            far,
-        ) else {
-            self.learn_back(body, &last, memory, failures);
-            return;
+        let offset = match self.once(body, forward, &memory.groups, far) {
+            Some(next) => next,
+            None => far,
         };
         let failed = Spot {
             at,
-            offset: next,
+            offset,
             forward,
         };
         self.learn_back(body, &failed, memory, failures);
@@ -302,14 +268,7 @@ impl<'a, Input: ExecutorInput> Attempt<'a, Input> {
                     may_go: false,
                 };
             }
-            let Some(next) = advance(
-                self.program,
-                &self.input,
-                body,
-                forward,
-                &memory.groups,
-                near,
-            ) else {
+            let Some(next) = self.once(body, forward, &memory.groups, near) else {
                 return Exit {
                     offset: near,
                     left: rest,
@@ -392,14 +351,7 @@ impl<'a, Input: ExecutorInput> Attempt<'a, Input> {
             return None;
         }
         'places: while rest > 0 {
-            let Some(next) = advance(
-                self.program,
-                &self.input,
-                body,
-                forward,
-                &memory.groups,
-                far,
-            ) else {
+            let Some(next) = self.once(body, forward, &memory.groups, far) else {
                 return Some(far);
             };
             let further = Spot {
@@ -447,6 +399,7 @@ impl<'a, Input: ExecutorInput> Attempt<'a, Input> {
             &memory.groups,
             spot.offset,
         ) else {
+            counts.pass(0, least.min(self.text_len()));
             return Ok(false);
         };
         let left = most - least;

@@ -7,10 +7,10 @@ ghost use Rattle.regress_engine_memory.specs.TableViews.{needs_of};
 ghost use Rattle.regress_engine_memory.specs.Under.{room};
 ghost use Rattle.regress_engine_search.specs.Search.{Suits};
 ghost use Rattle.regress_engine_undo.specs.Held.{held, undo_of, pushed};
-ghost use Rattle.regress_engine_attempt.specs.Attempts.{world};
-ghost use Rattle.regress_engine_attempt.specs.Passing.{MayUndoMore, Passes, PassesIf};
-ghost use Rattle.regress_engine_attempt.specs.Remembering.{AreOf, Begins, Drops, IsUnderWay, MayUndo, Remembers};
-ghost use Rattle.regress_engine_attempt.specs.Trying.{IsHeldIn, Steps, World};
+ghost use Rattle.regress_engine_attempt.specs.Attempts.{Remembers, world};
+ghost use Rattle.regress_engine_trying.specs.Passing.{MayUndoMore, Passes, PassesIf};
+ghost use Rattle.regress_engine_trying.specs.Remembering.{AreOf, Begins, Drops, IsUnderWay, MayUndo};
+ghost use Rattle.regress_engine_trying.specs.Trying.{IsHeldIn, Steps, World};
 
 use crate::attempt::Attempt;
 use crate::counts::Counts;
@@ -107,7 +107,7 @@ impl<'a, Input: ExecutorInput> Attempt<'a, Input> {
         ensures { result ≡ nat_lt (room (length (Input.view self.now.input).units) (direction_of spot.now.forward) spot.now.offset)
             (need (needs_of failures.now.table) spot.now.at) }
     {
-        let last = self.input.pos_to_offset(self.input.right_end());
+        let last = self.text_len();
         let left = if spot.forward {
             last.saturating_sub(spot.offset)
         } else {
@@ -170,7 +170,7 @@ impl<'a, Input: ExecutorInput> Attempt<'a, Input> {
         else {
             return Ok(None);
         };
-        if *max_iters < self.input.pos_to_offset(self.input.right_end()) {
+        if *max_iters < self.text_len() {
             return Ok(None);
         }
         let going = self.repeat_known(
@@ -284,7 +284,7 @@ impl<'a, Input: ExecutorInput> Attempt<'a, Input> {
         let Undo::Tried { at, offset } = undo else {
             return;
         };
-        let last = self.input.pos_to_offset(self.input.right_end());
+        let last = self.text_len();
         let there = Spot {
             at: *at,
             offset: *offset,

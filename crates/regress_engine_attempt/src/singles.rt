@@ -6,8 +6,8 @@ ghost use Rattle.regress_engine_search.specs.Ready.{IsBody};
 ghost use Rattle.regress_engine_search.specs.Search.{Suits};
 ghost use Rattle.regress_engine_undo.specs.Held.{held};
 ghost use Rattle.regress_engine_attempt.specs.Attempts.{world};
-ghost use Rattle.regress_engine_attempt.specs.Passing.{Passes};
-ghost use Rattle.regress_engine_attempt.specs.Trying.{Does, IsHeldIn};
+ghost use Rattle.regress_engine_trying.specs.Passing.{Passes};
+ghost use Rattle.regress_engine_trying.specs.Trying.{Does, IsHeldIn};
 
 use crate::attempt::Attempt;
 use crate::counts::Counts;
@@ -46,6 +46,7 @@ impl<'a, Input: ExecutorInput> Attempt<'a, Input> {
             &memory.groups,
             spot.offset,
         ) else {
+            counts.pass(0, least.min(self.text_len()));
             return Ok(false);
         };
         let left = most - least;

@@ -8,8 +8,9 @@ ghost use Rattle.regress_engine_search.specs.Search.{Suits};
 ghost use Rattle.regress_engine_analysis.specs.Planned.{is_class};
 ghost use Rattle.regress_engine_undo.specs.Held.{held};
 ghost use Rattle.regress_engine_attempt.specs.Attempts.{world};
-ghost use Rattle.regress_engine_attempt.specs.Passing.{Passes};
-ghost use Rattle.regress_engine_attempt.specs.Trying.{BeginsMore, IsHeldIn, IsTurnAt, LeadsOut, Steps};
+ghost use Rattle.regress_engine_trying.specs.Passing.{Passes};
+ghost use Rattle.regress_engine_trying.specs.Trying.{BeginsMore, IsHeldIn, Steps};
+ghost use Rattle.regress_engine_attempt.specs.Turns.{IsTurnAt, LeadsOut};
 
 use crate::attempt::Attempt;
 use crate::counts::Counts;

@@ -4,7 +4,7 @@ ghost use Rattle.regress_engine_insn.specs.Instructions.{Stands, alt};
 ghost use Rattle.regress_engine_code.specs.Standing.{program_of};
 ghost use Rattle.regress_engine_search.specs.Search.{Suits};
 ghost use Rattle.regress_engine_attempt.specs.Attempts.{world};
-ghost use Rattle.regress_engine_attempt.specs.Trying.{IsWayIn, StandsAhead};
+ghost use Rattle.regress_engine_trying.specs.Trying.{IsWayIn, StandsAhead};
 
 use crate::attempt::Attempt;
 use regress_engine_advance::{is_dead_ahead, is_dead_behind, lead_ahead};

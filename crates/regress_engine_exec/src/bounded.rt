@@ -8,17 +8,16 @@ ghost use Rattle.regress_engine_runs.specs.Items.{Finds};
 ghost use Rattle.regress_engine_runs.specs.Meets.{IsAtPlace};
 ghost use Rattle.regress_engine_search.specs.Answering.{IsAnswer, IsFound, IsOutcome};
 ghost use Rattle.regress_engine_search.specs.Search.{IsMadeOf, IsItemAtPlaces, IsWritten};
-ghost use Rattle.regress_engine_attempt.specs.Attempts.{world_of};
-ghost use Rattle.regress_engine_attempt.specs.Counting.{CountsRun};
-ghost use Rattle.regress_engine_attempt.specs.Remembering.{Remembers};
+ghost use Rattle.regress_engine_attempt.specs.Attempts.{Remembers, world_of};
+ghost use Rattle.regress_engine_trying.specs.Counting.{CountsRun};
 ghost use Rattle.regress_engine_exec.specs.Counting.{CountsSearch};
 
 use crate::error::SearchError;
 use crate::finding::{first_from, run_within};
 use crate::scratch::Scratch;
-use regress_engine_attempt::{Ended, Remembered, StepsLeft};
+use regress_engine_attempt::Remembered;
 use regress_engine_code::CompiledRegex;
-use regress_engine_search::{ExecutorInput, SearchContext, Shown, fill_slots};
+use regress_engine_search::{Ended, ExecutorInput, SearchContext, Shown, StepsLeft, fill_slots};
 use regress_match::{Match, Range};
 use std::alloc::Global;
 

@@ -11,15 +11,14 @@ ghost use Rattle.regress_engine_runs.specs.Items.{Finds};
 ghost use Rattle.regress_engine_runs.specs.Meets.{IsAtPlace};
 ghost use Rattle.regress_engine_search.specs.Answering.{IsAnswer, IsFound, IsOutcome};
 ghost use Rattle.regress_engine_search.specs.Search.{IsMadeOf, IsItemAtPlaces, IsWritten};
-ghost use Rattle.regress_engine_attempt.specs.Attempts.{world_of};
-ghost use Rattle.regress_engine_attempt.specs.Remembering.{Remembers};
+ghost use Rattle.regress_engine_attempt.specs.Attempts.{Remembers, world_of};
 
 use crate::finding::{first_from, run_from};
 use crate::scratch::Scratch;
-use regress_engine_attempt::{Ended, Remembered, Unbounded};
+use regress_engine_attempt::Remembered;
 use regress_engine_code::CompiledRegex;
 use regress_engine_inputs::Utf8Input;
-use regress_engine_search::{ExecutorInput, SearchContext, Shown, fill_slots};
+use regress_engine_search::{Ended, ExecutorInput, SearchContext, Shown, Unbounded, fill_slots};
 use regress_match::{Match, MatchProducer, Range};
 use std::alloc::{AllocError, Global};
 

@@ -16,6 +16,7 @@ use regress_engine_code::CompiledRegex;
 use regress_engine_insn::Insn;
 use regress_engine_matchers::{CharInput, CharProperties};
 use regress_engine_singles::{as_far_ahead, is_assertion, is_possessive, takes_one};
+use regress_front_tables::is_ascii_word;
 
 /// So many instructions behind a run are looked at.
 const LOOKED_AT: usize = 8;
@@ -207,7 +208,68 @@ fn behind_ascii<Input: CharInput>(
     at
 }
 
-/// How far from the start on each character begins with a byte in UTF-8 with which no match may begin.
+/// The offset behind the characters of ASCII ahead of one, one after another, with which no match may begin, where the program asks
+/// first whether a word begins or ends: also those that do not begin or end one.
+fn behind_words<Input: CharInput>(
+    program: &CompiledRegex,
+    input: &Input,
+    units: &[u16],
+    start: usize,
+) -> usize
+    requires suits { Suits (program_of program.now) (Input.view input.now) }
+    requires place { IsAtPlace (reading_of (Input.view input.now)) start }
+    requires kind { are_bytes (Input.view input.now).kind ≡ false }
+    requires units { units.now ≡ (Input.view input.now).units }
+    requires first { Stands (program_of program.now) 0 (boundary false false) }
+    ensures { Reaches (program_of program.now) (Input.view input.now) start result }
+{
+    let mut was = word_beside(input, false, false, start);
+    let mut at = start;
+    while at < units.len() {
+        let unit = units[at];
+        if unit >= 0x80 {
+            break;
+        }
+        let word = is_ascii_word(u32::from(unit));
+        if word == was {
+            at += 1;
+            continue;
+        }
+        if !is_dead_ahead(program, 0, unit as u8) {
+            break;
+        }
+        was = word;
+        at += 1;
+    }
+    at
+}
+
+/// The offset behind the characters of ASCII ahead of one from which surely no match can be reached, one after another.
+#[inline(always)]
+fn behind_dead<Input: CharInput>(
+    program: &CompiledRegex,
+    input: &Input,
+    units: &[u16],
+    start: usize,
+) -> usize
+    requires suits { Suits (program_of program.now) (Input.view input.now) }
+    requires place { IsAtPlace (reading_of (Input.view input.now)) start }
+    requires kind { are_bytes (Input.view input.now).kind ≡ false }
+    requires units { units.now ≡ (Input.view input.now).units }
+    ensures { Reaches (program_of program.now) (Input.view input.now) start result }
+{
+    let insns = program.insns();
+    if insns.is_empty() {
+        return start;
+    }
+    match &insns[0] {
+        Insn::WordBoundary { invert: false } => behind_words(program, input, units, start),
+        _ => behind_ascii(program, input, units, start),
+    }
+}
+
+/// How far from the start on each character begins with a byte in UTF-8 with which no match may begin, or where the program asks
+/// for the begin or end of a word is one of ASCII that is neither.
 #[inline(always)]
 fn passed_leads<Input: CharInput>(
     program: &CompiledRegex,
@@ -223,7 +285,7 @@ fn passed_leads<Input: CharInput>(
 {
     let mut at = start;
     'places: loop {
-        at = behind_ascii(program, input, units, at);
+        at = behind_dead(program, input, units, at);
         if at >= units.len() || units[at] < 0x80 || !is_dead(program, input, 0, true, at) {
             break;
         }

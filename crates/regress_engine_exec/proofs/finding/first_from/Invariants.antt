@@ -3,7 +3,7 @@ use Rattle.regress_engine_code.specs.Standing.{program_of}
 use Rattle.regress_engine_input.specs.Views.{input_of, reading_of}
 use Rattle.regress_engine_runs.specs.Meets.{IsAtPlace}
 use Rattle.regress_engine_search.specs.Answering.{FindsOn}
-use Rattle.regress_engine_attempt.specs.Remembering.{Remembers}
+use Rattle.regress_engine_attempt.specs.Attempts.{Remembers}
 use Rattle.regress_engine_exec.specs.Counting.{CountsUpTo}
 use Rattle.regress_engine_exec.proofs.finding.first_from.Given as goal
 

@@ -6,12 +6,12 @@ use Rattle.regress_engine_search.proofs.TaskLemmas.{leads-then, leads-same}
 use Rattle.regress_engine_undo.specs.Held.{Held, held, pushed, undo_of}
 use Rattle.regress_engine_undo.specs.Sound.{IsHeld}
 use Rattle.regress_engine_undo.specs.Tasks.{task}
-use Rattle.regress_engine_attempt.specs.Trying.{World}
-use Rattle.regress_engine_attempt.specs.Remembering.{IsUnderWay}
-use Rattle.regress_engine_attempt.proofs.RememberLemmas.{under-way-on}
+use Rattle.regress_engine_trying.specs.Trying.{World}
+use Rattle.regress_engine_trying.specs.Remembering.{IsUnderWay}
+use Rattle.regress_engine_trying.proofs.RememberLemmas.{under-way-on}
 use Rattle.regress_engine_attempt.specs.declared.counts.Counts.{Counts}
-use Rattle.regress_engine_attempt.specs.Passing.{GoesBackMore, UndoesMore}
-use Rattle.regress_engine_attempt.proofs.CountLemmas.{back-first, back-on}
+use Rattle.regress_engine_trying.specs.Passing.{GoesBackMore, UndoesMore}
+use Rattle.regress_engine_trying.proofs.CountLemmas.{back-first, back-on}
 use Rattle.regress_engine_attempt.proofs.attempt.Attempt.back.Goals as goal
 
 pub loop-undo-init : goal.loop-undo-init

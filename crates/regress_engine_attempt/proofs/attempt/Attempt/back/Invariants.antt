@@ -5,8 +5,8 @@ use Rattle.regress_engine_search.specs.Tasks.{Leads}
 use Rattle.regress_engine_undo.specs.Held.{held}
 use Rattle.regress_engine_undo.specs.Sound.{IsHeld}
 use Rattle.regress_engine_undo.specs.Tasks.{task}
-use Rattle.regress_engine_attempt.specs.Remembering.{Remembers}
-use Rattle.regress_engine_attempt.specs.Passing.{GoesBackMore}
+use Rattle.regress_engine_attempt.specs.Attempts.{Remembers}
+use Rattle.regress_engine_trying.specs.Passing.{GoesBackMore}
 use Rattle.regress_engine_attempt.proofs.attempt.Attempt.back.Given as goal
 
 -- what was to be done leads to what is to be done

@@ -7,9 +7,9 @@ use Rattle.regress_engine_search.proofs.TaskLemmas.{tried-stands, tried-reads}
 use Rattle.regress_engine_undo.specs.Held.{held}
 use Rattle.regress_engine_undo.specs.Tasks.{state_at}
 use Rattle.regress_engine_undo.proofs.DispatchLemmas.{step-on}
-use Rattle.regress_engine_attempt.specs.Trying.{World}
-use Rattle.regress_engine_attempt.specs.Remembering.{Drops}
-use Rattle.regress_engine_attempt.proofs.RememberLemmas.{steps-tried}
+use Rattle.regress_engine_trying.specs.Trying.{World}
+use Rattle.regress_engine_trying.specs.Remembering.{Drops}
+use Rattle.regress_engine_trying.proofs.RememberLemmas.{steps-tried}
 use Rattle.regress_engine_attempt.proofs.attempt.Attempt.begin_known.Goals as goal
 
 pub returns-then-branch-clause-leads : goal.returns-then-branch-clause-leads

@@ -4,8 +4,8 @@ use Rattle.regress_engine_search.specs.Ready.{IsBody}
 use Rattle.regress_engine_undo.specs.declared.undo.Spot.{Spot}
 use Rattle.regress_engine_undo.specs.Held.{held, pushed}
 use Rattle.std.proofs.Common.{◌≡◌, false, ◌⊎◌}
-use Rattle.regress_engine_attempt.specs.Trying.{GoesBack}
-use Rattle.regress_engine_attempt.specs.Passing.{UndoesOver}
+use Rattle.regress_engine_trying.specs.Trying.{GoesBack}
+use Rattle.regress_engine_trying.specs.Passing.{UndoesOver}
 use Rattle.regress_engine_attempt.proofs.attempt.Attempt.exit_ahead.Given as goal
 
 -- what is taken on from the first offset leads to what is taken on from here

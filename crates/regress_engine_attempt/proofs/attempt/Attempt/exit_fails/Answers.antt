@@ -5,7 +5,7 @@ use Rattle.regress_engine_undo.specs.Held.{held}
 use Rattle.regress_engine_memory.specs.Held.{FailsWith}
 use Rattle.regress_engine_memory.specs.Remembered.{keyed_of}
 use Rattle.regress_engine_memory.specs.TableViews.{table_of}
-use Rattle.regress_engine_attempt.proofs.ExitLemmas.{dead-fails}
+use Rattle.regress_engine_trying.proofs.ExitLemmas.{dead-fails}
 use Rattle.regress_engine_attempt.proofs.attempt.Attempt.exit_fails.Goals as goal
 
 pub returns-then-not-exit_stands : goal.returns-then-not-exit_stands

@@ -12,7 +12,7 @@ use Rattle.regress_engine_memory.specs.Held.{ExitsFailWith}
 use Rattle.regress_engine_memory.specs.Remembered.{keyed_of}
 use Rattle.regress_engine_memory.specs.TableViews.{table_of}
 use Rattle.regress_engine_memory.proofs.Cutting.{after-one}
-use Rattle.regress_engine_attempt.proofs.ExitLemmas.{UpTo, up-any, up-end, up-known, up-none}
+use Rattle.regress_engine_trying.proofs.ExitLemmas.{UpTo, up-any, up-end, up-known, up-none}
 use Rattle.regress_engine_attempt.proofs.attempt.Attempt.far_exit.Goals as goal
 
 pub overflow_sub-at : goal.overflow_sub-at
@@ -30,8 +30,8 @@ places-init g c =
       body = c.requires.body;
     }
 
-pub advance-requires-clause-ready : goal.advance-requires-clause-ready
-advance-requires-clause-ready g c =
+pub once-requires-clause-ready : goal.once-requires-clause-ready
+once-requires-clause-ready g c =
     let program = program_of c.args.self.now.program.now in
     let v = g.Input.InputIndexer.view c.args.self.now.input in
     let i = instruction c.instruction-body.result.now in

@@ -9,7 +9,7 @@ use Rattle.regress_engine_memory.specs.Held.{FailsWith}
 use Rattle.regress_engine_memory.specs.Remembered.{keyed_of}
 use Rattle.regress_engine_memory.specs.TableViews.{table_of}
 use Rattle.regress_engine_memory.proofs.HeldLemmas.{trying-held, known-held}
-use Rattle.regress_engine_attempt.proofs.RememberLemmas.{tried-held}
+use Rattle.regress_engine_trying.proofs.RememberLemmas.{tried-held}
 use Rattle.regress_engine_attempt.proofs.attempt.Attempt.is_known.Goals as goal
 
 pub returns-then-is_known-clause-leads : goal.returns-then-is_known-clause-leads

@@ -1,7 +1,7 @@
 use Rattle.regress_engine_code.specs.Standing.{program_of}
 use Rattle.regress_engine_input.specs.Views.{reading_of}
 use Rattle.regress_engine_runs.specs.Meets.{IsAtPlace}
-use Rattle.regress_engine_attempt.specs.Remembering.{AreOf}
+use Rattle.regress_engine_trying.specs.Remembering.{AreOf}
 use Rattle.regress_engine_attempt.proofs.attempt.Attempt.learn_back.Given as goal
 
 -- what is kept is so, and the offset is at a place

@@ -8,8 +8,8 @@ use Rattle.regress_engine_memory.specs.Held.{ExitsFailWith}
 use Rattle.regress_engine_memory.specs.Remembered.{keyed_of}
 use Rattle.regress_engine_memory.specs.Needs.{are_needs}
 use Rattle.regress_engine_memory.specs.TableViews.{needs_of, table_of}
-use Rattle.regress_engine_attempt.specs.Trying.{World}
-use Rattle.regress_engine_attempt.proofs.ExitLemmas.{exits-known}
+use Rattle.regress_engine_trying.specs.Trying.{World}
+use Rattle.regress_engine_trying.proofs.ExitLemmas.{exits-known}
 use Rattle.regress_engine_attempt.proofs.attempt.Attempt.learn_exit.Goals as goal
 
 pub returns : goal.returns

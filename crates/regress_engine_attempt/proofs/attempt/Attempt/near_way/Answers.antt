@@ -9,8 +9,8 @@ use Rattle.regress_engine_advance.proofs.ReadLemmas.{none-is}
 use Rattle.regress_engine_advance.proofs.TakenLemmas.{taking-any, taking-ready, body-taking}
 use Rattle.regress_engine_undo.proofs.DeadLemmas.{takes-same, takes-last, takes-over, takes-then}
 use Rattle.regress_engine_attempt.specs.Attempts.{world_of}
-use Rattle.regress_engine_attempt.proofs.PassedLemmas.{passed-takes, passed-body}
-use Rattle.regress_engine_attempt.proofs.TakeLemmas.{on-over, over-last, over-one, passed-over}
+use Rattle.regress_engine_trying.proofs.PassedLemmas.{passed-takes, passed-body}
+use Rattle.regress_engine_trying.proofs.TakeLemmas.{on-over, over-last, over-one, passed-over}
 use Rattle.regress_engine_attempt.proofs.attempt.Attempt.near_way.Goals as goal
 
 pub returns-in_default-clause-leads : goal.returns-in_default-clause-leads

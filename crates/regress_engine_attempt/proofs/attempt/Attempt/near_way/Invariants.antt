@@ -3,7 +3,7 @@ use Rattle.regress_engine_code.specs.Standing.{program_of}
 use Rattle.regress_engine_input.specs.Views.{input_of}
 use Rattle.regress_engine_search.specs.Ready.{IsBody}
 use Rattle.regress_engine_undo.specs.Dead.{TakesFrom}
-use Rattle.regress_engine_attempt.specs.Passing.{TakesOver}
+use Rattle.regress_engine_trying.specs.Passing.{TakesOver}
 use Rattle.regress_engine_attempt.proofs.attempt.Attempt.near_way.Given as goal
 
 -- what is taken on from the first offset leads to what is taken on from here

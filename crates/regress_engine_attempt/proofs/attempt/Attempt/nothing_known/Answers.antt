@@ -6,8 +6,8 @@ use Rattle.regress_engine_insn.specs.InsnViews.{instruction}
 use Rattle.regress_engine_memory.specs.Deciding.{is_flow}
 use Rattle.regress_engine_memory.specs.Needs.{are_needs}
 use Rattle.regress_engine_memory.specs.TableViews.{needs_of, table_of}
-use Rattle.regress_engine_attempt.specs.Trying.{World}
-use Rattle.regress_engine_attempt.specs.Remembering.{AreOf}
+use Rattle.regress_engine_trying.specs.Trying.{World}
+use Rattle.regress_engine_trying.specs.Remembering.{AreOf}
 use Rattle.regress_engine_attempt.proofs.attempt.Attempt.nothing_known.Goals as goal
 
 pub returns-in-Ok : goal.returns-in-Ok

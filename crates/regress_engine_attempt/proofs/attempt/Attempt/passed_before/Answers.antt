@@ -4,8 +4,8 @@ use Rattle.regress_engine_insn.specs.Instructions.{byte_seq}
 use Rattle.regress_engine_insn.specs.InsnViews.{instruction}
 use Rattle.regress_engine_search.proofs.PlaceLemmas.{can-read}
 use Rattle.regress_engine_attempt.specs.Attempts.{world_of}
-use Rattle.regress_engine_attempt.specs.Trying.{IsPassed}
-use Rattle.regress_engine_attempt.proofs.PassedLemmas.{passed-none, passed-other}
+use Rattle.regress_engine_trying.specs.Trying.{IsPassed}
+use Rattle.regress_engine_trying.proofs.PassedLemmas.{passed-none, passed-other}
 use Rattle.regress_engine_attempt.proofs.attempt.Attempt.passed_before.Goals as goal
 
 pub taken_before-requires : goal.taken_before-requires

@@ -6,7 +6,7 @@ use Rattle.regress_engine_undo.specs.Held.{held}
 use Rattle.regress_engine_undo.specs.Sound.{IsHeld}
 use Rattle.regress_engine_undo.specs.Tasks.{task}
 use Rattle.regress_engine_memory.proofs.HeldLemmas.{trying-held}
-use Rattle.regress_engine_attempt.proofs.RememberLemmas.{tried-held}
+use Rattle.regress_engine_trying.proofs.RememberLemmas.{tried-held}
 use Rattle.regress_engine_attempt.proofs.attempt.Attempt.record_exit.Goals as goal
 
 pub returns-clause-leads : goal.returns-clause-leads

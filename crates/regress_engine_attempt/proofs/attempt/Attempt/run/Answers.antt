@@ -5,8 +5,8 @@ use Rattle.regress_engine_runs.specs.States.{unset}
 use Rattle.regress_engine_search.proofs.TaskLemmas.{tried-on, tried-less}
 use Rattle.regress_engine_undo.specs.Held.{Held, held}
 use Rattle.regress_engine_undo.specs.Tasks.{task}
-use Rattle.regress_engine_attempt.specs.Trying.{Steps}
-use Rattle.regress_engine_attempt.proofs.TryLemmas.{trying-first, trying-way, trying-ends, trying-fails, steps-led, steps-held, steps-back}
+use Rattle.regress_engine_trying.specs.Trying.{Steps}
+use Rattle.regress_engine_trying.proofs.TryLemmas.{trying-first, trying-way, trying-ends, trying-fails, steps-led, steps-held, steps-back}
 use Rattle.regress_engine_attempt.proofs.attempt.Attempt.run.Goals as goal
 
 pub steps-init : goal.steps-init

@@ -4,8 +4,8 @@ use Rattle.regress_engine_input.specs.Views.{input_of}
 use Rattle.regress_engine_search.specs.Tasks.{left_of}
 use Rattle.regress_engine_undo.specs.Held.{held}
 use Rattle.regress_engine_undo.specs.Tasks.{task}
-use Rattle.regress_engine_attempt.specs.Trying.{IsTrying}
-use Rattle.regress_engine_attempt.specs.Remembering.{Remembers}
+use Rattle.regress_engine_trying.specs.Trying.{IsTrying}
+use Rattle.regress_engine_attempt.specs.Attempts.{Remembers}
 use Rattle.regress_engine_attempt.proofs.attempt.Attempt.run.Given as goal
 
 -- the run is tried, and what is remembered is so

@@ -6,9 +6,9 @@ use Rattle.regress_engine_search.specs.Tasks.{Leads}
 use Rattle.regress_engine_search.proofs.TaskLemmas.{tried-on, tried-less}
 use Rattle.regress_engine_undo.specs.Held.{Held, held}
 use Rattle.regress_engine_undo.specs.Tasks.{task}
-use Rattle.regress_engine_attempt.specs.Trying.{Steps}
-use Rattle.regress_engine_attempt.proofs.CountLemmas.{counted-over, counts-first, counts-past, counts-step, counts-all, counts-run}
-use Rattle.regress_engine_attempt.proofs.TryLemmas.{trying-first, trying-way, trying-ends, trying-fails, steps-led, steps-held, steps-back}
+use Rattle.regress_engine_trying.specs.Trying.{Steps}
+use Rattle.regress_engine_trying.proofs.CountLemmas.{counted-over, counts-first, counts-past, counts-step, counts-all, counts-run}
+use Rattle.regress_engine_trying.proofs.TryLemmas.{trying-first, trying-way, trying-ends, trying-fails, steps-led, steps-held, steps-back}
 use Rattle.regress_engine_attempt.proofs.attempt.Attempt.run_within.Goals as goal
 
 pub steps-init : goal.steps-init

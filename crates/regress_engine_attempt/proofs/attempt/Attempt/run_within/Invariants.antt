@@ -4,9 +4,9 @@ use Rattle.regress_engine_input.specs.Views.{input_of}
 use Rattle.regress_engine_search.specs.Tasks.{left_of}
 use Rattle.regress_engine_undo.specs.Held.{held}
 use Rattle.regress_engine_undo.specs.Tasks.{task}
-use Rattle.regress_engine_attempt.specs.Trying.{IsTrying}
-use Rattle.regress_engine_attempt.specs.Remembering.{Remembers}
-use Rattle.regress_engine_attempt.proofs.CountLemmas.{CountsOn}
+use Rattle.regress_engine_trying.specs.Trying.{IsTrying}
+use Rattle.regress_engine_attempt.specs.Attempts.{Remembers}
+use Rattle.regress_engine_trying.proofs.CountLemmas.{CountsOn}
 use Rattle.regress_engine_attempt.proofs.attempt.Attempt.run_within.Given as goal
 
 -- the run is tried, no more steps were counted than it took, and what is remembered is so

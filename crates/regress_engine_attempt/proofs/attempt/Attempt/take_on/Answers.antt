@@ -10,7 +10,7 @@ use Rattle.regress_engine_search.proofs.SkipLemmas.{place-lies}
 use Rattle.regress_engine_search.proofs.TaskLemmas.{leads-then}
 use Rattle.regress_engine_undo.specs.Held.{held}
 use Rattle.regress_engine_undo.proofs.BackLemmas.{take_on-last, take_on-more, held-take_on, take_on-held}
-use Rattle.regress_engine_attempt.proofs.TakeLemmas.{was, takes-some, takes-none, some-over, none-over, passed-or}
+use Rattle.regress_engine_trying.proofs.TakeLemmas.{was, takes-some, takes-none, some-over, none-over, passed-or}
 use Rattle.regress_engine_attempt.proofs.attempt.Attempt.take_on.Goals as goal
 
 pub near_way-way-requires-clause-body : goal.near_way-way-requires-clause-body
@@ -78,8 +78,8 @@ overflow_sub-at g c = let some = c.near_way-way.ensures.body.4 in omega (arith, 
 pub instruction-insn-requires : goal.instruction-insn-requires
 instruction-insn-requires g c = (c.near_way-way.ensures.body.0, c.near_way-way.ensures.body.1)
 
-pub advance-requires-clause-ready : goal.advance-requires-clause-ready
-advance-requires-clause-ready g c =
+pub once-requires-clause-ready : goal.once-requires-clause-ready
+once-requires-clause-ready g c =
     let program = program_of c.args.self.now.program.now in
     let v = g.Input.InputIndexer.view c.args.self.now.input in
     let was = held-take_on _ _ (held c.args.memory.now) c.args.at c.args.offset c.args.left c.requires.sound in

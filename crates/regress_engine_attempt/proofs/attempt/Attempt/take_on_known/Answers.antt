@@ -12,11 +12,11 @@ use Rattle.regress_engine_undo.specs.Held.{Held, held, pushed}
 use Rattle.regress_engine_undo.specs.Tasks.{task}
 use Rattle.regress_engine_undo.specs.declared.undo.Spot.{Spot}
 use Rattle.regress_engine_undo.proofs.BackLemmas.{held-take_on, take_on-held}
-use Rattle.regress_engine_attempt.specs.declared.exits.Exit.{Exit}
-use Rattle.regress_engine_attempt.specs.Trying.{GoesBack}
-use Rattle.regress_engine_attempt.specs.Remembering.{taken_up}
-use Rattle.regress_engine_attempt.specs.Passing.{TakesUpMore}
-use Rattle.regress_engine_attempt.proofs.TakeLemmas.{was, passed-or, passed-both}
+use Rattle.regress_engine_trying.specs.declared.exit.Exit.{Exit}
+use Rattle.regress_engine_trying.specs.Trying.{GoesBack}
+use Rattle.regress_engine_trying.specs.Remembering.{taken_up}
+use Rattle.regress_engine_trying.specs.Passing.{TakesUpMore}
+use Rattle.regress_engine_trying.proofs.TakeLemmas.{was, passed-or, passed-both}
 use Rattle.regress_engine_search.proofs.SkipLemmas.{place-lies}
 use Rattle.regress_engine_attempt.proofs.attempt.Attempt.take_on_known.Goals as goal
 

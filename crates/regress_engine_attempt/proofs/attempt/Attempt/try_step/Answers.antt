@@ -4,10 +4,10 @@ use Rattle.regress_engine_input.specs.Views.{direction_of}
 use Rattle.regress_engine_search.proofs.TaskLemmas.{tried-stands, tried-reads}
 use Rattle.regress_engine_undo.specs.Held.{held}
 use Rattle.regress_engine_undo.specs.Tasks.{state_at}
-use Rattle.regress_engine_attempt.specs.Remembering.{Begins}
-use Rattle.regress_engine_attempt.specs.Trying.{World}
-use Rattle.regress_engine_attempt.proofs.RememberLemmas.{begun-way, begun-steps}
-use Rattle.regress_engine_attempt.specs.Passing.{PassesIf}
+use Rattle.regress_engine_trying.specs.Remembering.{Begins}
+use Rattle.regress_engine_trying.specs.Trying.{World}
+use Rattle.regress_engine_trying.proofs.RememberLemmas.{begun-way, begun-steps}
+use Rattle.regress_engine_trying.specs.Passing.{PassesIf}
 use Rattle.regress_engine_attempt.proofs.attempt.Attempt.try_step.Goals as goal
 
 pub step-requires-clause-stands : goal.step-requires-clause-stands

@@ -8,7 +8,7 @@ use Rattle.regress_engine_singles.proofs.LeadingLemmas.{class-fits}
 use Rattle.regress_engine_undo.specs.Held.{held}
 use Rattle.regress_engine_undo.proofs.TurnLemmas.{turns-not, turned, turns-end, turns-on, turned-sound, ahead-as, loop-there}
 use Rattle.regress_engine_search.proofs.SkipLemmas.{place-lies}
-use Rattle.regress_engine_attempt.proofs.TurnPlaces.{past-place}
+use Rattle.regress_engine_trying.proofs.TurnPlaces.{past-place}
 use Rattle.regress_engine_attempt.proofs.attempt.Attempt.turn_on.Goals as goal
 
 pub taken_ahead-requires-clause-fits : goal.taken_ahead-requires-clause-fits

@@ -8,8 +8,8 @@ use Rattle.regress_engine_undo.specs.Held.{held, pushed, undo_of, frame_of}
 use Rattle.regress_engine_undo.proofs.BackLemmas.{held-as, leads-as, held-resume, held-old_loop, old_loop-there, held-old_group, old_group-there, held-iterate, held-frame, held-tried, resume-back, old_loop-back, old_group-back, iterate-back, submatch-back, tried-back, held-take_on}
 use Rattle.regress_engine_undo.specs.Tasks.{task}
 use Rattle.regress_engine_undo.proofs.StepLemmas.{loop-sound}
-use Rattle.regress_engine_attempt.specs.Trying.{World}
-use Rattle.regress_engine_attempt.specs.Passing.{UndoesMore}
+use Rattle.regress_engine_trying.specs.Trying.{World}
+use Rattle.regress_engine_trying.specs.Passing.{UndoesMore}
 use Rattle.regress_engine_attempt.proofs.attempt.Attempt.undo.Goals as goal
 
 pub restore_loop-requires : goal.restore_loop-requires

@@ -2,8 +2,8 @@ use Rattle.std.proofs.Common.{inl, inr, refl, sym, ap, subst, arith}
 use Rattle.regress_engine_code.specs.Standing.{program_of}
 use Rattle.regress_engine_undo.specs.Held.{held, undo_of}
 use Rattle.regress_engine_undo.proofs.BackLemmas.{held-as, held-take_on}
-use Rattle.regress_engine_attempt.specs.Trying.{World}
-use Rattle.regress_engine_attempt.specs.Passing.{UndoesMore}
+use Rattle.regress_engine_trying.specs.Trying.{World}
+use Rattle.regress_engine_trying.specs.Passing.{UndoesMore}
 use Rattle.regress_engine_attempt.proofs.attempt.Attempt.undo_known.Goals as goal
 
 pub returns-in_ok-going-in-GiveBack-clause-counted : goal.returns-in_ok-going-in-GiveBack-clause-counted

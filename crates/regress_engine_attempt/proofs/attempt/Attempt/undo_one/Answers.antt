@@ -1,10 +1,10 @@
 use Rattle.std.proofs.Common.{sym, subst, arith}
 use Rattle.regress_engine_code.specs.Standing.{program_of}
 use Rattle.regress_engine_undo.specs.Held.{held, undo_of}
-use Rattle.regress_engine_attempt.proofs.CountLemmas.{undoes-none}
-use Rattle.regress_engine_attempt.specs.Trying.{World}
-use Rattle.regress_engine_attempt.specs.Remembering.{MayUndo}
-use Rattle.regress_engine_attempt.specs.Passing.{MayUndoMore}
+use Rattle.regress_engine_trying.proofs.CountLemmas.{undoes-none}
+use Rattle.regress_engine_trying.specs.Trying.{World}
+use Rattle.regress_engine_trying.specs.Remembering.{MayUndo}
+use Rattle.regress_engine_trying.specs.Passing.{MayUndoMore}
 use Rattle.regress_engine_attempt.proofs.attempt.Attempt.undo_one.Goals as goal
 
 pub returns-in-Some-clause-counted : goal.returns-in-Some-clause-counted

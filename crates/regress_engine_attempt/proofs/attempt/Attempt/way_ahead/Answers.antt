@@ -5,7 +5,7 @@ use Rattle.regress_engine_input.specs.Views.{input_of}
 use Rattle.regress_engine_insn.specs.declared.insn.Insn.TheVariants.{Goal}
 use Rattle.regress_engine_search.proofs.InsnLemmas.{stands-as}
 use Rattle.regress_engine_advance.proofs.ReadLemmas.{stands-read}
-use Rattle.regress_engine_attempt.proofs.WayLemmas.{way-first, way-second}
+use Rattle.regress_engine_trying.proofs.WayLemmas.{way-first, way-second}
 use Rattle.regress_engine_attempt.proofs.attempt.Attempt.way_ahead.Goals as goal
 
 pub ways-preserved-then-is_dead_ahead : goal.ways-preserved-then-is_dead_ahead

@@ -2,7 +2,7 @@ use Rattle.std.proofs.Common.{◌≡◌, ℕ, ◌-◌, true, length, Some}
 use Rattle.regress_engine_code.specs.Standing.{program_of}
 use Rattle.regress_engine_input.specs.Views.{input_of}
 use Rattle.regress_engine_singles.specs.Leads.{lead_ahead}
-use Rattle.regress_engine_attempt.specs.Trying.{IsWay}
+use Rattle.regress_engine_trying.specs.Trying.{IsWay}
 use Rattle.regress_engine_attempt.proofs.attempt.Attempt.way_ahead.Given as goal
 
 -- it continues here

@@ -2,7 +2,7 @@ use Rattle.std.proofs.Common.{◌+◌, sym, subst}
 use Rattle.regress_engine_code.specs.Standing.{program_of}
 use Rattle.regress_engine_input.specs.Views.{direction_of, input_of}
 use Rattle.regress_engine_singles.specs.Failing.{IsDead}
-use Rattle.regress_engine_attempt.proofs.WayLemmas.{way-first, way-second, way-here}
+use Rattle.regress_engine_trying.proofs.WayLemmas.{way-first, way-second, way-here}
 use Rattle.regress_engine_attempt.proofs.attempt.Attempt.way_of_two.Goals as goal
 
 pub returns-then-is_dead_behind : goal.returns-then-is_dead_behind

@@ -1,0 +1,4 @@
+pub mod Trying
+pub mod Remembering
+pub mod Counting
+pub mod Passing
