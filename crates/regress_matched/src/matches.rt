@@ -26,6 +26,12 @@ pub trait TextMatches: Drop {
 
     /// The next match, its ranges told in bytes of the text: the first of those still to come. `None` where none is, and an error
     /// behind which none is.
+    ///
+    /// ```rust
+    /// while let Some(found) = matches.next_match() {
+    ///     let range = found?.range();
+    /// }
+    /// ```
     fn next_match(&mut self) -> Option<Result<Match, Self::Error>>
         ensures gives { gives self.old result self.new }
         ensures first { GivesInText searched names coming self.old result self.new };

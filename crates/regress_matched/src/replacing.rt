@@ -134,7 +134,8 @@ pub fn replace_each<M: TextMatches>(
 /// what the closure errs with, and where memory is refused or the matches err, turned into the same type.
 ///
 /// ```rust
-/// let written = replace_with(alloc, matches, "a1b2", with)?;
+/// let new = |_: &Match| -> Result<String, Error> { Ok(String::from_str(alloc, "#")?) };
+/// let written = replace_with(alloc, matches, "a1b2", new)?; // for `\d` it is `a#b2`
 /// ```
 pub fn replace_with<M, E, F>(
     alloc: Global,
@@ -175,7 +176,8 @@ where
 /// the first error that the closure answers, and where memory is refused or the matches err, turned into the same type.
 ///
 /// ```rust
-/// let written = replace_all_with(alloc, matches, "a1b2", with)?;
+/// let new = |_: &Match| -> Result<String, Error> { Ok(String::from_str(alloc, "#")?) };
+/// let written = replace_all_with(alloc, matches, "a1b2", new)?; // for `\d` it is `a#b#`
 /// ```
 pub fn replace_all_with<M, E, F>(
     alloc: Global,

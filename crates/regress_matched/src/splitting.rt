@@ -68,7 +68,7 @@ impl<'t, M: TextMatches> Iterator for Split<'t, M> {
     /// alone.
     ///
     /// ```rust
-    /// let first = regex.split("a, b")?.next(); // for `, ` it is `Some(Ok("a"))`
+    /// let first = Split::new(matches, "a, b").next(); // for `, ` it is `Some(Ok("a"))`
     /// ```
     fn next(&mut self) -> Option<Result<&'t str, M::Error>> {
         let behind = self.behind.take()?;
@@ -121,7 +121,7 @@ impl<'t, M: TextMatches> Iterator for SplitN<'t, M> {
     /// alone.
     ///
     /// ```rust
-    /// let first = regex.splitn("a, b, c", 2)?.next(); // for `, ` it is `Some(Ok("a"))`
+    /// let first = SplitN::new(Split::new(matches, "a, b, c"), 2).next(); // for `, ` it is `Some(Ok("a"))`
     /// ```
     fn next(&mut self) -> Option<Result<&'t str, M::Error>> {
         match self.limit {
